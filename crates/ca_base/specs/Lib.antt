@@ -1,0 +1,10 @@
+pub mod Bytes
+pub mod Calls
+pub mod Causes
+pub mod Cursor
+pub mod Grammar
+pub mod Items
+pub mod MemFiles
+pub mod MemSink
+pub mod Reading
+pub mod Span
