@@ -1,0 +1,10 @@
+-- The instructions so far and what is left to read are the whole reading.
+use Rattle.std.proofs.Common.{◌≡◌, ◌-◌}
+use Rattle.ca_base.specs.Grammar.{read}
+use Rattle.wasm_reader.specs.Binary.{expr}
+use Rattle.wasm_reader.proofs.Exprs.{preceded}
+use Rattle.wasm_reader.proofs.items.read_expr.Given as goal
+
+abbrev pub invariant-loop-index : goal.invariant-loop-index
+invariant-loop-index l =
+    read (expr l.count) l.initial.window ≡ preceded l.code.items (read (expr (l.count - l.index)) l.window)

@@ -1,0 +1,29 @@
+-- A module that exports the sum of two integers, as its bytes and as what is read of them.
+use Rattle.std.specs.Prelude.{ℕ, List, [], ◌∷◌}
+use Rattle.ca_base.specs.declared.refusal.Refusal.{Refusal}
+use Rattle.wasm_reader.specs.declared.fault.ModuleWhy.{ModuleWhy}
+use Rattle.wasm_reader.specs.declared.fault.ModuleWhy.TheVariants.{Unsupported}
+use Rattle.wasm_reader.specs.declared.module.ValType.TheVariants.{I32}
+use Rattle.wasm_reader.specs.declared.module.Module.{Module}
+use Rattle.wasm_reader.specs.declared.instr.Instr.TheVariants.{LocalGet, I32Add}
+use Rattle.wasm_reader.specs.Expr.{End, Plain}
+
+-- the bytes, with this opcode in the place of the addition
+unfoldable pub bytes_with : ℕ → List ℕ
+bytes_with opcode =
+    0x00 ∷ 0x61 ∷ 0x73 ∷ 0x6D ∷ 0x01 ∷ 0x00 ∷ 0x00 ∷ 0x00
+    ∷ 0x01 ∷ 0x07 ∷ 0x01 ∷ 0x60 ∷ 0x02 ∷ 0x7F ∷ 0x7F ∷ 0x01 ∷ 0x7F
+    ∷ 0x03 ∷ 0x02 ∷ 0x01 ∷ 0x00
+    ∷ 0x07 ∷ 0x07 ∷ 0x01 ∷ 0x03 ∷ 0x61 ∷ 0x64 ∷ 0x64 ∷ 0x00 ∷ 0x00
+    ∷ 0x0A ∷ 0x09 ∷ 0x01 ∷ 0x07 ∷ 0x00 ∷ 0x20 ∷ 0x00 ∷ 0x20 ∷ 0x01 ∷ opcode ∷ 0x0B ∷ []
+
+unfoldable pub add_module : Module
+add_module = record {
+  types = record { params = I32 ∷ I32 ∷ []; results = I32 ∷ [] } ∷ [];
+  funcs = record { type_index = 0; body = Plain (LocalGet 0) (Plain (LocalGet 1) (Plain I32Add End)) } ∷ [];
+  exports = record { name = 0x61 ∷ 0x64 ∷ 0x64 ∷ []; func = 0 } ∷ [];
+}
+
+-- where the bytes are refused with the opcode 6B, whose place is 39
+unfoldable pub no_such_opcode : Refusal ModuleWhy
+no_such_opcode = record { place = 39; why = Unsupported 0x6B }

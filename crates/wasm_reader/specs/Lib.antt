@@ -1,0 +1,4 @@
+pub mod Binary
+pub mod Examples
+pub mod Expr
+pub mod Laws
