@@ -1,0 +1,8 @@
+use Rattle.wasm_valid.proofs.Decides.{faults_decide, typed_or_faulty}
+use Rattle.wasm_valid.proofs.laws.faults_decide_typing.Goals as goal
+
+pub returns-clause-fault_free : goal.returns-clause-fault_free
+returns-clause-fault_free c = faults_decide
+
+pub returns-clause-either : goal.returns-clause-either
+returns-clause-either c = typed_or_faulty

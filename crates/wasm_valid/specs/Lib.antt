@@ -1,0 +1,4 @@
+pub mod Typing
+pub mod Errors
+pub mod Checking
+pub mod Laws
