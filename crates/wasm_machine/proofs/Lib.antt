@@ -1,0 +1,4 @@
+pub mod Functions
+pub mod Instructions
+pub mod Reaching
+pub mod Safety

@@ -1,0 +1,44 @@
+-- The store (Core 2.0, section 4.2.3): functions, each with its type and its body.
+use Rattle.std.specs.Prelude.{List, [], map, Option, Some, None}
+use Rattle.std.specs.List.{slice_get, AllByRecursion}
+use Rattle.wasm_reader.specs.declared.module.ValType.{ValType}
+use Rattle.wasm_reader.specs.declared.module.FuncType.{FuncType}
+use Rattle.wasm_reader.specs.declared.module.Func.{Func}
+use Rattle.wasm_reader.specs.declared.module.Module.{Module}
+use Rattle.wasm_reader.specs.Expr.{Expr, End}
+use Rattle.wasm_valid.specs.Typing.{ExprTyped}
+use Rattle.wasm_machine.specs.declared.store.Function.{Function}
+
+-- a function whose body has its type: it starts with no operands
+abbrev pub FunctionTyped : Function → Type 0
+FunctionTyped f = ExprTyped f.func_type.params f.func_type.results f.body []
+
+-- what holds of the functions of a store: each is typed
+abbrev pub StoreTyped : List Function → Type 0
+StoreTyped functions = AllByRecursion FunctionTyped functions
+
+-- the type of a function of a module. A type index past the types, which no valid module has, stands for the empty type
+abbrev pub type_or_empty : Option FuncType → FuncType
+type_or_empty None = record { params = []; results = [] }
+type_or_empty (Some type) = type
+
+-- a function of a module, with its type
+abbrev pub function_of : List FuncType → Func → Function
+function_of types func = record { func_type = type_or_empty (slice_get types func.type_index); body = func.body }
+
+-- the functions of a module, in its order
+abbrev pub functions_of : Module → List Function
+functions_of m = map (function_of m.types) m.funcs
+
+-- the types of a function's parameters and results, and its body. Where no such function is there, there are none
+abbrev pub params_of : Option Function → List ValType
+params_of None = []
+params_of (Some f) = f.func_type.params
+
+abbrev pub results_of : Option Function → List ValType
+results_of None = []
+results_of (Some f) = f.func_type.results
+
+abbrev pub body_of : Option Function → Expr
+body_of None = End
+body_of (Some f) = f.body
