@@ -1,0 +1,13 @@
+pub mod Callable
+pub mod Calls
+pub mod Digits
+pub mod Labels
+pub mod Lines
+pub mod Rows
+pub mod Taken
+pub mod Texts
+pub mod Turns
+pub mod Values
+pub mod Whole
+pub mod WholeComponent
+pub mod Worlds

@@ -1,0 +1,12 @@
+pub mod Calling
+pub mod Component
+pub mod Laws
+pub mod Outcome
+pub mod Run
+pub mod RunLaws
+pub mod Script
+pub mod Status
+pub mod Stops
+pub mod Text
+pub mod Words
+pub mod Written

@@ -1,0 +1,129 @@
+-- Runs (Component Model, Concurrency.md and CanonicalABI.md): a world, its one next move, and the lines that each step
+-- writes. A call of a sync-lifted function makes a task; it enters, its core function runs, the result is lifted, the
+-- task resolves and exits.
+use Rattle.std.specs.Prelude.{◌≡◌, ◌+◌, ℕ, zero, suc, List, [], ◌∷◌, map, Option, Some, None}
+use Rattle.std.specs.List.{slice_get, flat_map}
+use Rattle.wasm_machine.specs.Step.{Stack, Move, next}
+use Rattle.wasm_machine.specs.Step as core
+use Rattle.wasm_machine.specs.declared.store.Function.{Function}
+use Rattle.wasm_machine.specs.Store.{functions_of, body_of}
+use Rattle.wcm.specs.declared.component.Component.{Component}
+use Rattle.wcm.specs.declared.script.Value.{Value}
+use Rattle.wcm.specs.declared.script.Value.TheVariants.{U32}
+use Rattle.wcm.specs.declared.script.Call.{Call}
+use Rattle.wcm.specs.declared.run.Label.{Label}
+use Rattle.wcm.specs.declared.run.Label.TheVariants.{Take, Enter, Return, Exit}
+use Rattle.wcm.specs.declared.run.End.{End}
+use Rattle.wcm.specs.declared.run.End.TheVariants.{Done, Fuel}
+
+-- what a component is linked to: the functions of its core instance, and which of them its one function lifts
+pub record Graph : Type 0 where
+  pub funcs : List Function
+  pub lifted : ℕ
+
+-- a component's graph
+abbrev pub graph_of : Component → Graph
+graph_of c = record { funcs = functions_of c.core_module; lifted = c.core_func }
+
+-- where a task is
+pub data TaskState : Type 0 where
+  -- it was made, with these arguments, and has not entered
+  Starting : List Value → TaskState
+  -- its core function runs
+  Running : Stack → TaskState
+  -- it has resolved
+  Returned : TaskState
+
+pub record Task : Type 0 where
+  pub number : ℕ
+  pub state : TaskState
+
+-- The items that are left, how many calls were taken, how many tasks were made, the running tasks with the last one
+-- first, and the units of fuel that are left.
+pub record World : Type 0 where
+  pub items : List Call
+  pub calls : ℕ
+  pub tasks : ℕ
+  pub chain : List Task
+  pub units : ℕ
+
+-- a world's next move
+pub data Turn : Type 0 where
+  -- a step, with its lines
+  Steps : List Label → World → Turn
+  Ends : End → Turn
+  -- No rule applies. No run comes to this
+  Stuck : Turn
+
+-- Values as core words, and back (CanonicalABI.md, lowering and lifting of flat values).
+abbrev pub lowered : Value → ℕ
+lowered (U32 n) = n
+
+abbrev pub lifted : List ℕ → Option Value
+lifted [] = None
+lifted (word ∷ words) = Some (U32 word)
+
+-- the core function at its start
+abbrev pub entered : Graph → List Value → Stack
+entered g values = record { locals = map lowered values; operands = []; rest = body_of (slice_get g.funcs g.lifted) }
+
+-- what a step that costs a unit comes to
+abbrev pub charged : ℕ → (ℕ → Turn) → Turn
+charged zero step = Ends Fuel
+charged (suc units) step = step units
+
+-- the chain's last task is in this state; these run below it
+abbrev pub with_task : World → ℕ → TaskState → List Task → World
+with_task w number state below = record { items = w.items; calls = w.calls; tasks = w.tasks; chain = record { number = number; state = state } ∷ below; units = w.units }
+
+abbrev pub with_units : World → ℕ → World
+with_units w units = record { items = w.items; calls = w.calls; tasks = w.tasks; chain = w.chain; units = units }
+
+-- the core function's next move
+abbrev pub core_turn : Move → World → ℕ → List Task → Turn
+core_turn (core.Goes s) w number below = charged w.units (λ units. Steps [] (with_units (with_task w number (Running s) below) units))
+core_turn (core.Ends words) w number below = Steps (Return number (lifted words) ∷ []) (with_task w number Returned below)
+core_turn core.Stuck w number below = Stuck
+
+-- the next move of the chain's last task
+abbrev pub task_turn : Graph → World → ℕ → TaskState → List Task → Turn
+task_turn g w number (Starting values) below = Steps (Enter number ∷ []) (with_task w number (Running (entered g values)) below)
+task_turn g w number (Running s) below = core_turn (next s) w number below
+task_turn g w number Returned below = Steps (Exit number ∷ []) (record { items = w.items; calls = w.calls; tasks = w.tasks; chain = below; units = w.units })
+
+-- taking an item, with the others left
+abbrev pub taken : World → Call → List Call → Turn
+taken w call others = charged w.units (λ units.
+    Steps (Take (w.calls + 1) (w.tasks + 1) call.name call.values ∷ [])
+    (record {
+      items = others;
+      calls = w.calls + 1;
+      tasks = w.tasks + 1;
+      chain = record { number = w.tasks + 1; state = Starting call.values } ∷ [];
+      units = units;
+    }))
+
+-- at an empty chain the next item is taken; with none left the run is done
+abbrev pub idle_turn : World → List Call → Turn
+idle_turn w [] = Ends Done
+idle_turn w (call ∷ others) = taken w call others
+
+abbrev pub chain_turn : Graph → World → List Task → Turn
+chain_turn g w [] = idle_turn w w.items
+chain_turn g w (task ∷ below) = task_turn g w task.number task.state below
+
+abbrev pub turn : Graph → World → Turn
+turn g w = chain_turn g w w.chain
+
+-- the world before the first turn, with this script and this fuel
+abbrev pub first_world : List Call → ℕ → World
+first_world items fuel = record { items = items; calls = 0; tasks = 0; chain = []; units = fuel }
+
+-- These steps, each with its lines, lead from the one world to the other.
+abbrev pub Reaches : Graph → World → List (List Label) → World → Type 0
+Reaches g w [] v = v ≡ w
+Reaches g w (labels ∷ steps) v = (mid : World) × (turn g w ≡ Steps labels mid) × Reaches g mid steps v
+
+-- The run from a world has these lines and this end.
+abbrev pub Runs : Graph → World → List Label → End → Type 0
+Runs g w labels end = (steps : List (List Label)) × (v : World) × Reaches g w steps v × (turn g v ≡ Ends end) × (labels ≡ flat_map (λ step. step) steps)

@@ -1,0 +1,47 @@
+-- At each world of a run one move comes next, and a run has one trace.
+use Rattle.std.specs.Prelude.{◌≡◌, ◌≢◌, ◌⊎◌, ◌<◌, ℕ, List, [], ◌∷◌, map, Some}
+use Rattle.std.specs.List.{slice_get, AllByRecursion}
+use Rattle.wasm_machine.specs.declared.store.Function.{Function}
+use Rattle.wasm_machine.specs.Step.{AreWords}
+use Rattle.wasm_reader.specs.Expr.{instr_count}
+use Rattle.wasm_machine.specs.Store.{FunctionTyped, body_of}
+use Rattle.wcm.specs.declared.script.Call.{Call}
+use Rattle.wcm.specs.declared.run.Label.{Label}
+use Rattle.wcm.specs.declared.run.End.{End}
+use Rattle.wcm.specs.declared.run.End.TheVariants.{Done}
+use Rattle.wcm.specs.Run.{Graph, World, Steps, Ends, lowered, turn, first_world, Reaches, Runs}
+
+-- A graph and calls of its function: the core function is there and typed, and each call's values lower to words of its
+-- parameters.
+pub record Sound (g : Graph) (calls : List Call) : Type 0 where
+  pub function : Function
+  pub there : slice_get g.funcs g.lifted ≡ Some function
+  pub typed : FunctionTyped function
+  pub values : AllByRecursion (λ call. AreWords function.func_type.params (map lowered call.values)) calls
+
+-- A step comes next: with these lines, to this world, and no other. No end comes.
+pub record StepsOnce (g : Graph) (w : World) : Type 0 where
+  pub labels : List Label
+  pub later : World
+  pub steps : turn g w ≡ Steps labels later
+  pub only : (others : List Label) (other : World) → turn g w ≡ Steps others other → (others ≡ labels) × (other ≡ later)
+  pub no_end : (end : End) → turn g w ≢ Ends end
+
+-- An end comes next: this one, and no other. No step comes.
+pub record EndsOnce (g : Graph) (w : World) : Type 0 where
+  pub end : End
+  pub ends : turn g w ≡ Ends end
+  pub only : (other : End) → turn g w ≡ Ends other → other ≡ end
+  pub no_step : (labels : List Label) (later : World) → turn g w ≢ Steps labels later
+
+-- Wherever a run of sound calls comes, one move comes next.
+abbrev pub OneNext : Type 0
+OneNext = (g : Graph) (calls : List Call) (fuel : ℕ) (steps : List (List Label)) (w : World) → Sound g calls → Reaches g (first_world calls fuel) steps w → StepsOnce g w ⊎ EndsOnce g w
+
+-- The runs from a world have the same lines and the same end.
+abbrev pub OneRun : Type 0
+OneRun = (g : Graph) (w : World) (labels others : List Label) (end other : End) → Runs g w labels end → Runs g w others other → (labels ≡ others) × (end ≡ other)
+
+-- A sound call that has more fuel than the core function has instructions has a run that is done.
+abbrev pub EachRunEnds : Type 0
+EachRunEnds = (g : Graph) (call : Call) (fuel : ℕ) → Sound g (call ∷ []) → instr_count (body_of (slice_get g.funcs g.lifted)) < fuel → (labels : List Label) × Runs g (first_world (call ∷ []) fuel) labels Done

@@ -1,0 +1,66 @@
+-- The statuses of the program: which number each has, and which one a run's end has.
+use Rattle.std.specs.Prelude.{ℕ}
+use Rattle.wcm.specs.declared.run.End.{End}
+use Rattle.wcm.specs.declared.run.End.TheVariants as ends
+use Rattle.wcm.specs.declared.status.Status.{Status}
+use Rattle.wcm.specs.declared.status.Status.TheVariants.{Done, Trap, Usage, Refused, ScriptRefused, Deadlock, Fuel, ReadFault, WriteFault, Memory, LinkRefused}
+
+abbrev pub status_code : Status → ℕ
+status_code Done = 0
+status_code Trap = 1
+status_code Usage = 2
+status_code Refused = 3
+status_code ScriptRefused = 4
+status_code Deadlock = 5
+status_code Fuel = 6
+status_code ReadFault = 7
+status_code WriteFault = 8
+status_code Memory = 9
+status_code LinkRefused = 10
+
+abbrev pub status_of : End → Status
+status_of ends.Done = Done
+status_of ends.Fuel = Fuel
+
+-- a status that the program gives, as far as it goes: a run neither traps nor blocks, has enough fuel, and every
+-- component that is read is linked
+abbrev pub IsGiven : Status → Type 0
+IsGiven Done = Unit {0}
+IsGiven Trap = ⊥
+IsGiven Usage = Unit {0}
+IsGiven Refused = Unit {0}
+IsGiven ScriptRefused = Unit {0}
+IsGiven Deadlock = ⊥
+IsGiven Fuel = ⊥
+IsGiven ReadFault = Unit {0}
+IsGiven WriteFault = Unit {0}
+IsGiven Memory = Unit {0}
+IsGiven LinkRefused = ⊥
+
+-- the call went its way: no fault and no want of memory ended it
+abbrev pub IsFinal : Status → Type 0
+IsFinal Done = Unit {0}
+IsFinal Trap = Unit {0}
+IsFinal Usage = Unit {0}
+IsFinal Refused = Unit {0}
+IsFinal ScriptRefused = Unit {0}
+IsFinal Deadlock = Unit {0}
+IsFinal Fuel = Unit {0}
+IsFinal ReadFault = ⊥
+IsFinal WriteFault = ⊥
+IsFinal Memory = ⊥
+IsFinal LinkRefused = Unit {0}
+
+-- a status that the files decide
+abbrev pub IsAnswered : Status → Type 0
+IsAnswered Done = Unit {0}
+IsAnswered Trap = ⊥
+IsAnswered Usage = ⊥
+IsAnswered Refused = Unit {0}
+IsAnswered ScriptRefused = Unit {0}
+IsAnswered Deadlock = ⊥
+IsAnswered Fuel = ⊥
+IsAnswered ReadFault = ⊥
+IsAnswered WriteFault = ⊥
+IsAnswered Memory = ⊥
+IsAnswered LinkRefused = ⊥

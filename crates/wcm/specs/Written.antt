@@ -1,0 +1,14 @@
+-- What stands in the output and the error output after an answer was to be written.
+use Rattle.std.specs.Prelude.{◌≡◌, ℕ, List, Option}
+use Rattle.ca_base.specs.Bytes.{grown, TookFront}
+use Rattle.wcm.specs.declared.answer.Answer.{Answer}
+
+-- both texts, and nothing else
+pub record WroteAll (a : Answer) (out_before out_now err_before err_now : Option (List ℕ)) : Type 0 where
+  pub out : out_now ≡ grown out_before a.out
+  pub err : err_now ≡ grown err_before a.err
+
+-- a front of each text, and nothing else
+pub record WroteFront (a : Answer) (out_before out_now err_before err_now : Option (List ℕ)) : Type 0 where
+  pub out : TookFront out_before out_now a.out
+  pub err : TookFront err_before err_now a.err

@@ -1,0 +1,60 @@
+//! Runs components.
+#![tactic(auto)]
+
+mod adapters;
+mod answer;
+mod calling;
+#[cfg(test)]
+mod calling_tests;
+mod component;
+mod component_items;
+mod component_reader;
+#[cfg(test)]
+mod component_tests;
+mod laws;
+mod run;
+mod run_laws;
+mod script;
+mod script_items;
+mod script_reader;
+#[cfg(test)]
+mod script_tests;
+mod status;
+mod top;
+#[cfg(test)]
+mod top_tests;
+mod trace_text;
+#[cfg(test)]
+mod trace_text_tests;
+mod words;
+
+use adapters::{Stream, SystemFiles};
+use status::Status;
+use std::env;
+use std::io::ErrorKind;
+use std::process::ExitCode;
+
+/// The words of the command line. A word that is no text is a wrong word.
+fn command_words(rt: &HostRuntime) -> Result<Vec<String>, Status> {
+    match env::args(rt) {
+        Ok(words) => words.collect(rt.alloc()).map_err(|_| Status::Memory),
+        Err(e) if e.kind() == ErrorKind::OutOfMemory => Err(Status::Memory),
+        Err(_) => Err(Status::Usage),
+    }
+}
+
+/// Runs the command over the system's files and the standard streams.
+fn run_command(rt: &HostRuntime) -> Status {
+    let words = match command_words(rt) {
+        Ok(words) => words,
+        Err(status) => return status,
+    };
+    let mut files = SystemFiles::new(rt);
+    let mut out = Stream::output(rt.stdout());
+    let mut err = Stream::error(rt.stderr());
+    top::run_words(rt.alloc(), words.as_slice(), &mut files, &mut out, &mut err)
+}
+
+fn main(rt: HostRuntime) -> ExitCode {
+    ExitCode::from(run_command(&rt).code())
+}

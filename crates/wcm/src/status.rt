@@ -1,0 +1,64 @@
+//! How a call of the program ends.
+
+ghost use Rattle.std.specs.Prelude.{◌≡◌};
+ghost use Rattle.wcm.specs.Status.{status_of, status_code};
+
+use crate::run::End;
+
+/// How a call of the program ends.
+#[derive(Clone, Copy, Debug, PartialEq, Eq)]
+pub enum Status {
+    /// The run is done.
+    Done,
+    /// The run ended in a trap.
+    Trap,
+    /// The words are no command.
+    Usage,
+    /// The component file is refused.
+    Refused,
+    /// The script file is refused.
+    ScriptRefused,
+    /// The run ended in a deadlock.
+    Deadlock,
+    /// The run ended by want of fuel.
+    Fuel,
+    /// A file was not read.
+    ReadFault,
+    /// The output or the error output took no more.
+    WriteFault,
+    /// Memory ran out.
+    Memory,
+    /// The component is not linked.
+    LinkRefused,
+}
+
+impl Status {
+    /// The exit status of the process.
+    pub fn code(self) -> u8
+        ensures { result ≡ status_code self }
+    {
+        match self {
+            Status::Done => 0,
+            Status::Trap => 1,
+            Status::Usage => 2,
+            Status::Refused => 3,
+            Status::ScriptRefused => 4,
+            Status::Deadlock => 5,
+            Status::Fuel => 6,
+            Status::ReadFault => 7,
+            Status::WriteFault => 8,
+            Status::Memory => 9,
+            Status::LinkRefused => 10,
+        }
+    }
+}
+
+/// The status of a run that ends so.
+pub fn status_of_end(end: End) -> Status
+    ensures { result ≡ status_of end }
+{
+    match end {
+        End::Done => Status::Done,
+        End::Fuel => Status::Fuel,
+    }
+}

@@ -1,0 +1,118 @@
+//! The top call.
+
+ghost use Rattle.std.specs.Prelude.{◌≡◌, ◌≢◌, ◌<◌, ◌⊎◌, ◌↔◌, ◌∷◌, ◌++◌, ℕ, List, [], None, OnOk, OnErr, map, string_bytes, codes};
+ghost use Rattle.ca_base.specs.Causes.{Rose};
+ghost use Rattle.ca_base.specs.Bytes.{grown, TookFront};
+ghost use Rattle.wcm.specs.declared.answer.Answer.{Answer};
+ghost use Rattle.wcm.specs.Outcome.{Outcome, IsTold, NamesNoComponent, NamesNoScript, NamesCall};
+ghost use Rattle.wcm.specs.Status.{IsGiven, IsFinal};
+ghost use Rattle.wcm.specs.Words.{plain};
+ghost use Rattle.wcm.specs.Written.{WroteAll, WroteFront};
+
+use crate::answer::{Answer, Stop, answer_of};
+use crate::status::Status;
+use crate::words::plain;
+use ca_base::{Failed, Files, Sink, write_all};
+use std::alloc::Global;
+
+/// The line for a file that was not read.
+const READ_FAULT: &[u8] = b"read fault\n";
+
+/// The line for want of memory.
+const WANT_OF_MEMORY: &[u8] = b"want of memory\n";
+
+/// Writes an answer: its text for the output, and then its text for the error output.
+#[tactic(auto, using(crate::proofs::Taken::took_all))]
+fn write_answer<K: Sink>(answer: &Answer, out: &mut K, err: &mut K) -> Result<(), Failed>
+    ensures ok { OnOk result (WroteAll answer.now (K.taken out.old) (K.taken out.new) (K.taken err.old) (K.taken err.new)) }
+    ensures failed { OnErr result (WroteFront answer.now (K.taken out.old) (K.taken out.new) (K.taken err.old) (K.taken err.new)) }
+    ensures same_out { OnOk result (K.faults out.new ≡ K.faults out.old) }
+    ensures same_err { OnOk result (K.faults err.new ≡ K.faults err.old) }
+    ensures cause { OnErr result (Rose (K.faults out.old) (K.faults out.new) ⊎ Rose (K.faults err.old) (K.faults err.new)) }
+{
+    write_all(out, answer.out.as_slice())?;
+    write_all(err, answer.err.as_slice())?;
+    Ok(())
+}
+
+/// Runs the command that the words say, over the files, the output and the error output that are handed in, and
+/// answers how it ends. `words[0]` is the program's name. The one command is `run FILE SCRIPT`: it reads the component
+/// file and the script file, runs the call, and writes the trace to the output.
+#[tactic(auto, using(crate::proofs::Taken::grown_nil, crate::proofs::Taken::took))]
+pub fn run_words<F: Files, K: Sink>(
+    alloc: Global,
+    words: &[String],
+    files: &mut F,
+    out: &mut K,
+    err: &mut K,
+) -> Status
+    // While no source or sink fails and memory lasts, what is written is the outcome's texts, and nothing else.
+    ensures headline { IsTold (map string_bytes words.now) (F.held files.old)
+        → (Rose (F.faults files.old) (F.faults files.new) → ⊥)
+        → (Rose (K.faults out.old) (K.faults out.new) → ⊥)
+        → (Rose (K.faults err.old) (K.faults err.new) → ⊥)
+        → result ≢ Status.Memory
+        → (a : Answer) × Outcome (map string_bytes words.now) (F.held files.old) a × (result ≡ a.status)
+        × WroteAll a (K.taken out.old) (K.taken out.new) (K.taken err.old) (K.taken err.new) }
+
+    // Usage, exactly where the words are no command. Files and outputs are left alone with it.
+    ensures usage { (result ≡ Status.Usage) ↔ (plain (map string_bytes words.now) ≡ None) }
+    ensures usage_is_silent { result ≡ Status.Usage → (files.new ≡ files.old) × (out.new ≡ out.old) × (err.new ≡ err.old) }
+
+    // Where both files are told, and no fault and no want of memory ended the call: what each answer tells of the files.
+    ensures refused { IsTold (map string_bytes words.now) (F.held files.old) → IsFinal result
+        → ((result ≡ Status.Refused) ↔ NamesNoComponent (map string_bytes words.now) (F.held files.old)) }
+    ensures script_refused { IsTold (map string_bytes words.now) (F.held files.old) → IsFinal result
+        → ((result ≡ Status.ScriptRefused) ↔ NamesNoScript (map string_bytes words.now) (F.held files.old)) }
+    ensures done { IsTold (map string_bytes words.now) (F.held files.old) → IsFinal result
+        → ((result ≡ Status.Done) ↔ NamesCall (map string_bytes words.now) (F.held files.old)) }
+
+    // No run traps, blocks or is short of fuel, and every component that is read is linked.
+    ensures given { IsGiven result }
+
+    // A read fault, only where the count of the files' faults rose; wherever it grew, unless a write fault or want of
+    // memory took its place. The output took nothing, and the error output the line.
+    ensures read_fault { result ≡ Status.ReadFault → Rose (F.faults files.old) (F.faults files.new) }
+    ensures read_fault_is_told { F.faults files.old < F.faults files.new
+        → (result ≡ Status.ReadFault) ⊎ (result ≡ Status.WriteFault) ⊎ (result ≡ Status.Memory) }
+    ensures read_fault_line { result ≡ Status.ReadFault → (K.taken out.new ≡ K.taken out.old)
+        × (K.taken err.new ≡ grown (K.taken err.old) (codes "read fault" ++ 10 ∷ [])) }
+
+    // A write fault, only where the count of a sink's faults rose; wherever it grew, unless want of memory took its
+    // place. Each output took a front of the outcome's text; or a file was not read, the output took nothing, and the
+    // error output a front of the line.
+    ensures write_fault { result ≡ Status.WriteFault
+        → Rose (K.faults out.old) (K.faults out.new) ⊎ Rose (K.faults err.old) (K.faults err.new) }
+    ensures write_fault_is_told { (K.faults out.old < K.faults out.new) ⊎ (K.faults err.old < K.faults err.new)
+        → (result ≡ Status.WriteFault) ⊎ (result ≡ Status.Memory) }
+    ensures write_fault_front { IsTold (map string_bytes words.now) (F.held files.old) → result ≡ Status.WriteFault
+        → ((a : Answer) × Outcome (map string_bytes words.now) (F.held files.old) a
+        × WroteFront a (K.taken out.old) (K.taken out.new) (K.taken err.old) (K.taken err.new))
+        ⊎ ((K.taken out.new ≡ K.taken out.old)
+        × TookFront (K.taken err.old) (K.taken err.new) (codes "read fault" ++ 10 ∷ [])) }
+
+    // After want of memory the output took nothing, and the error output a front of the line.
+    ensures memory { result ≡ Status.Memory → (K.taken out.new ≡ K.taken out.old)
+        × TookFront (K.taken err.old) (K.taken err.new) (codes "want of memory" ++ 10 ∷ []) }
+
+    // What the files hold stays.
+    ensures held { (name : List ℕ) → F.held files.new name ≡ F.held files.old name }
+{
+    let Some((file, script)) = plain(words) else {
+        return Status::Usage;
+    };
+    match answer_of(alloc, file, script, files) {
+        Ok(answer) => match write_answer(&answer, out, err) {
+            Ok(()) => answer.status,
+            Err(Failed) => Status::WriteFault,
+        },
+        Err(Stop::Fault) => match write_all(err, READ_FAULT) {
+            Ok(()) => Status::ReadFault,
+            Err(Failed) => Status::WriteFault,
+        },
+        Err(Stop::Memory) => {
+            let _ = write_all(err, WANT_OF_MEMORY);
+            Status::Memory
+        }
+    }
+}

@@ -1,0 +1,156 @@
+//! The text of a trace.
+
+ghost use Rattle.std.specs.Prelude.{◌≡◌, ◌++◌, OnOk, IfOk, codes};
+ghost use Rattle.std.specs.Fmt.{decimal};
+ghost use Rattle.wcm.specs.declared.run.Label.TheVariants.{Take};
+ghost use Rattle.wcm.specs.Text.{value_text, values_text, task_text, result_text, line, label_text, end_text, trace_text};
+
+use crate::run::{End, Label};
+use crate::script::Value;
+use ca_base::{Bytes, Memory, Seq};
+use std::alloc::Global;
+
+/// Appends a number in decimal digits.
+fn push_number(alloc: Global, number: u32, text: &mut Vec<u8>) -> Result<(), Memory>
+    ensures { OnOk result (text.new.items ≡ text.old.items ++ decimal number) }
+{
+    let digits = number.to_string(alloc)?;
+    text.extend_from_slice(digits.as_bytes())?;
+    Ok(())
+}
+
+/// Appends a value.
+fn push_value(alloc: Global, value: Value, text: &mut Vec<u8>) -> Result<(), Memory>
+    ensures { OnOk result (text.new.items ≡ text.old.items ++ value_text value) }
+{
+    match value {
+        Value::U32(number) => push_number(alloc, number, text),
+    }
+}
+
+/// Appends values, with a comma and a space between them.
+fn push_values(alloc: Global, values: &[Value], text: &mut Vec<u8>) -> Result<(), Memory>
+    ensures { OnOk result (text.new.items ≡ text.old.items ++ values_text values.now) }
+{
+    for (index, value) in values.iter().enumerate() {
+        if index > 0 {
+            text.extend_from_slice(b", ")?;
+        }
+        push_value(alloc, *value, text)?;
+    }
+    Ok(())
+}
+
+/// Appends a task's name.
+fn push_task(alloc: Global, task: u32, text: &mut Vec<u8>) -> Result<(), Memory>
+    ensures { OnOk result (text.new.items ≡ text.old.items ++ task_text task) }
+{
+    text.push(b'T')?;
+    push_number(alloc, task, text)
+}
+
+/// Appends a result in parentheses, or nothing in them.
+fn push_result(alloc: Global, value: Option<Value>, text: &mut Vec<u8>) -> Result<(), Memory>
+    ensures { OnOk result (text.new.items ≡ text.old.items ++ result_text value) }
+{
+    text.push(b'(')?;
+    if let Some(value) = value {
+        push_value(alloc, value, text)?;
+    }
+    text.push(b')')?;
+    Ok(())
+}
+
+/// Appends a call, a function's name and its arguments in parentheses, and ends the line.
+fn push_call(alloc: Global, name: &[u8], values: &[Value], text: &mut Vec<u8>) -> Result<(), Memory>
+    ensures { OnOk result (text.new.items ≡ text.old.items ++ line (name.now ++ codes " (" ++ values_text values.now ++ codes ")")) }
+{
+    text.extend_from_slice(name)?;
+    text.extend_from_slice(b" (")?;
+    push_values(alloc, values, text)?;
+    text.extend_from_slice(b")\n")?;
+    Ok(())
+}
+
+/// Appends the line of a call that is taken.
+fn push_take(
+    alloc: Global,
+    call: u32,
+    task: u32,
+    name: &[u8],
+    values: &[Value],
+    text: &mut Vec<u8>,
+) -> Result<(), Memory>
+    ensures { OnOk result (text.new.items ≡ text.old.items ++ label_text (Take call task name.now values.now)) }
+{
+    text.extend_from_slice(b"take ")?;
+    push_number(alloc, call, text)?;
+    text.push(b' ')?;
+    push_task(alloc, task, text)?;
+    text.push(b' ')?;
+    push_call(alloc, name, values, text)
+}
+
+/// Appends the line of a label.
+fn push_label(alloc: Global, label: &Label, text: &mut Vec<u8>) -> Result<(), Memory>
+    ensures { OnOk result (text.new.items ≡ text.old.items ++ label_text label.now) }
+{
+    match label {
+        Label::Take {
+            call,
+            task,
+            name,
+            values,
+        } => push_take(
+            alloc,
+            *call,
+            *task,
+            name.as_slice(),
+            values.as_slice(),
+            text,
+        ),
+        Label::Enter(task) => {
+            text.extend_from_slice(b"enter ")?;
+            push_task(alloc, *task, text)?;
+            text.push(b'\n')?;
+            Ok(())
+        }
+        Label::Return(task, result) => {
+            text.extend_from_slice(b"return ")?;
+            push_task(alloc, *task, text)?;
+            text.push(b' ')?;
+            push_result(alloc, *result, text)?;
+            text.push(b'\n')?;
+            Ok(())
+        }
+        Label::Exit(task) => {
+            text.extend_from_slice(b"exit ")?;
+            push_task(alloc, *task, text)?;
+            text.push(b'\n')?;
+            Ok(())
+        }
+    }
+}
+
+/// Appends the line of an end.
+fn push_end(end: End, text: &mut Vec<u8>) -> Result<(), Memory>
+    ensures { OnOk result (text.new.items ≡ text.old.items ++ end_text end) }
+{
+    match end {
+        End::Done => text.extend_from_slice(b"done\n")?,
+        End::Fuel => text.extend_from_slice(b"fuel\n")?,
+    }
+    Ok(())
+}
+
+/// The text of a trace: a line for each label, and the last line for the end.
+pub fn trace_text(alloc: Global, labels: &[Label], end: End) -> Result<Bytes, Memory>
+    ensures { IfOk result (λ text. text ≡ trace_text labels.now end) }
+{
+    let mut text = Vec::new(alloc);
+    for label in labels {
+        push_label(alloc, label, &mut text)?;
+    }
+    push_end(end, &mut text)?;
+    Ok(Seq::from_vec(text))
+}
