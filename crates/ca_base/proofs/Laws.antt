@@ -5,7 +5,7 @@ use Rattle.std.proofs.lemmas.Bool.Decides.{eqb_tells}
 use Rattle.std.proofs.lemmas.List.{nil_from_length}
 use Rattle.ca_base.specs.Span.{Span, behind, window}
 use Rattle.ca_base.specs.declared.refusal.Refusal.{Refusal}
-use Rattle.ca_base.specs.Grammar.{Grammar, read, Matches, Refuses, IsDecided, Give, Refuse, Here, Left, Byte, Take, Sized, Then, Choose, and_then, first_byte, passing, in_words, filling}
+use Rattle.ca_base.specs.Grammar.{Grammar, read, Matches, Refuses, IsDecided, Give, Refuse, Here, Left, Next, Byte, Take, Sized, Then, Choose, and_then, first_byte, passing, in_words, filling}
 
 ok_inj : {A E : Type 0} {x y : A} → ◌≡◌ {A = Result A E} (Ok x) (Ok y) → x ≡ y
 ok_inj h = cc
@@ -91,6 +91,7 @@ matches_past (Give y) s x t m = ap (λ (u : Span _). u.past) m.1
 matches_past (Refuse place why) s x t m = absurd m
 matches_past Here s x t m = ap (λ (u : Span _). u.past) m.1
 matches_past Left s x t m = ap (λ (u : Span _). u.past) m.1
+matches_past Next s x t m = ap (λ (u : Span _). u.past) m.1
 matches_past Byte s x t m = m.2
 matches_past (Take n) s x t m = ap (λ (u : Span _). u.past) m.2
 matches_past (Sized n past f g) s x t m = ap (λ (u : Span _). u.past) m.1
@@ -104,6 +105,7 @@ reads_matches (Give y) s x t h = let e = ok_inj h in (sym (ap (λ p. p.0) e), sy
 reads_matches (Refuse p why) s x t h = cc
 reads_matches Here s x t h = let e = ok_inj h in (sym (ap (λ p. p.0) e), sym (ap (λ p. p.1) e))
 reads_matches Left s x t h = let e = ok_inj h in (sym (ap (λ p. p.0) e), sym (ap (λ p. p.1) e))
+reads_matches Next s x t h = let e = ok_inj h in (sym (ap (λ p. p.0) e), sym (ap (λ p. p.1) e))
 reads_matches Byte s x t h = first_ok s s.bytes x t h
 reads_matches (Take n) s x t h =
     elim (tested (ltb (length s.bytes) n) (Err (passing s)) (Ok (take n s.bytes, behind n s)) (Ok (x, t)) h) [
@@ -129,6 +131,7 @@ matches_reads (Give y) s x t m = cc
 matches_reads (Refuse p why) s x t m = absurd m
 matches_reads Here s x t m = cc
 matches_reads Left s x t m = cc
+matches_reads Next s x t m = cc
 matches_reads Byte s x t m = first_matched s s.bytes x t m.0 m.1 m.2
 matches_reads (Take n) s x t m = rw (le-ltb _ _ m.0) (cc)
 matches_reads (Sized n past f g) s x t m =
@@ -143,6 +146,7 @@ reads_refuses (Give y) s e h = cc
 reads_refuses (Refuse p why) s e h = sym (err_inj h)
 reads_refuses Here s e h = cc
 reads_refuses Left s e h = cc
+reads_refuses Next s e h = cc
 reads_refuses Byte s e h = first_err s s.bytes e h
 reads_refuses (Take n) s e h =
     elim (tested (ltb (length s.bytes) n) (Err (passing s)) (Ok (take n s.bytes, behind n s)) (Err e) h) [ inl a ↦ (ltb-true _ _ a.0, sym (err_inj a.1)) | inr a ↦ cc ]
@@ -172,6 +176,7 @@ refuses_reads (Give y) s e m = absurd m
 refuses_reads (Refuse p why) s e m = cc
 refuses_reads Here s e m = absurd m
 refuses_reads Left s e m = absurd m
+refuses_reads Next s e m = absurd m
 refuses_reads Byte s e m = first_refused s s.bytes e m.0 m.1
 refuses_reads (Take n) s e m = rw (lt-ltb _ _ m.0) (cc)
 refuses_reads (Sized n past f g) s e m =

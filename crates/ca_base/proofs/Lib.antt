@@ -1,4 +1,10 @@
 pub mod Laws
+pub mod Leb
+pub mod Many
 pub mod Pieces
+pub mod PlacedTimes
 pub mod Places
+pub mod Sample
+pub mod Sizes
 pub mod Times
+pub mod Utf8

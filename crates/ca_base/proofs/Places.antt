@@ -4,7 +4,7 @@ use Rattle.std.specs.Bool.{MatchBool}
 use Rattle.std.proofs.lemmas.Bool.{eqb-true}
 use Rattle.std.proofs.lemmas.List.{nil_from_length}
 use Rattle.ca_base.specs.Span.{Span, behind}
-use Rattle.ca_base.specs.Grammar.{Grammar, Matches, Give, Refuse, Here, Left, Byte, Take, Sized, Choose, Then}
+use Rattle.ca_base.specs.Grammar.{Grammar, Matches, Give, Refuse, Here, Left, Next, Byte, Take, Sized, Choose, Then}
 use Rattle.ca_base.specs.Items.{Reasons, at_end}
 
 -- the place of a span's end
@@ -20,6 +20,7 @@ matches_end (Give y) s x t m = ap end_of m.1
 matches_end (Refuse place why) s x t m = absurd m
 matches_end Here s x t m = ap end_of m.1
 matches_end Left s x t m = ap end_of m.1
+matches_end Next s x t m = ap end_of m.1
 matches_end Byte s x t m = rw (m.0, m.1) (omega arith)
 matches_end (Take count) s x t m = end-behind count s t m.0 m.2
 matches_end (Sized count past f g) s x t m = end-behind count s t m.0 m.1
@@ -55,6 +56,7 @@ matches_shorter (Give y) s x t m = rw (m.1) (omega arith)
 matches_shorter (Refuse place why) s x t m = absurd m
 matches_shorter Here s x t m = rw (m.1) (omega arith)
 matches_shorter Left s x t m = rw (m.1) (omega arith)
+matches_shorter Next s x t m = rw (m.1) (omega arith)
 matches_shorter Byte s x t m = rw (m.0) (omega arith)
 matches_shorter (Take count) s x t m = rw (m.2, length-drop count s.bytes) (omega arith)
 matches_shorter (Sized count past f g) s x t m = rw (m.1, length-drop count s.bytes) (omega arith)

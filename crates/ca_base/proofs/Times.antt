@@ -1,5 +1,5 @@
 -- Items that are read one after the other, behind those that are read already.
-use Rattle.std.proofs.Common.{◌≡◌, ℕ, zero, suc, List, [], ◌∷◌, ◌++◌, refl, append-nil, append_assoc, Result, Ok, Err}
+use Rattle.std.proofs.Common.{◌≡◌, ◌<◌, arith, ℕ, zero, suc, List, [], ◌∷◌, ◌++◌, refl, append-nil, append_assoc, Result, Ok, Err}
 use Rattle.ca_base.specs.Span.{Span}
 use Rattle.ca_base.specs.declared.refusal.Refusal.{Refusal}
 use Rattle.ca_base.specs.Grammar.{Grammar, read, times, and_then}
@@ -10,7 +10,7 @@ preceded xs (Ok y) = Ok (xs ++ y.0, y.1)
 preceded xs (Err e) = Err e
 
 -- one item more before a reading
-one_more : {W A : Type 0} (xs : List A) (x : A) (r : Result (List A × Span W) (Refusal W)) → preceded xs (and_then r (λ ys u. Ok (x ∷ ys, u))) ≡ preceded (xs ++ x ∷ []) r
+pub one_more : {W A : Type 0} (xs : List A) (x : A) (r : Result (List A × Span W) (Refusal W)) → preceded xs (and_then r (λ ys u. Ok (x ∷ ys, u))) ≡ preceded (xs ++ x ∷ []) r
 one_more xs x (Ok y) = simp append_assoc
 one_more xs x (Err e) = refl
 
@@ -32,6 +32,6 @@ times_ok g xs x (suc m) k s t h r =
     rw (r, e) (one_more xs x (read (times k g) t))
 
 -- an item is refused
-pub times_err : {W A : Type 0} (g : Grammar W A) (xs : List A) (n k : ℕ) (s : Span W) (e : Refusal W) → n ≡ suc k → read g s ≡ Err e → preceded xs (read (times n g) s) ≡ Err e
-times_err g xs zero k s e h r = cc
-times_err g xs (suc m) k s e h r = rw r refl
+pub times_err : {W A : Type 0} (g : Grammar W A) (xs : List A) (n : ℕ) (s : Span W) (e : Refusal W) → 0 < n → read g s ≡ Err e → preceded xs (read (times n g) s) ≡ Err e
+times_err g xs zero s e h r = absurd (omega arith)
+times_err g xs (suc m) s e h r = rw r refl

@@ -3,7 +3,7 @@
 -- leave it, and why: what stands before matches, and the item there matches no case. `read` computes both. The laws
 -- in `proofs/Laws` hold of every grammar: `read` answers a tree exactly where one matches, and a refusal exactly where
 -- the bytes are refused; so bytes have exactly one tree or exactly one refusal.
-use Rattle.std.specs.Prelude.{◌≡◌, ◌≢◌, ◌<◌, ◌≤◌, ◌==◌, ◌+◌, ℕ, zero, suc, Bool, MatchBool, List, [], ◌∷◌, length, take, nat_lt, if◌then◌else◌, Result, Ok, Err, ◌⊎◌}
+use Rattle.std.specs.Prelude.{◌≡◌, ◌≢◌, ◌<◌, ◌≤◌, ◌==◌, ◌+◌, ℕ, zero, suc, Bool, MatchBool, List, [], ◌∷◌, length, take, nat_lt, if◌then◌else◌, Result, Ok, Err, ◌⊎◌, Option, Some, None}
 use Rattle.ca_base.specs.Span.{Span, behind, window}
 use Rattle.ca_base.specs.declared.refusal.Refusal.{Refusal}
 use Rattle.ca_base.specs.declared.refusal.ReadError.{ReadError}
@@ -18,6 +18,8 @@ pub data Grammar : Type 0 → Type 0 → Type 1 where
   -- no bytes: the place, and how many bytes are left
   Here : {W : Type 0} → Grammar W ℕ
   Left : {W : Type 0} → Grammar W ℕ
+  -- no bytes: the next byte, or none at the end
+  Next : {W : Type 0} → Grammar W (Option ℕ)
   -- one byte, and so many bytes
   Byte : {W : Type 0} → Grammar W ℕ
   Take : {W : Type 0} → ℕ → Grammar W (List ℕ)
@@ -41,12 +43,18 @@ passing s = record { place = s.at + length s.bytes; why = s.past }
 abbrev pub in_words : {V W : Type 0} → (V → W) → Refusal V → Refusal W
 in_words f e = record { place = e.place; why = f e.why }
 
+-- the next byte, or none where none is left
+abbrev pub next_byte : List ℕ → Option ℕ
+next_byte [] = None
+next_byte (b ∷ bytes) = Some b
+
 -- From s the grammar stands for x, and t is left.
 abbrev pub Matches : {W A : Type 0} → Grammar W A → Span W → A → Span W → Type 0
 Matches (Give y) s x t = (x ≡ y) × (t ≡ s)
 Matches (Refuse place why) s x t = ⊥
 Matches Here s x t = (x ≡ s.at) × (t ≡ s)
 Matches Left s x t = (x ≡ length s.bytes) × (t ≡ s)
+Matches Next s x t = (x ≡ next_byte s.bytes) × (t ≡ s)
 Matches Byte s x t = (s.bytes ≡ x ∷ t.bytes) × (t.at ≡ s.at + 1) × (t.past ≡ s.past)
 Matches (Take count) s x t = (count ≤ length s.bytes) × (x ≡ take count s.bytes) × (t ≡ behind count s)
 Matches (Sized count past f g) s x t =
@@ -61,6 +69,7 @@ Refuses (Give y) s e = ⊥
 Refuses (Refuse place why) s e = e ≡ record { place = place; why = why }
 Refuses Here s e = ⊥
 Refuses Left s e = ⊥
+Refuses Next s e = ⊥
 Refuses Byte s e = (s.bytes ≡ []) × (e ≡ passing s)
 Refuses (Take count) s e = (length s.bytes < count) × (e ≡ passing s)
 Refuses (Sized count past f g) s e =
@@ -91,6 +100,7 @@ read (Give x) s = Ok (x, s)
 read (Refuse place why) s = Err (record { place = place; why = why })
 read Here s = Ok (s.at, s)
 read Left s = Ok (length s.bytes, s)
+read Next s = Ok (next_byte s.bytes, s)
 read Byte s = first_byte s s.bytes
 read (Take count) s = if nat_lt (length s.bytes) count then Err (passing s) else Ok (take count s.bytes, behind count s)
 read (Sized count past f g) s =

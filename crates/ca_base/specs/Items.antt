@@ -1,11 +1,22 @@
--- Items that the core and the component format share (Core 2.0, sections 5.1 and 5.2), in the narrow form that is read
--- so far: a number is one byte below 80, a name is one or more lower-case ASCII letters, and a vector has one item.
-use Rattle.std.specs.Prelude.{◌≡◌, ℕ, Bool, List, [], ◌∷◌, nat_lt, nat_le, ◌==◌, ◌&&◌, ◌⊎◌, Result, Ok, Err}
-use Rattle.ca_base.specs.Grammar.{Grammar, Give, Refuse, Here, Left, Byte, Sized, Choose, ◌>>=◌, times, read, Opens}
+-- Items that the core and the component format share (Core 2.0, sections 5.1 and 5.2): numbers, names, vectors, and
+-- what a size tells the length of.
+use Rattle.std.specs.Prelude.{◌≡◌, ◌+◌, ◌-◌, ◌*◌, ℕ, zero, suc, ℤ, pos, ◌+ℤ◌, ◌-ℤ◌, ◌*ℤ◌, Bool, false, Option, Some, None, List, [], ◌∷◌, length, nat_lt, nat_le, ◌==◌, ◌&&◌, ◌||◌, if◌then◌else◌, ◌⊎◌, ◌<◌, Result, Ok, Err}
+use Rattle.std.specs.List.{flat_map, slice_get}
+use Rattle.std.specs.Option.{unwrap_or}
+use Rattle.std.specs.Str.Lossy.{utf8_valid_len}
+use Rattle.ca_base.specs.Grammar.{Grammar, Give, Refuse, Here, Left, Byte, Take, Sized, Choose, ◌>>=◌, times, read, Opens, passing}
 use Rattle.ca_base.specs.Span.{Span}
 use Rattle.ca_base.specs.declared.refusal.Refusal.{Refusal}
+use Rattle.ca_base.specs.declared.placed.Placed.{Placed}
 
--- the reasons that both formats have
+-- the reasons of numbers and names
+pub record NumberReasons (W : Type 0) : Type 0 where
+  -- a byte that no number has in its place
+  pub leb : W
+  -- a name that is not UTF-8
+  pub utf8 : W
+
+-- the reasons of what stands in sections
 pub record Reasons (W : Type 0) : Type 0 where
   -- a byte that no rule has in its place
   pub unsupported : ℕ → W
@@ -20,50 +31,137 @@ fixed why (b ∷ bytes) = do
   c ← Byte
   Choose (c == b) (fixed why bytes) (Refuse place why)
 
--- one byte that passes a test
-unfoldable pub byte_with : {W : Type 0} → Reasons W → (ℕ → Bool) → Grammar W ℕ
-byte_with reasons test = do
+-- this byte
+unfoldable pub marker : {W : Type 0} → Reasons W → ℕ → Grammar W ℕ
+marker reasons b = do
+  place ← Here
+  c ← Byte
+  Choose (c == b) (Give c) (Refuse place (reasons.unsupported c))
+
+-- whether the next byte is this one
+abbrev pub is_byte : ℕ → Option ℕ → Bool
+is_byte b None = false
+is_byte b (Some c) = c == b
+
+-- the byte, where there is one
+abbrev pub byte_of : Option ℕ → ℕ
+byte_of None = 0
+byte_of (Some b) = b
+
+-- Numbers (section 5.2.2). A byte below 128 ends a number; any other one tells seven bits of it, and the rest follows.
+
+-- one byte that passes a test, as the last one that a number can have
+unfoldable pub last_byte : {W : Type 0} → NumberReasons W → (ℕ → Bool) → Grammar W ℕ
+last_byte numbers test = do
   place ← Here
   b ← Byte
-  Choose (test b) (Give b) (Refuse place (reasons.unsupported b))
+  Choose (test b) (Give b) (Refuse place numbers.leb)
 
--- this byte
-abbrev pub marker : {W : Type 0} → Reasons W → ℕ → Grammar W ℕ
-marker reasons b = byte_with reasons (λ c. c == b)
+-- an unsigned number: at most so many bytes, and then a last one that is below `top`
+unfoldable pub unsigned : {W : Type 0} → NumberReasons W → ℕ → ℕ → Grammar W ℕ
+unsigned numbers zero top = last_byte numbers (λ b. nat_lt b top)
+unsigned numbers (suc more) top = do
+  b ← Byte
+  Choose (nat_lt b 128) (Give b) (do
+    high ← unsigned numbers more top
+    Give (128 * high + (b - 128)))
 
--- a number below 128, as its one byte
-abbrev pub number : {W : Type 0} → Reasons W → Grammar W ℕ
-number reasons = byte_with reasons (λ b. nat_lt b 128)
+-- 32 bits: four bytes of seven bits, and a last one of four
+abbrev pub u32 : {W : Type 0} → NumberReasons W → Grammar W ℕ
+u32 numbers = unsigned numbers 4 16
 
--- a lower-case ASCII letter
-abbrev pub is_letter : ℕ → Bool
-is_letter b = nat_le 97 b && nat_le b 122
+-- seven bits as a signed number
+abbrev pub seven_bits : ℕ → ℤ
+seven_bits b = if nat_lt b 64 then pos b else (pos b -ℤ pos 128)
 
-abbrev pub letter : {W : Type 0} → Reasons W → Grammar W ℕ
-letter reasons = byte_with reasons is_letter
+-- A signed number: at most so many bytes, and then a last one whose bits above the sign repeat it. Such a byte is below
+-- `top`, or is one of the `top` bytes below 128.
+unfoldable pub signed : {W : Type 0} → NumberReasons W → ℕ → ℕ → Grammar W ℤ
+signed numbers zero top = do
+  b ← last_byte numbers (λ b. nat_lt b top || (nat_le (128 - top) b && nat_lt b 128))
+  Give (seven_bits b)
+signed numbers (suc more) top = do
+  b ← Byte
+  Choose (nat_lt b 128) (Give (seven_bits b)) (do
+    high ← signed numbers more top
+    Give (pos 128 *ℤ high +ℤ pos (b - 128)))
 
--- how many letters a name has, at least one
-abbrev pub name_length : {W : Type 0} → Reasons W → Grammar W ℕ
-name_length reasons = byte_with reasons (λ b. nat_lt 0 b && nat_lt b 128)
+-- 32, 33 and 64 bits: the last byte has four, five and one of them
+abbrev pub s32 : {W : Type 0} → NumberReasons W → Grammar W ℤ
+s32 numbers = signed numbers 4 8
 
--- how many letters, and the letters
-unfoldable pub name : {W : Type 0} → Reasons W → Grammar W (List ℕ)
-name reasons = do
-  count ← name_length reasons
-  times count (letter reasons)
+abbrev pub s33 : {W : Type 0} → NumberReasons W → Grammar W ℤ
+s33 numbers = signed numbers 4 16
 
--- a section: its id, its size, and a payload that fills it
-abbrev pub section : {W A : Type 0} → Reasons W → ℕ → Grammar W A → Grammar W A
-section reasons id payload = do
-  _ ← marker reasons id
-  size ← number reasons
-  Sized size reasons.section_size (λ why. why) payload
+abbrev pub s64 : {W : Type 0} → NumberReasons W → Grammar W ℤ
+s64 numbers = signed numbers 9 1
 
--- a vector of one item
-abbrev pub one : {W A : Type 0} → Reasons W → Grammar W A → Grammar W A
-one reasons item = do
-  _ ← marker reasons 1
-  item
+-- a name (section 5.2.4): how many bytes, and these bytes, which are UTF-8; else the first byte behind the longest
+-- front that is UTF-8 is refused
+unfoldable pub name : {W : Type 0} → NumberReasons W → Grammar W (List ℕ)
+name numbers = do
+  count ← u32 numbers
+  place ← Here
+  bytes ← Take count
+  Choose (utf8_valid_len bytes == length bytes) (Give bytes) (Refuse (place + utf8_valid_len bytes) numbers.utf8)
+
+-- what a size tells the length of, and fills it
+abbrev pub sized : {W A : Type 0} → NumberReasons W → Reasons W → Grammar W A → Grammar W A
+sized numbers reasons item = do
+  size ← u32 numbers
+  Sized size reasons.section_size (λ why. why) item
+
+-- a name and any bytes, as far as the window goes: what a custom section holds (section 5.5.3)
+unfoldable pub custom : {W : Type 0} → NumberReasons W → Grammar W (Unit {0})
+custom numbers = do
+  _ ← name numbers
+  count ← Left
+  _ ← Take count
+  Give tt
+
+-- Vectors (section 5.1.3): how many items, and the items.
+abbrev pub vec : {W A : Type 0} → NumberReasons W → Grammar W A → Grammar W (List A)
+vec numbers item = do
+  count ← u32 numbers
+  times count item
+
+-- so many items, and the place of each
+unfoldable pub placed_times : {W A : Type 0} → ℕ → Grammar W A → Grammar W (Placed A)
+placed_times zero item = Give (record { items = []; places = [] })
+placed_times (suc count) item = do
+  place ← Here
+  first ← item
+  others ← placed_times count item
+  Give (record { items = first ∷ others.items; places = place ∷ others.places })
+
+abbrev pub placed_vec : {W A : Type 0} → NumberReasons W → Grammar W A → Grammar W (Placed A)
+placed_vec numbers item = do
+  count ← u32 numbers
+  placed_times count item
+
+-- items up to the window's end, but no more than so many
+unfoldable pub many : {W A : Type 0} → ℕ → Grammar W A → Grammar W (List A)
+many zero item = Give []
+many (suc count) item = do
+  left ← Left
+  Choose (left == 0) (Give []) (do
+    first ← item
+    others ← many count item
+    Give (first ∷ others))
+
+-- items, each of at least one byte, up to the window's end
+abbrev pub to_the_end : {W A : Type 0} → Grammar W A → Grammar W (List A)
+to_the_end item = do
+  count ← Left
+  many count item
+
+-- the items of several lists, with their places
+abbrev pub joined : {A : Type 0} → List (Placed A) → Placed A
+joined parts = record { items = flat_map (λ part. part.items) parts; places = flat_map (λ part. part.places) parts }
+
+-- the place of this number; 0 where there is none
+abbrev pub place_at : List ℕ → ℕ → ℕ
+place_at places number = unwrap_or (slice_get places number) 0
 
 -- no byte is left
 unfoldable pub at_end : {W : Type 0} → Reasons W → Grammar W (Unit {0})
@@ -74,14 +172,11 @@ at_end reasons = do
     b ← Byte
     Refuse place (reasons.unsupported b))
 
--- What a call that opens a section's payload answers: the payload's window, and what is left behind the section; or
--- the refusal of the id, of the size, or of a size that passes the end.
-abbrev pub OpensSection : {W : Type 0} → Reasons W → ℕ → Span W → Span W → Result (Span W) (Refusal W) → Type 0
-OpensSection reasons id s t (Ok u) =
-    (b : ℕ) × (a : Span _) × (read (marker reasons id) s ≡ Ok (b, a))
-    × ((size : ℕ) × (c : Span _) × (read (number reasons) a ≡ Ok (size, c)) × Opens size reasons.section_size c t (Ok u))
-OpensSection reasons id s t (Err e) =
-    (read (marker reasons id) s ≡ Err e)
-    ⊎ ((b : ℕ) × (a : Span _) × (read (marker reasons id) s ≡ Ok (b, a)) × (read (number reasons) a ≡ Err e))
-    ⊎ ((b : ℕ) × (a : Span _) × (read (marker reasons id) s ≡ Ok (b, a))
-    × ((size : ℕ) × (c : Span _) × (read (number reasons) a ≡ Ok (size, c)) × Opens {V = _} size reasons.section_size c t (Err e)))
+-- What a call that opens what a size tells the length of answers: its window, and what is left behind it; or the
+-- refusal of the size, or of a size that passes the end.
+abbrev pub OpensSized : {W : Type 0} → NumberReasons W → Reasons W → Span W → Span W → Result (Span W) (Refusal W) → Type 0
+OpensSized numbers reasons s t (Ok u) =
+    (size : ℕ) × (c : Span _) × (read (u32 numbers) s ≡ Ok (size, c)) × Opens size reasons.section_size c t (Ok u)
+OpensSized numbers reasons s t (Err e) =
+    (read (u32 numbers) s ≡ Err e)
+    ⊎ ((size : ℕ) × (c : Span _) × (read (u32 numbers) s ≡ Ok (size, c)) × (length c.bytes < size) × (e ≡ passing c))

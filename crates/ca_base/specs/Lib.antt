@@ -1,10 +1,11 @@
 pub mod Bytes
 pub mod Calls
 pub mod Causes
-pub mod Cursor
 pub mod Grammar
 pub mod Items
 pub mod MemFiles
 pub mod MemSink
+pub mod Numbers
 pub mod Reading
+pub mod Sample
 pub mod Span

@@ -1,130 +1,122 @@
 //! Readers of the items that both formats have.
 
-ghost use Rattle.std.specs.Prelude.{◌≡◌};
-ghost use Rattle.ca_base.specs.Grammar.{Reads, MayRead, times};
-ghost use Rattle.ca_base.specs.Items.{fixed, marker, number, letter, name_length, name, OpensSection};
+ghost use Rattle.std.specs.Prelude.{◌≡◌, OnErr};
+ghost use Rattle.ca_base.specs.Grammar.{Reads};
+ghost use Rattle.ca_base.specs.Items.{fixed, marker, name, custom, OpensSized};
 
-use crate::reason::Reason;
-use crate::refusal::{ReadError, Refusal};
-use crate::seq::{Bytes, Seq};
+use crate::reason::{NumberReason, Reason};
+use crate::refusal::Refusal;
 use crate::window::Window;
-use std::alloc::Global;
 
 impl<'a, W: Copy> Window<'a, W> {
-    /// Reads these bytes. The first other byte is refused for the given reason.
+    /// Reads these bytes. The first other byte is refused for the given reason. A refused call leaves the window as it
+    /// was.
     #[tactic(auto, unfolding(crate::specs::Items::fixed))]
     pub fn fixed(&mut self, bytes: &[u8], why: W) -> Result<(), Refusal<W>>
-        ensures { Reads (λ _. tt) (fixed why bytes.now) self.old self.new result }
+        ensures reads { Reads (λ _. tt) (fixed why bytes.now) self.old self.new result }
+        ensures err { OnErr result (self.new ≡ self.old) }
     {
+        let mut ahead = self.ahead();
         for byte in bytes {
             let wanted = *byte;
-            let place = self.at();
-            let found = self.byte()?;
+            let place = ahead.at();
+            let found = ahead.byte()?;
             if found != wanted {
                 return Err(Refusal { place, why });
             }
         }
+        *self = ahead;
+        Ok(())
+    }
+}
+
+impl<'a, W: NumberReason> Window<'a, W> {
+    /// Reads a name (Core 2.0, section 5.2.4): a length in bytes, and so many bytes of UTF-8. Where they are not UTF-8,
+    /// the first byte behind their longest front that is gets refused, for the reason of names. A length is refused as
+    /// `u32` refuses it, and one that passes the window's end at that end. A refused call leaves the window as it was.
+    pub fn name(&mut self) -> Result<&'a str, Refusal<W>>
+        ensures reads { Reads (λ text. text.now) (name W.numbers) self.old self.new result }
+        ensures err { OnErr result (self.new ≡ self.old) }
+    {
+        let mut ahead = self.ahead();
+        let text = ahead.text()?;
+        *self = ahead;
+        Ok(text)
+    }
+
+    /// Reads a name.
+    #[tactic(auto, using(crate::proofs::Utf8::is_whole, crate::proofs::Utf8::is_cut, std::proofs::lemmas::Str::utf8_valid_len_le), unfolding(crate::specs::Items::name))]
+    fn text(&mut self) -> Result<&'a str, Refusal<W>>
+        ensures { Reads (λ text. text.now) (name W.numbers) self.old self.new result }
+    {
+        let count = self.u32()?;
+        let place = self.at();
+        let bytes = self.take(count as usize)?;
+        match simdutf8::compat::from_utf8(bytes) {
+            Ok(text) => Ok(text),
+            Err(error) => Err(Refusal {
+                place: place + error.valid_up_to(),
+                why: W::utf8(),
+            }),
+        }
+    }
+
+    /// Reads a name and any bytes, as far as the window goes: what a custom section holds (Core 2.0, section 5.5.3).
+    /// It is refused where `name` is. A refused call leaves the window as it was.
+    #[tactic(auto, unfolding(crate::specs::Items::custom))]
+    pub fn custom(&mut self) -> Result<(), Refusal<W>>
+        ensures reads { Reads (λ _. tt) (custom W.numbers) self.old self.new result }
+        ensures err { OnErr result (self.new ≡ self.old) }
+    {
+        let mut ahead = self.ahead();
+        ahead.name()?;
+        let count = ahead.left();
+        ahead.take(count)?;
+        *self = ahead;
         Ok(())
     }
 }
 
 impl<'a, W: Reason> Window<'a, W> {
-    /// Reads this byte.
-    #[tactic(auto, unfolding(crate::specs::Items::byte_with))]
+    /// Reads this byte. Another one is refused. A refused call leaves the window as it was.
+    #[tactic(auto, unfolding(crate::specs::Items::marker))]
     pub fn marker(&mut self, byte: u8) -> Result<u8, Refusal<W>>
-        ensures { Reads (λ b. b) (marker W.reasons byte) self.old self.new result }
+        ensures reads { Reads (λ b. b) (marker W.reasons byte) self.old self.new result }
+        ensures err { OnErr result (self.new ≡ self.old) }
     {
-        let place = self.at();
-        let found = self.byte()?;
+        let mut ahead = self.ahead();
+        let place = ahead.at();
+        let found = ahead.byte()?;
         if found == byte {
+            *self = ahead;
             Ok(found)
         } else {
-            Err(unsupported(place, found))
+            Err(Refusal {
+                place,
+                why: W::unsupported(found),
+            })
         }
     }
 
-    /// Reads a number below 128.
-    #[tactic(auto, unfolding(crate::specs::Items::byte_with))]
-    pub fn number(&mut self) -> Result<u8, Refusal<W>>
-        ensures { Reads (λ b. b) (number W.reasons) self.old self.new result }
+    /// Reads a size in bytes, and opens so many bytes as a window of their own, which the caller has to fill: what
+    /// passes the end of those is refused for the reason of a section's size. A size is refused as `u32` refuses it, and
+    /// one that passes the end of this window at that end. A refused call leaves the window as it was.
+    pub fn open(&mut self) -> Result<Window<'a, W>, Refusal<W>>
+        ensures opens { OpensSized W.numbers W.reasons self.old self.new result }
+        ensures err { OnErr result (self.new ≡ self.old) }
     {
-        let place = self.at();
-        let found = self.byte()?;
-        if found < 128 {
-            Ok(found)
-        } else {
-            Err(unsupported(place, found))
-        }
+        let mut ahead = self.ahead();
+        let inner = ahead.part()?;
+        *self = ahead;
+        Ok(inner)
     }
 
-    /// Reads a lower-case ASCII letter.
-    #[tactic(auto, unfolding(crate::specs::Items::byte_with))]
-    pub fn letter(&mut self) -> Result<u8, Refusal<W>>
-        ensures { Reads (λ b. b) (letter W.reasons) self.old self.new result }
+    /// Opens what a size tells the length of.
+    #[tactic(auto, using(crate::proofs::Sizes::opened))]
+    fn part(&mut self) -> Result<Window<'a, W>, Refusal<W>>
+        ensures { OpensSized W.numbers W.reasons self.old self.new result }
     {
-        let place = self.at();
-        let found = self.byte()?;
-        if 97 <= found && found <= 122 {
-            Ok(found)
-        } else {
-            Err(unsupported(place, found))
-        }
-    }
-
-    /// Reads a name: how many letters it has, at least one, and the letters.
-    #[tactic(auto, unfolding(crate::specs::Items::name))]
-    pub fn name(&mut self, alloc: Global) -> Result<Bytes, ReadError<W>>
-        ensures { MayRead (λ letters. letters) (name W.reasons) self.old self.new result }
-    {
-        let count = self.name_length()?;
-        self.letters(alloc, count)
-    }
-
-    /// Reads how many letters a name has.
-    #[tactic(auto, unfolding(crate::specs::Items::byte_with))]
-    fn name_length(&mut self) -> Result<u8, Refusal<W>>
-        ensures { Reads (λ b. b) (name_length W.reasons) self.old self.new result }
-    {
-        let place = self.at();
-        let found = self.byte()?;
-        if 0 < found && found < 128 {
-            Ok(found)
-        } else {
-            Err(unsupported(place, found))
-        }
-    }
-
-    /// Reads so many letters.
-    #[tactic(auto, using(crate::proofs::Times::times_none, crate::proofs::Times::times_ok, crate::proofs::Times::times_err))]
-    fn letters(&mut self, alloc: Global, count: u8) -> Result<Bytes, ReadError<W>>
-        ensures { MayRead (λ letters. letters) (times count (letter W.reasons)) self.old self.new result }
-    {
-        let mut letters = Seq::new(alloc);
-        for index in 0..count {
-            let letter = self.letter()?;
-            letters.push(letter)?;
-        }
-        Ok(letters)
-    }
-
-    /// Reads a section's id and size, and opens its payload as a window of its own, which the caller has to fill.
-    pub fn section(&mut self, id: u8) -> Result<Window<'a, W>, Refusal<W>>
-        ensures { OpensSection W.reasons id self.old self.new result }
-    {
-        self.marker(id)?;
-        match self.number() {
-            Ok(size) => self.sized(size as usize, W::section_size()),
-            Err(e) => Err(e),
-        }
-    }
-}
-
-/// The refusal of a byte that no rule has in its place.
-fn unsupported<W: Reason>(place: usize, byte: u8) -> Refusal<W>
-    ensures { result ≡ record { place = place; why = W.reasons.unsupported byte } }
-{
-    Refusal {
-        place,
-        why: W::unsupported(byte),
+        let size = self.u32()?;
+        self.sized(size as usize, W::section_size())
     }
 }

@@ -9,6 +9,8 @@
 //!
 //! - `cursor`: bytes that are read one after the other
 //! - `window`, `items` and `ending`: a part of a file that is read, and the items that the formats share
+//! - `numbers`: numbers that are read
+//! - `name` and `placed`: names, and lists of items with their places
 //! - `reason` and `refusal`: why and where bytes are refused
 //! - `seq`: the lists of public types
 //! - `files` and `reading`: sources of files, and the reading of a whole one; `mem_files`: files in memory
@@ -22,10 +24,17 @@ mod ending;
 mod failed;
 mod files;
 mod fuel;
+#[cfg(test)]
+mod item_tests;
 mod items;
 mod mem_files;
 mod mem_sink;
 mod memory;
+mod name;
+#[cfg(test)]
+mod number_tests;
+mod numbers;
+mod placed;
 mod reading;
 mod reason;
 mod refusal;
@@ -45,8 +54,10 @@ pub use fuel::Fuel;
 pub use mem_files::MemFiles;
 pub use mem_sink::MemSink;
 pub use memory::Memory;
+pub use name::Name;
+pub use placed::{Placed, join, place_at};
 pub use reading::{FileError, read_all};
-pub use reason::Reason;
+pub use reason::{NumberReason, Reason};
 pub use refusal::{ReadError, Refusal};
 pub use seq::{Bytes, Seq};
 pub use sink::Sink;

@@ -85,6 +85,18 @@ impl<T> Seq<T> {
         self.items.push(item)?;
         Ok(())
     }
+
+    /// Puts the items of another list behind the last one. A call that fails leaves the list as it was.
+    pub fn append(&mut self, other: Seq<T>) -> Result<(), AllocError>
+    where
+        T: Drop,
+        ensures ok { OnOk result (self.new ≡ self.old ++ other) }
+        ensures err { OnErr result (self.new ≡ self.old) }
+    {
+        let mut more = other.items;
+        self.items.append(&mut more)?;
+        Ok(())
+    }
 }
 
 /// A list of bytes.

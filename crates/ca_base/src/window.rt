@@ -1,39 +1,40 @@
 //! A window of a file that is being read.
 
 ghost use Rattle.std.specs.Prelude.{◌≡◌, ◌<◌, ◌^◌, ◌+◌, ◌==◌, length, OnErr};
-ghost use Rattle.ca_base.specs.Grammar.{Byte, Take, Reads, Opens, Closes, passing};
+ghost use Rattle.ca_base.specs.Grammar.{Byte, Take, Reads, Opens, Closes, passing, next_byte};
 
-use crate::cursor::Cursor;
 use crate::refusal::Refusal;
 use std::marker::Model;
 
 /// What is left of a window of a file.
 #[derive(Drop)]
 pub struct Window<'a, W> {
-    cursor: Cursor<'a>,
+    bytes: &'a [u8],
+    next: usize,
     base: usize,
     past: W,
 }
 
 impl<'a, W> Model for Window<'a, W> {
-    ghost use Rattle.std.specs.Prelude.{◌<◌, ◌^◌, ◌+◌, drop, length};
+    ghost use Rattle.std.specs.Prelude.{◌<◌, ◌≤◌, ◌^◌, ◌+◌, drop, length};
     ghost use Rattle.ca_base.specs.Span.{Span};
 
     ghost Value = { Span W };
 
-    ghost view = { λ w. record { bytes = drop w.cursor.at w.cursor.bytes; at = w.base + w.cursor.at; past = w.past } };
+    ghost view = { λ w. record { bytes = drop w.next w.bytes.now; at = w.base + w.next; past = w.past } };
 
-    ghost invariant = { λ w. w.base + length w.cursor.bytes < 2 ^ 64 };
+    ghost invariant = { λ w. (w.next ≤ length w.bytes.now) × (w.base + length w.bytes.now < 2 ^ 64) };
 }
 
 impl<'a, W> Window<'a, W> {
     /// The bytes from a place of a file on. What passes their end is refused for the given reason.
-    pub fn new(bytes: &'a [u8], base: usize, past: W) -> Self
+    pub fn of(bytes: &'a [u8], base: usize, past: W) -> Self
         requires { base + length bytes.now < 2 ^ 64 }
         ensures { result ≡ record { bytes = bytes.now; at = base; past = past } }
     {
         Window {
-            cursor: Cursor::new(bytes),
+            bytes,
+            next: 0,
             base,
             past,
         }
@@ -44,14 +45,25 @@ impl<'a, W> Window<'a, W> {
         ensures at { result ≡ self.now.at }
         ensures bound { self.now.at + length self.now.bytes < 2 ^ 64 }
     {
-        self.base + self.cursor.at()
+        self.base + self.next
     }
 
     /// How many bytes are left.
     pub fn left(&self) -> usize
         ensures { result ≡ length self.now.bytes }
     {
-        self.cursor.left()
+        self.bytes.len() - self.next
+    }
+
+    /// The next byte, without reading it, or none where no bytes are left.
+    pub fn next(&self) -> Option<u8>
+        ensures { result ≡ next_byte self.now.bytes }
+    {
+        if self.next == self.bytes.len() {
+            None
+        } else {
+            Some(self.bytes[self.next])
+        }
     }
 
     /// Whether no bytes are left.
@@ -68,10 +80,12 @@ impl<'a, W: Copy> Window<'a, W> {
         ensures reads { Reads (λ b. b) Byte self.old self.new result }
         ensures err { OnErr result (self.new ≡ self.old) }
     {
-        match self.cursor.byte() {
-            Ok(byte) => Ok(byte),
-            Err(fault) => Err(self.passing()),
+        if self.next == self.bytes.len() {
+            return Err(self.passing());
         }
+        let byte = self.bytes[self.next];
+        self.next += 1;
+        Ok(byte)
     }
 
     /// Reads so many bytes. A refused call leaves the window as it was.
@@ -79,10 +93,13 @@ impl<'a, W: Copy> Window<'a, W> {
         ensures reads { Reads (λ part. part.now) (Take count) self.old self.new result }
         ensures err { OnErr result (self.new ≡ self.old) }
     {
-        match self.cursor.take(count) {
-            Ok(part) => Ok(part),
-            Err(fault) => Err(self.passing()),
+        if self.left() < count {
+            return Err(self.passing());
         }
+        let end = self.next + count;
+        let part = &self.bytes[self.next..end];
+        self.next = end;
+        Ok(part)
     }
 
     /// Reads so many bytes as a window of their own. What passes the end of those is refused for the given reason.
@@ -92,7 +109,19 @@ impl<'a, W: Copy> Window<'a, W> {
     {
         let at = self.at();
         let part = self.take(count)?;
-        Ok(Window::new(part, at, past))
+        Ok(Window::of(part, at, past))
+    }
+
+    /// The same window again, which can be read ahead of this one.
+    pub(crate) fn ahead(&self) -> Self
+        ensures { result ≡ self.now }
+    {
+        Window {
+            bytes: self.bytes,
+            next: self.next,
+            base: self.base,
+            past: self.past,
+        }
     }
 
     /// Ends the reading of a window. Bytes that are left are refused.

@@ -1,14 +1,36 @@
-//! Each public call once, on examples, and the refusals of a small item.
+//! Each public call on windows once, on examples, and its refusals.
 
 use super::*;
-use std::alloc::Global;
 
+/// The reasons of the tests.
 #[derive(Clone, Copy, Debug, PartialEq, Eq)]
-enum Why {
+pub(crate) enum Why {
+    /// An item passes the end of a window.
     Past,
+    /// An item passes the end of its section, or does not fill it.
     Size,
+    /// Other bytes than the given ones.
     Magic,
+    /// A byte that no number has in its place.
+    Leb,
+    /// A name that is not UTF-8.
+    Utf8,
+    /// A byte that no rule has in its place.
     Unsupported(u8),
+}
+
+impl NumberReason for Why {
+    ghost use Rattle.ca_base.specs.declared.window_tests.Why.TheVariants.{Leb, Utf8};
+
+    ghost numbers = { record { leb = Leb; utf8 = Utf8 } };
+
+    fn leb() -> Why {
+        Why::Leb
+    }
+
+    fn utf8() -> Why {
+        Why::Utf8
+    }
 }
 
 impl Reason for Why {
@@ -25,6 +47,11 @@ impl Reason for Why {
     }
 }
 
+/// The refusal at a place.
+pub(crate) fn refused(place: usize, why: Why) -> Refusal<Why> {
+    Refusal { place, why }
+}
+
 #[test]
 fn cursor_reads(rt: HostRuntime) {
     let bytes = [7, 8, 9];
@@ -36,75 +63,103 @@ fn cursor_reads(rt: HostRuntime) {
     };
     assert_eq!(rt; cursor.take(3), Err(fault));
     assert_eq!(rt; (cursor.at(), cursor.left()), (1, 2));
+    assert_eq!(rt; cursor.next(), Some(8));
     assert_eq!(rt; cursor.take(2), Ok(&bytes[1..]));
     assert_eq!(rt; cursor.byte(), Err(fault));
+    assert_eq!(rt; cursor.next(), None);
 }
 
 #[test]
 fn window_reads(rt: HostRuntime) {
     let bytes = [7, 8, 9];
-    let mut window = Window::new(&bytes, 10, Why::Past);
-    assert_eq!(rt; window.byte(), Ok(7));
-    let refusal = Refusal {
-        place: 13,
-        why: Why::Past,
-    };
-    assert_eq!(rt; window.take(3), Err(refusal));
+    let mut window = Window::of(&bytes, 10, Why::Past);
+    assert_eq!(rt; window.marker(7), Ok(7));
+    assert_eq!(rt; window.take(3), Err(refused(13, Why::Past)));
     assert_eq!(rt;
         (window.at(), window.left(), window.is_empty()),
         (11, 2, false)
     );
     assert_eq!(rt; window.take(2), Ok(&bytes[1..]));
     assert_eq!(rt; window.is_empty(), true);
+    assert_eq!(rt; window.at_end(), Ok(()));
     assert_eq!(rt; window.finish(), Ok(()));
 }
 
-/// A name in a section, behind a preamble.
-fn read_item(alloc: Global, window: &mut Window<Why>) -> Result<Bytes, ReadError<Why>> {
-    window.fixed(&[9, 9], Why::Magic)?;
-    let mut inner = window.section(1)?;
-    inner.marker(1)?;
-    let name = inner.name(alloc)?;
-    inner.finish()?;
-    Ok(name)
+#[test]
+fn bytes_are_refused(rt: HostRuntime) {
+    let bytes = [7, 8, 9];
+    let mut window = Window::of(&bytes, 10, Why::Past);
+    assert_eq!(rt; window.marker(8), Err(refused(10, Why::Unsupported(7))));
+    assert_eq!(rt; window.byte(), Ok(7));
+    assert_eq!(rt;
+        window.fixed(&[8, 8], Why::Magic),
+        Err(refused(12, Why::Magic))
+    );
+    assert_eq!(rt; (window.at(), window.left()), (11, 2));
+    let mut window = Window::of(&bytes, 10, Why::Past);
+    assert_eq!(rt; window.fixed(&[7, 8], Why::Magic), Ok(()));
+    assert_eq!(rt; window.at_end(), Err(refused(12, Why::Unsupported(9))));
+    assert_eq!(rt; window.marker(9), Ok(9));
+    assert_eq!(rt; window.marker(9), Err(refused(13, Why::Past)));
+    let window = Window::of(&bytes, 10, Why::Past);
+    assert_eq!(rt; window.finish(), Err(refused(10, Why::Past)));
 }
 
 #[test]
-fn item_is_read(rt: HostRuntime) {
-    let bytes = [9, 9, 1, 4, 1, 2, b'a', b'z', 5];
-    let mut window = Window::new(&bytes, 0, Why::Past);
-    match read_item(rt.alloc(), &mut window) {
-        Ok(name) => assert_eq!(rt; name.as_slice(), b"az".as_slice()),
+fn a_part_opens(rt: HostRuntime) {
+    let bytes = [3, 1, b'a', 7, 9];
+    let mut window = Window::of(&bytes, 10, Why::Past);
+    match window.open() {
+        Ok(mut inner) => {
+            assert_eq!(rt; (inner.at(), inner.left()), (11, 3));
+            assert_eq!(rt; inner.custom(), Ok(()));
+            assert_eq!(rt; inner.byte(), Err(refused(14, Why::Size)));
+            assert_eq!(rt; inner.finish(), Ok(()));
+        }
         Err(error) => assert!(rt; false, "{error:?}"),
     }
-    assert_eq!(rt; window.number(), Ok(5));
-    assert_eq!(rt; window.finish(), Ok(()));
+    assert_eq!(rt; window.next(), Some(9));
+    match window.open() {
+        Ok(_) => assert!(rt; false),
+        Err(error) => assert_eq!(rt; error, refused(15, Why::Past)),
+    }
+}
+
+/// One call of each reader of an item, as a number tells.
+fn refusal_of(window: &mut Window<Why>, number: usize) -> Option<Refusal<Why>> {
+    match number {
+        0 => window.fixed(&[3, 1, 7], Why::Magic).err(),
+        1 => window.marker(4).err(),
+        2 => window.custom().err(),
+        3 => match window.open() {
+            Ok(_) => None,
+            Err(error) => Some(error),
+        },
+        _ => window.at_end().err(),
+    }
 }
 
 #[test]
-fn item_is_refused(rt: HostRuntime) {
-    let cases: [(&[u8], usize, Why); 10] = [
-        (&[9, 8, 1, 4, 1, 2, b'a', b'z'], 101, Why::Magic),
-        (&[9], 101, Why::Past),
-        (&[9, 9, 2, 4, 1, 2, b'a', b'z'], 102, Why::Unsupported(2)),
-        (
-            &[9, 9, 1, 128, 1, 2, b'a', b'z'],
-            103,
-            Why::Unsupported(128),
-        ),
-        (&[9, 9, 1, 5, 1, 2, b'a', b'z'], 108, Why::Past),
-        (&[9, 9, 1, 3, 1, 2, b'a', b'z'], 107, Why::Size),
-        (&[9, 9, 1, 5, 1, 2, b'a', b'z', b'z'], 108, Why::Size),
-        (&[9, 9, 1, 2, 1, 0], 105, Why::Unsupported(0)),
-        (&[9, 9, 1, 3, 1, 1, b'A'], 106, Why::Unsupported(b'A')),
-        (&[9, 9, 1, 3, 2, 1, b'a'], 104, Why::Unsupported(2)),
+fn a_refused_call_moves_nothing(rt: HostRuntime) {
+    let cases: [(&[u8], usize, usize, Why); 9] = [
+        (&[3, 1, 8], 0, 12, Why::Magic),
+        (&[3, 1], 0, 12, Why::Past),
+        (&[3], 1, 10, Why::Unsupported(3)),
+        (&[], 1, 10, Why::Past),
+        (&[1, 0x80], 2, 11, Why::Utf8),
+        (&[0x80, 0x80], 2, 12, Why::Past),
+        (&[2, 7], 3, 12, Why::Past),
+        (&[0x80, 0x80, 0x80, 0x80, 0x80], 3, 14, Why::Leb),
+        (&[9], 4, 10, Why::Unsupported(9)),
     ];
-    for (bytes, place, why) in cases {
-        let mut window = Window::new(bytes, 100, Why::Past);
-        let want = ReadError::Refused(Refusal { place, why });
-        match read_item(rt.alloc(), &mut window) {
-            Ok(_) => assert!(rt; false, "at {bytes:?}"),
-            Err(error) => assert_eq!(rt; error, want, "at {bytes:?}"),
-        }
+    for (bytes, number, place, why) in cases {
+        let mut window = Window::of(bytes, 10, Why::Past);
+        let found = refusal_of(&mut window, number);
+        assert_eq!(rt; found, Some(refused(place, why)), "at {bytes:?}");
+        assert_eq!(rt;
+            (window.at(), window.left()),
+            (10, bytes.len()),
+            "at {bytes:?}"
+        );
     }
 }
