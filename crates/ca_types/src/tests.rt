@@ -1,0 +1,33 @@
+//! Each type once, on an example.
+
+use super::*;
+use ca_base::{Name, Seq};
+use std::test::Fail;
+
+#[test]
+fn an_export_is_described(rt: HostRuntime) -> Result<(), Fail> {
+    let alloc = rt.alloc();
+    let param = Param {
+        label: Name::new(alloc, "a")?,
+        val_type: ValType::U32,
+    };
+    let func_type = FuncType {
+        params: Seq::of(alloc, param)?,
+        result: Some(ValType::U32),
+    };
+    let export = Export {
+        name: Name::new(alloc, "double")?,
+        func_type,
+    };
+    let exports: Exports = Seq::of(alloc, export)?;
+    for export in exports.as_slice() {
+        assert_eq!(rt; export.name.as_str(), "double");
+        assert_eq!(rt; export.func_type.result, Some(ValType::U32));
+        for param in export.func_type.params.as_slice() {
+            assert_eq!(rt; param.label.as_str(), "a");
+        }
+    }
+    let values: Values = Seq::of(alloc, Value::U32(7))?;
+    assert_eq!(rt; values.as_slice(), [Value::U32(7)].as_slice());
+    Ok(())
+}
