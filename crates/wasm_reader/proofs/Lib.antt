@@ -1,5 +1,7 @@
+pub mod Codes
+pub mod Customs
 pub mod Exprs
+pub mod Groups
 pub mod Rest
 pub mod Rows
-pub mod Short
 pub mod Whole

@@ -1,69 +1,86 @@
--- The binary format of modules (Core 2.0, section 5), as far as it is read: a module has one function, of a type with 1
--- to 16 parameters i32 and a result i32, and exports it.
-use Rattle.std.specs.Prelude.{◌+◌, ℕ, zero, suc, List, [], ◌∷◌, length, nat_le, ◌==◌, ◌&&◌}
+-- The binary format of modules (Core 2.0, section 5), as far as it is read: the sections of types, functions, exports of
+-- functions and code, and custom sections anywhere; of instructions `local.get`, `i32.add` and `end`.
+use Rattle.std.specs.Prelude.{◌+◌, ℕ, zero, suc, Bool, List, [], ◌∷◌, length, nat_lt, nat_le, ◌==◌, ◌&&◌, ◌||◌, Option, Some, None}
 use Rattle.ca_base.specs.Span.{Span}
-use Rattle.ca_base.specs.Grammar.{Grammar, Give, Refuse, Here, Left, Byte, Sized, Choose, ◌>>=◌, times, Matches, Refuses}
-use Rattle.ca_base.specs.Items.{Reasons, fixed, byte_with, marker, number, name, section, one, at_end}
+use Rattle.ca_base.specs.Grammar.{Grammar, Give, Refuse, Here, Left, Next, Byte, Choose, ◌>>=◌, Matches, Refuses}
+use Rattle.ca_base.specs.Items.{NumberReasons, Reasons, fixed, marker, u32, name, custom, sized, vec, placed_vec, is_byte, byte_of}
 use Rattle.ca_base.specs.declared.refusal.Refusal.{Refusal}
+use Rattle.ca_base.specs.declared.placed.Placed.{Placed}
 use Rattle.wasm_reader.specs.declared.fault.ModuleWhy.{ModuleWhy}
-use Rattle.wasm_reader.specs.declared.fault.ModuleWhy.TheVariants.{Truncated, Magic, SectionSize, Unsupported}
+use Rattle.wasm_reader.specs.declared.fault.ModuleWhy.TheVariants.{Truncated, Leb, Magic, SectionOrder, SectionSize, Utf8, Float, Unsupported, Count, Limit}
 use Rattle.wasm_reader.specs.declared.module.ValType.{ValType}
-use Rattle.wasm_reader.specs.declared.module.ValType.TheVariants.{I32}
+use Rattle.wasm_reader.specs.declared.module.ValType.TheVariants.{I32, I64}
 use Rattle.wasm_reader.specs.declared.module.FuncType.{FuncType}
+use Rattle.wasm_reader.specs.declared.module.Locals.{Locals}
 use Rattle.wasm_reader.specs.declared.module.Export.{Export}
 use Rattle.wasm_reader.specs.declared.module.Module.{Module}
 use Rattle.wasm_reader.specs.declared.instr.Instr.{Instr}
 use Rattle.wasm_reader.specs.declared.instr.Instr.TheVariants.{LocalGet, I32Add}
-use Rattle.wasm_reader.specs.Expr.{Expr, End, Plain}
+use Rattle.wasm_reader.specs.declared.code.PlacedBody.{PlacedBody}
+use Rattle.wasm_reader.specs.declared.code.PlacedFunc.{PlacedFunc}
+use Rattle.wasm_reader.specs.declared.code.PlacedFuncs.{PlacedFuncs}
+use Rattle.wasm_reader.specs.Expr.{End, Plain}
+
+abbrev pub numbers : NumberReasons ModuleWhy
+numbers = record { leb = Leb; utf8 = Utf8 }
 
 abbrev pub reasons : Reasons ModuleWhy
 reasons = record { unsupported = Unsupported; section_size = SectionSize }
 
--- a value type (section 5.3.1)
+-- a byte at this place that is a type or an opcode of floats, or has no rule there
+abbrev pub refused_byte : {A : Type 0} → Bool → ℕ → ℕ → Grammar ModuleWhy A
+refused_byte of_floats place b = Choose of_floats (Refuse place Float) (Refuse place (Unsupported b))
+
+-- a value type (section 5.3.4); 7D and 7C are those of floats
 unfoldable pub val_type : Grammar ModuleWhy ValType
 val_type = do
-  _ ← marker reasons 0x7F
-  Give I32
+  place ← Here
+  b ← Byte
+  Choose (b == 0x7F) (Give I32) (Choose (b == 0x7E) (Give I64) (refused_byte (b == 0x7D || b == 0x7C) place b))
 
--- how many parameters a function has
-abbrev pub param_count : Grammar ModuleWhy ℕ
-param_count = byte_with reasons (λ b. nat_le 1 b && nat_le b 16)
-
--- a vector of one value type
-unfoldable pub result_types : Grammar ModuleWhy (List ValType)
-result_types = do
-  _ ← marker reasons 1
-  type ← val_type
-  Give (type ∷ [])
-
--- a function type (section 5.3.6): 60, its parameters, its result
+-- a function type (section 5.3.6): 60, its parameters, its results
 unfoldable pub func_type : Grammar ModuleWhy FuncType
 func_type = do
   _ ← marker reasons 0x60
-  count ← param_count
-  params ← times count val_type
-  results ← result_types
+  params ← vec numbers val_type
+  results ← vec numbers val_type
   Give (record { params = params; results = results })
 
--- an export of the one function (section 5.5.10): a name, the kind 0, and the index 0
+-- an export (section 5.5.10): a name, the kind 0 of functions, and an index
 unfoldable pub export : Grammar ModuleWhy Export
 export = do
-  name ← name reasons
+  name ← name numbers
   _ ← marker reasons 0
-  index ← marker reasons 0
+  index ← u32 numbers
   Give (record { name = name; func = index })
+
+-- the opcodes of floats
+abbrev pub is_float : ℕ → Bool
+is_float b =
+    (nat_le 0x2A b && nat_le b 0x2B) || (nat_le 0x38 b && nat_le b 0x39) || (nat_le 0x43 b && nat_le b 0x44)
+    || (nat_le 0x5B b && nat_le b 0x66) || (nat_le 0x8B b && nat_le b 0xA6) || (nat_le 0xA8 b && nat_le b 0xAB)
+    || (nat_le 0xAE b && nat_le b 0xBF)
+
+-- What stands behind FC: a number, of which 0 to 7 are instructions of floats. The others are not read.
+unfoldable pub prefixed : Grammar ModuleWhy Instr
+prefixed = do
+  place ← Here
+  first ← Next
+  number ← u32 numbers
+  refused_byte (nat_le number 7) place (byte_of first)
 
 -- the instruction of an opcode that stands at this place (section 5.4)
 unfoldable pub instr : ℕ → ℕ → Grammar ModuleWhy Instr
 instr place opcode =
     Choose (opcode == 0x20) (do
-      index ← number reasons
+      index ← u32 numbers
       Give (LocalGet index))
     (Choose (opcode == 0x6A) (Give I32Add)
-    (Refuse place (Unsupported opcode)))
+    (Choose (opcode == 0xFC) prefixed
+    (refused_byte (is_float opcode) place opcode)))
 
--- instructions up to an end, in at most so many bytes (section 5.4.9)
-unfoldable pub expr : ℕ → Grammar ModuleWhy Expr
+-- instructions up to an end, in at most so many bytes (section 5.4.9), and the place of each and of the end
+unfoldable pub expr : ℕ → Grammar ModuleWhy PlacedBody
 expr zero = do
   place ← Here
   b ← Byte
@@ -71,36 +88,135 @@ expr zero = do
 expr (suc count) = do
   place ← Here
   opcode ← Byte
-  Choose (opcode == 0x0B) (Give End) (do
+  Choose (opcode == 0x0B) (Give (record { body = End; places = place ∷ [] })) (do
     first ← instr place opcode
     rest ← expr count
-    Give (Plain first rest))
+    Give (record { body = Plain first rest.body; places = place ∷ rest.places }))
 
--- what a body's size tells the length of: no locals, and an expression
-unfoldable pub func_code : Grammar ModuleWhy Expr
-func_code = do
-  _ ← marker reasons 0
+-- how many locals a function may declare
+abbrev pub locals_limit : ℕ
+locals_limit = 50000
+
+-- so many groups of locals (section 5.5.13), behind so many locals. The number with which there are too many is refused
+unfoldable pub locals : ℕ → ℕ → Grammar ModuleWhy (List Locals)
+locals zero before = Give []
+locals (suc more) before = do
+  place ← Here
+  count ← u32 numbers
+  Choose (nat_lt locals_limit (before + count)) (Refuse place Limit) (do
+    type ← val_type
+    others ← locals more (before + count)
+    Give (record { count = count; val_type = type } ∷ others))
+
+-- a vector of groups of locals
+unfoldable pub all_locals : Grammar ModuleWhy (List Locals)
+all_locals = do
+  count ← u32 numbers
+  locals count 0
+
+-- the instructions of a body, as far as its size goes
+unfoldable pub body : Grammar ModuleWhy PlacedBody
+body = do
   count ← Left
   expr count
 
--- a body (section 5.5.13)
-unfoldable pub code : Grammar ModuleWhy Expr
-code = do
-  size ← number reasons
-  Sized size SectionSize (λ why. why) func_code
+-- what the size of a function's code tells the length of: its locals and its body
+unfoldable pub func_code : ℕ → Grammar ModuleWhy PlacedFunc
+func_code type_index = do
+  groups ← all_locals
+  read ← body
+  Give (record { func = record { type_index = type_index; locals = groups; body = read.body }; places = read.places })
 
--- the sections of types, functions, exports and code (sections 5.5.4, 5.5.6, 5.5.10 and 5.5.13), of one item each
-unfoldable pub type_section : Grammar ModuleWhy FuncType
-type_section = section reasons 1 (one reasons func_type)
+-- the code of a function with the type of this index (section 5.5.13)
+unfoldable pub code : ℕ → Grammar ModuleWhy PlacedFunc
+code type_index = sized numbers reasons (func_code type_index)
 
-unfoldable pub function_section : Grammar ModuleWhy ℕ
-function_section = section reasons 3 (one reasons (marker reasons 0))
+-- the codes of functions with the types of these indices
+unfoldable pub codes : List ℕ → Grammar ModuleWhy PlacedFuncs
+codes [] = Give (record { funcs = []; places = [] })
+codes (type_index ∷ type_indices) = do
+  first ← code type_index
+  others ← codes type_indices
+  Give (record { funcs = first.func ∷ others.funcs; places = first.places ∷ others.places })
 
-unfoldable pub export_section : Grammar ModuleWhy Export
-export_section = section reasons 7 (one reasons export)
+-- the payload of the code section: as many codes as functions
+unfoldable pub code_payload : List ℕ → Grammar ModuleWhy PlacedFuncs
+code_payload type_indices = do
+  place ← Here
+  count ← u32 numbers
+  Choose (count == length type_indices) (codes type_indices) (Refuse place Count)
 
-unfoldable pub code_section : Grammar ModuleWhy Expr
-code_section = section reasons 10 (one reasons code)
+-- custom sections (section 5.5.3), in at most so many bytes
+unfoldable pub customs_in : ℕ → Grammar ModuleWhy (Unit {0})
+customs_in zero = Give tt
+customs_in (suc count) = do
+  next ← Next
+  Choose (is_byte 0 next) (do
+    _ ← Byte
+    _ ← sized numbers reasons (custom numbers)
+    customs_in count) (Give tt)
+
+unfoldable pub customs : Grammar ModuleWhy (Unit {0})
+customs = do
+  count ← Left
+  customs_in count
+
+-- the section of this id where it comes next (section 5.5.2), and else what stands for none
+abbrev pub section : {A : Type 0} → ℕ → A → Grammar ModuleWhy A → Grammar ModuleWhy A
+section id none payload = do
+  next ← Next
+  Choose (is_byte id next) (do
+    _ ← Byte
+    sized numbers reasons payload) (Give none)
+
+-- the sections of types, functions and exports (sections 5.5.4, 5.5.6 and 5.5.10), each behind custom sections
+unfoldable pub type_section : Grammar ModuleWhy (List FuncType)
+type_section = do
+  _ ← customs
+  section 1 [] (vec numbers func_type)
+
+unfoldable pub function_section : Grammar ModuleWhy (Placed ℕ)
+function_section = do
+  _ ← customs
+  section 3 (record { items = []; places = [] }) (placed_vec numbers (u32 numbers))
+
+unfoldable pub export_section : Grammar ModuleWhy (Placed Export)
+export_section = do
+  _ ← customs
+  section 7 (record { items = []; places = [] }) (placed_vec numbers export)
+
+-- A section that has an order among the others and comes where none is due stands out of order.
+abbrev pub out_of_order : ℕ → Bool
+out_of_order id = id == 1 || id == 3 || id == 7 || id == 10
+
+abbrev pub no_section : ℕ → Option ℕ → Grammar ModuleWhy (Unit {0})
+no_section place None = Give tt
+no_section place (Some id) = Choose (out_of_order id) (Refuse place SectionOrder) (Refuse place (Unsupported id))
+
+-- the end of the module, behind custom sections
+unfoldable pub module_end : Grammar ModuleWhy (Unit {0})
+module_end = do
+  _ ← customs
+  place ← Here
+  next ← Next
+  no_section place next
+
+-- a module without a code section has no function
+unfoldable pub no_codes : List ℕ → Grammar ModuleWhy PlacedFuncs
+no_codes type_indices = do
+  _ ← module_end
+  place ← Here
+  Choose (length type_indices == 0) (Give (record { funcs = []; places = [] })) (Refuse place Count)
+
+-- the code section (section 5.5.13), behind custom sections, for functions with the types of these indices; and the end
+unfoldable pub code_section : List ℕ → Grammar ModuleWhy PlacedFuncs
+code_section type_indices = do
+  next ← Next
+  Choose (is_byte 10 next) (do
+    _ ← Byte
+    read ← sized numbers reasons (code_payload type_indices)
+    _ ← module_end
+    Give read) (no_codes type_indices)
 
 -- the preamble of a module
 abbrev pub preamble : List ℕ
@@ -110,15 +226,14 @@ preamble = 0x00 ∷ 0x61 ∷ 0x73 ∷ 0x6D ∷ 0x01 ∷ 0x00 ∷ 0x00 ∷ 0x00 �
 unfoldable pub the_module : Grammar ModuleWhy Module
 the_module = do
   _ ← fixed Magic preamble
-  type ← type_section
-  index ← function_section
-  exported ← export_section
-  body ← code_section
-  _ ← at_end reasons
+  types ← type_section
+  indices ← function_section
+  exports ← export_section
+  _ ← customs
+  codes ← code_section indices.items
   Give (record {
-    types = type ∷ [];
-    funcs = record { type_index = index; body = body } ∷ [];
-    exports = exported ∷ [];
+    tree = record { types = types; funcs = codes.funcs; exports = exports.items };
+    places = record { funcs = indices.places; exports = exports.places; bodies = codes.places };
   })
 
 -- a module that is a file of its own, whose first byte stands at this place

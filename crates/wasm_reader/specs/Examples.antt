@@ -19,9 +19,12 @@ bytes_with opcode =
 
 unfoldable pub add_module : Module
 add_module = record {
-  types = record { params = I32 ∷ I32 ∷ []; results = I32 ∷ [] } ∷ [];
-  funcs = record { type_index = 0; body = Plain (LocalGet 0) (Plain (LocalGet 1) (Plain I32Add End)) } ∷ [];
-  exports = record { name = 0x61 ∷ 0x64 ∷ 0x64 ∷ []; func = 0 } ∷ [];
+  tree = record {
+    types = record { params = I32 ∷ I32 ∷ []; results = I32 ∷ [] } ∷ [];
+    funcs = record { type_index = 0; locals = []; body = Plain (LocalGet 0) (Plain (LocalGet 1) (Plain I32Add End)) } ∷ [];
+    exports = record { name = 0x61 ∷ 0x64 ∷ 0x64 ∷ []; func = 0 } ∷ [];
+  };
+  places = record { funcs = 20 ∷ []; exports = 24 ∷ []; bodies = (35 ∷ 37 ∷ 39 ∷ 40 ∷ []) ∷ [] };
 }
 
 -- where the bytes are refused with the opcode 6B, whose place is 39

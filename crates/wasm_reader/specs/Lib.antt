@@ -2,3 +2,4 @@ pub mod Binary
 pub mod Examples
 pub mod Expr
 pub mod Laws
+pub mod Locals

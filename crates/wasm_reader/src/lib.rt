@@ -3,23 +3,31 @@
 //! The layer above takes a module as read. `read_module` answers it exactly for the bytes of a module, and else the
 //! first place at which they leave the format, with the reason. Only want of memory keeps it from either.
 //!
-//! - `module` and `instr`: modules, and the bodies of their functions
+//! - `module` and `instr`: modules, and the bodies of their functions; `locals`: the types of their locals
 //! - `reading`: the reading of a whole module
-//! - `items`: a function for each item of the format
+//! - `items`, `bodies` and `sections`: a function for each item of the format
+//! - `code`: what the code section tells of functions
 //! - `fault`: why bytes are refused
 //! - `laws`: that bytes are one module, or are refused in one way
 #![tactic(auto)]
 
+mod bodies;
+mod code;
 mod fault;
 mod instr;
 mod items;
 pub mod laws;
+mod locals;
 mod module;
 mod reading;
+#[cfg(test)]
+mod refusal_tests;
+mod sections;
 #[cfg(test)]
 mod tests;
 
 pub use fault::ModuleWhy;
 pub use instr::{Body, Instr};
-pub use module::{Export, Func, FuncType, Module, ValType};
+pub use locals::local_types;
+pub use module::{Export, Func, FuncType, Locals, Module, ModulePlaces, ModuleTree, ValType};
 pub use reading::read_module;

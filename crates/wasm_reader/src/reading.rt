@@ -1,18 +1,16 @@
 //! The reading of a whole module.
 
 ghost use Rattle.std.specs.Prelude.{◌≡◌, ◌<◌, ◌+◌, ◌^◌, length, IfOk, IfErr};
-ghost use Rattle.std.specs.List.{AllByRecursion};
 ghost use Rattle.ca_base.specs.Grammar.{MayRead};
 ghost use Rattle.ca_base.specs.declared.refusal.Refusal.{Refusal};
 ghost use Rattle.wasm_reader.specs.declared.fault.ModuleWhy.{ModuleWhy};
 ghost use Rattle.wasm_reader.specs.declared.module.Module.{Module};
 ghost use Rattle.ca_base.specs.declared.refusal.ReadError.TheVariants.{Memory, Refused};
 ghost use Rattle.wasm_reader.specs.Binary.{the_module, file, file_end, IsModule, IsRefused};
-ghost use Rattle.wasm_reader.specs.Expr.{instr_count};
 
 use crate::fault::ModuleWhy;
-use crate::items::read_the_module;
 use crate::module::Module;
+use crate::sections::read_the_module;
 use ca_base::{ReadError, Window};
 use std::alloc::Global;
 
@@ -20,7 +18,7 @@ use std::alloc::Global;
 ///
 /// It answers the module that the bytes stand for, or where they are refused and why (Core 2.0, section 5). Places are
 /// counted from the file's start. `Memory` is want of memory.
-#[tactic(auto, using(crate::proofs::Whole::whole_ok, crate::proofs::Whole::whole_only, crate::proofs::Whole::whole_refused, crate::proofs::Whole::whole_short))]
+#[tactic(auto, using(crate::proofs::Whole::whole_ok, crate::proofs::Whole::whole_only, crate::proofs::Whole::whole_refused))]
 pub fn read_module(alloc: Global, bytes: &[u8], base: usize) -> Result<Module, ReadError<ModuleWhy>>
     requires { base + length bytes.now < 2 ^ 64 }
     // What is read is that module.
@@ -31,8 +29,6 @@ pub fn read_module(alloc: Global, bytes: &[u8], base: usize) -> Result<Module, R
     ensures refused { IfErr result (λ e. (refusal : Refusal ModuleWhy) → e ≡ Refused refusal → IsRefused bytes.now base refusal) }
     // All three in one equation.
     ensures exact { MayRead (λ m. m) the_module (file bytes.now base) (file_end bytes.now base) result }
-    // A body has fewer than 128 instructions.
-    ensures short { IfOk result (λ m. AllByRecursion (λ f. instr_count f.body < 128) m.funcs) }
 {
     read_whole(alloc, bytes, base)
 }
@@ -42,6 +38,6 @@ fn read_whole(alloc: Global, bytes: &[u8], base: usize) -> Result<Module, ReadEr
     requires { base + length bytes.now < 2 ^ 64 }
     ensures { MayRead (λ m. m) the_module (file bytes.now base) (file_end bytes.now base) result }
 {
-    let mut window = Window::new(bytes, base, ModuleWhy::Truncated);
+    let mut window = Window::of(bytes, base, ModuleWhy::Truncated);
     read_the_module(alloc, &mut window)
 }

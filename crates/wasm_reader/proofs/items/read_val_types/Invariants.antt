@@ -7,4 +7,4 @@ use Rattle.wasm_reader.proofs.items.read_val_types.Given as goal
 
 abbrev pub invariant-loop-index : goal.invariant-loop-index
 invariant-loop-index l =
-    read (times l.count val_type) l.initial.window ≡ preceded l.types (read (times (l.count - l.index) val_type) l.window)
+    read (times l.count val_type) l.initial.window ≡ preceded l.types (read (times (l.count - l._index) val_type) l.window)

@@ -11,4 +11,4 @@ use Rattle.wasm_reader.proofs.reading.read_whole.Goals as goal
 pub returns : goal.returns
 returns c =
     whole_exact _ _ c.read_the_module.new.window _
-    (subst (λ (s : Span ModuleWhy). MayRead (λ (m : Module). m) the_module s c.read_the_module.new.window c.read_the_module.result) c.new-window.ensures c.read_the_module.ensures)
+    (subst (λ (s : Span ModuleWhy). MayRead (λ (m : Module). m) the_module s c.read_the_module.new.window c.read_the_module.result) c.of-window.ensures c.read_the_module.ensures)
