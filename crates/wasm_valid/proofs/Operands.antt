@@ -7,7 +7,7 @@ use Rattle.std.specs.Option.{ok_or, option_map, option_copied}
 use Rattle.std.proofs.lemmas.List.{reverse-append, reverse-reverse, length-reverse}
 use Rattle.std.proofs.lemmas.Slice.Eq.{ends_is}
 use Rattle.wasm_reader.specs.declared.module.ValType.{ValType}
-use Rattle.wasm_reader.specs.declared.module.ValType.TheVariants.{I32}
+use Rattle.wasm_reader.specs.declared.module.ValType.TheVariants.{I32, I64}
 use Rattle.wasm_valid.specs.declared.fault.ValidWhy.{ValidWhy}
 use Rattle.wasm_valid.specs.declared.fault.ValidWhy.TheVariants.{Index, Stack, Typing}
 use Rattle.wasm_valid.specs.Checking.{same_type, where_same, taken, instr_after}
@@ -23,6 +23,9 @@ equal = equality.eq-value.it
 -- it tells types apart: a line for each type
 equal_is : (a b : ValType) → Decides (equal a b) (a ≡ b)
 equal_is I32 I32 = (λ _. refl, λ _. refl)
+equal_is I32 I64 = (λ h. cc, λ h. cc)
+equal_is I64 I32 = (λ h. cc, λ h. cc)
+equal_is I64 I64 = (λ _. refl, λ _. refl)
 
 short_head : (same : Bool) (r : Result (List ValType) ValidWhy) → r ≡ Err Stack → where_same same r ≡ Err Stack
 short_head true r e = e

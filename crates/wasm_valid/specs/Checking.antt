@@ -1,25 +1,36 @@
 -- The first fault of a module, in the order of its file (Core 2.0, section 5.5): the functions' type indices, the
--- exports' indices, and then each body from its first instruction, by the algorithm of the appendix (Core 2.0, appendix
+-- exports, and then each body from its first instruction, by the algorithm of the appendix (Core 2.0, appendix
 -- "Validation Algorithm"). A list of operand types has the last operand first.
-use Rattle.std.specs.Prelude.{ℕ, ◌+◌, Bool, true, false, nat_lt, List, [], ◌∷◌, length, reverse, Option, Some, None, Result, Ok, Err}
-use Rattle.std.specs.List.{slice_get, list_all}
-use Rattle.std.specs.Option.{ok_or, option_or, option_map, option_and_then}
+use Rattle.std.specs.Prelude.{ℕ, ◌+◌, Bool, true, false, nat_lt, if◌then◌else◌, List, [], ◌∷◌, ◌++◌, length, reverse, Option, Some, None, Result, Ok, Err}
+use Rattle.std.specs.List.{slice_get, list_any}
+use Rattle.std.specs.Str.{bytes_eq}
+use Rattle.std.specs.Option.{ok_or, option_or, option_map, option_and_then, unwrap_or}
 use Rattle.std.specs.Result.{result_and}
+use Rattle.ca_base.specs.Items.{place_at}
 use Rattle.wasm_reader.specs.declared.module.ValType.{ValType}
-use Rattle.wasm_reader.specs.declared.module.ValType.TheVariants.{I32}
+use Rattle.wasm_reader.specs.declared.module.ValType.TheVariants.{I32, I64}
 use Rattle.wasm_reader.specs.declared.module.FuncType.{FuncType}
 use Rattle.wasm_reader.specs.declared.module.Func.{Func}
-use Rattle.wasm_reader.specs.declared.module.Module.{Module}
+use Rattle.wasm_reader.specs.declared.module.Export.{Export}
+use Rattle.wasm_reader.specs.declared.module.ModuleTree.{ModuleTree}
+use Rattle.wasm_reader.specs.declared.module.ModulePlaces.{ModulePlaces}
 use Rattle.wasm_reader.specs.declared.instr.Instr.{Instr}
 use Rattle.wasm_reader.specs.declared.instr.Instr.TheVariants.{LocalGet, I32Add}
 use Rattle.wasm_reader.specs.Expr.{Expr, End, Plain}
+use Rattle.wasm_reader.specs.Locals.{local_types}
 use Rattle.wasm_valid.specs.declared.fault.ValidWhy.{ValidWhy}
-use Rattle.wasm_valid.specs.declared.fault.ValidWhy.TheVariants.{Index, Stack, Typing}
+use Rattle.wasm_valid.specs.declared.fault.ValidWhy.TheVariants.{Index, Stack, Typing, Name}
+use Rattle.wasm_valid.specs.declared.fault.Spot.{Spot}
+use Rattle.wasm_valid.specs.declared.fault.Spot.TheVariants as spot
+use Rattle.wasm_valid.specs.declared.fault.Fault.{Fault}
 use Rattle.wasm_valid.specs.declared.fault.ValidFault.{ValidFault}
 
 -- whether two types are the same: a line for each type
 abbrev pub same_type : ValType → ValType → Bool
 same_type I32 I32 = true
+same_type I32 I64 = false
+same_type I64 I32 = false
+same_type I64 I64 = true
 
 -- Another type than the wanted one is a fault, where the operands below are enough.
 abbrev pub where_same : Bool → Result (List ValType) ValidWhy → Result (List ValType) ValidWhy
@@ -42,7 +53,7 @@ abbrev pub instr_after : List ValType → Instr → List ValType → Result (Lis
 instr_after locals (LocalGet index) operands = ok_or (option_map (λ type. type ∷ operands) (slice_get locals index)) Index
 instr_after locals I32Add operands = put_on I32 (taken (I32 ∷ I32 ∷ []) operands)
 
--- the fault, or the first one behind it
+-- the fault of the results, or the one behind them
 abbrev pub fault_or : Result (List ValType) ValidWhy → (List ValType → Option ValidWhy) → Option ValidWhy
 fault_or (Ok operands) behind = behind operands
 fault_or (Err why) behind = Some why
@@ -52,42 +63,77 @@ abbrev pub surplus : List ValType → Option ValidWhy
 surplus [] = None
 surplus (type ∷ operands) = Some Typing
 
--- the first fault of an expression at these operands
-abbrev pub expr_fault : List ValType → List ValType → Expr → List ValType → Option ValidWhy
-expr_fault locals results End operands = fault_or (taken (reverse results) operands) surplus
-expr_fault locals results (Plain instr e) operands = fault_or (instr_after locals instr operands) (expr_fault locals results e)
+-- the fault of an instruction behind so many others, or the first one behind it
+abbrev pub behind_instr : ℕ → Result (List ValType) ValidWhy → (List ValType → Option (ℕ × ValidWhy)) → Option (ℕ × ValidWhy)
+behind_instr at (Ok operands) behind = behind operands
+behind_instr at (Err why) behind = Some (at, why)
 
--- the first fault of the body of a function of this type, which starts with no operands
-abbrev pub body_fault : FuncType → Expr → Option ValidWhy
-body_fault type body = expr_fault type.params type.results body []
+-- the first fault of an expression at these operands, behind so many instructions: behind how many it stands, and why
+abbrev pub expr_fault : List ValType → List ValType → Expr → ℕ → List ValType → Option (ℕ × ValidWhy)
+expr_fault locals results End at operands = option_map (λ why. (at, why)) (fault_or (taken (reverse results) operands) surplus)
+expr_fault locals results (Plain instr e) at operands = behind_instr at (instr_after locals instr operands) (expr_fault locals results e (at + 1))
+
+-- the first fault in the body of a function of this type: it starts with no operands
+abbrev pub body_fault : FuncType → Func → Option (ℕ × ValidWhy)
+body_fault type func = expr_fault (local_types type func.locals) type.results func.body 0 []
 
 -- the first fault in the body of a function of this index; where its type is not there, it has its fault before all bodies
-abbrev pub func_fault : List FuncType → ℕ → Func → Option ValidFault
+abbrev pub func_fault : List FuncType → ℕ → Func → Option Fault
 func_fault types index func =
-    option_map (λ why. record { func = Some index; why = why })
-    (option_and_then (λ type. body_fault type func.body) (slice_get types func.type_index))
+    option_map (λ found. record { spot = spot.Instr index found.0; why = found.1 })
+    (option_and_then (λ type. body_fault type func) (slice_get types func.type_index))
 
 -- the first fault in the bodies of these functions, the first of which has this index
-abbrev pub bodies_fault : List FuncType → ℕ → List Func → Option ValidFault
+abbrev pub bodies_fault : List FuncType → ℕ → List Func → Option Fault
 bodies_fault types index [] = None
 bodies_fault types index (func ∷ funcs) = option_or (func_fault types index func) (bodies_fault types (index + 1) funcs)
 
--- the fault of indices outside bodies, unless all are within their space
-abbrev pub unless_within : Bool → Option ValidFault
-unless_within true = None
-unless_within false = Some (record { func = None; why = Index })
+-- the first of these functions, the first of which has this index, whose type is not among so many (section 5.5.6)
+abbrev pub types_fault : ℕ → ℕ → List Func → Option Fault
+types_fault count index [] = None
+types_fault count index (func ∷ funcs) =
+    if nat_lt func.type_index count then types_fault count (index + 1) funcs
+    else Some (record { spot = spot.Func index; why = Index })
 
--- each function's type is there (section 5.5.6)
-abbrev pub types_within : Module → Bool
-types_within m = list_all (λ func. nat_lt func.type_index (length m.types)) m.funcs
+-- whether one of these exports has the name
+abbrev pub has_name : List ℕ → List Export → Bool
+has_name name exports = list_any (λ export. bytes_eq export.name name) exports
 
--- each exported function is there (section 5.5.10)
-abbrev pub exports_within : Module → Bool
-exports_within m = list_all (λ export. nat_lt export.func (length m.funcs)) m.exports
+-- the fault of an export behind these others, for so many functions (section 5.5.10)
+abbrev pub export_fault : ℕ → List Export → Export → Option ValidWhy
+export_fault count before export =
+    if nat_lt export.func count then (if has_name export.name before then Some Name else None) else Some Index
+
+-- the first fault of these exports, which stand behind the others
+abbrev pub exports_fault : ℕ → List Export → List Export → Option Fault
+exports_fault count before [] = None
+exports_fault count before (export ∷ exports) =
+    option_or (option_map (λ why. record { spot = spot.Export (length before); why = why }) (export_fault count before export))
+    (exports_fault count (before ++ export ∷ []) exports)
 
 -- the first fault of a module, if it has one
-abbrev pub first_fault : Module → Option ValidFault
+abbrev pub first_fault : ModuleTree → Option Fault
 first_fault m =
-    option_or (unless_within (types_within m))
-    (option_or (unless_within (exports_within m))
+    option_or (types_fault (length m.types) 0 m.funcs)
+    (option_or (exports_fault (length m.funcs) [] m.exports)
     (bodies_fault m.types 0 m.funcs))
+
+-- where a part stands
+abbrev pub place_of : ModulePlaces → Spot → ℕ
+place_of places (spot.Func index) = place_at places.funcs index
+place_of places (spot.Export number) = place_at places.exports number
+place_of places (spot.Instr index at) = place_at (unwrap_or (slice_get places.bodies index) []) at
+
+-- the function in whose body a part stands
+abbrev pub func_of : Spot → Option ℕ
+func_of (spot.Func index) = None
+func_of (spot.Export number) = None
+func_of (spot.Instr index at) = Some index
+
+-- a fault, with the function and the place of its part
+abbrev pub told : ModulePlaces → Fault → ValidFault
+told places fault = record { func = func_of fault.spot; place = place_of places fault.spot; why = fault.why }
+
+-- the first ill-typed part of a module whose parts stand at these places: its function, its place, and why
+abbrev pub untyped : ModuleTree → ModulePlaces → Option ValidFault
+untyped m places = option_map (told places) (first_fault m)

@@ -1,39 +1,58 @@
 //! Whether the body of a function has its type, by the validation algorithm (Core 2.0, appendix "Validation Algorithm").
 
 ghost use Rattle.std.specs.Prelude.{◌≡◌, reverse, Some, None, MatchResult};
-ghost use Rattle.wasm_valid.specs.Checking.{taken, instr_after, expr_fault, body_fault, fault_or, surplus};
-ghost use Rattle.wasm_valid.specs.Errors.{IfWhy};
+ghost use Rattle.wasm_valid.specs.Checking.{taken, instr_after, fault_or, surplus, body_fault};
+ghost use Rattle.wasm_valid.specs.Errors.{IfWhy, IfBehind};
 
 use crate::fault::ValidWhy;
-use std::alloc::{AllocFailed, Global};
-use wasm_reader::{Body, FuncType, Instr, ValType};
+use std::alloc::{AllocError, AllocFailed, Global};
+use wasm_reader::{Func, FuncType, Instr, ValType, local_types};
 
-/// Why the check of a body ends without a typed body.
+/// Why the check of an instruction ends without its results.
 #[derive(Clone, Copy, Debug, PartialEq, Eq)]
-pub enum BodyError {
+pub(crate) enum InstrError {
     /// No memory was left.
     Memory,
-    /// The body's first fault.
+    /// What is wrong with the instruction.
     Why(ValidWhy),
 }
 
-impl<T: Drop> From<AllocFailed<T>> for BodyError {
+impl<T: Drop> From<AllocFailed<T>> for InstrError {
+    ghost use Rattle.wasm_valid.specs.declared.body.InstrError.TheVariants.{Memory};
+
+    ghost from_gives = { λ _ e. e ≡ Memory };
+
+    fn from(_e: AllocFailed<T>) -> InstrError {
+        InstrError::Memory
+    }
+}
+
+impl From<ValidWhy> for InstrError {
+    ghost use Rattle.wasm_valid.specs.declared.body.InstrError.TheVariants.{Why};
+
+    ghost from_gives = { λ why e. e ≡ Why why };
+
+    fn from(why: ValidWhy) -> InstrError {
+        InstrError::Why(why)
+    }
+}
+
+/// Why the check of a body ends without a typed body.
+#[derive(Clone, Copy, Debug, PartialEq, Eq)]
+pub(crate) enum BodyError {
+    /// No memory was left.
+    Memory,
+    /// The body's first fault: behind how many instructions it stands, and what is wrong.
+    Behind(usize, ValidWhy),
+}
+
+impl From<AllocError> for BodyError {
     ghost use Rattle.wasm_valid.specs.declared.body.BodyError.TheVariants.{Memory};
 
     ghost from_gives = { λ _ e. e ≡ Memory };
 
-    fn from(_e: AllocFailed<T>) -> BodyError {
+    fn from(_e: AllocError) -> BodyError {
         BodyError::Memory
-    }
-}
-
-impl From<ValidWhy> for BodyError {
-    ghost use Rattle.wasm_valid.specs.declared.body.BodyError.TheVariants.{Why};
-
-    ghost from_gives = { λ why e. e ≡ Why why };
-
-    fn from(why: ValidWhy) -> BodyError {
-        BodyError::Why(why)
     }
 }
 
@@ -56,7 +75,7 @@ fn check_instr(
     locals: &[ValType],
     instr: Instr,
     operands: &mut Vec<ValType>,
-) -> Result<(), BodyError>
+) -> Result<(), InstrError>
     ensures { MatchResult result (λ _. instr_after locals.now instr (reverse operands.old.items) ≡ Ok (reverse operands.new.items)) (λ e. IfWhy e (λ why. instr_after locals.now instr (reverse operands.old.items) ≡ Err why)) }
 {
     match instr {
@@ -83,16 +102,32 @@ fn check_end(results: &[ValType], mut operands: Vec<ValType>) -> Result<(), Vali
     Ok(())
 }
 
-/// Checks the body of a function of this type, from its first instruction.
-pub fn check_body(alloc: Global, func_type: &FuncType, body: &Body) -> Result<(), BodyError>
-    ensures { MatchResult result (λ _. body_fault func_type.now body.now ≡ None) (λ e. IfWhy e (λ why. body_fault func_type.now body.now ≡ Some why)) }
+/// The error of an instruction behind so many others.
+fn error_behind(at: usize, e: InstrError) -> BodyError
+    ensures found { IfBehind result (λ found. (found.0 ≡ at) × (e ≡ InstrError.Why found.1)) }
+    ensures memory { result ≡ BodyError.Memory → e ≡ InstrError.Memory }
 {
+    match e {
+        InstrError::Memory => BodyError::Memory,
+        InstrError::Why(why) => BodyError::Behind(at, why),
+    }
+}
+
+/// Checks the body of a function of this type, from its first instruction.
+pub(crate) fn check_body(alloc: Global, func_type: &FuncType, func: &Func) -> Result<(), BodyError>
+    ensures { MatchResult result (λ _. body_fault func_type.now func.now ≡ None) (λ e. IfBehind e (λ found. body_fault func_type.now func.now ≡ Some found)) }
+{
+    let locals = local_types(alloc, func_type, func.locals.as_slice())?;
     let mut operands = Vec::new(alloc);
     let mut at: usize = 0;
-    while let Some(instr) = body.next(at) {
-        check_instr(func_type.params.as_slice(), instr, &mut operands)?;
+    while let Some(instr) = func.body.next(at) {
+        if let Err(e) = check_instr(&locals, instr, &mut operands) {
+            return Err(error_behind(at, e));
+        }
         at += 1;
     }
-    check_end(func_type.results.as_slice(), operands)?;
-    Ok(())
+    match check_end(func_type.results.as_slice(), operands) {
+        Ok(()) => Ok(()),
+        Err(why) => Err(BodyError::Behind(at, why)),
+    }
 }

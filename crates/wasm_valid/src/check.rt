@@ -1,49 +1,98 @@
 //! Whether a module is valid (Core 2.0, section 3), by the validation algorithm (Core 2.0, appendix "Validation Algorithm").
 
-ghost use Rattle.std.specs.Prelude.{◌≡◌, ◌⊎◌, ◌^◌, ◌≤◌, Some, None, Ok, Err, length, IfOk, IfErr, MatchResult};
-ghost use Rattle.wasm_valid.specs.Errors.{IfFault, IfWhy};
-ghost use Rattle.wasm_valid.specs.Checking.{func_fault, bodies_fault, types_within, exports_within, first_fault};
+ghost use Rattle.std.specs.Prelude.{◌≡◌, ℕ, ◌^◌, ◌≤◌, Some, None, [], IfOk, IfErr, MatchResult};
+ghost use Rattle.wasm_valid.specs.Errors.{IfFault, IfFound};
+ghost use Rattle.wasm_valid.specs.Checking.{types_fault, has_name, export_fault, exports_fault, func_fault, bodies_fault, first_fault, place_of, func_of, told, untyped};
 ghost use Rattle.wasm_valid.specs.Typing.{Typed};
 
 use crate::body::{BodyError, check_body};
-use crate::fault::{ValidError, ValidFault, ValidWhy};
+use crate::fault::{Fault, Spot, ValidError, ValidFault, ValidWhy};
 use crate::valid::Valid;
+use ca_base::place_at;
 use std::alloc::Global;
-use wasm_reader::{Func, FuncType, Module};
+use std::num::TryFromIntError;
+use wasm_reader::{Export, Func, FuncType, Module, ModulePlaces, ModuleTree};
 
-/// Whether the type of each function is there.
-fn types_are_within(read: &Module) -> bool
-    ensures { result ≡ types_within read.now }
-{
-    let count = read.types.len();
-    read.funcs
-        .as_slice()
-        .iter()
-        .all(|func| (func.type_index as usize) < count)
+/// Why the check of a module ends before its end.
+#[derive(Clone, Copy, Debug, PartialEq, Eq)]
+pub(crate) enum CheckError {
+    /// No memory was left.
+    Memory,
+    /// The module's first fault.
+    Found(Fault),
 }
 
-/// Whether each exported function is there.
-fn exports_are_within(read: &Module) -> bool
-    ensures { result ≡ exports_within read.now }
-{
-    let count = read.funcs.len();
-    read.exports
-        .as_slice()
-        .iter()
-        .all(|export| (export.func as usize) < count)
+impl From<Fault> for CheckError {
+    ghost use Rattle.wasm_valid.specs.declared.check.CheckError.TheVariants.{Found};
+
+    ghost from_gives = { λ fault e. e ≡ Found fault };
+
+    fn from(fault: Fault) -> CheckError {
+        CheckError::Found(fault)
+    }
 }
 
-/// The error of the function of this index.
-fn error_at(index: usize, e: BodyError) -> ValidError
-    ensures fault { IfFault result (λ fault. (fault.func ≡ Some index) × (e ≡ BodyError.Why fault.why)) }
-    ensures memory { result ≡ ValidError.Memory → (e ≡ BodyError.Memory) ⊎ (2 ^ 32 ≤ index) }
+/// Checks that the type of each function is there.
+fn check_types(count: usize, funcs: &[Func]) -> Result<(), Fault>
+    ensures { MatchResult result (λ _. types_fault count 0 funcs.now ≡ None) (λ fault. types_fault count 0 funcs.now ≡ Some fault) }
 {
-    match (e, u32::try_from(index)) {
-        (BodyError::Why(why), Ok(index)) => ValidError::Fault(ValidFault {
-            func: Some(index),
+    for (index, func) in funcs.iter().enumerate() {
+        if func.type_index as usize >= count {
+            return Err(Fault {
+                spot: Spot::Func(index),
+                why: ValidWhy::Index,
+            });
+        }
+    }
+    Ok(())
+}
+
+/// Whether one of these exports has the name.
+fn has_name(name: &str, exports: &[Export]) -> bool
+    ensures { result ≡ has_name name.now exports.now }
+{
+    exports.iter().any(|export| export.name.as_str() == name)
+}
+
+/// Checks an export behind these others, for so many functions.
+fn check_export(count: usize, before: &[Export], export: &Export) -> Result<(), ValidWhy>
+    ensures { MatchResult result (λ _. export_fault count before.now export.now ≡ None) (λ why. export_fault count before.now export.now ≡ Some why) }
+{
+    if export.func as usize >= count {
+        return Err(ValidWhy::Index);
+    }
+    if has_name(export.name.as_str(), before) {
+        return Err(ValidWhy::Name);
+    }
+    Ok(())
+}
+
+/// Checks the exports in order.
+fn check_exports(count: usize, exports: &[Export]) -> Result<(), Fault>
+    ensures { MatchResult result (λ _. exports_fault count [] exports.now ≡ None) (λ fault. exports_fault count [] exports.now ≡ Some fault) }
+{
+    for (number, export) in exports.iter().enumerate() {
+        if let Err(why) = check_export(count, &exports[..number], export) {
+            return Err(Fault {
+                spot: Spot::Export(number),
+                why,
+            });
+        }
+    }
+    Ok(())
+}
+
+/// The error of the body of the function of this index.
+fn error_in(index: usize, e: BodyError) -> CheckError
+    ensures fault { IfFound result (λ fault. (at : ℕ) × (fault.spot ≡ Spot.Instr index at) × (e ≡ BodyError.Behind at fault.why)) }
+    ensures memory { result ≡ CheckError.Memory → e ≡ BodyError.Memory }
+{
+    match e {
+        BodyError::Memory => CheckError::Memory,
+        BodyError::Behind(at, why) => CheckError::Found(Fault {
+            spot: Spot::Instr(index, at),
             why,
         }),
-        _ => ValidError::Memory,
     }
 }
 
@@ -53,21 +102,21 @@ fn check_func(
     types: &[FuncType],
     index: usize,
     func: &Func,
-) -> Result<(), ValidError>
-    ensures { MatchResult result (λ _. func_fault types.now index func.now ≡ None) (λ e. IfFault e (λ fault. func_fault types.now index func.now ≡ Some fault)) }
+) -> Result<(), CheckError>
+    ensures { MatchResult result (λ _. func_fault types.now index func.now ≡ None) (λ e. IfFound e (λ fault. func_fault types.now index func.now ≡ Some fault)) }
 {
     let Some(func_type) = types.get(func.type_index as usize) else {
         return Ok(());
     };
-    match check_body(alloc, func_type, &func.body) {
+    match check_body(alloc, func_type, func) {
         Ok(()) => Ok(()),
-        Err(e) => Err(error_at(index, e)),
+        Err(e) => Err(error_in(index, e)),
     }
 }
 
 /// Checks the bodies in order.
-fn check_bodies(alloc: Global, types: &[FuncType], funcs: &[Func]) -> Result<(), ValidError>
-    ensures { MatchResult result (λ _. bodies_fault types.now 0 funcs.now ≡ None) (λ e. IfFault e (λ fault. bodies_fault types.now 0 funcs.now ≡ Some fault)) }
+fn check_bodies(alloc: Global, types: &[FuncType], funcs: &[Func]) -> Result<(), CheckError>
+    ensures { MatchResult result (λ _. bodies_fault types.now 0 funcs.now ≡ None) (λ e. IfFound e (λ fault. bodies_fault types.now 0 funcs.now ≡ Some fault)) }
 {
     for (index, func) in funcs.iter().enumerate() {
         check_func(alloc, types, index, func)?;
@@ -76,105 +125,70 @@ fn check_bodies(alloc: Global, types: &[FuncType], funcs: &[Func]) -> Result<(),
 }
 
 /// Looks for the module's first fault.
-fn check_module(alloc: Global, read: &Module) -> Result<(), ValidError>
-    ensures { MatchResult result (λ _. first_fault read.now ≡ None) (λ e. IfFault e (λ fault. first_fault read.now ≡ Some fault)) }
+fn check_module(alloc: Global, tree: &ModuleTree) -> Result<(), CheckError>
+    ensures { MatchResult result (λ _. first_fault tree.now ≡ None) (λ e. IfFound e (λ fault. first_fault tree.now ≡ Some fault)) }
 {
-    if !types_are_within(read) || !exports_are_within(read) {
-        return Err(ValidError::Fault(ValidFault {
-            func: None,
-            why: ValidWhy::Index,
-        }));
+    let funcs = tree.funcs.as_slice();
+    check_types(tree.types.len(), funcs)?;
+    check_exports(funcs.len(), tree.exports.as_slice())?;
+    check_bodies(alloc, tree.types.as_slice(), funcs)?;
+    Ok(())
+}
+
+/// Where a part stands.
+fn place_of(places: &ModulePlaces, spot: Spot) -> usize
+    ensures { result ≡ place_of places.now spot }
+{
+    match spot {
+        Spot::Func(index) => place_at(places.funcs.as_slice(), index),
+        Spot::Export(number) => place_at(places.exports.as_slice(), number),
+        Spot::Instr(index, at) => match places.bodies.as_slice().get(index) {
+            Some(body) => place_at(body.as_slice(), at),
+            None => 0,
+        },
     }
-    check_bodies(alloc, read.types.as_slice(), read.funcs.as_slice())
+}
+
+/// The function in whose body a part stands. It fails where its index is 2^32 or more.
+fn func_of(spot: Spot) -> Result<Option<u32>, TryFromIntError>
+    ensures { MatchResult result (λ func. func ≡ func_of spot) (λ _. (index : ℕ) × (func_of spot ≡ Some index) × (2 ^ 32 ≤ index)) }
+{
+    match spot {
+        Spot::Func(_) => Ok(None),
+        Spot::Export(_) => Ok(None),
+        Spot::Instr(index, _) => Ok(Some(u32::try_from(index)?)),
+    }
+}
+
+/// The fault with its function and its place.
+fn told(places: &ModulePlaces, fault: Fault) -> ValidError
+    ensures fault { IfFault result (λ known. known ≡ told places.now fault) }
+    ensures memory { result ≡ ValidError.Memory → (index : ℕ) × (func_of fault.spot ≡ Some index) × (2 ^ 32 ≤ index) }
+{
+    let Ok(func) = func_of(fault.spot) else {
+        return ValidError::Memory;
+    };
+    ValidError::Fault(ValidFault {
+        func,
+        place: place_of(places, fault.spot),
+        why: fault.why,
+    })
 }
 
 /// The module as a valid one, or its first fault.
 pub fn validate(alloc: Global, read: Module) -> Result<Valid, ValidError>
-    ensures valid { IfOk result (λ v. v ≡ read) }
-    ensures typed { IfOk result (λ _. Typed read) }
-    ensures exact { MatchResult result (λ _. first_fault read ≡ None) (λ e. IfFault e (λ fault. first_fault read ≡ Some fault)) }
-    ensures fault { IfErr result (λ e. IfFault e (λ _. Typed read → ⊥)) }
+    // The valid module is the tree, which is typed and has no fault.
+    ensures valid { IfOk result (λ v. v ≡ read.tree) }
+    ensures typed { IfOk result (λ _. Typed read.tree) }
+    // The fault is the first one, with its place.
+    ensures exact { MatchResult result (λ _. untyped read.tree read.places ≡ None) (λ e. IfFault e (λ fault. untyped read.tree read.places ≡ Some fault)) }
+    // A typed module has none.
+    ensures fault { IfErr result (λ e. IfFault e (λ _. Typed read.tree → ⊥)) }
 {
-    match check_module(alloc, &read) {
-        Ok(()) => Ok(Valid::from_typed(read)),
-        Err(e) => Err(e),
-    }
-}
-
-#[cfg(test)]
-mod tests {
-    use super::*;
-    use ca_base::Seq;
-    use std::alloc::AllocError;
-    use wasm_reader::{Body, Export, Instr, ValType};
-
-    /// A module of one type, from two parameters to one result, and of one function, with one export.
-    fn module_of(
-        alloc: Global,
-        type_index: u32,
-        code: &[Instr],
-        export: u32,
-    ) -> Result<Module, AllocError> {
-        let params = Seq::from_vec(vec![in alloc; ValType::I32, ValType::I32]?);
-        let results = Seq::from_vec(vec![in alloc; ValType::I32]?);
-        let types = Seq::from_vec(vec![in alloc; FuncType { params, results }]?);
-        let body = Body::from_code(Vec::from_slice(alloc, code)?);
-        let funcs = Seq::from_vec(vec![in alloc; Func { type_index, body }]?);
-        let name = Seq::from_vec(vec![in alloc; b'a']?);
-        let exports = Seq::from_vec(vec![in alloc; Export { name, func: export }]?);
-        Ok(Module {
-            types,
-            funcs,
-            exports,
-        })
-    }
-
-    fn fault_of(validated: Result<Valid, ValidError>) -> Result<(), ValidError> {
-        validated.map(|_| ())
-    }
-
-    #[test]
-    fn finds_the_first_fault(rt: HostRuntime) {
-        let first = Instr::LocalGet(0);
-        let second = Instr::LocalGet(1);
-        let add = Instr::I32Add;
-        let table: [(u32, &[Instr], u32, Option<(Option<u32>, ValidWhy)>); 9] = [
-            (0, &[first, second, add], 0, None),
-            (0, &[first, second], 0, Some((Some(0), ValidWhy::Typing))),
-            (0, &[first, add], 0, Some((Some(0), ValidWhy::Stack))),
-            (0, &[], 0, Some((Some(0), ValidWhy::Stack))),
-            (
-                0,
-                &[Instr::LocalGet(2)],
-                0,
-                Some((Some(0), ValidWhy::Index)),
-            ),
-            (1, &[first], 0, Some((None, ValidWhy::Index))),
-            (0, &[first], 1, Some((None, ValidWhy::Index))),
-            (0, &[add], 1, Some((None, ValidWhy::Index))),
-            (
-                0,
-                &[add, Instr::LocalGet(2)],
-                0,
-                Some((Some(0), ValidWhy::Stack)),
-            ),
-        ];
-        for (type_index, code, export, want) in table {
-            let read = module_of(rt.alloc(), type_index, code, export).expect(&rt, "memory");
-            let found = validate(rt.alloc(), read);
-            let wanted = match want {
-                None => Ok(()),
-                Some((func, why)) => Err(ValidError::Fault(ValidFault { func, why })),
-            };
-            assert!(rt; fault_of(found) == wanted, "at {code:?}");
-        }
-    }
-
-    #[test]
-    fn keeps_the_module(rt: HostRuntime) {
-        crate::laws::faults_decide_typing();
-        let read = module_of(rt.alloc(), 0, &[Instr::LocalGet(1)], 0).expect(&rt, "memory");
-        let valid = validate(rt.alloc(), read).expect(&rt, "valid");
-        assert_eq!(rt; valid.module().funcs.len(), 1);
+    let Module { tree, places } = read;
+    match check_module(alloc, &tree) {
+        Ok(()) => Ok(Valid::from_typed(tree)),
+        Err(CheckError::Memory) => Err(ValidError::Memory),
+        Err(CheckError::Found(fault)) => Err(told(&places, fault)),
     }
 }

@@ -14,6 +14,8 @@ mod body;
 mod check;
 mod fault;
 pub mod laws;
+#[cfg(test)]
+mod tests;
 mod valid;
 
 pub use check::validate;

@@ -4,42 +4,42 @@ ghost use Rattle.std.specs.Prelude.{◌≡◌};
 ghost use Rattle.wasm_valid.specs.Typing.{Typed};
 
 use std::marker::Model;
-use wasm_reader::Module;
+use wasm_reader::ModuleTree;
 
-/// A module that is typed. Contracts see the module.
+/// A module that is typed. Contracts see its tree.
 #[derive(Debug, Drop)]
 pub struct Valid {
-    module: Module,
+    tree: ModuleTree,
 }
 
 impl Model for Valid {
-    ghost use Rattle.wasm_reader.specs.declared.module.Module.{Module};
-    ghost use Rattle.wasm_reader.specs.contracts.module.Module as contract;
+    ghost use Rattle.wasm_reader.specs.declared.module.ModuleTree.{ModuleTree};
+    ghost use Rattle.wasm_reader.specs.contracts.module.ModuleTree as contract;
     ghost use Rattle.wasm_valid.specs.Typing.{Typed};
 
-    ghost Value = { Module };
+    ghost Value = { ModuleTree };
 
     ghost coded = { contract.the_row.coded };
 
-    ghost view = { λ v. v.module };
+    ghost view = { λ v. v.tree };
 
-    ghost invariant = { λ v. Typed v.module };
+    ghost invariant = { λ v. Typed v.tree };
 }
 
 impl Valid {
-    /// The valid module of a typed one.
-    pub(crate) fn from_typed(read: Module) -> Valid
-        requires { Typed read }
-        ensures { result ≡ read }
+    /// The valid module of a typed tree.
+    pub(crate) fn from_typed(tree: ModuleTree) -> Valid
+        requires { Typed tree }
+        ensures { result ≡ tree }
     {
-        Valid { module: read }
+        Valid { tree }
     }
 
-    /// The module, which is typed.
-    pub fn module(&self) -> &Module
+    /// The module's tree, which is typed.
+    pub fn tree(&self) -> &ModuleTree
         ensures value { result.now ≡ self.now }
         ensures typed { Typed self.now }
     {
-        &self.module
+        &self.tree
     }
 }
