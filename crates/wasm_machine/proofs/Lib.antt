@@ -2,3 +2,4 @@ pub mod Functions
 pub mod Instructions
 pub mod Reaching
 pub mod Safety
+pub mod Starting

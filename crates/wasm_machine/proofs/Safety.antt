@@ -1,9 +1,9 @@
 -- Typed stacks move, stay typed, and end.
-use Rattle.std.proofs.Common.{◌≡◌, ◌≢◌, ℕ, zero, suc, ◌+◌, ◌%◌, ◌^◌, List, [], ◌∷◌, ◌++◌, reverse, refl, sym, ap, ◌∙◌, subst, arith, Option, Some}
+use Rattle.std.proofs.Common.{◌≡◌, ◌≢◌, ℕ, zero, suc, ◌+◌, ◌%◌, ◌^◌, List, [], ◌∷◌, ◌++◌, reverse, map, refl, sym, ap, ◌∙◌, subst, arith, Option, Some}
 use Rattle.std.specs.List.{slice_get}
 use Rattle.std.proofs.lemmas.List.{reverse-append, reverse-reverse}
 use Rattle.wasm_reader.specs.declared.module.ValType.{ValType}
-use Rattle.wasm_reader.specs.declared.module.ValType.TheVariants.{I32}
+use Rattle.wasm_reader.specs.declared.module.ValType.TheVariants.{I32, I64}
 use Rattle.wasm_reader.specs.declared.instr.Instr.{Instr}
 use Rattle.wasm_reader.specs.declared.instr.Instr.TheVariants.{LocalGet, I32Add}
 use Rattle.wasm_reader.specs.Expr.{Expr, End, Plain, instr_count}
@@ -11,34 +11,54 @@ use Rattle.wasm_valid.specs.Typing.{InstrTyped, ExprTyped}
 use Rattle.wasm_machine.specs.Step.{Stack, Goes, Ends, Stuck, next, moved, move_at, got_local, added, Steps, AreWords, StackTyped}
 use Rattle.wasm_machine.specs.Laws.{Progress, Preservation, NeverStuck, EachEnds}
 
--- a value of a type is below 2^32
+-- a value of a type: a line for each type
+pub words_cons : (type : ValType) (types : List ValType) (word : ℕ) (words : List ℕ) → AreWords (type ∷ []) (word ∷ []) → AreWords types words → AreWords (type ∷ types) (word ∷ words)
+words_cons I32 types word words h k = (h.0, k)
+words_cons I64 types word words h k = (h.0, k)
+
+first_word : (type : ValType) (types : List ValType) (word : ℕ) (words : List ℕ) → AreWords (type ∷ types) (word ∷ words) → AreWords (type ∷ []) (word ∷ []) × AreWords types words
+first_word I32 types word words h = ((h.0, tt), h.1)
+first_word I64 types word words h = ((h.0, tt), h.1)
+
+zero_word : (type : ValType) → AreWords (type ∷ []) (0 ∷ [])
+zero_word I32 = (omega arith, tt)
+zero_word I64 = (omega arith, tt)
+
+-- the word of a type at this place
 pub word_at : (types : List ValType) (words : List ℕ) (i : ℕ) (type : ValType) → AreWords types words → slice_get types i ≡ Some type → (word : ℕ) × (slice_get words i ≡ Some word) × AreWords (type ∷ []) (word ∷ [])
 word_at [] [] i type h e = absurd (cc)
-word_at (I32 ∷ types) (word ∷ words) zero I32 h e = (word, refl, (h.0, tt))
-word_at (I32 ∷ types) (word ∷ words) (suc i) type h e = word_at types words i type h.1 e
+word_at (t ∷ types) (word ∷ words) zero type h e =
+    let same : t ≡ type = cc in
+    (word, refl, subst (λ (t : ValType). AreWords (t ∷ []) (word ∷ [])) same (first_word t types word words h).0)
+word_at (t ∷ types) (word ∷ words) (suc i) type h e = word_at types words i type (first_word t types word words h).1 e
 word_at [] (word ∷ words) i type h e = absurd h
 word_at (t ∷ types) [] i type h e = absurd h
 
 pub words_append : (types more : List ValType) (words others : List ℕ) → AreWords types words → AreWords more others → AreWords (types ++ more) (words ++ others)
 words_append [] more [] others h k = k
-words_append (I32 ∷ types) more (word ∷ words) others h k = (h.0, words_append types more words others h.1 k)
+words_append (t ∷ types) more (word ∷ words) others h k =
+    let both = first_word t types word words h in
+    words_cons t (types ++ more) word (words ++ others) both.0 (words_append types more words others both.1 k)
 words_append [] more (word ∷ words) others h k = absurd h
 words_append (t ∷ types) more [] others h k = absurd h
+
+-- each type has the value 0
+pub zero_words : (types : List ValType) → AreWords types (map (λ type. 0) types)
+zero_words [] = tt
+zero_words (t ∷ types) = words_cons t types 0 (map (λ type. 0) types) (zero_word t) (zero_words types)
 
 -- both ends of lists of words
 pub words_reverse : (types : List ValType) (words : List ℕ) → AreWords types words → AreWords (reverse types) (reverse words)
 words_reverse [] [] h = tt
-words_reverse (I32 ∷ types) (word ∷ words) h =
-    rw (reverse-append (I32 ∷ []) types, reverse-append (word ∷ []) words) (words_append (reverse types) (I32 ∷ []) (reverse words) (word ∷ []) (words_reverse types words h.1) (h.0, tt))
+words_reverse (t ∷ types) (word ∷ words) h =
+    let both = first_word t types word words h in
+    rw (reverse-append (t ∷ []) types, reverse-append (word ∷ []) words) (words_append (reverse types) (t ∷ []) (reverse words) (word ∷ []) (words_reverse types words both.1) both.0)
 words_reverse [] (word ∷ words) h = absurd h
 words_reverse (t ∷ types) [] h = absurd h
 
 pub words_of_reverse : (types : List ValType) (words : List ℕ) → AreWords (reverse types) words → AreWords types (reverse words)
 words_of_reverse types words h =
     subst (λ (t : List ValType). AreWords t (reverse words)) (reverse-reverse types) (words_reverse (reverse types) words h)
-
-pub words_cons : (type : ValType) (types : List ValType) (word : ℕ) (words : List ℕ) → AreWords (type ∷ []) (word ∷ []) → AreWords types words → AreWords (type ∷ types) (word ∷ words)
-words_cons I32 types word words h k = (h.0, k)
 
 -- what a typed instruction makes of a stack
 pub record Moved (instr : Instr) (s : Stack) (rest : Expr) (after : List ValType) : Type 0 where

@@ -3,7 +3,7 @@
 use Rattle.std.specs.Prelude.{◌≡◌, ◌<◌, ◌+◌, ◌%◌, ◌^◌, ℕ, zero, suc, List, [], ◌∷◌, reverse, Option, Some, None}
 use Rattle.std.specs.List.{slice_get}
 use Rattle.wasm_reader.specs.declared.module.ValType.{ValType}
-use Rattle.wasm_reader.specs.declared.module.ValType.TheVariants.{I32}
+use Rattle.wasm_reader.specs.declared.module.ValType.TheVariants.{I32, I64}
 use Rattle.wasm_reader.specs.declared.instr.Instr.{Instr}
 use Rattle.wasm_reader.specs.declared.instr.Instr.TheVariants.{LocalGet, I32Add}
 use Rattle.wasm_reader.specs.Expr.{Expr, End, Plain}
@@ -56,6 +56,7 @@ Steps (suc count) s t = (mid : Stack) × (next s ≡ Goes mid) × Steps count mi
 abbrev pub AreWords : List ValType → List ℕ → Type 0
 AreWords [] [] = Unit {0}
 AreWords (I32 ∷ types) (word ∷ words) = (word < 2 ^ 32) × AreWords types words
+AreWords (I64 ∷ types) (word ∷ words) = (word < 2 ^ 64) × AreWords types words
 AreWords [] (word ∷ words) = ⊥
 AreWords (type ∷ types) [] = ⊥
 

@@ -1,17 +1,19 @@
--- The store (Core 2.0, section 4.2.3): functions, each with its type and its body.
-use Rattle.std.specs.Prelude.{List, [], map, Option, Some, None}
+-- The store (Core 2.0, section 4.2.3): functions, each with its type, its locals and its body.
+use Rattle.std.specs.Prelude.{ℕ, List, [], ◌++◌, map, Option, Some, None}
 use Rattle.std.specs.List.{slice_get, AllByRecursion}
 use Rattle.wasm_reader.specs.declared.module.ValType.{ValType}
 use Rattle.wasm_reader.specs.declared.module.FuncType.{FuncType}
 use Rattle.wasm_reader.specs.declared.module.Func.{Func}
-use Rattle.wasm_reader.specs.declared.module.Module.{Module}
+use Rattle.wasm_reader.specs.declared.module.Locals.{Locals}
+use Rattle.wasm_reader.specs.declared.module.ModuleTree.{ModuleTree}
 use Rattle.wasm_reader.specs.Expr.{Expr, End}
+use Rattle.wasm_reader.specs.Locals.{local_types, declared_locals}
 use Rattle.wasm_valid.specs.Typing.{ExprTyped}
 use Rattle.wasm_machine.specs.declared.store.Function.{Function}
 
 -- a function whose body has its type: it starts with no operands
 abbrev pub FunctionTyped : Function → Type 0
-FunctionTyped f = ExprTyped f.func_type.params f.func_type.results f.body []
+FunctionTyped f = ExprTyped (local_types f.func_type f.locals) f.func_type.results f.body []
 
 -- what holds of the functions of a store: each is typed
 abbrev pub StoreTyped : List Function → Type 0
@@ -24,10 +26,10 @@ type_or_empty (Some type) = type
 
 -- a function of a module, with its type
 abbrev pub function_of : List FuncType → Func → Function
-function_of types func = record { func_type = type_or_empty (slice_get types func.type_index); body = func.body }
+function_of types func = record { func_type = type_or_empty (slice_get types func.type_index); locals = func.locals; body = func.body }
 
 -- the functions of a module, in its order
-abbrev pub functions_of : Module → List Function
+abbrev pub functions_of : ModuleTree → List Function
 functions_of m = map (function_of m.types) m.funcs
 
 -- the types of a function's parameters and results, and its body. Where no such function is there, there are none
@@ -42,3 +44,12 @@ results_of (Some f) = f.func_type.results
 abbrev pub body_of : Option Function → Expr
 body_of None = End
 body_of (Some f) = f.body
+
+-- the locals of a call (section 4.4.10): its arguments, and behind them a 0 for each declared local
+abbrev pub first_locals : List Locals → List ℕ → List ℕ
+first_locals groups args = args ++ map (λ type. 0) (declared_locals groups)
+
+-- the declared locals of a function. Where no such function is there, there are none
+abbrev pub locals_of : Option Function → List Locals
+locals_of None = []
+locals_of (Some f) = f.locals

@@ -7,7 +7,7 @@ ghost use Rattle.wasm_machine.specs.Store.{FunctionTyped, StoreTyped, functions_
 use ca_base::Seq;
 use std::alloc::{AllocError, AllocFailed, Global};
 use std::marker::Model;
-use wasm_reader::{Body, FuncType};
+use wasm_reader::{Body, FuncType, Locals};
 use wasm_valid::Valid;
 
 /// A function in the store.
@@ -15,6 +15,8 @@ use wasm_valid::Valid;
 pub struct Function {
     /// Its type.
     pub func_type: FuncType,
+    /// Its locals behind the parameters.
+    pub locals: Seq<Locals>,
     /// What it does.
     pub body: Body,
 }
@@ -112,13 +114,18 @@ fn made_functions(alloc: Global, valid: &Valid) -> Result<Vec<Function>, AllocEr
     ensures value { IfOk result (λ v. v.items ≡ functions_of valid.now) }
     ensures typed { IfOk result (λ v. StoreTyped v.items) }
 {
-    let module = valid.module();
-    let types = module.types.as_slice();
+    let tree = valid.tree();
+    let types = tree.types.as_slice();
     let mut functions = Vec::new(alloc);
-    for func in module.funcs.as_slice() {
+    for func in tree.funcs.as_slice() {
         let func_type = copied_type(alloc, &types[func.type_index as usize])?;
         let body = func.body.copied(alloc)?;
-        functions.push(Function { func_type, body })?;
+        let locals = Seq::from_vec(Vec::from_slice(alloc, func.locals.as_slice())?);
+        functions.push(Function {
+            func_type,
+            locals,
+            body,
+        })?;
     }
     Ok(functions)
 }
