@@ -1,0 +1,14 @@
+-- The window is that of the whole file, and what is read of it ends at its end.
+use Rattle.std.proofs.Common.{subst}
+use Rattle.ca_base.specs.Span.{Span}
+use Rattle.ca_base.specs.Grammar.{MayRead}
+use Rattle.comp_reader.specs.declared.component.Component.{Component}
+use Rattle.comp_reader.specs.declared.fault.ComponentWhy.{ComponentWhy}
+use Rattle.comp_reader.specs.Binary.{component}
+use Rattle.comp_reader.proofs.Whole.{whole_exact}
+use Rattle.comp_reader.proofs.reading.read_whole.Goals as goal
+
+pub returns : goal.returns
+returns c =
+    whole_exact _ c.read_the_component.new.window _
+    (subst (λ (s : Span ComponentWhy). MayRead (λ (d : Component). d) component s c.read_the_component.new.window c.read_the_component.result) c.of-window.ensures c.read_the_component.ensures)

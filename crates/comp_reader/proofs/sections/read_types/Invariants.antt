@@ -1,0 +1,11 @@
+-- The items so far and what is left to read are the whole reading.
+use Rattle.std.proofs.Common.{◌≡◌, ◌-◌}
+use Rattle.ca_base.specs.Grammar.{read}
+use Rattle.ca_base.specs.Items.{placed_times}
+use Rattle.ca_base.proofs.PlacedTimes.{preceded}
+use Rattle.comp_reader.specs.Binary.{type_item}
+use Rattle.comp_reader.proofs.sections.read_types.Given as goal
+
+abbrev pub invariant-loop-index : goal.invariant-loop-index
+invariant-loop-index l =
+    read (placed_times l.count type_item) l.initial.window ≡ preceded l.items l.places (read (placed_times (l.count - l._index) type_item) l.window)
