@@ -1,70 +1,151 @@
--- The function of a component can be called.
-use Rattle.std.proofs.Common.{◌≡◌, ◌<◌, ℕ, List, length, map, take, refl, sym, subst, Bool, true, false, nat_eq, ◌&&◌, Option, Some, None}
-use Rattle.std.specs.Bool.{MatchBool}
-use Rattle.std.specs.List.{AllByRecursion}
-use Rattle.std.specs.Option.{option_map_or}
-use Rattle.std.proofs.lemmas.Bool.{eqb-true}
-use Rattle.ca_base.specs.Span.{Span}
-use Rattle.ca_base.specs.Grammar.{Matches}
+-- The exports of a linked component can be called: what is linked later leaves what an earlier lift stands on.
+use Rattle.std.proofs.Common.{◌≡◌, ℕ, ◌+◌, zero, suc, List, [], ◌∷◌, ◌++◌, refl, sym, ◌∙◌, ap, subst, Bool, true, false, cond, nat_lt, Option, Some, None, Result, Ok, Err, length}
+use Rattle.std.specs.List.{slice_get, list_any, AllByRecursion}
+use Rattle.std.specs.Option.{option_and_then, option_map_or}
+use Rattle.std.specs.Str.{bytes_eq}
 use Rattle.wasm_reader.specs.declared.module.FuncType as core
-use Rattle.wasm_reader.specs.declared.module.Module.{Module}
-use Rattle.wasm_reader.specs.Expr.{instr_count}
-use Rattle.wasm_reader.proofs.Short.{module_short}
-use Rattle.wasm_valid.specs.declared.fault.ValidFault.{ValidFault}
-use Rattle.wasm_valid.specs.Checking.{first_fault}
-use Rattle.wcm.specs.declared.component.FuncType.{FuncType}
-use Rattle.wcm.specs.declared.component.Component.{Component}
-use Rattle.wcm.specs.declared.component.ComponentWhy.{ComponentWhy}
-use Rattle.wcm.specs.Component.{validated, module_file, core_module, module_section, type_at, are_distinct, fit_together, exported, made_of, component, IsCallable}
+use Rattle.wasm_reader.specs.declared.module.ModuleTree.{ModuleTree}
+use Rattle.ca_types.specs.declared.types.FuncType.{FuncType}
+use Rattle.comp_reader.specs.declared.component.CoreInstance.TheVariants.{Instantiate}
+use Rattle.comp_reader.specs.declared.component.Alias.TheVariants as alias
+use Rattle.comp_reader.specs.declared.component.Canon.TheVariants.{Lift}
+use Rattle.comp_reader.specs.declared.component.DefType.{DefType}
+use Rattle.comp_reader.specs.declared.component.DefType.TheVariants as def_type
+use Rattle.comp_reader.specs.declared.component.Item.{Item}
+use Rattle.comp_reader.specs.declared.component.Item.TheVariants as item
+use Rattle.comp_reader.specs.declared.component.Component.{Component}
+use Rattle.wcm.specs.declared.graph.CoreFunc.{CoreFunc}
+use Rattle.wcm.specs.declared.link_fault.LinkWhy.{LinkWhy}
+use Rattle.wcm.specs.declared.link_fault.LinkFault.{LinkFault}
+use Rattle.wcm.specs.Linking.{Lifted, Exported, Spaces, Graph, no_spaces, with_core_instance, with_func, with_export, link_core_instance, link_exported, link_alias, with_closed, link_type, lift_to, link_lift, link_export, link_item, link_items, linked_on, linked_or, linked, exported, is_flat, core_type, type_at, ClosedType, Value, Func, all_within, labels_are_new, close_func, core_instance_limit, LiftsCore, IsCallable}
 
--- the bodies of a module have fewer than 128 instructions
-abbrev AreShort : Module → Type 0
-AreShort m = AllByRecursion (λ f. instr_count f.body < 128) m.funcs
+-- An instance stays where it is when others come behind it.
+pub kept_at : {A : Type 0} (xs ys : List A) (i : ℕ) (x : A) → slice_get xs i ≡ Some x → slice_get (xs ++ ys) i ≡ Some x
+kept_at [] ys i x h = cc
+kept_at (y ∷ xs) ys zero x h = h
+kept_at (y ∷ xs) ys (suc i) x h = kept_at xs ys i x h
 
-validated_same : (place : ℕ) (m : Module) (fault : Option ValidFault) (s t : Span ComponentWhy) (x : Module) → Matches (validated place m fault) s x t → x ≡ m
-validated_same place m None s t x h = h.0
-validated_same place m (Some fault) s t x h = absurd h
+pub found : {A B : Type 0} (o : Option A) (f : A → Option B) (y : B) → option_and_then f o ≡ Some y → (x : A) × (o ≡ Some x) × (f x ≡ Some y)
+found None f y h = cc
+found (Some x) f y h = (x, refl, h)
 
-module_file_short : (s t : Span ComponentWhy) (m : Module) → Matches module_file s m t → AreShort m
-unfolding module_file
-module_file_short s t m h = module_short (take h.0 h.1.bytes) h.1.at m h.3.2.0 h.3.2.1
+kept_type : (xs ys : List ModuleTree) (f : CoreFunc) (type : core.FuncType) → core_type xs f ≡ Some type → core_type (xs ++ ys) f ≡ Some type
+kept_type xs ys f type h =
+    let m = found (slice_get xs f.instance) (λ m. type_at m f.func) type h in
+    ap (λ (o : Option ModuleTree). option_and_then (λ m. type_at m f.func) o) (kept_at xs ys f.instance m.0 m.1) ∙ m.2
 
-core_module_short : (s t : Span ComponentWhy) (m : Module) → Matches core_module s m t → AreShort m
-unfolding core_module
-core_module_short s t m h =
-    let same = validated_same h.0 h.3.0 (first_fault h.3.0) h.3.1 t m h.3.3 in
-    subst AreShort (sym same) (module_file_short h.1 h.3.1 h.3.0 h.3.2)
+kept_lift : (xs ys : List ModuleTree) (f : Lifted) → LiftsCore xs f → LiftsCore (xs ++ ys) f
+kept_lift xs ys f h = record { type = h.type; there = kept_type xs ys f.core h.type h.there; flat = h.flat }
 
-module_section_short : (s t : Span ComponentWhy) (m : Module) → Matches module_section s m t → AreShort m
-unfolding module_section
-module_section_short s t m h = core_module_short _ h.3.3.2.0 m h.3.3.2.1
+kept_lifts : (xs ys : List ModuleTree) (fs : List Lifted) → AllByRecursion (LiftsCore xs) fs → AllByRecursion (LiftsCore (xs ++ ys)) fs
+kept_lifts xs ys [] h = tt
+kept_lifts xs ys (f ∷ fs) h = (kept_lift xs ys f h.0, kept_lifts xs ys fs h.1)
 
-both_first : (a b : Bool) → (a && b) ≡ true → a ≡ true
-both_first true b h = refl
-both_first false b h = h
+kept_exports : (xs ys : List ModuleTree) (es : List Exported) → AllByRecursion (λ e. LiftsCore xs e.func) es → AllByRecursion (λ e. LiftsCore (xs ++ ys) e.func) es
+kept_exports xs ys [] h = tt
+kept_exports xs ys (e ∷ es) h = (kept_lift xs ys e.func h.0, kept_exports xs ys es h.1)
 
-type_there : (type : Option core.FuncType) (count : ℕ) → option_map_or (λ t. nat_eq (length t.params) count) type false ≡ true → (t : core.FuncType) × (type ≡ Some t) × (length t.params ≡ count)
-type_there None count h = cc
-type_there (Some t) count h = (t, refl, eqb-true _ _ h)
+behind_all : {A : Type 0} (P : A → Type 0) (xs : List A) (x : A) → AllByRecursion P xs → P x → AllByRecursion P (xs ++ x ∷ [])
+behind_all P [] x h p = (p, tt)
+behind_all P (y ∷ xs) x h p = (h.0, behind_all P xs x h.1 p)
 
-fitting : (m : Module) (func : ℕ) (t : FuncType) (name : List ℕ) → AreShort m → fit_together m func t ≡ true → IsCallable (record { core_module = m; core_func = func; func_type = t; name = name })
-fitting m func t name short h =
-    let there = type_there (type_at m func) (length t.params) (both_first (option_map_or (λ type. nat_eq (length type.params) (length t.params)) (type_at m func) false) (are_distinct (map (λ p. p.label) t.params)) h) in
-    record { type = there.0; there = there.1; same_count = there.2; short = short }
+all_at : {A : Type 0} (P : A → Type 0) (xs : List A) (i : ℕ) (x : A) → AllByRecursion P xs → slice_get xs i ≡ Some x → P x
+all_at P [] i x h e = cc
+all_at P (y ∷ xs) zero x h e = let same : y ≡ x = cc in subst P same h.0
+all_at P (y ∷ xs) (suc i) x h e = all_at P xs i x h.1 e
 
-chosen : (b : Bool) (m : Module) (func : ℕ) (t : FuncType) (name : List ℕ) (c : Component) (s u : Span ComponentWhy) → AreShort m → fit_together m func t ≡ b
-    → MatchBool b ((c ≡ record { core_module = m; core_func = func; func_type = t; name = name }) × (u ≡ s)) ⊥ → IsCallable c
-chosen true m func t name c s u short e h = subst (λ (x : Component). IsCallable x) (sym h.0) (fitting m func t name short e)
-chosen false m func t name c s u short e h = absurd h
+-- The functions and the exports so far can be called.
+record Kept (s : Spaces) : Type 0 where
+  pub funcs : AllByRecursion (LiftsCore s.core_instances) s.funcs
+  pub exports : AllByRecursion (λ e. LiftsCore s.core_instances e.func) s.exports
 
-made_callable : (place : ℕ) (m : Module) (func : Option ℕ) (t : FuncType) (name : List ℕ) (c : Component) (s u : Span ComponentWhy) → AreShort m → Matches (made_of place m func t name) s c u → IsCallable c
-made_callable place m None t name c s u short h = absurd h
-made_callable place m (Some func) t name c s u short h = chosen (fit_together m func t) m func t name c s u short refl h
+-- what an item that is linked leaves
+abbrev Keeps : Result Spaces LinkWhy → Type 0
+Keeps (Ok t) = Kept t
+Keeps (Err why) = Unit {0}
 
-pub callable : (s t : Span ComponentWhy) (c : Component) → Matches component s c t → IsCallable c
-unfolding component
-callable s t c h =
-    let short = module_section_short h.1 h.3.1 h.3.0 h.3.2 in
-    let alias = h.3.3.3 in
-    let last = h.3.3.3.3.3.3.3.3 in
-    made_callable last.0 h.3.0 (exported h.3.0 alias.0) h.3.3.3.3.0 h.3.3.3.3.3.3.0 c last.1 t short last.3
+instance_tested : (s : Spaces) (m : ModuleTree) (b : Bool) (why : LinkWhy) → Kept s → Keeps (cond b (Ok (with_core_instance s m)) (Err why))
+instance_tested s m true why k = record { funcs = kept_lifts s.core_instances (m ∷ []) s.funcs k.funcs; exports = kept_exports s.core_instances (m ∷ []) s.exports k.exports }
+instance_tested s m false why k = tt
+
+instance_keeps : (s : Spaces) (o : Option ModuleTree) → Kept s → Keeps (link_core_instance s o)
+instance_keeps s None k = tt
+instance_keeps s (Some m) k = instance_tested s m _ _ k
+
+exported_keeps : (s : Spaces) (index : ℕ) (name : List ℕ) (o : Option ℕ) → Kept s → Keeps (link_exported s index name o)
+exported_keeps s index name None k = tt
+exported_keeps s index name (Some func) k = record { funcs = k.funcs; exports = k.exports }
+
+alias_keeps : (s : Spaces) (index : ℕ) (name : List ℕ) (o : Option ModuleTree) → Kept s → Keeps (link_alias s index name o)
+alias_keeps s index name None k = tt
+alias_keeps s index name (Some m) k = exported_keeps s index name (exported m name) k
+
+closed_keeps : (s : Spaces) (o : Option FuncType) → Kept s → Keeps (with_closed s o)
+closed_keeps s None k = tt
+closed_keeps s (Some type) k = record { funcs = k.funcs; exports = k.exports }
+
+either_keeps : (b : Bool) (r : Result Spaces LinkWhy) (reason : LinkWhy) → Keeps r → Keeps (cond b r (Err reason))
+either_keeps true r reason k = k
+either_keeps false r reason k = tt
+
+type_keeps : (s : Spaces) (t : DefType) → Kept s → Keeps (link_type s t)
+type_keeps s (def_type.Value type) k = record { funcs = k.funcs; exports = k.exports }
+type_keeps s (def_type.Func type) k =
+    either_keeps (all_within (length s.types) type) _ _ (either_keeps (labels_are_new [] type.params) _ _ (closed_keeps s (close_func s.types type) k))
+
+lifted_type : (o : Option core.FuncType) (type : FuncType) → option_map_or (is_flat type) o false ≡ true → (t : core.FuncType) × (o ≡ Some t) × (is_flat type t ≡ true)
+lifted_type None type h = cc
+lifted_type (Some t) type h = (t, refl, h)
+
+lift_tested : (s : Spaces) (f : CoreFunc) (type : FuncType) (b : Bool) (why : LinkWhy) → option_map_or (is_flat type) (core_type s.core_instances f) false ≡ b → Kept s → Keeps (cond b (Ok (with_func s (record { core = f; func_type = type }))) (Err why))
+lift_tested s f type true why e k =
+    let t = lifted_type (core_type s.core_instances f) type e in
+    record { funcs = behind_all (LiftsCore s.core_instances) s.funcs (record { core = f; func_type = type }) k.funcs (record { type = t.0; there = t.1; flat = t.2 }); exports = k.exports }
+lift_tested s f type false why e k = tt
+
+to_keeps : (s : Spaces) (f : CoreFunc) (t : ClosedType) → Kept s → Keeps (lift_to s f t)
+to_keeps s f (Value type) k = tt
+to_keeps s f (Func type) k = lift_tested s f type _ _ refl k
+
+lift_keeps : (s : Spaces) (o : Option CoreFunc) (t : Option ClosedType) → Kept s → Keeps (link_lift s o t)
+lift_keeps s None t k = tt
+lift_keeps s (Some f) None k = tt
+lift_keeps s (Some f) (Some type) k = to_keeps s f type k
+
+export_tested : (s : Spaces) (name : List ℕ) (f : Lifted) (b : Bool) (why : LinkWhy) → LiftsCore s.core_instances f → Kept s → Keeps (cond b (Err why) (Ok (with_export s name f)))
+export_tested s name f true why l k = tt
+export_tested s name f false why l k =
+    record { funcs = behind_all (LiftsCore s.core_instances) s.funcs f k.funcs l; exports = behind_all (λ e. LiftsCore s.core_instances e.func) s.exports (record { name = name; func = f }) k.exports l }
+
+export_keeps : (s : Spaces) (name : List ℕ) (index : ℕ) (o : Option Lifted) → slice_get s.funcs index ≡ o → Kept s → Keeps (link_export s name o)
+export_keeps s name index None e k = tt
+export_keeps s name index (Some f) e k = export_tested s name f _ _ (all_at (LiftsCore s.core_instances) s.funcs index f k.funcs e) k
+
+item_keeps : (s : Spaces) (i : Item) → Kept s → Keeps (link_item s i)
+item_keeps s (item.CoreModule m) k = record { funcs = k.funcs; exports = k.exports }
+item_keeps s (item.CoreInstance (Instantiate index)) k = instance_keeps s (slice_get s.core_modules index) k
+item_keeps s (item.Alias (alias.CoreFunc index name)) k = alias_keeps s index name (slice_get s.core_instances index) k
+item_keeps s (item.Type type) k = type_keeps s type k
+item_keeps s (item.Canon (Lift f type)) k = lift_keeps s (slice_get s.core_funcs f) (slice_get s.types type) k
+item_keeps s (item.Export export) k = export_keeps s export.name export.func (slice_get s.funcs export.func) refl k
+
+abbrev AllKeep : Result Spaces (ℕ × LinkWhy) → Type 0
+AllKeep (Ok t) = Kept t
+AllKeep (Err e) = Unit {0}
+
+behind_keeps : (number : ℕ) (items : List Item) (r : Result Spaces LinkWhy) → ((t : Spaces) → Kept t → AllKeep (link_items t (number + 1) items)) → Keeps r → AllKeep (linked_on (λ t. link_items t (number + 1) items) number r)
+behind_keeps number items (Ok t) others k = others t k
+behind_keeps number items (Err why) others k = tt
+
+items_keep : (s : Spaces) (number : ℕ) (items : List Item) → Kept s → AllKeep (link_items s number items)
+items_keep s number [] k = k
+items_keep s number (i ∷ items) k = behind_keeps number items (link_item s i) (λ t h. items_keep t (number + 1) items h) (item_keeps s i k)
+
+graph_keeps : (places : List ℕ) (r : Result Spaces (ℕ × LinkWhy)) (g : Graph) → AllKeep r → linked_or places r ≡ Ok g → IsCallable g
+graph_keeps places (Ok s) g k h =
+    let same : record { instances = s.core_instances; exports = s.exports } ≡ g = cc in
+    subst IsCallable same k.exports
+graph_keeps places (Err e) g k h = cc
+
+pub linked_callable : (c : Component) (g : Graph) → linked c ≡ Ok g → IsCallable g
+linked_callable c g h = graph_keeps c.places (link_items no_spaces 0 c.items) g (items_keep no_spaces 0 c.items (record { funcs = tt; exports = tt })) h

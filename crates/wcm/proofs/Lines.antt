@@ -1,5 +1,5 @@
 -- A script is a line of a call.
-use Rattle.std.proofs.Common.{◌≡◌, ◌↔◌, ◌+◌, ◌-◌, ◌*◌, ◌^◌, ◌<◌, ◌≤◌, ℕ, zero, suc, List, [], ◌∷◌, ◌++◌, length, refl, sym, ap, ◌∙◌, subst, arith, append_assoc, codes, Bool, true, false, nat_eq, nat_lt, Ok, ◌⊎◌, inl, inr, IsTrue}
+use Rattle.std.proofs.Common.{◌≡◌, ◌↔◌, ◌+◌, ◌-◌, ◌*◌, ◌^◌, ◌<◌, ◌≤◌, ℕ, zero, suc, List, [], ◌∷◌, ◌++◌, length, refl, sym, ap, ◌∙◌, subst, arith, append_assoc, codes, true, false, nat_eq, nat_lt, Ok, ◌⊎◌, inl, inr, IsTrue}
 use Rattle.std.specs.Bool.{MatchBool}
 use Rattle.std.specs.List.{AllByRecursion}
 use Rattle.std.proofs.lemmas.Bool.{eq-eqb, eqb-true, ltb-true, lt-ltb}
@@ -11,16 +11,10 @@ use Rattle.ca_base.specs.Grammar.{read, Matches}
 use Rattle.ca_base.proofs.Laws.{reads_matches}
 use Rattle.wcm.specs.declared.script.ScriptWhy.{ScriptWhy}
 use Rattle.wcm.specs.declared.script.ScriptWhy.TheVariants as why
-use Rattle.wcm.specs.declared.script.Value.{Value}
-use Rattle.wcm.specs.declared.script.Value.TheVariants.{U32}
-use Rattle.wcm.specs.declared.script.Call.{Call}
-use Rattle.wcm.specs.Script.{is_digit, in_range, digits, number, byte_behind, space_behind, value, values, line_feed, line_end, script, text, number_of, IsNumber, AreNumbers, IsLine, IsScript}
-use Rattle.wcm.proofs.Whole.{call_of}
-
--- the way that a test went
-chosen : (b : Bool) (P Q : Type 0) → MatchBool b P Q → ((b ≡ true) × P) ⊎ ((b ≡ false) × Q)
-chosen true P Q m = inl (refl, m)
-chosen false P Q m = inr (refl, m)
+use Rattle.ca_types.specs.declared.value.Value.{Value}
+use Rattle.ca_types.specs.declared.value.Value.TheVariants.{U32}
+use Rattle.wcm.specs.Script.{is_digit, in_range, digits, number, byte_behind, space_behind, value, values, line_feed, line_end, arguments, beginning, script, text, number_of, IsNumber, AreNumbers, IsLine, IsCallOf}
+use Rattle.wcm.proofs.Whole.{chosen, call_length}
 
 -- Bytes that match fixed ones are those.
 fixed_matches : (w : ScriptWhy) (bytes : List ℕ) (s t : Span ScriptWhy) (x : Unit {0}) → Matches (fixed w bytes) s x t → s.bytes ≡ bytes ++ t.bytes
@@ -171,24 +165,31 @@ end_matches s t x m =
 line_joined : (b b1 b2 b3 b4 name a : List ℕ) → b ≡ codes "call " ++ b1 → b1 ≡ name ++ b2 → b2 ≡ codes " (" ++ b3 → b3 ≡ a ++ 41 ∷ b4 → b ≡ codes "call " ++ name ++ codes " (" ++ a ++ codes ")" ++ b4
 line_joined b b1 b2 b3 b4 name a h i j k = rw (h, i, j, k) (simp append_assoc)
 
--- What matches a script is a line.
-line_from_script : (name : List ℕ) (more : ℕ) (s t : Span ScriptWhy) (call : Call) → Matches (script name (suc more)) s call t → IsLine name call.values s.bytes
-unfolding script
-line_from_script name more s t call m =
-    let a = m.3 in
-    let b = a.3 in
-    let v = b.3 in
+-- The arguments of a call with parameters are values.
+arguments_match : (more : ℕ) (xs : List Value) (s t : Span ScriptWhy) → Matches (arguments (suc more)) s xs t → Matches (values (suc more)) s xs t
+unfolding arguments
+arguments_match more xs s t m =
+    elim (chosen (nat_eq (suc more) 0) _ (Matches (values (suc more)) s xs t) m) [
+      | inl a ↦ let no = not_zero more in let yes = a.0 in cc
+      | inr a ↦ a.1
+    ]
+
+-- What matches a call is a line.
+line_from_script : (name : List ℕ) (more : ℕ) (s t : Span ScriptWhy) (xs : List Value) → Matches (script name (suc more)) s xs t → IsLine name xs s.bytes
+unfolding script beginning
+line_from_script name more s t xs m =
+    let b = m.2 in
+    let v = m.3 in
     let e = v.3 in
-    let numbers = values_match more v.0 b.1 v.1 v.2 in
-    let same : v.0 ≡ call.values = sym (ap (λ (c : Call). c.values) e.3.0) in (
+    let numbers = values_match more v.0 m.1 v.1 (arguments_match more v.0 m.1 v.1 v.2) in (
       numbers.0,
       v.1.bytes,
-      subst (λ (ys : List Value). AreNumbers numbers.0 ys) same numbers.2,
+      subst (λ (ys : List Value). AreNumbers numbers.0 ys) (sym e.3.0) numbers.2,
       end_matches v.1 e.1 e.0 e.2,
-      line_joined s.bytes m.1.bytes a.1.bytes b.1.bytes v.1.bytes name numbers.0
-          (fixed_matches why.Form (codes "call ") s m.1 m.0 m.2)
-          (fixed_matches why.Form name m.1 a.1 a.0 a.2)
-          (fixed_matches why.Form (codes " (") a.1 b.1 b.0 b.2)
+      line_joined s.bytes b.1.bytes b.3.1.bytes m.1.bytes v.1.bytes name numbers.0
+          (fixed_matches why.Form (codes "call ") s b.1 b.0 b.2)
+          (fixed_matches why.Form name b.1 b.3.1 b.3.0 b.3.2)
+          (fixed_matches why.Form (codes " (") b.3.1 m.1 m.0 b.3.3)
           numbers.1,
     )
 
@@ -246,27 +247,39 @@ unfolding line_end fixed
 end_reads ending at (inl e) = (span [] at, rw e refl)
 end_reads ending at (inr e) = (span [] (at + 1), rw e refl)
 
-line_reads : (bytes name : List ℕ) (n : ℕ) (xs : List Value) → IsLine name (U32 n ∷ xs) bytes → IsScript bytes name (suc (length xs)) (record { name = name; values = U32 n ∷ xs })
+beginning_reads : (name rest : List ℕ) → (there : ℕ) × (read (beginning name) (span (codes "call " ++ (name ++ (codes " (" ++ rest))) 0) ≡ Ok (tt, span rest there))
+unfolding beginning
+beginning_reads name rest =
+    let a = fixed_reads why.Form (codes "call ") (name ++ (codes " (" ++ rest)) 0 in
+    let b = fixed_reads why.Form name (codes " (" ++ rest) a.0 in
+    let c = fixed_reads why.Form (codes " (") rest b.0 in
+    (c.0, rw (a.1, b.1) c.1)
+
+arguments_read : (n : ℕ) (xs : List Value) (bytes rest : List ℕ) (at : ℕ) → AreNumbers bytes (U32 n ∷ xs) → (there : ℕ) × (read (arguments (suc (length xs))) (span (bytes ++ 41 ∷ rest) at) ≡ Ok (U32 n ∷ xs, span rest there))
+unfolding arguments
+arguments_read n xs bytes rest at h =
+    let v = values_read n xs bytes rest at h in
+    (v.0, rw (not_zero (length xs)) v.1)
+
+line_reads : (bytes name : List ℕ) (n : ℕ) (xs : List Value) → IsLine name (U32 n ∷ xs) bytes → IsCallOf bytes name (suc (length xs)) (U32 n ∷ xs)
 unfolding script
 line_reads bytes name n xs l =
-    let a = fixed_reads why.Form (codes "call ") (name ++ (codes " (" ++ (l.0 ++ 41 ∷ l.1))) 0 in
-    let b = fixed_reads why.Form name (codes " (" ++ (l.0 ++ 41 ∷ l.1)) a.0 in
-    let c = fixed_reads why.Form (codes " (") (l.0 ++ 41 ∷ l.1) b.0 in
-    let v = values_read n xs l.0 l.1 c.0 l.2 in
+    let b = beginning_reads name (l.0 ++ 41 ∷ l.1) in
+    let v = arguments_read n xs l.0 l.1 b.0 l.2 in
     let e = end_reads l.1 v.0 l.3 in
     let same : bytes ≡ codes "call " ++ (name ++ (codes " (" ++ (l.0 ++ 41 ∷ l.1))) = rw (l.4) (simp append_assoc) in
-    let all : read (script name (suc (length xs))) (text bytes) ≡ Ok (record { name = name; values = U32 n ∷ xs }, e.0) = rw (same, a.1, b.1, c.1, v.1, e.1) refl in
-    (e.0, reads_matches (script name (suc (length xs))) (text bytes) (record { name = name; values = U32 n ∷ xs }) e.0 all)
+    let all : read (script name (suc (length xs))) (text bytes) ≡ Ok (U32 n ∷ xs, e.0) = rw (same, b.1, v.1, e.1) refl in
+    (e.0, reads_matches (script name (suc (length xs))) (text bytes) (U32 n ∷ xs) e.0 all)
 
--- A line is a script.
-script_from_line : (bytes name : List ℕ) (count : ℕ) (xs : List Value) → 1 ≤ count → length xs ≡ count → IsLine name xs bytes → IsScript bytes name count (record { name = name; values = xs })
+-- A line is a call.
+script_from_line : (bytes name : List ℕ) (count : ℕ) (xs : List Value) → 1 ≤ count → length xs ≡ count → IsLine name xs bytes → IsCallOf bytes name count xs
 script_from_line bytes name count [] some same l = absurd (omega arith)
 script_from_line bytes name count (U32 n ∷ xs) some same l =
-    subst (λ (k : ℕ). IsScript bytes name k (record { name = name; values = U32 n ∷ xs })) same (line_reads bytes name n xs l)
+    subst (λ (k : ℕ). IsCallOf bytes name k (U32 n ∷ xs)) same (line_reads bytes name n xs l)
 
-pub script_is_line : (bytes name : List ℕ) (count : ℕ) (call : Call) → 1 ≤ count → IsScript bytes name count call ↔ ((call.name ≡ name) × (length call.values ≡ count) × IsLine name call.values bytes)
-script_is_line bytes name zero call some = absurd (omega arith)
-script_is_line bytes name (suc more) call some = (
-  λ i. let c = call_of name (suc more) (text bytes) i.0 call i.1 in (c.0, c.1, line_from_script name more (text bytes) i.0 call i.1),
-  λ l. subst (λ (k : List ℕ). IsScript bytes name (suc more) (record { name = k; values = call.values })) (sym l.0) (script_from_line bytes name (suc more) call.values some l.1 l.2),
+pub script_is_line : (bytes name : List ℕ) (count : ℕ) (xs : List Value) → 1 ≤ count → IsCallOf bytes name count xs ↔ ((length xs ≡ count) × IsLine name xs bytes)
+script_is_line bytes name zero xs some = absurd (omega arith)
+script_is_line bytes name (suc more) xs some = (
+  λ i. (call_length bytes name (suc more) xs i, line_from_script name more (text bytes) i.0 xs i.1),
+  λ l. script_from_line bytes name (suc more) xs some l.0 l.1,
 )

@@ -1,49 +1,161 @@
--- What each answer tells of the files.
-use Rattle.std.proofs.Common.{◌≡◌, ◌↔◌, ◌⊎◌, inl, inr, ℕ, List, [], length, refl, ap, sym, ◌∙◌, subst, arith, Option, Some, None, Result, Ok, Err}
+-- What each answer tells of the files: the files have one answer, so its status tells which of the cases they are.
+use Rattle.std.proofs.Common.{◌≡◌, ◌↔◌, inl, inr, ℕ, List, [], ◌∷◌, length, refl, ap, sym, ◌∙◌, subst, arith, Option, Some, None, Result, Ok, Err}
 use Rattle.std.specs.Option.{IfSome, IsSome, MatchOption}
 use Rattle.ca_base.specs.Span.{Span}
 use Rattle.ca_base.specs.declared.refusal.Refusal.{Refusal}
 use Rattle.ca_base.specs.Grammar.{Grammar, Matches, Refuses}
 use Rattle.ca_base.proofs.Laws.{matches_reads, refuses_reads}
-use Rattle.wcm.specs.declared.component.Component.{Component}
+use Rattle.ca_types.specs.declared.value.Value.{Value}
+use Rattle.comp_reader.specs.declared.component.Component.{Component}
+use Rattle.comp_reader.specs.declared.fault.ComponentWhy.{ComponentWhy}
+use Rattle.comp_reader.specs.Binary.{component, file, file_end}
 use Rattle.wcm.specs.declared.script.Call.{Call}
+use Rattle.wcm.specs.declared.link_fault.LinkFault.{LinkFault}
 use Rattle.wcm.specs.declared.answer.Answer.{Answer}
 use Rattle.wcm.specs.declared.status.Status.{Status}
-use Rattle.wcm.specs.declared.status.Status.TheVariants.{Done, Refused, ScriptRefused, Fuel}
+use Rattle.wcm.specs.declared.status.Status.TheVariants.{Done, Refused, LinkRefused, ScriptRefused, Fuel}
+use Rattle.wcm.specs.declared.run.Label.{Label}
 use Rattle.wcm.specs.declared.run.End.{End}
 use Rattle.wcm.specs.declared.run.End.TheVariants as ends
-use Rattle.wcm.specs.Component.{component, file}
-use Rattle.wcm.specs.Script.{script, text}
-use Rattle.wcm.specs.Status.{status_of, IsAnswered}
+use Rattle.wcm.specs.Linking.{Exported, Graph}
+use Rattle.wcm.specs.Run.{first_world}
+use Rattle.wcm.specs.Script.{script, text, called, IsCallOf}
+use Rattle.wcm.specs.Status.{status_of}
 use Rattle.wcm.specs.Words.{plain}
-use Rattle.wcm.specs.Outcome.{IsTold, IsComponentFile, IsNoComponentFile, IsScriptFile, IsNoScriptFile, FileAnswers, RunAnswers, NamesNoComponent, NamesNoScript, NamesCall}
+use Rattle.wcm.specs.Outcome.{default_fuel, IsTold, IsComponentFile, IsRefusedFile, IsScriptFile, IsNoScriptFile, RunAnswers, ScriptAnswers, LinkAnswers, FileAnswers, run_answer, refused_answer, link_refused_answer, script_refused_answer, NamesRefused, NamesLinkRefused, NamesGraph, NamesNoScript, NamesRun}
+use Rattle.wcm.proofs.Linked.{one_graph, one_fault, linked_or_not}
+use Rattle.wcm.proofs.Worlds.{one_run}
 
 -- what matches is not refused, and matches nothing else
 ok_inj : {A E : Type 0} {x y : A} → ◌≡◌ {A = Result A E} (Ok x) (Ok y) → x ≡ y
 ok_inj h = cc
 
+err_inj : {A E : Type 0} {x y : E} → ◌≡◌ {A = Result A E} (Err x) (Err y) → x ≡ y
+err_inj h = cc
+
+some_inj : {A : Type 0} {x y : A} → ◌≡◌ {A = Option A} (Some x) (Some y) → x ≡ y
+some_inj h = cc
+
 matches_once : {W A : Type 0} (g : Grammar W A) (s : Span W) (x y : A) (t u : Span W) → Matches g s x t → Matches g s y u → x ≡ y
 matches_once g s x y t u m n =
     ap (λ p. p.0) (ok_inj (sym (matches_reads g s x t m) ∙ matches_reads g s y u n))
+
+refuses_once : {W A : Type 0} (g : Grammar W A) (s : Span W) (e d : Refusal W) → Refuses g s e → Refuses g s d → e ≡ d
+refuses_once g s e d r q =
+    err_inj (sym (refuses_reads g s e r) ∙ refuses_reads g s d q)
 
 not_refused : {W A : Type 0} (g : Grammar W A) (s : Span W) (x : A) (t : Span W) (e : Refusal W) → Matches g s x t → Refuses g s e → ⊥
 not_refused g s x t e m r =
     let both : ◌≡◌ {A = Result (_ × Span _) (Refusal _)} (Ok (x, t)) (Err e) = sym (matches_reads g s x t m) ∙ refuses_reads g s e r in
     cc
 
+-- The component of a file is one, and so is its refusal.
 one_component : (bytes : List ℕ) (c d : Component) → IsComponentFile bytes c → IsComponentFile bytes d → c ≡ d
-one_component bytes c d h k = matches_once component (file bytes) c d h.1.0 k.1.0 h.1.1 k.1.1
+one_component bytes c d h k = matches_once component (file bytes) c d (file_end bytes) (file_end bytes) h.1 k.1
 
-component_or_not : (bytes : List ℕ) (c : Component) → IsComponentFile bytes c → IsNoComponentFile bytes → ⊥
-component_or_not bytes c h k =
-    elim k [ inl long ↦ omega (arith, h.0, long) | inr refused ↦ not_refused component (file bytes) c h.1.0 refused.0 h.1.1 refused.1 ]
+one_refusal : (bytes : List ℕ) (e d : Refusal ComponentWhy) → IsRefusedFile bytes e → IsRefusedFile bytes d → e ≡ d
+one_refusal bytes e d h k =
+    elim h [
+      | inl long ↦ elim k [
+        | inl too ↦ long.1 ∙ sym too.1
+        | inr short ↦ absurd (omega (arith, long.0, short.0))
+      ]
+      | inr short ↦ elim k [
+        | inl long ↦ absurd (omega (arith, long.0, short.0))
+        | inr too ↦ refuses_once component (file bytes) e d short.1 too.1
+      ]
+    ]
 
-script_or_not : (c : Component) (bytes : List ℕ) (call : Call) → IsScriptFile c bytes call → IsNoScriptFile c bytes → ⊥
-script_or_not c bytes call h k =
-    elim k [ inl long ↦ omega (arith, h.0, long) | inr refused ↦ not_refused (script c.name (length c.func_type.params)) (text bytes) call h.1.0 refused.0 h.1.1 refused.1 ]
+component_or_not : (bytes : List ℕ) (c : Component) (e : Refusal ComponentWhy) → IsComponentFile bytes c → IsRefusedFile bytes e → ⊥
+component_or_not bytes c e h k =
+    elim k [ inl long ↦ omega (arith, h.0, long.0) | inr refused ↦ not_refused component (file bytes) c (file_end bytes) e h.1 refused.1 ]
+
+-- The export that a script calls is one, and its values are.
+one_export : (exports : List Exported) (bytes : List ℕ) (d e : Exported) → called exports bytes ≡ Some d → called exports bytes ≡ Some e → d ≡ e
+one_export exports bytes d e h k = some_inj (sym h ∙ k)
+
+one_values : (bytes name : List ℕ) (count : ℕ) (xs ys : List Value) → IsCallOf bytes name count xs → IsCallOf bytes name count ys → xs ≡ ys
+one_values bytes name count xs ys h k = matches_once (script name count) (text bytes) xs ys h.0 k.0 h.1 k.1
+
+one_call : (exports : List Exported) (bytes : List ℕ) (c d : Call) → IsScriptFile exports bytes c → IsScriptFile exports bytes d → c ≡ d
+one_call exports bytes c d h k =
+    let i = h.1 in
+    let j = k.1 in
+    let same : j.0 ≡ i.0 = one_export exports bytes j.0 i.0 j.1 i.1 in
+    let other : IsCallOf bytes i.0.name (length i.0.func.func_type.params) d.values = subst (λ (e : Exported). IsCallOf bytes e.name (length e.func.func_type.params) d.values) same j.3 in
+    let values : c.values ≡ d.values = one_values bytes i.0.name (length i.0.func.func_type.params) c.values d.values i.3 other in
+    let name : c.name ≡ d.name = i.2 ∙ (ap (λ (e : Exported). e.name) (sym same) ∙ sym j.2) in
+    ap (λ (n : List ℕ). record { name = n; values = c.values }) name ∙ ap (λ (xs : List Value). record { name = d.name; values = xs }) values
+
+script_or_not : (exports : List Exported) (bytes : List ℕ) (call : Call) → IsScriptFile exports bytes call → IsNoScriptFile exports bytes → ⊥
+script_or_not exports bytes call h k =
+    let i = h.1 in
+    elim k [
+      | inl long ↦ omega (arith, h.0, long)
+      | inr wrong ↦ elim wrong [
+        | inl none ↦
+            let both : ◌≡◌ {A = Option Exported} (Some i.0) None = sym i.1 ∙ none in
+            cc
+        | inr bad ↦
+            let same : bad.0 ≡ i.0 = one_export exports bytes bad.0 i.0 bad.1 i.1 in
+            let refused : Refuses (script i.0.name (length i.0.func.func_type.params)) (text bytes) bad.2.0 = subst (λ (e : Exported). Refuses (script e.name (length e.func.func_type.params)) (text bytes) bad.2.0) same bad.2.1 in
+            not_refused (script i.0.name (length i.0.func.func_type.params)) (text bytes) call.values i.3.0 bad.2.0 i.3.1 refused
+      ]
+    ]
+
+-- The files have one answer.
+one_of_run : (g : Graph) (call : Call) (a b : Answer) → RunAnswers g call a → RunAnswers g call b → a ≡ b
+one_of_run g call a b h k =
+    let same = one_run g (first_world (call ∷ []) default_fuel) h.0 k.0 h.1 k.1 h.2 k.2 in
+    h.3 ∙ (ap (λ (labels : List Label). run_answer labels h.1) same.0 ∙ (ap (λ (end : End). run_answer k.0 end) same.1 ∙ sym k.3))
+
+one_of_script : (g : Graph) (t : List ℕ) (a b : Answer) → ScriptAnswers g t a → ScriptAnswers g t b → a ≡ b
+one_of_script g t a b h k =
+    elim h [
+      | inl bad ↦ elim k [
+        | inl worse ↦ bad.1 ∙ sym worse.1
+        | inr good ↦ absurd (script_or_not g.exports t good.0 good.1 bad.0)
+      ]
+      | inr good ↦ elim k [
+        | inl bad ↦ absurd (script_or_not g.exports t good.0 good.1 bad.0)
+        | inr better ↦
+            let same : better.0 ≡ good.0 = one_call g.exports t better.0 good.0 better.1 good.1 in
+            one_of_run g good.0 a b good.2 (subst (λ (call : Call). RunAnswers g call b) same better.2)
+      ]
+    ]
+
+one_of_link : (c : Component) (t : List ℕ) (a b : Answer) → LinkAnswers c t a → LinkAnswers c t b → a ≡ b
+one_of_link c t a b h k =
+    elim h [
+      | inl bad ↦ elim k [
+        | inl worse ↦ bad.2 ∙ (ap (λ (f : LinkFault). link_refused_answer f) (one_fault c worse.0 bad.0 worse.1 bad.1) ∙ sym worse.2)
+        | inr good ↦ absurd (linked_or_not c good.0 bad.0 good.1 bad.1)
+      ]
+      | inr good ↦ elim k [
+        | inl bad ↦ absurd (linked_or_not c good.0 bad.0 good.1 bad.1)
+        | inr better ↦
+            let same : better.0 ≡ good.0 = one_graph c good.0 better.0 good.1 better.1 in
+            one_of_script good.0 t a b good.2 (subst (λ (g : Graph). ScriptAnswers g t b) same better.2)
+      ]
+    ]
+
+one_answer : (bytes t : List ℕ) (a b : Answer) → FileAnswers bytes t a → FileAnswers bytes t b → a ≡ b
+one_answer bytes t a b h k =
+    elim h [
+      | inl bad ↦ elim k [
+        | inl worse ↦ bad.2 ∙ (ap (λ (e : Refusal ComponentWhy). refused_answer e) (one_refusal bytes bad.0 worse.0 bad.1 worse.1) ∙ sym worse.2)
+        | inr good ↦ absurd (component_or_not bytes good.0 bad.0 good.1 bad.1)
+      ]
+      | inr good ↦ elim k [
+        | inl bad ↦ absurd (component_or_not bytes good.0 bad.0 good.1 bad.1)
+        | inr better ↦
+            let same : better.0 ≡ good.0 = one_component bytes better.0 good.0 better.1 good.1 in
+            one_of_link good.0 t a b good.2 (subst (λ (c : Component). LinkAnswers c t b) same better.2)
+      ]
+    ]
 
 -- where both files are told, the answer is that of their bytes
-pub told_answers : (held_file held_script : Option (List ℕ)) (a : Answer) → IfSome held_file (λ bytes. IfSome held_script (λ t. FileAnswers bytes t a)) → IsSome held_file → IsSome held_script
+told_answers : (held_file held_script : Option (List ℕ)) (a : Answer) → IfSome held_file (λ bytes. IfSome held_script (λ t. FileAnswers bytes t a)) → IsSome held_file → IsSome held_script
     → (bytes : List ℕ) × (t : List ℕ) × (held_file ≡ Some bytes) × (held_script ≡ Some t) × FileAnswers bytes t a
 told_answers (Some bytes) (Some t) a h i j = (bytes, t, refl, refl, h)
 told_answers (Some bytes) None a h i j = cc
@@ -76,115 +188,137 @@ same_script words held f s g t bytes other e d h k =
     let both : ◌≡◌ {A = Option (List ℕ)} (Some bytes) (Some other) = sym h ∙ (ap held name ∙ k) in
     cc
 
--- statuses that differ
-apart_refused : (s : Status) → s ≡ Refused → (s ≡ ScriptRefused) ⊎ ((s ≡ Done) ⊎ (s ≡ Fuel)) → ⊥
-apart_refused s k h = elim h [ inl e ↦ cc | inr f ↦ elim f [ inl e ↦ cc | inr e ↦ cc ] ]
+-- The files that words name, and the answer for them.
+record Answered (words : List (List ℕ)) (held : List ℕ → Option (List ℕ)) (a : Answer) : Type 0 where
+  pub file : List ℕ
+  pub script : List ℕ
+  pub bytes : List ℕ
+  pub text : List ℕ
+  pub words_name : plain words ≡ Some (file, script)
+  pub holds : held file ≡ Some bytes
+  pub holds_script : held script ≡ Some text
+  pub answers : FileAnswers bytes text a
 
-apart_script : (s : Status) → s ≡ ScriptRefused → (s ≡ Refused) ⊎ ((s ≡ Done) ⊎ (s ≡ Fuel)) → ⊥
-apart_script s k h = elim h [ inl e ↦ cc | inr f ↦ elim f [ inl e ↦ cc | inr e ↦ cc ] ]
+answered : (words : List (List ℕ)) (held : List ℕ → Option (List ℕ)) (f s : List ℕ) (a : Answer) → plain words ≡ Some (f, s) → IfSome (held f) (λ bytes. IfSome (held s) (λ t. FileAnswers bytes t a)) → IsTold words held → Answered words held a
+answered words held f s a e h told =
+    let both = told_of words held f s e told in
+    let d = told_answers (held f) (held s) a h both.0 both.1 in
+    record { file = f; script = s; bytes = d.0; text = d.1; words_name = e; holds = d.2; holds_script = d.3; answers = d.4 }
 
-apart_done : (s : Status) → s ≡ Done → (s ≡ Refused) ⊎ (s ≡ ScriptRefused) → ⊥
-apart_done s k h = elim h [ inl e ↦ cc | inr e ↦ cc ]
+-- an answer for the same component file, whatever script is held
+same_by_file : (words : List (List ℕ)) (held : List ℕ → Option (List ℕ)) (a b : Answer) (f s bytes : List ℕ) → Answered words held a → plain words ≡ Some (f, s) → held f ≡ Some bytes → ((t : List ℕ) → FileAnswers bytes t b) → a ≡ b
+same_by_file words held a b f s bytes d e h k =
+    let same : bytes ≡ d.bytes = same_file words held f s d.file d.script bytes d.bytes e d.words_name h d.holds in
+    one_answer d.bytes d.text a b d.answers (subst (λ (x : List ℕ). FileAnswers x d.text b) same (k d.text))
 
-ends_status : (end : End) (s : Status) → s ≡ status_of end → (s ≡ Done) ⊎ (s ≡ Fuel)
-ends_status ends.Done s e = inl e
-ends_status ends.Fuel s e = inr e
+-- an answer for the same graph and script
+same_by_graph : (words : List (List ℕ)) (held : List ℕ → Option (List ℕ)) (a b : Answer) (g : Graph) (t : List ℕ) → Answered words held a → NamesGraph words held g t → ScriptAnswers g t b → a ≡ b
+same_by_graph words held a b g t d n k =
+    let same : n.bytes ≡ d.bytes = same_file words held n.file n.script d.file d.script n.bytes d.bytes n.words_name d.words_name n.holds d.holds in
+    let same_text : t ≡ d.text = same_script words held n.file n.script d.file d.script t d.text n.words_name d.words_name n.holds_script d.holds_script in
+    let linked : LinkAnswers n.component t b = inr (g, n.linked, k) in
+    let whole : FileAnswers n.bytes t b = inr (n.component, n.read, linked) in
+    one_answer d.bytes d.text a b d.answers (subst (λ (x : List ℕ). FileAnswers d.bytes x b) same_text (subst (λ (x : List ℕ). FileAnswers x t b) same whole))
 
--- the status of a run's answer
-run_status : (c : Component) (call : Call) (a : Answer) → RunAnswers c call a → (a.status ≡ Done) ⊎ (a.status ≡ Fuel)
-run_status c call a r = ends_status r.1 a.status (ap (λ (b : Answer). b.status) r.3)
+-- what the words name, by what came of their files
+data Came (words : List (List ℕ)) (held : List ℕ → Option (List ℕ)) (s : Status) : Type 0 where
+  OfFile : s ≡ Refused → NamesRefused words held → Came words held s
+  OfLink : s ≡ LinkRefused → NamesLinkRefused words held → Came words held s
+  OfScript : s ≡ ScriptRefused → NamesNoScript words held → Came words held s
+  OfRun : (end : End) → s ≡ status_of end → NamesRun words held end → Came words held s
 
-ended : (c : Component) (call : Call) (a : Answer) → IsAnswered a.status → RunAnswers c call a → a.status ≡ Done
-ended c call a i r =
-    elim (run_status c call a r) [ inl done ↦ done | inr fuel ↦ absurd (subst IsAnswered fuel i) ]
-
--- the status tells which of the three cases the answer is
-is_refused : (bytes t : List ℕ) (a : Answer) → FileAnswers bytes t a → a.status ≡ Refused → IsNoComponentFile bytes
-is_refused bytes t a h k =
+came_script : (words : List (List ℕ)) (held : List ℕ → Option (List ℕ)) (a : Answer) (g : Graph) (t : List ℕ) → NamesGraph words held g t → ScriptAnswers g t a → Came words held a.status
+came_script words held a g t n h =
     elim h [
-      | inl bad ↦ bad.0
+      | inl bad ↦ OfScript (ap (λ (b : Answer). b.status) bad.1) (record { graph = g; text = t; named = n; refused = bad.0 })
+      | inr run ↦
+          let r = run.2 in
+          OfRun r.1 (ap (λ (b : Answer). b.status) r.3) (record { graph = g; text = t; call = run.0; labels = r.0; named = n; read_script = run.1; runs = r.2 })
+    ]
+
+came : (words : List (List ℕ)) (held : List ℕ → Option (List ℕ)) (a : Answer) → Answered words held a → Came words held a.status
+came words held a d =
+    elim d.answers [
+      | inl bad ↦ OfFile (ap (λ (b : Answer). b.status) bad.2) (record { file = d.file; script = d.script; bytes = d.bytes; refusal = bad.0; words_name = d.words_name; holds = d.holds; refused = bad.1 })
       | inr good ↦ elim good.2 [
-        | inl bad ↦ let e : a.status ≡ ScriptRefused = ap (λ (b : Answer). b.status) bad.1 in absurd (apart_refused a.status k (inl e))
-        | inr run ↦ absurd (apart_refused a.status k (inr (run_status good.0 run.0 a run.2)))
+        | inl bad ↦ OfLink (ap (λ (b : Answer). b.status) bad.2) (record { file = d.file; script = d.script; bytes = d.bytes; component = good.0; fault = bad.0; words_name = d.words_name; holds = d.holds; read = good.1; refused = bad.1 })
+        | inr linked ↦ came_script words held a linked.0 d.text (record { file = d.file; script = d.script; bytes = d.bytes; component = good.0; words_name = d.words_name; holds = d.holds; read = good.1; linked = linked.1; holds_script = d.holds_script }) linked.2
       ]
     ]
 
-is_script_refused : (bytes t : List ℕ) (a : Answer) → FileAnswers bytes t a → a.status ≡ ScriptRefused → (c : Component) × IsComponentFile bytes c × IsNoScriptFile c t
-is_script_refused bytes t a h k =
-    elim h [
-      | inl bad ↦ let e : a.status ≡ Refused = ap (λ (b : Answer). b.status) bad.1 in absurd (apart_script a.status k (inl e))
-      | inr good ↦ elim good.2 [
-        | inl bad ↦ (good.0, good.1, bad.0)
-        | inr run ↦ absurd (apart_script a.status k (inr (run_status good.0 run.0 a run.2)))
-      ]
-    ]
+-- Each status comes with its own case.
+of_refused : (words : List (List ℕ)) (held : List ℕ → Option (List ℕ)) (s : Status) → s ≡ Refused → Came words held s → NamesRefused words held
+of_refused words held s k (OfFile e n) = n
+of_refused words held s k (OfLink e n) = cc
+of_refused words held s k (OfScript e n) = cc
+of_refused words held s k (OfRun ends.Done e n) = cc
+of_refused words held s k (OfRun ends.Fuel e n) = cc
 
-is_done : (bytes t : List ℕ) (a : Answer) → FileAnswers bytes t a → a.status ≡ Done → (c : Component) × (call : Call) × IsComponentFile bytes c × IsScriptFile c t call
-is_done bytes t a h k =
-    elim h [
-      | inl bad ↦ let e : a.status ≡ Refused = ap (λ (b : Answer). b.status) bad.1 in absurd (apart_done a.status k (inl e))
-      | inr good ↦ elim good.2 [
-        | inl bad ↦ let e : a.status ≡ ScriptRefused = ap (λ (b : Answer). b.status) bad.1 in absurd (apart_done a.status k (inr e))
-        | inr run ↦ (good.0, run.0, good.1, run.1)
-      ]
-    ]
+of_link : (words : List (List ℕ)) (held : List ℕ → Option (List ℕ)) (s : Status) → s ≡ LinkRefused → Came words held s → NamesLinkRefused words held
+of_link words held s k (OfFile e n) = cc
+of_link words held s k (OfLink e n) = n
+of_link words held s k (OfScript e n) = cc
+of_link words held s k (OfRun ends.Done e n) = cc
+of_link words held s k (OfRun ends.Fuel e n) = cc
+
+of_script : (words : List (List ℕ)) (held : List ℕ → Option (List ℕ)) (s : Status) → s ≡ ScriptRefused → Came words held s → NamesNoScript words held
+of_script words held s k (OfFile e n) = cc
+of_script words held s k (OfLink e n) = cc
+of_script words held s k (OfScript e n) = n
+of_script words held s k (OfRun ends.Done e n) = cc
+of_script words held s k (OfRun ends.Fuel e n) = cc
+
+of_done : (words : List (List ℕ)) (held : List ℕ → Option (List ℕ)) (s : Status) → s ≡ Done → Came words held s → NamesRun words held ends.Done
+of_done words held s k (OfFile e n) = cc
+of_done words held s k (OfLink e n) = cc
+of_done words held s k (OfScript e n) = cc
+of_done words held s k (OfRun ends.Done e n) = n
+of_done words held s k (OfRun ends.Fuel e n) = cc
+
+of_fuel : (words : List (List ℕ)) (held : List ℕ → Option (List ℕ)) (s : Status) → s ≡ Fuel → Came words held s → NamesRun words held ends.Fuel
+of_fuel words held s k (OfFile e n) = cc
+of_fuel words held s k (OfLink e n) = cc
+of_fuel words held s k (OfScript e n) = cc
+of_fuel words held s k (OfRun ends.Done e n) = cc
+of_fuel words held s k (OfRun ends.Fuel e n) = n
 
 pub row_refused : (words : List (List ℕ)) (held : List ℕ → Option (List ℕ)) (f s : List ℕ) (a : Answer) → plain words ≡ Some (f, s)
-    → IfSome (held f) (λ bytes. IfSome (held s) (λ t. FileAnswers bytes t a)) → IsTold words held → (a.status ≡ Refused) ↔ NamesNoComponent words held
+    → IfSome (held f) (λ bytes. IfSome (held s) (λ t. FileAnswers bytes t a)) → IsTold words held → (a.status ≡ Refused) ↔ NamesRefused words held
 row_refused words held f s a e h told =
-    let both = told_of words held f s e told in
-    let d = told_answers (held f) (held s) a h both.0 both.1 in (
-      (λ k. record { file = f; script = s; bytes = d.0; words_name = e; holds = d.2; refused = is_refused d.0 d.1 a d.4 k }),
-      (λ n.
-          let same : d.0 ≡ n.bytes = same_file words held f s n.file n.script d.0 n.bytes e n.words_name d.2 n.holds in
-          elim d.4 [
-            | inl bad ↦ ap (λ (b : Answer). b.status) bad.1
-            | inr good ↦ absurd (component_or_not d.0 good.0 good.1 (subst IsNoComponentFile (sym same) n.refused))
-          ]),
+    let d = answered words held f s a e h told in (
+      λ k. of_refused words held a.status k (came words held a d),
+      λ n. ap (λ (b : Answer). b.status) (same_by_file words held a (refused_answer n.refusal) n.file n.script n.bytes d n.words_name n.holds (λ t. inl (n.refusal, n.refused, refl))),
+    )
+
+pub row_link_refused : (words : List (List ℕ)) (held : List ℕ → Option (List ℕ)) (f s : List ℕ) (a : Answer) → plain words ≡ Some (f, s)
+    → IfSome (held f) (λ bytes. IfSome (held s) (λ t. FileAnswers bytes t a)) → IsTold words held → (a.status ≡ LinkRefused) ↔ NamesLinkRefused words held
+row_link_refused words held f s a e h told =
+    let d = answered words held f s a e h told in (
+      λ k. of_link words held a.status k (came words held a d),
+      λ n. ap (λ (b : Answer). b.status) (same_by_file words held a (link_refused_answer n.fault) n.file n.script n.bytes d n.words_name n.holds (λ t. inr (n.component, n.read, inl (n.fault, n.refused, refl)))),
     )
 
 pub row_script_refused : (words : List (List ℕ)) (held : List ℕ → Option (List ℕ)) (f s : List ℕ) (a : Answer) → plain words ≡ Some (f, s)
     → IfSome (held f) (λ bytes. IfSome (held s) (λ t. FileAnswers bytes t a)) → IsTold words held → (a.status ≡ ScriptRefused) ↔ NamesNoScript words held
 row_script_refused words held f s a e h told =
-    let both = told_of words held f s e told in
-    let d = told_answers (held f) (held s) a h both.0 both.1 in (
-      (λ k. let r = is_script_refused d.0 d.1 a d.4 k in
-          record { file = f; script = s; bytes = d.0; text = d.1; component = r.0; words_name = e; holds = d.2; read = r.1; holds_script = d.3; refused = r.2 }),
-      (λ n.
-          let same : d.0 ≡ n.bytes = same_file words held f s n.file n.script d.0 n.bytes e n.words_name d.2 n.holds in
-          let same_text : d.1 ≡ n.text = same_script words held f s n.file n.script d.1 n.text e n.words_name d.3 n.holds_script in
-          let read : IsComponentFile d.0 n.component = subst (λ (b : List ℕ). IsComponentFile b n.component) (sym same) n.read in
-          elim d.4 [
-            | inl bad ↦ absurd (component_or_not d.0 n.component read bad.0)
-            | inr good ↦ elim good.2 [
-              | inl bad ↦ ap (λ (b : Answer). b.status) bad.1
-              | inr run ↦
-                  let one : good.0 ≡ n.component = one_component d.0 good.0 n.component good.1 read in
-                  let refused : IsNoScriptFile good.0 d.1 = subst (λ (c : Component). IsNoScriptFile c d.1) (sym one) (subst (λ (b : List ℕ). IsNoScriptFile n.component b) (sym same_text) n.refused) in
-                  absurd (script_or_not good.0 d.1 run.0 run.1 refused)
-            ]
-          ]),
+    let d = answered words held f s a e h told in (
+      λ k. of_script words held a.status k (came words held a d),
+      λ n. ap (λ (b : Answer). b.status) (same_by_graph words held a script_refused_answer n.graph n.text d n.named (inl (n.refused, refl))),
     )
 
+-- the status of a run
+run_status : (words : List (List ℕ)) (held : List ℕ → Option (List ℕ)) (a : Answer) (end : End) → Answered words held a → NamesRun words held end → a.status ≡ status_of end
+run_status words held a end d n =
+    ap (λ (b : Answer). b.status) (same_by_graph words held a (run_answer n.labels end) n.graph n.text d n.named (inr (n.call, n.read_script, (n.labels, end, n.runs, refl))))
+
 pub row_done : (words : List (List ℕ)) (held : List ℕ → Option (List ℕ)) (f s : List ℕ) (a : Answer) → plain words ≡ Some (f, s)
-    → IfSome (held f) (λ bytes. IfSome (held s) (λ t. FileAnswers bytes t a)) → IsAnswered a.status → IsTold words held → (a.status ≡ Done) ↔ NamesCall words held
-row_done words held f s a e h answered told =
-    let both = told_of words held f s e told in
-    let d = told_answers (held f) (held s) a h both.0 both.1 in (
-      (λ k. let r = is_done d.0 d.1 a d.4 k in
-          record { file = f; script = s; bytes = d.0; text = d.1; component = r.0; call = r.1; words_name = e; holds = d.2; read = r.2; holds_script = d.3; read_script = r.3 }),
-      (λ n.
-          let same : d.0 ≡ n.bytes = same_file words held f s n.file n.script d.0 n.bytes e n.words_name d.2 n.holds in
-          let same_text : d.1 ≡ n.text = same_script words held f s n.file n.script d.1 n.text e n.words_name d.3 n.holds_script in
-          let read : IsComponentFile d.0 n.component = subst (λ (b : List ℕ). IsComponentFile b n.component) (sym same) n.read in
-          elim d.4 [
-            | inl bad ↦ absurd (component_or_not d.0 n.component read bad.0)
-            | inr good ↦ elim good.2 [
-              | inl bad ↦
-                  let one : good.0 ≡ n.component = one_component d.0 good.0 n.component good.1 read in
-                  let accepted : IsScriptFile good.0 d.1 n.call = subst (λ (c : Component). IsScriptFile c d.1 n.call) (sym one) (subst (λ (b : List ℕ). IsScriptFile n.component b n.call) (sym same_text) n.read_script) in
-                  absurd (script_or_not good.0 d.1 n.call accepted bad.0)
-              | inr run ↦ ended good.0 run.0 a answered run.2
-            ]
-          ]),
-    )
+    → IfSome (held f) (λ bytes. IfSome (held s) (λ t. FileAnswers bytes t a)) → IsTold words held → (a.status ≡ Done) ↔ NamesRun words held ends.Done
+row_done words held f s a e h told =
+    let d = answered words held f s a e h told in
+    (λ k. of_done words held a.status k (came words held a d), λ n. run_status words held a ends.Done d n)
+
+pub row_fuel : (words : List (List ℕ)) (held : List ℕ → Option (List ℕ)) (f s : List ℕ) (a : Answer) → plain words ≡ Some (f, s)
+    → IfSome (held f) (λ bytes. IfSome (held s) (λ t. FileAnswers bytes t a)) → IsTold words held → (a.status ≡ Fuel) ↔ NamesRun words held ends.Fuel
+row_fuel words held f s a e h told =
+    let d = answered words held f s a e h told in
+    (λ k. of_fuel words held a.status k (came words held a d), λ n. run_status words held a ends.Fuel d n)

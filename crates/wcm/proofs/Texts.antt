@@ -1,6 +1,6 @@
 -- The text of values, written one after the other.
 use Rattle.std.proofs.Common.{◌≡◌, ◌+◌, ◌<◌, ◌≤◌, ℕ, zero, suc, List, [], ◌∷◌, ◌++◌, length, take, get_or, refl, ap, ◌∙◌, arith, add-one, append_assoc, append-nil, codes}
-use Rattle.wcm.specs.declared.script.Value.{Value}
+use Rattle.ca_types.specs.declared.value.Value.{Value}
 use Rattle.wcm.specs.Text.{value_text, values_text}
 
 text-first : (xs : List Value) (v : Value) → 0 < length xs → values_text (take 1 xs) ≡ value_text (get_or xs 0 v)

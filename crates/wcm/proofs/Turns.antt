@@ -8,7 +8,8 @@ use Rattle.wasm_machine.specs.Step.{Stack, Move, Goes, next, moved, move_at, got
 use Rattle.wasm_machine.specs.Step as core
 use Rattle.wcm.specs.declared.run.Label.{Label}
 use Rattle.wcm.specs.declared.run.End as run_end
-use Rattle.wcm.specs.Run.{Graph, World, Task, Running, Steps, Ends, with_task, with_units, core_turn, turn, Runs}
+use Rattle.wcm.specs.Linking.{Graph}
+use Rattle.wcm.specs.Run.{World, Task, Running, Steps, Ends, with_task, with_units, core_turn, turn, Runs}
 
 -- one step more in front
 pub runs_after : (g : Graph) (w mid : World) (labels more : List Label) (end : run_end.End) → turn g w ≡ Steps labels mid → Runs g mid more end → Runs g w (labels ++ more) end

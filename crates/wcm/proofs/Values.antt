@@ -5,7 +5,7 @@ use Rattle.ca_base.specs.declared.refusal.Refusal.{Refusal}
 use Rattle.ca_base.specs.Grammar.{read, and_then}
 use Rattle.ca_base.proofs.Times.{preceded}
 use Rattle.wcm.specs.declared.script.ScriptWhy.{ScriptWhy}
-use Rattle.wcm.specs.declared.script.Value.{Value}
+use Rattle.ca_types.specs.declared.value.Value.{Value}
 use Rattle.wcm.specs.Script.{value, values}
 
 one_more : (xs : List Value) (x : Value) (r : Result (List Value × Span ScriptWhy) (Refusal ScriptWhy)) → preceded xs (and_then r (λ ys u. Ok (x ∷ ys, u))) ≡ preceded (xs ++ x ∷ []) r

@@ -1,7 +1,10 @@
 pub mod Calling
-pub mod Component
 pub mod Laws
+pub mod LinkErrors
+pub mod Linking
 pub mod Outcome
+pub mod Plain
+pub mod Refusals
 pub mod Run
 pub mod RunLaws
 pub mod Script

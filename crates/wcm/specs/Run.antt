@@ -1,34 +1,41 @@
 -- Runs (Component Model, Concurrency.md and CanonicalABI.md): a world, its one next move, and the lines that each step
 -- writes. A call of a sync-lifted function makes a task; it enters, its core function runs, the result is lifted, the
 -- task resolves and exits.
-use Rattle.std.specs.Prelude.{◌≡◌, ◌+◌, ℕ, zero, suc, List, [], ◌∷◌, map, Option, Some, None}
+use Rattle.std.specs.Prelude.{◌≡◌, ◌+◌, ℕ, zero, suc, List, [], ◌∷◌, length, map, take, find, Option, Some, None}
 use Rattle.std.specs.List.{slice_get, flat_map}
+use Rattle.std.specs.Option.{option_map}
+use Rattle.std.specs.Str.{bytes_eq}
 use Rattle.wasm_machine.specs.Step.{Stack, Move, next}
 use Rattle.wasm_machine.specs.Step as core
 use Rattle.wasm_machine.specs.declared.store.Function.{Function}
-use Rattle.wasm_machine.specs.Store.{functions_of, body_of}
-use Rattle.wcm.specs.declared.component.Component.{Component}
-use Rattle.wcm.specs.declared.script.Value.{Value}
-use Rattle.wcm.specs.declared.script.Value.TheVariants.{U32}
+use Rattle.wasm_machine.specs.Store.{functions_of, locals_of, body_of, first_locals}
+use Rattle.wasm_reader.specs.declared.module.ModuleTree.{ModuleTree}
+use Rattle.ca_types.specs.declared.value.Value.{Value}
+use Rattle.ca_types.specs.declared.value.Value.TheVariants.{U32}
+use Rattle.wcm.specs.declared.graph.CoreFunc.{CoreFunc}
+use Rattle.wcm.specs.Linking.{Lifted, Graph}
 use Rattle.wcm.specs.declared.script.Call.{Call}
 use Rattle.wcm.specs.declared.run.Label.{Label}
 use Rattle.wcm.specs.declared.run.Label.TheVariants.{Take, Enter, Return, Exit}
 use Rattle.wcm.specs.declared.run.End.{End}
 use Rattle.wcm.specs.declared.run.End.TheVariants.{Done, Fuel}
 
--- what a component is linked to: the functions of its core instance, and which of them its one function lifts
-pub record Graph : Type 0 where
-  pub funcs : List Function
-  pub lifted : ℕ
+-- the functions of the store when the core instances are made: those of each instance, in order
+abbrev pub store_of : List ModuleTree → List Function
+store_of instances = flat_map functions_of instances
 
--- a component's graph
-abbrev pub graph_of : Component → Graph
-graph_of c = record { funcs = functions_of c.core_module; lifted = c.core_func }
+-- the store's number of a core function
+abbrev pub address : List ModuleTree → CoreFunc → ℕ
+address instances f = length (store_of (take f.instance instances)) + f.func
+
+-- the function that is exported under a name
+abbrev pub func_named : Graph → List ℕ → Option Lifted
+func_named g name = option_map (λ e. e.func) (find (λ e. bytes_eq e.name name) g.exports)
 
 -- where a task is
 pub data TaskState : Type 0 where
-  -- it was made, with these arguments, and has not entered
-  Starting : List Value → TaskState
+  -- it was made, for this function with these arguments, and has not entered
+  Starting : Lifted → List Value → TaskState
   -- its core function runs
   Running : Stack → TaskState
   -- it has resolved
@@ -63,9 +70,13 @@ abbrev pub lifted : List ℕ → Option Value
 lifted [] = None
 lifted (word ∷ words) = Some (U32 word)
 
--- the core function at its start
-abbrev pub entered : Graph → List Value → Stack
-entered g values = record { locals = map lowered values; operands = []; rest = body_of (slice_get g.funcs g.lifted) }
+-- a core function at its start
+abbrev pub started : Option Function → List ℕ → Stack
+started f words = record { locals = first_locals (locals_of f) words; operands = []; rest = body_of f }
+
+-- the core function of a lift at its start
+abbrev pub entered : Graph → Lifted → List Value → Stack
+entered g f values = started (slice_get (store_of g.instances) (address g.instances f.core)) (map lowered values)
 
 -- what a step that costs a unit comes to
 abbrev pub charged : ℕ → (ℕ → Turn) → Turn
@@ -87,29 +98,30 @@ core_turn core.Stuck w number below = Stuck
 
 -- the next move of the chain's last task
 abbrev pub task_turn : Graph → World → ℕ → TaskState → List Task → Turn
-task_turn g w number (Starting values) below = Steps (Enter number ∷ []) (with_task w number (Running (entered g values)) below)
+task_turn g w number (Starting f values) below = Steps (Enter number ∷ []) (with_task w number (Running (entered g f values)) below)
 task_turn g w number (Running s) below = core_turn (next s) w number below
 task_turn g w number Returned below = Steps (Exit number ∷ []) (record { items = w.items; calls = w.calls; tasks = w.tasks; chain = below; units = w.units })
 
--- taking an item, with the others left
-abbrev pub taken : World → Call → List Call → Turn
-taken w call others = charged w.units (λ units.
+-- taking an item that calls this function, with the others left. A call of no function is in no script
+abbrev pub taken : World → Call → List Call → Option Lifted → Turn
+taken w call others None = Stuck
+taken w call others (Some f) = charged w.units (λ units.
     Steps (Take (w.calls + 1) (w.tasks + 1) call.name call.values ∷ [])
     (record {
       items = others;
       calls = w.calls + 1;
       tasks = w.tasks + 1;
-      chain = record { number = w.tasks + 1; state = Starting call.values } ∷ [];
+      chain = record { number = w.tasks + 1; state = Starting f call.values } ∷ [];
       units = units;
     }))
 
 -- at an empty chain the next item is taken; with none left the run is done
-abbrev pub idle_turn : World → List Call → Turn
-idle_turn w [] = Ends Done
-idle_turn w (call ∷ others) = taken w call others
+abbrev pub idle_turn : Graph → World → List Call → Turn
+idle_turn g w [] = Ends Done
+idle_turn g w (call ∷ others) = taken w call others (func_named g call.name)
 
 abbrev pub chain_turn : Graph → World → List Task → Turn
-chain_turn g w [] = idle_turn w w.items
+chain_turn g w [] = idle_turn g w w.items
 chain_turn g w (task ∷ below) = task_turn g w task.number task.state below
 
 abbrev pub turn : Graph → World → Turn

@@ -4,20 +4,27 @@ use Rattle.std.specs.List.{slice_get, AllByRecursion}
 use Rattle.wasm_machine.specs.declared.store.Function.{Function}
 use Rattle.wasm_machine.specs.Step.{AreWords}
 use Rattle.wasm_reader.specs.Expr.{instr_count}
-use Rattle.wasm_machine.specs.Store.{FunctionTyped, body_of}
+use Rattle.wasm_machine.specs.Store.{FunctionTyped}
 use Rattle.wcm.specs.declared.script.Call.{Call}
 use Rattle.wcm.specs.declared.run.Label.{Label}
 use Rattle.wcm.specs.declared.run.End.{End}
 use Rattle.wcm.specs.declared.run.End.TheVariants.{Done}
-use Rattle.wcm.specs.Run.{Graph, World, Steps, Ends, lowered, turn, first_world, Reaches, Runs}
+use Rattle.wcm.specs.Run.{World, Steps, Ends, store_of, address, func_named, lowered, turn, first_world, Reaches, Runs}
+use Rattle.wcm.specs.Linking.{Lifted, Graph}
 
--- A graph and calls of its function: the core function is there and typed, and each call's values lower to words of its
--- parameters.
-pub record Sound (g : Graph) (calls : List Call) : Type 0 where
+-- A call of a graph's function: an export has the name, its core function is there and typed, and the values lower to
+-- words of its parameters.
+pub record SoundCall (g : Graph) (call : Call) : Type 0 where
+  pub lifted : Lifted
+  pub named : func_named g call.name ≡ Some lifted
   pub function : Function
-  pub there : slice_get g.funcs g.lifted ≡ Some function
+  pub there : slice_get (store_of g.instances) (address g.instances lifted.core) ≡ Some function
   pub typed : FunctionTyped function
-  pub values : AllByRecursion (λ call. AreWords function.func_type.params (map lowered call.values)) calls
+  pub values : AreWords function.func_type.params (map lowered call.values)
+
+-- calls of a graph's functions
+abbrev pub Sound : Graph → List Call → Type 0
+Sound g calls = AllByRecursion (SoundCall g) calls
 
 -- A step comes next: with these lines, to this world, and no other. No end comes.
 pub record StepsOnce (g : Graph) (w : World) : Type 0 where
@@ -44,4 +51,4 @@ OneRun = (g : Graph) (w : World) (labels others : List Label) (end other : End) 
 
 -- A sound call that has more fuel than the core function has instructions has a run that is done.
 abbrev pub EachRunEnds : Type 0
-EachRunEnds = (g : Graph) (call : Call) (fuel : ℕ) → Sound g (call ∷ []) → instr_count (body_of (slice_get g.funcs g.lifted)) < fuel → (labels : List Label) × Runs g (first_world (call ∷ []) fuel) labels Done
+EachRunEnds = (g : Graph) (call : Call) (fuel : ℕ) → (sound : SoundCall g call) → instr_count sound.function.body < fuel → (labels : List Label) × Runs g (first_world (call ∷ []) fuel) labels Done

@@ -1,13 +1,14 @@
 -- Scripts, as far as they are read: one line `call NAME (n, ..)`, ended by a line feed or by the end of the file. NAME
--- is the component's export. A number has 1 to 10 decimal digits and is below 2^32.
-use Rattle.std.specs.Prelude.{◌≡◌, ◌<◌, ◌≤◌, ◌⊎◌, ◌++◌, IsTrue, length, ◌+◌, ◌-◌, ◌*◌, ◌^◌, ℕ, zero, suc, Bool, nat_lt, nat_le, ◌&&◌, ◌==◌, List, [], ◌∷◌, if◌then◌else◌, codes}
+-- is an export of the component. A number has 1 to 10 decimal digits and is below 2^32.
+use Rattle.std.specs.Prelude.{◌≡◌, ◌<◌, ◌≤◌, ◌⊎◌, ◌++◌, IsTrue, length, ◌+◌, ◌-◌, ◌*◌, ◌^◌, ℕ, zero, suc, Bool, nat_lt, nat_le, ◌&&◌, ◌==◌, List, [], ◌∷◌, if◌then◌else◌, codes, find, is_ok, Option, Some, None}
 use Rattle.std.specs.List.{AllByRecursion}
 use Rattle.ca_base.specs.Span.{Span}
-use Rattle.ca_base.specs.Grammar.{Grammar, Give, Refuse, Here, Left, Byte, Choose, ◌>>=◌, Matches, Refuses}
+use Rattle.ca_base.specs.Grammar.{Grammar, Give, Refuse, Here, Left, Byte, Choose, ◌>>=◌, Matches, Refuses, read}
 use Rattle.ca_base.specs.Items.{fixed}
 use Rattle.ca_base.specs.declared.refusal.Refusal.{Refusal}
-use Rattle.wcm.specs.declared.script.Value.{Value}
-use Rattle.wcm.specs.declared.script.Value.TheVariants.{U32}
+use Rattle.ca_types.specs.declared.value.Value.{Value}
+use Rattle.ca_types.specs.declared.value.Value.TheVariants.{U32}
+use Rattle.wcm.specs.Linking.{Exported}
 use Rattle.wcm.specs.declared.script.Call.{Call}
 use Rattle.wcm.specs.declared.script.ScriptWhy.{ScriptWhy}
 use Rattle.wcm.specs.declared.script.ScriptWhy.TheVariants as why
@@ -74,28 +75,53 @@ line_end = do
   count ← Left
   Choose (count == 0) (Give tt) line_feed
 
--- a call of the function of this name with so many values, at least one: behind the last one stands the parenthesis
-unfoldable pub script : List ℕ → ℕ → Grammar ScriptWhy Call
-script name count = do
+-- the arguments of a call, and the parenthesis behind them
+unfoldable pub arguments : ℕ → Grammar ScriptWhy (List Value)
+arguments count = Choose (count == 0) (do
+  _ ← fixed why.Value (codes ")")
+  Give []) (values count)
+
+-- how a call of the function of this name begins
+unfoldable pub beginning : List ℕ → Grammar ScriptWhy (Unit {0})
+beginning name = do
   _ ← fixed why.Form (codes "call ")
   _ ← fixed why.Form name
-  _ ← fixed why.Form (codes " (")
-  arguments ← values count
+  fixed why.Form (codes " (")
+
+-- a call of the function of this name with so many values
+unfoldable pub script : List ℕ → ℕ → Grammar ScriptWhy (List Value)
+script name count = do
+  _ ← beginning name
+  values ← arguments count
   _ ← line_end
-  Give (record { name = name; values = arguments })
+  Give values
 
 -- a whole file
 abbrev pub text : List ℕ → Span ScriptWhy
 text bytes = record { bytes = bytes; at = 0; past = why.Form }
 
--- the bytes are those of the script, for a component that exports a function of this name with so many parameters, of
--- which there is at least one
-abbrev pub IsScript : List ℕ → List ℕ → ℕ → Call → Type 0
-IsScript bytes name count call = (rest : Span ScriptWhy) × Matches (script name count) (text bytes) call rest
+-- whether the bytes begin a call of the function of this name
+abbrev pub begins : List ℕ → List ℕ → Bool
+begins bytes name = is_ok (read (beginning name) (text bytes))
 
--- the bytes are no script: they are refused at this place, for this reason
-abbrev pub IsNoScript : List ℕ → List ℕ → ℕ → Refusal ScriptWhy → Type 0
-IsNoScript bytes name count refusal = Refuses (script name count) (text bytes) refusal
+-- the first export a call of which the bytes begin
+abbrev pub called : List Exported → List ℕ → Option Exported
+called exports bytes = find (λ e. begins bytes e.name) exports
+
+-- the bytes are a call of the function of this name with these values, as many as it has parameters
+abbrev pub IsCallOf : List ℕ → List ℕ → ℕ → List Value → Type 0
+IsCallOf bytes name count values = (rest : Span ScriptWhy) × Matches (script name count) (text bytes) values rest
+
+-- the bytes are those of the script, for a component with these exports
+abbrev pub IsScript : List Exported → List ℕ → Call → Type 0
+IsScript exports bytes call =
+    (e : Exported) × (called exports bytes ≡ Some e) × (call.name ≡ e.name) × IsCallOf bytes e.name (length e.func.func_type.params) call.values
+
+-- the bytes are no script for them: they begin no call, or its values are refused
+abbrev pub IsNoScript : List Exported → List ℕ → Type 0
+IsNoScript exports bytes =
+    (called exports bytes ≡ None)
+    ⊎ ((e : Exported) × (called exports bytes ≡ Some e) × ((refusal : Refusal ScriptWhy) × Refuses (script e.name (length e.func.func_type.params)) (text bytes) refusal))
 
 -- the number of these digits, behind digits of a number
 abbrev pub number_of : ℕ → List ℕ → ℕ

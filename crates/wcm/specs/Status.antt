@@ -22,8 +22,7 @@ abbrev pub status_of : End → Status
 status_of ends.Done = Done
 status_of ends.Fuel = Fuel
 
--- a status that the program gives, as far as it goes: a run neither traps nor blocks, has enough fuel, and every
--- component that is read is linked
+-- a status that the program gives, as far as it goes: a run neither traps nor blocks
 abbrev pub IsGiven : Status → Type 0
 IsGiven Done = Unit {0}
 IsGiven Trap = ⊥
@@ -31,11 +30,11 @@ IsGiven Usage = Unit {0}
 IsGiven Refused = Unit {0}
 IsGiven ScriptRefused = Unit {0}
 IsGiven Deadlock = ⊥
-IsGiven Fuel = ⊥
+IsGiven Fuel = Unit {0}
 IsGiven ReadFault = Unit {0}
 IsGiven WriteFault = Unit {0}
 IsGiven Memory = Unit {0}
-IsGiven LinkRefused = ⊥
+IsGiven LinkRefused = Unit {0}
 
 -- the call went its way: no fault and no want of memory ended it
 abbrev pub IsFinal : Status → Type 0
@@ -59,8 +58,8 @@ IsAnswered Usage = ⊥
 IsAnswered Refused = Unit {0}
 IsAnswered ScriptRefused = Unit {0}
 IsAnswered Deadlock = ⊥
-IsAnswered Fuel = ⊥
+IsAnswered Fuel = Unit {0}
 IsAnswered ReadFault = ⊥
 IsAnswered WriteFault = ⊥
 IsAnswered Memory = ⊥
-IsAnswered LinkRefused = ⊥
+IsAnswered LinkRefused = Unit {0}

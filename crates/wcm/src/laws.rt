@@ -1,18 +1,18 @@
 //! What holds of the definitions alone.
 
-ghost use Rattle.wcm.specs.Laws.{OneComponent, OneScript, ScriptsAreLines};
+ghost use Rattle.wcm.specs.Laws.{OneLinking, OneScript, ScriptsAreLines};
 
-/// Bytes are exactly one component, or are refused at exactly one place for exactly one reason.
-pub fn one_component()
-    ensures { OneComponent }
+/// A component is linked to exactly one graph, or is refused at exactly one place for exactly one reason.
+pub fn one_linking()
+    ensures { OneLinking }
 {}
 
-/// Bytes are exactly one script, or are refused at exactly one place for exactly one reason.
+/// Bytes are exactly one call of a function, or are refused at exactly one place for exactly one reason.
 pub fn one_script()
     ensures { OneScript }
 {}
 
-/// A script is a line of a call of that function, with a number for each parameter.
+/// A call is a line with the function's name, and with a number for each parameter.
 pub fn scripts_are_lines()
     ensures { ScriptsAreLines }
 {}

@@ -6,12 +6,14 @@ mod answer;
 mod calling;
 #[cfg(test)]
 mod calling_tests;
-mod component;
-mod component_items;
-mod component_reader;
-#[cfg(test)]
-mod component_tests;
+mod graph;
 mod laws;
+mod link_fault;
+mod linking;
+mod name_text;
+mod refusals;
+#[cfg(test)]
+mod refusals_tests;
 mod run;
 mod run_laws;
 mod script;
@@ -19,6 +21,7 @@ mod script_items;
 mod script_reader;
 #[cfg(test)]
 mod script_tests;
+mod spaces;
 mod status;
 mod top;
 #[cfg(test)]

@@ -1,7 +1,7 @@
 //! Runs.
 
-use crate::script::Value;
-use ca_base::{Bytes, Seq};
+use ca_base::Name;
+use ca_types::{Value, Values};
 
 /// What a line of the trace tells of.
 #[derive(Debug, Drop)]
@@ -13,9 +13,9 @@ pub enum Label {
         /// The task's number.
         task: u32,
         /// The function's name, as written.
-        name: Bytes,
+        name: Name,
         /// The arguments.
-        values: Seq<Value>,
+        values: Values,
     },
     /// The task enters.
     Enter(u32),

@@ -1,27 +1,21 @@
-//! Scripts, as far as they are read: one call of the component's function.
+//! Scripts, as far as they are read: one call of a function that the component exports.
 
-use ca_base::{Bytes, Seq};
-
-/// A value.
-#[derive(Clone, Copy, Debug, PartialEq, Eq)]
-pub enum Value {
-    /// An unsigned 32-bit integer.
-    U32(u32),
-}
+use ca_base::Name;
+use ca_types::Values;
 
 /// A call of an exported function.
 #[derive(Debug, Drop)]
 pub struct Call {
     /// The function's name, as written.
-    pub name: Bytes,
+    pub name: Name,
     /// The arguments, in order.
-    pub values: Seq<Value>,
+    pub values: Values,
 }
 
 /// Why a script is refused.
 #[derive(Clone, Copy, Debug, PartialEq, Eq)]
 pub enum ScriptWhy {
-    /// The line is no call of the function.
+    /// The line is no call of an exported function.
     Form,
     /// The arguments are no values of the parameter types, or something stands behind them.
     Value,

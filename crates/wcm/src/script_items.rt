@@ -5,10 +5,11 @@ ghost use Rattle.ca_base.specs.Span.{Span};
 ghost use Rattle.ca_base.specs.Grammar.{Reads, MayRead};
 ghost use Rattle.wcm.specs.declared.script.ScriptWhy.{ScriptWhy};
 ghost use Rattle.wcm.specs.declared.script.ScriptWhy.TheVariants as why;
-ghost use Rattle.wcm.specs.Script.{is_digit, in_range, digits, number, value, values, line_end, script};
+ghost use Rattle.wcm.specs.Script.{is_digit, in_range, digits, number, value, values, arguments, beginning, line_end, script};
 
-use crate::script::{Call, ScriptWhy, Value};
+use crate::script::ScriptWhy;
 use ca_base::{ReadError, Refusal, Seq, Window};
+use ca_types::{Value, Values};
 use std::alloc::Global;
 
 /// How many more digits a number may have behind its first.
@@ -105,7 +106,7 @@ fn read_values(
     alloc: Global,
     count: usize,
     window: &mut Window<ScriptWhy>,
-) -> Result<Seq<Value>, ReadError<ScriptWhy>>
+) -> Result<Values, ReadError<ScriptWhy>>
     ensures { MayRead (λ values. values) (values count) window.old window.new result }
 {
     let mut values = Seq::new(alloc);
@@ -133,23 +134,47 @@ fn read_line_end(window: &mut Window<ScriptWhy>) -> Result<(), Refusal<ScriptWhy
     }
 }
 
+/// Reads the arguments of a call, and the parenthesis behind them.
+#[tactic(auto, unfolding(crate::specs::Script::arguments))]
+fn read_arguments(
+    alloc: Global,
+    count: usize,
+    window: &mut Window<ScriptWhy>,
+) -> Result<Values, ReadError<ScriptWhy>>
+    ensures { MayRead (λ values. values) (arguments count) window.old window.new result }
+{
+    if count == 0 {
+        window.fixed(b")", ScriptWhy::Value)?;
+        return Ok(Seq::new(alloc));
+    }
+    read_values(alloc, count, window)
+}
+
+/// Reads how a call of the function of this name begins.
+#[tactic(auto, unfolding(crate::specs::Script::beginning))]
+pub(crate) fn read_beginning(
+    name: &str,
+    window: &mut Window<ScriptWhy>,
+) -> Result<(), Refusal<ScriptWhy>>
+    ensures { Reads (λ _. tt) (beginning name.now) window.old window.new result }
+{
+    window.fixed(b"call ", ScriptWhy::Form)?;
+    window.fixed(name.as_bytes(), ScriptWhy::Form)?;
+    window.fixed(b" (", ScriptWhy::Form)
+}
+
 /// Reads a call of the function of this name with so many values.
 #[tactic(auto, unfolding(crate::specs::Script::script))]
 pub(crate) fn read_call(
     alloc: Global,
-    name: &[u8],
+    name: &str,
     count: usize,
     window: &mut Window<ScriptWhy>,
-) -> Result<Call, ReadError<ScriptWhy>>
-    ensures { MayRead (λ call. call) (script name.now count) window.old window.new result }
+) -> Result<Values, ReadError<ScriptWhy>>
+    ensures { MayRead (λ values. values) (script name.now count) window.old window.new result }
 {
-    window.fixed(b"call ", ScriptWhy::Form)?;
-    window.fixed(name, ScriptWhy::Form)?;
-    window.fixed(b" (", ScriptWhy::Form)?;
-    let values = read_values(alloc, count, window)?;
+    read_beginning(name, window)?;
+    let values = read_arguments(alloc, count, window)?;
     read_line_end(window)?;
-    Ok(Call {
-        name: Seq::from_vec(name.to_vec(alloc)?),
-        values,
-    })
+    Ok(values)
 }

@@ -4,7 +4,8 @@ ghost use Rattle.std.specs.Prelude.{◌≡◌, ◌≢◌, ◌<◌, ◌⊎◌, �
 ghost use Rattle.ca_base.specs.Causes.{Rose};
 ghost use Rattle.ca_base.specs.Bytes.{grown, TookFront};
 ghost use Rattle.wcm.specs.declared.answer.Answer.{Answer};
-ghost use Rattle.wcm.specs.Outcome.{Outcome, IsTold, NamesNoComponent, NamesNoScript, NamesCall};
+ghost use Rattle.wcm.specs.declared.run.End.TheVariants as end;
+ghost use Rattle.wcm.specs.Outcome.{Outcome, IsTold, NamesRefused, NamesLinkRefused, NamesNoScript, NamesRun};
 ghost use Rattle.wcm.specs.Status.{IsGiven, IsFinal};
 ghost use Rattle.wcm.specs.Words.{plain};
 ghost use Rattle.wcm.specs.Written.{WroteAll, WroteFront};
@@ -61,13 +62,17 @@ pub fn run_words<F: Files, K: Sink>(
 
     // Where both files are told, and no fault and no want of memory ended the call: what each answer tells of the files.
     ensures refused { IsTold (map string_bytes words.now) (F.held files.old) → IsFinal result
-        → ((result ≡ Status.Refused) ↔ NamesNoComponent (map string_bytes words.now) (F.held files.old)) }
+        → ((result ≡ Status.Refused) ↔ NamesRefused (map string_bytes words.now) (F.held files.old)) }
+    ensures link_refused { IsTold (map string_bytes words.now) (F.held files.old) → IsFinal result
+        → ((result ≡ Status.LinkRefused) ↔ NamesLinkRefused (map string_bytes words.now) (F.held files.old)) }
     ensures script_refused { IsTold (map string_bytes words.now) (F.held files.old) → IsFinal result
         → ((result ≡ Status.ScriptRefused) ↔ NamesNoScript (map string_bytes words.now) (F.held files.old)) }
     ensures done { IsTold (map string_bytes words.now) (F.held files.old) → IsFinal result
-        → ((result ≡ Status.Done) ↔ NamesCall (map string_bytes words.now) (F.held files.old)) }
+        → ((result ≡ Status.Done) ↔ NamesRun (map string_bytes words.now) (F.held files.old) end.Done) }
+    ensures fuel { IsTold (map string_bytes words.now) (F.held files.old) → IsFinal result
+        → ((result ≡ Status.Fuel) ↔ NamesRun (map string_bytes words.now) (F.held files.old) end.Fuel) }
 
-    // No run traps, blocks or is short of fuel, and every component that is read is linked.
+    // No run traps or blocks.
     ensures given { IsGiven result }
 
     // A read fault, only where the count of the files' faults rose; wherever it grew, unless a write fault or want of
@@ -79,8 +84,8 @@ pub fn run_words<F: Files, K: Sink>(
         × (K.taken err.new ≡ grown (K.taken err.old) (codes "read fault" ++ 10 ∷ [])) }
 
     // A write fault, only where the count of a sink's faults rose; wherever it grew, unless want of memory took its
-    // place. Each output took a front of the outcome's text; or a file was not read, the output took nothing, and the
-    // error output a front of the line.
+    // place. Each output took a front of the outcome's text; or a file was not read and the count of the files' faults rose,
+    // the output took nothing, and the error output a front of the line.
     ensures write_fault { result ≡ Status.WriteFault
         → Rose (K.faults out.old) (K.faults out.new) ⊎ Rose (K.faults err.old) (K.faults err.new) }
     ensures write_fault_is_told { (K.faults out.old < K.faults out.new) ⊎ (K.faults err.old < K.faults err.new)
@@ -88,7 +93,8 @@ pub fn run_words<F: Files, K: Sink>(
     ensures write_fault_front { IsTold (map string_bytes words.now) (F.held files.old) → result ≡ Status.WriteFault
         → ((a : Answer) × Outcome (map string_bytes words.now) (F.held files.old) a
         × WroteFront a (K.taken out.old) (K.taken out.new) (K.taken err.old) (K.taken err.new))
-        ⊎ ((K.taken out.new ≡ K.taken out.old)
+        ⊎ (Rose (F.faults files.old) (F.faults files.new)
+        × (K.taken out.new ≡ K.taken out.old)
         × TookFront (K.taken err.old) (K.taken err.new) (codes "read fault" ++ 10 ∷ [])) }
 
     // After want of memory the output took nothing, and the error output a front of the line.

@@ -3,11 +3,12 @@
 ghost use Rattle.std.specs.Prelude.{◌≡◌, ◌++◌, OnOk, IfOk, codes};
 ghost use Rattle.std.specs.Fmt.{decimal};
 ghost use Rattle.wcm.specs.declared.run.Label.TheVariants.{Take};
-ghost use Rattle.wcm.specs.Text.{value_text, values_text, task_text, result_text, line, label_text, end_text, trace_text};
+ghost use Rattle.wcm.specs.Text.{name_text, value_text, values_text, task_text, result_text, line, label_text, end_text, trace_text};
 
+use crate::name_text::push_name;
 use crate::run::{End, Label};
-use crate::script::Value;
-use ca_base::{Bytes, Memory, Seq};
+use ca_base::{Bytes, Memory, Name, Seq};
+use ca_types::Value;
 use std::alloc::Global;
 
 /// Appends a number in decimal digits.
@@ -62,10 +63,10 @@ fn push_result(alloc: Global, value: Option<Value>, text: &mut Vec<u8>) -> Resul
 }
 
 /// Appends a call, a function's name and its arguments in parentheses, and ends the line.
-fn push_call(alloc: Global, name: &[u8], values: &[Value], text: &mut Vec<u8>) -> Result<(), Memory>
-    ensures { OnOk result (text.new.items ≡ text.old.items ++ line (name.now ++ codes " (" ++ values_text values.now ++ codes ")")) }
+fn push_call(alloc: Global, name: &Name, values: &[Value], text: &mut Vec<u8>) -> Result<(), Memory>
+    ensures { OnOk result (text.new.items ≡ text.old.items ++ line (name_text name.now ++ codes " (" ++ values_text values.now ++ codes ")")) }
 {
-    text.extend_from_slice(name)?;
+    push_name(name, text)?;
     text.extend_from_slice(b" (")?;
     push_values(alloc, values, text)?;
     text.extend_from_slice(b")\n")?;
@@ -77,7 +78,7 @@ fn push_take(
     alloc: Global,
     call: u32,
     task: u32,
-    name: &[u8],
+    name: &Name,
     values: &[Value],
     text: &mut Vec<u8>,
 ) -> Result<(), Memory>
@@ -101,14 +102,7 @@ fn push_label(alloc: Global, label: &Label, text: &mut Vec<u8>) -> Result<(), Me
             task,
             name,
             values,
-        } => push_take(
-            alloc,
-            *call,
-            *task,
-            name.as_slice(),
-            values.as_slice(),
-            text,
-        ),
+        } => push_take(alloc, *call, *task, name, values.as_slice(), text),
         Label::Enter(task) => {
             text.extend_from_slice(b"enter ")?;
             push_task(alloc, *task, text)?;

@@ -4,7 +4,7 @@ use Rattle.std.specs.Option.{MatchOption}
 use Rattle.wcm.specs.declared.answer.Answer.{Answer}
 use Rattle.wcm.specs.Outcome.{usage_answer, HeldAnswers}
 use Rattle.wcm.proofs.Taken.{grown_nil}
-use Rattle.wcm.proofs.Rows.{row_refused, row_script_refused, row_done}
+use Rattle.wcm.proofs.Rows.{row_refused, row_link_refused, row_script_refused, row_done, row_fuel}
 use Rattle.wcm.proofs.top.run_words.Goals as goal
 
 pub returns-in_default-clause-headline : goal.returns-in_default-clause-headline
@@ -18,8 +18,14 @@ returns-in_default-clause-headline g c = λ told files out err memory. (
 pub returns-in-Ok-write_answer-clause-refused : goal.returns-in-Ok-write_answer-clause-refused
 returns-in-Ok-write_answer-clause-refused g c = λ told final. row_refused _ (g.F.Files.held c.args.files.now) _ _ c.in-Ok.answer c.in-Some.ensures c.in-Ok.ensures.files told
 
+pub returns-in-Ok-write_answer-clause-link_refused : goal.returns-in-Ok-write_answer-clause-link_refused
+returns-in-Ok-write_answer-clause-link_refused g c = λ told final. row_link_refused _ (g.F.Files.held c.args.files.now) _ _ c.in-Ok.answer c.in-Some.ensures c.in-Ok.ensures.files told
+
 pub returns-in-Ok-write_answer-clause-script_refused : goal.returns-in-Ok-write_answer-clause-script_refused
 returns-in-Ok-write_answer-clause-script_refused g c = λ told final. row_script_refused _ (g.F.Files.held c.args.files.now) _ _ c.in-Ok.answer c.in-Some.ensures c.in-Ok.ensures.files told
 
 pub returns-in-Ok-write_answer-clause-done : goal.returns-in-Ok-write_answer-clause-done
-returns-in-Ok-write_answer-clause-done g c = λ told final. row_done _ (g.F.Files.held c.args.files.now) _ _ c.in-Ok.answer c.in-Some.ensures c.in-Ok.ensures.files c.in-Ok.ensures.status told
+returns-in-Ok-write_answer-clause-done g c = λ told final. row_done _ (g.F.Files.held c.args.files.now) _ _ c.in-Ok.answer c.in-Some.ensures c.in-Ok.ensures.files told
+
+pub returns-in-Ok-write_answer-clause-fuel : goal.returns-in-Ok-write_answer-clause-fuel
+returns-in-Ok-write_answer-clause-fuel g c = λ told final. row_fuel _ (g.F.Files.held c.args.files.now) _ _ c.in-Ok.answer c.in-Some.ensures c.in-Ok.ensures.files told

@@ -1,5 +1,5 @@
 use Rattle.std.proofs.Common.{arith, ap, ◌∙◌}
-use Rattle.wcm.specs.declared.script.Value.TheVariants.{U32}
+use Rattle.ca_types.specs.declared.value.Value.TheVariants.{U32}
 use Rattle.wcm.proofs.Texts.{written_first, written_next}
 use Rattle.wcm.proofs.trace_text.push_values.Goals as goal
 use Rattle.wcm.proofs.trace_text.push_values.Goals.{then-index-gt0+in_ok-extend_from_slice, else-index-gt0}

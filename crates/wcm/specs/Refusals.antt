@@ -1,0 +1,75 @@
+-- The lines that tell of a refusal: where, and why. A reason stands by its name, with its argument in parentheses. A byte
+-- is two lower-case hexadecimal digits, and a name stands as in a trace.
+use Rattle.std.specs.Prelude.{ℕ, List, [], ◌∷◌, ◌++◌, codes}
+use Rattle.std.specs.Fmt.{decimal}
+use Rattle.hex.specs.Hex.{encode_lower}
+use Rattle.ca_base.specs.declared.refusal.Refusal.{Refusal}
+use Rattle.wasm_reader.specs.declared.fault.ModuleWhy.{ModuleWhy}
+use Rattle.wasm_reader.specs.declared.fault.ModuleWhy.TheVariants as of_module
+use Rattle.wasm_valid.specs.declared.fault.ValidWhy.{ValidWhy}
+use Rattle.wasm_valid.specs.declared.fault.ValidWhy.TheVariants as valid
+use Rattle.comp_reader.specs.declared.fault.ComponentWhy.{ComponentWhy}
+use Rattle.comp_reader.specs.declared.fault.ComponentWhy.TheVariants.{Truncated, Leb, Utf8, Magic, SectionSize, Unsupported, Float, Limit, Module, Invalid}
+use Rattle.wcm.specs.declared.link_fault.LinkWhy.{LinkWhy}
+use Rattle.wcm.specs.declared.link_fault.LinkWhy.TheVariants as link
+use Rattle.wcm.specs.declared.link_fault.LinkFault.{LinkFault}
+use Rattle.wcm.specs.Text.{line, name_text}
+
+-- a reason's name with its argument
+abbrev pub with_argument : List ℕ → List ℕ → List ℕ
+with_argument name argument = name ++ codes "(" ++ argument ++ codes ")"
+
+abbrev pub byte_text : ℕ → List ℕ
+byte_text b = encode_lower (b ∷ [])
+
+-- why a core module is refused
+abbrev pub module_why_text : ModuleWhy → List ℕ
+module_why_text of_module.Truncated = codes "Truncated"
+module_why_text of_module.Leb = codes "Leb"
+module_why_text of_module.Magic = codes "Magic"
+module_why_text of_module.SectionOrder = codes "SectionOrder"
+module_why_text of_module.SectionSize = codes "SectionSize"
+module_why_text of_module.Utf8 = codes "Utf8"
+module_why_text of_module.Float = codes "Float"
+module_why_text (of_module.Unsupported b) = with_argument (codes "Unsupported") (byte_text b)
+module_why_text of_module.Count = codes "Count"
+module_why_text of_module.Limit = codes "Limit"
+
+-- why a core module is not valid
+abbrev pub valid_why_text : ValidWhy → List ℕ
+valid_why_text valid.Index = codes "Index"
+valid_why_text valid.Stack = codes "Stack"
+valid_why_text valid.Typing = codes "Typing"
+valid_why_text valid.Name = codes "Name"
+
+-- why a component is refused
+abbrev pub component_why_text : ComponentWhy → List ℕ
+component_why_text Truncated = codes "Truncated"
+component_why_text Leb = codes "Leb"
+component_why_text Utf8 = codes "Utf8"
+component_why_text Magic = codes "Magic"
+component_why_text SectionSize = codes "SectionSize"
+component_why_text (Unsupported b) = with_argument (codes "Unsupported") (byte_text b)
+component_why_text Float = codes "Float"
+component_why_text Limit = codes "Limit"
+component_why_text (Module why) = with_argument (codes "Module") (module_why_text why)
+component_why_text (Invalid why) = with_argument (codes "Invalid") (valid_why_text why)
+
+-- why a component is not linked
+abbrev pub link_why_text : LinkWhy → List ℕ
+link_why_text link.Index = codes "Index"
+link_why_text (link.Missing name) = with_argument (codes "Missing") (name_text name)
+link_why_text link.Typing = codes "Typing"
+link_why_text link.Canon = codes "Canon"
+link_why_text link.Limit = codes "Limit"
+
+-- a place and a reason
+abbrev pub at_place : ℕ → List ℕ → List ℕ
+at_place place why = codes " at " ++ decimal place ++ codes ": " ++ why
+
+-- the line for a component that is refused, and for one that is not linked
+abbrev pub refused_line : Refusal ComponentWhy → List ℕ
+refused_line refusal = line (codes "refused" ++ at_place refusal.place (component_why_text refusal.why))
+
+abbrev pub link_refused_line : LinkFault → List ℕ
+link_refused_line fault = line (codes "link refused" ++ at_place fault.place (link_why_text fault.why))

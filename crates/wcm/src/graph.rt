@@ -1,0 +1,58 @@
+//! What a component is linked to.
+
+use ca_base::Name;
+use comp_reader::FuncType;
+use std::marker::Model;
+use wasm_valid::Valid;
+
+/// A core function of a core instance.
+#[derive(Clone, Copy, Debug, PartialEq, Eq)]
+pub struct CoreFunc {
+    /// The number of the core instance, in order of making.
+    pub instance: usize,
+    /// The index of the function in the instance's module.
+    pub func: u32,
+}
+
+/// A function that lifts a core function (Component Model, CanonicalABI.md, `canon lift`).
+#[derive(Clone, Copy, Debug)]
+pub struct Lifted<'a> {
+    /// The core function.
+    pub core: CoreFunc,
+    /// Its type, as it is written.
+    pub func_type: &'a FuncType,
+}
+
+/// A function that a component exports.
+#[derive(Clone, Copy, Debug)]
+pub struct Exported<'a> {
+    /// The name.
+    pub name: &'a Name,
+    /// The function.
+    pub func: Lifted<'a>,
+}
+
+/// A component that is linked: its core instances, and the functions that it exports.
+#[derive(Drop)]
+pub struct Graph<'a> {
+    /// The module of each core instance, in order of making.
+    pub instances: Vec<&'a Valid>,
+    /// The exports, in order.
+    pub exports: Vec<Exported<'a>>,
+}
+
+impl<'a> Model for Graph<'a> {
+    ghost use Rattle.std.specs.Prelude.{map};
+    ghost use Rattle.wasm_reader.specs.contracts.module.ModuleTree as tree;
+    ghost use Rattle.ca_types.specs.contracts.types.FuncType as func_type;
+    ghost use Rattle.wcm.specs.contracts.graph.CoreFunc as core_func;
+    ghost use Rattle.wcm.specs.Linking as linking;
+    ghost use Rattle.wcm.specs.Plain.{plain_func};
+    ghost use Rattle.std.specs.Coded.{codes};
+
+    ghost Value = { linking.Graph };
+
+    ghost coded = { Prim.hlevel (codes, tree.the_row.coded, core_func.the_row.coded, func_type.the_row.coded) };
+
+    ghost view = { λ g. record { instances = map (λ r. r.now) g.instances.items; exports = map (λ e. record { name = e.name.now; func = record { core = e.func.core; func_type = plain_func e.func.func_type.now } }) g.exports.items } };
+}

@@ -1,0 +1,38 @@
+//! The text of a name.
+
+ghost use Rattle.std.specs.Prelude.{◌≡◌, ◌++◌, OnOk};
+ghost use Rattle.std.specs.Char.Escape.{escape_unicode};
+ghost use Rattle.wcm.specs.Text.{char_text, name_text};
+
+use ca_base::{Memory, Name};
+
+/// Appends a character's code, as `\u{e9}`.
+fn push_code(c: char, text: &mut Vec<u8>) -> Result<(), Memory>
+    ensures { OnOk result (text.new.items ≡ text.old.items ++ escape_unicode c) }
+{
+    for letter in c.escape_unicode() {
+        text.push(letter as u8)?;
+    }
+    Ok(())
+}
+
+/// Appends a character: as it is where it is a visible one of ASCII but the backslash, and else its code.
+fn push_char(c: char, text: &mut Vec<u8>) -> Result<(), Memory>
+    ensures { OnOk result (text.new.items ≡ text.old.items ++ char_text c) }
+{
+    if '!' <= c && c <= '~' && c != '\\' {
+        text.push(c as u8)?;
+        return Ok(());
+    }
+    push_code(c, text)
+}
+
+/// Appends a name, character by character.
+pub fn push_name(name: &Name, text: &mut Vec<u8>) -> Result<(), Memory>
+    ensures { OnOk result (text.new.items ≡ text.old.items ++ name_text name.now) }
+{
+    for c in name.as_str().chars() {
+        push_char(c, text)?;
+    }
+    Ok(())
+}
