@@ -169,6 +169,26 @@ fn sections_have_no_order(rt: HostRuntime) {
 }
 
 #[test]
+fn core_modules_have_places(rt: HostRuntime) -> Result<(), Fail> {
+    let tail = [
+        0x01, 0x08, 0x00, 0x61, 0x73, 0x6D, 0x01, 0x00, 0x00, 0x00, // 8: an empty core module
+        0x00, 0x01, 0x00, // 18: a custom section
+        0x01, 0x88, 0x00, 0x00, 0x61, 0x73, 0x6D, 0x01, 0x00, 0x00, 0x00, // 21: another one
+    ];
+    let bytes = with_preamble(rt.alloc(), &tail)?;
+    let read = read_component(rt.alloc(), &bytes).expect(&rt, "a component");
+    assert_eq!(rt; read.places.as_slice(), [10, 24].as_slice());
+    match read.items.as_slice() {
+        [Item::CoreModule(first), Item::CoreModule(second)] => {
+            assert!(rt; first.tree().funcs.is_empty());
+            assert!(rt; second.tree().funcs.is_empty());
+        }
+        _ => assert!(rt; false, "two core modules"),
+    }
+    Ok(())
+}
+
+#[test]
 fn value_types_may_be_indices(rt: HostRuntime) -> Result<(), Fail> {
     let section = b"\x07\x0D\x01\x40\x01\x01a\x80\x00\x00\xFF\xFF\xFF\xFF\x0F";
     let bytes = with_preamble(rt.alloc(), section)?;
