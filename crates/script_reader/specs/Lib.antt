@@ -1,0 +1,4 @@
+pub mod Script
+pub mod Errors
+pub mod Syntax
+pub mod Laws

@@ -1,0 +1,146 @@
+-- How a script is written: which texts stand for a number, for arguments, for a call, for an amount of fuel, and for a
+-- whole script. `specs/Script` computes what these say; the laws in `specs/Laws` say that both are the same.
+use Rattle.std.specs.Prelude.{◌≡◌, ◌≢◌, ◌≤◌, ◌<◌, ◌^◌, ◌⊎◌, IsTrue, ℕ, false, List, [], ◌∷◌, ◌++◌, length, codes, Some, None}
+use Rattle.std.specs.List.{join_with_byte, AllByRecursion}
+use Rattle.std.specs.Str.{IsUtf8}
+use Rattle.ca_types.specs.declared.types.ValType.{ValType}
+use Rattle.ca_types.specs.declared.types.ValType.TheVariants as val_type
+use Rattle.ca_types.specs.declared.value.Value.{Value}
+use Rattle.ca_types.specs.declared.value.Value.TheVariants as value
+use Rattle.ca_types.specs.declared.exports.Export.{Export}
+use Rattle.script_reader.specs.declared.script.Call.{Call}
+use Rattle.script_reader.specs.declared.script.Item.{Item}
+use Rattle.script_reader.specs.declared.script.Item.TheVariants as item
+use Rattle.script_reader.specs.declared.fault.ScriptWhy.{ScriptWhy}
+use Rattle.script_reader.specs.declared.fault.ScriptWhy.TheVariants as why
+use Rattle.script_reader.specs.Script.{is_blank, is_digit, ends_name, number, export_named, param_types, size_limit, fuel_limit, default_fuel, Script}
+
+-- spaces and tabs, or nothing
+abbrev pub AreBlanks : List ℕ → Type 0
+AreBlanks text = AllByRecursion (λ b. IsTrue (is_blank b)) text
+
+-- one digit or more, of this number
+abbrev pub IsNumber : List ℕ → ℕ → Type 0
+IsNumber text n = (1 ≤ length text) × AllByRecursion (λ b. IsTrue (is_digit b)) text × (n ≡ number text)
+
+-- a value of a type
+abbrev pub IsValue : ValType → Value → List ℕ → Type 0
+IsValue val_type.U32 (value.U32 n) text = IsNumber text n × (n < 2 ^ 32)
+
+-- a value with blanks around it
+abbrev pub IsSpacedValue : ValType → Value → List ℕ → Type 0
+IsSpacedValue t v text =
+    (before : List ℕ) × (written : List ℕ) × (behind : List ℕ) × (text ≡ before ++ written ++ behind)
+    × AreBlanks before × IsValue t v written × AreBlanks behind
+
+-- values of these types, with a comma between two
+abbrev pub AreValues : List ValType → List Value → List ℕ → Type 0
+AreValues [] [] text = AreBlanks text
+AreValues [] (v ∷ values) text = ⊥
+AreValues (t ∷ types) [] text = ⊥
+AreValues (t ∷ []) (v ∷ []) text = IsSpacedValue t v text
+AreValues (t ∷ []) (v ∷ w ∷ values) text = ⊥
+AreValues (t ∷ u ∷ types) (v ∷ []) text = ⊥
+AreValues (t ∷ u ∷ types) (v ∷ w ∷ values) text =
+    (first : List ℕ) × (others : List ℕ) × (text ≡ first ++ codes "," ++ others) × IsSpacedValue t v first × AreValues (u ∷ types) (w ∷ values) others
+
+-- values of these types, and a closing parenthesis behind them
+abbrev pub AreArguments : List ValType → List Value → List ℕ → Type 0
+AreArguments types values text = (written : List ℕ) × (text ≡ written ++ codes ")") × AreValues types values written
+
+-- `NAME (v, ..)`: a name without blanks and opening parentheses, which is an export's, and its arguments
+abbrev pub IsCallOf : List Export → List ℕ → Call → Type 0
+IsCallOf exports text call =
+    (blanks : List ℕ) × (written : List ℕ) × (e : Export)
+    × (text ≡ call.name ++ blanks ++ codes "(" ++ written)
+    × AllByRecursion (λ b. ends_name b ≡ false) call.name × AreBlanks blanks
+    × (export_named exports call.name ≡ Some e) × AreArguments (param_types e) call.values written
+
+-- `N`: a number from 1 to the limit
+abbrev pub IsFuelOf : List ℕ → ℕ → Type 0
+IsFuelOf text n = IsNumber text n × (1 ≤ n) × (n ≤ fuel_limit)
+
+-- a text without blanks at its ends
+abbrev pub IsTrimmed : List ℕ → Type 0
+IsTrimmed text =
+    ((b : ℕ) (more : List ℕ) → text ≡ b ∷ more → is_blank b ≡ false)
+    × ((b : ℕ) (more : List ℕ) → text ≡ more ++ b ∷ [] → is_blank b ≡ false)
+
+-- one carriage return behind a line, or none where the line does not end in one
+abbrev pub EndsLine : List ℕ → List ℕ → Type 0
+EndsLine line ending = (ending ≡ 13 ∷ []) ⊎ ((ending ≡ []) × ((more : List ℕ) → line ≡ more ++ 13 ∷ [] → ⊥))
+
+-- a line with this text: blanks before it and behind it, and then at most one carriage return
+abbrev pub IsLineOf : List ℕ → List ℕ → Type 0
+IsLineOf text line =
+    (before : List ℕ) × (behind : List ℕ) × (ending : List ℕ)
+    × (line ≡ (before ++ text ++ behind) ++ ending)
+    × AreBlanks before × IsTrimmed text × AreBlanks behind × EndsLine (before ++ text ++ behind) ending
+
+-- the lines of a text: a line feed between two, and none in a line
+abbrev pub AreLinesOf : List ℕ → List (List ℕ) → Type 0
+AreLinesOf bytes lines =
+    (bytes ≡ join_with_byte 10 lines) × (1 ≤ length lines)
+    × AllByRecursion (λ line. AllByRecursion (λ b. b ≢ 10) line) lines
+
+-- each text is that of its line
+abbrev pub ArePaired : (List ℕ → List ℕ → Type 0) → List (List ℕ) → List (List ℕ) → Type 0
+ArePaired R [] [] = Unit {0}
+ArePaired R [] (line ∷ lines) = ⊥
+ArePaired R (text ∷ texts) [] = ⊥
+ArePaired R (text ∷ texts) (line ∷ lines) = R text line × ArePaired R texts lines
+
+-- nothing, or a comment
+abbrev pub SaysNothing : List ℕ → Type 0
+SaysNothing text = (text ≡ []) ⊎ ((comment : List ℕ) × (text ≡ codes "#" ++ comment))
+
+-- texts of lines that call these functions, one after the other, with texts among them that say nothing
+abbrev pub SayItems : List Export → List (List ℕ) → List Item → Type 0
+SayItems exports [] items = items ≡ []
+SayItems exports (text ∷ texts) items =
+    (SaysNothing text × SayItems exports texts items)
+    ⊎ ((written : List ℕ) × (call : Call) × (others : List Item)
+    × (text ≡ codes "call " ++ written) × IsCallOf exports written call
+    × (items ≡ item.Call call ∷ others) × SayItems exports texts others)
+
+-- texts of lines that say a script: its calls alone, or an amount of fuel before them
+abbrev pub SayScript : List Export → List (List ℕ) → Script → Type 0
+SayScript exports texts s =
+    ((s.fuel ≡ default_fuel) × SayItems exports texts s.items)
+    ⊎ ((skipped : List (List ℕ)) × (written : List ℕ) × (others : List (List ℕ))
+    × (texts ≡ skipped ++ (codes "fuel " ++ written) ∷ others)
+    × AllByRecursion SaysNothing skipped × IsFuelOf written s.fuel × SayItems exports others s.items)
+
+-- a whole script: not too long, UTF-8, and its lines have the texts of a script
+abbrev pub IsScriptText : List Export → List ℕ → Script → Type 0
+IsScriptText exports bytes s =
+    (length bytes ≤ size_limit) × IsUtf8 bytes
+    × ((lines : List (List ℕ)) × (texts : List (List ℕ))
+    × AreLinesOf bytes lines × ArePaired IsLineOf texts lines × SayScript exports texts s)
+
+-- a name, and behind it blanks and an opening parenthesis
+abbrev pub HasName : List ℕ → List ℕ → List ℕ → Type 0
+HasName text name written =
+    (blanks : List ℕ) × (text ≡ name ++ blanks ++ codes "(" ++ written)
+    × AllByRecursion (λ b. ends_name b ≡ false) name × AreBlanks blanks
+
+-- Why a text behind the word `call` is refused: `Form` where it has no name with a parenthesis, `Export` where no function
+-- is exported under the name, `Value` where what stands behind the parenthesis is no arguments of the function.
+abbrev pub IsNoCallOf : List Export → List ℕ → ScriptWhy → Type 0
+IsNoCallOf exports text why.Form = (name : List ℕ) (written : List ℕ) → HasName text name written → ⊥
+IsNoCallOf exports text why.Export = (name : List ℕ) × (written : List ℕ) × HasName text name written × (export_named exports name ≡ None)
+IsNoCallOf exports text why.Value =
+    (name : List ℕ) × (written : List ℕ) × (e : Export) × HasName text name written × (export_named exports name ≡ Some e)
+    × ((values : List Value) → AreArguments (param_types e) values written → ⊥)
+IsNoCallOf exports text why.Size = ⊥
+IsNoCallOf exports text why.Utf8 = ⊥
+IsNoCallOf exports text why.Fuel = ⊥
+
+-- Why a text behind the word `fuel` is refused: `Form` where it is no number, `Fuel` where the number is out of range.
+abbrev pub IsNoFuelOf : List ℕ → ScriptWhy → Type 0
+IsNoFuelOf text why.Form = (n : ℕ) → IsNumber text n → ⊥
+IsNoFuelOf text why.Fuel = (n : ℕ) × IsNumber text n × ((n ≡ 0) ⊎ (fuel_limit < n))
+IsNoFuelOf text why.Size = ⊥
+IsNoFuelOf text why.Utf8 = ⊥
+IsNoFuelOf text why.Export = ⊥
+IsNoFuelOf text why.Value = ⊥

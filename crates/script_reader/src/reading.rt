@@ -1,0 +1,72 @@
+//! The reader of scripts.
+
+ghost use Rattle.std.specs.Prelude.{◌≡◌, Ok, Err, IfOk, IfErr, MatchResult};
+ghost use Rattle.std.specs.List.{AllByRecursion};
+ghost use Rattle.script_reader.specs.declared.fault.ScriptError.TheVariants.{Memory};
+ghost use Rattle.script_reader.specs.Errors.{IfFault};
+ghost use Rattle.script_reader.specs.Script as scripts;
+ghost use Rattle.script_reader.specs.Script.{IsScript, IsScriptRefused, CallsExport};
+
+use crate::draft::Draft;
+use crate::fault::{LineError, ScriptError, ScriptFault, ScriptWhy};
+use crate::lines::Lines;
+use crate::script::Script;
+use crate::text::{line_at, line_text};
+use ca_types::Exports;
+use std::alloc::Global;
+
+/// How many bytes a script has at most: 1 MiB.
+const SIZE_LIMIT: usize = 1024 * 1024;
+
+/// What the lines of a text say, or the first fault of theirs.
+#[tactic(auto, using(crate::proofs::Splits::few_lines))]
+fn read_lines(alloc: Global, bytes: &[u8], exports: &Exports) -> Result<Draft, ScriptError>
+    ensures { MatchResult result (λ s. scripts.add_lines exports.now scripts.empty_draft 1 (scripts.lines bytes.now) ≡ Ok s) (λ e. IfFault e (λ fault. scripts.add_lines exports.now scripts.empty_draft 1 (scripts.lines bytes.now) ≡ Err fault)) }
+{
+    let mut lines = Lines::of(bytes);
+    let mut draft = Draft::new(alloc);
+    let mut number = 0;
+    while let Some(line) = lines.next() {
+        number += 1;
+        match draft.add_line(alloc, exports, line_text(line)) {
+            Ok(()) => (),
+            Err(LineError::Memory) => return Err(ScriptError::Memory),
+            Err(LineError::Why(why)) => {
+                return Err(ScriptError::Fault(ScriptFault { line: number, why }));
+            }
+        }
+    }
+    Ok(draft)
+}
+
+/// Reads a script for a component with these exports.
+///
+/// It answers what the script says, or the first line that is refused and why: a text of more than 1 MiB (`Size`, at line
+/// 0), one that is not UTF-8 (`Utf8`, at the line of the first byte that is not), and else line by line the first fault
+/// in the order of `ScriptWhy`. `Memory` is want of memory.
+#[tactic(auto, using(crate::proofs::Scripts::is_script, crate::proofs::Scripts::is_refused, crate::proofs::Called::scripts_call_exports))]
+pub fn read_script(alloc: Global, bytes: &[u8], exports: &Exports) -> Result<Script, ScriptError>
+    // What is read is that script.
+    ensures ok { IfOk result (λ s. IsScript exports.now bytes.now s) }
+    // The text of a script isn't refused.
+    ensures only { (s : scripts.Script) → IsScript exports.now bytes.now s → IfErr result (λ e. e ≡ Memory) }
+    // What is refused is no script, and this is the line and the reason.
+    ensures refused { IfErr result (λ e. IfFault e (λ fault. IsScriptRefused exports.now bytes.now fault)) }
+    // Each item calls an export, with values of its parameters' types.
+    ensures calls { IfOk result (λ s. AllByRecursion (CallsExport exports.now) s.items) }
+{
+    if bytes.len() > SIZE_LIMIT {
+        return Err(ScriptError::Fault(ScriptFault {
+            line: 0,
+            why: ScriptWhy::Size,
+        }));
+    }
+    if let Err(error) = simdutf8::compat::from_utf8(bytes) {
+        return Err(ScriptError::Fault(ScriptFault {
+            line: line_at(error.valid_up_to(), bytes),
+            why: ScriptWhy::Utf8,
+        }));
+    }
+    let draft = read_lines(alloc, bytes, exports)?;
+    Ok(draft.into_script())
+}
