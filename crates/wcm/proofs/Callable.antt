@@ -1,8 +1,7 @@
 -- The exports of a linked component can be called: what is linked later leaves what an earlier lift stands on.
-use Rattle.std.proofs.Common.{◌≡◌, ℕ, ◌+◌, zero, suc, List, [], ◌∷◌, ◌++◌, refl, sym, ◌∙◌, ap, subst, Bool, true, false, cond, nat_lt, Option, Some, None, Result, Ok, Err, length}
-use Rattle.std.specs.List.{slice_get, list_any, AllByRecursion}
+use Rattle.std.proofs.Common.{◌≡◌, ℕ, ◌+◌, zero, suc, List, [], ◌∷◌, ◌++◌, refl, ◌∙◌, ap, subst, Bool, true, false, cond, Option, Some, None, Result, Ok, Err, length}
+use Rattle.std.specs.List.{slice_get, AllByRecursion}
 use Rattle.std.specs.Option.{option_and_then, option_map_or}
-use Rattle.std.specs.Str.{bytes_eq}
 use Rattle.wasm_reader.specs.declared.module.FuncType as core
 use Rattle.wasm_reader.specs.declared.module.ModuleTree.{ModuleTree}
 use Rattle.ca_types.specs.declared.types.FuncType.{FuncType}
@@ -16,8 +15,7 @@ use Rattle.comp_reader.specs.declared.component.Item.TheVariants as item
 use Rattle.comp_reader.specs.declared.component.Component.{Component}
 use Rattle.wcm.specs.declared.graph.CoreFunc.{CoreFunc}
 use Rattle.wcm.specs.declared.link_fault.LinkWhy.{LinkWhy}
-use Rattle.wcm.specs.declared.link_fault.LinkFault.{LinkFault}
-use Rattle.wcm.specs.Linking.{Lifted, Exported, Spaces, Graph, no_spaces, with_core_instance, with_func, with_export, link_core_instance, link_exported, link_alias, with_closed, link_type, lift_to, link_lift, link_export, link_item, link_items, linked_on, linked_or, linked, exported, is_flat, core_type, type_at, ClosedType, Value, Func, all_within, labels_are_new, close_func, core_instance_limit, LiftsCore, IsCallable}
+use Rattle.wcm.specs.Linking.{Lifted, Exported, Spaces, Graph, no_spaces, with_core_instance, with_func, with_export, link_core_instance, link_exported, link_alias, with_closed, link_type, lift_to, link_lift, link_export, link_item, link_items, linked_on, linked_or, linked, exported, is_flat, core_type, type_at, ClosedType, Value, Func, all_within, labels_are_new, close_func, LiftsCore, IsCallable}
 
 -- An instance stays where it is when others come behind it.
 pub kept_at : {A : Type 0} (xs ys : List A) (i : ℕ) (x : A) → slice_get xs i ≡ Some x → slice_get (xs ++ ys) i ≡ Some x
@@ -49,7 +47,7 @@ behind_all : {A : Type 0} (P : A → Type 0) (xs : List A) (x : A) → AllByRecu
 behind_all P [] x h p = (p, tt)
 behind_all P (y ∷ xs) x h p = (h.0, behind_all P xs x h.1 p)
 
-all_at : {A : Type 0} (P : A → Type 0) (xs : List A) (i : ℕ) (x : A) → AllByRecursion P xs → slice_get xs i ≡ Some x → P x
+pub all_at : {A : Type 0} (P : A → Type 0) (xs : List A) (i : ℕ) (x : A) → AllByRecursion P xs → slice_get xs i ≡ Some x → P x
 all_at P [] i x h e = cc
 all_at P (y ∷ xs) zero x h e = let same : y ≡ x = cc in subst P same h.0
 all_at P (y ∷ xs) (suc i) x h e = all_at P xs i x h.1 e

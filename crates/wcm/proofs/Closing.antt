@@ -1,19 +1,15 @@
 -- Function types that close: their closed types are told by themselves.
-use Rattle.std.proofs.Common.{◌≡◌, ◌∙◌, ℕ, suc, List, [], ◌∷◌, length, map, refl, ap, Bool, true, false, cond, ◌&&◌, is_some, Option, Some, None, Result, Ok, Err}
-use Rattle.std.specs.List.{slice_get, list_all}
-use Rattle.std.specs.Option.{option_and_then, option_map, option_map_or}
+use Rattle.std.proofs.Common.{◌≡◌, ◌∙◌, suc, List, [], ◌∷◌, length, map, refl, ap, Bool, true, false, ◌&&◌, is_some, Option, Some, None, Ok, Err}
+use Rattle.std.specs.List.{list_all}
+use Rattle.std.specs.Option.{option_and_then, option_map}
 use Rattle.ca_types.specs.declared.types.ValType.{ValType}
 use Rattle.ca_types.specs.declared.types.ValType.TheVariants.{U32}
-use Rattle.ca_types.specs.declared.types.Param.{Param}
-use Rattle.ca_types.specs.declared.types.FuncType.{FuncType}
 use Rattle.comp_reader.specs.declared.component.ValTypeRef.{ValTypeRef}
-use Rattle.comp_reader.specs.declared.component.ValTypeRef.TheVariants.{Primitive, Index}
 use Rattle.comp_reader.specs.declared.component.Param as read_param
 use Rattle.comp_reader.specs.declared.component.FuncType as read_func
 use Rattle.comp_reader.specs.declared.component.DefType.TheVariants as def_type
-use Rattle.wcm.specs.declared.link_fault.LinkWhy.{LinkWhy}
 use Rattle.wcm.specs.declared.link_fault.LinkWhy.TheVariants as why
-use Rattle.wcm.specs.Linking.{ClosedType, Value, Func, Spaces, with_type, value_of, close_val, close_params, close_result, close_func, all_within, labels_are_new, with_closed, link_type}
+use Rattle.wcm.specs.Linking.{ClosedType, Func, Spaces, with_type, close_val, close_params, close_result, close_func, all_within, labels_are_new, link_type}
 use Rattle.wcm.specs.Plain.{plain_val, plain_param, plain_func}
 
 -- all value types are one

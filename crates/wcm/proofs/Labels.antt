@@ -33,3 +33,8 @@ told_by_map k (Some x) p h = h
 pub told_some : {A : Type 0} (o : Option A) (x : A) (N : Type 0) (S : A → Type 0) → o ≡ Some x → MatchOption o N S → S x
 told_some None x N S e h = cc
 told_some (Some y) x N S e h = let same : y ≡ x = cc in subst S same h
+
+-- a list that is mapped twice
+pub map_twice : {A B C : Type 0} (f : B → C) (g : A → B) (h : A → C) (xs : List A) → ((x : A) → h x ≡ f (g x)) → map h xs ≡ map f (map g xs)
+map_twice f g h [] e = refl
+map_twice f g h (x ∷ xs) e = rw (e x, map_twice f g h xs e) refl

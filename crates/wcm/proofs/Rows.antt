@@ -1,15 +1,16 @@
 -- What each answer tells of the files: the files have one answer, so its status tells which of the cases they are.
-use Rattle.std.proofs.Common.{◌≡◌, ◌↔◌, inl, inr, ℕ, List, [], ◌∷◌, length, refl, ap, sym, ◌∙◌, subst, arith, Option, Some, None, Result, Ok, Err}
+use Rattle.std.proofs.Common.{◌≡◌, ◌↔◌, inl, inr, ℕ, List, [], refl, ap, sym, ◌∙◌, subst, arith, Option, Some, None, Result, Ok, Err}
 use Rattle.std.specs.Option.{IfSome, IsSome, MatchOption}
 use Rattle.ca_base.specs.Span.{Span}
 use Rattle.ca_base.specs.declared.refusal.Refusal.{Refusal}
 use Rattle.ca_base.specs.Grammar.{Grammar, Matches, Refuses}
 use Rattle.ca_base.proofs.Laws.{matches_reads, refuses_reads}
-use Rattle.ca_types.specs.declared.value.Value.{Value}
+use Rattle.ca_types.specs.declared.exports.Export.{Export}
 use Rattle.comp_reader.specs.declared.component.Component.{Component}
 use Rattle.comp_reader.specs.declared.fault.ComponentWhy.{ComponentWhy}
 use Rattle.comp_reader.specs.Binary.{component, file, file_end}
-use Rattle.wcm.specs.declared.script.Call.{Call}
+use Rattle.script_reader.specs.declared.fault.ScriptFault.{ScriptFault}
+use Rattle.script_reader.specs.Script.{Script, IsScript, IsScriptRefused}
 use Rattle.wcm.specs.declared.link_fault.LinkFault.{LinkFault}
 use Rattle.wcm.specs.declared.answer.Answer.{Answer}
 use Rattle.wcm.specs.declared.status.Status.{Status}
@@ -17,12 +18,11 @@ use Rattle.wcm.specs.declared.status.Status.TheVariants.{Done, Refused, LinkRefu
 use Rattle.wcm.specs.declared.run.Label.{Label}
 use Rattle.wcm.specs.declared.run.End.{End}
 use Rattle.wcm.specs.declared.run.End.TheVariants as ends
-use Rattle.wcm.specs.Linking.{Exported, Graph}
+use Rattle.wcm.specs.Linking.{Graph, exports_of}
 use Rattle.wcm.specs.Run.{first_world}
-use Rattle.wcm.specs.Script.{script, text, called, IsCallOf}
 use Rattle.wcm.specs.Status.{status_of}
 use Rattle.wcm.specs.Words.{plain}
-use Rattle.wcm.specs.Outcome.{default_fuel, IsTold, IsComponentFile, IsRefusedFile, IsScriptFile, IsNoScriptFile, RunAnswers, ScriptAnswers, LinkAnswers, FileAnswers, run_answer, refused_answer, link_refused_answer, script_refused_answer, NamesRefused, NamesLinkRefused, NamesGraph, NamesNoScript, NamesRun}
+use Rattle.wcm.specs.Outcome.{IsTold, IsComponentFile, IsRefusedFile, RunAnswers, ScriptAnswers, LinkAnswers, FileAnswers, run_answer, refused_answer, link_refused_answer, script_refused_answer, NamesRefused, NamesLinkRefused, NamesGraph, NamesScriptRefused, NamesRun}
 use Rattle.wcm.proofs.Linked.{one_graph, one_fault, linked_or_not}
 use Rattle.wcm.proofs.Worlds.{one_run}
 
@@ -32,9 +32,6 @@ ok_inj h = cc
 
 err_inj : {A E : Type 0} {x y : E} → ◌≡◌ {A = Result A E} (Err x) (Err y) → x ≡ y
 err_inj h = cc
-
-some_inj : {A : Type 0} {x y : A} → ◌≡◌ {A = Option A} (Some x) (Some y) → x ≡ y
-some_inj h = cc
 
 matches_once : {W A : Type 0} (g : Grammar W A) (s : Span W) (x y : A) (t u : Span W) → Matches g s x t → Matches g s y u → x ≡ y
 matches_once g s x y t u m n =
@@ -70,57 +67,36 @@ component_or_not : (bytes : List ℕ) (c : Component) (e : Refusal ComponentWhy)
 component_or_not bytes c e h k =
     elim k [ inl long ↦ omega (arith, h.0, long.0) | inr refused ↦ not_refused component (file bytes) c (file_end bytes) e h.1 refused.1 ]
 
--- The export that a script calls is one, and its values are.
-one_export : (exports : List Exported) (bytes : List ℕ) (d e : Exported) → called exports bytes ≡ Some d → called exports bytes ≡ Some e → d ≡ e
-one_export exports bytes d e h k = some_inj (sym h ∙ k)
+-- The script of a text is one, and so is its refusal.
+one_script : (exports : List Export) (bytes : List ℕ) (s u : Script) → IsScript exports bytes s → IsScript exports bytes u → s ≡ u
+one_script exports bytes s u h k = ok_inj (sym h ∙ k)
 
-one_values : (bytes name : List ℕ) (count : ℕ) (xs ys : List Value) → IsCallOf bytes name count xs → IsCallOf bytes name count ys → xs ≡ ys
-one_values bytes name count xs ys h k = matches_once (script name count) (text bytes) xs ys h.0 k.0 h.1 k.1
+one_script_fault : (exports : List Export) (bytes : List ℕ) (e d : ScriptFault) → IsScriptRefused exports bytes e → IsScriptRefused exports bytes d → e ≡ d
+one_script_fault exports bytes e d h k = err_inj (sym h ∙ k)
 
-one_call : (exports : List Exported) (bytes : List ℕ) (c d : Call) → IsScriptFile exports bytes c → IsScriptFile exports bytes d → c ≡ d
-one_call exports bytes c d h k =
-    let i = h.1 in
-    let j = k.1 in
-    let same : j.0 ≡ i.0 = one_export exports bytes j.0 i.0 j.1 i.1 in
-    let other : IsCallOf bytes i.0.name (length i.0.func.func_type.params) d.values = subst (λ (e : Exported). IsCallOf bytes e.name (length e.func.func_type.params) d.values) same j.3 in
-    let values : c.values ≡ d.values = one_values bytes i.0.name (length i.0.func.func_type.params) c.values d.values i.3 other in
-    let name : c.name ≡ d.name = i.2 ∙ (ap (λ (e : Exported). e.name) (sym same) ∙ sym j.2) in
-    ap (λ (n : List ℕ). record { name = n; values = c.values }) name ∙ ap (λ (xs : List Value). record { name = d.name; values = xs }) values
-
-script_or_not : (exports : List Exported) (bytes : List ℕ) (call : Call) → IsScriptFile exports bytes call → IsNoScriptFile exports bytes → ⊥
-script_or_not exports bytes call h k =
-    let i = h.1 in
-    elim k [
-      | inl long ↦ omega (arith, h.0, long)
-      | inr wrong ↦ elim wrong [
-        | inl none ↦
-            let both : ◌≡◌ {A = Option Exported} (Some i.0) None = sym i.1 ∙ none in
-            cc
-        | inr bad ↦
-            let same : bad.0 ≡ i.0 = one_export exports bytes bad.0 i.0 bad.1 i.1 in
-            let refused : Refuses (script i.0.name (length i.0.func.func_type.params)) (text bytes) bad.2.0 = subst (λ (e : Exported). Refuses (script e.name (length e.func.func_type.params)) (text bytes) bad.2.0) same bad.2.1 in
-            not_refused (script i.0.name (length i.0.func.func_type.params)) (text bytes) call.values i.3.0 bad.2.0 i.3.1 refused
-      ]
-    ]
+script_or_not : (exports : List Export) (bytes : List ℕ) (s : Script) (e : ScriptFault) → IsScript exports bytes s → IsScriptRefused exports bytes e → ⊥
+script_or_not exports bytes s e h k =
+    let both : ◌≡◌ {A = Result Script ScriptFault} (Ok s) (Err e) = sym h ∙ k in
+    cc
 
 -- The files have one answer.
-one_of_run : (g : Graph) (call : Call) (a b : Answer) → RunAnswers g call a → RunAnswers g call b → a ≡ b
-one_of_run g call a b h k =
-    let same = one_run g (first_world (call ∷ []) default_fuel) h.0 k.0 h.1 k.1 h.2 k.2 in
+one_of_run : (g : Graph) (s : Script) (a b : Answer) → RunAnswers g s a → RunAnswers g s b → a ≡ b
+one_of_run g s a b h k =
+    let same = one_run g (first_world s) h.0 k.0 h.1 k.1 h.2 k.2 in
     h.3 ∙ (ap (λ (labels : List Label). run_answer labels h.1) same.0 ∙ (ap (λ (end : End). run_answer k.0 end) same.1 ∙ sym k.3))
 
 one_of_script : (g : Graph) (t : List ℕ) (a b : Answer) → ScriptAnswers g t a → ScriptAnswers g t b → a ≡ b
 one_of_script g t a b h k =
     elim h [
       | inl bad ↦ elim k [
-        | inl worse ↦ bad.1 ∙ sym worse.1
-        | inr good ↦ absurd (script_or_not g.exports t good.0 good.1 bad.0)
+        | inl worse ↦ bad.2 ∙ (ap (λ (f : ScriptFault). script_refused_answer f) (one_script_fault (exports_of g) t bad.0 worse.0 bad.1 worse.1) ∙ sym worse.2)
+        | inr good ↦ absurd (script_or_not (exports_of g) t good.0 bad.0 good.1 bad.1)
       ]
       | inr good ↦ elim k [
-        | inl bad ↦ absurd (script_or_not g.exports t good.0 good.1 bad.0)
+        | inl bad ↦ absurd (script_or_not (exports_of g) t good.0 bad.0 good.1 bad.1)
         | inr better ↦
-            let same : better.0 ≡ good.0 = one_call g.exports t better.0 good.0 better.1 good.1 in
-            one_of_run g good.0 a b good.2 (subst (λ (call : Call). RunAnswers g call b) same better.2)
+            let same : better.0 ≡ good.0 = one_script (exports_of g) t better.0 good.0 better.1 good.1 in
+            one_of_run g good.0 a b good.2 (subst (λ (s : Script). RunAnswers g s b) same better.2)
       ]
     ]
 
@@ -139,7 +115,7 @@ one_of_link c t a b h k =
       ]
     ]
 
-one_answer : (bytes t : List ℕ) (a b : Answer) → FileAnswers bytes t a → FileAnswers bytes t b → a ≡ b
+pub one_answer : (bytes t : List ℕ) (a b : Answer) → FileAnswers bytes t a → FileAnswers bytes t b → a ≡ b
 one_answer bytes t a b h k =
     elim h [
       | inl bad ↦ elim k [
@@ -224,16 +200,16 @@ same_by_graph words held a b g t d n k =
 data Came (words : List (List ℕ)) (held : List ℕ → Option (List ℕ)) (s : Status) : Type 0 where
   OfFile : s ≡ Refused → NamesRefused words held → Came words held s
   OfLink : s ≡ LinkRefused → NamesLinkRefused words held → Came words held s
-  OfScript : s ≡ ScriptRefused → NamesNoScript words held → Came words held s
+  OfScript : s ≡ ScriptRefused → NamesScriptRefused words held → Came words held s
   OfRun : (end : End) → s ≡ status_of end → NamesRun words held end → Came words held s
 
 came_script : (words : List (List ℕ)) (held : List ℕ → Option (List ℕ)) (a : Answer) (g : Graph) (t : List ℕ) → NamesGraph words held g t → ScriptAnswers g t a → Came words held a.status
 came_script words held a g t n h =
     elim h [
-      | inl bad ↦ OfScript (ap (λ (b : Answer). b.status) bad.1) (record { graph = g; text = t; named = n; refused = bad.0 })
+      | inl bad ↦ OfScript (ap (λ (b : Answer). b.status) bad.2) (record { graph = g; text = t; fault = bad.0; named = n; refused = bad.1 })
       | inr run ↦
           let r = run.2 in
-          OfRun r.1 (ap (λ (b : Answer). b.status) r.3) (record { graph = g; text = t; call = run.0; labels = r.0; named = n; read_script = run.1; runs = r.2 })
+          OfRun r.1 (ap (λ (b : Answer). b.status) r.3) (record { graph = g; text = t; said = run.0; labels = r.0; named = n; read_script = run.1; runs = r.2 })
     ]
 
 came : (words : List (List ℕ)) (held : List ℕ → Option (List ℕ)) (a : Answer) → Answered words held a → Came words held a.status
@@ -261,7 +237,7 @@ of_link words held s k (OfScript e n) = cc
 of_link words held s k (OfRun ends.Done e n) = cc
 of_link words held s k (OfRun ends.Fuel e n) = cc
 
-of_script : (words : List (List ℕ)) (held : List ℕ → Option (List ℕ)) (s : Status) → s ≡ ScriptRefused → Came words held s → NamesNoScript words held
+of_script : (words : List (List ℕ)) (held : List ℕ → Option (List ℕ)) (s : Status) → s ≡ ScriptRefused → Came words held s → NamesScriptRefused words held
 of_script words held s k (OfFile e n) = cc
 of_script words held s k (OfLink e n) = cc
 of_script words held s k (OfScript e n) = n
@@ -299,17 +275,17 @@ row_link_refused words held f s a e h told =
     )
 
 pub row_script_refused : (words : List (List ℕ)) (held : List ℕ → Option (List ℕ)) (f s : List ℕ) (a : Answer) → plain words ≡ Some (f, s)
-    → IfSome (held f) (λ bytes. IfSome (held s) (λ t. FileAnswers bytes t a)) → IsTold words held → (a.status ≡ ScriptRefused) ↔ NamesNoScript words held
+    → IfSome (held f) (λ bytes. IfSome (held s) (λ t. FileAnswers bytes t a)) → IsTold words held → (a.status ≡ ScriptRefused) ↔ NamesScriptRefused words held
 row_script_refused words held f s a e h told =
     let d = answered words held f s a e h told in (
       λ k. of_script words held a.status k (came words held a d),
-      λ n. ap (λ (b : Answer). b.status) (same_by_graph words held a script_refused_answer n.graph n.text d n.named (inl (n.refused, refl))),
+      λ n. ap (λ (b : Answer). b.status) (same_by_graph words held a (script_refused_answer n.fault) n.graph n.text d n.named (inl (n.fault, n.refused, refl))),
     )
 
 -- the status of a run
 run_status : (words : List (List ℕ)) (held : List ℕ → Option (List ℕ)) (a : Answer) (end : End) → Answered words held a → NamesRun words held end → a.status ≡ status_of end
 run_status words held a end d n =
-    ap (λ (b : Answer). b.status) (same_by_graph words held a (run_answer n.labels end) n.graph n.text d n.named (inr (n.call, n.read_script, (n.labels, end, n.runs, refl))))
+    ap (λ (b : Answer). b.status) (same_by_graph words held a (run_answer n.labels end) n.graph n.text d n.named (inr (n.said, n.read_script, (n.labels, end, n.runs, refl))))
 
 pub row_done : (words : List (List ℕ)) (held : List ℕ → Option (List ℕ)) (f s : List ℕ) (a : Answer) → plain words ≡ Some (f, s)
     → IfSome (held f) (λ bytes. IfSome (held s) (λ t. FileAnswers bytes t a)) → IsTold words held → (a.status ≡ Done) ↔ NamesRun words held ends.Done

@@ -1,9 +1,10 @@
 -- Where the functions of core instances stand in the store, and that the core function of a lift is there with its type.
-use Rattle.std.proofs.Common.{◌≡◌, ℕ, ◌+◌, ◌<◌, zero, suc, List, [], ◌∷◌, ◌++◌, length, map, take, find, refl, sym, ap, ◌∙◌, subst, arith, Bool, true, false, cond, ◌&&◌, nat_eq, nat_le, Option, Some, None, length-append, append-nil, append_assoc, get_or}
-use Rattle.std.specs.List.{slice_get, list_all, flat_map, AllByRecursion}
-use Rattle.std.specs.Option.{option_map, option_and_then}
+use Rattle.std.proofs.Common.{◌≡◌, ℕ, ◌+◌, ◌-◌, ◌<◌, zero, suc, List, [], ◌∷◌, ◌++◌, length, map, take, find, refl, sym, ap, ◌∙◌, subst, arith, Bool, true, false, cond, ◌&&◌, nat_eq, nat_le, Option, Some, length-append, append-nil, append_assoc, get_or, below_more}
+use Rattle.std.specs.List.{slice_get, list_all, AllByRecursion}
+use Rattle.std.specs.Option.{option_map}
 use Rattle.std.proofs.lemmas.Option.{slice_get-map, slice_get_within}
 use Rattle.std.proofs.lemmas.Bool.{eqb-true}
+use Rattle.std.proofs.lemmas.List.{get_or_append_left, get_or-append_right}
 use Rattle.wasm_reader.specs.declared.module.ValType as core_val
 use Rattle.wasm_reader.specs.declared.module.ValType.TheVariants.{I32, I64}
 use Rattle.wasm_reader.specs.declared.module.FuncType as core
@@ -128,6 +129,21 @@ one_more h (y ∷ xs) (suc i) x l =
 pub next_store : {A : Type 0} (h : A → ModuleTree) (xs : List A) (i : ℕ) (x : A) (store new : List Function) → i < length xs → x ≡ get_or xs i x → store ≡ store_of (take i (map h xs)) → new ≡ store ++ functions_of (h x) → new ≡ store_of (take (i + 1) (map h xs))
 next_store h xs i x store new l e s n = n ∙ (ap (λ (l : List Function). l ++ functions_of (h x)) s ∙ (ap (λ (y : _). store_of (take i (map h xs)) ++ functions_of (h y)) e ∙ sym (one_more h xs i x l)))
 
--- The first function of an instance is known once that instance is made: its number is the length of the store before.
-pub first_made : (trees : List ModuleTree) (instance number made : ℕ) (store : List Function) → store ≡ store_of (take number trees) → made ≡ length store → number ≡ instance → made ≡ length (store_of (take instance trees))
-first_made trees instance number made store s m e = m ∙ (ap length s ∙ ap (λ (n : ℕ). length (store_of (take n trees))) e)
+-- the number of the first function of each instance so far
+pub record FirstsSoFar (trees : List ModuleTree) (n : ℕ) (numbers : List ℕ) : Type 0 where
+  pub count : length numbers ≡ n
+  pub firsts : (k : ℕ) → k < n → get_or numbers k 0 ≡ length (store_of (take k trees))
+
+get_or_append_last : (firsts : List ℕ) (made n : ℕ) → length firsts ≡ n → get_or (firsts ++ made ∷ []) n 0 ≡ made
+get_or_append_last firsts made n e =
+    let at : n - n ≡ 0 = omega arith in
+    get_or-append_right firsts (made ∷ []) n n 0 e (omega arith) ∙ ap (λ (i : ℕ). get_or (made ∷ []) i 0) at
+
+-- one instance more
+pub firsts_more : (trees : List ModuleTree) (n made : ℕ) (store : List Function) (firsts new : List ℕ) → FirstsSoFar trees n firsts → store ≡ store_of (take n trees) → made ≡ length store → new ≡ firsts ++ made ∷ [] → FirstsSoFar trees (n + 1) new
+firsts_more trees n made store firsts new f s m e = record {
+  count = ap length e ∙ (length-append firsts (made ∷ []) ∙ ap (λ (k : ℕ). k + 1) f.count);
+  firsts = below_more (λ k. get_or new k 0 ≡ length (store_of (take k trees))) n
+      (λ k h. let within : k < length firsts = omega (arith, f.count) in ap (λ (xs : List ℕ). get_or xs k 0) e ∙ (get_or_append_left firsts (made ∷ []) 0 k within ∙ f.firsts k h))
+      (let last : get_or (firsts ++ made ∷ []) n 0 ≡ made = get_or_append_last firsts made n f.count in ap (λ (xs : List ℕ). get_or xs n 0) e ∙ (last ∙ (m ∙ ap length s)));
+}

@@ -10,7 +10,9 @@ use Rattle.ca_types.specs.declared.value.Value.{Value}
 use Rattle.wasm_reader.specs.declared.module.ValType.{ValType}
 use Rattle.wasm_reader.specs.Locals.{local_types, declared_locals}
 use Rattle.wcm.specs.Linking.{Lifted, Graph}
-use Rattle.wcm.specs.declared.script.Call.{Call}
+use Rattle.script_reader.specs.declared.script.Call.{Call}
+use Rattle.script_reader.specs.declared.script.Item.{Item}
+use Rattle.script_reader.specs.declared.script.Item.TheVariants as item
 use Rattle.wcm.specs.declared.run.Label.{Label}
 use Rattle.wcm.specs.declared.run.End.{End}
 use Rattle.wcm.specs.Run.{TaskState, Starting, Running, Returned, Task, World, Turn, Steps, Ends, Stuck, lowered, store_of, address, func_named, started, entered, charged, core_turn, task_turn, taken, idle_turn, chain_turn, turn, first_world, Reaches}
@@ -61,16 +63,16 @@ state_moves g w number (Running s) below h i c = core_moves g h.0 (next s) w num
 state_moves g w number Returned below h i c = record { items = i; chain = c }
 
 -- A call of a sound script names a function.
-taken_moves : (g : Graph) (w : World) (call : Call) (others : List Call) (o : Option Lifted) → func_named g call.name ≡ o → SoundCall g call → Sound g others → Moves g (taken w call others o)
+taken_moves : (g : Graph) (w : World) (call : Call) (others : List Item) (o : Option Lifted) → func_named g call.name ≡ o → SoundCall g call → Sound g others → Moves g (taken w call others o)
 taken_moves g w call others None e s i = cc (e, s.named)
 taken_moves g w call others (Some f) e s i =
     let same : s.lifted ≡ f = cc (e, s.named) in
     let start : StartKept g s.lifted call.values = record { function = s.function; there = s.there; typed = s.typed; values = s.values } in
     charged_moves g w.units _ (λ units. record { items = i; chain = (subst (λ (l : Lifted). StartKept g l call.values) same start, tt) })
 
-idle_moves : (g : Graph) (w : World) (items : List Call) → Sound g items → Moves g (idle_turn g w items)
+idle_moves : (g : Graph) (w : World) (items : List Item) → Sound g items → Moves g (idle_turn g w items)
 idle_moves g w [] i = tt
-idle_moves g w (call ∷ others) i = taken_moves g w call others (func_named g call.name) refl i.0 i.1
+idle_moves g w (item.Call call ∷ others) i = taken_moves g w call others (func_named g call.name) refl i.0 i.1
 
 chain_moves : (g : Graph) (w : World) (chain : List Task) → Sound g w.items → AllByRecursion (λ task. StateKept g task.state) chain → Moves g (chain_turn g w chain)
 chain_moves g w [] i c = idle_moves g w w.items i
@@ -91,8 +93,8 @@ once g w (Ends end) h m = inr (record { end = end; ends = h; only = λ other e. 
 once g w Stuck h m = absurd m
 
 pub one_next : OneNext
-one_next g calls fuel steps w s r =
-    let k = kept_reaches g steps (first_world calls fuel) w (record { items = s; chain = tt }) r in
+one_next g script steps w s r =
+    let k = kept_reaches g steps (first_world script) w (record { items = s; chain = tt }) r in
     once g w (turn g w) refl (moves g w k)
 
 -- Two runs from a world have the same steps.

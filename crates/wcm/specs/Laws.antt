@@ -1,11 +1,13 @@
 -- What holds of the definitions alone.
-use Rattle.std.specs.Prelude.{◌≡◌, ◌≤◌, ◌↔◌, ◌⊎◌, ℕ, List, length}
-use Rattle.ca_base.specs.Grammar.{IsDecided}
-use Rattle.ca_types.specs.declared.value.Value.{Value}
+use Rattle.std.specs.Prelude.{◌≡◌, ◌⊎◌, ℕ, List, Option}
 use Rattle.comp_reader.specs.declared.component.Component.{Component}
+use Rattle.comp_reader.specs.Binary.{IsComponent}
+use Rattle.script_reader.specs.Script.{Script, IsScript}
+use Rattle.wcm.specs.declared.answer.Answer.{Answer}
 use Rattle.wcm.specs.declared.link_fault.LinkFault.{LinkFault}
-use Rattle.wcm.specs.Linking.{Graph, IsLinked, IsLinkRefused}
-use Rattle.wcm.specs.Script.{script, text, IsCallOf, IsLine}
+use Rattle.wcm.specs.Linking.{Graph, exports_of, IsLinked, IsLinkRefused}
+use Rattle.wcm.specs.Outcome.{IsTold, Outcome}
+use Rattle.wcm.specs.RunLaws.{Sound}
 
 -- A component is linked to exactly one graph, or is refused at exactly one place for exactly one reason.
 abbrev pub OneLinking : Type 0
@@ -14,13 +16,14 @@ OneLinking =
     → ((g : Graph) × IsLinked c g × ((other : Graph) → IsLinked c other → other ≡ g) × ((fault : LinkFault) → IsLinkRefused c fault → ⊥))
     ⊎ ((fault : LinkFault) × IsLinkRefused c fault × ((other : LinkFault) → IsLinkRefused c other → other ≡ fault) × ((g : Graph) → IsLinked c g → ⊥))
 
--- For a function of this name with so many parameters, bytes are exactly one call of it, or are refused in exactly one
--- way.
-abbrev pub OneScript : Type 0
-OneScript = (bytes name : List ℕ) (count : ℕ) → IsDecided (script name count) (text bytes)
+-- A script that is read for a component that is read and linked is sound: so it has exactly one run (`specs/RunLaws`).
+abbrev pub ScriptsAreSound : Type 0
+ScriptsAreSound =
+    (bytes text : List ℕ) (c : Component) (g : Graph) (script : Script)
+    → IsComponent bytes c → IsLinked c g → IsScript (exports_of g) text script → Sound g script.items
 
--- A call is a line with the function's name, and with a number for each parameter.
-abbrev pub ScriptsAreLines : Type 0
-ScriptsAreLines =
-    (bytes name : List ℕ) (count : ℕ) (values : List Value) → 1 ≤ count
-    → IsCallOf bytes name count values ↔ ((length values ≡ count) × IsLine name values bytes)
+-- Words whose files are told have exactly one outcome.
+abbrev pub OneOutcome : Type 0
+OneOutcome =
+    (words : List (List ℕ)) (held : List ℕ → Option (List ℕ)) → IsTold words held
+    → (a : Answer) × Outcome words held a × ((other : Answer) → Outcome words held other → other ≡ a)

@@ -7,7 +7,6 @@ pub mod Plain
 pub mod Refusals
 pub mod Run
 pub mod RunLaws
-pub mod Script
 pub mod Status
 pub mod Stops
 pub mod Text

@@ -6,17 +6,15 @@ use Rattle.std.specs.List.{slice_get, list_any, list_all, AllByRecursion}
 use Rattle.std.specs.Option.{option_and_then, option_map, option_map_or}
 use Rattle.std.specs.Str.{bytes_eq}
 use Rattle.ca_types.specs.declared.types.ValType.{ValType}
-use Rattle.ca_types.specs.declared.types.ValType.TheVariants.{U32}
 use Rattle.ca_types.specs.declared.types.Param.{Param}
 use Rattle.ca_types.specs.declared.types.FuncType.{FuncType}
+use Rattle.ca_types.specs.declared.exports.Export.{Export}
 use Rattle.wasm_reader.specs.declared.module.ValType as core_val
 use Rattle.wasm_reader.specs.declared.module.ValType.TheVariants.{I32, I64}
 use Rattle.wasm_reader.specs.declared.module.FuncType as core
 use Rattle.wasm_reader.specs.declared.module.ModuleTree.{ModuleTree}
 use Rattle.ca_base.specs.Items.{place_at}
-use Rattle.comp_reader.specs.declared.component.CoreInstance.{CoreInstance}
 use Rattle.comp_reader.specs.declared.component.CoreInstance.TheVariants.{Instantiate}
-use Rattle.comp_reader.specs.declared.component.Alias.{Alias}
 use Rattle.comp_reader.specs.declared.component.Alias.TheVariants as alias
 use Rattle.comp_reader.specs.declared.component.DefType.{DefType}
 use Rattle.comp_reader.specs.declared.component.DefType.TheVariants as def_type
@@ -25,9 +23,7 @@ use Rattle.comp_reader.specs.declared.component.ValTypeRef.TheVariants.{Primitiv
 use Rattle.comp_reader.specs.declared.component.ValTypeRef.TheVariants as type_ref
 use Rattle.comp_reader.specs.declared.component.Param as read_param
 use Rattle.comp_reader.specs.declared.component.FuncType as read_func
-use Rattle.comp_reader.specs.declared.component.Canon as read_canon
 use Rattle.comp_reader.specs.declared.component.Canon.TheVariants.{Lift}
-use Rattle.comp_reader.specs.declared.component.Export as read_export
 use Rattle.comp_reader.specs.declared.component.Item.{Item}
 use Rattle.comp_reader.specs.declared.component.Item.TheVariants as item
 use Rattle.comp_reader.specs.declared.component.Component.{Component}
@@ -68,6 +64,10 @@ no_spaces = record { core_modules = []; core_instances = []; core_funcs = []; ty
 pub record Graph : Type 0 where
   pub instances : List ModuleTree
   pub exports : List Exported
+
+-- the functions that can be called in a script: the exports, with their types
+abbrev pub exports_of : Graph → List Export
+exports_of g = map (λ e. record { name = e.name; func_type = e.func.func_type }) g.exports
 
 -- one index more in a space
 abbrev pub with_core_module : Spaces → ModuleTree → Spaces

@@ -1,5 +1,6 @@
--- The lines that tell of a refusal: where, and why. A reason stands by its name, with its argument in parentheses. A byte
--- is two lower-case hexadecimal digits, and a name stands as in a trace.
+-- The lines that tell of a refusal: where, and why. A component is refused at a byte place, a script at a line. A reason
+-- stands by its name, with its argument in parentheses. A byte is two lower-case hexadecimal digits, and a name stands as
+-- in a trace.
 use Rattle.std.specs.Prelude.{ℕ, List, [], ◌∷◌, ◌++◌, codes}
 use Rattle.std.specs.Fmt.{decimal}
 use Rattle.hex.specs.Hex.{encode_lower}
@@ -10,6 +11,9 @@ use Rattle.wasm_valid.specs.declared.fault.ValidWhy.{ValidWhy}
 use Rattle.wasm_valid.specs.declared.fault.ValidWhy.TheVariants as valid
 use Rattle.comp_reader.specs.declared.fault.ComponentWhy.{ComponentWhy}
 use Rattle.comp_reader.specs.declared.fault.ComponentWhy.TheVariants.{Truncated, Leb, Utf8, Magic, SectionSize, Unsupported, Float, Limit, Module, Invalid}
+use Rattle.script_reader.specs.declared.fault.ScriptWhy.{ScriptWhy}
+use Rattle.script_reader.specs.declared.fault.ScriptWhy.TheVariants as script
+use Rattle.script_reader.specs.declared.fault.ScriptFault.{ScriptFault}
 use Rattle.wcm.specs.declared.link_fault.LinkWhy.{LinkWhy}
 use Rattle.wcm.specs.declared.link_fault.LinkWhy.TheVariants as link
 use Rattle.wcm.specs.declared.link_fault.LinkFault.{LinkFault}
@@ -63,6 +67,15 @@ link_why_text link.Typing = codes "Typing"
 link_why_text link.Canon = codes "Canon"
 link_why_text link.Limit = codes "Limit"
 
+-- why a script is refused
+abbrev pub script_why_text : ScriptWhy → List ℕ
+script_why_text script.Size = codes "Size"
+script_why_text script.Utf8 = codes "Utf8"
+script_why_text script.Form = codes "Form"
+script_why_text script.Fuel = codes "Fuel"
+script_why_text script.Export = codes "Export"
+script_why_text script.Value = codes "Value"
+
 -- a place and a reason
 abbrev pub at_place : ℕ → List ℕ → List ℕ
 at_place place why = codes " at " ++ decimal place ++ codes ": " ++ why
@@ -73,3 +86,7 @@ refused_line refusal = line (codes "refused" ++ at_place refusal.place (componen
 
 abbrev pub link_refused_line : LinkFault → List ℕ
 link_refused_line fault = line (codes "link refused" ++ at_place fault.place (link_why_text fault.why))
+
+-- the line for a script that is refused
+abbrev pub script_refused_line : ScriptFault → List ℕ
+script_refused_line fault = line (codes "script refused at line " ++ decimal fault.line ++ codes ": " ++ script_why_text fault.why)

@@ -14,7 +14,10 @@ use Rattle.ca_types.specs.declared.value.Value.{Value}
 use Rattle.ca_types.specs.declared.value.Value.TheVariants.{U32}
 use Rattle.wcm.specs.declared.graph.CoreFunc.{CoreFunc}
 use Rattle.wcm.specs.Linking.{Lifted, Graph}
-use Rattle.wcm.specs.declared.script.Call.{Call}
+use Rattle.script_reader.specs.declared.script.Call.{Call}
+use Rattle.script_reader.specs.declared.script.Item.{Item}
+use Rattle.script_reader.specs.declared.script.Item.TheVariants as item
+use Rattle.script_reader.specs.Script.{Script}
 use Rattle.wcm.specs.declared.run.Label.{Label}
 use Rattle.wcm.specs.declared.run.Label.TheVariants.{Take, Enter, Return, Exit}
 use Rattle.wcm.specs.declared.run.End.{End}
@@ -48,7 +51,7 @@ pub record Task : Type 0 where
 -- The items that are left, how many calls were taken, how many tasks were made, the running tasks with the last one
 -- first, and the units of fuel that are left.
 pub record World : Type 0 where
-  pub items : List Call
+  pub items : List Item
   pub calls : ℕ
   pub tasks : ℕ
   pub chain : List Task
@@ -102,8 +105,8 @@ task_turn g w number (Starting f values) below = Steps (Enter number ∷ []) (wi
 task_turn g w number (Running s) below = core_turn (next s) w number below
 task_turn g w number Returned below = Steps (Exit number ∷ []) (record { items = w.items; calls = w.calls; tasks = w.tasks; chain = below; units = w.units })
 
--- taking an item that calls this function, with the others left. A call of no function is in no script
-abbrev pub taken : World → Call → List Call → Option Lifted → Turn
+-- taking a call of this function, with the other items left. A call of no function is in no script
+abbrev pub taken : World → Call → List Item → Option Lifted → Turn
 taken w call others None = Stuck
 taken w call others (Some f) = charged w.units (λ units.
     Steps (Take (w.calls + 1) (w.tasks + 1) call.name call.values ∷ [])
@@ -115,10 +118,14 @@ taken w call others (Some f) = charged w.units (λ units.
       units = units;
     }))
 
+-- taking this item, with the others left
+abbrev pub item_turn : Graph → World → Item → List Item → Turn
+item_turn g w (item.Call call) others = taken w call others (func_named g call.name)
+
 -- at an empty chain the next item is taken; with none left the run is done
-abbrev pub idle_turn : Graph → World → List Call → Turn
+abbrev pub idle_turn : Graph → World → List Item → Turn
 idle_turn g w [] = Ends Done
-idle_turn g w (call ∷ others) = taken w call others (func_named g call.name)
+idle_turn g w (next_item ∷ others) = item_turn g w next_item others
 
 abbrev pub chain_turn : Graph → World → List Task → Turn
 chain_turn g w [] = idle_turn g w w.items
@@ -127,9 +134,9 @@ chain_turn g w (task ∷ below) = task_turn g w task.number task.state below
 abbrev pub turn : Graph → World → Turn
 turn g w = chain_turn g w w.chain
 
--- the world before the first turn, with this script and this fuel
-abbrev pub first_world : List Call → ℕ → World
-first_world items fuel = record { items = items; calls = 0; tasks = 0; chain = []; units = fuel }
+-- the world before the first turn, with this script
+abbrev pub first_world : Script → World
+first_world script = record { items = script.items; calls = 0; tasks = 0; chain = []; units = script.fuel }
 
 -- These steps, each with its lines, lead from the one world to the other.
 abbrev pub Reaches : Graph → World → List (List Label) → World → Type 0

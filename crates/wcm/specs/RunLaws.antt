@@ -1,14 +1,18 @@
 -- At each world of a run one move comes next, and a run has one trace.
-use Rattle.std.specs.Prelude.{◌≡◌, ◌≢◌, ◌⊎◌, ◌<◌, ℕ, List, [], ◌∷◌, map, Some}
-use Rattle.std.specs.List.{slice_get, AllByRecursion}
+use Rattle.std.specs.Prelude.{◌≡◌, ◌≢◌, ◌⊎◌, ◌+◌, ℕ, nat_le, if◌then◌else◌, List, map, Some}
+use Rattle.std.specs.List.{slice_get, sum_by, AllByRecursion}
+use Rattle.std.specs.Option.{option_map_or}
 use Rattle.wasm_machine.specs.declared.store.Function.{Function}
 use Rattle.wasm_machine.specs.Step.{AreWords}
 use Rattle.wasm_reader.specs.Expr.{instr_count}
-use Rattle.wasm_machine.specs.Store.{FunctionTyped}
-use Rattle.wcm.specs.declared.script.Call.{Call}
+use Rattle.wasm_machine.specs.Store.{FunctionTyped, body_of}
+use Rattle.script_reader.specs.declared.script.Call.{Call}
+use Rattle.script_reader.specs.declared.script.Item.{Item}
+use Rattle.script_reader.specs.declared.script.Item.TheVariants as item
+use Rattle.script_reader.specs.Script.{Script}
 use Rattle.wcm.specs.declared.run.Label.{Label}
 use Rattle.wcm.specs.declared.run.End.{End}
-use Rattle.wcm.specs.declared.run.End.TheVariants.{Done}
+use Rattle.wcm.specs.declared.run.End.TheVariants.{Done, Fuel}
 use Rattle.wcm.specs.Run.{World, Steps, Ends, store_of, address, func_named, lowered, turn, first_world, Reaches, Runs}
 use Rattle.wcm.specs.Linking.{Lifted, Graph}
 
@@ -22,9 +26,19 @@ pub record SoundCall (g : Graph) (call : Call) : Type 0 where
   pub typed : FunctionTyped function
   pub values : AreWords function.func_type.params (map lowered call.values)
 
--- calls of a graph's functions
-abbrev pub Sound : Graph → List Call → Type 0
-Sound g calls = AllByRecursion (SoundCall g) calls
+-- items that call a graph's functions
+abbrev pub SoundItem : Graph → Item → Type 0
+SoundItem g (item.Call call) = SoundCall g call
+
+abbrev pub Sound : Graph → List Item → Type 0
+Sound g items = AllByRecursion (SoundItem g) items
+
+-- The units of fuel that an item needs: one, and one for each instruction of its core function.
+abbrev pub item_cost : Graph → Item → ℕ
+item_cost g (item.Call call) = option_map_or (λ f. instr_count (body_of (slice_get (store_of g.instances) (address g.instances f.core)))) (func_named g call.name) 0 + 1
+
+abbrev pub cost : Graph → List Item → ℕ
+cost g items = sum_by (item_cost g) items
 
 -- A step comes next: with these lines, to this world, and no other. No end comes.
 pub record StepsOnce (g : Graph) (w : World) : Type 0 where
@@ -41,14 +55,14 @@ pub record EndsOnce (g : Graph) (w : World) : Type 0 where
   pub only : (other : End) → turn g w ≡ Ends other → other ≡ end
   pub no_step : (labels : List Label) (later : World) → turn g w ≢ Steps labels later
 
--- Wherever a run of sound calls comes, one move comes next.
+-- Wherever a run of a sound script comes, one move comes next.
 abbrev pub OneNext : Type 0
-OneNext = (g : Graph) (calls : List Call) (fuel : ℕ) (steps : List (List Label)) (w : World) → Sound g calls → Reaches g (first_world calls fuel) steps w → StepsOnce g w ⊎ EndsOnce g w
+OneNext = (g : Graph) (script : Script) (steps : List (List Label)) (w : World) → Sound g script.items → Reaches g (first_world script) steps w → StepsOnce g w ⊎ EndsOnce g w
 
 -- The runs from a world have the same lines and the same end.
 abbrev pub OneRun : Type 0
 OneRun = (g : Graph) (w : World) (labels others : List Label) (end other : End) → Runs g w labels end → Runs g w others other → (labels ≡ others) × (end ≡ other)
 
--- A sound call that has more fuel than the core function has instructions has a run that is done.
+-- A sound script has a run. It is done where the script gives the fuel that its items need, and else ends by want of fuel.
 abbrev pub EachRunEnds : Type 0
-EachRunEnds = (g : Graph) (call : Call) (fuel : ℕ) → (sound : SoundCall g call) → instr_count sound.function.body < fuel → (labels : List Label) × Runs g (first_world (call ∷ []) fuel) labels Done
+EachRunEnds = (g : Graph) (script : Script) → Sound g script.items → (labels : List Label) × Runs g (first_world script) labels (if nat_le (cost g script.items) script.fuel then Done else Fuel)

@@ -1,24 +1,28 @@
 //! What a call of the program answers, from the files that it names.
 
-ghost use Rattle.std.specs.Prelude.{◌≡◌, ℕ, List, [], Some, IfOk, IfSome, MatchOption, MatchResult, codes};
+ghost use Rattle.std.specs.Prelude.{◌≡◌, ℕ, List, [], Some, IfOk, IfSome, MatchResult};
+ghost use Rattle.std.specs.List.{AllByRecursion};
 ghost use Rattle.ca_base.specs.Causes.{Rose};
-ghost use Rattle.wcm.specs.Calling.{IsCalled};
+ghost use Rattle.script_reader.specs.Script as scripts;
+ghost use Rattle.script_reader.specs.Script.{IsScript, IsScriptRefused, CallsExport};
+ghost use Rattle.wcm.specs.Linking as linking;
 ghost use Rattle.wcm.specs.Linking.{IsCallable};
-ghost use Rattle.wcm.specs.Outcome.{FileAnswers, LinkAnswers, ScriptAnswers, RunAnswers, IsComponentFile, IsRefusedFile, IsScriptFile, IsNoScriptFile};
+ghost use Rattle.wcm.specs.Outcome.{FileAnswers, LinkAnswers, ScriptAnswers, RunAnswers, IsComponentFile, IsRefusedFile};
 ghost use Rattle.wcm.specs.Stops.{StopsFor};
 ghost use Rattle.wcm.specs.Status.{IsAnswered};
 
-use crate::calling::run_call;
+use crate::calling::run_script;
+use crate::exports::exports_of;
 use crate::graph::Graph;
 use crate::link_fault::LinkError;
 use crate::linking::link;
-use crate::refusals::{link_refused_line, refused_line};
-use crate::script::Call;
-use crate::script_reader::read_script;
+use crate::refusals::{link_refused_line, refused_line, script_refused_line};
 use crate::status::{Status, status_of_end};
 use crate::trace_text::trace_text;
 use ca_base::{Bytes, FileError, Files, Memory, ReadError, Refusal, Seq, read_all};
+use ca_types::Exports;
 use comp_reader::{Component, ComponentWhy, read_component};
+use script_reader::{Script, ScriptError, ScriptFault, ScriptWhy, read_script};
 use std::alloc::{AllocError, Global};
 
 /// What a call of the program answers.
@@ -61,9 +65,6 @@ impl From<Memory> for Stop {
     }
 }
 
-/// The line for a script file that is refused.
-const SCRIPT_REFUSED: &[u8] = b"script refused\n";
-
 /// How many bytes a component file may have.
 const COMPONENT_LIMIT: u64 = 16 * 1024 * 1024;
 
@@ -76,8 +77,11 @@ const TOO_LONG: Refusal<ComponentWhy> = Refusal {
 /// How many bytes a script file may have.
 const SCRIPT_LIMIT: u64 = 1024 * 1024;
 
-/// The units of fuel of a run.
-const FUEL: u64 = 1_000_000;
+/// The refusal of a script file that has more.
+const TOO_LONG_SCRIPT: ScriptFault = ScriptFault {
+    line: 0,
+    why: ScriptWhy::Size,
+};
 
 /// The component of a file, or the refusal of that file.
 fn component_of<F: Files>(
@@ -102,25 +106,29 @@ fn component_of<F: Files>(
     }
 }
 
-/// The script of a file for the component of a graph, or `None` where the file is refused.
-fn call_of<F: Files>(
+/// The script of a file for a component with these exports, or the refusal of that file.
+fn script_of<F: Files>(
     alloc: Global,
     name: &str,
     files: &mut F,
-    graph: &Graph,
-) -> Result<Option<Call>, Stop>
-    ensures file { IfSome (F.held files.old name.now) (λ bytes. IfOk result (λ found. MatchOption found (IsNoScriptFile graph.now.exports bytes) (IsScriptFile graph.now.exports bytes))) }
-    ensures called { IfOk result (λ found. IfSome found (IsCalled graph.now)) }
+    exports: &Exports,
+) -> Result<Result<Script, ScriptFault>, Stop>
+    ensures file { IfSome (F.held files.old name.now) (λ bytes. IfOk result (λ found. MatchResult found (IsScript exports.now bytes) (IsScriptRefused exports.now bytes))) }
+    ensures calls { IfOk result (λ found. IfOk found (λ s. AllByRecursion (CallsExport exports.now) s.items)) }
     ensures same { (other : List ℕ) → F.held files.new other ≡ F.held files.old other }
     ensures cause { StopsFor (F.faults files.old) (F.faults files.new) result }
 {
     let bytes = match read_all(alloc, files, name, SCRIPT_LIMIT) {
         Ok(bytes) => bytes,
-        Err(FileError::Limit) => return Ok(None),
+        Err(FileError::Limit) => return Ok(Err(TOO_LONG_SCRIPT)),
         Err(FileError::Fault) => return Err(Stop::Fault),
         Err(FileError::Memory) => return Err(Stop::Memory),
     };
-    Ok(read_script(alloc, graph, bytes.as_slice())?)
+    match read_script(alloc, bytes.as_slice(), exports) {
+        Ok(script) => Ok(Ok(script)),
+        Err(ScriptError::Fault(fault)) => Ok(Err(fault)),
+        Err(ScriptError::Memory) => Err(Stop::Memory),
+    }
 }
 
 /// An answer without a run, that has this text for the error output.
@@ -134,14 +142,14 @@ fn refusal(alloc: Global, status: Status, err: Bytes) -> Answer
     }
 }
 
-/// The answer of the run of a graph.
-fn run_answer(alloc: Global, graph: &Graph, call: Call) -> Result<Answer, Memory>
+/// The answer of the run of a graph under a script.
+fn run_answer(alloc: Global, graph: &Graph, script: &Script) -> Result<Answer, Memory>
     requires callable { IsCallable graph.now }
-    requires called { IsCalled graph.now call }
-    ensures run { IfOk result (λ a. RunAnswers graph.now call a) }
+    requires calls { AllByRecursion (CallsExport (linking.exports_of graph.now)) script.now.items }
+    ensures run { IfOk result (λ a. RunAnswers graph.now script.now a) }
     ensures status { IfOk result (λ a. IsAnswered a.status) }
 {
-    let run = run_call(alloc, graph, call, FUEL)?;
+    let run = run_script(alloc, graph, script)?;
     let out = trace_text(alloc, run.labels.as_slice(), run.end)?;
     Ok(Answer {
         status: status_of_end(run.end),
@@ -163,11 +171,14 @@ fn script_answer<F: Files>(
     ensures same { (other : List ℕ) → F.held files.new other ≡ F.held files.old other }
     ensures cause { StopsFor (F.faults files.old) (F.faults files.new) result }
 {
-    let Some(call) = call_of(alloc, script, files, graph)? else {
-        let line = Vec::from_slice(alloc, SCRIPT_REFUSED)?;
-        return Ok(refusal(alloc, Status::ScriptRefused, Seq::from_vec(line)));
-    };
-    Ok(run_answer(alloc, graph, call)?)
+    let exports = exports_of(alloc, graph)?;
+    match script_of(alloc, script, files, &exports)? {
+        Ok(script) => Ok(run_answer(alloc, graph, &script)?),
+        Err(fault) => {
+            let line = script_refused_line(alloc, fault)?;
+            Ok(refusal(alloc, Status::ScriptRefused, line))
+        }
+    }
 }
 
 /// The answer for a component and the script file of this name.

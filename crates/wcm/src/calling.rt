@@ -1,22 +1,23 @@
-//! Runs of one call of a function that a component exports.
+//! Runs of scripts over the functions that a component exports.
 
-ghost use Rattle.std.specs.Prelude.{◌≡◌, ◌<◌, ◌^◌, ◌++◌, [], ◌∷◌, length, map, take, find, Some, None, MatchOption, IfOk, IsTrue};
-ghost use Rattle.std.specs.List.{slice_get, list_all, AllByRecursion};
+ghost use Rattle.std.specs.Prelude.{◌≡◌, ◌<◌, ◌+◌, ◌^◌, ◌++◌, [], ◌∷◌, length, map, find, slice_index, Some, None, MatchOption, IfOk, OnOk};
+ghost use Rattle.std.specs.List.{AllByRecursion};
 ghost use Rattle.std.specs.Option.{option_map};
 ghost use Rattle.std.specs.Str.{bytes_eq};
 ghost use Rattle.wasm_reader.specs.declared.module.ValType.TheVariants.{I32};
 ghost use Rattle.wasm_machine.specs.Step.{AreWords};
-ghost use Rattle.wasm_machine.specs.Store.{functions_of, params_of, results_of};
-ghost use Rattle.wcm.specs.Linking.{is_i32, IsCallable};
+ghost use Rattle.wasm_machine.specs.Store.{functions_of};
+ghost use Rattle.script_reader.specs.Script.{CallsExport};
+ghost use Rattle.wcm.specs.Linking.{exports_of, IsCallable};
 ghost use Rattle.wcm.specs.Plain.{plain_func};
-ghost use Rattle.wcm.specs.Run.{store_of, address, func_named, started, lowered, lifted, first_world, Runs};
-ghost use Rattle.wcm.specs.Calling.{running_world, GoesOn, GivesWords, EndsBy, IsCalled, Calls};
+ghost use Rattle.wcm.specs.Run.{func_named, lowered, lifted, first_world, Runs};
+ghost use Rattle.wcm.specs.Calling.{AreMade, Calls, CoreGives, ItemRuns};
 
 use crate::graph::{CoreFunc, Exported, Graph, Lifted};
 use crate::run::{End, Label};
-use crate::script::Call;
-use ca_base::{Fuel, Memory, Seq};
-use ca_types::Value;
+use ca_base::{Fuel, Memory, Name, Seq};
+use ca_types::{Value, Values};
+use script_reader::{Call, Item, Script};
 use std::alloc::Global;
 use wasm_machine::{Outcome, Store, Words, run, start};
 use wasm_valid::Valid;
@@ -30,29 +31,104 @@ pub struct Run {
     pub end: End,
 }
 
-/// Runs a graph's script of one call. The call costs one unit of fuel, and each instruction one more.
-pub fn run_call(alloc: Global, graph: &Graph, call: Call, fuel: u64) -> Result<Run, Memory>
+/// The core instances of a graph.
+#[derive(Drop)]
+struct Instances {
+    /// Their functions, those of each instance behind those of the one before.
+    store: Store,
+    /// The number of each instance's first function in the store.
+    firsts: Vec<usize>,
+}
+
+/// Runs a script over a graph: its calls, one after the other. Each call costs one unit of fuel, and so does each
+/// instruction.
+pub fn run_script(alloc: Global, graph: &Graph, script: &Script) -> Result<Run, Memory>
     requires callable { IsCallable graph.now }
-    requires called { IsCalled graph.now call }
-    ensures { IfOk result (λ r. Runs graph.now (first_world (call ∷ []) fuel) r.labels r.end) }
+    requires calls { AllByRecursion (CallsExport (exports_of graph.now)) script.now.items }
+    ensures { IfOk result (λ r. Runs graph.now (first_world script.now) r.labels r.end) }
 {
-    let core = called(graph, &call);
-    let mut left = Fuel::new(fuel);
-    if !left.spend() {
-        return Ok(Run {
-            labels: Seq::new(alloc),
-            end: End::Fuel,
-        });
+    let mut instances = instantiated(alloc, &graph.instances)?;
+    let mut left = Fuel::new(u64::from(script.fuel()));
+    let mut labels = Seq::new(alloc);
+    let mut number = 0;
+    for item in script.items() {
+        number += 1;
+        if !run_item(
+            alloc,
+            graph,
+            item,
+            number,
+            &mut instances,
+            &mut left,
+            &mut labels,
+        )? {
+            return Ok(Run {
+                labels,
+                end: End::Fuel,
+            });
+        }
     }
-    let words = lower_values(alloc, call.values.as_slice())?;
-    let labels = lines_before(alloc, call)?;
-    run_core(alloc, graph, core, &words, left, labels)
+    Ok(Run {
+        labels,
+        end: End::Done,
+    })
+}
+
+/// Runs an item, which is the call of this number, appends its lines, and answers whether the run goes on: not where fuel
+/// is wanting.
+fn run_item(
+    alloc: Global,
+    graph: &Graph,
+    item: &Item,
+    number: u32,
+    instances: &mut Instances,
+    left: &mut Fuel,
+    labels: &mut Seq<Label>,
+) -> Result<bool, Memory>
+    requires callable { IsCallable graph.now }
+    requires calls { CallsExport (exports_of graph.now) item.now }
+    requires made { AreMade graph.now.instances instances.old }
+    ensures made { AreMade graph.now.instances instances.new }
+    ensures runs { IfOk result (λ on. ItemRuns graph.now item.now number left.old left.new labels.old labels.new on) }
+{
+    match item {
+        Item::Call(call) => run_call(alloc, graph, call, number, instances, left, labels),
+    }
+}
+
+/// Runs the call of this number, as `run_item` does.
+fn run_call(
+    alloc: Global,
+    graph: &Graph,
+    call: &Call,
+    number: u32,
+    instances: &mut Instances,
+    left: &mut Fuel,
+    labels: &mut Seq<Label>,
+) -> Result<bool, Memory>
+    requires callable { IsCallable graph.now }
+    requires calls { CallsExport (exports_of graph.now) (Item.Call call.now) }
+    requires made { AreMade graph.now.instances instances.old }
+    ensures made { AreMade graph.now.instances instances.new }
+    ensures runs { IfOk result (λ on. ItemRuns graph.now (Item.Call call.now) number left.old left.new labels.old labels.new on) }
+{
+    if !left.spend() {
+        return Ok(false);
+    }
+    push_before(alloc, number, call, labels)?;
+    match run_core(alloc, graph, call, instances, left)? {
+        Some(words) => {
+            push_after(number, &words, labels)?;
+            Ok(true)
+        }
+        None => Ok(false),
+    }
 }
 
 /// The core function of the function that a call names.
 fn called(graph: &Graph, call: &Call) -> CoreFunc
     requires callable { IsCallable graph.now }
-    requires called { IsCalled graph.now call.now }
+    requires calls { CallsExport (exports_of graph.now) (Item.Call call.now) }
     ensures { Calls graph.now call.now result }
 {
     func_named(graph, call.name.as_str()).unwrap().core
@@ -75,19 +151,49 @@ fn find_func<'a>(exports: &[Exported<'a>], name: &str) -> Option<Lifted<'a>>
         .map(|export| export.func)
 }
 
-/// The lines of a call before its core function runs.
-fn lines_before(alloc: Global, call: Call) -> Result<Seq<Label>, Memory>
-    ensures { IfOk result (λ l. l ≡ Label.Take 1 1 call.name call.values ∷ Label.Enter 1 ∷ []) }
+/// Appends the lines of a call before its core function runs.
+fn push_before(
+    alloc: Global,
+    number: u32,
+    call: &Call,
+    labels: &mut Seq<Label>,
+) -> Result<(), Memory>
+    ensures { OnOk result (labels.new ≡ labels.old ++ Label.Take number number call.now.name call.now.values ∷ Label.Enter number ∷ []) }
 {
-    let mut labels = Seq::new(alloc);
     labels.push(Label::Take {
-        call: 1,
-        task: 1,
-        name: call.name,
-        values: call.values,
+        call: number,
+        task: number,
+        name: Name::new(alloc, call.name.as_str())?,
+        values: copied(alloc, &call.values)?,
     })?;
-    labels.push(Label::Enter(1))?;
-    Ok(labels)
+    labels.push(Label::Enter(number))?;
+    Ok(())
+}
+
+/// The same values again.
+fn copied(alloc: Global, values: &Values) -> Result<Values, Memory>
+    ensures { IfOk result (λ v. v ≡ values.now) }
+{
+    Ok(Seq::from_vec(Vec::from_slice(alloc, values.as_slice())?))
+}
+
+/// Appends the lines of a call whose core function has ended with these words.
+fn push_after(number: u32, words: &Words, labels: &mut Seq<Label>) -> Result<(), Memory>
+    requires { AllByRecursion (λ w. w < 2 ^ 32) words.now }
+    ensures { OnOk result (labels.new ≡ labels.old ++ Label.Return number (lifted words.now) ∷ Label.Exit number ∷ []) }
+{
+    labels.push(Label::Return(number, lift_result(words)))?;
+    labels.push(Label::Exit(number))?;
+    Ok(())
+}
+
+/// The store's number of a core function of these instances.
+fn address_in(instances: &Instances, core: CoreFunc) -> usize
+    requires within { core.instance < length instances.now.firsts.items }
+    requires there { slice_index instances.now.firsts.items core.instance + core.func < 2 ^ 64 }
+    ensures { result ≡ slice_index instances.now.firsts.items core.instance + core.func }
+{
+    instances.firsts[core.instance] + core.func as usize
 }
 
 /// Lowers arguments to core words.
@@ -112,78 +218,54 @@ fn lift_result(words: &Words) -> Option<Value>
     Some(Value::U32(word as u32))
 }
 
-/// A store with the functions of core instances of these modules, and the number of the first function of one of them.
-fn instantiated(
-    alloc: Global,
-    instances: &[&Valid],
-    instance: usize,
-) -> Result<(Store, usize), Memory>
-    requires { instance < length instances.now }
-    ensures store { IfOk result (λ p. p.0 ≡ store_of (map (λ r. r.now) instances.now)) }
-    ensures first { IfOk result (λ p. p.1 ≡ length (store_of (take instance (map (λ r. r.now) instances.now)))) }
+/// Makes core instances of these modules.
+fn instantiated(alloc: Global, modules: &[&Valid]) -> Result<Instances, Memory>
+    ensures { IfOk result (λ i. AreMade (map (λ r. r.now) modules.now) i) }
 {
     let mut store = Store::new(alloc);
-    let mut first = 0;
-    for (number, valid) in instances.iter().enumerate() {
-        let made = add_instance(alloc, valid, &mut store)?;
-        if number == instance {
-            first = made;
-        }
+    let mut firsts = Vec::new(alloc);
+    let mut count = 0;
+    for valid in modules {
+        firsts.push(count)?;
+        count = add_instance(alloc, valid, &mut store)?;
     }
-    Ok((store, first))
+    Ok(Instances { store, firsts })
 }
 
-/// Adds the functions of an instance of a module to a store, and answers the number of the first one.
+/// Adds the functions of an instance of a module to a store, and answers how many functions it has then.
 fn add_instance(alloc: Global, valid: &Valid, store: &mut Store) -> Result<usize, Memory>
-    ensures { IfOk result (λ first. (store.new ≡ store.old ++ functions_of valid.now) × (first ≡ length store.old)) }
+    ensures added { IfOk result (λ count. (store.new ≡ store.old ++ functions_of valid.now) × (count ≡ length store.new)) }
+    ensures small { IfOk result (λ count. count < 2 ^ 64) }
 {
     match store.add(alloc, valid) {
-        Ok(made) => Ok(made.first_func),
+        Ok(_) => Ok(store.len()),
         Err(_) => Err(Memory),
     }
 }
 
-/// Runs a core function of a graph with these arguments, to the run's end. These lines stand before.
+/// Runs the core function of a call, and answers the words with which it ends, or `None` where fuel is wanting.
 fn run_core(
     alloc: Global,
     graph: &Graph,
-    core: CoreFunc,
-    words: &Words,
-    mut left: Fuel,
-    labels: Seq<Label>,
-) -> Result<Run, Memory>
-    requires instance { core.instance < length graph.now.instances }
-    requires there { address graph.now.instances core < length (store_of graph.now.instances) }
-    requires words { AreWords (params_of (slice_get (store_of graph.now.instances) (address graph.now.instances core))) words.now }
-    requires results { IsTrue (list_all is_i32 (results_of (slice_get (store_of graph.now.instances) (address graph.now.instances core)))) }
-    ensures { IfOk result (λ r. GoesOn graph.now (running_world (started (slice_get (store_of graph.now.instances) (address graph.now.instances core)) words.now) left) labels r) }
+    call: &Call,
+    instances: &mut Instances,
+    left: &mut Fuel,
+) -> Result<Option<Words>, Memory>
+    requires callable { IsCallable graph.now }
+    requires calls { CallsExport (exports_of graph.now) (Item.Call call.now) }
+    requires made { AreMade graph.now.instances instances.old }
+    ensures made { AreMade graph.now.instances instances.new }
+    ensures gives { IfOk result (λ words. CoreGives graph.now call.now left.old left.new words) }
 {
-    let (mut store, first) = instantiated(alloc, &graph.instances, core.instance)?;
-    let running = start(alloc, &store, first + core.func as usize, words)?;
-    let outcome = run(alloc, running, &mut store, &mut left);
-    ended(outcome, labels)
-}
-
-/// Ends a run by what came of its core function: the task returns and exits, or fuel is wanting.
-fn ended(outcome: Outcome, mut labels: Seq<Label>) -> Result<Run, Memory>
-    requires { GivesWords outcome }
-    ensures { IfOk result (λ r. EndsBy outcome labels r) }
-{
-    match outcome {
-        Outcome::Done(words) => {
-            labels.push(Label::Return(1, lift_result(&words)))?;
-            labels.push(Label::Exit(1))?;
-            Ok(Run {
-                labels,
-                end: End::Done,
-            })
-        }
+    let core = called(graph, call);
+    let words = lower_values(alloc, call.values.as_slice())?;
+    let func = address_in(instances, core);
+    let running = start(alloc, &instances.store, func, &words)?;
+    match run(alloc, running, &mut instances.store, left) {
+        Outcome::Done(words) => Ok(Some(words)),
         Outcome::NoFuel(running) => {
             running.give_up();
-            Ok(Run {
-                labels,
-                end: End::Fuel,
-            })
+            Ok(None)
         }
         Outcome::Memory => Err(Memory),
     }

@@ -1,18 +1,28 @@
 //! What holds of the definitions alone.
 
-ghost use Rattle.wcm.specs.Laws.{OneLinking, OneScript, ScriptsAreLines};
+ghost use Rattle.wcm.specs.Laws.{OneLinking, ScriptsAreSound, OneOutcome};
+
+use crate::run_laws::each_run_ends;
+use comp_reader::one_reading;
+use script_reader::scripts_call_exports;
 
 /// A component is linked to exactly one graph, or is refused at exactly one place for exactly one reason.
 pub fn one_linking()
     ensures { OneLinking }
 {}
 
-/// Bytes are exactly one call of a function, or are refused at exactly one place for exactly one reason.
-pub fn one_script()
-    ensures { OneScript }
-{}
+/// A script that is read for a component that is read and linked is sound.
+pub fn scripts_are_sound()
+    ensures { ScriptsAreSound }
+{
+    scripts_call_exports();
+}
 
-/// A call is a line with the function's name, and with a number for each parameter.
-pub fn scripts_are_lines()
-    ensures { ScriptsAreLines }
-{}
+/// Words whose files are told have exactly one outcome.
+pub fn one_outcome()
+    ensures { OneOutcome }
+{
+    one_reading();
+    scripts_are_sound();
+    each_run_ends();
+}

@@ -6,6 +6,7 @@ mod answer;
 mod calling;
 #[cfg(test)]
 mod calling_tests;
+mod exports;
 mod graph;
 mod laws;
 mod link_fault;
@@ -16,11 +17,6 @@ mod refusals;
 mod refusals_tests;
 mod run;
 mod run_laws;
-mod script;
-mod script_items;
-mod script_reader;
-#[cfg(test)]
-mod script_tests;
 mod spaces;
 mod status;
 mod top;

@@ -2,13 +2,14 @@
 
 ghost use Rattle.std.specs.Prelude.{◌≡◌, ◌++◌, OnOk, IfOk, codes};
 ghost use Rattle.std.specs.Fmt.{decimal};
-ghost use Rattle.wcm.specs.Refusals.{with_argument, byte_text, module_why_text, valid_why_text, component_why_text, link_why_text, refused_line, link_refused_line};
+ghost use Rattle.wcm.specs.Refusals.{with_argument, byte_text, module_why_text, valid_why_text, component_why_text, link_why_text, script_why_text, refused_line, link_refused_line, script_refused_line};
 ghost use Rattle.wcm.specs.Text.{name_text};
 
 use crate::link_fault::{LinkFault, LinkWhy};
 use crate::name_text::push_name;
 use ca_base::{Bytes, Memory, Name, Refusal, Seq};
 use comp_reader::ComponentWhy;
+use script_reader::{ScriptFault, ScriptWhy};
 use std::alloc::Global;
 use wasm_reader::ModuleWhy;
 use wasm_valid::ValidWhy;
@@ -158,6 +159,35 @@ pub fn link_refused_line(alloc: Global, fault: &LinkFault) -> Result<Bytes, Memo
     text.extend_from_slice(b"link refused")?;
     push_place(alloc, fault.place, &mut text)?;
     push_link_why(&fault.why, &mut text)?;
+    text.push(b'\n')?;
+    Ok(Seq::from_vec(text))
+}
+
+/// Appends why a script is refused.
+fn push_script_why(why: ScriptWhy, text: &mut Vec<u8>) -> Result<(), Memory>
+    ensures { OnOk result (text.new.items ≡ text.old.items ++ script_why_text why) }
+{
+    match why {
+        ScriptWhy::Size => text.extend_from_slice(b"Size")?,
+        ScriptWhy::Utf8 => text.extend_from_slice(b"Utf8")?,
+        ScriptWhy::Form => text.extend_from_slice(b"Form")?,
+        ScriptWhy::Fuel => text.extend_from_slice(b"Fuel")?,
+        ScriptWhy::Export => text.extend_from_slice(b"Export")?,
+        ScriptWhy::Value => text.extend_from_slice(b"Value")?,
+    }
+    Ok(())
+}
+
+/// The line for a script file that is refused.
+pub fn script_refused_line(alloc: Global, fault: ScriptFault) -> Result<Bytes, Memory>
+    ensures { IfOk result (λ text. text ≡ script_refused_line fault) }
+{
+    let digits = fault.line.to_string(alloc)?;
+    let mut text = Vec::new(alloc);
+    text.extend_from_slice(b"script refused at line ")?;
+    text.extend_from_slice(digits.as_bytes())?;
+    text.extend_from_slice(b": ")?;
+    push_script_why(fault.why, &mut text)?;
     text.push(b'\n')?;
     Ok(Seq::from_vec(text))
 }

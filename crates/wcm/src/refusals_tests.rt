@@ -1,9 +1,10 @@
 //! Examples of the lines that tell of a refusal.
 
 use crate::link_fault::{LinkFault, LinkWhy};
-use crate::refusals::{link_refused_line, refused_line};
+use crate::refusals::{link_refused_line, refused_line, script_refused_line};
 use ca_base::{Name, Refusal};
 use comp_reader::ComponentWhy;
+use script_reader::{ScriptFault, ScriptWhy};
 use std::test::Fail;
 use wasm_reader::ModuleWhy;
 use wasm_valid::ValidWhy;
@@ -102,6 +103,30 @@ fn links(rt: HostRuntime) -> Result<(), Fail> {
         (LinkWhy::Limit, "link refused at 94: Limit\n"),
     ] {
         let text = link_refused_line(alloc, &LinkFault { place: 94, why })?;
+        assert_eq!(rt; text.as_slice(), want.as_bytes());
+    }
+    Ok(())
+}
+
+#[test]
+fn scripts(rt: HostRuntime) -> Result<(), Fail> {
+    for (line, why, want) in [
+        (0, ScriptWhy::Size, "script refused at line 0: Size\n"),
+        (1, ScriptWhy::Utf8, "script refused at line 1: Utf8\n"),
+        (2, ScriptWhy::Form, "script refused at line 2: Form\n"),
+        (10, ScriptWhy::Fuel, "script refused at line 10: Fuel\n"),
+        (
+            65_536,
+            ScriptWhy::Export,
+            "script refused at line 65536: Export\n",
+        ),
+        (
+            1_048_577,
+            ScriptWhy::Value,
+            "script refused at line 1048577: Value\n",
+        ),
+    ] {
+        let text = script_refused_line(rt.alloc(), ScriptFault { line, why })?;
         assert_eq!(rt; text.as_slice(), want.as_bytes());
     }
     Ok(())

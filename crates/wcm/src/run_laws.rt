@@ -2,7 +2,7 @@
 
 ghost use Rattle.wcm.specs.RunLaws.{OneNext, OneRun, EachRunEnds};
 
-/// At each world of a run of sound calls one move comes next, and it is the only one.
+/// At each world of the run of a sound script one move comes next, and it is the only one.
 pub fn one_next()
     ensures { OneNext }
 {}
@@ -12,7 +12,7 @@ pub fn one_run()
     ensures { OneRun }
 {}
 
-/// A call with enough fuel has a run that is done.
+/// A sound script has a run, which is done where its fuel is enough.
 pub fn each_run_ends()
     ensures { EachRunEnds }
 {}

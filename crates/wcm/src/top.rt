@@ -5,7 +5,7 @@ ghost use Rattle.ca_base.specs.Causes.{Rose};
 ghost use Rattle.ca_base.specs.Bytes.{grown, TookFront};
 ghost use Rattle.wcm.specs.declared.answer.Answer.{Answer};
 ghost use Rattle.wcm.specs.declared.run.End.TheVariants as end;
-ghost use Rattle.wcm.specs.Outcome.{Outcome, IsTold, NamesRefused, NamesLinkRefused, NamesNoScript, NamesRun};
+ghost use Rattle.wcm.specs.Outcome.{Outcome, IsTold, NamesRefused, NamesLinkRefused, NamesScriptRefused, NamesRun};
 ghost use Rattle.wcm.specs.Status.{IsGiven, IsFinal};
 ghost use Rattle.wcm.specs.Words.{plain};
 ghost use Rattle.wcm.specs.Written.{WroteAll, WroteFront};
@@ -37,8 +37,8 @@ fn write_answer<K: Sink>(answer: &Answer, out: &mut K, err: &mut K) -> Result<()
 }
 
 /// Runs the command that the words say, over the files, the output and the error output that are handed in, and
-/// answers how it ends. `words[0]` is the program's name. The one command is `run FILE SCRIPT`: it reads the component
-/// file and the script file, runs the call, and writes the trace to the output.
+/// answers how it ends. `words[0]` is the program's name. The one command is `run FILE SCRIPT`: it reads and links the
+/// component file, reads the script file, makes the script's calls, and writes the trace to the output.
 #[tactic(auto, using(crate::proofs::Taken::grown_nil, crate::proofs::Taken::took))]
 pub fn run_words<F: Files, K: Sink>(
     alloc: Global,
@@ -56,6 +56,11 @@ pub fn run_words<F: Files, K: Sink>(
         → (a : Answer) × Outcome (map string_bytes words.now) (F.held files.old) a × (result ≡ a.status)
         × WroteAll a (K.taken out.old) (K.taken out.new) (K.taken err.old) (K.taken err.new) }
 
+    // The same where no fault and no want of memory ended the call.
+    ensures written { IsTold (map string_bytes words.now) (F.held files.old) → IsFinal result
+        → (a : Answer) × Outcome (map string_bytes words.now) (F.held files.old) a × (result ≡ a.status)
+        × WroteAll a (K.taken out.old) (K.taken out.new) (K.taken err.old) (K.taken err.new) }
+
     // Usage, exactly where the words are no command. Files and outputs are left alone with it.
     ensures usage { (result ≡ Status.Usage) ↔ (plain (map string_bytes words.now) ≡ None) }
     ensures usage_is_silent { result ≡ Status.Usage → (files.new ≡ files.old) × (out.new ≡ out.old) × (err.new ≡ err.old) }
@@ -66,7 +71,7 @@ pub fn run_words<F: Files, K: Sink>(
     ensures link_refused { IsTold (map string_bytes words.now) (F.held files.old) → IsFinal result
         → ((result ≡ Status.LinkRefused) ↔ NamesLinkRefused (map string_bytes words.now) (F.held files.old)) }
     ensures script_refused { IsTold (map string_bytes words.now) (F.held files.old) → IsFinal result
-        → ((result ≡ Status.ScriptRefused) ↔ NamesNoScript (map string_bytes words.now) (F.held files.old)) }
+        → ((result ≡ Status.ScriptRefused) ↔ NamesScriptRefused (map string_bytes words.now) (F.held files.old)) }
     ensures done { IsTold (map string_bytes words.now) (F.held files.old) → IsFinal result
         → ((result ≡ Status.Done) ↔ NamesRun (map string_bytes words.now) (F.held files.old) end.Done) }
     ensures fuel { IsTold (map string_bytes words.now) (F.held files.old) → IsFinal result

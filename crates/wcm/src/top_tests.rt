@@ -123,7 +123,7 @@ fn components_are_refused(rt: HostRuntime) -> Result<(), Fail> {
     ] {
         let refused = ends_with(Status::Refused, "", err);
         check(&rt, rt.alloc(), &plain(component, call), &refused)?;
-        check(&rt, rt.alloc(), &plain(component, ""), &refused)?;
+        check(&rt, rt.alloc(), &plain(component, "calls"), &refused)?;
     }
     Ok(())
 }
@@ -185,7 +185,7 @@ fn components_are_not_linked(rt: HostRuntime) -> Result<(), Fail> {
         let refused = ends_with(Status::LinkRefused, "", err);
         let call = "call add (2, 3)\n";
         check(&rt, rt.alloc(), &plain(component, call), &refused)?;
-        check(&rt, rt.alloc(), &plain(component, ""), &refused)?;
+        check(&rt, rt.alloc(), &plain(component, "calls"), &refused)?;
     }
     Ok(())
 }
@@ -204,10 +204,10 @@ fn instances(alloc: Global, numbers: &[u8], count: u16) -> Result<Vec<u8>, Fail>
 
 #[test]
 fn core_instances_have_a_limit(rt: HostRuntime) -> Result<(), Fail> {
-    let script_refused = ends_with(Status::ScriptRefused, "", "script refused\n");
+    let done = ends_with(Status::Done, "done\n", "");
     let refused = ends_with(Status::LinkRefused, "", "link refused at 791: Limit\n");
     for (numbers, count, wanted) in [
-        (b"\x82\x06\x80\x02", 256, script_refused),
+        (b"\x82\x06\x80\x02", 256, done),
         (b"\x85\x06\x81\x02", 257, refused),
     ] {
         let component = instances(rt.alloc(), numbers, count)?;
@@ -218,15 +218,86 @@ fn core_instances_have_a_limit(rt: HostRuntime) -> Result<(), Fail> {
 
 #[test]
 fn scripts_are_refused(rt: HostRuntime) -> Result<(), Fail> {
-    let script_refused = ends_with(Status::ScriptRefused, "", "script refused\n");
-    for script in [
-        "",
-        "call add (2)\n",
-        "call add (2, 4294967296)\n",
-        "call sub (2, 3)\n",
-        "\ncall add (2, 3)",
+    for (script, err) in [
+        ("call add (2)\n", "script refused at line 1: Value\n"),
+        ("fuel 0\n", "script refused at line 1: Fuel\n"),
+        ("calls\n", "script refused at line 1: Form\n"),
+        ("call sub (2, 3)\n", "script refused at line 1: Export\n"),
+        (
+            "call add (2, 3)\ncall add (2, 4294967296)\n",
+            "script refused at line 2: Value\n",
+        ),
     ] {
-        check(&rt, rt.alloc(), &plain(&ADD, script), &script_refused)?;
+        check(
+            &rt,
+            rt.alloc(),
+            &plain(&ADD, script),
+            &ends_with(Status::ScriptRefused, "", err),
+        )?;
+    }
+    Ok(())
+}
+
+#[test]
+fn a_component_without_items_has_no_calls(rt: HostRuntime) -> Result<(), Fail> {
+    let none = b"\0asm\x0D\0\x01\0";
+    let done = ends_with(Status::Done, "done\n", "");
+    check(&rt, rt.alloc(), &plain(none, ""), &done)?;
+    let refused = ends_with(
+        Status::ScriptRefused,
+        "",
+        "script refused at line 1: Export\n",
+    );
+    check(&rt, rt.alloc(), &plain(none, "call add (1, 2)\n"), &refused)
+}
+
+#[test]
+fn a_name_with_a_sharp_is_called(rt: HostRuntime) -> Result<(), Fail> {
+    let mut component = ADD;
+    component[95] = b'#';
+    component[96] = b'b';
+    let out = "take 1 T1 a#b (2, 3)\nenter T1\nreturn T1 (5)\nexit T1\ndone\n";
+    check(
+        &rt,
+        rt.alloc(),
+        &plain(&component, "call a#b (2, 3)\n"),
+        &ends_with(Status::Done, out, ""),
+    )
+}
+
+#[test]
+fn calls_are_made_one_after_the_other(rt: HostRuntime) -> Result<(), Fail> {
+    let out = "take 1 T1 add (2, 3)\nenter T1\nreturn T1 (5)\nexit T1\n\
+               take 2 T2 add (40, 2)\nenter T2\nreturn T2 (42)\nexit T2\ndone\n";
+    check(
+        &rt,
+        rt.alloc(),
+        &plain(&ADD, "call add (2, 3)\ncall add (40, 2)\n"),
+        &ends_with(Status::Done, out, ""),
+    )
+}
+
+#[test]
+fn runs_end_by_want_of_fuel(rt: HostRuntime) -> Result<(), Fail> {
+    let taken = "take 1 T1 add (2, 3)\nenter T1\nfuel\n";
+    let again = "take 1 T1 add (2, 3)\nenter T1\nreturn T1 (5)\nexit T1\nfuel\n";
+    let done = "take 1 T1 add (2, 3)\nenter T1\nreturn T1 (5)\nexit T1\ndone\n";
+    for (script, status, out) in [
+        ("fuel 1\ncall add (2, 3)\n", Status::Fuel, taken),
+        ("fuel 3\ncall add (2, 3)\n", Status::Fuel, taken),
+        ("fuel 4\ncall add (2, 3)\n", Status::Done, done),
+        (
+            "fuel 4\ncall add (2, 3)\ncall add (2, 3)\n",
+            Status::Fuel,
+            again,
+        ),
+    ] {
+        check(
+            &rt,
+            rt.alloc(),
+            &plain(&ADD, script),
+            &ends_with(status, out, ""),
+        )?;
     }
     Ok(())
 }

@@ -1,4 +1,4 @@
-use Rattle.std.proofs.Common.{◌≡◌, ◌∙◌, ap, sym, refl, find}
+use Rattle.std.proofs.Common.{◌∙◌, ap, sym, refl, find}
 use Rattle.std.specs.Option.{option_map}
 use Rattle.std.specs.Str.{bytes_eq}
 use Rattle.wcm.specs.Linking.{Graph}

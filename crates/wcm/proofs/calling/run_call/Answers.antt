@@ -1,11 +1,17 @@
-use Rattle.std.proofs.Common.{◌≡◌, ◌∙◌, suc, arith, ap, refl, map}
-use Rattle.std.proofs.lemmas.Result.{IfOk-weaker}
-use Rattle.wcm.specs.Run.{lowered}
-use Rattle.wcm.proofs.Calls.{call_goes_on, no_fuel}
+use Rattle.std.proofs.Common.{◌≡◌, suc, arith, refl}
+use Rattle.wasm_machine.proofs.Reaching.{none_left}
+use Rattle.wcm.proofs.Calls.{call_goes_on, call_stops, call_lacks}
 use Rattle.wcm.proofs.calling.run_call.Goals as goal
 
-pub returns : goal.returns
-returns c =
-    let units : c.args.fuel ≡ suc c.spend.new.self = (let left = c.spend.ensures.left in omega (arith, c.if-not-spend.ensures.spent.0 refl)) in
-    let words : c.in_ok-words.words ≡ map lowered c.args.call.values = c.in_ok-words.ensures.value ∙ ap (map lowered) c.as_slice.ensures in
-    IfOk-weaker c.run_core.result _ _ (λ r h. call_goes_on c.args.graph.now c.args.call c.called-core.result c.args.fuel c.spend.new.self c.in_ok-words.words c.in_ok-labels.labels r c.called-core.ensures units words c.in_ok-labels.ensures h) c.run_core.ensures
+pub returns-then-not-spend-clause-runs : goal.returns-then-not-spend-clause-runs
+returns-then-not-spend-clause-runs c = call_lacks c.args.graph.now c.args.call.now c.args.number c.args.left.now c.args.labels.now c.requires.callable c.requires.calls (none_left c.args.left.now c.if-not-spend.ensures.spent.1)
+
+pub returns-in-None-clause-runs : goal.returns-in-None-clause-runs
+returns-in-None-clause-runs c =
+    let units : c.args.left.now ≡ suc c.spend.new.self = (let left = c.spend.ensures.left in omega (arith, c.if-not-spend.ensures.spent.0 refl)) in
+    call_stops c.args.graph.now c.args.call.now c.args.number c.args.left.now c.spend.new.self c.args.labels.now c.push_before.new.labels units (rw c.in-None.is at c.in_ok-words.ensures.gives) c.in_ok-push_before.ensures
+
+pub returns-in_ok-push_after-in-Some-clause-runs : goal.returns-in_ok-push_after-in-Some-clause-runs
+returns-in_ok-push_after-in-Some-clause-runs c =
+    let units : c.args.left.now ≡ suc c.spend.new.self = (let left = c.spend.ensures.left in omega (arith, c.if-not-spend.ensures.spent.0 refl)) in
+    call_goes_on c.args.graph.now c.args.call.now c.args.number c.args.left.now c.spend.new.self c.run_core.new.left c.in-Some.words c.args.labels.now c.push_before.new.labels c.push_after.new.labels units (rw c.in-Some.is at c.in_ok-words.ensures.gives) c.in_ok-push_before.ensures c.in_ok-push_after-in-Some.ensures

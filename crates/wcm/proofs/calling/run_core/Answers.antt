@@ -1,29 +1,40 @@
-use Rattle.std.proofs.Common.{◌≡◌, ◌∙◌, ap, ◌+◌, ℕ, List, map, take, length, true, Option}
-use Rattle.std.specs.List.{slice_get, list_all}
-use Rattle.std.proofs.lemmas.Result.{IfOk-weaker}
-use Rattle.wasm_reader.specs.declared.module.ModuleTree.{ModuleTree}
-use Rattle.wasm_machine.specs.declared.store.Function.{Function}
+use Rattle.std.proofs.Common.{◌≡◌, ◌∙◌, ap, sym, subst, arith, map, length, List}
+use Rattle.std.specs.List.{slice_get}
+use Rattle.wasm_reader.specs.declared.module.ValType.{ValType}
+use Rattle.wasm_reader.specs.declared.module.ValType.TheVariants.{I32}
+use Rattle.wasm_machine.specs.Step.{AreWords}
+use Rattle.wasm_machine.specs.Store.{params_of}
 use Rattle.wasm_machine.specs.Running.{stack_of}
-use Rattle.wasm_machine.specs.Store.{results_of}
-use Rattle.wcm.specs.Linking.{Graph, is_i32}
-use Rattle.wcm.specs.Run.{store_of, address, started}
-use Rattle.wcm.proofs.Calls.{gives_on, gives_words}
+use Rattle.wcm.specs.Run.{lowered, entered}
+use Rattle.wcm.proofs.Calls.{place_in, found_in, enters, core_ends, core_waits}
 use Rattle.wcm.proofs.calling.run_core.Goals as goal
 
-pub ended-requires : goal.ended-requires
-ended-requires c =
-    let trees : map (λ r. r.now) c.deref.result.now ≡ c.args.graph.now.instances = ap (map (λ r. r.now)) c.deref.ensures.value ∙ ap (λ (g : Graph). g.instances) c.graph.view_is in
-    let store : c.in_ok-store.store ≡ store_of c.args.graph.now.instances = c.in_ok-store.ensures.store ∙ ap store_of trees in
-    let place : c.in_ok-store.first + c.args.core.func ≡ address c.args.graph.now.instances c.args.core = ap (λ (n : ℕ). n + c.args.core.func) (c.in_ok-store.ensures.first ∙ ap (λ (ts : List ModuleTree). length (store_of (take c.args.core.instance ts))) trees) in
-    let found : slice_get c.in_ok-store.store (c.in_ok-store.first + c.args.core.func) ≡ slice_get (store_of c.args.graph.now.instances) (address c.args.graph.now.instances c.args.core) = ap (λ (s : List Function). slice_get s (c.in_ok-store.first + c.args.core.func)) store ∙ ap (slice_get (store_of c.args.graph.now.instances)) place in
-    let results : list_all is_i32 (results_of (slice_get c.in_ok-store.store c.in_ok-running.running.func)) ≡ true = ap (λ (n : ℕ). list_all is_i32 (results_of (slice_get c.in_ok-store.store n))) c.in_ok-running.ensures.func ∙ (ap (λ (o : Option Function). list_all is_i32 (results_of o)) found ∙ c.requires.results) in
-    gives_words c.in_ok-store.store c.in_ok-running.running _ _ c.run-outcome.result results c.run-outcome.ensures.gives
+pub start-requires : goal.start-requires
+start-requires c =
+    let place = place_in c.args.graph.now.instances c.args.instances.now c.called-core.result c.address_in-func.result c.requires.made c.called-core.ensures.instance c.address_in-func.ensures in
+    let found = found_in c.args.graph.now.instances c.args.instances.now c.called-core.result c.address_in-func.result c.requires.made place in
+    let types : params_of (slice_get c.args.instances.now.store c.address_in-func.result) ≡ map (λ v. I32) c.as_slice.result.now = ap params_of found ∙ (c.called-core.ensures.params ∙ ap (map (λ v. I32)) (sym c.as_slice.ensures)) in
+    record {
+      there = (let within = c.called-core.ensures.within in omega (arith, place, ap length c.requires.made.store, within));
+      args = subst (λ (types : List ValType). AreWords types c.in_ok-words.words) (sym types) c.in_ok-words.ensures.words;
+    }
 
-pub returns : goal.returns
-returns c =
-    let trees : map (λ r. r.now) c.deref.result.now ≡ c.args.graph.now.instances = ap (map (λ r. r.now)) c.deref.ensures.value ∙ ap (λ (g : Graph). g.instances) c.graph.view_is in
-    let store : c.in_ok-store.store ≡ store_of c.args.graph.now.instances = c.in_ok-store.ensures.store ∙ ap store_of trees in
-    let place : c.in_ok-store.first + c.args.core.func ≡ address c.args.graph.now.instances c.args.core = ap (λ (n : ℕ). n + c.args.core.func) (c.in_ok-store.ensures.first ∙ ap (λ (ts : List ModuleTree). length (store_of (take c.args.core.instance ts))) trees) in
-    let found : slice_get c.in_ok-store.store (c.in_ok-store.first + c.args.core.func) ≡ slice_get (store_of c.args.graph.now.instances) (address c.args.graph.now.instances c.args.core) = ap (λ (s : List Function). slice_get s (c.in_ok-store.first + c.args.core.func)) store ∙ ap (slice_get (store_of c.args.graph.now.instances)) place in
-    let here : stack_of c.in_ok-store.store c.in_ok-running.running ≡ started (slice_get (store_of c.args.graph.now.instances) (address c.args.graph.now.instances c.args.core)) c.args.words.now = c.in_ok-running.ensures.stack ∙ ap (λ (o : Option Function). started o c.args.words.now) found in
-    IfOk-weaker c.ended.result _ _ (λ r e. gives_on c.args.graph.now c.in_ok-store.store c.in_ok-running.running _ c.args.left _ c.run-outcome.result c.args.labels r here c.run-outcome.ensures.gives e) c.ended.ensures
+pub run-requires : goal.run-requires
+run-requires c = c.in_ok-running.ensures.running
+
+pub returns-in-Done-clause-gives : goal.returns-in-Done-clause-gives
+returns-in-Done-clause-gives c =
+    let place = place_in c.args.graph.now.instances c.args.instances.now c.called-core.result c.address_in-func.result c.requires.made c.called-core.ensures.instance c.address_in-func.ensures in
+    let found = found_in c.args.graph.now.instances c.args.instances.now c.called-core.result c.address_in-func.result c.requires.made place in
+    let words : c.in_ok-words.words ≡ map lowered c.args.call.now.values = c.in_ok-words.ensures.value ∙ ap (map lowered) c.as_slice.ensures in
+    let at : stack_of c.args.instances.now.store c.in_ok-running.running ≡ entered c.args.graph.now c.called-core.ensures.func c.args.call.now.values = c.in_ok-running.ensures.stack ∙ enters c.args.graph.now c.args.call.now c.called-core.result c.in_ok-words.words _ c.called-core.ensures found words in
+    let there = ap (slice_get c.args.instances.now.store) c.in_ok-running.ensures.func ∙ found in
+    core_ends c.args.graph.now c.args.call.now c.called-core.result c.args.instances.now.store c.in_ok-running.running _ _ c.in-Done.words c.called-core.ensures there at c.in-Done.ensures.gives
+
+pub returns-in-NoFuel-clause-gives : goal.returns-in-NoFuel-clause-gives
+returns-in-NoFuel-clause-gives c =
+    let place = place_in c.args.graph.now.instances c.args.instances.now c.called-core.result c.address_in-func.result c.requires.made c.called-core.ensures.instance c.address_in-func.ensures in
+    let found = found_in c.args.graph.now.instances c.args.instances.now c.called-core.result c.address_in-func.result c.requires.made place in
+    let words : c.in_ok-words.words ≡ map lowered c.args.call.now.values = c.in_ok-words.ensures.value ∙ ap (map lowered) c.as_slice.ensures in
+    let at : stack_of c.args.instances.now.store c.in_ok-running.running ≡ entered c.args.graph.now c.called-core.ensures.func c.args.call.now.values = c.in_ok-running.ensures.stack ∙ enters c.args.graph.now c.args.call.now c.called-core.result c.in_ok-words.words _ c.called-core.ensures found words in
+    core_waits c.args.graph.now c.args.call.now c.called-core.result c.args.instances.now.store c.in_ok-running.running c.in-NoFuel.running _ _ c.called-core.ensures at c.in-NoFuel.ensures.gives

@@ -15,6 +15,14 @@ returns-in_default-clause-headline g c = λ told files out err memory. (
   record { out = sym (grown_nil _); err = sym (grown_nil _) },
 )
 
+pub returns-in_default-clause-written : goal.returns-in_default-clause-written
+returns-in_default-clause-written g c = λ told final. (
+  usage_answer,
+  subst (λ (o : Option (List ℕ × List ℕ)). MatchOption o (◌≡◌ {A = Answer} usage_answer usage_answer) (λ p. HeldAnswers (g.F.Files.held c.args.files.now p.0) (g.F.Files.held c.args.files.now p.1) usage_answer)) (sym c.in_default.ensures) refl,
+  refl,
+  record { out = sym (grown_nil _); err = sym (grown_nil _) },
+)
+
 pub returns-in-Ok-write_answer-clause-refused : goal.returns-in-Ok-write_answer-clause-refused
 returns-in-Ok-write_answer-clause-refused g c = λ told final. row_refused _ (g.F.Files.held c.args.files.now) _ _ c.in-Ok.answer c.in-Some.ensures c.in-Ok.ensures.files told
 

@@ -1,0 +1,159 @@
+-- The core modules of a component that is read are typed.
+use Rattle.std.proofs.Common.{◌≡◌, ℕ, zero, suc, Bool, true, false, List, [], ◌∷◌, ◌++◌, Option, Some, None, refl, sym, subst}
+use Rattle.std.specs.Prelude.{◌==◌}
+use Rattle.std.specs.List.{flat_map, AllByRecursion}
+use Rattle.std.specs.Option.{option_map}
+use Rattle.ca_base.specs.Span.{Span, window}
+use Rattle.ca_base.specs.Grammar.{Grammar, Give, Refuse, Choose, ◌>>=◌, Matches}
+use Rattle.ca_base.specs.Items.{NumberReasons, Reasons, placed_times, placed_vec, many, sized}
+use Rattle.ca_base.specs.declared.placed.Placed.{Placed}
+use Rattle.wasm_reader.specs.declared.module.ModuleTree.{ModuleTree}
+use Rattle.wasm_valid.specs.declared.fault.ValidFault.{ValidFault}
+use Rattle.wasm_valid.specs.Checking.{first_fault, untyped, told}
+use Rattle.wasm_valid.specs.Typing.{Typed}
+use Rattle.wasm_valid.proofs.Decides.{module_typed}
+use Rattle.comp_reader.specs.declared.component.Item.{Item}
+use Rattle.comp_reader.specs.declared.component.Item.TheVariants as item
+use Rattle.comp_reader.specs.declared.component.Component.{Component}
+use Rattle.comp_reader.specs.declared.fault.ComponentWhy.{ComponentWhy}
+use Rattle.comp_reader.specs.declared.fault.ComponentWhy.TheVariants.{Unsupported}
+use Rattle.comp_reader.specs.Binary.{numbers, reasons, validated, core_module, core_instance, alias, type_item, canon, export, custom_items, module_items, payload, is_section, section, component, IsComponent}
+
+-- an item that is typed, if it is a core module
+abbrev pub ItemTyped : Item → Type 0
+ItemTyped (item.CoreModule m) = Typed m
+ItemTyped (item.CoreInstance i) = Unit {0}
+ItemTyped (item.Alias a) = Unit {0}
+ItemTyped (item.Type t) = Unit {0}
+ItemTyped (item.Canon c) = Unit {0}
+ItemTyped (item.Export e) = Unit {0}
+
+abbrev PlacedTyped : Placed Item → Type 0
+PlacedTyped p = AllByRecursion ItemTyped p.items
+
+-- What a grammar stands for has this property.
+abbrev Gives : {W A : Type 0} → (A → Type 0) → Grammar W A → Type 0
+Gives {W} {A} P g = (s : Span W) (x : A) (t : Span W) → Matches g s x t → P x
+
+-- Several items.
+placed_give : {W A : Type 0} (P : A → Type 0) (g : Grammar W A) → Gives P g → (count : ℕ) (s : Span W) (x : Placed A) (t : Span W) → Matches (placed_times count g) s x t → AllByRecursion P x.items
+unfolding placed_times
+placed_give P g h zero s x t m = subst (λ (p : Placed _). AllByRecursion P p.items) (sym m.0) tt
+placed_give P g h (suc count) s x t m =
+    let others = placed_give P g h count m.3.1 m.3.3.0 m.3.3.1 m.3.3.2 in
+    subst (λ (p : Placed _). AllByRecursion P p.items) (sym m.3.3.3.0) (h m.1 m.3.0 m.3.1 m.3.2, others)
+
+many_tested : {W A : Type 0} (P : A → Type 0) (g : Grammar W A) (others : Grammar W (List A)) → Gives P g → Gives (AllByRecursion P) others → (b : Bool) (s : Span W) (x : List A) (t : Span W) → Matches (Choose b (Give []) (g >>= (λ first. others >>= (λ more. Give (first ∷ more))))) s x t → AllByRecursion P x
+many_tested P g others h r true s x t m = subst (AllByRecursion P) (sym m.0) tt
+many_tested P g others h r false s x t m = subst (AllByRecursion P) (sym m.3.3.0) (h s m.0 m.1 m.2, r m.1 m.3.0 m.3.1 m.3.2)
+
+many_give : {W A : Type 0} (P : A → Type 0) (g : Grammar W A) → Gives P g → (count : ℕ) (s : Span W) (x : List A) (t : Span W) → Matches (many count g) s x t → AllByRecursion P x
+unfolding many
+many_give P g h zero s x t m = subst (AllByRecursion P) (sym m.0) tt
+many_give P g h (suc count) s x t m = many_tested P g (many count g) h (λ u y v n. many_give P g h count u y v n) _ m.1 x t m.3
+
+choice_gives : {W A : Type 0} (P : A → Type 0) (g k : Grammar W A) → Gives P g → Gives P k → (b : Bool) (s : Span W) (x : A) (t : Span W) → Matches (Choose b g k) s x t → P x
+choice_gives P g k h i true s x t m = h s x t m
+choice_gives P g k h i false s x t m = i s x t m
+
+sized_gives : {W A : Type 0} (P : A → Type 0) (n : NumberReasons W) (r : Reasons W) (g : Grammar W A) → Gives P g → (s : Span W) (x : A) (t : Span W) → Matches (sized n r g) s x t → P x
+sized_gives P n r g h s x t m = h (window m.0 r.section_size m.1) x m.3.2.0 m.3.2.1
+
+-- A core module that has no fault is typed.
+no_fault : {A B : Type 0} (f : A → B) (o : Option A) → option_map f o ≡ None → o ≡ None
+no_fault f None h = refl
+no_fault f (Some x) h = cc
+
+valid_typed : (tree : ModuleTree) (o : Option ValidFault) (s : Span ComponentWhy) (x : ModuleTree) (t : Span ComponentWhy) → (o ≡ None → Typed tree) → Matches (validated tree o) s x t → Typed x
+valid_typed tree None s x t h m = subst Typed (sym m.0) (h refl)
+valid_typed tree (Some fault) s x t h m = absurd m
+
+module_gives : Gives ItemTyped core_module
+unfolding core_module
+module_gives s x t m =
+    let read = m.0 in
+    let typed = valid_typed read.tree (untyped read.tree read.places) m.1 m.3.0 m.3.1 (λ e. module_typed read.tree (no_fault (told read.places) (first_fault read.tree) e)) m.3.2 in
+    subst ItemTyped (sym m.3.3.0) typed
+
+-- The other items are no core modules.
+instance_gives : Gives ItemTyped core_instance
+unfolding core_instance
+instance_gives s x t m = subst ItemTyped (sym m.3.3.3.0) tt
+
+alias_gives : Gives ItemTyped alias
+unfolding alias
+alias_gives s x t m = subst ItemTyped (sym m.3.3.3.3.3.0) tt
+
+type_gives : Gives ItemTyped type_item
+unfolding type_item
+type_gives s x t m = subst ItemTyped (sym m.3.0) tt
+
+canon_gives : Gives ItemTyped canon
+unfolding canon
+canon_gives s x t m = subst ItemTyped (sym m.3.3.3.3.3.0) tt
+
+export_gives : Gives ItemTyped export
+unfolding export
+export_gives s x t m = subst ItemTyped (sym m.3.3.3.3.0) tt
+
+-- Sections.
+custom_gives : Gives PlacedTyped custom_items
+unfolding custom_items
+custom_gives s x t m = subst PlacedTyped (sym m.3.0) tt
+
+of_module : Gives PlacedTyped module_items
+unfolding module_items
+of_module s x t m = subst PlacedTyped (sym m.3.3.0) (module_gives m.1 m.3.0 m.3.1 m.3.2, tt)
+
+vec_gives : (g : Grammar ComponentWhy Item) → Gives ItemTyped g → Gives PlacedTyped (placed_vec numbers g)
+vec_gives g h s x t m = placed_give ItemTyped g h m.0 m.1 x t m.3
+
+abbrev without_types : ℕ → Grammar ComponentWhy (Placed Item)
+without_types id = Choose (id == 8) (placed_vec numbers canon) (placed_vec numbers export)
+
+abbrev without_aliases : ℕ → Grammar ComponentWhy (Placed Item)
+without_aliases id = Choose (id == 7) (placed_vec numbers type_item) (without_types id)
+
+abbrev without_instances : ℕ → Grammar ComponentWhy (Placed Item)
+without_instances id = Choose (id == 6) (placed_vec numbers alias) (without_aliases id)
+
+abbrev without_modules : ℕ → Grammar ComponentWhy (Placed Item)
+without_modules id = Choose (id == 2) (placed_vec numbers core_instance) (without_instances id)
+
+abbrev without_customs : ℕ → Grammar ComponentWhy (Placed Item)
+without_customs id = Choose (id == 1) module_items (without_modules id)
+
+payload_gives : (id : ℕ) → Gives PlacedTyped (payload id)
+unfolding payload
+payload_gives id =
+    choice_gives PlacedTyped custom_items (without_customs id) custom_gives
+    (choice_gives PlacedTyped module_items (without_modules id) of_module
+    (choice_gives PlacedTyped (placed_vec numbers core_instance) (without_instances id) (vec_gives core_instance instance_gives)
+    (choice_gives PlacedTyped (placed_vec numbers alias) (without_aliases id) (vec_gives alias alias_gives)
+    (choice_gives PlacedTyped (placed_vec numbers type_item) (without_types id) (vec_gives type_item type_gives)
+    (choice_gives PlacedTyped (placed_vec numbers canon) (placed_vec numbers export) (vec_gives canon canon_gives) (vec_gives export export_gives) (id == 8))
+    (id == 7)) (id == 6)) (id == 2)) (id == 1)) (id == 0)
+
+nothing_gives : {W A : Type 0} (P : A → Type 0) (place : ℕ) (why : W) → Gives P (Refuse place why)
+nothing_gives P place why s x t m = absurd m
+
+section_gives : Gives PlacedTyped section
+unfolding section
+section_gives s x t m =
+    let id = m.3.0 in
+    choice_gives PlacedTyped (sized numbers reasons (payload id)) (Refuse m.0 (Unsupported id)) (sized_gives PlacedTyped numbers reasons (payload id) (payload_gives id)) (nothing_gives PlacedTyped m.0 (Unsupported id)) (is_section id) m.3.1 x t m.3.3
+
+pub all_append : {A : Type 0} (P : A → Type 0) (xs ys : List A) → AllByRecursion P xs → AllByRecursion P ys → AllByRecursion P (xs ++ ys)
+all_append P [] ys h k = k
+all_append P (x ∷ xs) ys h k = (h.0, all_append P xs ys h.1 k)
+
+joined_typed : (parts : List (Placed Item)) → AllByRecursion PlacedTyped parts → AllByRecursion ItemTyped (flat_map (λ part. part.items) parts)
+joined_typed [] h = tt
+joined_typed (part ∷ parts) h = all_append ItemTyped part.items (flat_map (λ part. part.items) parts) h.0 (joined_typed parts h.1)
+
+pub component_typed : (bytes : List ℕ) (c : Component) → IsComponent bytes c → AllByRecursion ItemTyped c.items
+unfolding component
+component_typed bytes c m =
+    let sections = m.3.0 in
+    let all = many_give PlacedTyped section section_gives m.3.2.0 m.3.2.1 sections m.3.1 m.3.2.3 in
+    subst (λ (c : Component). AllByRecursion ItemTyped c.items) (sym m.3.3.3.0) (joined_typed sections all)

@@ -1,0 +1,61 @@
+-- Words whose files are told have exactly one outcome.
+use Rattle.std.proofs.Common.{◌≡◌, ℕ, List, length, Option, Some, None, Result, Ok, Err, inl, inr, refl, nat_le}
+use Rattle.std.specs.Bool.{if◌then◌else◌}
+use Rattle.std.specs.Option.{IsSome, MatchOption}
+use Rattle.std.proofs.lemmas.Bool.{cases_lt}
+use Rattle.comp_reader.specs.declared.component.Component.{Component}
+use Rattle.comp_reader.specs.Binary.{IsComponent}
+use Rattle.comp_reader.specs.Laws.{OneReading}
+use Rattle.script_reader.specs.declared.fault.ScriptFault.{ScriptFault}
+use Rattle.script_reader.specs.Script.{Script, script}
+use Rattle.wcm.specs.declared.answer.Answer.{Answer}
+use Rattle.wcm.specs.declared.link_fault.LinkFault.{LinkFault}
+use Rattle.wcm.specs.declared.run.End.{End}
+use Rattle.wcm.specs.declared.run.End.TheVariants.{Done, Fuel}
+use Rattle.wcm.specs.Linking.{Graph, exports_of, linked, IsLinked}
+use Rattle.wcm.specs.Laws.{ScriptsAreSound, OneOutcome}
+use Rattle.wcm.specs.RunLaws.{EachRunEnds, cost}
+use Rattle.wcm.specs.Words.{plain}
+use Rattle.wcm.specs.Outcome.{component_limit, too_long, usage_answer, refused_answer, link_refused_answer, script_refused_answer, run_answer, ScriptAnswers, LinkAnswers, FileAnswers, HeldAnswers}
+use Rattle.wcm.proofs.Rows.{one_answer}
+
+module _ (reading : OneReading) (sound : ScriptsAreSound) (ends : EachRunEnds) where
+  by_script : (bytes text : List ℕ) (c : Component) (g : Graph) (r : Result Script ScriptFault) → IsComponent bytes c → IsLinked c g → script (exports_of g) text ≡ r → (a : Answer) × ScriptAnswers g text a
+  by_script bytes text c g (Err fault) i l h = (script_refused_answer fault, inl (fault, h, refl))
+  by_script bytes text c g (Ok s) i l h =
+      let run = ends g s (sound bytes text c g s i l h) in
+      let end : End = if nat_le (cost g s.items) s.fuel then Done else Fuel in
+      (run_answer run.0 end, inr (s, h, (run.0, end, run.1, refl)))
+
+  by_link : (bytes text : List ℕ) (c : Component) (r : Result Graph LinkFault) → IsComponent bytes c → linked c ≡ r → (a : Answer) × LinkAnswers c text a
+  by_link bytes text c (Err fault) i h = (link_refused_answer fault, inl (fault, h, refl))
+  by_link bytes text c (Ok g) i h =
+      let a = by_script bytes text c g (script (exports_of g) text) i h refl in
+      (a.0, inr (g, h, a.1))
+
+  by_file : (bytes text : List ℕ) → (a : Answer) × FileAnswers bytes text a
+  by_file bytes text =
+      elim (cases_lt component_limit (length bytes)) [
+        | inl long ↦ (refused_answer too_long, inl (too_long, inl (long, refl), refl))
+        | inr short ↦ elim (reading bytes) [
+          | inl good ↦
+              let a = by_link bytes text good.0 (linked good.0) good.1 refl in
+              (a.0, inr (good.0, (short, good.1), a.1))
+          | inr bad ↦ (refused_answer bad.0, inl (bad.0, inr (short, bad.1), refl))
+        ]
+      ]
+
+  by_held : (held_file held_script : Option (List ℕ)) → IsSome held_file → IsSome held_script → (a : Answer) × HeldAnswers held_file held_script a × ((other : Answer) → HeldAnswers held_file held_script other → other ≡ a)
+  by_held (Some bytes) (Some text) i j =
+      let a = by_file bytes text in
+      (a.0, a.1, λ other h. one_answer bytes text other a.0 h a.1)
+  by_held (Some bytes) None i j = cc
+  by_held None held_script i j = cc
+
+  by_plain : (held : List ℕ → Option (List ℕ)) (o : Option (List ℕ × List ℕ)) → MatchOption o (Unit {0}) (λ p. IsSome (held p.0) × IsSome (held p.1))
+      → (a : Answer) × MatchOption o (a ≡ usage_answer) (λ p. HeldAnswers (held p.0) (held p.1) a) × ((other : Answer) → MatchOption o (other ≡ usage_answer) (λ p. HeldAnswers (held p.0) (held p.1) other) → other ≡ a)
+  by_plain held None told = (usage_answer, refl, λ other h. h)
+  by_plain held (Some p) told = by_held (held p.0) (held p.1) told.0 told.1
+
+  pub one_outcome : OneOutcome
+  one_outcome words held told = by_plain held (plain words) told

@@ -1,0 +1,5 @@
+use Rattle.wcm.proofs.Outcomes.{one_outcome}
+use Rattle.wcm.proofs.laws.one_outcome.Goals as goal
+
+pub returns : goal.returns
+returns c = one_outcome c.one_reading.ensures c.scripts_are_sound.ensures c.each_run_ends.ensures

@@ -1,0 +1,5 @@
+use Rattle.wcm.proofs.Sounds.{scripts_are_sound}
+use Rattle.wcm.proofs.laws.scripts_are_sound.Goals as goal
+
+pub returns : goal.returns
+returns c = scripts_are_sound c.scripts_call_exports.ensures
