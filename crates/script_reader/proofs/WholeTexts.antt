@@ -28,7 +28,7 @@ paired_tells (text ∷ texts) (line ∷ ls) i =
     let others = paired_tells texts ls i.1 in
     ap (λ (l : List ℕ). l ∷ texts) first ∙ ap (λ (l : List (List ℕ)). line_text line ∷ l) others
 
--- what all lines add_line, where it is a script
+-- what all lines say, where it is a script
 script_said : (r : Result Draft ScriptFault) (s : Script) → script_or r ≡ Ok s → (t : Draft) × (r ≡ Ok t) × (script_of t ≡ s)
 script_said (Ok t) s h = (t, refl, ok_inj h)
 script_said (Err fault) s h =

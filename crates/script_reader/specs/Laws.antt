@@ -22,8 +22,8 @@ OneScript =
 abbrev pub ScriptsAreTexts : Type 0
 ScriptsAreTexts = (exports : List Export) (bytes : List ℕ) (s : Script) → IsScript exports bytes s ↔ IsScriptText exports bytes s
 
--- A text is refused at a line exactly where the lines before it say something without a fault, and it is refused behind
--- them for this reason; but a text that is too long, and one that is not UTF-8, is refused for that.
+-- A text is refused at a line exactly where the lines before it have no fault, and it is refused behind them for this
+-- reason; but a text that is too long, and one that is not UTF-8, is refused for that.
 abbrev pub IsFirstFault : List Export → List ℕ → ScriptFault → Type 0
 IsFirstFault exports bytes fault =
     ((size_limit < length bytes) × (fault ≡ too_long))

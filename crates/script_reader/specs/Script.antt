@@ -1,7 +1,7 @@
 -- Scripts: the text that decides the free choices of a run. The format is the program's own; values are written by the
 -- types of the Component Model (Explainer.md, "Type Definitions"). A script is UTF-8. Its lines say how much fuel the run
 -- has, and which exported functions are called with which arguments, one call after the other. The lines are read in
--- order, each behind what those before it add_line, and the first that is refused tells its number and the reason.
+-- order, each behind what those before it say, and the first that is refused tells its number and the reason.
 use Rattle.std.specs.Prelude.{◌≡◌, ◌+◌, ◌-◌, ◌*◌, ◌^◌, ◌<◌, ℕ, Bool, true, false, not, ◌&&◌, ◌||◌, ◌==◌, nat_lt, nat_le, List, [], ◌∷◌, ◌++◌, length, map, take, drop, codes, if◌then◌else◌, Option, Some, None, is_some, Result, Ok, Err}
 use Rattle.std.specs.List.{list_all, find, count_by, prefix_len, suffix_len, position_or_len, take_while, before_first, slice_split}
 use Rattle.std.specs.Option.{option_map, option_map_or, option_and_then, unwrap_or}
@@ -205,14 +205,15 @@ add_by_word exports s None None = Err why.Form
 abbrev pub add_line : List Export → Draft → List ℕ → Result Draft ScriptWhy
 add_line exports s text = if is_skipped text then Ok s else add_by_word exports s (after (codes "fuel ") text) (after (codes "call ") text)
 
--- what is said with these lines, the first of which has this number, behind lines that say so much; or the first fault
+-- what is said with the lines behind one that has this number, or the fault of that line
 abbrev pub add_others : (Draft → Result Draft ScriptFault) → ℕ → Result Draft ScriptWhy → Result Draft ScriptFault
-add_others others place (Ok s) = others s
-add_others others place (Err why) = Err (record { line = place; why = why })
+add_others others line_number (Ok s) = others s
+add_others others line_number (Err why) = Err (record { line = line_number; why = why })
 
+-- what is said with these lines, the first of which has this number, behind lines that say so much; or the first fault
 abbrev pub add_lines : List Export → Draft → ℕ → List (List ℕ) → Result Draft ScriptFault
-add_lines exports s place [] = Ok s
-add_lines exports s place (line ∷ others) = add_others (λ t. add_lines exports t (place + 1) others) place (add_line exports s (line_text line))
+add_lines exports s line_number [] = Ok s
+add_lines exports s line_number (line ∷ others) = add_others (λ t. add_lines exports t (line_number + 1) others) line_number (add_line exports s (line_text line))
 
 -- the script of what all lines say
 abbrev pub script_of : Draft → Script

@@ -122,6 +122,7 @@ fn calls_tell_their_names_and_values(rt: HostRuntime) -> Result<(), Fail> {
     let exports = some_exports(rt.alloc())?;
     let script = b"call add (2, 3)\ncall a#b (0007)\ncall zero ()\n";
     let read = read_script(rt.alloc(), script, &exports).expect(&rt, "a script");
+    assert_eq!(rt; read.items().len(), 3);
     let mut values = Vec::new(rt.alloc());
     for (item, name) in read.items().iter().zip(["add", "a#b", "zero"]) {
         match item {

@@ -64,8 +64,8 @@ abbrev pub CoreGives : Graph → Call → ℕ → ℕ → Option (List ℕ) → 
 CoreGives g call before after (Some words) = CoreEnds g call before after words
 CoreGives g call before after None = CoreWaits g call before
 
--- An item, which is the call of this number, is run to its end: a run from the world behind it is, with the item's lines in
--- front, a run from the world before it.
+-- An item, which is the call of this number, is run to its end, for a unit or more: a run from the world behind it is, with
+-- the item's lines in front, a run from the world before it.
 pub record GoesOn (g : Graph) (i : Item) (number before after : ℕ) (old new : List Label) : Type 0 where
   pub lines : List Label
   pub told : new ≡ old ++ lines

@@ -33,7 +33,7 @@ SoundItem g (item.Call call) = SoundCall g call
 abbrev pub Sound : Graph → List Item → Type 0
 Sound g items = AllByRecursion (SoundItem g) items
 
--- The units of fuel that an item needs: one, and one for each instruction of its core function.
+-- The units of fuel that an item needs: one, and one for each instruction of its core function, but none for the end.
 abbrev pub item_cost : Graph → Item → ℕ
 item_cost g (item.Call call) = option_map_or (λ f. instr_count (body_of (slice_get (store_of g.instances) (address g.instances f.core)))) (func_named g call.name) 0 + 1
 

@@ -1,9 +1,7 @@
 //! What a call of the program answers, from the files that it names.
 
-ghost use Rattle.std.specs.Prelude.{◌≡◌, ℕ, List, [], Some, IfOk, IfSome, MatchResult};
+ghost use Rattle.std.specs.Prelude.{◌≡◌, ℕ, List, [], IfOk, IfSome, MatchResult};
 ghost use Rattle.std.specs.List.{AllByRecursion};
-ghost use Rattle.ca_base.specs.Causes.{Rose};
-ghost use Rattle.script_reader.specs.Script as scripts;
 ghost use Rattle.script_reader.specs.Script.{IsScript, IsScriptRefused, CallsExport};
 ghost use Rattle.wcm.specs.Linking as linking;
 ghost use Rattle.wcm.specs.Linking.{IsCallable};

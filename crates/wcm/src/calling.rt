@@ -41,7 +41,7 @@ struct Instances {
 }
 
 /// Runs a script over a graph: its calls, one after the other. Each call costs one unit of fuel, and so does each
-/// instruction.
+/// instruction; the end of a function costs nothing.
 pub fn run_script(alloc: Global, graph: &Graph, script: &Script) -> Result<Run, Memory>
     requires callable { IsCallable graph.now }
     requires calls { AllByRecursion (CallsExport (exports_of graph.now)) script.now.items }

@@ -4,7 +4,7 @@ use crate::calling::{Run, run_script};
 use crate::exports::exports_of;
 use crate::linking::link;
 use crate::run::{End, Label};
-use crate::run_laws;
+use crate::{laws, run_laws};
 use ca_types::Value;
 use comp_reader::read_component;
 use script_reader::read_script;
@@ -45,6 +45,9 @@ fn numbers_of(label: &Label) -> (u8, u32, Option<Value>) {
 
 #[test]
 fn calls_run_as_far_as_their_fuel(rt: HostRuntime) -> Result<(), Fail> {
+    laws::one_linking();
+    laws::scripts_are_sound();
+    laws::one_outcome();
     run_laws::one_next();
     run_laws::one_run();
     run_laws::each_run_ends();

@@ -47,7 +47,8 @@ pub fn run_words<F: Files, K: Sink>(
     out: &mut K,
     err: &mut K,
 ) -> Status
-    // While no source or sink fails and memory lasts, what is written is the outcome's texts, and nothing else.
+    // Where both files are told, while no source or sink fails and memory lasts, what is written is the outcome's texts, and
+    // nothing else.
     ensures headline { IsTold (map string_bytes words.now) (F.held files.old)
         → (Rose (F.faults files.old) (F.faults files.new) → ⊥)
         → (Rose (K.faults out.old) (K.faults out.new) → ⊥)
@@ -56,7 +57,7 @@ pub fn run_words<F: Files, K: Sink>(
         → (a : Answer) × Outcome (map string_bytes words.now) (F.held files.old) a × (result ≡ a.status)
         × WroteAll a (K.taken out.old) (K.taken out.new) (K.taken err.old) (K.taken err.new) }
 
-    // The same where no fault and no want of memory ended the call.
+    // The same where both files are told, and no fault and no want of memory ended the call.
     ensures written { IsTold (map string_bytes words.now) (F.held files.old) → IsFinal result
         → (a : Answer) × Outcome (map string_bytes words.now) (F.held files.old) a × (result ≡ a.status)
         × WroteAll a (K.taken out.old) (K.taken out.new) (K.taken err.old) (K.taken err.new) }

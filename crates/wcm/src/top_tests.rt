@@ -1,3 +1,5 @@
+//! Calls of the program over files and outputs in memory.
+
 use crate::status::Status;
 use crate::top::run_words;
 use ca_base::{MemFiles, MemSink};

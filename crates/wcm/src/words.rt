@@ -1,6 +1,6 @@
 //! The words of the command line.
 
-ghost use Rattle.std.specs.Prelude.{◌≡◌, IsTrue, None, Some, MatchOption, map, string_bytes};
+ghost use Rattle.std.specs.Prelude.{◌≡◌, None, Some, MatchOption, map, string_bytes};
 ghost use Rattle.wcm.specs.Words.{plain, is_file_name};
 
 /// Whether this may be the name of a file: it is not empty, and does not begin with a minus.
