@@ -39,7 +39,7 @@ Says exports s text t =
     ⊎ (((call : Call) × SaysCall exports text call × (more_call s call ≡ t))
     ⊎ ((n : ℕ) × SaysFuel text n × (is_begun s ≡ false) × (more_fuel s n ≡ t)))
 
-skipped_told : (text : List ℕ) → is_skipped text ≡ true → SaysNothing text
+pub skipped_told : (text : List ℕ) → is_skipped text ≡ true → SaysNothing text
 skipped_told [] h = inl refl
 skipped_told (b ∷ text) h = inr (text, ap (λ (k : ℕ). k ∷ text) (eqb-true b 35 h))
 
@@ -80,7 +80,7 @@ say_told exports s text t h =
     ]
 
 -- texts that say so are read so
-nothing_tells : (exports : List Export) (s : Draft) (text : List ℕ) → SaysNothing text → add_line exports s text ≡ Ok s
+pub nothing_tells : (exports : List Export) (s : Draft) (text : List ℕ) → SaysNothing text → add_line exports s text ≡ Ok s
 nothing_tells exports s text (inl e) = ap (λ (l : List ℕ). add_line exports s l) e
 nothing_tells exports s text (inr e) = ap (λ (l : List ℕ). add_line exports s l) e.1
 

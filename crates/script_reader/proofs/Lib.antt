@@ -12,6 +12,7 @@ pub mod Numbers
 pub mod OneScript
 pub mod OtherCalls
 pub mod OtherFuel
+pub mod OtherLines
 pub mod DraftLines
 pub mod Scripts
 pub mod Splits

@@ -8,8 +8,8 @@ use Rattle.ca_types.specs.declared.exports.Export.{Export}
 use Rattle.script_reader.specs.declared.script.Call.{Call}
 use Rattle.script_reader.specs.declared.fault.ScriptFault.{ScriptFault}
 use Rattle.script_reader.specs.declared.fault.ScriptWhy.{ScriptWhy}
-use Rattle.script_reader.specs.Script.{Script, Draft, arguments, call_of, fuel_of, add_line, add_lines, empty_draft, lines, line_text, size_limit, too_long, not_utf8, IsScript, IsScriptRefused, CallsExport}
-use Rattle.script_reader.specs.Syntax.{AreArguments, IsCallOf, IsNoCallOf, IsFuelOf, IsNoFuelOf, IsScriptText}
+use Rattle.script_reader.specs.Script.{Script, Draft, arguments, call_of, fuel_of, add_line, add_lines, is_begun, empty_draft, lines, line_text, size_limit, too_long, not_utf8, IsScript, IsScriptRefused, CallsExport}
+use Rattle.script_reader.specs.Syntax.{AreArguments, IsCallOf, IsNoCallOf, IsFuelOf, IsNoFuelOf, IsNoLine, IsScriptText}
 
 -- A text is exactly one script, or is refused at exactly one line for exactly one reason.
 abbrev pub OneScript : Type 0
@@ -35,6 +35,10 @@ IsFirstFault exports bytes fault =
 
 abbrev pub FirstFaultIsTold : Type 0
 FirstFaultIsTold = (exports : List Export) (bytes : List ℕ) (fault : ScriptFault) → IsScriptRefused exports bytes fault ↔ IsFirstFault exports bytes fault
+
+-- A line is refused behind others exactly for the reason that its text has.
+abbrev pub OtherLinesAreRefused : Type 0
+OtherLinesAreRefused = (exports : List Export) (s : Draft) (text : List ℕ) (why : ScriptWhy) → (add_line exports s text ≡ Err why) ↔ IsNoLine exports (is_begun s) text why
 
 -- Arguments are read exactly where the text is one of theirs: numbers below 2^32, commas and blanks between them, and a
 -- closing parenthesis.

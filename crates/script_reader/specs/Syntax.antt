@@ -1,6 +1,6 @@
 -- How a script is written: which texts stand for a number, for arguments, for a call, for an amount of fuel, and for a
--- whole script. `specs/Script` computes what these say; the laws in `specs/Laws` say that both are the same.
-use Rattle.std.specs.Prelude.{◌≡◌, ◌≢◌, ◌≤◌, ◌<◌, ◌^◌, ◌⊎◌, IsTrue, ℕ, false, List, [], ◌∷◌, ◌++◌, length, codes, Some, None}
+-- whole script; and for which reason other texts of lines are refused. `specs/Script` computes what these say; the laws in `specs/Laws` say that both are the same.
+use Rattle.std.specs.Prelude.{◌≡◌, ◌≢◌, ◌≤◌, ◌<◌, ◌^◌, ◌⊎◌, IsTrue, ℕ, Bool, true, false, List, [], ◌∷◌, ◌++◌, length, codes, Some, None}
 use Rattle.std.specs.List.{join_with_byte, AllByRecursion}
 use Rattle.std.specs.Str.{IsUtf8}
 use Rattle.ca_types.specs.declared.types.ValType.{ValType}
@@ -144,3 +144,13 @@ IsNoFuelOf text why.Size = ⊥
 IsNoFuelOf text why.Utf8 = ⊥
 IsNoFuelOf text why.Export = ⊥
 IsNoFuelOf text why.Value = ⊥
+
+-- Why the text of a line is refused, behind lines that said something or said nothing: `Form` where it begins with no word
+-- that there is, or with `fuel` behind a line that said something; and else for the reason of what stands behind its word.
+abbrev pub IsNoLine : List Export → Bool → List ℕ → ScriptWhy → Type 0
+IsNoLine exports begun text reason =
+    ((reason ≡ why.Form) × (SaysNothing text → ⊥)
+    × ((written : List ℕ) → text ≡ codes "fuel " ++ written → ⊥) × ((written : List ℕ) → text ≡ codes "call " ++ written → ⊥))
+    ⊎ ((written : List ℕ) × (text ≡ codes "fuel " ++ written)
+    × (((begun ≡ true) × (reason ≡ why.Form)) ⊎ ((begun ≡ false) × IsNoFuelOf written reason)))
+    ⊎ ((written : List ℕ) × (text ≡ codes "call " ++ written) × IsNoCallOf exports written reason)

@@ -1,6 +1,6 @@
 //! What holds of the format alone.
 
-ghost use Rattle.script_reader.specs.Laws.{OneScript, ScriptsAreTexts, FirstFaultIsTold, ArgumentsAreTexts, CallsAreLines, OtherCallsAreRefused, FuelIsALine, OtherFuelIsRefused, ScriptsCallExports};
+ghost use Rattle.script_reader.specs.Laws.{OneScript, ScriptsAreTexts, FirstFaultIsTold, ArgumentsAreTexts, CallsAreLines, OtherCallsAreRefused, OtherLinesAreRefused, FuelIsALine, OtherFuelIsRefused, ScriptsCallExports};
 
 /// A text is exactly one script, or is refused at exactly one line for exactly one reason.
 pub fn one_script()
@@ -15,6 +15,11 @@ pub fn scripts_are_texts()
 /// A text that is refused is refused at its first fault.
 pub fn first_fault_is_told()
     ensures { FirstFaultIsTold }
+{}
+
+/// Each other line is refused for the reason that its text has.
+pub fn other_lines_are_refused()
+    ensures { OtherLinesAreRefused }
 {}
 
 /// Arguments are values with commas and blanks between them, and a closing parenthesis.

@@ -32,7 +32,8 @@ mod values;
 pub use fault::{ScriptError, ScriptFault, ScriptWhy};
 pub use laws::{
     arguments_are_texts, calls_are_lines, first_fault_is_told, fuel_is_a_line, one_script,
-    other_calls_are_refused, other_fuel_is_refused, scripts_are_texts, scripts_call_exports,
+    other_calls_are_refused, other_fuel_is_refused, other_lines_are_refused, scripts_are_texts,
+    scripts_call_exports,
 };
 pub use reading::read_script;
 pub use script::{Call, Item, Script};

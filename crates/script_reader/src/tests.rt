@@ -242,5 +242,6 @@ fn formats_have_laws() {
     other_calls_are_refused();
     fuel_is_a_line();
     other_fuel_is_refused();
+    other_lines_are_refused();
     scripts_call_exports();
 }
