@@ -1,10 +1,12 @@
+pub mod Distinct
+pub mod Eachs
 pub mod Laws
 pub mod Leb
 pub mod Many
-pub mod Pieces
-pub mod PlacedTimes
+pub mod FirstNamed
 pub mod Places
-pub mod Sample
+pub mod Seen
 pub mod Sizes
 pub mod Times
 pub mod Utf8
+pub mod Whole

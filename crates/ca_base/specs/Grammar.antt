@@ -6,8 +6,8 @@
 use Rattle.std.specs.Prelude.{◌≡◌, ◌≢◌, ◌<◌, ◌≤◌, ◌==◌, ◌+◌, ℕ, zero, suc, Bool, MatchBool, List, [], ◌∷◌, length, take, nat_lt, if◌then◌else◌, Result, Ok, Err, ◌⊎◌, Option, Some, None}
 use Rattle.ca_base.specs.Span.{Span, behind, window}
 use Rattle.ca_base.specs.declared.refusal.Refusal.{Refusal}
-use Rattle.ca_base.specs.declared.refusal.ReadError.{ReadError}
-use Rattle.ca_base.specs.declared.refusal.ReadError.TheVariants.{Memory, Refused}
+use Rattle.ca_base.specs.declared.memory.MemoryOr.{MemoryOr}
+use Rattle.ca_base.specs.declared.memory.MemoryOr.TheVariants.{Memory, Fault}
 
 -- a grammar of items of type A, whose refusals have reasons of type W
 pub data Grammar : Type 0 → Type 0 → Type 1 where
@@ -123,9 +123,9 @@ Reads view g s t (Ok x) = read g s ≡ Ok (view x, t)
 Reads view g s t (Err e) = read g s ≡ Err e
 
 -- What a call read that may be short of memory, and then says nothing.
-abbrev pub MayRead : {W A X : Type 0} → (X → A) → Grammar W A → Span W → Span W → Result X (ReadError W) → Type 0
+abbrev pub MayRead : {W A X : Type 0} → (X → A) → Grammar W A → Span W → Span W → Result X (MemoryOr (Refusal W)) → Type 0
 MayRead view g s t (Ok x) = read g s ≡ Ok (view x, t)
-MayRead view g s t (Err (Refused e)) = read g s ≡ Err e
+MayRead view g s t (Err (Fault e)) = read g s ≡ Err e
 MayRead view g s t (Err Memory) = Unit {0}
 
 -- What a call that opens a window of so many bytes answers: the window, and what is left behind it; or the refusal.

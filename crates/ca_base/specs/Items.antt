@@ -1,10 +1,9 @@
 -- Items that the core and the component format share (Core 2.0, sections 5.1 and 5.2): numbers, names, vectors, and
 -- what a size tells the length of.
 use Rattle.std.specs.Prelude.{◌≡◌, ◌+◌, ◌-◌, ◌*◌, ℕ, zero, suc, ℤ, pos, ◌+ℤ◌, ◌-ℤ◌, ◌*ℤ◌, Bool, false, Option, Some, None, List, [], ◌∷◌, length, nat_lt, nat_le, ◌==◌, ◌&&◌, ◌||◌, if◌then◌else◌, ◌⊎◌, ◌<◌, Result, Ok, Err}
-use Rattle.std.specs.List.{flat_map, slice_get}
-use Rattle.std.specs.Option.{unwrap_or}
+use Rattle.std.specs.List.{flat_map}
 use Rattle.std.specs.Str.Lossy.{utf8_valid_len}
-use Rattle.ca_base.specs.Grammar.{Grammar, Give, Refuse, Here, Left, Byte, Take, Sized, Choose, ◌>>=◌, times, read, Opens, passing}
+use Rattle.ca_base.specs.Grammar.{Grammar, Give, Refuse, Here, Left, Next, Byte, Take, Sized, Choose, ◌>>=◌, times, read, Opens, passing}
 use Rattle.ca_base.specs.Span.{Span}
 use Rattle.ca_base.specs.declared.refusal.Refusal.{Refusal}
 use Rattle.ca_base.specs.declared.placed.Placed.{Placed}
@@ -125,19 +124,16 @@ vec numbers item = do
   count ← u32 numbers
   times count item
 
--- so many items, and the place of each
-unfoldable pub placed_times : {W A : Type 0} → ℕ → Grammar W A → Grammar W (Placed A)
-placed_times zero item = Give (record { items = []; places = [] })
-placed_times (suc count) item = do
+-- an item, and its place
+unfoldable pub placed : {W A : Type 0} → Grammar W A → Grammar W (Placed A)
+placed item = do
   place ← Here
-  first ← item
-  others ← placed_times count item
-  Give (record { items = first ∷ others.items; places = place ∷ others.places })
+  x ← item
+  Give (record { item = x; place = place })
 
-abbrev pub placed_vec : {W A : Type 0} → NumberReasons W → Grammar W A → Grammar W (Placed A)
-placed_vec numbers item = do
-  count ← u32 numbers
-  placed_times count item
+-- a vector of items with their places
+abbrev pub placed_vec : {W A : Type 0} → NumberReasons W → Grammar W A → Grammar W (List (Placed A))
+placed_vec numbers item = vec numbers (placed item)
 
 -- items up to the window's end, but no more than so many
 unfoldable pub many : {W A : Type 0} → ℕ → Grammar W A → Grammar W (List A)
@@ -155,13 +151,26 @@ to_the_end item = do
   count ← Left
   many count item
 
--- the items of several lists, with their places
-abbrev pub joined : {A : Type 0} → List (Placed A) → Placed A
-joined parts = record { items = flat_map (λ part. part.items) parts; places = flat_map (λ part. part.places) parts }
+-- the items of several lists, one list after the other
+abbrev pub joined : {A : Type 0} → List (List A) → List A
+joined parts = flat_map (λ part. part) parts
 
--- the place of this number; 0 where there is none
-abbrev pub place_at : List ℕ → ℕ → ℕ
-place_at places number = unwrap_or (slice_get places number) 0
+-- the section of this id (section 5.5.2), where it comes next
+abbrev pub section : {W A : Type 0} → NumberReasons W → Reasons W → ℕ → Grammar W A → Grammar W (Option A)
+section numbers reasons id payload = do
+  next ← Next
+  Choose (is_byte id next) (do
+    _ ← Byte
+    x ← sized numbers reasons payload
+    Give (Some x)) (Give None)
+
+-- an item for each of a list, one after the other
+abbrev pub each : {W X A : Type 0} → (X → Grammar W A) → List X → Grammar W (List A)
+each item [] = Give []
+each item (x ∷ xs) = do
+  first ← item x
+  others ← each item xs
+  Give (first ∷ others)
 
 -- no byte is left
 unfoldable pub at_end : {W : Type 0} → Reasons W → Grammar W (Unit {0})

@@ -1,11 +1,8 @@
-pub mod Bytes
-pub mod Calls
-pub mod Causes
+pub mod formers
+pub mod Faults
 pub mod Grammar
 pub mod Items
-pub mod MemFiles
-pub mod MemSink
+pub mod Names
 pub mod Numbers
-pub mod Reading
-pub mod Sample
 pub mod Span
+pub mod Texts

@@ -1,4 +1,6 @@
-//! Want of memory.
+//! Want of memory, and faults beside it.
+
+ghost use Rattle.std.specs.Prelude.{◌≡◌};
 
 use std::alloc::{AllocError, AllocFailed};
 
@@ -15,5 +17,44 @@ impl From<AllocError> for Memory {
 impl<T: Drop> From<AllocFailed<T>> for Memory {
     fn from(_e: AllocFailed<T>) -> Memory {
         Memory
+    }
+}
+
+/// A fault of this kind, or want of memory: why a call ends without its result.
+#[derive(Clone, Copy, Debug, Drop, PartialEq, Eq)]
+pub enum MemoryOr<F> {
+    /// Want of memory.
+    Memory,
+    /// The fault.
+    Fault(F),
+}
+
+impl<F> From<AllocError> for MemoryOr<F> {
+    ghost use Rattle.ca_base.specs.declared.memory.MemoryOr.TheVariants.{Memory};
+
+    ghost from_gives = { λ _ e. e ≡ Memory };
+
+    fn from(_e: AllocError) -> MemoryOr<F> {
+        MemoryOr::Memory
+    }
+}
+
+impl<T: Drop, F> From<AllocFailed<T>> for MemoryOr<F> {
+    ghost use Rattle.ca_base.specs.declared.memory.MemoryOr.TheVariants.{Memory};
+
+    ghost from_gives = { λ _ e. e ≡ Memory };
+
+    fn from(_e: AllocFailed<T>) -> MemoryOr<F> {
+        MemoryOr::Memory
+    }
+}
+
+impl<F> From<Memory> for MemoryOr<F> {
+    ghost use Rattle.ca_base.specs.declared.memory.MemoryOr.TheVariants as or;
+
+    ghost from_gives = { λ _ e. e ≡ or.Memory };
+
+    fn from(_e: Memory) -> MemoryOr<F> {
+        MemoryOr::Memory
     }
 }

@@ -1,37 +1,44 @@
 //! Items with their places.
 
-ghost use Rattle.std.specs.Prelude.{◌≡◌, IfOk};
+ghost use Rattle.std.specs.Prelude.{◌≡◌, IfOk, map};
 ghost use Rattle.ca_base.specs.Items.{joined};
-ghost use Rattle.ca_base.specs.Items as i;
 
 use crate::seq::Seq;
 use std::alloc::{AllocError, Global};
 
-/// Items, and the place of the first byte of each, counted from the file's start.
-#[derive(Debug, Drop)]
+/// An item, and where it stands.
+#[derive(Clone, Copy, Debug, Drop, PartialEq, Eq)]
 pub struct Placed<T> {
-    /// The items, in file order.
-    pub items: Seq<T>,
-    /// The place of each.
-    pub places: Seq<usize>,
+    /// The item.
+    pub item: T,
+    /// The place of its first byte, counted from the file's start.
+    pub place: usize,
 }
 
-/// The items of several lists, one list after the other, with their places. It fails for want of memory alone.
-pub fn join<T: Drop>(alloc: Global, parts: Seq<Placed<T>>) -> Result<Placed<T>, AllocError>
-    ensures { IfOk result (λ p. p ≡ joined parts) }
+/// The items of a list, and the place of each: two lists of the same length. It fails for want of memory alone.
+pub fn apart<T: Drop>(
+    alloc: Global,
+    placed: Seq<Placed<T>>,
+) -> Result<(Seq<T>, Seq<usize>), AllocError>
+    ensures items { IfOk result (λ r. r.0 ≡ map (λ p. p.item) placed) }
+    ensures places { IfOk result (λ r. r.1 ≡ map (λ p. p.place) placed) }
 {
     let mut items = Seq::new(alloc);
     let mut places = Seq::new(alloc);
-    for part in parts.into_vec() {
-        items.append(part.items)?;
-        places.append(part.places)?;
+    for one in placed.into_vec() {
+        items.push(one.item)?;
+        places.push(one.place)?;
     }
-    Ok(Placed { items, places })
+    Ok((items, places))
 }
 
-/// The place of the item of this number; 0 where there is none.
-pub fn place_at(places: &[usize], number: usize) -> usize
-    ensures { result ≡ i.place_at places.now number }
+/// The items of several lists, one list after the other. It fails for want of memory alone.
+pub fn join<T: Drop>(alloc: Global, parts: Seq<Seq<T>>) -> Result<Seq<T>, AllocError>
+    ensures { IfOk result (λ items. items ≡ joined parts) }
 {
-    places.get(number).copied().unwrap_or(0)
+    let mut items = Seq::new(alloc);
+    for part in parts.into_vec() {
+        items.append(part)?;
+    }
+    Ok(items)
 }

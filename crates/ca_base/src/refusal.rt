@@ -2,7 +2,7 @@
 
 ghost use Rattle.std.specs.Prelude.{◌≡◌};
 
-use std::alloc::{AllocError, AllocFailed};
+use crate::memory::MemoryOr;
 
 /// Why bytes are refused, and where.
 #[derive(Clone, Copy, Debug, PartialEq, Eq)]
@@ -13,41 +13,15 @@ pub struct Refusal<W> {
     pub why: W,
 }
 
-/// Why a reading ended without an item.
-#[derive(Clone, Copy, Debug, PartialEq, Eq)]
-pub enum ReadError<W> {
-    /// Want of memory.
-    Memory,
-    /// The bytes are refused.
-    Refused(Refusal<W>),
-}
+/// Why a reading ended without an item: want of memory, or a refusal of the bytes.
+pub type ReadError<W> = MemoryOr<Refusal<W>>;
 
-impl<W> From<AllocError> for ReadError<W> {
-    ghost use Rattle.ca_base.specs.declared.refusal.ReadError.TheVariants.{Memory};
+impl<W> From<Refusal<W>> for MemoryOr<Refusal<W>> {
+    ghost use Rattle.ca_base.specs.declared.memory.MemoryOr.TheVariants.{Fault};
 
-    ghost from_gives = { λ _ e. e ≡ Memory };
+    ghost from_gives = { λ refusal e. e ≡ Fault refusal };
 
-    fn from(_e: AllocError) -> ReadError<W> {
-        ReadError::Memory
-    }
-}
-
-impl<T: Drop, W> From<AllocFailed<T>> for ReadError<W> {
-    ghost use Rattle.ca_base.specs.declared.refusal.ReadError.TheVariants.{Memory};
-
-    ghost from_gives = { λ _ e. e ≡ Memory };
-
-    fn from(_e: AllocFailed<T>) -> ReadError<W> {
-        ReadError::Memory
-    }
-}
-
-impl<W> From<Refusal<W>> for ReadError<W> {
-    ghost use Rattle.ca_base.specs.declared.refusal.ReadError.TheVariants.{Refused};
-
-    ghost from_gives = { λ refusal e. e ≡ Refused refusal };
-
-    fn from(refusal: Refusal<W>) -> ReadError<W> {
-        ReadError::Refused(refusal)
+    fn from(refusal: Refusal<W>) -> MemoryOr<Refusal<W>> {
+        MemoryOr::Fault(refusal)
     }
 }

@@ -5,7 +5,7 @@ ghost use Rattle.std.specs.Prelude.{◌≡◌, ◌∷◌, ◌↔◌, [], ◌++�
 use std::alloc::{AllocError, Global};
 use std::marker::Model;
 
-/// A list of items of a public type. Contracts see it as the items, in order.
+/// A list of items of a public type. Contracts see it as the items, in order. It may stand in a type that holds itself.
 #[derive(Debug, Drop)]
 pub struct Seq<T> {
     items: Vec<T>,
@@ -13,8 +13,11 @@ pub struct Seq<T> {
 
 impl<T> Model for Seq<T> {
     ghost use Rattle.std.specs.Prelude.{List};
+    ghost use Rattle.std.specs.Coded.{coded_list};
 
     ghost Value = { List T };
+
+    ghost coded = { coded_list T.code };
 
     ghost view = { λ s. s.items.items };
 }

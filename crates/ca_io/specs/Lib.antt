@@ -1,0 +1,6 @@
+pub mod Bytes
+pub mod Calls
+pub mod Causes
+pub mod MemFiles
+pub mod MemSink
+pub mod Reading
