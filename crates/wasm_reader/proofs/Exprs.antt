@@ -9,7 +9,7 @@ use Rattle.ca_base.specs.Grammar.{read, first_byte, and_then}
 use Rattle.wasm_reader.specs.declared.fault.ModuleWhy.{ModuleWhy}
 use Rattle.wasm_reader.specs.declared.fault.ModuleWhy.TheVariants.{Unsupported}
 use Rattle.wasm_reader.specs.declared.instr.Instr.{Instr}
-use Rattle.wasm_reader.specs.declared.code.PlacedBody.{PlacedBody}
+use Rattle.wasm_reader.specs.declared.funcs.PlacedBody.{PlacedBody}
 use Rattle.wasm_reader.specs.Expr.{Expr, End, Plain, expr_of}
 use Rattle.wasm_reader.specs.Binary.{expr, instr}
 

@@ -1,6 +1,7 @@
 -- Groups of locals that are read one after the other, behind those that are read already.
 use Rattle.std.proofs.Common.{◌≡◌, ◌<◌, ◌≤◌, ◌+◌, ℕ, zero, suc, List, [], ◌∷◌, ◌++◌, refl, append-nil, append_assoc, arith, Result, Ok, Err}
 use Rattle.std.proofs.lemmas.Bool.{lt-ltb, le-ltb}
+use Rattle.std.proofs.lemmas.List.Sums.{sum_by-append}
 use Rattle.ca_base.specs.Span.{Span}
 use Rattle.ca_base.specs.declared.refusal.Refusal.{Refusal}
 use Rattle.ca_base.specs.Grammar.{read, and_then}
@@ -11,6 +12,7 @@ use Rattle.wasm_reader.specs.declared.fault.ModuleWhy.TheVariants.{Limit}
 use Rattle.wasm_reader.specs.declared.module.ValType.{ValType}
 use Rattle.wasm_reader.specs.declared.module.Locals.{Locals}
 use Rattle.wasm_reader.specs.Binary.{numbers, val_type, locals}
+use Rattle.wasm_reader.specs.Locals.{local_count}
 
 one_more : (groups : List Locals) (g : Locals) (r : Result (List Locals × Span ModuleWhy) (Refusal ModuleWhy)) → preceded groups (and_then r (λ others u. Ok (g ∷ others, u))) ≡ preceded (groups ++ g ∷ []) r
 one_more groups g (Ok x) = simp append_assoc
@@ -48,3 +50,7 @@ pub locals_untyped : (groups : List Locals) (n before count : ℕ) (s u : Span M
 unfolding locals
 locals_untyped groups zero before count s u e h c l r = absurd (omega arith)
 locals_untyped groups (suc m) before count s u e h c l r = rw (c, le-ltb 50000 (before + count) l, r) refl
+
+-- the locals of one group more
+pub one_counted : (groups : List Locals) (g : Locals) → local_count (groups ++ g ∷ []) ≡ local_count groups + g.count
+one_counted groups g = rw (sum_by-append (λ (h : Locals). h.count) groups (g ∷ [])) (omega arith)

@@ -1,6 +1,6 @@
-pub mod Codes
 pub mod Customs
 pub mod Exprs
+pub mod Fitting
 pub mod Groups
 pub mod Rest
 pub mod Rows

@@ -1,9 +1,9 @@
 -- The binary format of modules (Core 2.0, section 5), as far as it is read: the sections of types, functions, exports of
 -- functions and code, and custom sections anywhere; of instructions `local.get`, `i32.add` and `end`.
-use Rattle.std.specs.Prelude.{◌+◌, ℕ, zero, suc, Bool, List, [], ◌∷◌, length, nat_lt, nat_le, ◌==◌, ◌&&◌, ◌||◌, Option, Some, None}
+use Rattle.std.specs.Prelude.{◌+◌, ℕ, zero, suc, Bool, List, [], ◌∷◌, length, map, nat_lt, nat_le, ◌==◌, ◌&&◌, ◌||◌, unwrap_or, Option, Some, None}
 use Rattle.ca_base.specs.Span.{Span}
 use Rattle.ca_base.specs.Grammar.{Grammar, Give, Refuse, Here, Left, Next, Byte, Choose, ◌>>=◌, Matches, Refuses}
-use Rattle.ca_base.specs.Items.{NumberReasons, Reasons, fixed, marker, u32, name, custom, sized, vec, placed_vec, is_byte, byte_of}
+use Rattle.ca_base.specs.Items.{NumberReasons, Reasons, fixed, marker, u32, name, custom, sized, vec, placed, section, each, is_byte, byte_of}
 use Rattle.ca_base.specs.declared.refusal.Refusal.{Refusal}
 use Rattle.ca_base.specs.declared.placed.Placed.{Placed}
 use Rattle.wasm_reader.specs.declared.fault.ModuleWhy.{ModuleWhy}
@@ -13,13 +13,14 @@ use Rattle.wasm_reader.specs.declared.module.ValType.TheVariants.{I32, I64}
 use Rattle.wasm_reader.specs.declared.module.FuncType.{FuncType}
 use Rattle.wasm_reader.specs.declared.module.Locals.{Locals}
 use Rattle.wasm_reader.specs.declared.module.Export.{Export}
-use Rattle.wasm_reader.specs.declared.module.Module.{Module}
+use Rattle.wasm_reader.specs.declared.module.ModuleParts.{ModuleParts}
 use Rattle.wasm_reader.specs.declared.instr.Instr.{Instr}
 use Rattle.wasm_reader.specs.declared.instr.Instr.TheVariants.{LocalGet, I32Add}
-use Rattle.wasm_reader.specs.declared.code.PlacedBody.{PlacedBody}
-use Rattle.wasm_reader.specs.declared.code.PlacedFunc.{PlacedFunc}
-use Rattle.wasm_reader.specs.declared.code.PlacedFuncs.{PlacedFuncs}
+use Rattle.wasm_reader.specs.declared.funcs.DeclaredFunc.{DeclaredFunc}
+use Rattle.wasm_reader.specs.declared.funcs.PlacedBody.{PlacedBody}
+use Rattle.wasm_reader.specs.declared.funcs.PlacedFunc.{PlacedFunc}
 use Rattle.wasm_reader.specs.Expr.{End, Plain}
+use Rattle.wasm_reader.specs.Locals.{locals_limit}
 
 abbrev pub numbers : NumberReasons ModuleWhy
 numbers = record { leb = Leb; utf8 = Utf8 }
@@ -93,10 +94,6 @@ expr (suc count) = do
     rest ← expr count
     Give (record { body = Plain first rest.body; places = place ∷ rest.places }))
 
--- how many locals a function may declare
-abbrev pub locals_limit : ℕ
-locals_limit = 50000
-
 -- so many groups of locals (section 5.5.13), behind so many locals. The number with which there are too many is refused
 unfoldable pub locals : ℕ → ℕ → Grammar ModuleWhy (List Locals)
 locals zero before = Give []
@@ -120,31 +117,34 @@ body = do
   count ← Left
   expr count
 
+-- a function as the function section declares it (section 5.5.6): the index of its type
+unfoldable pub declared_func : Grammar ModuleWhy DeclaredFunc
+declared_func = do
+  place ← Here
+  index ← u32 numbers
+  Give (record { type_index = index; place = place })
+
 -- what the size of a function's code tells the length of: its locals and its body
-unfoldable pub func_code : ℕ → Grammar ModuleWhy PlacedFunc
-func_code type_index = do
+unfoldable pub func_code : DeclaredFunc → Grammar ModuleWhy PlacedFunc
+func_code declared = do
   groups ← all_locals
   read ← body
-  Give (record { func = record { type_index = type_index; locals = groups; body = read.body }; places = read.places })
+  Give (record {
+    func = record { type_index = declared.type_index; locals = groups; body = read.body };
+    place = declared.place;
+    body_places = read.places;
+  })
 
--- the code of a function with the type of this index (section 5.5.13)
-unfoldable pub code : ℕ → Grammar ModuleWhy PlacedFunc
-code type_index = sized numbers reasons (func_code type_index)
-
--- the codes of functions with the types of these indices
-unfoldable pub codes : List ℕ → Grammar ModuleWhy PlacedFuncs
-codes [] = Give (record { funcs = []; places = [] })
-codes (type_index ∷ type_indices) = do
-  first ← code type_index
-  others ← codes type_indices
-  Give (record { funcs = first.func ∷ others.funcs; places = first.places ∷ others.places })
+-- the code of a function that is declared so (section 5.5.13)
+unfoldable pub code : DeclaredFunc → Grammar ModuleWhy PlacedFunc
+code declared = sized numbers reasons (func_code declared)
 
 -- the payload of the code section: as many codes as functions
-unfoldable pub code_payload : List ℕ → Grammar ModuleWhy PlacedFuncs
-code_payload type_indices = do
+unfoldable pub code_payload : List DeclaredFunc → Grammar ModuleWhy (List PlacedFunc)
+code_payload declared = do
   place ← Here
   count ← u32 numbers
-  Choose (count == length type_indices) (codes type_indices) (Refuse place Count)
+  Choose (count == length declared) (each code declared) (Refuse place Count)
 
 -- custom sections (section 5.5.3), in at most so many bytes
 unfoldable pub customs_in : ℕ → Grammar ModuleWhy (Unit {0})
@@ -161,29 +161,12 @@ customs = do
   count ← Left
   customs_in count
 
--- the section of this id where it comes next (section 5.5.2), and else what stands for none
-abbrev pub section : {A : Type 0} → ℕ → A → Grammar ModuleWhy A → Grammar ModuleWhy A
-section id none payload = do
-  next ← Next
-  Choose (is_byte id next) (do
-    _ ← Byte
-    sized numbers reasons payload) (Give none)
-
--- the sections of types, functions and exports (sections 5.5.4, 5.5.6 and 5.5.10), each behind custom sections
-unfoldable pub type_section : Grammar ModuleWhy (List FuncType)
-type_section = do
+-- the items of the section of this id (section 5.5.2), behind custom sections; none where there is no such section
+unfoldable pub items : {A : Type 0} → ℕ → Grammar ModuleWhy A → Grammar ModuleWhy (List A)
+items id item = do
   _ ← customs
-  section 1 [] (vec numbers func_type)
-
-unfoldable pub function_section : Grammar ModuleWhy (Placed ℕ)
-function_section = do
-  _ ← customs
-  section 3 (record { items = []; places = [] }) (placed_vec numbers (u32 numbers))
-
-unfoldable pub export_section : Grammar ModuleWhy (Placed Export)
-export_section = do
-  _ ← customs
-  section 7 (record { items = []; places = [] }) (placed_vec numbers export)
+  found ← section numbers reasons id (vec numbers item)
+  Give (unwrap_or found [])
 
 -- A section that has an order among the others and comes where none is due stands out of order.
 abbrev pub out_of_order : ℕ → Bool
@@ -202,39 +185,44 @@ module_end = do
   no_section place next
 
 -- a module without a code section has no function
-unfoldable pub no_codes : List ℕ → Grammar ModuleWhy PlacedFuncs
-no_codes type_indices = do
+unfoldable pub no_codes : List DeclaredFunc → Grammar ModuleWhy (List PlacedFunc)
+no_codes declared = do
   _ ← module_end
   place ← Here
-  Choose (length type_indices == 0) (Give (record { funcs = []; places = [] })) (Refuse place Count)
+  Choose (length declared == 0) (Give []) (Refuse place Count)
 
--- the code section (section 5.5.13), behind custom sections, for functions with the types of these indices; and the end
-unfoldable pub code_section : List ℕ → Grammar ModuleWhy PlacedFuncs
-code_section type_indices = do
+-- the code section (section 5.5.13), behind custom sections, for functions that are declared so; and the end
+unfoldable pub code_section : List DeclaredFunc → Grammar ModuleWhy (List PlacedFunc)
+code_section declared = do
   next ← Next
   Choose (is_byte 10 next) (do
     _ ← Byte
-    read ← sized numbers reasons (code_payload type_indices)
+    read ← sized numbers reasons (code_payload declared)
     _ ← module_end
-    Give read) (no_codes type_indices)
+    Give read) (no_codes declared)
 
 -- the preamble of a module
 abbrev pub preamble : List ℕ
 preamble = 0x00 ∷ 0x61 ∷ 0x73 ∷ 0x6D ∷ 0x01 ∷ 0x00 ∷ 0x00 ∷ 0x00 ∷ []
 
--- a module (section 5.5.16): its preamble, its sections, and nothing else
-unfoldable pub the_module : Grammar ModuleWhy Module
+-- the module of these types, functions and exports
+abbrev pub module_of : List FuncType → List PlacedFunc → List (Placed Export) → ModuleParts
+module_of types funcs exports = record {
+  tree = record { types = types; funcs = map (λ f. f.func) funcs; exports = map (λ e. e.item) exports };
+  places = record { funcs = map (λ f. f.place) funcs; exports = map (λ e. e.place) exports; bodies = map (λ f. f.body_places) funcs };
+}
+
+-- a module (section 5.5.16): its preamble, its sections, and nothing else; its types, functions and exports stand in the
+-- sections 1, 3 and 7 (sections 5.5.4, 5.5.6 and 5.5.10)
+unfoldable pub the_module : Grammar ModuleWhy ModuleParts
 the_module = do
   _ ← fixed Magic preamble
-  types ← type_section
-  indices ← function_section
-  exports ← export_section
+  types ← items 1 func_type
+  declared ← items 3 declared_func
+  exports ← items 7 (placed export)
   _ ← customs
-  codes ← code_section indices.items
-  Give (record {
-    tree = record { types = types; funcs = codes.funcs; exports = exports.items };
-    places = record { funcs = indices.places; exports = exports.places; bodies = codes.places };
-  })
+  funcs ← code_section declared
+  Give (module_of types funcs exports)
 
 -- a module that is a file of its own, whose first byte stands at this place
 abbrev pub file : List ℕ → ℕ → Span ModuleWhy
@@ -245,7 +233,7 @@ abbrev pub file_end : List ℕ → ℕ → Span ModuleWhy
 file_end bytes base = record { bytes = []; at = base + length bytes; past = Truncated }
 
 -- the bytes are those of the module
-abbrev pub IsModule : List ℕ → ℕ → Module → Type 0
+abbrev pub IsModule : List ℕ → ℕ → ModuleParts → Type 0
 IsModule bytes base m = Matches the_module (file bytes base) m (file_end bytes base)
 
 -- the bytes are no module: they are refused at this place, for this reason

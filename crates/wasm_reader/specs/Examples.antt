@@ -4,7 +4,7 @@ use Rattle.ca_base.specs.declared.refusal.Refusal.{Refusal}
 use Rattle.wasm_reader.specs.declared.fault.ModuleWhy.{ModuleWhy}
 use Rattle.wasm_reader.specs.declared.fault.ModuleWhy.TheVariants.{Unsupported}
 use Rattle.wasm_reader.specs.declared.module.ValType.TheVariants.{I32}
-use Rattle.wasm_reader.specs.declared.module.Module.{Module}
+use Rattle.wasm_reader.specs.declared.module.ModuleParts.{ModuleParts}
 use Rattle.wasm_reader.specs.declared.instr.Instr.TheVariants.{LocalGet, I32Add}
 use Rattle.wasm_reader.specs.Expr.{End, Plain}
 
@@ -17,7 +17,7 @@ bytes_with opcode =
     ∷ 0x07 ∷ 0x07 ∷ 0x01 ∷ 0x03 ∷ 0x61 ∷ 0x64 ∷ 0x64 ∷ 0x00 ∷ 0x00
     ∷ 0x0A ∷ 0x09 ∷ 0x01 ∷ 0x07 ∷ 0x00 ∷ 0x20 ∷ 0x00 ∷ 0x20 ∷ 0x01 ∷ opcode ∷ 0x0B ∷ []
 
-unfoldable pub add_module : Module
+unfoldable pub add_module : ModuleParts
 add_module = record {
   tree = record {
     types = record { params = I32 ∷ I32 ∷ []; results = I32 ∷ [] } ∷ [];

@@ -3,3 +3,4 @@ pub mod Examples
 pub mod Expr
 pub mod Laws
 pub mod Locals
+pub mod Places

@@ -2,14 +2,15 @@
 
 ghost use Rattle.std.specs.Prelude.{◌≡◌};
 ghost use Rattle.ca_base.specs.Grammar.{Reads, MayRead};
-ghost use Rattle.wasm_reader.specs.Binary.{locals, all_locals, instr, prefixed, body, func_code, code, codes, is_float};
+ghost use Rattle.wasm_reader.specs.Binary.{locals, all_locals, instr, prefixed, body, func_code, is_float};
 
-use crate::code::{PlacedBody, PlacedFunc, PlacedFuncs};
 use crate::fault::ModuleWhy;
+use crate::funcs::{DeclaredFunc, PlacedBody, PlacedFunc};
 use crate::instr::{Body, Instr};
 use crate::items::read_val_type;
+use crate::locals::DeclaredLocals;
 use crate::module::{Func, Locals};
-use ca_base::{ReadError, Refusal, Seq, Window};
+use ca_base::{KindOf, ReadError, Refusal, Seq, Window};
 use std::alloc::Global;
 
 /// The opcode that ends an expression.
@@ -23,7 +24,7 @@ const LOCALS_LIMIT: u64 = 50_000;
 fn read_all_locals(
     alloc: Global,
     window: &mut Window<ModuleWhy>,
-) -> Result<Seq<Locals>, ReadError<ModuleWhy>>
+) -> Result<DeclaredLocals, ReadError<ModuleWhy>>
     ensures { MayRead (λ groups. groups) all_locals window.old window.new result }
 {
     let count = window.u32()?;
@@ -32,12 +33,12 @@ fn read_all_locals(
 }
 
 /// Reads so many groups of locals. A number with which there are too many locals is refused.
-#[tactic(auto, using(crate::proofs::Groups::locals_none, crate::proofs::Groups::locals_go, crate::proofs::Groups::locals_past, crate::proofs::Groups::locals_uncounted, crate::proofs::Groups::locals_untyped))]
+#[tactic(auto, using(crate::proofs::Groups::locals_none, crate::proofs::Groups::locals_go, crate::proofs::Groups::locals_past, crate::proofs::Groups::locals_uncounted, crate::proofs::Groups::locals_untyped, crate::proofs::Groups::one_counted))]
 fn read_locals(
     alloc: Global,
     groups: u32,
     window: &mut Window<ModuleWhy>,
-) -> Result<Seq<Locals>, ReadError<ModuleWhy>>
+) -> Result<DeclaredLocals, ReadError<ModuleWhy>>
     ensures { MayRead (λ read. read) (locals groups 0) window.old window.new result }
 {
     let mut read = Seq::new(alloc);
@@ -47,7 +48,7 @@ fn read_locals(
         let count = window.u32()?;
         let total = before + u64::from(count);
         if LOCALS_LIMIT < total {
-            return Err(ReadError::Refused(Refusal {
+            return Err(ReadError::Fault(Refusal {
                 place,
                 why: ModuleWhy::Limit,
             }));
@@ -56,7 +57,7 @@ fn read_locals(
         before = total;
         read.push(Locals { count, val_type })?;
     }
-    Ok(read)
+    Ok(DeclaredLocals::of(read))
 }
 
 /// Whether an opcode is one of floats (Core 2.0, section 5.4).
@@ -149,7 +150,7 @@ fn read_body(
     }
     let place = window.at();
     let byte = window.byte()?;
-    Err(ReadError::Refused(Refusal {
+    Err(ReadError::Fault(Refusal {
         place,
         why: ModuleWhy::Unsupported(byte),
     }))
@@ -159,54 +160,43 @@ fn read_body(
 #[tactic(auto, unfolding(crate::specs::Binary::func_code))]
 fn read_func_code(
     alloc: Global,
-    type_index: u32,
+    declared: DeclaredFunc,
     window: &mut Window<ModuleWhy>,
 ) -> Result<PlacedFunc, ReadError<ModuleWhy>>
-    ensures { MayRead (λ read. read) (func_code type_index) window.old window.new result }
+    ensures { MayRead (λ read. read) (func_code declared) window.old window.new result }
 {
     let locals = read_all_locals(alloc, window)?;
     let PlacedBody { body, places } = read_body(alloc, window)?;
     Ok(PlacedFunc {
         func: Func {
-            type_index,
+            type_index: declared.type_index,
             locals,
             body,
         },
-        places,
+        place: declared.place,
+        body_places: places,
     })
 }
 
-/// Reads the code of a function with the type of this index (Core 2.0, section 5.5.13).
-#[tactic(auto, unfolding(crate::specs::Binary::code))]
-fn read_code(
-    alloc: Global,
-    type_index: u32,
-    window: &mut Window<ModuleWhy>,
-) -> Result<PlacedFunc, ReadError<ModuleWhy>>
-    ensures { MayRead (λ read. read) (code type_index) window.old window.new result }
-{
-    let mut inner = window.open()?;
-    let read = read_func_code(alloc, type_index, &mut inner)?;
-    inner.finish()?;
-    Ok(read)
-}
+// The code of a function that is declared so (Core 2.0, section 5.5.13).
+impl KindOf for DeclaredFunc {
+    ghost use Rattle.wasm_reader.specs.Binary.{code};
 
-/// Reads the codes of functions with the types of these indices.
-#[tactic(auto, using(crate::proofs::Codes::none_before, crate::proofs::Codes::codes_none, crate::proofs::Codes::codes_go, crate::proofs::Codes::codes_refused))]
-pub(crate) fn read_codes(
-    alloc: Global,
-    type_indices: &[u32],
-    window: &mut Window<ModuleWhy>,
-) -> Result<PlacedFuncs, ReadError<ModuleWhy>>
-    ensures { MayRead (λ read. read) (codes type_indices.now) window.old window.new result }
-{
-    let mut funcs = Seq::new(alloc);
-    let mut places = Seq::new(alloc);
-    for index in type_indices {
-        let type_index = *index;
-        let read = read_code(alloc, type_index, window)?;
-        funcs.push(read.func)?;
-        places.push(read.places)?;
+    type Why = ModuleWhy;
+
+    type Item = PlacedFunc;
+
+    ghost grammar = { code };
+
+    #[tactic(auto, unfolding(crate::specs::Binary::code))]
+    fn read(
+        &self,
+        alloc: Global,
+        window: &mut Window<ModuleWhy>,
+    ) -> Result<PlacedFunc, ReadError<ModuleWhy>> {
+        let mut inner = window.open()?;
+        let read = read_func_code(alloc, *self, &mut inner)?;
+        inner.finish()?;
+        Ok(read)
     }
-    Ok(PlacedFuncs { funcs, places })
 }

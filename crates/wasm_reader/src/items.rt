@@ -1,12 +1,12 @@
-//! The readers of types, indices and exports.
+//! The items of sections, a kind for each: types, functions that are declared, exports.
 
-ghost use Rattle.ca_base.specs.Grammar.{Reads, MayRead};
-ghost use Rattle.ca_base.specs.Items.{vec, placed_vec, u32};
-ghost use Rattle.wasm_reader.specs.Binary.{numbers, val_type, func_type, export};
+ghost use Rattle.ca_base.specs.Grammar.{Reads};
+ghost use Rattle.wasm_reader.specs.Binary.{val_type};
 
 use crate::fault::ModuleWhy;
+use crate::funcs::DeclaredFunc;
 use crate::module::{Export, FuncType, ValType};
-use ca_base::{Name, Placed, ReadError, Refusal, Seq, Window};
+use ca_base::{Kind, Name, ReadError, Refusal, Window, read_vec};
 use std::alloc::Global;
 
 /// Reads a value type (Core 2.0, section 5.3.4).
@@ -34,105 +34,92 @@ pub(crate) fn read_val_type(window: &mut Window<ModuleWhy>) -> Result<ValType, R
     })
 }
 
-/// Reads a vector of value types (Core 2.0, section 5.3.5).
-#[tactic(auto, using(ca_base::proofs::Times::times_none, ca_base::proofs::Times::times_ok, ca_base::proofs::Times::times_err))]
-fn read_val_types(
-    alloc: Global,
-    window: &mut Window<ModuleWhy>,
-) -> Result<Seq<ValType>, ReadError<ModuleWhy>>
-    ensures { MayRead (λ types. types) (vec numbers val_type) window.old window.new result }
-{
-    let count = window.u32()?;
-    let mut types = Seq::new(alloc);
-    for _index in 0..count {
+/// Value types (Core 2.0, section 5.3.4).
+struct ValTypes;
+
+impl Kind for ValTypes {
+    ghost use Rattle.wasm_reader.specs.Binary.{val_type};
+
+    type Why = ModuleWhy;
+
+    type Item = ValType;
+
+    ghost grammar = { val_type };
+
+    fn read(
+        _alloc: Global,
+        window: &mut Window<ModuleWhy>,
+    ) -> Result<ValType, ReadError<ModuleWhy>> {
         let read = read_val_type(window)?;
-        types.push(read)?;
+        Ok(read)
     }
-    Ok(types)
 }
 
-/// Reads a function type (Core 2.0, section 5.3.6).
-#[tactic(auto, unfolding(crate::specs::Binary::func_type))]
-fn read_func_type(
-    alloc: Global,
-    window: &mut Window<ModuleWhy>,
-) -> Result<FuncType, ReadError<ModuleWhy>>
-    ensures { MayRead (λ t. t) func_type window.old window.new result }
-{
-    window.marker(0x60)?;
-    let params = read_val_types(alloc, window)?;
-    let results = read_val_types(alloc, window)?;
-    Ok(FuncType { params, results })
-}
+/// Function types (Core 2.0, section 5.3.6).
+pub(crate) struct FuncTypes;
 
-/// Reads a vector of function types.
-#[tactic(auto, using(ca_base::proofs::Times::times_none, ca_base::proofs::Times::times_ok, ca_base::proofs::Times::times_err))]
-pub(crate) fn read_func_types(
-    alloc: Global,
-    window: &mut Window<ModuleWhy>,
-) -> Result<Seq<FuncType>, ReadError<ModuleWhy>>
-    ensures { MayRead (λ types. types) (vec numbers func_type) window.old window.new result }
-{
-    let count = window.u32()?;
-    let mut types = Seq::new(alloc);
-    for _index in 0..count {
-        let read = read_func_type(alloc, window)?;
-        types.push(read)?;
+impl Kind for FuncTypes {
+    ghost use Rattle.wasm_reader.specs.Binary.{func_type};
+
+    type Why = ModuleWhy;
+
+    type Item = FuncType;
+
+    ghost grammar = { func_type };
+
+    #[tactic(auto, unfolding(crate::specs::Binary::func_type))]
+    fn read(
+        alloc: Global,
+        window: &mut Window<ModuleWhy>,
+    ) -> Result<FuncType, ReadError<ModuleWhy>> {
+        window.marker(0x60)?;
+        let params = read_vec::<ValTypes>(alloc, window)?;
+        let results = read_vec::<ValTypes>(alloc, window)?;
+        Ok(FuncType { params, results })
     }
-    Ok(types)
 }
 
-/// Reads a vector of indices, with their places.
-#[tactic(auto, using(ca_base::proofs::PlacedTimes::placed_none, ca_base::proofs::PlacedTimes::placed_ok, ca_base::proofs::PlacedTimes::placed_err))]
-pub(crate) fn read_indices(
-    alloc: Global,
-    window: &mut Window<ModuleWhy>,
-) -> Result<Placed<u32>, ReadError<ModuleWhy>>
-    ensures { MayRead (λ read. read) (placed_vec numbers (u32 numbers)) window.old window.new result }
-{
-    let count = window.u32()?;
-    let mut items = Seq::new(alloc);
-    let mut places = Seq::new(alloc);
-    for _index in 0..count {
+/// Functions as their section declares them (Core 2.0, section 5.5.6).
+pub(crate) struct DeclaredFuncs;
+
+impl Kind for DeclaredFuncs {
+    ghost use Rattle.wasm_reader.specs.Binary.{declared_func};
+
+    type Why = ModuleWhy;
+
+    type Item = DeclaredFunc;
+
+    ghost grammar = { declared_func };
+
+    #[tactic(auto, unfolding(crate::specs::Binary::declared_func))]
+    fn read(
+        _alloc: Global,
+        window: &mut Window<ModuleWhy>,
+    ) -> Result<DeclaredFunc, ReadError<ModuleWhy>> {
         let place = window.at();
-        let read = window.u32()?;
-        items.push(read)?;
-        places.push(place)?;
+        let type_index = window.u32()?;
+        Ok(DeclaredFunc { type_index, place })
     }
-    Ok(Placed { items, places })
 }
 
-/// Reads an export of a function (Core 2.0, section 5.5.10).
-#[tactic(auto, unfolding(crate::specs::Binary::export))]
-fn read_export(
-    alloc: Global,
-    window: &mut Window<ModuleWhy>,
-) -> Result<Export, ReadError<ModuleWhy>>
-    ensures { MayRead (λ e. e) export window.old window.new result }
-{
-    let text = window.name()?;
-    window.marker(0)?;
-    let func = window.u32()?;
-    let name = Name::new(alloc, text)?;
-    Ok(Export { name, func })
-}
+/// Exports of functions (Core 2.0, section 5.5.10).
+pub(crate) struct Exports;
 
-/// Reads a vector of exports, with their places.
-#[tactic(auto, using(ca_base::proofs::PlacedTimes::placed_none, ca_base::proofs::PlacedTimes::placed_ok, ca_base::proofs::PlacedTimes::placed_err))]
-pub(crate) fn read_exports(
-    alloc: Global,
-    window: &mut Window<ModuleWhy>,
-) -> Result<Placed<Export>, ReadError<ModuleWhy>>
-    ensures { MayRead (λ read. read) (placed_vec numbers export) window.old window.new result }
-{
-    let count = window.u32()?;
-    let mut items = Seq::new(alloc);
-    let mut places = Seq::new(alloc);
-    for _index in 0..count {
-        let place = window.at();
-        let read = read_export(alloc, window)?;
-        items.push(read)?;
-        places.push(place)?;
+impl Kind for Exports {
+    ghost use Rattle.wasm_reader.specs.Binary.{export};
+
+    type Why = ModuleWhy;
+
+    type Item = Export;
+
+    ghost grammar = { export };
+
+    #[tactic(auto, unfolding(crate::specs::Binary::export))]
+    fn read(alloc: Global, window: &mut Window<ModuleWhy>) -> Result<Export, ReadError<ModuleWhy>> {
+        let text = window.name()?;
+        window.marker(0)?;
+        let func = window.u32()?;
+        let name = Name::new(alloc, text)?;
+        Ok(Export { name, func })
     }
-    Ok(Placed { items, places })
 }

@@ -1,10 +1,48 @@
-//! The types of a function's locals (Core 2.0, section 2.5.3).
+//! The locals of a function (Core 2.0, section 2.5.3).
 
-ghost use Rattle.std.specs.Prelude.{◌≡◌, ◌++◌, replicate, IfOk};
-ghost use Rattle.wasm_reader.specs.Locals.{local_types};
+ghost use Rattle.std.specs.Prelude.{◌≡◌, ◌≤◌, ◌++◌, replicate, IfOk};
+ghost use Rattle.wasm_reader.specs.Locals.{local_types, local_count, locals_limit};
 
 use crate::module::{FuncType, Locals, ValType};
+use ca_base::Seq;
 use std::alloc::{AllocError, Global};
+use std::marker::Model;
+
+/// The locals that a function declares: groups of one type, at most 50,000 locals in all. Contracts see the groups.
+#[derive(Debug, Drop)]
+pub struct DeclaredLocals {
+    groups: Seq<Locals>,
+}
+
+impl Model for DeclaredLocals {
+    ghost use Rattle.std.specs.Prelude.{◌≤◌, List};
+    ghost use Rattle.wasm_reader.specs.declared.module.Locals.{Locals};
+    ghost use Rattle.wasm_reader.specs.Locals.{local_count, locals_limit};
+
+    ghost Value = { List Locals };
+
+    ghost view = { λ l. l.groups };
+
+    ghost invariant = { λ l. local_count l.groups ≤ locals_limit };
+}
+
+impl DeclaredLocals {
+    /// The locals of these groups. It takes no memory.
+    pub(crate) fn of(groups: Seq<Locals>) -> DeclaredLocals
+        requires { local_count groups ≤ locals_limit }
+        ensures { result ≡ groups }
+    {
+        DeclaredLocals { groups }
+    }
+
+    /// The groups, in order.
+    pub fn as_slice(&self) -> &[Locals]
+        ensures groups { result.now ≡ self.now }
+        ensures limit { local_count self.now ≤ locals_limit }
+    {
+        self.groups.as_slice()
+    }
+}
 
 /// The types of all locals of a function of this type (Core 2.0, section 2.5.3): its parameters, and behind them the
 /// declared ones. It fails for want of memory alone.

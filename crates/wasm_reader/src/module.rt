@@ -1,7 +1,12 @@
 //! Modules (Core 2.0, section 2.5).
 
+ghost use Rattle.std.specs.Prelude.{◌≡◌};
+ghost use Rattle.wasm_reader.specs.Places.{Fits};
+
 use crate::instr::Body;
-use ca_base::{Name, Seq};
+use crate::locals::DeclaredLocals;
+use ca_base::{Name, Named, Seq};
+use std::marker::Model;
 
 /// The type of a value (Core 2.0, section 2.3.4).
 #[derive(Clone, Copy, Debug, PartialEq, Eq)]
@@ -35,8 +40,8 @@ pub struct Locals {
 pub struct Func {
     /// The index of its type among the module's types.
     pub type_index: u32,
-    /// Its locals behind the parameters, at most 50,000 where it was read.
-    pub locals: Seq<Locals>,
+    /// Its locals behind the parameters.
+    pub locals: DeclaredLocals,
     /// What it does.
     pub body: Body,
 }
@@ -48,6 +53,14 @@ pub struct Export {
     pub name: Name,
     /// The index of the function among the module's functions.
     pub func: u32,
+}
+
+impl Named for Export {
+    ghost name = { λ e. e.name };
+
+    fn name(&self) -> &str {
+        self.name.as_str()
+    }
 }
 
 /// The tree of a module (Core 2.0, section 2.5).
@@ -72,11 +85,72 @@ pub struct ModulePlaces {
     pub bodies: Seq<Seq<usize>>,
 }
 
-/// A module, as read and not yet validated: its tree, and beside it the places of its parts.
+/// What a module is made of: its tree, and the places of the tree's parts.
 #[derive(Debug, Drop)]
-pub struct Module {
+pub struct ModuleParts {
     /// The tree.
     pub tree: ModuleTree,
     /// The places of its parts.
     pub places: ModulePlaces,
+}
+
+/// A module, as read and not yet validated. Contracts see its tree and the places of the tree's parts, of which there is
+/// one for each part.
+#[derive(Debug, Drop)]
+pub struct Module {
+    tree: ModuleTree,
+    places: ModulePlaces,
+}
+
+impl Model for Module {
+    ghost use Rattle.wasm_reader.specs.contracts.module.ModuleParts as parts;
+    ghost use Rattle.wasm_reader.specs.declared.module.ModuleParts.{ModuleParts};
+    ghost use Rattle.wasm_reader.specs.Places.{Fits};
+
+    ghost Value = { ModuleParts };
+
+    ghost coded = { parts.the_row.coded };
+
+    ghost view = { λ m. record { tree = m.tree; places = m.places } };
+
+    ghost invariant = { λ m. Fits m.tree m.places };
+}
+
+impl Module {
+    /// The module of these parts.
+    pub(crate) fn of(parts: ModuleParts) -> Module
+        requires { Fits parts.tree parts.places }
+        ensures { result ≡ parts }
+    {
+        Module {
+            tree: parts.tree,
+            places: parts.places,
+        }
+    }
+
+    /// The tree.
+    pub fn tree(&self) -> &ModuleTree
+        ensures { result.now ≡ self.now.tree }
+    {
+        &self.tree
+    }
+
+    /// The places of the tree's parts, one for each.
+    pub fn places(&self) -> &ModulePlaces
+        ensures places { result.now ≡ self.now.places }
+        ensures fits { Fits self.now.tree self.now.places }
+    {
+        &self.places
+    }
+
+    /// The tree and the places of its parts, one for each.
+    pub fn into_parts(self) -> ModuleParts
+        ensures parts { result ≡ self }
+        ensures fits { Fits self.tree self.places }
+    {
+        ModuleParts {
+            tree: self.tree,
+            places: self.places,
+        }
+    }
 }

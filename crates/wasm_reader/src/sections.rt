@@ -1,17 +1,19 @@
 //! The readers of sections and of the whole module.
 
-ghost use Rattle.std.specs.Prelude.{◌≡◌};
+ghost use Rattle.std.specs.Prelude.{◌≡◌, IfOk};
 ghost use Rattle.ca_base.specs.Grammar.{Reads, MayRead};
 ghost use Rattle.ca_base.specs.Items.{sized, custom};
-ghost use Rattle.wasm_reader.specs.Binary.{numbers, reasons, customs, type_section, function_section, export_section, code_payload, out_of_order, module_end, no_codes, code_section, the_module};
+ghost use Rattle.wasm_reader.specs.Binary.{numbers, reasons, customs, items, code_payload, out_of_order, module_end, no_codes, code_section, module_of, the_module};
+ghost use Rattle.wasm_reader.specs.Places.{Fits};
 
-use crate::bodies::read_codes;
-use crate::code::PlacedFuncs;
 use crate::fault::ModuleWhy;
-use crate::items::{read_exports, read_func_types, read_indices};
-use crate::module::{Export, FuncType, Module, ModulePlaces, ModuleTree};
-use ca_base::{Placed, ReadError, Refusal, Seq, Window};
-use std::alloc::Global;
+use crate::funcs::{DeclaredFunc, PlacedFunc, funcs_apart};
+use crate::items::{DeclaredFuncs, Exports, FuncTypes};
+use crate::module::{Export, FuncType, Module, ModuleParts, ModulePlaces, ModuleTree};
+use ca_base::{
+    Kind, Placed, PlacedOf, ReadError, Refusal, Seq, VecOf, Window, apart, read_each, read_section,
+};
+use std::alloc::{AllocError, Global};
 
 /// The preamble of a module: its magic number and its version.
 const PREAMBLE: [u8; 8] = [0x00, 0x61, 0x73, 0x6D, 0x01, 0x00, 0x00, 0x00];
@@ -42,100 +44,50 @@ fn skip_custom(window: &mut Window<ModuleWhy>) -> Result<(), Refusal<ModuleWhy>>
     Ok(())
 }
 
-/// Reads the section of types, behind custom sections (Core 2.0, section 5.5.4).
-#[tactic(auto, unfolding(crate::specs::Binary::type_section))]
-fn read_type_section(
+/// Reads the items of the section of an id, behind custom sections: none where there is no such section.
+#[tactic(auto, unfolding(crate::specs::Binary::items))]
+fn read_items<K: Kind<Why = ModuleWhy>>(
     alloc: Global,
+    id: u8,
     window: &mut Window<ModuleWhy>,
-) -> Result<Seq<FuncType>, ReadError<ModuleWhy>>
-    ensures { MayRead (λ types. types) type_section window.old window.new result }
+) -> Result<Seq<K::Item>, ReadError<ModuleWhy>>
+    ensures { MayRead (λ xs. xs) (items id K.grammar) window.old window.new result }
 {
     skip_customs(window)?;
-    if window.next() != Some(1) {
-        return Ok(Seq::new(alloc));
-    }
-    window.byte()?;
-    let mut payload = window.open()?;
-    let types = read_func_types(alloc, &mut payload)?;
-    payload.finish()?;
-    Ok(types)
-}
-
-/// Reads the section of functions, behind custom sections (Core 2.0, section 5.5.6): the indices of their types.
-#[tactic(auto, unfolding(crate::specs::Binary::function_section))]
-fn read_function_section(
-    alloc: Global,
-    window: &mut Window<ModuleWhy>,
-) -> Result<Placed<u32>, ReadError<ModuleWhy>>
-    ensures { MayRead (λ read. read) function_section window.old window.new result }
-{
-    skip_customs(window)?;
-    if window.next() != Some(3) {
-        return Ok(Placed {
-            items: Seq::new(alloc),
-            places: Seq::new(alloc),
-        });
-    }
-    window.byte()?;
-    let mut payload = window.open()?;
-    let read = read_indices(alloc, &mut payload)?;
-    payload.finish()?;
-    Ok(read)
-}
-
-/// Reads the section of exports, behind custom sections (Core 2.0, section 5.5.10).
-#[tactic(auto, unfolding(crate::specs::Binary::export_section))]
-fn read_export_section(
-    alloc: Global,
-    window: &mut Window<ModuleWhy>,
-) -> Result<Placed<Export>, ReadError<ModuleWhy>>
-    ensures { MayRead (λ read. read) export_section window.old window.new result }
-{
-    skip_customs(window)?;
-    if window.next() != Some(7) {
-        return Ok(Placed {
-            items: Seq::new(alloc),
-            places: Seq::new(alloc),
-        });
-    }
-    window.byte()?;
-    let mut payload = window.open()?;
-    let read = read_exports(alloc, &mut payload)?;
-    payload.finish()?;
-    Ok(read)
+    let found = read_section::<VecOf<K>>(alloc, id, window)?;
+    Ok(found.unwrap_or(Seq::new(alloc)))
 }
 
 /// Reads the payload of the code section: as many codes as functions.
 #[tactic(auto, unfolding(crate::specs::Binary::code_payload))]
 fn read_code_payload(
     alloc: Global,
-    type_indices: &[u32],
+    declared: &[DeclaredFunc],
     window: &mut Window<ModuleWhy>,
-) -> Result<PlacedFuncs, ReadError<ModuleWhy>>
-    ensures { MayRead (λ read. read) (code_payload type_indices.now) window.old window.new result }
+) -> Result<Seq<PlacedFunc>, ReadError<ModuleWhy>>
+    ensures { MayRead (λ read. read) (code_payload declared.now) window.old window.new result }
 {
     let place = window.at();
     let count = window.u32()?;
-    if count as usize != type_indices.len() {
-        return Err(ReadError::Refused(Refusal {
+    if count as usize != declared.len() {
+        return Err(ReadError::Fault(Refusal {
             place,
             why: ModuleWhy::Count,
         }));
     }
-    let read = read_codes(alloc, type_indices, window)?;
-    Ok(read)
+    read_each(alloc, declared, window)
 }
 
 /// Reads what stands behind the id of the code section.
 fn read_sized_codes(
     alloc: Global,
-    type_indices: &[u32],
+    declared: &[DeclaredFunc],
     window: &mut Window<ModuleWhy>,
-) -> Result<PlacedFuncs, ReadError<ModuleWhy>>
-    ensures { MayRead (λ read. read) (sized numbers reasons (code_payload type_indices.now)) window.old window.new result }
+) -> Result<Seq<PlacedFunc>, ReadError<ModuleWhy>>
+    ensures { MayRead (λ read. read) (sized numbers reasons (code_payload declared.now)) window.old window.new result }
 {
     let mut payload = window.open()?;
-    let read = read_code_payload(alloc, type_indices, &mut payload)?;
+    let read = read_code_payload(alloc, declared, &mut payload)?;
     payload.finish()?;
     Ok(read)
 }
@@ -176,43 +128,66 @@ fn read_module_end(window: &mut Window<ModuleWhy>) -> Result<(), Refusal<ModuleW
 #[tactic(auto, unfolding(crate::specs::Binary::no_codes))]
 fn read_no_codes(
     alloc: Global,
-    type_indices: &[u32],
+    declared: &[DeclaredFunc],
     window: &mut Window<ModuleWhy>,
-) -> Result<PlacedFuncs, ReadError<ModuleWhy>>
-    ensures { MayRead (λ read. read) (no_codes type_indices.now) window.old window.new result }
+) -> Result<Seq<PlacedFunc>, ReadError<ModuleWhy>>
+    ensures { MayRead (λ read. read) (no_codes declared.now) window.old window.new result }
 {
     read_module_end(window)?;
     let place = window.at();
-    if type_indices.len() != 0 {
-        return Err(ReadError::Refused(Refusal {
+    if declared.len() != 0 {
+        return Err(ReadError::Fault(Refusal {
             place,
             why: ModuleWhy::Count,
         }));
     }
-    Ok(PlacedFuncs {
-        funcs: Seq::new(alloc),
-        places: Seq::new(alloc),
-    })
+    Ok(Seq::new(alloc))
 }
 
-/// Reads the code section, where there is one, for functions with the types of these indices, and the end of the module
-/// (Core 2.0, section 5.5.13).
+/// Reads the code section, where there is one, for functions that are declared so, and the end of the module (Core 2.0,
+/// section 5.5.13).
 #[tactic(auto, unfolding(crate::specs::Binary::code_section))]
 fn read_code_section(
     alloc: Global,
-    type_indices: &[u32],
+    declared: &[DeclaredFunc],
     window: &mut Window<ModuleWhy>,
-) -> Result<PlacedFuncs, ReadError<ModuleWhy>>
-    ensures { MayRead (λ read. read) (code_section type_indices.now) window.old window.new result }
+) -> Result<Seq<PlacedFunc>, ReadError<ModuleWhy>>
+    ensures { MayRead (λ read. read) (code_section declared.now) window.old window.new result }
 {
     if window.next() == Some(10) {
         window.byte()?;
-        let read = read_sized_codes(alloc, type_indices, window)?;
+        let read = read_sized_codes(alloc, declared, window)?;
         read_module_end(window)?;
         return Ok(read);
     }
-    let none = read_no_codes(alloc, type_indices, window)?;
+    let none = read_no_codes(alloc, declared, window)?;
     Ok(none)
+}
+
+/// The module of these types, functions and exports. It fails for want of memory alone.
+fn make_module(
+    alloc: Global,
+    types: Seq<FuncType>,
+    funcs: Seq<PlacedFunc>,
+    exports: Seq<Placed<Export>>,
+) -> Result<Module, AllocError>
+    requires { let m = module_of types funcs exports in Fits m.tree m.places }
+    ensures { IfOk result (λ m. m ≡ module_of types funcs exports) }
+{
+    let funcs = funcs_apart(alloc, funcs)?;
+    let (exports, export_places) = apart(alloc, exports)?;
+    Ok(Module::of(ModuleParts {
+        tree: ModuleTree {
+            types,
+            funcs: funcs.funcs,
+            exports,
+        },
+        places: ModulePlaces {
+            funcs: funcs.places,
+            exports: export_places,
+            bodies: funcs.bodies,
+        },
+    }))
 }
 
 /// Reads a module (Core 2.0, section 5.5.16).
@@ -224,21 +199,11 @@ pub(crate) fn read_the_module(
     ensures { MayRead (λ m. m) the_module window.old window.new result }
 {
     window.fixed(&PREAMBLE, ModuleWhy::Magic)?;
-    let types = read_type_section(alloc, window)?;
-    let indices = read_function_section(alloc, window)?;
-    let exports = read_export_section(alloc, window)?;
+    let types = read_items::<FuncTypes>(alloc, 1, window)?;
+    let declared = read_items::<DeclaredFuncs>(alloc, 3, window)?;
+    let exports = read_items::<PlacedOf<Exports>>(alloc, 7, window)?;
     skip_customs(window)?;
-    let codes = read_code_section(alloc, indices.items.as_slice(), window)?;
-    Ok(Module {
-        tree: ModuleTree {
-            types,
-            funcs: codes.funcs,
-            exports: exports.items,
-        },
-        places: ModulePlaces {
-            funcs: indices.places,
-            exports: exports.places,
-            bodies: codes.places,
-        },
-    })
+    let funcs = read_code_section(alloc, declared.as_slice(), window)?;
+    let module = make_module(alloc, types, funcs, exports)?;
+    Ok(module)
 }

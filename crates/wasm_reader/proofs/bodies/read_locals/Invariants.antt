@@ -3,9 +3,12 @@ use Rattle.std.proofs.Common.{◌≡◌, ◌≤◌, ◌-◌}
 use Rattle.ca_base.specs.Grammar.{read}
 use Rattle.ca_base.proofs.Times.{preceded}
 use Rattle.wasm_reader.specs.Binary.{locals}
+use Rattle.wasm_reader.specs.Locals.{local_count}
 use Rattle.wasm_reader.proofs.bodies.read_locals.Given as goal
 
 abbrev pub invariant-loop-index : goal.invariant-loop-index
-invariant-loop-index l =
-    (l.before ≤ 50000)
-    × (read (locals l.groups 0) l.initial.window ≡ preceded l.read (read (locals (l.groups - l._index) l.before) l.window))
+invariant-loop-index l = record {
+  limit : l.before ≤ 50000;
+  counted : local_count l.read ≡ l.before;
+  same : read (locals l.groups 0) l.initial.window ≡ preceded l.read (read (locals (l.groups - l._index) l.before) l.window);
+}
