@@ -1,2 +1,6 @@
+pub mod Options
+pub mod Names
 pub mod Decides
 pub mod Operands
+pub mod Spots
+pub mod Reading

@@ -1,4 +1,3 @@
 pub mod Typing
-pub mod Errors
 pub mod Checking
 pub mod Laws

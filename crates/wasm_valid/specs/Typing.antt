@@ -1,6 +1,7 @@
 -- Validation (Core 2.0, section 3): which modules are typed. A list of operand types has the last operand first.
-use Rattle.std.specs.Prelude.{◌≡◌, ◌≢◌, ◌<◌, ℕ, List, [], ◌∷◌, length, map, reverse, Some}
+use Rattle.std.specs.Prelude.{◌≡◌, ◌<◌, List, [], ◌∷◌, length, map, reverse, Some}
 use Rattle.std.specs.List.{slice_get, AllByRecursion}
+use Rattle.ca_base.specs.Names.{AreDistinct}
 use Rattle.wasm_reader.specs.declared.module.ValType.{ValType}
 use Rattle.wasm_reader.specs.declared.module.ValType.TheVariants.{I32}
 use Rattle.wasm_reader.specs.declared.module.FuncType.{FuncType}
@@ -26,11 +27,6 @@ ExprTyped locals results (Plain instr e) operands = (after : List ValType) × In
 -- (section 3.4.1)
 abbrev pub FuncTyped : List FuncType → Func → Type 0
 FuncTyped types func = (type : FuncType) × (slice_get types func.type_index ≡ Some type) × ExprTyped (local_types type func.locals) type.results func.body []
-
--- no name stands twice
-abbrev pub AreDistinct : List (List ℕ) → Type 0
-AreDistinct [] = Unit {0}
-AreDistinct (first ∷ names) = AllByRecursion (λ name. first ≢ name) names × AreDistinct names
 
 -- a module: each function, each export names a function that is there, and no two exports have one name (section 3.4.10)
 pub record Typed (m : ModuleTree) : Type 0 where

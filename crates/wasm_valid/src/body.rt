@@ -1,60 +1,13 @@
 //! Whether the body of a function has its type, by the validation algorithm (Core 2.0, appendix "Validation Algorithm").
 
 ghost use Rattle.std.specs.Prelude.{◌≡◌, reverse, Some, None, MatchResult};
+ghost use Rattle.ca_base.specs.Faults.{IfFault, MayFind, MayStep};
 ghost use Rattle.wasm_valid.specs.Checking.{taken, instr_after, fault_or, surplus, body_fault};
-ghost use Rattle.wasm_valid.specs.Errors.{IfWhy, IfBehind};
 
-use crate::fault::ValidWhy;
-use std::alloc::{AllocError, AllocFailed, Global};
+use crate::fault::{BodyFault, ValidWhy};
+use ca_base::MemoryOr;
+use std::alloc::Global;
 use wasm_reader::{Func, FuncType, Instr, ValType, local_types};
-
-/// Why the check of an instruction ends without its results.
-#[derive(Clone, Copy, Debug, PartialEq, Eq)]
-pub(crate) enum InstrError {
-    /// No memory was left.
-    Memory,
-    /// What is wrong with the instruction.
-    Why(ValidWhy),
-}
-
-impl<T: Drop> From<AllocFailed<T>> for InstrError {
-    ghost use Rattle.wasm_valid.specs.declared.body.InstrError.TheVariants.{Memory};
-
-    ghost from_gives = { λ _ e. e ≡ Memory };
-
-    fn from(_e: AllocFailed<T>) -> InstrError {
-        InstrError::Memory
-    }
-}
-
-impl From<ValidWhy> for InstrError {
-    ghost use Rattle.wasm_valid.specs.declared.body.InstrError.TheVariants.{Why};
-
-    ghost from_gives = { λ why e. e ≡ Why why };
-
-    fn from(why: ValidWhy) -> InstrError {
-        InstrError::Why(why)
-    }
-}
-
-/// Why the check of a body ends without a typed body.
-#[derive(Clone, Copy, Debug, PartialEq, Eq)]
-pub(crate) enum BodyError {
-    /// No memory was left.
-    Memory,
-    /// The body's first fault: behind how many instructions it stands, and what is wrong.
-    Behind(usize, ValidWhy),
-}
-
-impl From<AllocError> for BodyError {
-    ghost use Rattle.wasm_valid.specs.declared.body.BodyError.TheVariants.{Memory};
-
-    ghost from_gives = { λ _ e. e ≡ Memory };
-
-    fn from(_e: AllocError) -> BodyError {
-        BodyError::Memory
-    }
-}
 
 /// Takes the last operands, which are to have these types.
 fn take_operands(operands: &mut Vec<ValType>, wanted: &[ValType]) -> Result<(), ValidWhy>
@@ -75,8 +28,8 @@ fn check_instr(
     locals: &[ValType],
     instr: Instr,
     operands: &mut Vec<ValType>,
-) -> Result<(), InstrError>
-    ensures { MatchResult result (λ _. instr_after locals.now instr (reverse operands.old.items) ≡ Ok (reverse operands.new.items)) (λ e. IfWhy e (λ why. instr_after locals.now instr (reverse operands.old.items) ≡ Err why)) }
+) -> Result<(), MemoryOr<ValidWhy>>
+    ensures { MayStep (instr_after locals.now instr (reverse operands.old.items)) (reverse operands.new.items) result }
 {
     match instr {
         Instr::LocalGet(index) => {
@@ -103,19 +56,23 @@ fn check_end(results: &[ValType], mut operands: Vec<ValType>) -> Result<(), Vali
 }
 
 /// The error of an instruction behind so many others.
-fn error_behind(at: usize, e: InstrError) -> BodyError
-    ensures found { IfBehind result (λ found. (found.0 ≡ at) × (e ≡ InstrError.Why found.1)) }
-    ensures memory { result ≡ BodyError.Memory → e ≡ InstrError.Memory }
+fn error_behind(at: usize, e: MemoryOr<ValidWhy>) -> MemoryOr<BodyFault>
+    ensures fault { IfFault result (λ fault. (fault.at ≡ at) × (e ≡ MemoryOr.Fault fault.why)) }
+    ensures memory { result ≡ MemoryOr.Memory → e ≡ MemoryOr.Memory }
 {
     match e {
-        InstrError::Memory => BodyError::Memory,
-        InstrError::Why(why) => BodyError::Behind(at, why),
+        MemoryOr::Memory => MemoryOr::Memory,
+        MemoryOr::Fault(why) => MemoryOr::Fault(BodyFault { at, why }),
     }
 }
 
 /// Checks the body of a function of this type, from its first instruction.
-pub(crate) fn check_body(alloc: Global, func_type: &FuncType, func: &Func) -> Result<(), BodyError>
-    ensures { MatchResult result (λ _. body_fault func_type.now func.now ≡ None) (λ e. IfBehind e (λ found. body_fault func_type.now func.now ≡ Some found)) }
+pub(crate) fn check_body(
+    alloc: Global,
+    func_type: &FuncType,
+    func: &Func,
+) -> Result<(), MemoryOr<BodyFault>>
+    ensures { MayFind (body_fault func_type.now func.now) result }
 {
     let locals = local_types(alloc, func_type, func.locals.as_slice())?;
     let mut operands = Vec::new(alloc);
@@ -128,6 +85,6 @@ pub(crate) fn check_body(alloc: Global, func_type: &FuncType, func: &Func) -> Re
     }
     match check_end(func_type.results.as_slice(), operands) {
         Ok(()) => Ok(()),
-        Err(why) => Err(BodyError::Behind(at, why)),
+        Err(why) => Err(MemoryOr::Fault(BodyFault { at, why })),
     }
 }

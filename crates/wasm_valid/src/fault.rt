@@ -2,7 +2,7 @@
 
 ghost use Rattle.std.specs.Prelude.{◌≡◌};
 
-use std::alloc::{AllocError, AllocFailed};
+use ca_base::MemoryOr;
 
 /// What is wrong in a module. At one place the first in this order is told.
 #[derive(Clone, Copy, Debug, PartialEq, Eq)]
@@ -15,6 +15,25 @@ pub enum ValidWhy {
     Typing,
     /// A name stands at an earlier export.
     Name,
+}
+
+impl From<ValidWhy> for MemoryOr<ValidWhy> {
+    ghost use Rattle.ca_base.specs.declared.memory.MemoryOr.TheVariants.{Fault};
+
+    ghost from_gives = { λ why e. e ≡ Fault why };
+
+    fn from(why: ValidWhy) -> MemoryOr<ValidWhy> {
+        MemoryOr::Fault(why)
+    }
+}
+
+/// The first fault of a body.
+#[derive(Clone, Copy, Debug, PartialEq, Eq)]
+pub(crate) struct BodyFault {
+    /// Behind how many of its instructions it stands.
+    pub at: usize,
+    /// What is wrong.
+    pub why: ValidWhy,
 }
 
 /// A part of a module that can be wrong.
@@ -42,37 +61,8 @@ pub(crate) struct Fault {
 pub struct ValidFault {
     /// The function in whose body it stands, as an index among the module's functions. `None` outside bodies.
     pub func: Option<u32>,
-    /// The byte place, counted from the file's start: the first byte of the function, export or instruction.
+    /// The byte place, counted from the file's start: the first byte of the function, export, instruction or end.
     pub place: usize,
     /// What is wrong.
     pub why: ValidWhy,
-}
-
-/// Why a validation ends without a valid module.
-#[derive(Clone, Copy, Debug, PartialEq, Eq)]
-pub enum ValidError {
-    /// No memory was left, or the first fault stands in a function whose index is 2^32 or more.
-    Memory,
-    /// The module's first fault.
-    Fault(ValidFault),
-}
-
-impl From<AllocError> for ValidError {
-    ghost use Rattle.wasm_valid.specs.declared.fault.ValidError.TheVariants.{Memory};
-
-    ghost from_gives = { λ _ e. e ≡ Memory };
-
-    fn from(_e: AllocError) -> ValidError {
-        ValidError::Memory
-    }
-}
-
-impl<T: Drop> From<AllocFailed<T>> for ValidError {
-    ghost use Rattle.wasm_valid.specs.declared.fault.ValidError.TheVariants.{Memory};
-
-    ghost from_gives = { λ _ e. e ≡ Memory };
-
-    fn from(_e: AllocFailed<T>) -> ValidError {
-        ValidError::Memory
-    }
 }

@@ -5,19 +5,21 @@
 //!
 //! - `valid`: the modules that are typed
 //! - `check`: from a module to a valid one, or to its first fault
+//! - `funcs` and `exports`: the rules on functions and on exports
 //! - `body`: the validation algorithm for one body
-//! - `fault`: what faults are
+//! - `fault` and `place`: what faults are, and where they stand
 //! - `laws`: that the first fault decides whether a module is typed
 #![tactic(auto)]
 
 mod body;
 mod check;
+mod exports;
 mod fault;
+mod funcs;
 pub mod laws;
-#[cfg(test)]
-mod tests;
+mod place;
 mod valid;
 
 pub use check::validate;
-pub use fault::{ValidError, ValidFault, ValidWhy};
+pub use fault::{ValidFault, ValidWhy};
 pub use valid::Valid;
