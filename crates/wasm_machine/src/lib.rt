@@ -17,9 +17,7 @@ pub mod laws;
 mod running;
 mod step;
 mod store;
-#[cfg(test)]
-mod tests;
 
 pub use execution::{Outcome, run};
 pub use running::{Running, Words, start};
-pub use store::{AddFault, CoreInstance, Function, Store};
+pub use store::{CoreInstance, Function, Store};

@@ -4,8 +4,8 @@ ghost use Rattle.std.specs.Prelude.{◌≡◌, ◌<◌, ◌++◌, [], length, If
 ghost use Rattle.std.specs.List.{slice_get};
 ghost use Rattle.wasm_machine.specs.Store.{FunctionTyped, StoreTyped, functions_of};
 
-use ca_base::Seq;
-use std::alloc::{AllocError, AllocFailed, Global};
+use ca_base::{Memory, Seq};
+use std::alloc::{AllocError, Global};
 use std::marker::Model;
 use wasm_reader::{Body, FuncType, Locals};
 use wasm_valid::Valid;
@@ -19,25 +19,6 @@ pub struct Function {
     pub locals: Seq<Locals>,
     /// What it does.
     pub body: Body,
-}
-
-/// Why a module was not added to a store.
-#[derive(Clone, Copy, Debug, PartialEq, Eq)]
-pub enum AddFault {
-    /// No memory was left.
-    Memory,
-}
-
-impl From<AllocError> for AddFault {
-    fn from(_e: AllocError) -> AddFault {
-        AddFault::Memory
-    }
-}
-
-impl<T: Drop> From<AllocFailed<T>> for AddFault {
-    fn from(_e: AllocFailed<T>) -> AddFault {
-        AddFault::Memory
-    }
 }
 
 /// An instance of a core module.
@@ -97,7 +78,7 @@ impl Store {
 
     /// Makes an instance of a module: its functions go behind those of the store. Where memory is wanting, the
     /// store stays as it is.
-    pub fn add(&mut self, alloc: Global, valid: &Valid) -> Result<CoreInstance, AddFault>
+    pub fn add(&mut self, alloc: Global, valid: &Valid) -> Result<CoreInstance, Memory>
         ensures first { IfOk result (λ i. i.first_func ≡ length self.old) }
         ensures added { IfOk result (λ _. self.new ≡ self.old ++ functions_of valid.now) }
         ensures unchanged { OnErr result (self.new ≡ self.old) }

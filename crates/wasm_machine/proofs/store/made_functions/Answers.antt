@@ -20,7 +20,7 @@ loop-func-preserved c =
     let typed : func.type_index < length m.types = type_there m.types m.funcs i func c.tree-tree.ensures.typed.funcs within here in
     let type_here : c.index-types-func.result ≡ get_or m.types func.type_index c.index-types-func.result = c.index-types-func.is ∙ ap (λ (types : List FuncType). get_or types func.type_index c.index-types-func.result) types_are in
     let made : Function = record { func_type = c.in_ok-func_type.func_type; locals = c.from_vec-locals.result; body = c.in_ok-body.body } in
-    let made_is : made ≡ function_of m.types func = made_here m.types func c.index-types-func.result made typed type_here c.in_ok-func_type.ensures (c.from_vec-locals.ensures ∙ (c.in_ok-from_slice.ensures.items ∙ c.as_slice.ensures)) c.in_ok-body.ensures in
+    let made_is : made ≡ function_of m.types func = made_here m.types func c.index-types-func.result made typed type_here c.in_ok-func_type.ensures (c.from_vec-locals.ensures ∙ (c.in_ok-from_slice.ensures.items ∙ c.as_slice.ensures.groups)) c.in_ok-body.ensures in
     made_more m.types m.funcs i func c.loop-func.functions.items c.push.new.self.items made within here c.loop-func.invariant c.in_ok-push.ensures.items made_is
 
 pub returns-clause-typed : goal.returns-clause-typed
