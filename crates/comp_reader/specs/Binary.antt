@@ -4,12 +4,12 @@
 use Rattle.std.specs.Prelude.{ℕ, ◌^◌, ℤ, pos, nat_abs, int_le, int_lt, ◌&&◌, Bool, List, [], ◌∷◌, length, ◌==◌, ◌||◌, Option, Some, None}
 use Rattle.ca_base.specs.Span.{Span}
 use Rattle.ca_base.specs.Grammar.{Grammar, Give, Refuse, Here, Left, Next, Byte, Sized, Choose, ◌>>=◌, Matches, Refuses}
-use Rattle.ca_base.specs.Items.{byte_of, NumberReasons, Reasons, fixed, marker, u32, s33, name, custom, sized, vec, placed_vec, to_the_end, joined, at_end}
+use Rattle.ca_base.specs.Items.{byte_of, NumberReasons, Reasons, fixed, marker, u32, s33, name, custom, sized, vec, placed, placed_vec, to_the_end, joined, at_end}
 use Rattle.ca_base.specs.declared.refusal.Refusal.{Refusal}
 use Rattle.ca_base.specs.declared.placed.Placed.{Placed}
 use Rattle.ca_types.specs.declared.types.ValType.TheVariants.{U32}
 use Rattle.wasm_reader.specs.declared.fault.ModuleWhy.TheVariants as module_why
-use Rattle.wasm_reader.specs.declared.module.Module as core_module_type
+use Rattle.wasm_reader.specs.declared.module.ModuleParts.{ModuleParts}
 use Rattle.wasm_reader.specs.declared.module.ModuleTree.{ModuleTree}
 use Rattle.wasm_reader.specs.Binary.{the_module}
 use Rattle.wasm_valid.specs.declared.fault.ValidFault.{ValidFault}
@@ -41,7 +41,7 @@ validated tree None = Give tree
 validated tree (Some fault) = Refuse fault.place (Invalid fault.why)
 
 -- a core module that fills its section, as a file of its own
-unfoldable pub module_file : Grammar ComponentWhy core_module_type.Module
+unfoldable pub module_file : Grammar ComponentWhy ModuleParts
 module_file = do
   count ← Left
   Sized count module_why.Truncated Module the_module
@@ -172,19 +172,18 @@ export = do
   Give (item.Export (record { name = named; func = index }))
 
 -- a custom section has no item, and the section of a core module has one
-unfoldable pub custom_items : Grammar ComponentWhy (Placed Item)
+unfoldable pub custom_items : Grammar ComponentWhy (List (Placed Item))
 custom_items = do
   _ ← custom numbers
-  Give (record { items = []; places = [] })
+  Give []
 
-unfoldable pub module_items : Grammar ComponentWhy (Placed Item)
+unfoldable pub module_items : Grammar ComponentWhy (List (Placed Item))
 module_items = do
-  place ← Here
-  read ← core_module
-  Give (record { items = read ∷ []; places = place ∷ [] })
+  read ← placed core_module
+  Give (read ∷ [])
 
 -- the payload of a section, by its id
-unfoldable pub payload : ℕ → Grammar ComponentWhy (Placed Item)
+unfoldable pub payload : ℕ → Grammar ComponentWhy (List (Placed Item))
 payload id =
     Choose (id == 0) custom_items
     (Choose (id == 1) module_items
@@ -199,7 +198,7 @@ abbrev pub is_section : ℕ → Bool
 is_section id = id == 0 || id == 1 || id == 2 || id == 6 || id == 7 || id == 8 || id == 11
 
 -- a section: its id, its size, and its payload, which fills it
-unfoldable pub section : Grammar ComponentWhy (Placed Item)
+unfoldable pub section : Grammar ComponentWhy (List (Placed Item))
 section = do
   place ← Here
   id ← Byte
@@ -209,17 +208,13 @@ section = do
 abbrev pub preamble : List ℕ
 preamble = 0x00 ∷ 0x61 ∷ 0x73 ∷ 0x6D ∷ 0x0D ∷ 0x00 ∷ 0x01 ∷ 0x00 ∷ []
 
--- the component of these parts
-abbrev pub component_of : Placed Item → Component
-component_of parts = record { items = parts.items; places = parts.places }
-
 -- a component: its preamble, its sections up to the end of the file, and nothing else
 unfoldable pub component : Grammar ComponentWhy Component
 component = do
   _ ← fixed Magic preamble
   sections ← to_the_end section
   _ ← at_end reasons
-  Give (component_of (joined sections))
+  Give (record { items = joined sections })
 
 -- a whole file
 abbrev pub file : List ℕ → Span ComponentWhy

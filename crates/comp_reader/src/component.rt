@@ -1,6 +1,6 @@
 //! Components (Component Model, Explainer.md and Binary.md).
 
-use ca_base::{Name, Seq};
+use ca_base::{Name, Named, Placed, Seq};
 use ca_types::ValType;
 use wasm_valid::Valid;
 
@@ -39,6 +39,14 @@ pub struct Param {
     pub label: Name,
     /// The type of its values.
     pub val_type: ValTypeRef,
+}
+
+impl Named for Param {
+    ghost name = { λ p. p.label };
+
+    fn name(&self) -> &str {
+        self.label.as_str()
+    }
 }
 
 /// A function type as it is written (Component Model, Binary.md, `functype`).
@@ -97,11 +105,9 @@ pub enum Item {
     Export(Export),
 }
 
-/// A component: its items, in file order, and beside them the places of their first bytes.
+/// A component: its items, in file order, each with the place of its first byte.
 #[derive(Debug, Drop)]
 pub struct Component {
     /// The items, in file order.
-    pub items: Seq<Item>,
-    /// The place of the first byte of each, counted from the file's start.
-    pub places: Seq<usize>,
+    pub items: Seq<Placed<Item>>,
 }

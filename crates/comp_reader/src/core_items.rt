@@ -1,17 +1,17 @@
-//! The items that stand for core modules, and for what is made of them: a function for each.
+//! The items that stand for core modules, and for what is made of them: a kind for each.
 
 ghost use Rattle.std.specs.Prelude.{◌≡◌};
 ghost use Rattle.ca_base.specs.Grammar.{Reads, MayRead, in_words};
 ghost use Rattle.comp_reader.specs.declared.fault.ComponentWhy.TheVariants as why;
-ghost use Rattle.comp_reader.specs.Binary.{module_file, core_module, no_arguments, core_instance, alias};
+ghost use Rattle.comp_reader.specs.Binary.{module_file, no_arguments};
 
 use crate::component::{Alias, CoreInstance, Item};
 use crate::fault::ComponentWhy;
 use crate::items::read_name;
-use ca_base::{ReadError, Refusal, Window};
+use ca_base::{Kind, MemoryOr, ReadError, Refusal, Window};
 use std::alloc::Global;
 use wasm_reader::{Module, ModuleWhy, read_module};
-use wasm_valid::{ValidError, validate};
+use wasm_valid::validate;
 
 /// The refusal of a module as one of its component.
 fn of_module(refusal: Refusal<ModuleWhy>) -> Refusal<ComponentWhy>
@@ -35,27 +35,37 @@ fn read_module_file(
     let bytes = window.take(window.left())?;
     match read_module(alloc, bytes, place) {
         Ok(read) => Ok(read),
-        Err(ReadError::Memory) => Err(ReadError::Memory),
-        Err(ReadError::Refused(refusal)) => Err(ReadError::Refused(of_module(refusal))),
+        Err(MemoryOr::Memory) => Err(MemoryOr::Memory),
+        Err(MemoryOr::Fault(refusal)) => Err(MemoryOr::Fault(of_module(refusal))),
     }
 }
 
-/// Reads a core module, which is valid.
-#[tactic(auto, unfolding(crate::specs::Binary::core_module))]
-pub(crate) fn read_core_module(
-    alloc: Global,
-    window: &mut Window<ComponentWhy>,
-) -> Result<Item, ReadError<ComponentWhy>>
-    ensures { MayRead (λ i. i) core_module window.old window.new result }
-{
-    let read = read_module_file(alloc, window)?;
-    match validate(alloc, read) {
-        Ok(valid) => Ok(Item::CoreModule(valid)),
-        Err(ValidError::Memory) => Err(ReadError::Memory),
-        Err(ValidError::Fault(fault)) => Err(ReadError::Refused(Refusal {
-            place: fault.place,
-            why: ComponentWhy::Invalid(fault.why),
-        })),
+/// Core modules, which are valid (Component Model, Binary.md, `core:module`).
+pub(crate) struct CoreModules;
+
+impl Kind for CoreModules {
+    ghost use Rattle.comp_reader.specs.Binary.{core_module};
+
+    type Why = ComponentWhy;
+
+    type Item = Item;
+
+    ghost grammar = { core_module };
+
+    #[tactic(auto, unfolding(crate::specs::Binary::core_module))]
+    fn read(
+        alloc: Global,
+        window: &mut Window<ComponentWhy>,
+    ) -> Result<Item, ReadError<ComponentWhy>> {
+        let read = read_module_file(alloc, window)?;
+        match validate(alloc, read) {
+            Ok(valid) => Ok(Item::CoreModule(valid)),
+            Err(MemoryOr::Memory) => Err(MemoryOr::Memory),
+            Err(MemoryOr::Fault(fault)) => Err(MemoryOr::Fault(Refusal {
+                place: fault.place,
+                why: ComponentWhy::Invalid(fault.why),
+            })),
+        }
     }
 }
 
@@ -77,31 +87,52 @@ fn read_no_arguments(window: &mut Window<ComponentWhy>) -> Result<(), Refusal<Co
     }
 }
 
-/// Reads a core instance.
-#[tactic(auto, unfolding(crate::specs::Binary::core_instance))]
-pub(crate) fn read_core_instance(
-    window: &mut Window<ComponentWhy>,
-) -> Result<Item, Refusal<ComponentWhy>>
-    ensures { Reads (λ i. i) core_instance window.old window.new result }
-{
-    window.marker(0)?;
-    let index = window.u32()?;
-    read_no_arguments(window)?;
-    Ok(Item::CoreInstance(CoreInstance::Instantiate(index)))
+/// Core instances (Component Model, Binary.md, `core:instance`).
+pub(crate) struct CoreInstances;
+
+impl Kind for CoreInstances {
+    ghost use Rattle.comp_reader.specs.Binary.{core_instance};
+
+    type Why = ComponentWhy;
+
+    type Item = Item;
+
+    ghost grammar = { core_instance };
+
+    #[tactic(auto, unfolding(crate::specs::Binary::core_instance))]
+    fn read(
+        _alloc: Global,
+        window: &mut Window<ComponentWhy>,
+    ) -> Result<Item, ReadError<ComponentWhy>> {
+        window.marker(0)?;
+        let index = window.u32()?;
+        read_no_arguments(window)?;
+        Ok(Item::CoreInstance(CoreInstance::Instantiate(index)))
+    }
 }
 
-/// Reads an alias.
-#[tactic(auto, unfolding(crate::specs::Binary::alias))]
-pub(crate) fn read_alias(
-    alloc: Global,
-    window: &mut Window<ComponentWhy>,
-) -> Result<Item, ReadError<ComponentWhy>>
-    ensures { MayRead (λ i. i) alias window.old window.new result }
-{
-    window.marker(0)?;
-    window.marker(0)?;
-    window.marker(1)?;
-    let instance = window.u32()?;
-    let name = read_name(alloc, window)?;
-    Ok(Item::Alias(Alias::CoreFunc { instance, name }))
+/// Aliases (Component Model, Binary.md, `alias`).
+pub(crate) struct Aliases;
+
+impl Kind for Aliases {
+    ghost use Rattle.comp_reader.specs.Binary.{alias};
+
+    type Why = ComponentWhy;
+
+    type Item = Item;
+
+    ghost grammar = { alias };
+
+    #[tactic(auto, unfolding(crate::specs::Binary::alias))]
+    fn read(
+        alloc: Global,
+        window: &mut Window<ComponentWhy>,
+    ) -> Result<Item, ReadError<ComponentWhy>> {
+        window.marker(0)?;
+        window.marker(0)?;
+        window.marker(1)?;
+        let instance = window.u32()?;
+        let name = read_name(alloc, window)?;
+        Ok(Item::Alias(Alias::CoreFunc { instance, name }))
+    }
 }

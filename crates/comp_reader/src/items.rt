@@ -1,13 +1,13 @@
-//! The items of types, canonical functions and exports: a function for each.
+//! The items of types, canonical functions and exports: a kind for each.
 
 ghost use Rattle.std.specs.Prelude.{[]};
-ghost use Rattle.ca_base.specs.Grammar.{Reads, MayRead, times};
+ghost use Rattle.ca_base.specs.Grammar.{Reads, MayRead};
 ghost use Rattle.ca_base.specs.Items.{name, vec};
-ghost use Rattle.comp_reader.specs.Binary.{numbers, val_type, param, func_result, func_type, def_type, type_item, option, canon, export_name, export};
+ghost use Rattle.comp_reader.specs.Binary.{numbers, val_type, func_result, func_type, def_type, option, export_name};
 
 use crate::component::{Canon, DefType, Export, FuncType, Item, Param, ValTypeRef};
 use crate::fault::ComponentWhy;
-use ca_base::{Name, ReadError, Refusal, Seq, Window};
+use ca_base::{Kind, Name, ReadError, Refusal, Window, read_vec};
 use ca_types::ValType;
 use std::alloc::Global;
 
@@ -49,34 +49,27 @@ fn read_val_type(window: &mut Window<ComponentWhy>) -> Result<ValTypeRef, Refusa
     })
 }
 
-/// Reads a parameter.
-#[tactic(auto, unfolding(crate::specs::Binary::param))]
-fn read_param(
-    alloc: Global,
-    window: &mut Window<ComponentWhy>,
-) -> Result<Param, ReadError<ComponentWhy>>
-    ensures { MayRead (λ p. p) param window.old window.new result }
-{
-    let label = read_name(alloc, window)?;
-    let val_type = read_val_type(window)?;
-    Ok(Param { label, val_type })
-}
+/// Parameters.
+struct Params;
 
-/// Reads so many parameters.
-#[tactic(auto, using(ca_base::proofs::Times::times_none, ca_base::proofs::Times::times_ok, ca_base::proofs::Times::times_err))]
-fn read_params(
-    alloc: Global,
-    count: u32,
-    window: &mut Window<ComponentWhy>,
-) -> Result<Seq<Param>, ReadError<ComponentWhy>>
-    ensures { MayRead (λ params. params) (times count param) window.old window.new result }
-{
-    let mut params = Seq::new(alloc);
-    for _index in 0..count {
-        let read = read_param(alloc, window)?;
-        params.push(read)?;
+impl Kind for Params {
+    ghost use Rattle.comp_reader.specs.Binary.{param};
+
+    type Why = ComponentWhy;
+
+    type Item = Param;
+
+    ghost grammar = { param };
+
+    #[tactic(auto, unfolding(crate::specs::Binary::param))]
+    fn read(
+        alloc: Global,
+        window: &mut Window<ComponentWhy>,
+    ) -> Result<Param, ReadError<ComponentWhy>> {
+        let label = read_name(alloc, window)?;
+        let val_type = read_val_type(window)?;
+        Ok(Param { label, val_type })
     }
-    Ok(params)
 }
 
 /// Reads the result of a function.
@@ -110,8 +103,7 @@ fn read_func_type(
 ) -> Result<FuncType, ReadError<ComponentWhy>>
     ensures { MayRead (λ t. t) func_type window.old window.new result }
 {
-    let count = window.u32()?;
-    let params = read_params(alloc, count, window)?;
+    let params = read_vec::<Params>(alloc, window)?;
     let returned = read_result(window)?;
     Ok(FuncType {
         params,
@@ -137,27 +129,37 @@ fn read_def_type(
         return Ok(DefType::Value(ValType::U32));
     }
     if byte == 0x76 || byte == 0x75 {
-        return Err(ReadError::Refused(Refusal {
+        return Err(ReadError::Fault(Refusal {
             place,
             why: ComponentWhy::Float,
         }));
     }
-    Err(ReadError::Refused(Refusal {
+    Err(ReadError::Fault(Refusal {
         place,
         why: ComponentWhy::Unsupported(byte),
     }))
 }
 
-/// Reads a type as an item.
-#[tactic(auto, unfolding(crate::specs::Binary::type_item))]
-pub(crate) fn read_type(
-    alloc: Global,
-    window: &mut Window<ComponentWhy>,
-) -> Result<Item, ReadError<ComponentWhy>>
-    ensures { MayRead (λ i. i) type_item window.old window.new result }
-{
-    let def_type = read_def_type(alloc, window)?;
-    Ok(Item::Type(def_type))
+/// Types (Component Model, Binary.md, `type`).
+pub(crate) struct Types;
+
+impl Kind for Types {
+    ghost use Rattle.comp_reader.specs.Binary.{type_item};
+
+    type Why = ComponentWhy;
+
+    type Item = Item;
+
+    ghost grammar = { type_item };
+
+    #[tactic(auto, unfolding(crate::specs::Binary::type_item))]
+    fn read(
+        alloc: Global,
+        window: &mut Window<ComponentWhy>,
+    ) -> Result<Item, ReadError<ComponentWhy>> {
+        let def_type = read_def_type(alloc, window)?;
+        Ok(Item::Type(def_type))
+    }
 }
 
 /// Reads options, of which none is read: the first one is refused.
@@ -177,20 +179,33 @@ fn read_options(window: &mut Window<ComponentWhy>) -> Result<(), Refusal<Compone
     })
 }
 
-/// Reads a canonical function.
-#[tactic(auto, unfolding(crate::specs::Binary::canon))]
-pub(crate) fn read_canon(window: &mut Window<ComponentWhy>) -> Result<Item, Refusal<ComponentWhy>>
-    ensures { Reads (λ i. i) canon window.old window.new result }
-{
-    window.marker(0)?;
-    window.marker(0)?;
-    let core_func = window.u32()?;
-    read_options(window)?;
-    let func_type = window.u32()?;
-    Ok(Item::Canon(Canon::Lift {
-        core_func,
-        func_type,
-    }))
+/// Canonical functions (Component Model, Binary.md, `canon`).
+pub(crate) struct Canons;
+
+impl Kind for Canons {
+    ghost use Rattle.comp_reader.specs.Binary.{canon};
+
+    type Why = ComponentWhy;
+
+    type Item = Item;
+
+    ghost grammar = { canon };
+
+    #[tactic(auto, unfolding(crate::specs::Binary::canon))]
+    fn read(
+        _alloc: Global,
+        window: &mut Window<ComponentWhy>,
+    ) -> Result<Item, ReadError<ComponentWhy>> {
+        window.marker(0)?;
+        window.marker(0)?;
+        let core_func = window.u32()?;
+        read_options(window)?;
+        let func_type = window.u32()?;
+        Ok(Item::Canon(Canon::Lift {
+            core_func,
+            func_type,
+        }))
+    }
 }
 
 /// Reads the name of an export.
@@ -206,23 +221,33 @@ fn read_export_name(
     if byte == 0 || byte == 1 {
         return read_name(alloc, window);
     }
-    Err(ReadError::Refused(Refusal {
+    Err(ReadError::Fault(Refusal {
         place,
         why: ComponentWhy::Unsupported(byte),
     }))
 }
 
-/// Reads an export.
-#[tactic(auto, unfolding(crate::specs::Binary::export))]
-pub(crate) fn read_export(
-    alloc: Global,
-    window: &mut Window<ComponentWhy>,
-) -> Result<Item, ReadError<ComponentWhy>>
-    ensures { MayRead (λ i. i) export window.old window.new result }
-{
-    let name = read_export_name(alloc, window)?;
-    window.marker(1)?;
-    let func = window.u32()?;
-    window.marker(0)?;
-    Ok(Item::Export(Export { name, func }))
+/// Exports (Component Model, Binary.md, `export`).
+pub(crate) struct Exports;
+
+impl Kind for Exports {
+    ghost use Rattle.comp_reader.specs.Binary.{export};
+
+    type Why = ComponentWhy;
+
+    type Item = Item;
+
+    ghost grammar = { export };
+
+    #[tactic(auto, unfolding(crate::specs::Binary::export))]
+    fn read(
+        alloc: Global,
+        window: &mut Window<ComponentWhy>,
+    ) -> Result<Item, ReadError<ComponentWhy>> {
+        let name = read_export_name(alloc, window)?;
+        window.marker(1)?;
+        let func = window.u32()?;
+        window.marker(0)?;
+        Ok(Item::Export(Export { name, func }))
+    }
 }

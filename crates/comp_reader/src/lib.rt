@@ -6,9 +6,9 @@
 //!
 //! - `component`: components and their items
 //! - `reading`: the reading of a whole component
-//! - `core_items`: core modules, their instances and aliases of what these export
-//! - `items`: types, canonical functions and exports
-//! - `sections`: a function for each kind of section, and for the whole
+//! - `core_items`: core modules, their instances and aliases of what these export, a kind of items each
+//! - `items`: types, canonical functions and exports, a kind of items each
+//! - `sections`: the sections by their ids, and the whole
 //! - `fault`: why bytes are refused
 //! - `laws`: that bytes are one component, or are refused in one way
 #![tactic(auto)]
@@ -18,14 +18,8 @@ mod core_items;
 mod fault;
 mod items;
 mod laws;
-#[cfg(test)]
-mod malformed_tests;
-#[cfg(test)]
-mod module_tests;
 mod reading;
 mod sections;
-#[cfg(test)]
-mod tests;
 
 pub use component::{
     Alias, Canon, Component, CoreInstance, DefType, Export, FuncType, Item, Param, ValTypeRef,

@@ -3,7 +3,7 @@
 ghost use Rattle.std.specs.Prelude.{◌≡◌, IfOk, IfErr};
 ghost use Rattle.ca_base.specs.Grammar.{MayRead};
 ghost use Rattle.ca_base.specs.declared.refusal.Refusal.{Refusal};
-ghost use Rattle.ca_base.specs.declared.refusal.ReadError.TheVariants.{Memory, Refused};
+ghost use Rattle.ca_base.specs.declared.memory.MemoryOr.TheVariants.{Memory, Fault};
 ghost use Rattle.comp_reader.specs.declared.component.Component.{Component};
 ghost use Rattle.comp_reader.specs.declared.fault.ComponentWhy.{ComponentWhy};
 ghost use Rattle.comp_reader.specs.Binary.{component, file, file_end, IsComponent, IsRefused};
@@ -18,14 +18,14 @@ use std::alloc::Global;
 ///
 /// It answers the component that the bytes stand for, or where they are refused and why (Component Model, Binary.md).
 /// `Memory` is want of memory.
-#[tactic(auto, using(crate::proofs::Whole::whole_ok, crate::proofs::Whole::whole_only, crate::proofs::Whole::whole_refused))]
+#[tactic(auto, using(ca_base::proofs::Whole::whole_ok, ca_base::proofs::Whole::whole_only, ca_base::proofs::Whole::whole_refused))]
 pub fn read_component(alloc: Global, bytes: &[u8]) -> Result<Component, ReadError<ComponentWhy>>
     // What is read is that component.
     ensures ok { IfOk result (λ c. IsComponent bytes.now c) }
     // Bytes of a component aren't refused.
     ensures only { (c : Component) → IsComponent bytes.now c → IfErr result (λ e. e ≡ Memory) }
     // What is refused is no component, and this is the place and the reason.
-    ensures refused { IfErr result (λ e. (refusal : Refusal ComponentWhy) → e ≡ Refused refusal → IsRefused bytes.now refusal) }
+    ensures refused { IfErr result (λ e. (refusal : Refusal ComponentWhy) → e ≡ Fault refusal → IsRefused bytes.now refusal) }
     // All three in one equation.
     ensures exact { MayRead (λ c. c) component (file bytes.now) (file_end bytes.now) result }
 {
