@@ -1,7 +1,7 @@
 //! What a component exports.
 
 use crate::types::FuncType;
-use ca_base::{Name, Seq};
+use ca_base::{Name, Named, Seq};
 
 /// A function that a component exports.
 #[derive(Debug, Drop)]
@@ -10,6 +10,14 @@ pub struct Export {
     pub name: Name,
     /// Its type.
     pub func_type: FuncType,
+}
+
+impl Named for Export {
+    ghost name = { λ e. e.name };
+
+    fn name(&self) -> &str {
+        self.name.as_str()
+    }
 }
 
 /// The functions that a component exports, in order.

@@ -9,8 +9,6 @@
 #![tactic(auto)]
 
 mod exports;
-#[cfg(test)]
-mod tests;
 mod types;
 mod value;
 

@@ -20,20 +20,20 @@ use Rattle.script_reader.proofs.CallLines.{calls_are_lines}
 use Rattle.script_reader.proofs.FirstFault.{on_ok}
 
 -- behind one more call, and behind an amount of fuel
-abbrev more_call : Draft → Call → Draft
+abbrev pub more_call : Draft → Call → Draft
 more_call s call = record { fuel = s.fuel; items = s.items ++ item.Call call ∷ [] }
 
-abbrev more_fuel : Draft → ℕ → Draft
+abbrev pub more_fuel : Draft → ℕ → Draft
 more_fuel s n = record { fuel = Some n; items = s.items }
 
 -- what one text says
-abbrev SaysCall : List Export → List ℕ → Call → Type 0
+abbrev pub SaysCall : List Export → List ℕ → Call → Type 0
 SaysCall exports text call = (written : List ℕ) × (text ≡ codes "call " ++ written) × IsCallOf exports written call
 
-abbrev SaysFuel : List ℕ → ℕ → Type 0
+abbrev pub SaysFuel : List ℕ → ℕ → Type 0
 SaysFuel text n = (written : List ℕ) × (text ≡ codes "fuel " ++ written) × IsFuelOf written n
 
-abbrev Says : List Export → Draft → List ℕ → Draft → Type 0
+abbrev pub Says : List Export → Draft → List ℕ → Draft → Type 0
 Says exports s text t =
     (SaysNothing text × (s ≡ t))
     ⊎ (((call : Call) × SaysCall exports text call × (more_call s call ≡ t))
@@ -68,7 +68,7 @@ words_told exports s text None None t f c h =
     let other : ◌≡◌ {A = Result Draft ScriptWhy} (Err why.Form) (Ok t) = h in
     cc
 
-say_told : (exports : List Export) (s : Draft) (text : List ℕ) (t : Draft) → add_line exports s text ≡ Ok t → Says exports s text t
+pub say_told : (exports : List Export) (s : Draft) (text : List ℕ) (t : Draft) → add_line exports s text ≡ Ok t → Says exports s text t
 say_told exports s text t h =
     elim (cases_Bool (is_skipped text)) [
       | inl e ↦
@@ -84,22 +84,23 @@ pub nothing_tells : (exports : List Export) (s : Draft) (text : List ℕ) → Sa
 nothing_tells exports s text (inl e) = ap (λ (l : List ℕ). add_line exports s l) e
 nothing_tells exports s text (inr e) = ap (λ (l : List ℕ). add_line exports s l) e.1
 
-call_tells : (exports : List Export) (s : Draft) (text : List ℕ) (call : Call) → SaysCall exports text call → add_line exports s text ≡ Ok (more_call s call)
+pub call_tells : (exports : List Export) (s : Draft) (text : List ℕ) (call : Call) → SaysCall exports text call → add_line exports s text ≡ Ok (more_call s call)
 call_tells exports s text call i =
     ap (λ (l : List ℕ). add_line exports s l) i.1
     ∙ ap (λ (r : Result Call ScriptWhy). with_call s r) ((calls_are_lines exports i.0 call).1 i.2)
 
-fuel_tells : (exports : List Export) (text : List ℕ) (n : ℕ) → SaysFuel text n → add_line exports empty_draft text ≡ Ok (more_fuel empty_draft n)
-fuel_tells exports text n i =
-    ap (λ (l : List ℕ). add_line exports empty_draft l) i.1
-    ∙ ap (λ (r : Result ℕ ScriptWhy). with_fuel empty_draft r) ((fuel_is_a_line i.0 n).1 i.2)
+pub fuel_tells : (exports : List Export) (s : Draft) (text : List ℕ) (n : ℕ) → is_begun s ≡ false → SaysFuel text n → add_line exports s text ≡ Ok (more_fuel s n)
+fuel_tells exports s text n e i =
+    ap (λ (l : List ℕ). add_line exports s l) i.1
+    ∙ (cond-false (is_begun s) (Err why.Form) (with_fuel s (fuel_of i.0)) e
+    ∙ ap (λ (r : Result ℕ ScriptWhy). with_fuel s r) ((fuel_is_a_line i.0 n).1 i.2))
 
 -- the texts of lines
 abbrev pub texts_of : List (List ℕ) → List (List ℕ)
 texts_of ls = map line_text ls
 
 -- what is said behind lines that say something
-said_call : (s : Draft) (call : Call) → is_begun (more_call s call) ≡ true
+pub said_call : (s : Draft) (call : Call) → is_begun (more_call s call) ≡ true
 said_call s call =
     let some : nat_eq (length (s.items ++ item.Call call ∷ [])) 0 ≡ false = ne_eqb (length (s.items ++ item.Call call ∷ [])) 0 (λ e. omega (arith, e, length-append s.items (item.Call call ∷ []))) in
     or_right (is_some s.fuel) (not (nat_eq (length (s.items ++ item.Call call ∷ [])) 0)) (not_from_false (nat_eq (length (s.items ++ item.Call call ∷ [])) 0) some)
@@ -207,10 +208,10 @@ script_told exports number (line ∷ ls) t h =
           ]
     ]
 
-cons_parts : (x y : List ℕ) (xs ys : List (List ℕ)) → x ∷ xs ≡ y ∷ ys → (x ≡ y) × (xs ≡ ys)
+pub cons_parts : (x y : List ℕ) (xs ys : List (List ℕ)) → x ∷ xs ≡ y ∷ ys → (x ≡ y) × (xs ≡ ys)
 cons_parts x y xs ys h = (cc, cc)
 
-no_parts : (skipped : List (List ℕ)) (x : List ℕ) (others : List (List ℕ)) → [] ≡ skipped ++ x ∷ others → ⊥
+pub no_parts : (skipped : List (List ℕ)) (x : List ℕ) (others : List (List ℕ)) → [] ≡ skipped ++ x ∷ others → ⊥
 no_parts [] x others h = cc
 no_parts (y ∷ skipped) x others h = cc
 
@@ -220,7 +221,7 @@ fuel_said : (exports : List Export) (number : ℕ) (ls : List (List ℕ)) (skipp
 fuel_said exports number [] skipped written others n items e a f i = absurd (no_parts skipped (codes "fuel " ++ written) others e)
 fuel_said exports number (line ∷ ls) [] written others n items e a f i =
     let both = cons_parts (line_text line) (codes "fuel " ++ written) (texts_of ls) others e in
-    ap (λ (r : Result Draft ScriptWhy). add_others (λ u. add_lines exports u (number + 1) ls) number r) (fuel_tells exports (line_text line) n (written, both.0, f))
+    ap (λ (r : Result Draft ScriptWhy). add_others (λ u. add_lines exports u (number + 1) ls) number r) (fuel_tells exports empty_draft (line_text line) n refl (written, both.0, f))
     ∙ items_tell exports (more_fuel empty_draft n) (number + 1) ls items (subst (λ (l : List (List ℕ)). SayItems exports l items) (sym both.1) i)
 fuel_said exports number (line ∷ ls) (first ∷ skipped) written others n items e a f i =
     let both = cons_parts (line_text line) first (texts_of ls) (skipped ++ (codes "fuel " ++ written) ∷ others) e in

@@ -1,5 +1,5 @@
--- A text is refused at its first fault.
-use Rattle.std.proofs.Common.{◌≡◌, ◌⊎◌, inl, inr, ℕ, ◌+◌, ◌≤◌, List, [], ◌∷◌, ◌++◌, length, false, cond, Result, Ok, Err, nat_eq, nat_lt, refl, sym, ap, ◌∙◌, subst, arith}
+-- A text is refused where its lines, read one after the other, have their first fault.
+use Rattle.std.proofs.Common.{◌≡◌, ◌⊎◌, inl, inr, ℕ, ◌+◌, ◌<◌, ◌≤◌, List, [], ◌∷◌, ◌++◌, length, false, cond, Result, Ok, Err, nat_eq, nat_lt, refl, sym, ap, ◌∙◌, subst, arith}
 use Rattle.std.proofs.lemmas.Bool.{ltb-true, ltb-false, lt-ltb, le-ltb, cond-true, cond-false}
 use Rattle.std.specs.Str.{IsUtf8}
 use Rattle.std.specs.Str.Lossy.{utf8_valid_len}
@@ -7,7 +7,6 @@ use Rattle.ca_types.specs.declared.exports.Export.{Export}
 use Rattle.script_reader.specs.declared.fault.ScriptWhy.{ScriptWhy}
 use Rattle.script_reader.specs.declared.fault.ScriptFault.{ScriptFault}
 use Rattle.script_reader.specs.Script.{Script, Draft, empty_draft, add_line, add_others, add_lines, line_text, lines, script_of, script_or, script, size_limit, too_long, not_utf8, IsScriptRefused}
-use Rattle.script_reader.specs.Laws.{IsFirstFault, FirstFaultIsTold}
 use Rattle.script_reader.proofs.Cases.{ok_inj, err_inj, failed_err, passed_err}
 use Rattle.script_reader.proofs.WholeUtf8.{whole_is, is_whole, is_cut}
 
@@ -26,7 +25,7 @@ on_err others number (Err w) fault h =
     inr (sym (ap (λ (f : ScriptFault). f.line) same), ap (λ (f : ScriptFault). Err f.why) same)
 
 -- the lines before a fault, and the line that it is in
-abbrev Faulty : List Export → Draft → ℕ → List (List ℕ) → ScriptFault → Type 0
+abbrev pub Faulty : List Export → Draft → ℕ → List (List ℕ) → ScriptFault → Type 0
 Faulty exports s number ls fault =
     (before : List (List ℕ)) × (line : List ℕ) × (behind : List (List ℕ)) × (so_far : Draft)
     × (ls ≡ before ++ line ∷ behind) × (fault.line ≡ length before + number)
@@ -92,7 +91,14 @@ is_read exports bytes small u =
     cond-false (nat_lt size_limit (length bytes)) (Err too_long) (cond (nat_eq (utf8_valid_len bytes) (length bytes)) all cut) (not_long bytes small)
     ∙ cond-true (nat_eq (utf8_valid_len bytes) (length bytes)) all cut (is_whole bytes u)
 
-first_told : (exports : List Export) (bytes : List ℕ) (fault : ScriptFault) → IsScriptRefused exports bytes fault → IsFirstFault exports bytes fault
+-- where and why a text is refused, by its lines as they are read
+abbrev pub IsFirstFault : List Export → List ℕ → ScriptFault → Type 0
+IsFirstFault exports bytes fault =
+    ((size_limit < length bytes) × (fault ≡ too_long))
+    ⊎ ((length bytes ≤ size_limit) × (IsUtf8 bytes → ⊥) × (fault ≡ not_utf8 bytes))
+    ⊎ ((length bytes ≤ size_limit) × IsUtf8 bytes × Faulty exports empty_draft 1 (lines bytes) fault)
+
+pub first_told : (exports : List Export) (bytes : List ℕ) (fault : ScriptFault) → IsScriptRefused exports bytes fault → IsFirstFault exports bytes fault
 first_told exports bytes fault h =
     let all = script_or (add_lines exports empty_draft 1 (lines bytes)) in
     let whole = nat_eq (utf8_valid_len bytes) (length bytes) in
@@ -106,7 +112,7 @@ first_told exports bytes fault h =
           ]
     ]
 
-first_tells : (exports : List Export) (bytes : List ℕ) (fault : ScriptFault) → IsFirstFault exports bytes fault → IsScriptRefused exports bytes fault
+pub first_tells : (exports : List Export) (bytes : List ℕ) (fault : ScriptFault) → IsFirstFault exports bytes fault → IsScriptRefused exports bytes fault
 first_tells exports bytes fault (inl long) =
     cond-true (nat_lt size_limit (length bytes)) (Err too_long) (cond (nat_eq (utf8_valid_len bytes) (length bytes)) (script_or (add_lines exports empty_draft 1 (lines bytes))) (Err (not_utf8 bytes))) (lt-ltb size_limit (length bytes) long.0)
     ∙ ap (λ (f : ScriptFault). Err f) (sym long.1)
@@ -121,6 +127,3 @@ first_tells exports bytes fault (inr (inr at)) =
     let there = fault_tells exports empty_draft 1 f.0 f.1 f.2 f.3 fault f.5 f.6 f.7 in
     let same : add_lines exports empty_draft 1 (lines bytes) ≡ Err fault = ap (λ (l : List (List ℕ)). add_lines exports empty_draft 1 l) f.4 ∙ there in
     is_read exports bytes at.0 at.1 ∙ ap (λ (r : Result Draft ScriptFault). script_or r) same
-
-pub first_fault_is_told : FirstFaultIsTold
-first_fault_is_told exports bytes fault = (λ h. first_told exports bytes fault h, λ i. first_tells exports bytes fault i)

@@ -1,9 +1,11 @@
+pub mod AreLines
 pub mod Arguments
 pub mod CallLines
 pub mod Called
 pub mod Cases
 pub mod Digits
 pub mod FirstFault
+pub mod Found
 pub mod Fronts
 pub mod LineFeeds
 pub mod LineTexts
@@ -13,7 +15,9 @@ pub mod OneScript
 pub mod OtherCalls
 pub mod OtherFuel
 pub mod OtherLines
+pub mod OtherTexts
 pub mod DraftLines
+pub mod Pieces
 pub mod Scripts
 pub mod Splits
 pub mod WholeTexts

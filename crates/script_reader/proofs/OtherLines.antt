@@ -1,6 +1,6 @@
 -- The text of a line is refused exactly where it says nothing that a line may say, and for the reason that it has.
-use Rattle.std.proofs.Common.{◌≡◌, ◌↔◌, inl, inr, ℕ, List, ◌++◌, codes, Option, Some, None, Result, Ok, Err, refl, sym, ap, ◌∙◌}
-use Rattle.std.proofs.lemmas.Bool.{cases_Bool, cond-true, cond-false}
+use Rattle.std.proofs.Common.{◌≡◌, ◌↔◌, IsTrue, inl, inr, ℕ, List, ◌++◌, codes, Option, Some, None, Result, Ok, Err, refl, sym, ap, ◌∙◌}
+use Rattle.std.proofs.lemmas.Bool.{cases_Bool, cond-true, cond-false, both_ways, false_from_ne_true}
 use Rattle.ca_types.specs.declared.exports.Export.{Export}
 use Rattle.script_reader.specs.declared.script.Call.{Call}
 use Rattle.script_reader.specs.declared.fault.ScriptWhy.{ScriptWhy}
@@ -36,14 +36,14 @@ not_call text written c e =
 -- why a line is refused
 words_refused : (exports : List Export) (s : Draft) (text : List ℕ) (fuel call : Option (List ℕ)) (w : ScriptWhy)
     → (SaysNothing text → ⊥) → after (codes "fuel ") text ≡ fuel → after (codes "call ") text ≡ call
-    → add_by_word exports s fuel call ≡ Err w → IsNoLine exports (is_begun s) text w
+    → add_by_word exports s fuel call ≡ Err w → IsNoLine exports (IsTrue (is_begun s)) text w
 words_refused exports s text (Some written) call w n f c h =
     let whole = after_told (codes "fuel ") text written f in
     elim (failed_err (is_begun s) (with_fuel s (fuel_of written)) why.Form w h) [
       | inl both ↦ inr (inl (written, whole, inl (both.0, sym both.1)))
       | inr both ↦
           let is : IsNoFuelOf written w = (other_fuel_is_refused written w).0 (fuel_alone s (fuel_of written) w both.1) in
-          inr (inl (written, whole, inr (both.0, is)))
+          inr (inl (written, whole, inr ((λ e. both_ways (is_begun s) both.0 e), is)))
     ]
 words_refused exports s text None (Some written) w n f c h =
     inr (inr (written, after_told (codes "call ") text written c, (other_calls_are_refused exports written w).0 (call_alone s (call_of exports written) w h)))
@@ -51,7 +51,7 @@ words_refused exports s text None None w n f c h =
     let same : why.Form ≡ w = err_inj h in
     inl (sym same, n, λ written e. not_fuel text written f e, λ written e. not_call text written c e)
 
-line_refused : (exports : List Export) (s : Draft) (text : List ℕ) (w : ScriptWhy) → add_line exports s text ≡ Err w → IsNoLine exports (is_begun s) text w
+pub line_refused : (exports : List Export) (s : Draft) (text : List ℕ) (w : ScriptWhy) → add_line exports s text ≡ Err w → IsNoLine exports (IsTrue (is_begun s)) text w
 line_refused exports s text w h =
     let words = add_by_word exports s (after (codes "fuel ") text) (after (codes "call ") text) in
     let never : SaysNothing text → ⊥ = λ n. (let read = nothing_tells exports s text n in cc) in
@@ -81,7 +81,7 @@ no_word exports s text n f c =
           ]
     ]
 
-refuses_line : (exports : List Export) (s : Draft) (text : List ℕ) (w : ScriptWhy) → IsNoLine exports (is_begun s) text w → add_line exports s text ≡ Err w
+pub refuses_line : (exports : List Export) (s : Draft) (text : List ℕ) (w : ScriptWhy) → IsNoLine exports (IsTrue (is_begun s)) text w → add_line exports s text ≡ Err w
 refuses_line exports s text w (inl i) =
     no_word exports s text i.1 i.2 i.3 ∙ ap (λ (u : ScriptWhy). Err u) (sym i.0)
 refuses_line exports s text w (inr (inl i)) =
@@ -89,7 +89,7 @@ refuses_line exports s text w (inr (inl i)) =
     elim i.2 [
       | inl both ↦ cond-true (is_begun s) (Err why.Form) (with_fuel s (fuel_of i.0)) both.0 ∙ ap (λ (u : ScriptWhy). Err u) (sym both.1)
       | inr both ↦
-          cond-false (is_begun s) (Err why.Form) (with_fuel s (fuel_of i.0)) both.0
+          cond-false (is_begun s) (Err why.Form) (with_fuel s (fuel_of i.0)) (false_from_ne_true (is_begun s) both.0)
           ∙ ap (λ (r : Result ℕ ScriptWhy). with_fuel s r) ((other_fuel_is_refused i.0 w).1 both.1)
     ] in
     ap (λ (l : List ℕ). add_line exports s l) i.1 ∙ behind
@@ -97,5 +97,5 @@ refuses_line exports s text w (inr (inr i)) =
     ap (λ (l : List ℕ). add_line exports s l) i.1
     ∙ ap (λ (r : Result Call ScriptWhy). with_call s r) ((other_calls_are_refused exports i.0 w).1 i.2)
 
-pub other_lines_are_refused : (exports : List Export) (s : Draft) (text : List ℕ) (w : ScriptWhy) → (add_line exports s text ≡ Err w) ↔ IsNoLine exports (is_begun s) text w
+pub other_lines_are_refused : (exports : List Export) (s : Draft) (text : List ℕ) (w : ScriptWhy) → (add_line exports s text ≡ Err w) ↔ IsNoLine exports (IsTrue (is_begun s)) text w
 other_lines_are_refused exports s text w = (λ h. line_refused exports s text w h, λ i. refuses_line exports s text w i)

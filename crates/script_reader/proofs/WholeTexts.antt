@@ -15,11 +15,11 @@ use Rattle.script_reader.proofs.FirstFault.{is_read}
 use Rattle.script_reader.proofs.DraftLines.{texts_of, script_told, script_tells}
 
 -- the texts of lines, in order
-paired_told : (ls : List (List ℕ)) → ArePaired IsLineOf (texts_of ls) ls
+pub paired_told : (ls : List (List ℕ)) → ArePaired IsLineOf (texts_of ls) ls
 paired_told [] = tt
 paired_told (line ∷ ls) = (line_told line, paired_told ls)
 
-paired_tells : (texts ls : List (List ℕ)) → ArePaired IsLineOf texts ls → texts ≡ texts_of ls
+pub paired_tells : (texts ls : List (List ℕ)) → ArePaired IsLineOf texts ls → texts ≡ texts_of ls
 paired_tells [] [] i = refl
 paired_tells [] (line ∷ ls) i = absurd i
 paired_tells (text ∷ texts) [] i = absurd i

@@ -1,4 +1,3 @@
 pub mod Script
-pub mod Errors
 pub mod Syntax
 pub mod Laws

@@ -1,8 +1,9 @@
 -- How a script is written: which texts stand for a number, for arguments, for a call, for an amount of fuel, and for a
--- whole script; and for which reason other texts of lines are refused. `specs/Script` computes what these say; the laws in `specs/Laws` say that both are the same.
-use Rattle.std.specs.Prelude.{◌≡◌, ◌≢◌, ◌≤◌, ◌<◌, ◌^◌, ◌⊎◌, IsTrue, ℕ, Bool, true, false, List, [], ◌∷◌, ◌++◌, length, codes, Some, None}
+-- whole script; and at which line and for which reason other texts are refused. The format is the program's own.
+-- `specs/Script` computes what these say; the laws in `specs/Laws` say that both are the same.
+use Rattle.std.specs.Prelude.{◌≡◌, ◌≢◌, ◌+◌, ◌≤◌, ◌<◌, ◌^◌, ◌⊎◌, IsTrue, ℕ, false, List, [], ◌∷◌, ◌++◌, length, codes, Some, None}
 use Rattle.std.specs.List.{join_with_byte, AllByRecursion}
-use Rattle.std.specs.Str.{IsUtf8}
+use Rattle.std.specs.Str.{IsUtf8, IsValidUpTo}
 use Rattle.ca_types.specs.declared.types.ValType.{ValType}
 use Rattle.ca_types.specs.declared.types.ValType.TheVariants as val_type
 use Rattle.ca_types.specs.declared.value.Value.{Value}
@@ -13,7 +14,8 @@ use Rattle.script_reader.specs.declared.script.Item.{Item}
 use Rattle.script_reader.specs.declared.script.Item.TheVariants as item
 use Rattle.script_reader.specs.declared.fault.ScriptWhy.{ScriptWhy}
 use Rattle.script_reader.specs.declared.fault.ScriptWhy.TheVariants as why
-use Rattle.script_reader.specs.Script.{is_blank, is_digit, ends_name, number, export_named, param_types, size_limit, fuel_limit, default_fuel, Script}
+use Rattle.script_reader.specs.declared.fault.ScriptFault.{ScriptFault}
+use Rattle.script_reader.specs.Script.{is_blank, is_digit, ends_name, number, export_named, param_types, size_limit, fuel_limit, default_fuel, line_at, Script}
 
 -- spaces and tabs, or nothing
 abbrev pub AreBlanks : List ℕ → Type 0
@@ -145,12 +147,51 @@ IsNoFuelOf text why.Utf8 = ⊥
 IsNoFuelOf text why.Export = ⊥
 IsNoFuelOf text why.Value = ⊥
 
--- Why the text of a line is refused, behind lines that said something or said nothing: `Form` where it begins with no word
--- that there is, or with `fuel` behind a line that said something; and else for the reason of what stands behind its word.
-abbrev pub IsNoLine : List Export → Bool → List ℕ → ScriptWhy → Type 0
-IsNoLine exports begun text reason =
+-- one of these texts says something
+abbrev pub SaySomething : List (List ℕ) → Type 0
+SaySomething [] = ⊥
+SaySomething (text ∷ texts) = (SaysNothing text → ⊥) ⊎ SaySomething texts
+
+-- The text of a line that is well said. `Begun` is that one of the lines before says something. It says nothing; or it is
+-- an amount of fuel where none before says anything; or a call.
+abbrev pub IsLine : List Export → Type 0 → List ℕ → Type 0
+IsLine exports Begun text =
+    SaysNothing text
+    ⊎ ((written : List ℕ) × (n : ℕ) × (text ≡ codes "fuel " ++ written) × (Begun → ⊥) × IsFuelOf written n)
+    ⊎ ((written : List ℕ) × (call : Call) × (text ≡ codes "call " ++ written) × IsCallOf exports written call)
+
+-- Why the text of a line is refused: `Form` where it says something and begins with no word that there is, or begins with
+-- `fuel` where a line before says something; and else for the reason of what stands behind its word.
+abbrev pub IsNoLine : List Export → Type 0 → List ℕ → ScriptWhy → Type 0
+IsNoLine exports Begun text reason =
     ((reason ≡ why.Form) × (SaysNothing text → ⊥)
     × ((written : List ℕ) → text ≡ codes "fuel " ++ written → ⊥) × ((written : List ℕ) → text ≡ codes "call " ++ written → ⊥))
     ⊎ ((written : List ℕ) × (text ≡ codes "fuel " ++ written)
-    × (((begun ≡ true) × (reason ≡ why.Form)) ⊎ ((begun ≡ false) × IsNoFuelOf written reason)))
+    × ((Begun × (reason ≡ why.Form)) ⊎ ((Begun → ⊥) × IsNoFuelOf written reason)))
     ⊎ ((written : List ℕ) × (text ≡ codes "call " ++ written) × IsNoCallOf exports written reason)
+
+-- each of these texts is well said behind those before it
+abbrev pub AreLines : List Export → List (List ℕ) → Type 0
+AreLines exports texts =
+    (before : List (List ℕ)) (text : List ℕ) (behind : List (List ℕ))
+    → texts ≡ before ++ text ∷ behind → IsLine exports (SaySomething before) text
+
+-- the first line of a text that is refused, and why: all before it are well said
+pub record HasFirstFault (exports : List Export) (bytes : List ℕ) (fault : ScriptFault) : Type 0 where
+  pub lines : List (List ℕ)
+  pub before : List (List ℕ)
+  pub text : List ℕ
+  pub behind : List (List ℕ)
+  pub parted : AreLinesOf bytes lines
+  pub paired : ArePaired IsLineOf (before ++ text ∷ behind) lines
+  pub good : AreLines exports before
+  pub place : fault.line ≡ length before + 1
+  pub bad : IsNoLine exports (SaySomething before) text fault.why
+
+-- Where and why a whole text is no script. It is too long, and is refused at line 0; or not UTF-8, and is refused at the
+-- line of the first byte that is not; or one of its lines is refused.
+abbrev pub IsNoScriptText : List Export → List ℕ → ScriptFault → Type 0
+IsNoScriptText exports bytes fault =
+    ((size_limit < length bytes) × (fault.line ≡ 0) × (fault.why ≡ why.Size))
+    ⊎ ((length bytes ≤ size_limit) × ((place : ℕ) × IsValidUpTo bytes place × (fault.line ≡ line_at place bytes) × (fault.why ≡ why.Utf8)))
+    ⊎ ((length bytes ≤ size_limit) × IsUtf8 bytes × HasFirstFault exports bytes fault)

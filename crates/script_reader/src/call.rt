@@ -1,17 +1,17 @@
 //! Calls of exported functions.
 
-ghost use Rattle.std.specs.Prelude.{◌≡◌, ◌≤◌, length, Ok, Err, IfSome, MatchResult};
+ghost use Rattle.std.specs.Prelude.{◌≡◌, ◌≤◌, length};
 ghost use Rattle.std.specs.List.{position_or_len};
-ghost use Rattle.std.specs.Option.{option_map};
-ghost use Rattle.script_reader.specs.Errors.{IfWhy};
+ghost use Rattle.std.specs.Str.{IsUtf8};
+ghost use Rattle.ca_base.specs.Faults.{MayMake};
 ghost use Rattle.script_reader.specs.Script as scripts;
 
-use crate::fault::{LineError, ScriptWhy};
+use crate::directory::Directory;
+use crate::fault::ScriptWhy;
 use crate::script::Call;
 use crate::text::{after_mark, is_blank};
 use crate::values::read_arguments;
-use ca_base::Name;
-use ca_types::{Export, Exports};
+use ca_base::{MemoryOr, Name};
 use std::alloc::Global;
 
 /// Whether a name ends before this byte.
@@ -37,24 +37,18 @@ fn name_and_rest(text: &[u8]) -> (&[u8], &[u8])
     text.split_at(name_length(text))
 }
 
-/// The first export of a name.
-#[tactic(auto, using(crate::proofs::Called::named))]
-fn export_named<'a>(exports: &'a [Export], name: &[u8]) -> Option<&'a Export>
-    ensures named { IfSome result (λ e. e.now.name ≡ name.now) }
-    ensures found { option_map (λ e. e.now) result ≡ scripts.export_named exports.now name.now }
-{
-    exports
-        .iter()
-        .find(|export| export.name.as_str().as_bytes() == name)
-}
-
 /// Reads a call, from the text behind the word `call` and one space.
-pub fn read_call(alloc: Global, exports: &Exports, text: &[u8]) -> Result<Call, LineError>
-    ensures { MatchResult result (λ call. scripts.call_of exports.now text.now ≡ Ok call) (λ e. IfWhy e (λ why. scripts.call_of exports.now text.now ≡ Err why)) }
+pub fn read_call(
+    alloc: Global,
+    directory: &Directory,
+    text: &[u8],
+) -> Result<Call, MemoryOr<ScriptWhy>>
+    requires { IsUtf8 text.now }
+    ensures { MayMake (λ call. call) (scripts.call_of directory.now text.now) result }
 {
     let (name, rest) = name_and_rest(text);
     let arguments = after_mark(b'(', rest).ok_or(ScriptWhy::Form)?;
-    let export = export_named(exports.as_slice(), name).ok_or(ScriptWhy::Export)?;
+    let export = directory.export_named(name).ok_or(ScriptWhy::Export)?;
     let values = read_arguments(alloc, export.func_type.params.as_slice(), arguments)?;
     let name = Name::new(alloc, export.name.as_str())?;
     Ok(Call { name, values })

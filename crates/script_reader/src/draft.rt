@@ -1,16 +1,17 @@
 //! A script in the making.
 
 ghost use Rattle.std.specs.Prelude.{◌≡◌, Ok, Err, MatchResult};
-ghost use Rattle.script_reader.specs.Errors.{IfWhy};
+ghost use Rattle.std.specs.Str.{IsUtf8};
+ghost use Rattle.ca_base.specs.Faults.{MayStep};
 ghost use Rattle.script_reader.specs.Script as scripts;
 
 use crate::call::read_call;
-use crate::fault::{LineError, ScriptWhy};
+use crate::directory::Directory;
+use crate::fault::ScriptWhy;
 use crate::number::{is_number, number_up_to};
 use crate::script::{Item, Script};
 use crate::text::after;
-use ca_base::Seq;
-use ca_types::Exports;
+use ca_base::{MemoryOr, Seq};
 use std::alloc::Global;
 use std::marker::Model;
 
@@ -96,10 +97,16 @@ impl Draft {
     }
 
     /// Adds the `call` line with this text behind its word.
-    fn add_call(&mut self, alloc: Global, exports: &Exports, text: &[u8]) -> Result<(), LineError>
-        ensures { MatchResult result (λ _. scripts.with_call self.old (scripts.call_of exports.now text.now) ≡ Ok self.new) (λ e. IfWhy e (λ why. scripts.with_call self.old (scripts.call_of exports.now text.now) ≡ Err why)) }
+    fn add_call(
+        &mut self,
+        alloc: Global,
+        directory: &Directory,
+        text: &[u8],
+    ) -> Result<(), MemoryOr<ScriptWhy>>
+        requires { IsUtf8 text.now }
+        ensures { MayStep (scripts.with_call self.old (scripts.call_of directory.now text.now)) self.new result }
     {
-        let call = read_call(alloc, exports, text)?;
+        let call = read_call(alloc, directory, text)?;
         self.items.push(Item::Call(call))?;
         Ok(())
     }
@@ -108,10 +115,11 @@ impl Draft {
     pub fn add_line(
         &mut self,
         alloc: Global,
-        exports: &Exports,
+        directory: &Directory,
         text: &[u8],
-    ) -> Result<(), LineError>
-        ensures { MatchResult result (λ _. scripts.add_line exports.now self.old text.now ≡ Ok self.new) (λ e. IfWhy e (λ why. scripts.add_line exports.now self.old text.now ≡ Err why)) }
+    ) -> Result<(), MemoryOr<ScriptWhy>>
+        requires { IsUtf8 text.now }
+        ensures { MayStep (scripts.add_line directory.now self.old text.now) self.new result }
     {
         if is_skipped(text) {
             return Ok(());
@@ -121,7 +129,7 @@ impl Draft {
             return Ok(());
         }
         let call = after(b"call ", text).ok_or(ScriptWhy::Form)?;
-        self.add_call(alloc, exports, call)
+        self.add_call(alloc, directory, call)
     }
 
     /// The script of what all lines say.

@@ -2,7 +2,7 @@
 
 ghost use Rattle.std.specs.Prelude.{◌≡◌};
 
-use std::alloc::AllocError;
+use ca_base::MemoryOr;
 
 /// Why a text is refused. At one line the first in this order is told.
 #[derive(Clone, Copy, Debug, PartialEq, Eq)]
@@ -30,40 +30,22 @@ pub struct ScriptFault {
     pub why: ScriptWhy,
 }
 
-/// Why a reading ends without a script.
-#[derive(Clone, Copy, Debug, PartialEq, Eq)]
-pub enum ScriptError {
-    /// Memory ran out.
-    Memory,
-    /// The text is refused.
-    Fault(ScriptFault),
-}
+impl From<ScriptWhy> for MemoryOr<ScriptWhy> {
+    ghost use Rattle.ca_base.specs.declared.memory.MemoryOr.TheVariants.{Fault};
 
-/// Why a line is not read.
-#[derive(Clone, Copy, Debug, PartialEq, Eq)]
-pub enum LineError {
-    /// Memory ran out.
-    Memory,
-    /// The line is refused.
-    Why(ScriptWhy),
-}
+    ghost from_gives = { λ why e. e ≡ Fault why };
 
-impl From<ScriptWhy> for LineError {
-    ghost use Rattle.script_reader.specs.declared.fault.LineError.TheVariants.{Why};
-
-    ghost from_gives = { λ why e. e ≡ Why why };
-
-    fn from(why: ScriptWhy) -> LineError {
-        LineError::Why(why)
+    fn from(why: ScriptWhy) -> MemoryOr<ScriptWhy> {
+        MemoryOr::Fault(why)
     }
 }
 
-impl From<AllocError> for LineError {
-    ghost use Rattle.script_reader.specs.declared.fault.LineError.TheVariants.{Memory};
+impl From<ScriptFault> for MemoryOr<ScriptFault> {
+    ghost use Rattle.ca_base.specs.declared.memory.MemoryOr.TheVariants.{Fault};
 
-    ghost from_gives = { λ _ e. e ≡ Memory };
+    ghost from_gives = { λ fault e. e ≡ Fault fault };
 
-    fn from(_e: AllocError) -> LineError {
-        LineError::Memory
+    fn from(fault: ScriptFault) -> MemoryOr<ScriptFault> {
+        MemoryOr::Fault(fault)
     }
 }

@@ -12,7 +12,7 @@ pub fn scripts_are_texts()
     ensures { ScriptsAreTexts }
 {}
 
-/// A text that is refused is refused at its first fault.
+/// A text is refused exactly at its first line that is not well said, and for the reason of that line.
 pub fn first_fault_is_told()
     ensures { FirstFaultIsTold }
 {}

@@ -10,6 +10,7 @@
 //! - `lines`: the lines of a text
 //! - `number`: numbers
 //! - `values`: values and arguments
+//! - `directory`: the exports of a component, to be found by their names
 //! - `call`: the calls of exported functions
 //! - `draft`: a script in the making: what the lines so far say
 //! - `reading`: the reader
@@ -17,6 +18,7 @@
 #![tactic(auto)]
 
 mod call;
+mod directory;
 mod draft;
 mod fault;
 mod laws;
@@ -24,12 +26,10 @@ mod lines;
 mod number;
 mod reading;
 mod script;
-#[cfg(test)]
-mod tests;
 mod text;
 mod values;
 
-pub use fault::{ScriptError, ScriptFault, ScriptWhy};
+pub use fault::{ScriptFault, ScriptWhy};
 pub use laws::{
     arguments_are_texts, calls_are_lines, first_fault_is_told, fuel_is_a_line, one_script,
     other_calls_are_refused, other_fuel_is_refused, other_lines_are_refused, scripts_are_texts,

@@ -1,17 +1,19 @@
 //! The reader of scripts.
 
-ghost use Rattle.std.specs.Prelude.{◌≡◌, Ok, Err, IfOk, IfErr, MatchResult};
+ghost use Rattle.std.specs.Prelude.{◌≡◌, IfOk, IfErr};
 ghost use Rattle.std.specs.List.{AllByRecursion};
-ghost use Rattle.script_reader.specs.declared.fault.ScriptError.TheVariants.{Memory};
-ghost use Rattle.script_reader.specs.Errors.{IfFault};
+ghost use Rattle.ca_base.specs.declared.memory.MemoryOr.TheVariants.{Memory};
+ghost use Rattle.ca_base.specs.Faults.{IfFault, MayMake};
 ghost use Rattle.script_reader.specs.Script as scripts;
 ghost use Rattle.script_reader.specs.Script.{IsScript, IsScriptRefused, CallsExport};
 
+use crate::directory::Directory;
 use crate::draft::Draft;
-use crate::fault::{LineError, ScriptError, ScriptFault, ScriptWhy};
+use crate::fault::{ScriptFault, ScriptWhy};
 use crate::lines::Lines;
 use crate::script::Script;
 use crate::text::{line_at, line_text};
+use ca_base::MemoryOr;
 use ca_types::Exports;
 use std::alloc::Global;
 
@@ -19,20 +21,24 @@ use std::alloc::Global;
 const SIZE_LIMIT: usize = 1024 * 1024;
 
 /// What the lines of a text say, or the first fault of theirs.
-#[tactic(auto, using(crate::proofs::Splits::few_lines))]
-fn read_lines(alloc: Global, bytes: &[u8], exports: &Exports) -> Result<Draft, ScriptError>
-    ensures { MatchResult result (λ s. scripts.add_lines exports.now scripts.empty_draft 1 (scripts.lines bytes.now) ≡ Ok s) (λ e. IfFault e (λ fault. scripts.add_lines exports.now scripts.empty_draft 1 (scripts.lines bytes.now) ≡ Err fault)) }
+#[tactic(auto, using(crate::proofs::Splits::few_lines, crate::proofs::Pieces::lines_are_utf8))]
+fn read_lines(
+    alloc: Global,
+    text: &str,
+    directory: &Directory,
+) -> Result<Draft, MemoryOr<ScriptFault>>
+    ensures { MayMake (λ draft. draft) (scripts.add_lines directory.now scripts.empty_draft 1 (scripts.lines text.now)) result }
 {
-    let mut lines = Lines::of(bytes);
+    let mut lines = Lines::of(text.as_bytes());
     let mut draft = Draft::new(alloc);
     let mut number = 0;
     while let Some(line) = lines.next() {
         number += 1;
-        match draft.add_line(alloc, exports, line_text(line)) {
+        match draft.add_line(alloc, directory, line_text(line)) {
             Ok(()) => (),
-            Err(LineError::Memory) => return Err(ScriptError::Memory),
-            Err(LineError::Why(why)) => {
-                return Err(ScriptError::Fault(ScriptFault { line: number, why }));
+            Err(MemoryOr::Memory) => return Err(MemoryOr::Memory),
+            Err(MemoryOr::Fault(why)) => {
+                return Err(MemoryOr::Fault(ScriptFault { line: number, why }));
             }
         }
     }
@@ -45,7 +51,11 @@ fn read_lines(alloc: Global, bytes: &[u8], exports: &Exports) -> Result<Draft, S
 /// 0), one that is not UTF-8 (`Utf8`, at the line of the first byte that is not), and else line by line the first fault
 /// in the order of `ScriptWhy`. `Memory` is want of memory.
 #[tactic(auto, using(crate::proofs::Scripts::is_script, crate::proofs::Scripts::is_refused, crate::proofs::Called::scripts_call_exports))]
-pub fn read_script(alloc: Global, bytes: &[u8], exports: &Exports) -> Result<Script, ScriptError>
+pub fn read_script(
+    alloc: Global,
+    bytes: &[u8],
+    exports: &Exports,
+) -> Result<Script, MemoryOr<ScriptFault>>
     // What is read is that script.
     ensures ok { IfOk result (λ s. IsScript exports.now bytes.now s) }
     // The text of a script isn't refused.
@@ -56,17 +66,21 @@ pub fn read_script(alloc: Global, bytes: &[u8], exports: &Exports) -> Result<Scr
     ensures calls { IfOk result (λ s. AllByRecursion (CallsExport exports.now) s.items) }
 {
     if bytes.len() > SIZE_LIMIT {
-        return Err(ScriptError::Fault(ScriptFault {
+        return Err(MemoryOr::Fault(ScriptFault {
             line: 0,
             why: ScriptWhy::Size,
         }));
     }
-    if let Err(error) = simdutf8::compat::from_utf8(bytes) {
-        return Err(ScriptError::Fault(ScriptFault {
-            line: line_at(error.valid_up_to(), bytes),
-            why: ScriptWhy::Utf8,
-        }));
-    }
-    let draft = read_lines(alloc, bytes, exports)?;
+    let text = match simdutf8::compat::from_utf8(bytes) {
+        Ok(text) => text,
+        Err(error) => {
+            return Err(MemoryOr::Fault(ScriptFault {
+                line: line_at(error.valid_up_to(), bytes),
+                why: ScriptWhy::Utf8,
+            }));
+        }
+    };
+    let directory = Directory::of(alloc, exports.as_slice())?;
+    let draft = read_lines(alloc, text, &directory)?;
     Ok(draft.into_script())
 }

@@ -1,14 +1,14 @@
 //! Values and arguments.
 
 ghost use Rattle.std.specs.Prelude.{◌≡◌, None, Some, MatchOption, MatchResult, map};
-ghost use Rattle.script_reader.specs.Errors.{IfWhy};
+ghost use Rattle.ca_base.specs.Faults.{IfFault};
 ghost use Rattle.script_reader.specs.declared.fault.ScriptWhy.TheVariants as why;
 ghost use Rattle.script_reader.specs.Script as scripts;
 
-use crate::fault::{LineError, ScriptWhy};
+use crate::fault::ScriptWhy;
 use crate::number::{first_digits, number_up_to};
 use crate::text::{after_mark, without_blanks};
-use ca_base::Seq;
+use ca_base::{MemoryOr, Seq};
 use ca_types::{Param, ValType, Value, Values};
 use std::alloc::Global;
 
@@ -58,8 +58,12 @@ fn is_closed(text: &[u8]) -> bool
 }
 
 /// Reads arguments for these parameters, from the text behind the opening parenthesis.
-pub fn read_arguments(alloc: Global, params: &[Param], text: &[u8]) -> Result<Values, LineError>
-    ensures { MatchResult result (λ values. scripts.arguments (map (λ p. p.val_type) params.now) text.now ≡ Some values) (λ e. IfWhy e (λ w. (w ≡ why.Value) × (scripts.arguments (map (λ p. p.val_type) params.now) text.now ≡ None))) }
+pub fn read_arguments(
+    alloc: Global,
+    params: &[Param],
+    text: &[u8],
+) -> Result<Values, MemoryOr<ScriptWhy>>
+    ensures { MatchResult result (λ values. scripts.arguments (map (λ p. p.val_type) params.now) text.now ≡ Some values) (λ e. IfFault e (λ w. (w ≡ why.Value) × (scripts.arguments (map (λ p. p.val_type) params.now) text.now ≡ None))) }
 {
     let mut values = Seq::new(alloc);
     let mut rest = text;
@@ -74,6 +78,6 @@ pub fn read_arguments(alloc: Global, params: &[Param], text: &[u8]) -> Result<Va
     if is_closed(rest) {
         Ok(values)
     } else {
-        Err(LineError::Why(ScriptWhy::Value))
+        Err(MemoryOr::Fault(ScriptWhy::Value))
     }
 }

@@ -1,4 +1,4 @@
-use Rattle.script_reader.proofs.FirstFault.{first_fault_is_told}
+use Rattle.script_reader.proofs.OtherTexts.{first_fault_is_told}
 use Rattle.script_reader.proofs.laws.first_fault_is_told.Goals as goal
 
 pub returns : goal.returns
