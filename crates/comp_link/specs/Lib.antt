@@ -1,0 +1,4 @@
+pub mod Laws
+pub mod Linking
+pub mod Made
+pub mod Plain

@@ -1,0 +1,270 @@
+-- Linking (Component Model, Explainer.md, "Index Spaces" and "Instance Definitions"; CanonicalABI.md, `canon lift`). The
+-- items of a component are linked in file order. Each one looks its indices up in the index spaces of the items before
+-- it, and adds one index to the space of its sort. The first item that has no meaning is refused.
+use Rattle.std.specs.Prelude.{◌≡◌, ℕ, Bool, true, false, is_none, ◌&&◌, ◌==◌, nat_lt, nat_le, List, [], ◌∷◌, ◌++◌, length, map, find, if◌then◌else◌, Option, Some, None, Result, Ok, Err}
+use Rattle.std.specs.List.{slice_get, list_all, AllByRecursion}
+use Rattle.std.specs.Option.{option_and_then, option_map, option_map_or}
+use Rattle.std.specs.Str.{bytes_eq}
+use Rattle.ca_types.specs.declared.types.ValType.{ValType}
+use Rattle.ca_types.specs.declared.types.Param.{Param}
+use Rattle.ca_types.specs.declared.types.FuncType.{FuncType}
+use Rattle.ca_types.specs.declared.exports.Export.{Export}
+use Rattle.wasm_reader.specs.declared.module.ValType as core_val
+use Rattle.wasm_reader.specs.declared.module.ValType.TheVariants.{I32, I64}
+use Rattle.wasm_reader.specs.declared.module.FuncType as core
+use Rattle.wasm_reader.specs.declared.module.ModuleTree.{ModuleTree}
+use Rattle.ca_base.specs.declared.placed.Placed.{Placed}
+use Rattle.comp_reader.specs.declared.component.CoreInstance.TheVariants.{Instantiate}
+use Rattle.comp_reader.specs.declared.component.Alias.TheVariants as alias
+use Rattle.comp_reader.specs.declared.component.DefType.{DefType}
+use Rattle.comp_reader.specs.declared.component.DefType.TheVariants as def_type
+use Rattle.comp_reader.specs.declared.component.ValTypeRef.{ValTypeRef}
+use Rattle.comp_reader.specs.declared.component.ValTypeRef.TheVariants.{Primitive}
+use Rattle.comp_reader.specs.declared.component.ValTypeRef.TheVariants as type_ref
+use Rattle.comp_reader.specs.declared.component.Param as read_param
+use Rattle.comp_reader.specs.declared.component.FuncType as read_func
+use Rattle.comp_reader.specs.declared.component.Canon.TheVariants.{Lift}
+use Rattle.comp_reader.specs.declared.component.Item.{Item}
+use Rattle.comp_reader.specs.declared.component.Item.TheVariants as item
+use Rattle.comp_reader.specs.declared.component.Component.{Component}
+use Rattle.ca_base.specs.Faults.{folded}
+use Rattle.ca_base.specs.Names.{AreDistinct, first_twice, is_among}
+use Rattle.comp_link.specs.declared.graph.CoreFunc.{CoreFunc}
+use Rattle.comp_link.specs.declared.link_fault.LinkWhy.{LinkWhy}
+use Rattle.comp_link.specs.declared.link_fault.LinkWhy.TheVariants as why
+use Rattle.comp_link.specs.declared.link_fault.LinkFault.{LinkFault}
+
+-- a type that is defined, closed: no index is left in it
+pub data ClosedType : Type 0 where
+  Value : ValType → ClosedType
+  Func : FuncType → ClosedType
+
+-- a function: the core function that it lifts, and its closed type
+pub record Lifted : Type 0 where
+  pub core : CoreFunc
+  pub func_type : FuncType
+
+-- a function that is exported
+pub record Exported : Type 0 where
+  pub name : List ℕ
+  pub func : Lifted
+
+-- The index spaces of the items so far, and the exports among these. A core instance is told by its module.
+pub record Spaces : Type 0 where
+  pub core_modules : List ModuleTree
+  pub core_instances : List ModuleTree
+  pub core_funcs : List CoreFunc
+  pub types : List ClosedType
+  pub funcs : List Lifted
+  pub exports : List Exported
+
+-- before the first item
+abbrev pub no_spaces : Spaces
+no_spaces = record { core_modules = []; core_instances = []; core_funcs = []; types = []; funcs = []; exports = [] }
+
+-- what a component is linked to: the modules of its core instances, in order of making, and its exports, in order
+pub record Graph : Type 0 where
+  pub instances : List ModuleTree
+  pub exports : List Exported
+
+-- the functions that can be called in a script: the exports, with their types
+abbrev pub exports_of : Graph → List Export
+exports_of g = map (λ e. record { name = e.name; func_type = e.func.func_type }) g.exports
+
+-- one index more in a space
+abbrev pub with_core_module : Spaces → ModuleTree → Spaces
+with_core_module s m = record { core_modules = s.core_modules ++ m ∷ []; core_instances = s.core_instances; core_funcs = s.core_funcs; types = s.types; funcs = s.funcs; exports = s.exports }
+
+abbrev pub with_core_instance : Spaces → ModuleTree → Spaces
+with_core_instance s m = record { core_modules = s.core_modules; core_instances = s.core_instances ++ m ∷ []; core_funcs = s.core_funcs; types = s.types; funcs = s.funcs; exports = s.exports }
+
+abbrev pub with_core_func : Spaces → CoreFunc → Spaces
+with_core_func s f = record { core_modules = s.core_modules; core_instances = s.core_instances; core_funcs = s.core_funcs ++ f ∷ []; types = s.types; funcs = s.funcs; exports = s.exports }
+
+abbrev pub with_type : Spaces → ClosedType → Spaces
+with_type s t = record { core_modules = s.core_modules; core_instances = s.core_instances; core_funcs = s.core_funcs; types = s.types ++ t ∷ []; funcs = s.funcs; exports = s.exports }
+
+abbrev pub with_func : Spaces → Lifted → Spaces
+with_func s f = record { core_modules = s.core_modules; core_instances = s.core_instances; core_funcs = s.core_funcs; types = s.types; funcs = s.funcs ++ f ∷ []; exports = s.exports }
+
+-- an export is one function more, and one export more
+abbrev pub with_export : Spaces → List ℕ → Lifted → Spaces
+with_export s name f = record { core_modules = s.core_modules; core_instances = s.core_instances; core_funcs = s.core_funcs; types = s.types; funcs = s.funcs ++ f ∷ []; exports = s.exports ++ record { name = name; func = f } ∷ [] }
+
+-- how many core instances a component may make
+abbrev pub core_instance_limit : ℕ
+core_instance_limit = 256
+
+-- A core instance: `Index` where the module is not there, `Limit` where there are as many as there may be.
+abbrev pub link_core_instance : Spaces → Option ModuleTree → Result Spaces LinkWhy
+link_core_instance s None = Err why.Index
+link_core_instance s (Some m) = if nat_lt (length s.core_instances) core_instance_limit then Ok (with_core_instance s m) else Err why.Limit
+
+-- the index of the function that a core module exports under a name
+abbrev pub exported : ModuleTree → List ℕ → Option ℕ
+exported m name = option_map (λ e. e.func) (find (λ e. bytes_eq e.name name) m.exports)
+
+-- An alias of a core instance's export: `Index` where the instance is not there, `Missing` where it has no such export.
+abbrev pub link_exported : Spaces → ℕ → List ℕ → Option ℕ → Result Spaces LinkWhy
+link_exported s instance name None = Err (why.Missing name)
+link_exported s instance name (Some func) = Ok (with_core_func s (record { instance = instance; func = func }))
+
+abbrev pub link_alias : Spaces → ℕ → List ℕ → Option ModuleTree → Result Spaces LinkWhy
+link_alias s instance name None = Err why.Index
+link_alias s instance name (Some m) = link_exported s instance name (exported m name)
+
+-- the labels of parameters
+abbrev pub labels : List read_param.Param → List (List ℕ)
+labels params = map (λ p. p.label) params
+
+-- an index in a value type is below a count
+abbrev pub is_within : ℕ → ValTypeRef → Bool
+is_within count (Primitive type) = true
+is_within count (type_ref.Index index) = nat_lt index count
+
+abbrev pub result_within : ℕ → Option ValTypeRef → Bool
+result_within count None = true
+result_within count (Some type) = is_within count type
+
+abbrev pub all_within : ℕ → read_func.FuncType → Bool
+all_within count type = list_all (λ p. is_within count p.val_type) type.params && result_within count type.result
+
+-- the closed type of a value type, where an index in it is that of a value type
+abbrev pub value_of : Option ClosedType → Option ValType
+value_of None = None
+value_of (Some (Value type)) = Some type
+value_of (Some (Func type)) = None
+
+abbrev pub close_val : List ClosedType → ValTypeRef → Option ValType
+close_val types (Primitive type) = Some type
+close_val types (type_ref.Index index) = value_of (slice_get types index)
+
+-- the closed type of a function type, where each value type in it has one
+abbrev pub close_params : List ClosedType → List read_param.Param → Option (List Param)
+close_params types [] = Some []
+close_params types (p ∷ params) =
+    option_and_then (λ type. option_map (λ others. record { label = p.label; val_type = type } ∷ others) (close_params types params))
+    (close_val types p.val_type)
+
+abbrev pub close_result : List ClosedType → Option ValTypeRef → Option (Option ValType)
+close_result types None = Some None
+close_result types (Some type) = option_map (λ t. Some t) (close_val types type)
+
+abbrev pub close_func : List ClosedType → read_func.FuncType → Option FuncType
+close_func types type =
+    option_and_then (λ params. option_map (λ returned. record { params = params; result = returned }) (close_result types type.result))
+    (close_params types type.params)
+
+-- A type: `Index` where a type that it names is not there, `Typing` where a label of a function's parameters stands
+-- twice or a type that it names is none of a value.
+abbrev pub with_closed : Spaces → Option FuncType → Result Spaces LinkWhy
+with_closed s None = Err why.Typing
+with_closed s (Some type) = Ok (with_type s (Func type))
+
+abbrev pub link_type : Spaces → DefType → Result Spaces LinkWhy
+link_type s (def_type.Value type) = Ok (with_type s (Value type))
+link_type s (def_type.Func type) =
+    if all_within (length s.types) type then
+    (if is_none (first_twice (labels type.params)) then with_closed s (close_func s.types type) else Err why.Typing)
+    else Err why.Index
+
+-- the type of a core function, where it is there
+abbrev pub type_at : ModuleTree → ℕ → Option core.FuncType
+type_at m func = option_and_then (λ f. slice_get m.types f.type_index) (slice_get m.funcs func)
+
+abbrev pub core_type : List ModuleTree → CoreFunc → Option core.FuncType
+core_type instances f = option_and_then (λ m. type_at m f.func) (slice_get instances f.instance)
+
+abbrev pub is_i32 : core_val.ValType → Bool
+is_i32 I32 = true
+is_i32 I64 = false
+
+-- how many core results a result has
+abbrev pub result_count : Option ValType → ℕ
+result_count None = 0
+result_count (Some type) = 1
+
+-- how many parameters are passed as core parameters; more are passed in memory
+abbrev pub flat_limit : ℕ
+flat_limit = 16
+
+-- The core type is that of the lift of a function of this type without options: an i32 for each parameter and for the
+-- result. Without a memory no parameters are passed in it.
+abbrev pub is_flat : FuncType → core.FuncType → Bool
+is_flat type of_core =
+    nat_le (length type.params) flat_limit
+    && length of_core.params == length type.params && list_all is_i32 of_core.params
+    && length of_core.results == result_count type.result && list_all is_i32 of_core.results
+
+-- A lift: `Index` where the core function or the type is not there, `Typing` where the type is none of a function,
+-- `Canon` where the core function has another type than the flat one.
+abbrev pub lift_to : Spaces → CoreFunc → ClosedType → Result Spaces LinkWhy
+lift_to s f (Value type) = Err why.Typing
+lift_to s f (Func type) = if option_map_or (is_flat type) (core_type s.core_instances f) false then Ok (with_func s (record { core = f; func_type = type })) else Err why.Canon
+
+abbrev pub link_lift : Spaces → Option CoreFunc → Option ClosedType → Result Spaces LinkWhy
+link_lift s None type = Err why.Index
+link_lift s (Some f) None = Err why.Index
+link_lift s (Some f) (Some type) = lift_to s f type
+
+-- the names of exports
+abbrev pub names : List Exported → List (List ℕ)
+names exports = map (λ e. e.name) exports
+
+-- An export: `Index` where the function is not there, `Typing` where an earlier export has the name.
+abbrev pub link_export : Spaces → List ℕ → Option Lifted → Result Spaces LinkWhy
+link_export s name None = Err why.Index
+link_export s name (Some f) = if is_among name (names s.exports) then Err why.Typing else Ok (with_export s name f)
+
+-- an item, behind others that have these index spaces
+abbrev pub link_item : Spaces → Item → Result Spaces LinkWhy
+link_item s (item.CoreModule m) = Ok (with_core_module s m)
+link_item s (item.CoreInstance (Instantiate index)) = link_core_instance s (slice_get s.core_modules index)
+link_item s (item.Alias (alias.CoreFunc index name)) = link_alias s index name (slice_get s.core_instances index)
+link_item s (item.Type type) = link_type s type
+link_item s (item.Canon (Lift f type)) = link_lift s (slice_get s.core_funcs f) (slice_get s.types type)
+link_item s (item.Export export) = link_export s export.name (slice_get s.funcs export.func)
+
+-- An item that is refused is told by the place that stands beside it, and why.
+abbrev pub linked_at : ℕ → Result Spaces LinkWhy → Result Spaces LinkFault
+linked_at place (Ok s) = Ok s
+linked_at place (Err why) = Err (record { place = place; why = why })
+
+abbrev pub link_placed : Spaces → Placed Item → Result Spaces LinkFault
+link_placed s placed = linked_at placed.place (link_item s placed.item)
+
+-- the index spaces of these items, or the first one that is refused
+abbrev pub link_items : Spaces → List (Placed Item) → Result Spaces LinkFault
+link_items s items = folded link_placed s items
+
+-- the graph, or the refusal
+abbrev pub linked_or : Result Spaces LinkFault → Result Graph LinkFault
+linked_or (Ok s) = Ok (record { instances = s.core_instances; exports = s.exports })
+linked_or (Err fault) = Err fault
+
+abbrev pub linked : Component → Result Graph LinkFault
+linked c = linked_or (link_items no_spaces c.items)
+
+-- the component is linked to the graph; it is refused at this place, for this reason
+abbrev pub IsLinked : Component → Graph → Type 0
+IsLinked c g = linked c ≡ Ok g
+
+abbrev pub IsLinkRefused : Component → LinkFault → Type 0
+IsLinkRefused c fault = linked c ≡ Err fault
+
+-- the core function of a lift is there and has the flat type
+pub record LiftsCore (instances : List ModuleTree) (f : Lifted) : Type 0 where
+  pub type : core.FuncType
+  pub there : core_type instances f.core ≡ Some type
+  pub flat : is_flat f.func_type type ≡ true
+
+-- what a graph needs so that its exports can be called
+abbrev pub IsCallable : Graph → Type 0
+IsCallable g = AllByRecursion (λ e. LiftsCore g.instances e.func) g.exports
+
+-- no two parameters of an export have one label
+abbrev pub HasDistinctLabels : FuncType → Type 0
+HasDistinctLabels type = AreDistinct (map (λ p. p.label) type.params)
+
+abbrev pub HaveDistinctLabels : Graph → Type 0
+HaveDistinctLabels g = AllByRecursion (λ e. HasDistinctLabels e.func.func_type) g.exports
