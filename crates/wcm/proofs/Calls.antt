@@ -24,7 +24,7 @@ use Rattle.wasm_machine.specs.Store.{FunctionTyped, functions_of, params_of, res
 use Rattle.wasm_machine.proofs.Functions.{typed_all}
 use Rattle.wasm_valid.specs.Typing.{Typed}
 use Rattle.ca_types.specs.declared.value.Value.{Value}
-use Rattle.wcm.proofs.Callable.{all_at}
+use Rattle.comp_link.proofs.Callable.{all_at}
 use Rattle.wasm_machine.proofs.Safety.{each_ends}
 use Rattle.ca_types.specs.declared.types.FuncType.{FuncType}
 use Rattle.ca_types.specs.declared.types.Param.{Param}
@@ -39,9 +39,9 @@ use Rattle.wcm.specs.declared.run.Label.TheVariants.{Take, Enter, Return, Exit}
 use Rattle.wcm.specs.declared.run.End.{End}
 use Rattle.wcm.specs.declared.run.End.TheVariants.{Done, Fuel}
 use Rattle.wcm.specs.declared.calling.Instances.{Instances}
-use Rattle.wcm.specs.declared.graph.CoreFunc.{CoreFunc}
+use Rattle.comp_link.specs.declared.graph.CoreFunc.{CoreFunc}
 use Rattle.wcm.specs.Run.{World, Steps, Ends, Starting, Running, Returned, store_of, address, func_named, lowered, lifted, started, entered, taken, turn, core_turn, Runs}
-use Rattle.wcm.specs.Linking.{Lifted, Exported, Graph, exports_of, is_i32, core_type, IsCallable}
+use Rattle.comp_link.specs.Linking.{Lifted, Exported, Graph, exports_of, is_i32, core_type, IsCallable}
 use Rattle.wcm.specs.Calling.{idle, AreMade, Calls, CoreEnds, CoreWaits, GoesOn, Stops}
 use Rattle.wcm.specs.RunLaws.{SoundCall, Sound, item_cost, cost, EachRunEnds}
 use Rattle.wcm.proofs.Labels.{find_of_map}

@@ -1,11 +1,6 @@
--- Tests and searches of a list that is mapped.
-use Rattle.std.proofs.Common.{◌≡◌, List, [], ◌∷◌, map, find, Bool, true, false, cond, ◌||◌, refl, ap, subst, Option, Some, None}
+-- Searches of a list that is mapped.
+use Rattle.std.proofs.Common.{◌≡◌, List, [], ◌∷◌, map, find, Bool, true, false, cond, refl, ap, subst, Option, Some, None}
 use Rattle.std.specs.Option.{option_map, MatchOption}
-use Rattle.std.specs.List.{list_any}
-
-pub any_of_map : {X Y : Type 0} (p : X → Bool) (h : Y → X) (ys : List Y) → list_any p (map h ys) ≡ list_any (λ y. p (h y)) ys
-any_of_map p h [] = refl
-any_of_map p h (y ∷ ys) = ap (λ (b : Bool). p (h y) || b) (any_of_map p h ys)
 
 found_of_map : {X Y : Type 0} (b : Bool) (h : Y → X) (y : Y) (o : Option X) (q : Option Y) → o ≡ option_map h q → cond b (Some (h y)) o ≡ option_map h (cond b (Some y) q)
 found_of_map true h y o q e = refl
@@ -33,8 +28,3 @@ told_by_map k (Some x) p h = h
 pub told_some : {A : Type 0} (o : Option A) (x : A) (N : Type 0) (S : A → Type 0) → o ≡ Some x → MatchOption o N S → S x
 told_some None x N S e h = cc
 told_some (Some y) x N S e h = let same : y ≡ x = cc in subst S same h
-
--- a list that is mapped twice
-pub map_twice : {A B C : Type 0} (f : B → C) (g : A → B) (h : A → C) (xs : List A) → ((x : A) → h x ≡ f (g x)) → map h xs ≡ map f (map g xs)
-map_twice f g h [] e = refl
-map_twice f g h (x ∷ xs) e = rw (e x, map_twice f g h xs e) refl

@@ -1,8 +1,6 @@
-pub mod Callable
 pub mod Calls
-pub mod Closing
+pub mod Exports
 pub mod Labels
-pub mod Linked
 pub mod Modules
 pub mod Names
 pub mod Outcomes
@@ -10,6 +8,5 @@ pub mod Rows
 pub mod Sounds
 pub mod Stores
 pub mod Taken
-pub mod Texts
 pub mod Turns
 pub mod Worlds

@@ -1,23 +1,23 @@
 -- The core modules of a component that is read are typed.
 use Rattle.std.proofs.Common.{◌≡◌, ℕ, zero, suc, Bool, true, false, List, [], ◌∷◌, ◌++◌, Option, Some, None, refl, sym, subst}
 use Rattle.std.specs.Prelude.{◌==◌}
-use Rattle.std.specs.List.{flat_map, AllByRecursion}
-use Rattle.std.specs.Option.{option_map}
+use Rattle.std.specs.List.{AllByRecursion}
 use Rattle.ca_base.specs.Span.{Span, window}
-use Rattle.ca_base.specs.Grammar.{Grammar, Give, Refuse, Choose, ◌>>=◌, Matches}
-use Rattle.ca_base.specs.Items.{NumberReasons, Reasons, placed_times, placed_vec, many, sized}
+use Rattle.ca_base.specs.Grammar.{Grammar, Give, Refuse, Choose, ◌>>=◌, times, Matches}
+use Rattle.ca_base.specs.Items.{NumberReasons, Reasons, placed, placed_vec, many, sized, joined}
 use Rattle.ca_base.specs.declared.placed.Placed.{Placed}
 use Rattle.wasm_reader.specs.declared.module.ModuleTree.{ModuleTree}
+use Rattle.wasm_reader.specs.declared.fault.ModuleWhy.TheVariants as module_why
 use Rattle.wasm_valid.specs.declared.fault.ValidFault.{ValidFault}
-use Rattle.wasm_valid.specs.Checking.{first_fault, untyped, told}
+use Rattle.wasm_valid.specs.Checking.{untyped}
 use Rattle.wasm_valid.specs.Typing.{Typed}
-use Rattle.wasm_valid.proofs.Decides.{module_typed}
+use Rattle.wasm_valid.proofs.Reading.{told_where_read}
 use Rattle.comp_reader.specs.declared.component.Item.{Item}
 use Rattle.comp_reader.specs.declared.component.Item.TheVariants as item
 use Rattle.comp_reader.specs.declared.component.Component.{Component}
 use Rattle.comp_reader.specs.declared.fault.ComponentWhy.{ComponentWhy}
 use Rattle.comp_reader.specs.declared.fault.ComponentWhy.TheVariants.{Unsupported}
-use Rattle.comp_reader.specs.Binary.{numbers, reasons, validated, core_module, core_instance, alias, type_item, canon, export, custom_items, module_items, payload, is_section, section, component, IsComponent}
+use Rattle.comp_reader.specs.Binary.{numbers, reasons, validated, module_file, core_module, core_instance, alias, type_item, canon, export, custom_items, module_items, payload, is_section, section, component, IsComponent}
 
 -- an item that is typed, if it is a core module
 abbrev pub ItemTyped : Item → Type 0
@@ -28,20 +28,22 @@ ItemTyped (item.Type t) = Unit {0}
 ItemTyped (item.Canon c) = Unit {0}
 ItemTyped (item.Export e) = Unit {0}
 
-abbrev PlacedTyped : Placed Item → Type 0
-PlacedTyped p = AllByRecursion ItemTyped p.items
+-- placed items that are typed
+abbrev pub PlacedTyped : List (Placed Item) → Type 0
+PlacedTyped ps = AllByRecursion (λ p. ItemTyped p.item) ps
 
 -- What a grammar stands for has this property.
 abbrev Gives : {W A : Type 0} → (A → Type 0) → Grammar W A → Type 0
 Gives {W} {A} P g = (s : Span W) (x : A) (t : Span W) → Matches g s x t → P x
 
--- Several items.
-placed_give : {W A : Type 0} (P : A → Type 0) (g : Grammar W A) → Gives P g → (count : ℕ) (s : Span W) (x : Placed A) (t : Span W) → Matches (placed_times count g) s x t → AllByRecursion P x.items
-unfolding placed_times
-placed_give P g h zero s x t m = subst (λ (p : Placed _). AllByRecursion P p.items) (sym m.0) tt
-placed_give P g h (suc count) s x t m =
-    let others = placed_give P g h count m.3.1 m.3.3.0 m.3.3.1 m.3.3.2 in
-    subst (λ (p : Placed _). AllByRecursion P p.items) (sym m.3.3.3.0) (h m.1 m.3.0 m.3.1 m.3.2, others)
+-- Several items, each with its place.
+placed_gives : {W A : Type 0} (P : A → Type 0) (g : Grammar W A) → Gives P g → Gives (λ (p : Placed A). P p.item) (placed g)
+unfolding placed
+placed_gives P g h s x t m = subst (λ (p : Placed _). P p.item) (sym m.3.3.0) (h m.1 m.3.0 m.3.1 m.3.2)
+
+times_give : {W A : Type 0} (P : A → Type 0) (g : Grammar W A) → Gives P g → (count : ℕ) (s : Span W) (x : List A) (t : Span W) → Matches (times count g) s x t → AllByRecursion P x
+times_give P g h zero s x t m = subst (AllByRecursion P) (sym m.0) tt
+times_give P g h (suc count) s x t m = subst (AllByRecursion P) (sym m.3.3.0) (h s m.0 m.1 m.2, times_give P g h count m.1 m.3.0 m.3.1 m.3.2)
 
 many_tested : {W A : Type 0} (P : A → Type 0) (g : Grammar W A) (others : Grammar W (List A)) → Gives P g → Gives (AllByRecursion P) others → (b : Bool) (s : Span W) (x : List A) (t : Span W) → Matches (Choose b (Give []) (g >>= (λ first. others >>= (λ more. Give (first ∷ more))))) s x t → AllByRecursion P x
 many_tested P g others h r true s x t m = subst (AllByRecursion P) (sym m.0) tt
@@ -60,19 +62,15 @@ sized_gives : {W A : Type 0} (P : A → Type 0) (n : NumberReasons W) (r : Reaso
 sized_gives P n r g h s x t m = h (window m.0 r.section_size m.1) x m.3.2.0 m.3.2.1
 
 -- A core module that has no fault is typed.
-no_fault : {A B : Type 0} (f : A → B) (o : Option A) → option_map f o ≡ None → o ≡ None
-no_fault f None h = refl
-no_fault f (Some x) h = cc
-
 valid_typed : (tree : ModuleTree) (o : Option ValidFault) (s : Span ComponentWhy) (x : ModuleTree) (t : Span ComponentWhy) → (o ≡ None → Typed tree) → Matches (validated tree o) s x t → Typed x
 valid_typed tree None s x t h m = subst Typed (sym m.0) (h refl)
 valid_typed tree (Some fault) s x t h m = absurd m
 
 module_gives : Gives ItemTyped core_module
-unfolding core_module
+unfolding core_module module_file
 module_gives s x t m =
     let read = m.0 in
-    let typed = valid_typed read.tree (untyped read.tree read.places) m.1 m.3.0 m.3.1 (λ e. module_typed read.tree (no_fault (told read.places) (first_fault read.tree) e)) m.3.2 in
+    let typed = valid_typed read.tree (untyped read.tree read.places) m.1 m.3.0 m.3.1 (told_where_read (window m.2.0 module_why.Truncated m.2.1) read m.2.3.2.0 m.2.3.2.1).0 m.3.2 in
     subst ItemTyped (sym m.3.3.0) typed
 
 -- The other items are no core modules.
@@ -103,24 +101,24 @@ custom_gives s x t m = subst PlacedTyped (sym m.3.0) tt
 
 of_module : Gives PlacedTyped module_items
 unfolding module_items
-of_module s x t m = subst PlacedTyped (sym m.3.3.0) (module_gives m.1 m.3.0 m.3.1 m.3.2, tt)
+of_module s x t m = subst PlacedTyped (sym m.3.0) (placed_gives ItemTyped core_module module_gives s m.0 m.1 m.2, tt)
 
 vec_gives : (g : Grammar ComponentWhy Item) → Gives ItemTyped g → Gives PlacedTyped (placed_vec numbers g)
-vec_gives g h s x t m = placed_give ItemTyped g h m.0 m.1 x t m.3
+vec_gives g h s x t m = times_give (λ (p : Placed Item). ItemTyped p.item) (placed g) (placed_gives ItemTyped g h) m.0 m.1 x t m.3
 
-abbrev without_types : ℕ → Grammar ComponentWhy (Placed Item)
+abbrev without_types : ℕ → Grammar ComponentWhy (List (Placed Item))
 without_types id = Choose (id == 8) (placed_vec numbers canon) (placed_vec numbers export)
 
-abbrev without_aliases : ℕ → Grammar ComponentWhy (Placed Item)
+abbrev without_aliases : ℕ → Grammar ComponentWhy (List (Placed Item))
 without_aliases id = Choose (id == 7) (placed_vec numbers type_item) (without_types id)
 
-abbrev without_instances : ℕ → Grammar ComponentWhy (Placed Item)
+abbrev without_instances : ℕ → Grammar ComponentWhy (List (Placed Item))
 without_instances id = Choose (id == 6) (placed_vec numbers alias) (without_aliases id)
 
-abbrev without_modules : ℕ → Grammar ComponentWhy (Placed Item)
+abbrev without_modules : ℕ → Grammar ComponentWhy (List (Placed Item))
 without_modules id = Choose (id == 2) (placed_vec numbers core_instance) (without_instances id)
 
-abbrev without_customs : ℕ → Grammar ComponentWhy (Placed Item)
+abbrev without_customs : ℕ → Grammar ComponentWhy (List (Placed Item))
 without_customs id = Choose (id == 1) module_items (without_modules id)
 
 payload_gives : (id : ℕ) → Gives PlacedTyped (payload id)
@@ -147,13 +145,13 @@ pub all_append : {A : Type 0} (P : A → Type 0) (xs ys : List A) → AllByRecur
 all_append P [] ys h k = k
 all_append P (x ∷ xs) ys h k = (h.0, all_append P xs ys h.1 k)
 
-joined_typed : (parts : List (Placed Item)) → AllByRecursion PlacedTyped parts → AllByRecursion ItemTyped (flat_map (λ part. part.items) parts)
+joined_typed : (parts : List (List (Placed Item))) → AllByRecursion PlacedTyped parts → PlacedTyped (joined parts)
 joined_typed [] h = tt
-joined_typed (part ∷ parts) h = all_append ItemTyped part.items (flat_map (λ part. part.items) parts) h.0 (joined_typed parts h.1)
+joined_typed (part ∷ parts) h = all_append (λ (p : Placed Item). ItemTyped p.item) part (joined parts) h.0 (joined_typed parts h.1)
 
-pub component_typed : (bytes : List ℕ) (c : Component) → IsComponent bytes c → AllByRecursion ItemTyped c.items
+pub component_typed : (bytes : List ℕ) (c : Component) → IsComponent bytes c → PlacedTyped c.items
 unfolding component
 component_typed bytes c m =
     let sections = m.3.0 in
     let all = many_give PlacedTyped section section_gives m.3.2.0 m.3.2.1 sections m.3.1 m.3.2.3 in
-    subst (λ (c : Component). AllByRecursion ItemTyped c.items) (sym m.3.3.3.0) (joined_typed sections all)
+    subst (λ (c : Component). PlacedTyped c.items) (sym m.3.3.3.0) (joined_typed sections all)

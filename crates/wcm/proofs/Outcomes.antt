@@ -1,5 +1,5 @@
 -- Words whose files are told have exactly one outcome.
-use Rattle.std.proofs.Common.{◌≡◌, ℕ, List, length, Option, Some, None, Result, Ok, Err, inl, inr, refl, nat_le}
+use Rattle.std.proofs.Common.{◌≡◌, ◌⊎◌, ℕ, List, length, Option, Some, None, Result, Ok, Err, inl, inr, refl, nat_le}
 use Rattle.std.specs.Bool.{if◌then◌else◌}
 use Rattle.std.specs.Option.{IsSome, MatchOption}
 use Rattle.std.proofs.lemmas.Bool.{cases_lt}
@@ -9,14 +9,14 @@ use Rattle.comp_reader.specs.Laws.{OneReading}
 use Rattle.script_reader.specs.declared.fault.ScriptFault.{ScriptFault}
 use Rattle.script_reader.specs.Script.{Script, script}
 use Rattle.wcm.specs.declared.answer.Answer.{Answer}
-use Rattle.wcm.specs.declared.link_fault.LinkFault.{LinkFault}
+use Rattle.comp_link.specs.declared.link_fault.LinkFault.{LinkFault}
 use Rattle.wcm.specs.declared.run.End.{End}
 use Rattle.wcm.specs.declared.run.End.TheVariants.{Done, Fuel}
-use Rattle.wcm.specs.Linking.{Graph, exports_of, linked, IsLinked}
+use Rattle.comp_link.specs.Linking.{Graph, exports_of, linked, IsLinked}
 use Rattle.wcm.specs.Laws.{ScriptsAreSound, OneOutcome}
 use Rattle.wcm.specs.RunLaws.{EachRunEnds, cost}
-use Rattle.wcm.specs.Words.{plain}
-use Rattle.wcm.specs.Outcome.{component_limit, too_long, usage_answer, refused_answer, link_refused_answer, script_refused_answer, run_answer, ScriptAnswers, LinkAnswers, FileAnswers, HeldAnswers}
+use Rattle.wcm.specs.Words.{Command, Run, command_of}
+use Rattle.wcm.specs.Outcome.{component_limit, too_long, usage_answer, refused_answer, link_refused_answer, script_refused_answer, run_answer, ScriptAnswers, LinkAnswers, FileAnswers, HeldScriptAnswers, HeldAnswers, CommandAnswers, DecidesAlone, IsCommandTold}
 use Rattle.wcm.proofs.Rows.{one_answer}
 
 module _ (reading : OneReading) (sound : ScriptsAreSound) (ends : EachRunEnds) where
@@ -27,13 +27,13 @@ module _ (reading : OneReading) (sound : ScriptsAreSound) (ends : EachRunEnds) w
       let end : End = if nat_le (cost g s.items) s.fuel then Done else Fuel in
       (run_answer run.0 end, inr (s, h, (run.0, end, run.1, refl)))
 
-  by_link : (bytes text : List ℕ) (c : Component) (r : Result Graph LinkFault) → IsComponent bytes c → linked c ≡ r → (a : Answer) × LinkAnswers c text a
+  by_link : (bytes text : List ℕ) (c : Component) (r : Result Graph LinkFault) → IsComponent bytes c → linked c ≡ r → (a : Answer) × LinkAnswers c a (λ g. HeldScriptAnswers g (Some text) a)
   by_link bytes text c (Err fault) i h = (link_refused_answer fault, inl (fault, h, refl))
   by_link bytes text c (Ok g) i h =
       let a = by_script bytes text c g (script (exports_of g) text) i h refl in
       (a.0, inr (g, h, a.1))
 
-  by_file : (bytes text : List ℕ) → (a : Answer) × FileAnswers bytes text a
+  by_file : (bytes text : List ℕ) → (a : Answer) × FileAnswers bytes a (λ g. HeldScriptAnswers g (Some text) a)
   by_file bytes text =
       elim (cases_lt component_limit (length bytes)) [
         | inl long ↦ (refused_answer too_long, inl (too_long, inl (long, refl), refl))
@@ -45,17 +45,27 @@ module _ (reading : OneReading) (sound : ScriptsAreSound) (ends : EachRunEnds) w
         ]
       ]
 
-  by_held : (held_file held_script : Option (List ℕ)) → IsSome held_file → IsSome held_script → (a : Answer) × HeldAnswers held_file held_script a × ((other : Answer) → HeldAnswers held_file held_script other → other ≡ a)
-  by_held (Some bytes) (Some text) i j =
-      let a = by_file bytes text in
-      (a.0, a.1, λ other h. one_answer bytes text other a.0 h a.1)
-  by_held (Some bytes) None i j = cc
-  by_held None held_script i j = cc
+  by_told : (bytes : List ℕ) (held_script : Option (List ℕ)) → IsSome held_script → (a : Answer) × FileAnswers bytes a (λ g. HeldScriptAnswers g held_script a)
+  by_told bytes (Some text) i = by_file bytes text
+  by_told bytes None i = cc
 
-  by_plain : (held : List ℕ → Option (List ℕ)) (o : Option (List ℕ × List ℕ)) → MatchOption o (Unit {0}) (λ p. IsSome (held p.0) × IsSome (held p.1))
-      → (a : Answer) × MatchOption o (a ≡ usage_answer) (λ p. HeldAnswers (held p.0) (held p.1) a) × ((other : Answer) → MatchOption o (other ≡ usage_answer) (λ p. HeldAnswers (held p.0) (held p.1) other) → other ≡ a)
-  by_plain held None told = (usage_answer, refl, λ other h. h)
-  by_plain held (Some p) told = by_held (held p.0) (held p.1) told.0 told.1
+  by_held : (held_file held_script : Option (List ℕ)) → MatchOption held_file ⊥ (λ bytes. DecidesAlone bytes ⊎ IsSome held_script) → (a : Answer) × HeldAnswers held_file held_script a
+  by_held None held_script told = absurd told
+  by_held (Some bytes) held_script told =
+      elim told [
+        | inl alone ↦ elim alone [
+          | inl bad ↦ (refused_answer bad.0, inl (bad.0, bad.1, refl))
+          | inr bad ↦ (link_refused_answer bad.1, inr (bad.0, bad.2, inl (bad.1, bad.3, refl)))
+        ]
+        | inr script ↦ by_told bytes held_script script
+      ]
+
+  by_words : (held : List ℕ → Option (List ℕ)) (o : Option Command) → MatchOption o (Unit {0}) (λ command. IsCommandTold command held)
+      → (a : Answer) × MatchOption o (a ≡ usage_answer) (λ command. CommandAnswers command held a)
+  by_words held None told = (usage_answer, refl)
+  by_words held (Some (Run file script)) told = by_held (held file) (held script) told
 
   pub one_outcome : OneOutcome
-  one_outcome words held told = by_plain held (plain words) told
+  one_outcome words held told =
+      let a = by_words held (command_of words) told in
+      (a.0, a.1, λ other h. one_answer words held other a.0 h a.1)

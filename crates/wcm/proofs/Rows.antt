@@ -1,5 +1,5 @@
--- What each answer tells of the files: the files have one answer, so its status tells which of the cases they are.
-use Rattle.std.proofs.Common.{◌≡◌, ◌↔◌, inl, inr, ℕ, List, [], refl, ap, sym, ◌∙◌, subst, arith, Option, Some, None, Result, Ok, Err}
+-- What each answer tells of the files: words have one outcome, so its status tells which of the cases the files are.
+use Rattle.std.proofs.Common.{◌≡◌, ◌↔◌, ◌⊎◌, inl, inr, ℕ, List, refl, ap, sym, ◌∙◌, subst, arith, Option, Some, None, Result, Ok, Err}
 use Rattle.std.specs.Option.{IfSome, IsSome, MatchOption}
 use Rattle.ca_base.specs.Span.{Span}
 use Rattle.ca_base.specs.declared.refusal.Refusal.{Refusal}
@@ -11,19 +11,20 @@ use Rattle.comp_reader.specs.declared.fault.ComponentWhy.{ComponentWhy}
 use Rattle.comp_reader.specs.Binary.{component, file, file_end}
 use Rattle.script_reader.specs.declared.fault.ScriptFault.{ScriptFault}
 use Rattle.script_reader.specs.Script.{Script, IsScript, IsScriptRefused}
-use Rattle.wcm.specs.declared.link_fault.LinkFault.{LinkFault}
+use Rattle.comp_link.specs.declared.link_fault.LinkFault.{LinkFault}
 use Rattle.wcm.specs.declared.answer.Answer.{Answer}
 use Rattle.wcm.specs.declared.status.Status.{Status}
 use Rattle.wcm.specs.declared.status.Status.TheVariants.{Done, Refused, LinkRefused, ScriptRefused, Fuel}
 use Rattle.wcm.specs.declared.run.Label.{Label}
 use Rattle.wcm.specs.declared.run.End.{End}
 use Rattle.wcm.specs.declared.run.End.TheVariants as ends
-use Rattle.wcm.specs.Linking.{Graph, exports_of}
+use Rattle.comp_link.specs.Linking.{Graph, exports_of, IsLinked, IsLinkRefused}
 use Rattle.wcm.specs.Run.{first_world}
-use Rattle.wcm.specs.Status.{status_of}
-use Rattle.wcm.specs.Words.{plain}
-use Rattle.wcm.specs.Outcome.{IsTold, IsComponentFile, IsRefusedFile, RunAnswers, ScriptAnswers, LinkAnswers, FileAnswers, run_answer, refused_answer, link_refused_answer, script_refused_answer, NamesRefused, NamesLinkRefused, NamesGraph, NamesScriptRefused, NamesRun}
-use Rattle.wcm.proofs.Linked.{one_graph, one_fault, linked_or_not}
+use Rattle.wcm.specs.Status.{status_of, IsBehindGraph}
+use Rattle.wcm.specs.Words.{Command, Run, command_of}
+use Rattle.wcm.specs.Gives.{GraphGives, CommandGives}
+use Rattle.wcm.specs.Outcome.{Outcome, DecidesAlone, IsCommandTold, IsTold, IsComponentTold, component_file, IsComponentFile, IsRefusedFile, RunAnswers, ScriptAnswers, LinkAnswers, FileAnswers, HeldScriptAnswers, HeldAnswers, CommandAnswers, run_answer, usage_answer, refused_answer, link_refused_answer, script_refused_answer, NamesRefused, NamesLinkRefused, NamesGraph, NamesScriptRefused, NamesRun}
+use Rattle.comp_link.proofs.Linked.{one_graph, one_fault, linked_or_not}
 use Rattle.wcm.proofs.Worlds.{one_run}
 
 -- what matches is not refused, and matches nothing else
@@ -100,8 +101,12 @@ one_of_script g t a b h k =
       ]
     ]
 
-one_of_link : (c : Component) (t : List ℕ) (a b : Answer) → LinkAnswers c t a → LinkAnswers c t b → a ≡ b
-one_of_link c t a b h k =
+one_of_held_script : (g : Graph) (o : Option (List ℕ)) (a b : Answer) → HeldScriptAnswers g o a → HeldScriptAnswers g o b → a ≡ b
+one_of_held_script g None a b h k = absurd h
+one_of_held_script g (Some t) a b h k = one_of_script g t a b h k
+
+one_of_link : (c : Component) (o : Option (List ℕ)) (a b : Answer) → LinkAnswers c a (λ g. HeldScriptAnswers g o a) → LinkAnswers c b (λ g. HeldScriptAnswers g o b) → a ≡ b
+one_of_link c o a b h k =
     elim h [
       | inl bad ↦ elim k [
         | inl worse ↦ bad.2 ∙ (ap (λ (f : LinkFault). link_refused_answer f) (one_fault c worse.0 bad.0 worse.1 bad.1) ∙ sym worse.2)
@@ -111,12 +116,12 @@ one_of_link c t a b h k =
         | inl bad ↦ absurd (linked_or_not c good.0 bad.0 good.1 bad.1)
         | inr better ↦
             let same : better.0 ≡ good.0 = one_graph c good.0 better.0 good.1 better.1 in
-            one_of_script good.0 t a b good.2 (subst (λ (g : Graph). ScriptAnswers g t b) same better.2)
+            one_of_held_script good.0 o a b good.2 (subst (λ (g : Graph). HeldScriptAnswers g o b) same better.2)
       ]
     ]
 
-pub one_answer : (bytes t : List ℕ) (a b : Answer) → FileAnswers bytes t a → FileAnswers bytes t b → a ≡ b
-one_answer bytes t a b h k =
+one_of_file : (bytes : List ℕ) (o : Option (List ℕ)) (a b : Answer) → FileAnswers bytes a (λ g. HeldScriptAnswers g o a) → FileAnswers bytes b (λ g. HeldScriptAnswers g o b) → a ≡ b
+one_of_file bytes o a b h k =
     elim h [
       | inl bad ↦ elim k [
         | inl worse ↦ bad.2 ∙ (ap (λ (e : Refusal ComponentWhy). refused_answer e) (one_refusal bytes bad.0 worse.0 bad.1 worse.1) ∙ sym worse.2)
@@ -126,80 +131,151 @@ one_answer bytes t a b h k =
         | inl bad ↦ absurd (component_or_not bytes good.0 bad.0 good.1 bad.1)
         | inr better ↦
             let same : better.0 ≡ good.0 = one_component bytes better.0 good.0 better.1 good.1 in
-            one_of_link good.0 t a b good.2 (subst (λ (c : Component). LinkAnswers c t b) same better.2)
+            one_of_link good.0 o a b good.2 (subst (λ (c : Component). LinkAnswers c b (λ g. HeldScriptAnswers g o b)) same better.2)
       ]
     ]
 
--- where both files are told, the answer is that of their bytes
-told_answers : (held_file held_script : Option (List ℕ)) (a : Answer) → IfSome held_file (λ bytes. IfSome held_script (λ t. FileAnswers bytes t a)) → IsSome held_file → IsSome held_script
-    → (bytes : List ℕ) × (t : List ℕ) × (held_file ≡ Some bytes) × (held_script ≡ Some t) × FileAnswers bytes t a
-told_answers (Some bytes) (Some t) a h i j = (bytes, t, refl, refl, h)
-told_answers (Some bytes) None a h i j = cc
-told_answers None held_script a h i j = cc
+one_of_held : (held_file held_script : Option (List ℕ)) (a b : Answer) → HeldAnswers held_file held_script a → HeldAnswers held_file held_script b → a ≡ b
+one_of_held None held_script a b h k = absurd h
+one_of_held (Some bytes) held_script a b h k = one_of_file bytes held_script a b h k
 
--- the files that plain words name are told
-told_of : (words : List (List ℕ)) (held : List ℕ → Option (List ℕ)) (f s : List ℕ) → plain words ≡ Some (f, s) → IsTold words held → IsSome (held f) × IsSome (held s)
-told_of words held f s e h = subst (λ (o : Option (List ℕ × List ℕ)). MatchOption o (Unit {0}) (λ p. IsSome (held p.0) × IsSome (held p.1))) e h
+one_of_words : (o : Option Command) (held : List ℕ → Option (List ℕ)) (a b : Answer) → MatchOption o (a ≡ usage_answer) (λ command. CommandAnswers command held a) → MatchOption o (b ≡ usage_answer) (λ command. CommandAnswers command held b) → a ≡ b
+one_of_words None held a b h k = h ∙ sym k
+one_of_words (Some (Run file script)) held a b h k = one_of_held (held file) (held script) a b h k
 
-abbrev first_of_pair : Option (List ℕ × List ℕ) → List ℕ
-first_of_pair None = []
-first_of_pair (Some p) = p.0
+-- Words have one outcome.
+pub one_answer : (words : List (List ℕ)) (held : List ℕ → Option (List ℕ)) (a b : Answer) → Outcome words held a → Outcome words held b → a ≡ b
+one_answer words held a b h k = one_of_words (command_of words) held a b h k
 
-abbrev second_of_pair : Option (List ℕ × List ℕ) → List ℕ
-second_of_pair None = []
-second_of_pair (Some p) = p.1
+-- A file that decides alone is of no component that is linked.
+decided : (bytes : List ℕ) (c : Component) (g : Graph) → IsComponentFile bytes c → IsLinked c g → DecidesAlone bytes → ⊥
+decided bytes c g i l d =
+    elim d [
+      | inl bad ↦ component_or_not bytes c bad.0 i bad.1
+      | inr bad ↦
+          let same : bad.0 ≡ c = one_component bytes bad.0 c bad.2 i in
+          linked_or_not c g bad.1 l (subst (λ (d : Component). IsLinkRefused d bad.1) same bad.3)
+    ]
 
--- what is held under names that words name in two ways
-same_file : (words : List (List ℕ)) (held : List ℕ → Option (List ℕ)) (f s g t : List ℕ) (bytes other : List ℕ) → plain words ≡ Some (f, s) → plain words ≡ Some (g, t) → held f ≡ Some bytes → held g ≡ Some other → bytes ≡ other
-same_file words held f s g t bytes other e d h k =
-    let pair : ◌≡◌ {A = Option (List ℕ × List ℕ)} (Some (f, s)) (Some (g, t)) = sym e ∙ d in
-    let name : f ≡ g = ap (λ (o : Option (List ℕ × List ℕ)). first_of_pair o) pair in
-    let both : ◌≡◌ {A = Option (List ℕ)} (Some bytes) (Some other) = sym h ∙ (ap held name ∙ k) in
-    cc
+-- what is given behind a graph, where the script is told
+given_script : (g : Graph) (o : Option (List ℕ)) (a : Answer) → GraphGives g o a → IsSome o → HeldScriptAnswers g o a
+given_script g None a h i = cc
+given_script g (Some t) a h i = h.1
 
-same_script : (words : List (List ℕ)) (held : List ℕ → Option (List ℕ)) (f s g t : List ℕ) (bytes other : List ℕ) → plain words ≡ Some (f, s) → plain words ≡ Some (g, t) → held s ≡ Some bytes → held t ≡ Some other → bytes ≡ other
-same_script words held f s g t bytes other e d h k =
-    let pair : ◌≡◌ {A = Option (List ℕ × List ℕ)} (Some (f, s)) (Some (g, t)) = sym e ∙ d in
-    let name : s ≡ t = ap (λ (o : Option (List ℕ × List ℕ)). second_of_pair o) pair in
-    let both : ◌≡◌ {A = Option (List ℕ)} (Some bytes) (Some other) = sym h ∙ (ap held name ∙ k) in
-    cc
+-- what a component file gives is its answer, where the files that it asks for are told
+given_file : (bytes : List ℕ) (o : Option (List ℕ)) (a : Answer) → FileAnswers bytes a (λ g. GraphGives g o a) → DecidesAlone bytes ⊎ IsSome o → FileAnswers bytes a (λ g. HeldScriptAnswers g o a)
+given_file bytes o a h told =
+    elim h [
+      | inl bad ↦ inl bad
+      | inr good ↦ elim good.2 [
+        | inl bad ↦ inr (good.0, good.1, inl bad)
+        | inr linked ↦ elim told [
+          | inl alone ↦ absurd (decided bytes good.0 linked.0 good.1 linked.1 alone)
+          | inr script ↦ inr (good.0, good.1, inr (linked.0, linked.1, given_script linked.0 o a linked.2 script))
+        ]
+      ]
+    ]
 
--- The files that words name, and the answer for them.
-record Answered (words : List (List ℕ)) (held : List ℕ → Option (List ℕ)) (a : Answer) : Type 0 where
+given_held : (held_file held_script : Option (List ℕ)) (a : Answer) → IfSome held_file (λ bytes. FileAnswers bytes a (λ g. GraphGives g held_script a)) → MatchOption held_file ⊥ (λ bytes. DecidesAlone bytes ⊎ IsSome held_script) → HeldAnswers held_file held_script a
+given_held None held_script a h told = absurd told
+given_held (Some bytes) held_script a h told = given_file bytes held_script a h told
+
+given_words : (o : Option Command) (held : List ℕ → Option (List ℕ)) (command : Command) (a : Answer) → o ≡ Some command → CommandGives command held a → MatchOption o (Unit {0}) (λ command. IsCommandTold command held) → MatchOption o (a ≡ usage_answer) (λ command. CommandAnswers command held a)
+given_words None held command a e h told = cc
+given_words (Some (Run file script)) held command a e h told =
+    let same : command ≡ Run file script = cc in
+    given_held (held file) (held script) a (subst (λ (c : Command). CommandGives c held a) same h) told
+
+-- What a command gives is the outcome of its words, where their files are told.
+pub outcome_of : (words : List (List ℕ)) (held : List ℕ → Option (List ℕ)) (command : Command) (a : Answer) → command_of words ≡ Some command → CommandGives command held a → IsTold words held → Outcome words held a
+outcome_of words held command a e h told = given_words (command_of words) held command a e h told
+
+-- the outcome of words that are no command
+pub usage_of : (words : List (List ℕ)) (held : List ℕ → Option (List ℕ)) → command_of words ≡ None → Outcome words held usage_answer
+usage_of words held e = subst (λ (o : Option Command). MatchOption o (◌≡◌ {A = Answer} usage_answer usage_answer) (λ command. CommandAnswers command held usage_answer)) (sym e) refl
+
+-- the words name a component that is linked
+record NamesLinked (words : List (List ℕ)) (held : List ℕ → Option (List ℕ)) : Type 0 where
   pub file : List ℕ
   pub script : List ℕ
   pub bytes : List ℕ
-  pub text : List ℕ
-  pub words_name : plain words ≡ Some (file, script)
+  pub component : Component
+  pub graph : Graph
+  pub words_name : command_of words ≡ Some (Run file script)
   pub holds : held file ≡ Some bytes
-  pub holds_script : held script ≡ Some text
-  pub answers : FileAnswers bytes text a
+  pub read : IsComponentFile bytes component
+  pub linked : IsLinked component graph
 
-answered : (words : List (List ℕ)) (held : List ℕ → Option (List ℕ)) (f s : List ℕ) (a : Answer) → plain words ≡ Some (f, s) → IfSome (held f) (λ bytes. IfSome (held s) (λ t. FileAnswers bytes t a)) → IsTold words held → Answered words held a
-answered words held f s a e h told =
-    let both = told_of words held f s e told in
-    let d = told_answers (held f) (held s) a h both.0 both.1 in
-    record { file = f; script = s; bytes = d.0; text = d.1; words_name = e; holds = d.2; holds_script = d.3; answers = d.4 }
+-- what is held under a name that words give in two ways
+same_bytes : (words : List (List ℕ)) (held : List ℕ → Option (List ℕ)) (f s g t : List ℕ) (bytes other : List ℕ) → command_of words ≡ Some (Run f s) → command_of words ≡ Some (Run g t) → held f ≡ Some bytes → held g ≡ Some other → bytes ≡ other
+same_bytes words held f s g t bytes other e d h k =
+    let both : ◌≡◌ {A = Option Command} (Some (Run f s)) (Some (Run g t)) = sym e ∙ d in
+    let name : f ≡ g = cc in
+    let same : ◌≡◌ {A = Option (List ℕ)} (Some bytes) (Some other) = sym h ∙ (ap held name ∙ k) in
+    cc
 
--- an answer for the same component file, whatever script is held
-same_by_file : (words : List (List ℕ)) (held : List ℕ → Option (List ℕ)) (a b : Answer) (f s bytes : List ℕ) → Answered words held a → plain words ≡ Some (f, s) → held f ≡ Some bytes → ((t : List ℕ) → FileAnswers bytes t b) → a ≡ b
-same_by_file words held a b f s bytes d e h k =
-    let same : bytes ≡ d.bytes = same_file words held f s d.file d.script bytes d.bytes e d.words_name h d.holds in
-    one_answer d.bytes d.text a b d.answers (subst (λ (x : List ℕ). FileAnswers x d.text b) same (k d.text))
+-- A component file is one of three: refused, of a component that is not linked, of one that is.
+refused_or_link : (words : List (List ℕ)) (held : List ℕ → Option (List ℕ)) → NamesRefused words held → NamesLinkRefused words held → ⊥
+refused_or_link words held n m =
+    let same : n.bytes ≡ m.bytes = same_bytes words held n.file n.script m.file m.script n.bytes m.bytes n.words_name m.words_name n.holds m.holds in
+    component_or_not m.bytes m.component n.refusal m.read (subst (λ (x : List ℕ). IsRefusedFile x n.refusal) same n.refused)
 
--- an answer for the same graph and script
-same_by_graph : (words : List (List ℕ)) (held : List ℕ → Option (List ℕ)) (a b : Answer) (g : Graph) (t : List ℕ) → Answered words held a → NamesGraph words held g t → ScriptAnswers g t b → a ≡ b
-same_by_graph words held a b g t d n k =
-    let same : n.bytes ≡ d.bytes = same_file words held n.file n.script d.file d.script n.bytes d.bytes n.words_name d.words_name n.holds d.holds in
-    let same_text : t ≡ d.text = same_script words held n.file n.script d.file d.script t d.text n.words_name d.words_name n.holds_script d.holds_script in
-    let linked : LinkAnswers n.component t b = inr (g, n.linked, k) in
-    let whole : FileAnswers n.bytes t b = inr (n.component, n.read, linked) in
-    one_answer d.bytes d.text a b d.answers (subst (λ (x : List ℕ). FileAnswers d.bytes x b) same_text (subst (λ (x : List ℕ). FileAnswers x t b) same whole))
+refused_or_linked : (words : List (List ℕ)) (held : List ℕ → Option (List ℕ)) → NamesRefused words held → NamesLinked words held → ⊥
+refused_or_linked words held n m =
+    let same : n.bytes ≡ m.bytes = same_bytes words held n.file n.script m.file m.script n.bytes m.bytes n.words_name m.words_name n.holds m.holds in
+    component_or_not m.bytes m.component n.refusal m.read (subst (λ (x : List ℕ). IsRefusedFile x n.refusal) same n.refused)
 
--- what the words name, by what came of their files
+link_or_linked : (words : List (List ℕ)) (held : List ℕ → Option (List ℕ)) → NamesLinkRefused words held → NamesLinked words held → ⊥
+link_or_linked words held n m =
+    let same : n.bytes ≡ m.bytes = same_bytes words held n.file n.script m.file m.script n.bytes m.bytes n.words_name m.words_name n.holds m.holds in
+    decided m.bytes m.component m.graph m.read m.linked (inr (n.component, n.fault, subst (λ (x : List ℕ). IsComponentFile x n.component) same n.read, n.refused))
+
+-- what came of the component file
+data CameOfFile (words : List (List ℕ)) (held : List ℕ → Option (List ℕ)) (s : Status) : Type 0 where
+  IsFile : s ≡ Refused → NamesRefused words held → CameOfFile words held s
+  IsLink : s ≡ LinkRefused → NamesLinkRefused words held → CameOfFile words held s
+  IsBehind : IsBehindGraph s → NamesLinked words held → CameOfFile words held s
+
+came_of_file : (words : List (List ℕ)) (held : List ℕ → Option (List ℕ)) (f s : List ℕ) (o : Option (List ℕ)) (a : Answer) → command_of words ≡ Some (Run f s) → held f ≡ o → IsSome o → IfSome o (λ bytes. FileAnswers bytes a (λ g. GraphGives g (held s) a)) → CameOfFile words held a.status
+came_of_file words held f s None a e h told gives = cc
+came_of_file words held f s (Some bytes) a e h told gives =
+    elim gives [
+      | inl bad ↦ IsFile (ap (λ (b : Answer). b.status) bad.2) (record { file = f; script = s; bytes = bytes; refusal = bad.0; words_name = e; holds = h; refused = bad.1 })
+      | inr good ↦ elim good.2 [
+        | inl bad ↦ IsLink (ap (λ (b : Answer). b.status) bad.2) (record { file = f; script = s; bytes = bytes; component = good.0; fault = bad.0; words_name = e; holds = h; read = good.1; refused = bad.1 })
+        | inr linked ↦ IsBehind linked.2.0 (record { file = f; script = s; bytes = bytes; component = good.0; graph = linked.0; words_name = e; holds = h; read = good.1; linked = linked.1 })
+      ]
+    ]
+
+came_of_command : (words : List (List ℕ)) (held : List ℕ → Option (List ℕ)) (command : Command) (a : Answer) → command_of words ≡ Some command → CommandGives command held a → IsSome (held (component_file command)) → CameOfFile words held a.status
+came_of_command words held (Run f s) a e gives told = came_of_file words held f s (held f) a e refl told gives
+
+-- the component file that a command's words name is told
+told_of : (words : List (List ℕ)) (held : List ℕ → Option (List ℕ)) (command : Command) → command_of words ≡ Some command → IsComponentTold words held → IsSome (held (component_file command))
+told_of words held command e h = subst (λ (o : Option Command). MatchOption o (Unit {0}) (λ command. IsSome (held (component_file command)))) e h
+
+when_refused : (words : List (List ℕ)) (held : List ℕ → Option (List ℕ)) (s : Status) → CameOfFile words held s → (s ≡ Refused) ↔ NamesRefused words held
+when_refused words held s (IsFile e n) = (λ k. n, λ m. e)
+when_refused words held s (IsLink e n) = (λ k. cc, λ m. absurd (refused_or_link words held m n))
+when_refused words held s (IsBehind b n) = (λ k. absurd (subst IsBehindGraph k b), λ m. absurd (refused_or_linked words held m n))
+
+when_link_refused : (words : List (List ℕ)) (held : List ℕ → Option (List ℕ)) (s : Status) → CameOfFile words held s → (s ≡ LinkRefused) ↔ NamesLinkRefused words held
+when_link_refused words held s (IsFile e n) = (λ k. cc, λ m. absurd (refused_or_link words held n m))
+when_link_refused words held s (IsLink e n) = (λ k. n, λ m. e)
+when_link_refused words held s (IsBehind b n) = (λ k. absurd (subst IsBehindGraph k b), λ m. absurd (link_or_linked words held m n))
+
+pub row_refused : (words : List (List ℕ)) (held : List ℕ → Option (List ℕ)) (command : Command) (a : Answer) → command_of words ≡ Some command → CommandGives command held a → IsComponentTold words held → (a.status ≡ Refused) ↔ NamesRefused words held
+row_refused words held command a e gives told =
+    when_refused words held a.status (came_of_command words held command a e gives (told_of words held command e told))
+
+pub row_link_refused : (words : List (List ℕ)) (held : List ℕ → Option (List ℕ)) (command : Command) (a : Answer) → command_of words ≡ Some command → CommandGives command held a → IsComponentTold words held → (a.status ≡ LinkRefused) ↔ NamesLinkRefused words held
+row_link_refused words held command a e gives told =
+    when_link_refused words held a.status (came_of_command words held command a e gives (told_of words held command e told))
+
+-- what came of both files
 data Came (words : List (List ℕ)) (held : List ℕ → Option (List ℕ)) (s : Status) : Type 0 where
-  OfFile : s ≡ Refused → NamesRefused words held → Came words held s
-  OfLink : s ≡ LinkRefused → NamesLinkRefused words held → Came words held s
+  OfFile : s ≡ Refused → Came words held s
+  OfLink : s ≡ LinkRefused → Came words held s
   OfScript : s ≡ ScriptRefused → NamesScriptRefused words held → Came words held s
   OfRun : (end : End) → s ≡ status_of end → NamesRun words held end → Came words held s
 
@@ -212,89 +288,70 @@ came_script words held a g t n h =
           OfRun r.1 (ap (λ (b : Answer). b.status) r.3) (record { graph = g; text = t; said = run.0; labels = r.0; named = n; read_script = run.1; runs = r.2 })
     ]
 
-came : (words : List (List ℕ)) (held : List ℕ → Option (List ℕ)) (a : Answer) → Answered words held a → Came words held a.status
-came words held a d =
-    elim d.answers [
-      | inl bad ↦ OfFile (ap (λ (b : Answer). b.status) bad.2) (record { file = d.file; script = d.script; bytes = d.bytes; refusal = bad.0; words_name = d.words_name; holds = d.holds; refused = bad.1 })
+came_held_script : (words : List (List ℕ)) (held : List ℕ → Option (List ℕ)) (f s bytes : List ℕ) (c : Component) (g : Graph) (o : Option (List ℕ)) (a : Answer) → command_of words ≡ Some (Run f s) → held f ≡ Some bytes → IsComponentFile bytes c → IsLinked c g → held s ≡ o → HeldScriptAnswers g o a → Came words held a.status
+came_held_script words held f s bytes c g None a e h i l k answers = absurd answers
+came_held_script words held f s bytes c g (Some t) a e h i l k answers =
+    came_script words held a g t (record { file = f; script = s; bytes = bytes; component = c; words_name = e; holds = h; read = i; linked = l; holds_script = k }) answers
+
+came_held : (words : List (List ℕ)) (held : List ℕ → Option (List ℕ)) (f s : List ℕ) (o : Option (List ℕ)) (a : Answer) → command_of words ≡ Some (Run f s) → held f ≡ o → HeldAnswers o (held s) a → Came words held a.status
+came_held words held f s None a e h answers = absurd answers
+came_held words held f s (Some bytes) a e h answers =
+    elim answers [
+      | inl bad ↦ OfFile (ap (λ (b : Answer). b.status) bad.2)
       | inr good ↦ elim good.2 [
-        | inl bad ↦ OfLink (ap (λ (b : Answer). b.status) bad.2) (record { file = d.file; script = d.script; bytes = d.bytes; component = good.0; fault = bad.0; words_name = d.words_name; holds = d.holds; read = good.1; refused = bad.1 })
-        | inr linked ↦ came_script words held a linked.0 d.text (record { file = d.file; script = d.script; bytes = d.bytes; component = good.0; words_name = d.words_name; holds = d.holds; read = good.1; linked = linked.1; holds_script = d.holds_script }) linked.2
+        | inl bad ↦ OfLink (ap (λ (b : Answer). b.status) bad.2)
+        | inr linked ↦ came_held_script words held f s bytes good.0 linked.0 (held s) a e h good.1 linked.1 refl linked.2
       ]
     ]
 
+came_answers : (words : List (List ℕ)) (held : List ℕ → Option (List ℕ)) (command : Command) (a : Answer) → command_of words ≡ Some command → CommandAnswers command held a → Came words held a.status
+came_answers words held (Run f s) a e h = came_held words held f s (held f) a e refl h
+
+came : (words : List (List ℕ)) (held : List ℕ → Option (List ℕ)) (command : Command) (a : Answer) → command_of words ≡ Some command → Outcome words held a → Came words held a.status
+came words held command a e h =
+    came_answers words held command a e (subst (λ (o : Option Command). MatchOption o (a ≡ usage_answer) (λ command. CommandAnswers command held a)) e h)
+
 -- Each status comes with its own case.
-of_refused : (words : List (List ℕ)) (held : List ℕ → Option (List ℕ)) (s : Status) → s ≡ Refused → Came words held s → NamesRefused words held
-of_refused words held s k (OfFile e n) = n
-of_refused words held s k (OfLink e n) = cc
-of_refused words held s k (OfScript e n) = cc
-of_refused words held s k (OfRun ends.Done e n) = cc
-of_refused words held s k (OfRun ends.Fuel e n) = cc
-
-of_link : (words : List (List ℕ)) (held : List ℕ → Option (List ℕ)) (s : Status) → s ≡ LinkRefused → Came words held s → NamesLinkRefused words held
-of_link words held s k (OfFile e n) = cc
-of_link words held s k (OfLink e n) = n
-of_link words held s k (OfScript e n) = cc
-of_link words held s k (OfRun ends.Done e n) = cc
-of_link words held s k (OfRun ends.Fuel e n) = cc
-
 of_script : (words : List (List ℕ)) (held : List ℕ → Option (List ℕ)) (s : Status) → s ≡ ScriptRefused → Came words held s → NamesScriptRefused words held
-of_script words held s k (OfFile e n) = cc
-of_script words held s k (OfLink e n) = cc
+of_script words held s k (OfFile e) = cc
+of_script words held s k (OfLink e) = cc
 of_script words held s k (OfScript e n) = n
 of_script words held s k (OfRun ends.Done e n) = cc
 of_script words held s k (OfRun ends.Fuel e n) = cc
 
 of_done : (words : List (List ℕ)) (held : List ℕ → Option (List ℕ)) (s : Status) → s ≡ Done → Came words held s → NamesRun words held ends.Done
-of_done words held s k (OfFile e n) = cc
-of_done words held s k (OfLink e n) = cc
+of_done words held s k (OfFile e) = cc
+of_done words held s k (OfLink e) = cc
 of_done words held s k (OfScript e n) = cc
 of_done words held s k (OfRun ends.Done e n) = n
 of_done words held s k (OfRun ends.Fuel e n) = cc
 
 of_fuel : (words : List (List ℕ)) (held : List ℕ → Option (List ℕ)) (s : Status) → s ≡ Fuel → Came words held s → NamesRun words held ends.Fuel
-of_fuel words held s k (OfFile e n) = cc
-of_fuel words held s k (OfLink e n) = cc
+of_fuel words held s k (OfFile e) = cc
+of_fuel words held s k (OfLink e) = cc
 of_fuel words held s k (OfScript e n) = cc
 of_fuel words held s k (OfRun ends.Done e n) = cc
 of_fuel words held s k (OfRun ends.Fuel e n) = n
 
-pub row_refused : (words : List (List ℕ)) (held : List ℕ → Option (List ℕ)) (f s : List ℕ) (a : Answer) → plain words ≡ Some (f, s)
-    → IfSome (held f) (λ bytes. IfSome (held s) (λ t. FileAnswers bytes t a)) → IsTold words held → (a.status ≡ Refused) ↔ NamesRefused words held
-row_refused words held f s a e h told =
-    let d = answered words held f s a e h told in (
-      λ k. of_refused words held a.status k (came words held a d),
-      λ n. ap (λ (b : Answer). b.status) (same_by_file words held a (refused_answer n.refusal) n.file n.script n.bytes d n.words_name n.holds (λ t. inl (n.refusal, n.refused, refl))),
-    )
+-- the outcome of words that name a graph and a script file
+graph_outcome : (words : List (List ℕ)) (held : List ℕ → Option (List ℕ)) (g : Graph) (t : List ℕ) (a : Answer) → NamesGraph words held g t → ScriptAnswers g t a → Outcome words held a
+graph_outcome words held g t a n h =
+    let script : HeldScriptAnswers g (held n.script) a = subst (λ (o : Option (List ℕ)). HeldScriptAnswers g o a) (sym n.holds_script) h in
+    let file : FileAnswers n.bytes a (λ g. HeldScriptAnswers g (held n.script) a) = inr (n.component, n.read, inr (g, n.linked, script)) in
+    let both : HeldAnswers (held n.file) (held n.script) a = subst (λ (o : Option (List ℕ)). HeldAnswers o (held n.script) a) (sym n.holds) file in
+    subst (λ (o : Option Command). MatchOption o (a ≡ usage_answer) (λ command. CommandAnswers command held a)) (sym n.words_name) both
 
-pub row_link_refused : (words : List (List ℕ)) (held : List ℕ → Option (List ℕ)) (f s : List ℕ) (a : Answer) → plain words ≡ Some (f, s)
-    → IfSome (held f) (λ bytes. IfSome (held s) (λ t. FileAnswers bytes t a)) → IsTold words held → (a.status ≡ LinkRefused) ↔ NamesLinkRefused words held
-row_link_refused words held f s a e h told =
-    let d = answered words held f s a e h told in (
-      λ k. of_link words held a.status k (came words held a d),
-      λ n. ap (λ (b : Answer). b.status) (same_by_file words held a (link_refused_answer n.fault) n.file n.script n.bytes d n.words_name n.holds (λ t. inr (n.component, n.read, inl (n.fault, n.refused, refl)))),
-    )
-
-pub row_script_refused : (words : List (List ℕ)) (held : List ℕ → Option (List ℕ)) (f s : List ℕ) (a : Answer) → plain words ≡ Some (f, s)
-    → IfSome (held f) (λ bytes. IfSome (held s) (λ t. FileAnswers bytes t a)) → IsTold words held → (a.status ≡ ScriptRefused) ↔ NamesScriptRefused words held
-row_script_refused words held f s a e h told =
-    let d = answered words held f s a e h told in (
-      λ k. of_script words held a.status k (came words held a d),
-      λ n. ap (λ (b : Answer). b.status) (same_by_graph words held a (script_refused_answer n.fault) n.graph n.text d n.named (inl (n.fault, n.refused, refl))),
-    )
+pub row_script_refused : (words : List (List ℕ)) (held : List ℕ → Option (List ℕ)) (command : Command) (a : Answer) → command_of words ≡ Some command → Outcome words held a → (a.status ≡ ScriptRefused) ↔ NamesScriptRefused words held
+row_script_refused words held command a e h =
+    (λ k. of_script words held a.status k (came words held command a e h), λ n. ap (λ (b : Answer). b.status) (one_answer words held a (script_refused_answer n.fault) h (graph_outcome words held n.graph n.text (script_refused_answer n.fault) n.named (inl (n.fault, n.refused, refl)))))
 
 -- the status of a run
-run_status : (words : List (List ℕ)) (held : List ℕ → Option (List ℕ)) (a : Answer) (end : End) → Answered words held a → NamesRun words held end → a.status ≡ status_of end
-run_status words held a end d n =
-    ap (λ (b : Answer). b.status) (same_by_graph words held a (run_answer n.labels end) n.graph n.text d n.named (inr (n.said, n.read_script, (n.labels, end, n.runs, refl))))
+run_status : (words : List (List ℕ)) (held : List ℕ → Option (List ℕ)) (a : Answer) (end : End) → Outcome words held a → NamesRun words held end → a.status ≡ status_of end
+run_status words held a end h n =
+    ap (λ (b : Answer). b.status) (one_answer words held a (run_answer n.labels end) h (graph_outcome words held n.graph n.text (run_answer n.labels end) n.named (inr (n.said, n.read_script, (n.labels, end, n.runs, refl)))))
 
-pub row_done : (words : List (List ℕ)) (held : List ℕ → Option (List ℕ)) (f s : List ℕ) (a : Answer) → plain words ≡ Some (f, s)
-    → IfSome (held f) (λ bytes. IfSome (held s) (λ t. FileAnswers bytes t a)) → IsTold words held → (a.status ≡ Done) ↔ NamesRun words held ends.Done
-row_done words held f s a e h told =
-    let d = answered words held f s a e h told in
-    (λ k. of_done words held a.status k (came words held a d), λ n. run_status words held a ends.Done d n)
+pub row_done : (words : List (List ℕ)) (held : List ℕ → Option (List ℕ)) (command : Command) (a : Answer) → command_of words ≡ Some command → Outcome words held a → (a.status ≡ Done) ↔ NamesRun words held ends.Done
+row_done words held command a e h = (λ k. of_done words held a.status k (came words held command a e h), λ n. run_status words held a ends.Done h n)
 
-pub row_fuel : (words : List (List ℕ)) (held : List ℕ → Option (List ℕ)) (f s : List ℕ) (a : Answer) → plain words ≡ Some (f, s)
-    → IfSome (held f) (λ bytes. IfSome (held s) (λ t. FileAnswers bytes t a)) → IsTold words held → (a.status ≡ Fuel) ↔ NamesRun words held ends.Fuel
-row_fuel words held f s a e h told =
-    let d = answered words held f s a e h told in
-    (λ k. of_fuel words held a.status k (came words held a d), λ n. run_status words held a ends.Fuel d n)
+pub row_fuel : (words : List (List ℕ)) (held : List ℕ → Option (List ℕ)) (command : Command) (a : Answer) → command_of words ≡ Some command → Outcome words held a → (a.status ≡ Fuel) ↔ NamesRun words held ends.Fuel
+row_fuel words held command a e h = (λ k. of_fuel words held a.status k (came words held command a e h), λ n. run_status words held a ends.Fuel h n)

@@ -1,8 +1,8 @@
 -- A script that is read for a component that is read and linked is sound.
-use Rattle.std.proofs.Common.{◌≡◌, ◌+◌, ◌<◌, ◌^◌, ℕ, zero, suc, Bool, true, false, cond, List, [], ◌∷◌, ◌++◌, length, Option, Some, None, Result, Ok, Err, refl, subst}
-use Rattle.std.specs.List.{slice_get, list_any, AllByRecursion}
+use Rattle.std.proofs.Common.{◌≡◌, ◌<◌, ◌^◌, ℕ, zero, suc, Bool, true, false, cond, List, [], ◌∷◌, ◌++◌, length, Option, Some, None, Result, Ok, Err, refl, subst}
+use Rattle.std.specs.Prelude.{is_none}
+use Rattle.std.specs.List.{slice_get, AllByRecursion}
 use Rattle.std.specs.Option.{option_map_or}
-use Rattle.std.specs.Str.{bytes_eq}
 use Rattle.wasm_reader.specs.declared.module.ModuleTree.{ModuleTree}
 use Rattle.wasm_valid.specs.Typing.{Typed}
 use Rattle.ca_types.specs.declared.types.ValType.{ValType}
@@ -22,16 +22,20 @@ use Rattle.script_reader.specs.declared.script.Item as said
 use Rattle.script_reader.specs.declared.script.Item.TheVariants as says
 use Rattle.script_reader.specs.Script.{AreOfTypes, param_types, CallsExport}
 use Rattle.script_reader.specs.Laws.{ScriptsCallExports}
-use Rattle.wcm.specs.declared.graph.CoreFunc.{CoreFunc}
-use Rattle.wcm.specs.declared.link_fault.LinkWhy.{LinkWhy}
-use Rattle.wcm.specs.declared.link_fault.LinkWhy.TheVariants as why
-use Rattle.wcm.specs.Linking.{Lifted, Spaces, Graph, no_spaces, with_core_instance, with_func, with_export, link_core_instance, link_exported, link_alias, with_closed, link_type, lift_to, link_lift, link_export, link_item, link_items, linked_on, linked_or, linked, exported, exports_of, ClosedType, Value, Func, all_within, labels_are_new, close_func, is_flat, core_type, IsCallable}
+use Rattle.comp_link.specs.declared.graph.CoreFunc.{CoreFunc}
+use Rattle.ca_base.specs.declared.placed.Placed.{Placed}
+use Rattle.comp_link.specs.declared.link_fault.LinkFault.{LinkFault}
+use Rattle.comp_link.specs.declared.link_fault.LinkWhy.{LinkWhy}
+use Rattle.comp_link.specs.declared.link_fault.LinkWhy.TheVariants as why
+use Rattle.ca_base.specs.Faults.{and_on, folded}
+use Rattle.ca_base.specs.Names.{first_twice, is_among}
+use Rattle.comp_link.specs.Linking.{Lifted, Spaces, Graph, no_spaces, with_core_instance, with_func, with_export, link_core_instance, link_exported, link_alias, with_closed, link_type, lift_to, link_lift, link_export, link_item, link_items, link_placed, linked_at, linked_or, linked, exported, exports_of, ClosedType, Value, Func, all_within, labels, names, close_func, is_flat, core_type, IsCallable}
 use Rattle.wcm.specs.Run.{lowered}
 use Rattle.wcm.specs.RunLaws.{Sound}
 use Rattle.wcm.specs.Laws.{ScriptsAreSound}
-use Rattle.wcm.proofs.Callable.{linked_callable}
+use Rattle.comp_link.proofs.Callable.{linked_callable}
 use Rattle.wcm.proofs.Calls.{call_sound}
-use Rattle.wcm.proofs.Modules.{ItemTyped, component_typed}
+use Rattle.wcm.proofs.Modules.{ItemTyped, PlacedTyped, component_typed}
 
 -- one more at the end
 all_push : {A : Type 0} (P : A → Type 0) (xs : List A) (x : A) → AllByRecursion P xs → P x → AllByRecursion P (xs ++ x ∷ [])
@@ -77,7 +81,7 @@ closed_keeps s (Some type) k = record { modules = k.modules; instances = k.insta
 type_keeps : (s : Spaces) (t : DefType) → Kept s → Keeps (link_type s t)
 type_keeps s (def_type.Value type) k = record { modules = k.modules; instances = k.instances }
 type_keeps s (def_type.Func type) k =
-    either_keeps (all_within (length s.types) type) _ _ (either_keeps (labels_are_new [] type.params) _ _ (closed_keeps s (close_func s.types type) k) tt) tt
+    either_keeps (all_within (length s.types) type) _ _ (either_keeps (is_none (first_twice (labels type.params))) _ _ (closed_keeps s (close_func s.types type) k) tt) tt
 
 to_keeps : (s : Spaces) (f : CoreFunc) (t : ClosedType) → Kept s → Keeps (lift_to s f t)
 to_keeps s f (Value type) k = tt
@@ -90,7 +94,7 @@ lift_keeps s (Some f) (Some type) k = to_keeps s f type k
 
 export_keeps : (s : Spaces) (name : List ℕ) (o : Option Lifted) → Kept s → Keeps (link_export s name o)
 export_keeps s name None k = tt
-export_keeps s name (Some f) k = either_keeps (list_any (λ e. bytes_eq e.name name) s.exports) (Err why.Typing) (Ok (with_export s name f)) tt (record { modules = k.modules; instances = k.instances })
+export_keeps s name (Some f) k = either_keeps (is_among name (names s.exports)) (Err why.Typing) (Ok (with_export s name f)) tt (record { modules = k.modules; instances = k.instances })
 
 item_keeps : (s : Spaces) (i : Item) → ItemTyped i → Kept s → Keeps (link_item s i)
 item_keeps s (item.CoreModule m) t k = record { modules = all_push Typed s.core_modules m k.modules t; instances = k.instances }
@@ -100,26 +104,30 @@ item_keeps s (item.Type type) t k = type_keeps s type k
 item_keeps s (item.Canon (Lift f type)) t k = lift_keeps s (slice_get s.core_funcs f) (slice_get s.types type) k
 item_keeps s (item.Export export) t k = export_keeps s export.name (slice_get s.funcs export.func) k
 
-abbrev AllKeep : Result Spaces (ℕ × LinkWhy) → Type 0
+abbrev AllKeep : Result Spaces LinkFault → Type 0
 AllKeep (Ok t) = Kept t
 AllKeep (Err e) = Unit {0}
 
-behind_keeps : (number : ℕ) (items : List Item) (r : Result Spaces LinkWhy) → ((t : Spaces) → Kept t → AllKeep (link_items t (number + 1) items)) → Keeps r → AllKeep (linked_on (λ t. link_items t (number + 1) items) number r)
-behind_keeps number items (Ok t) others k = others t k
-behind_keeps number items (Err why) others k = tt
+placed_keeps : (place : ℕ) (r : Result Spaces LinkWhy) → Keeps r → AllKeep (linked_at place r)
+placed_keeps place (Ok t) k = k
+placed_keeps place (Err why) k = tt
 
-items_keep : (s : Spaces) (number : ℕ) (items : List Item) → AllByRecursion ItemTyped items → Kept s → AllKeep (link_items s number items)
-items_keep s number [] t k = k
-items_keep s number (i ∷ items) t k = behind_keeps number items (link_item s i) (λ u h. items_keep u (number + 1) items t.1 h) (item_keeps s i t.0 k)
+behind_keeps : (items : List (Placed Item)) (r : Result Spaces LinkFault) → ((t : Spaces) → Kept t → AllKeep (link_items t items)) → AllKeep r → AllKeep (and_on r (λ t. folded link_placed t items))
+behind_keeps items (Ok t) others k = others t k
+behind_keeps items (Err e) others k = tt
 
-graph_keeps : (places : List ℕ) (r : Result Spaces (ℕ × LinkWhy)) (g : Graph) → AllKeep r → linked_or places r ≡ Ok g → AllByRecursion Typed g.instances
-graph_keeps places (Ok s) g k h =
+items_keep : (s : Spaces) (items : List (Placed Item)) → PlacedTyped items → Kept s → AllKeep (link_items s items)
+items_keep s [] t k = k
+items_keep s (i ∷ items) t k = behind_keeps items (link_placed s i) (λ u h. items_keep u items t.1 h) (placed_keeps i.place (link_item s i.item) (item_keeps s i.item t.0 k))
+
+graph_keeps : (r : Result Spaces LinkFault) (g : Graph) → AllKeep r → linked_or r ≡ Ok g → AllByRecursion Typed g.instances
+graph_keeps (Ok s) g k h =
     let same : record { instances = s.core_instances; exports = s.exports } ≡ g = cc in
     subst (λ (g : Graph). AllByRecursion Typed g.instances) same k.instances
-graph_keeps places (Err e) g k h = cc
+graph_keeps (Err e) g k h = cc
 
-instances_typed : (c : Component) (g : Graph) → AllByRecursion ItemTyped c.items → linked c ≡ Ok g → AllByRecursion Typed g.instances
-instances_typed c g t h = graph_keeps c.places (link_items no_spaces 0 c.items) g (items_keep no_spaces 0 c.items t (record { modules = tt; instances = tt })) h
+instances_typed : (c : Component) (g : Graph) → PlacedTyped c.items → linked c ≡ Ok g → AllByRecursion Typed g.instances
+instances_typed c g t h = graph_keeps (link_items no_spaces c.items) g (items_keep no_spaces c.items t (record { modules = tt; instances = tt })) h
 
 -- values of their types lower to words below 2^32
 small : (types : List ValType) (values : List passed.Value) → AreOfTypes types values → AllByRecursion (λ v. lowered v < 2 ^ 32) values

@@ -13,10 +13,11 @@ use Rattle.wasm_reader.specs.declared.module.ModuleTree.{ModuleTree}
 use Rattle.wasm_machine.specs.declared.store.Function.{Function}
 use Rattle.wasm_machine.specs.Store.{functions_of, function_of, type_or_empty}
 use Rattle.ca_types.specs.declared.types.FuncType.{FuncType}
-use Rattle.wcm.specs.declared.graph.CoreFunc.{CoreFunc}
-use Rattle.wcm.specs.Linking.{Lifted, Exported, Graph, type_at, core_type, is_i32, is_flat, result_count, flat_limit, LiftsCore, IsCallable}
+use Rattle.comp_link.specs.declared.graph.CoreFunc.{CoreFunc}
+use Rattle.comp_link.specs.Linking.{Lifted, Exported, Graph, type_at, core_type, is_i32, is_flat, result_count, flat_limit, LiftsCore, IsCallable}
 use Rattle.wcm.specs.Run.{store_of, address, func_named}
-use Rattle.wcm.proofs.Callable.{kept_at, found}
+use Rattle.comp_link.proofs.Callable.{kept_at}
+use Rattle.comp_link.proofs.Labelled.{found}
 
 -- what stands behind a list
 behind : {A : Type 0} (xs ys : List A) (j : ℕ) → slice_get (xs ++ ys) (length xs + j) ≡ slice_get ys j

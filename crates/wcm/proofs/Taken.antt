@@ -2,7 +2,7 @@
 use Rattle.std.proofs.Common.{◌≡◌, ℕ, List, [], length, refl, ap, sym, ◌∙◌, append-nil, Option, Some, None, Result, Ok, Err}
 use Rattle.std.proofs.Math.Seq.{take-length}
 use Rattle.std.specs.Result.{OnOk, OnErr}
-use Rattle.ca_base.specs.Bytes.{grown, TookFront}
+use Rattle.ca_io.specs.Bytes.{grown, TookFront}
 
 -- a text that was taken whole
 pub took_all : (before now : Option (List ℕ)) (text : List ℕ) → now ≡ grown before text → TookFront before now text

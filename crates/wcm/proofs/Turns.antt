@@ -4,7 +4,7 @@ use Rattle.wasm_machine.specs.Step.{Stack, Move, Goes, next, moved, move_at, got
 use Rattle.wasm_machine.specs.Step as core
 use Rattle.wcm.specs.declared.run.Label.{Label}
 use Rattle.wcm.specs.declared.run.End as run_end
-use Rattle.wcm.specs.Linking.{Graph}
+use Rattle.comp_link.specs.Linking.{Graph}
 use Rattle.wcm.specs.Run.{World, Task, Running, Steps, Ends, with_task, with_units, core_turn, turn, Runs}
 
 -- one step more in front

@@ -9,7 +9,7 @@ use Rattle.wasm_machine.proofs.Safety.{progress, preservation, words_append, zer
 use Rattle.ca_types.specs.declared.value.Value.{Value}
 use Rattle.wasm_reader.specs.declared.module.ValType.{ValType}
 use Rattle.wasm_reader.specs.Locals.{local_types, declared_locals}
-use Rattle.wcm.specs.Linking.{Lifted, Graph}
+use Rattle.comp_link.specs.Linking.{Lifted, Graph}
 use Rattle.script_reader.specs.declared.script.Call.{Call}
 use Rattle.script_reader.specs.declared.script.Item.{Item}
 use Rattle.script_reader.specs.declared.script.Item.TheVariants as item

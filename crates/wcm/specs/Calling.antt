@@ -12,8 +12,8 @@ use Rattle.wcm.specs.declared.run.Label.{Label}
 use Rattle.wcm.specs.declared.run.End.{End}
 use Rattle.wcm.specs.declared.run.End.TheVariants.{Fuel}
 use Rattle.wcm.specs.declared.calling.Instances.{Instances}
-use Rattle.wcm.specs.declared.graph.CoreFunc.{CoreFunc}
-use Rattle.wcm.specs.Linking.{Graph, Lifted, is_i32}
+use Rattle.comp_link.specs.declared.graph.CoreFunc.{CoreFunc}
+use Rattle.comp_link.specs.Linking.{Graph, Lifted, is_i32}
 use Rattle.wcm.specs.Run.{World, entered, store_of, address, func_named, Runs}
 
 -- the world before these items, where so many calls were taken and no task runs

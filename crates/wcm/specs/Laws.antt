@@ -1,20 +1,12 @@
 -- What holds of the definitions alone.
-use Rattle.std.specs.Prelude.{◌≡◌, ◌⊎◌, ℕ, List, Option}
+use Rattle.std.specs.Prelude.{◌≡◌, ℕ, List, Option}
 use Rattle.comp_reader.specs.declared.component.Component.{Component}
 use Rattle.comp_reader.specs.Binary.{IsComponent}
 use Rattle.script_reader.specs.Script.{Script, IsScript}
 use Rattle.wcm.specs.declared.answer.Answer.{Answer}
-use Rattle.wcm.specs.declared.link_fault.LinkFault.{LinkFault}
-use Rattle.wcm.specs.Linking.{Graph, exports_of, IsLinked, IsLinkRefused}
+use Rattle.comp_link.specs.Linking.{Graph, exports_of, IsLinked}
 use Rattle.wcm.specs.Outcome.{IsTold, Outcome}
 use Rattle.wcm.specs.RunLaws.{Sound}
-
--- A component is linked to exactly one graph, or is refused at exactly one place for exactly one reason.
-abbrev pub OneLinking : Type 0
-OneLinking =
-    (c : Component)
-    → ((g : Graph) × IsLinked c g × ((other : Graph) → IsLinked c other → other ≡ g) × ((fault : LinkFault) → IsLinkRefused c fault → ⊥))
-    ⊎ ((fault : LinkFault) × IsLinkRefused c fault × ((other : LinkFault) → IsLinkRefused c other → other ≡ fault) × ((g : Graph) → IsLinked c g → ⊥))
 
 -- A script that is read for a component that is read and linked is sound: so it has exactly one run (`specs/RunLaws`).
 abbrev pub ScriptsAreSound : Type 0

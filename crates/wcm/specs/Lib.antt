@@ -1,9 +1,7 @@
 pub mod Calling
+pub mod Gives
 pub mod Laws
-pub mod LinkErrors
-pub mod Linking
 pub mod Outcome
-pub mod Plain
 pub mod Refusals
 pub mod Run
 pub mod RunLaws

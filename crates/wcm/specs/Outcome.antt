@@ -1,6 +1,7 @@
--- The outcome of a call of the program, from its words and the files that are held: the words, the component file, its
--- linking, the script file and the run decide it, in this order.
-use Rattle.std.specs.Prelude.{◌≡◌, ◌<◌, ◌≤◌, ◌⊎◌, ℕ, List, [], length, Option, Some, None, IsSome}
+-- The outcome of a call of the program, from its words and the files that are held. The words lead to a command, and each
+-- command has its own steps: for `run` the component file, its linking, the script file and the run decide it, in this
+-- order. The script is asked for behind a linked graph alone.
+use Rattle.std.specs.Prelude.{◌≡◌, ◌<◌, ◌≤◌, ◌⊎◌, ℕ, List, [], length, Option, Some, IsSome}
 use Rattle.std.specs.Option.{MatchOption}
 use Rattle.ca_base.specs.declared.refusal.Refusal.{Refusal}
 use Rattle.comp_reader.specs.declared.component.Component.{Component}
@@ -9,17 +10,17 @@ use Rattle.comp_reader.specs.declared.fault.ComponentWhy.TheVariants.{Limit}
 use Rattle.comp_reader.specs.Binary.{IsComponent, IsRefused}
 use Rattle.script_reader.specs.declared.fault.ScriptFault.{ScriptFault}
 use Rattle.script_reader.specs.Script.{Script, IsScript, IsScriptRefused}
-use Rattle.wcm.specs.declared.link_fault.LinkFault.{LinkFault}
+use Rattle.comp_link.specs.declared.link_fault.LinkFault.{LinkFault}
 use Rattle.wcm.specs.declared.run.Label.{Label}
 use Rattle.wcm.specs.declared.run.End.{End}
 use Rattle.wcm.specs.declared.answer.Answer.{Answer}
 use Rattle.wcm.specs.declared.status.Status.TheVariants.{Usage, Refused, ScriptRefused, LinkRefused}
-use Rattle.wcm.specs.Linking.{Graph, exports_of, IsLinked, IsLinkRefused}
+use Rattle.comp_link.specs.Linking.{Graph, exports_of, IsLinked, IsLinkRefused}
 use Rattle.wcm.specs.Refusals.{refused_line, link_refused_line, script_refused_line}
 use Rattle.wcm.specs.Run.{first_world, Runs}
 use Rattle.wcm.specs.Status.{status_of}
 use Rattle.wcm.specs.Text.{trace_text}
-use Rattle.wcm.specs.Words.{plain}
+use Rattle.wcm.specs.Words.{Command, Run, command_of}
 
 -- how many bytes a component file may have: 16 MiB
 abbrev pub component_limit : ℕ
@@ -66,31 +67,55 @@ ScriptAnswers g text a =
     ((fault : ScriptFault) × IsScriptRefused (exports_of g) text fault × (a ≡ script_refused_answer fault))
     ⊎ ((script : Script) × IsScript (exports_of g) text script × RunAnswers g script a)
 
--- the answer for a component and the bytes of a script file
-abbrev pub LinkAnswers : Component → List ℕ → Answer → Type 0
-LinkAnswers c text a =
+-- the answer for a component: it is not linked, or the answer is what is said behind its graph
+abbrev pub LinkAnswers : Component → Answer → (Graph → Type 0) → Type 0
+LinkAnswers c a behind =
     ((fault : LinkFault) × IsLinkRefused c fault × (a ≡ link_refused_answer fault))
-    ⊎ ((g : Graph) × IsLinked c g × ScriptAnswers g text a)
+    ⊎ ((g : Graph) × IsLinked c g × behind g)
 
--- the answer for the bytes of a component file and of a script file
-abbrev pub FileAnswers : List ℕ → List ℕ → Answer → Type 0
-FileAnswers bytes text a =
+-- the answer for the bytes of a component file: they are refused, or the answer is that for their component
+abbrev pub FileAnswers : List ℕ → Answer → (Graph → Type 0) → Type 0
+FileAnswers bytes a behind =
     ((refusal : Refusal ComponentWhy) × IsRefusedFile bytes refusal × (a ≡ refused_answer refusal))
-    ⊎ ((c : Component) × IsComponentFile bytes c × LinkAnswers c text a)
+    ⊎ ((c : Component) × IsComponentFile bytes c × LinkAnswers c a behind)
 
--- the answer where both files are held
+-- the answer for a graph and what is held as the script file
+abbrev pub HeldScriptAnswers : Graph → Option (List ℕ) → Answer → Type 0
+HeldScriptAnswers g held_script a = MatchOption held_script ⊥ (λ text. ScriptAnswers g text a)
+
+-- the answer for what is held as the component file and as the script file
 abbrev pub HeldAnswers : Option (List ℕ) → Option (List ℕ) → Answer → Type 0
-HeldAnswers (Some bytes) (Some text) a = FileAnswers bytes text a
-HeldAnswers (Some bytes) None a = ⊥
-HeldAnswers None text a = ⊥
+HeldAnswers held_file held_script a = MatchOption held_file ⊥ (λ bytes. FileAnswers bytes a (λ g. HeldScriptAnswers g held_script a))
 
--- the outcome of words, where the files of these names are held
+-- the answer for a command, where these files are held
+abbrev pub CommandAnswers : Command → (List ℕ → Option (List ℕ)) → Answer → Type 0
+CommandAnswers (Run file script) held a = HeldAnswers (held file) (held script) a
+
+-- the outcome of words, where these files are held
 abbrev pub Outcome : List (List ℕ) → (List ℕ → Option (List ℕ)) → Answer → Type 0
-Outcome words held a = MatchOption (plain words) (a ≡ usage_answer) (λ p. HeldAnswers (held p.0) (held p.1) a)
+Outcome words held a = MatchOption (command_of words) (a ≡ usage_answer) (λ command. CommandAnswers command held a)
 
--- the files that the words name are told
+-- the bytes of a component file decide the answer: they are refused, or their component is not linked
+abbrev pub DecidesAlone : List ℕ → Type 0
+DecidesAlone bytes =
+    ((refusal : Refusal ComponentWhy) × IsRefusedFile bytes refusal)
+    ⊎ ((c : Component) × (fault : LinkFault) × IsComponentFile bytes c × IsLinkRefused c fault)
+
+-- the files that a command asks for are told: the component file, and the script file unless that one decides the answer
+abbrev pub IsCommandTold : Command → (List ℕ → Option (List ℕ)) → Type 0
+IsCommandTold (Run file script) held = MatchOption (held file) ⊥ (λ bytes. DecidesAlone bytes ⊎ IsSome (held script))
+
+-- the files that the words ask for are told
 abbrev pub IsTold : List (List ℕ) → (List ℕ → Option (List ℕ)) → Type 0
-IsTold words held = MatchOption (plain words) (Unit {0}) (λ p. IsSome (held p.0) × IsSome (held p.1))
+IsTold words held = MatchOption (command_of words) (Unit {0}) (λ command. IsCommandTold command held)
+
+-- the component file that a command names
+abbrev pub component_file : Command → List ℕ
+component_file (Run file script) = file
+
+-- the component file that the words name is told
+abbrev pub IsComponentTold : List (List ℕ) → (List ℕ → Option (List ℕ)) → Type 0
+IsComponentTold words held = MatchOption (command_of words) (Unit {0}) (λ command. IsSome (held (component_file command)))
 
 -- the words name a component file that is refused
 pub record NamesRefused (words : List (List ℕ)) (held : List ℕ → Option (List ℕ)) : Type 0 where
@@ -98,7 +123,7 @@ pub record NamesRefused (words : List (List ℕ)) (held : List ℕ → Option (L
   pub script : List ℕ
   pub bytes : List ℕ
   pub refusal : Refusal ComponentWhy
-  pub words_name : plain words ≡ Some (file, script)
+  pub words_name : command_of words ≡ Some (Run file script)
   pub holds : held file ≡ Some bytes
   pub refused : IsRefusedFile bytes refusal
 
@@ -109,7 +134,7 @@ pub record NamesLinkRefused (words : List (List ℕ)) (held : List ℕ → Optio
   pub bytes : List ℕ
   pub component : Component
   pub fault : LinkFault
-  pub words_name : plain words ≡ Some (file, script)
+  pub words_name : command_of words ≡ Some (Run file script)
   pub holds : held file ≡ Some bytes
   pub read : IsComponentFile bytes component
   pub refused : IsLinkRefused component fault
@@ -120,7 +145,7 @@ pub record NamesGraph (words : List (List ℕ)) (held : List ℕ → Option (Lis
   pub script : List ℕ
   pub bytes : List ℕ
   pub component : Component
-  pub words_name : plain words ≡ Some (file, script)
+  pub words_name : command_of words ≡ Some (Run file script)
   pub holds : held file ≡ Some bytes
   pub read : IsComponentFile bytes component
   pub linked : IsLinked component g

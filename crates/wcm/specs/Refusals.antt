@@ -14,9 +14,9 @@ use Rattle.comp_reader.specs.declared.fault.ComponentWhy.TheVariants.{Truncated,
 use Rattle.script_reader.specs.declared.fault.ScriptWhy.{ScriptWhy}
 use Rattle.script_reader.specs.declared.fault.ScriptWhy.TheVariants as script
 use Rattle.script_reader.specs.declared.fault.ScriptFault.{ScriptFault}
-use Rattle.wcm.specs.declared.link_fault.LinkWhy.{LinkWhy}
-use Rattle.wcm.specs.declared.link_fault.LinkWhy.TheVariants as link
-use Rattle.wcm.specs.declared.link_fault.LinkFault.{LinkFault}
+use Rattle.comp_link.specs.declared.link_fault.LinkWhy.{LinkWhy}
+use Rattle.comp_link.specs.declared.link_fault.LinkWhy.TheVariants as link
+use Rattle.comp_link.specs.declared.link_fault.LinkFault.{LinkFault}
 use Rattle.wcm.specs.Text.{line, name_text}
 
 -- a reason's name with its argument

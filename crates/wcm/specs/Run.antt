@@ -12,8 +12,8 @@ use Rattle.wasm_machine.specs.Store.{functions_of, locals_of, body_of, first_loc
 use Rattle.wasm_reader.specs.declared.module.ModuleTree.{ModuleTree}
 use Rattle.ca_types.specs.declared.value.Value.{Value}
 use Rattle.ca_types.specs.declared.value.Value.TheVariants.{U32}
-use Rattle.wcm.specs.declared.graph.CoreFunc.{CoreFunc}
-use Rattle.wcm.specs.Linking.{Lifted, Graph}
+use Rattle.comp_link.specs.declared.graph.CoreFunc.{CoreFunc}
+use Rattle.comp_link.specs.Linking.{Lifted, Graph}
 use Rattle.script_reader.specs.declared.script.Call.{Call}
 use Rattle.script_reader.specs.declared.script.Item.{Item}
 use Rattle.script_reader.specs.declared.script.Item.TheVariants as item

@@ -14,7 +14,7 @@ use Rattle.wcm.specs.declared.run.Label.{Label}
 use Rattle.wcm.specs.declared.run.End.{End}
 use Rattle.wcm.specs.declared.run.End.TheVariants.{Done, Fuel}
 use Rattle.wcm.specs.Run.{World, Steps, Ends, store_of, address, func_named, lowered, turn, first_world, Reaches, Runs}
-use Rattle.wcm.specs.Linking.{Lifted, Graph}
+use Rattle.comp_link.specs.Linking.{Lifted, Graph}
 
 -- A call of a graph's function: an export has the name, its core function is there and typed, and the values lower to
 -- words of its parameters.

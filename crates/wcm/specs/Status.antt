@@ -63,3 +63,17 @@ IsAnswered ReadFault = ⊥
 IsAnswered WriteFault = ⊥
 IsAnswered Memory = ⊥
 IsAnswered LinkRefused = Unit {0}
+
+-- a status that the script file and the run decide, behind a linked graph
+abbrev pub IsBehindGraph : Status → Type 0
+IsBehindGraph Done = Unit {0}
+IsBehindGraph Trap = ⊥
+IsBehindGraph Usage = ⊥
+IsBehindGraph Refused = ⊥
+IsBehindGraph ScriptRefused = Unit {0}
+IsBehindGraph Deadlock = ⊥
+IsBehindGraph Fuel = Unit {0}
+IsBehindGraph ReadFault = ⊥
+IsBehindGraph WriteFault = ⊥
+IsBehindGraph Memory = ⊥
+IsBehindGraph LinkRefused = ⊥

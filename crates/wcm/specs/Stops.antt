@@ -1,6 +1,6 @@
 -- Why a call of the program has no answer.
 use Rattle.std.specs.Prelude.{◌≡◌, ℕ, Result, Ok, Err}
-use Rattle.ca_base.specs.Causes.{Rose}
+use Rattle.ca_io.specs.Causes.{Rose}
 use Rattle.wcm.specs.declared.answer.Stop.{Stop}
 use Rattle.wcm.specs.declared.answer.Stop.TheVariants.{Fault, Memory}
 

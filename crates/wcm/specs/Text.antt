@@ -4,6 +4,7 @@ use Rattle.std.specs.List.{flat_map}
 use Rattle.std.specs.Fmt.{decimal}
 use Rattle.std.specs.Char.Escape.{escape_unicode}
 use Rattle.std.specs.Str.{chars}
+use Rattle.ca_base.specs.Texts.{separated}
 use Rattle.ca_types.specs.declared.value.Value.{Value}
 use Rattle.ca_types.specs.declared.value.Value.TheVariants.{U32}
 use Rattle.wcm.specs.declared.run.Label.{Label}
@@ -28,9 +29,7 @@ value_text (U32 n) = decimal n
 
 -- values with a comma and a space between them
 abbrev pub values_text : List Value → List ℕ
-values_text [] = []
-values_text (v ∷ []) = value_text v
-values_text (v ∷ w ∷ more) = value_text v ++ codes ", " ++ values_text (w ∷ more)
+values_text values = separated (codes ", ") value_text values
 
 abbrev pub task_text : ℕ → List ℕ
 task_text number = codes "T" ++ decimal number

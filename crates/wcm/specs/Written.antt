@@ -1,6 +1,6 @@
 -- What stands in the output and the error output after an answer was to be written.
-use Rattle.std.specs.Prelude.{◌≡◌, ℕ, List, Option}
-use Rattle.ca_base.specs.Bytes.{grown, TookFront}
+use Rattle.std.specs.Prelude.{◌≡◌, ◌⊎◌, ℕ, List, Option}
+use Rattle.ca_io.specs.Bytes.{grown, TookFront}
 use Rattle.wcm.specs.declared.answer.Answer.{Answer}
 
 -- both texts, and nothing else
@@ -12,3 +12,8 @@ pub record WroteAll (a : Answer) (out_before out_now err_before err_now : Option
 pub record WroteFront (a : Answer) (out_before out_now err_before err_now : Option (List ℕ)) : Type 0 where
   pub out : TookFront out_before out_now a.out
   pub err : TookFront err_before err_now a.err
+
+-- a front of the first text, and nothing else; a front of the second text or of this line, and nothing else
+pub record WroteFrontOrLine (a : Answer) (line : List ℕ) (out_before out_now err_before err_now : Option (List ℕ)) : Type 0 where
+  pub out : TookFront out_before out_now a.out
+  pub err : TookFront err_before err_now a.err ⊎ TookFront err_before err_now line

@@ -2,7 +2,7 @@
 
 ghost use Rattle.std.specs.Prelude.{◌≤◌, length, IfOk, None};
 
-use ca_base::{Failed, Files, Sink};
+use ca_io::{Failed, Files, Sink};
 use std::io::{Read, Seek, SeekFrom, Stderr, Stdout};
 use std::{fs, io};
 

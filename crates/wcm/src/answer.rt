@@ -3,24 +3,25 @@
 ghost use Rattle.std.specs.Prelude.{◌≡◌, ℕ, List, [], IfOk, IfSome, MatchResult};
 ghost use Rattle.std.specs.List.{AllByRecursion};
 ghost use Rattle.script_reader.specs.Script.{IsScript, IsScriptRefused, CallsExport};
-ghost use Rattle.wcm.specs.Linking as linking;
-ghost use Rattle.wcm.specs.Linking.{IsCallable};
-ghost use Rattle.wcm.specs.Outcome.{FileAnswers, LinkAnswers, ScriptAnswers, RunAnswers, IsComponentFile, IsRefusedFile};
+ghost use Rattle.comp_link.specs.Linking as linking;
+ghost use Rattle.comp_link.specs.Linking.{IsCallable};
+ghost use Rattle.wcm.specs.Gives.{CommandGives, GraphGives};
+ghost use Rattle.wcm.specs.Outcome.{FileAnswers, LinkAnswers, RunAnswers, IsComponentFile, IsRefusedFile};
 ghost use Rattle.wcm.specs.Stops.{StopsFor};
-ghost use Rattle.wcm.specs.Status.{IsAnswered};
+ghost use Rattle.wcm.specs.Status.{IsAnswered, IsBehindGraph};
+ghost use Rattle.wcm.specs.Words.{said};
 
 use crate::calling::run_script;
-use crate::exports::exports_of;
-use crate::graph::Graph;
-use crate::link_fault::LinkError;
-use crate::linking::link;
 use crate::refusals::{link_refused_line, refused_line, script_refused_line};
 use crate::status::{Status, status_of_end};
 use crate::trace_text::trace_text;
-use ca_base::{Bytes, FileError, Files, Memory, ReadError, Refusal, Seq, read_all};
+use crate::words::Command;
+use ca_base::{Bytes, Memory, MemoryOr, Refusal, Seq};
+use ca_io::{FileError, Files, read_all};
 use ca_types::Exports;
+use comp_link::{Graph, exports_of, link};
 use comp_reader::{Component, ComponentWhy, read_component};
-use script_reader::{Script, ScriptError, ScriptFault, ScriptWhy, read_script};
+use script_reader::{Script, ScriptFault, ScriptWhy, read_script};
 use std::alloc::{AllocError, Global};
 
 /// What a call of the program answers.
@@ -99,8 +100,8 @@ fn component_of<F: Files>(
     };
     match read_component(alloc, bytes.as_slice()) {
         Ok(component) => Ok(Ok(component)),
-        Err(ReadError::Refused(refusal)) => Ok(Err(refusal)),
-        Err(ReadError::Memory) => Err(Stop::Memory),
+        Err(MemoryOr::Fault(refusal)) => Ok(Err(refusal)),
+        Err(MemoryOr::Memory) => Err(Stop::Memory),
     }
 }
 
@@ -124,8 +125,8 @@ fn script_of<F: Files>(
     };
     match read_script(alloc, bytes.as_slice(), exports) {
         Ok(script) => Ok(Ok(script)),
-        Err(ScriptError::Fault(fault)) => Ok(Err(fault)),
-        Err(ScriptError::Memory) => Err(Stop::Memory),
+        Err(MemoryOr::Fault(fault)) => Ok(Err(fault)),
+        Err(MemoryOr::Memory) => Err(Stop::Memory),
     }
 }
 
@@ -145,7 +146,7 @@ fn run_answer(alloc: Global, graph: &Graph, script: &Script) -> Result<Answer, M
     requires callable { IsCallable graph.now }
     requires calls { AllByRecursion (CallsExport (linking.exports_of graph.now)) script.now.items }
     ensures run { IfOk result (λ a. RunAnswers graph.now script.now a) }
-    ensures status { IfOk result (λ a. IsAnswered a.status) }
+    ensures status { IfOk result (λ a. IsBehindGraph a.status) }
 {
     let run = run_script(alloc, graph, script)?;
     let out = trace_text(alloc, run.labels.as_slice(), run.end)?;
@@ -164,8 +165,7 @@ fn script_answer<F: Files>(
     files: &mut F,
 ) -> Result<Answer, Stop>
     requires { IsCallable graph.now }
-    ensures file { IfSome (F.held files.old script.now) (λ text. IfOk result (λ a. ScriptAnswers graph.now text a)) }
-    ensures status { IfOk result (λ a. IsAnswered a.status) }
+    ensures file { IfOk result (λ a. GraphGives graph.now (F.held files.old script.now) a) }
     ensures same { (other : List ℕ) → F.held files.new other ≡ F.held files.old other }
     ensures cause { StopsFor (F.faults files.old) (F.faults files.new) result }
 {
@@ -186,30 +186,29 @@ fn link_answer<F: Files>(
     script: &str,
     files: &mut F,
 ) -> Result<Answer, Stop>
-    ensures file { IfSome (F.held files.old script.now) (λ text. IfOk result (λ a. LinkAnswers component.now text a)) }
+    ensures file { IfOk result (λ a. LinkAnswers component.now a (λ g. GraphGives g (F.held files.old script.now) a)) }
     ensures status { IfOk result (λ a. IsAnswered a.status) }
     ensures same { (other : List ℕ) → F.held files.new other ≡ F.held files.old other }
     ensures cause { StopsFor (F.faults files.old) (F.faults files.new) result }
 {
     match link(alloc, component) {
         Ok(graph) => script_answer(alloc, &graph, script, files),
-        Err(LinkError::Memory) => Err(Stop::Memory),
-        Err(LinkError::Fault(fault)) => {
+        Err(MemoryOr::Memory) => Err(Stop::Memory),
+        Err(MemoryOr::Fault(fault)) => {
             let line = link_refused_line(alloc, &fault)?;
             Ok(refusal(alloc, Status::LinkRefused, line))
         }
     }
 }
 
-/// The answer for the files of these names: the component file is read first, and the script file where that is a
-/// component that is linked.
-pub fn answer_of<F: Files>(
+/// The answer of `run`: the component file is read first, and the script file where that is a component that is linked.
+fn file_answer<F: Files>(
     alloc: Global,
     file: &str,
     script: &str,
     files: &mut F,
 ) -> Result<Answer, Stop>
-    ensures files { IfSome (F.held files.old file.now) (λ bytes. IfSome (F.held files.old script.now) (λ text. IfOk result (λ a. FileAnswers bytes text a))) }
+    ensures file { IfSome (F.held files.old file.now) (λ bytes. IfOk result (λ a. FileAnswers bytes a (λ g. GraphGives g (F.held files.old script.now) a))) }
     ensures status { IfOk result (λ a. IsAnswered a.status) }
     ensures same { (other : List ℕ) → F.held files.new other ≡ F.held files.old other }
     ensures cause { StopsFor (F.faults files.old) (F.faults files.new) result }
@@ -220,5 +219,17 @@ pub fn answer_of<F: Files>(
             let line = refused_line(alloc, refused)?;
             Ok(refusal(alloc, Status::Refused, line))
         }
+    }
+}
+
+/// The answer for a command.
+pub fn answer_of<F: Files>(alloc: Global, command: Command, files: &mut F) -> Result<Answer, Stop>
+    ensures files { IfOk result (λ a. CommandGives (said command.entry) (F.held files.old) a) }
+    ensures status { IfOk result (λ a. IsAnswered a.status) }
+    ensures same { (other : List ℕ) → F.held files.new other ≡ F.held files.old other }
+    ensures cause { StopsFor (F.faults files.old) (F.faults files.new) result }
+{
+    match command {
+        Command::Run { file, script } => file_answer(alloc, file, script, files),
     }
 }

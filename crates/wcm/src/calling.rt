@@ -1,22 +1,20 @@
 //! Runs of scripts over the functions that a component exports.
 
-ghost use Rattle.std.specs.Prelude.{◌≡◌, ◌<◌, ◌+◌, ◌^◌, ◌++◌, [], ◌∷◌, length, map, find, slice_index, Some, None, MatchOption, IfOk, OnOk};
+ghost use Rattle.std.specs.Prelude.{◌≡◌, ◌<◌, ◌+◌, ◌^◌, ◌++◌, [], ◌∷◌, length, map, slice_index, IfOk, OnOk};
 ghost use Rattle.std.specs.List.{AllByRecursion};
-ghost use Rattle.std.specs.Option.{option_map};
-ghost use Rattle.std.specs.Str.{bytes_eq};
 ghost use Rattle.wasm_reader.specs.declared.module.ValType.TheVariants.{I32};
 ghost use Rattle.wasm_machine.specs.Step.{AreWords};
 ghost use Rattle.wasm_machine.specs.Store.{functions_of};
 ghost use Rattle.script_reader.specs.Script.{CallsExport};
-ghost use Rattle.wcm.specs.Linking.{exports_of, IsCallable};
-ghost use Rattle.wcm.specs.Plain.{plain_func};
-ghost use Rattle.wcm.specs.Run.{func_named, lowered, lifted, first_world, Runs};
+ghost use Rattle.comp_link.specs.Linking.{exports_of, IsCallable};
+ghost use Rattle.wcm.specs.Run.{lowered, lifted, first_world, Runs};
 ghost use Rattle.wcm.specs.Calling.{AreMade, Calls, CoreGives, ItemRuns};
 
-use crate::graph::{CoreFunc, Exported, Graph, Lifted};
+use crate::named_graph::NamedGraph;
 use crate::run::{End, Label};
 use ca_base::{Fuel, Memory, Name, Seq};
 use ca_types::{Value, Values};
+use comp_link::{CoreFunc, Graph};
 use script_reader::{Call, Item, Script};
 use std::alloc::Global;
 use wasm_machine::{Outcome, Store, Words, run, start};
@@ -47,7 +45,17 @@ pub fn run_script(alloc: Global, graph: &Graph, script: &Script) -> Result<Run, 
     requires calls { AllByRecursion (CallsExport (exports_of graph.now)) script.now.items }
     ensures { IfOk result (λ r. Runs graph.now (first_world script.now) r.labels r.end) }
 {
-    let mut instances = instantiated(alloc, &graph.instances)?;
+    let named = NamedGraph::new(alloc, graph)?;
+    run_items(alloc, &named, script)
+}
+
+/// Runs the items of a script, as `run_script` does.
+fn run_items(alloc: Global, graph: &NamedGraph, script: &Script) -> Result<Run, Memory>
+    requires callable { IsCallable graph.now }
+    requires calls { AllByRecursion (CallsExport (exports_of graph.now)) script.now.items }
+    ensures { IfOk result (λ r. Runs graph.now (first_world script.now) r.labels r.end) }
+{
+    let mut instances = instantiated(alloc, graph.instances())?;
     let mut left = Fuel::new(u64::from(script.fuel()));
     let mut labels = Seq::new(alloc);
     let mut number = 0;
@@ -78,7 +86,7 @@ pub fn run_script(alloc: Global, graph: &Graph, script: &Script) -> Result<Run, 
 /// is wanting.
 fn run_item(
     alloc: Global,
-    graph: &Graph,
+    graph: &NamedGraph,
     item: &Item,
     number: u32,
     instances: &mut Instances,
@@ -99,7 +107,7 @@ fn run_item(
 /// Runs the call of this number, as `run_item` does.
 fn run_call(
     alloc: Global,
-    graph: &Graph,
+    graph: &NamedGraph,
     call: &Call,
     number: u32,
     instances: &mut Instances,
@@ -126,29 +134,12 @@ fn run_call(
 }
 
 /// The core function of the function that a call names.
-fn called(graph: &Graph, call: &Call) -> CoreFunc
+fn called(graph: &NamedGraph, call: &Call) -> CoreFunc
     requires callable { IsCallable graph.now }
     requires calls { CallsExport (exports_of graph.now) (Item.Call call.now) }
     ensures { Calls graph.now call.now result }
 {
-    func_named(graph, call.name.as_str()).unwrap().core
-}
-
-/// The function that is exported under a name.
-fn func_named<'a>(graph: &Graph<'a>, name: &str) -> Option<Lifted<'a>>
-    ensures { MatchOption result (func_named graph.now name.now ≡ None) (λ l. func_named graph.now name.now ≡ Some (record { core = l.core; func_type = plain_func l.func_type.now })) }
-{
-    find_func(&graph.exports, name)
-}
-
-/// The function of the first of these exports that has the name.
-fn find_func<'a>(exports: &[Exported<'a>], name: &str) -> Option<Lifted<'a>>
-    ensures { result ≡ option_map (λ e. e.func) (find (λ e. bytes_eq e.name.now name.now) exports.now) }
-{
-    exports
-        .iter()
-        .find(|export| export.name.as_str() == name)
-        .map(|export| export.func)
+    graph.func(call.name.as_str()).unwrap().core
 }
 
 /// Appends the lines of a call before its core function runs.
@@ -246,7 +237,7 @@ fn add_instance(alloc: Global, valid: &Valid, store: &mut Store) -> Result<usize
 /// Runs the core function of a call, and answers the words with which it ends, or `None` where fuel is wanting.
 fn run_core(
     alloc: Global,
-    graph: &Graph,
+    graph: &NamedGraph,
     call: &Call,
     instances: &mut Instances,
     left: &mut Fuel,

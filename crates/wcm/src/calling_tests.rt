@@ -1,23 +1,77 @@
-//! Calls of the component whose one function adds two numbers, with more and more fuel.
+//! Runs of the component whose one function adds two numbers, with more and more fuel, and the laws.
 
-use crate::calling::{Run, run_script};
-use crate::exports::exports_of;
-use crate::linking::link;
-use crate::run::{End, Label};
+use crate::calling::run_script;
+use crate::tests_cases::{bytes_of, push_line};
+use crate::top_tests_cases::ADD;
+use crate::trace_text::trace_text;
 use crate::{laws, run_laws};
-use ca_types::Value;
+use ca_base::Bytes;
+use comp_link::{exports_of, link, one_linking};
 use comp_reader::read_component;
 use script_reader::read_script;
 use std::alloc::Global;
 use std::test::Fail;
 
-/// The component.
-const ADD: &[u8] =
-    b"\0asm\x0d\0\x01\0\x01\x29\0asm\x01\0\0\0\x01\x07\x01\x60\x02\x7f\x7f\x01\x7f\x03\x02\x01\0\x07\x07\x01\x03add\0\0\x0a\x09\x01\x07\0\x20\0\x20\x01\x6a\x0b\x02\x04\x01\0\0\0\x06\x09\x01\0\0\x01\0\x03add\x07\x0b\x01\x40\x02\x01a\x79\x01b\x79\0\x79\x08\x06\x01\0\0\0\0\0\x0b\x09\x01\0\x03add\x01\0\0";
+/// A case is some lines up to an empty one: those of the script behind `>`, and those of its run's trace.
+const CASES: &str = "
+done
 
-/// The run of a script.
-fn run_of(alloc: Global, script: &str) -> Result<Option<Run>, Fail> {
-    let component = read_component(alloc, ADD)?;
+> fuel 3
+> call add (2, 3)
+take 1 T1 add (2, 3)
+enter T1
+fuel
+
+> fuel 4
+> call add (2, 3)
+take 1 T1 add (2, 3)
+enter T1
+return T1 (5)
+exit T1
+done
+
+> fuel 4
+> call add (2, 3)
+> call add (7, 8)
+take 1 T1 add (2, 3)
+enter T1
+return T1 (5)
+exit T1
+fuel
+
+> fuel 5
+> call add (2, 3)
+> call add (7, 8)
+take 1 T1 add (2, 3)
+enter T1
+return T1 (5)
+exit T1
+take 2 T2 add (7, 8)
+enter T2
+fuel
+
+> fuel 8
+> call add (2, 3)
+> call add (7, 8)
+take 1 T1 add (2, 3)
+enter T1
+return T1 (5)
+exit T1
+take 2 T2 add (7, 8)
+enter T2
+return T2 (15)
+exit T2
+done
+
+";
+
+/// How many cases there are.
+const COUNT: u32 = 6;
+
+/// The text of the run of a script, or `None` where the component or the script is refused.
+fn trace_of(alloc: Global, script: &str) -> Result<Option<Bytes>, Fail> {
+    let bytes = bytes_of(alloc, ADD)?;
+    let component = read_component(alloc, &bytes)?;
     let Ok(graph) = link(alloc, &component) else {
         return Ok(None);
     };
@@ -25,60 +79,35 @@ fn run_of(alloc: Global, script: &str) -> Result<Option<Run>, Fail> {
     let Ok(script) = read_script(alloc, script.as_bytes(), &exports) else {
         return Ok(None);
     };
-    Ok(Some(run_script(alloc, &graph, &script)?))
-}
-
-/// A line as numbers: its kind, its call or its task, and its result or its first argument.
-fn numbers_of(label: &Label) -> (u8, u32, Option<Value>) {
-    match label {
-        Label::Take {
-            call,
-            task: _,
-            name: _,
-            values,
-        } => (0, *call, values.as_slice().first().copied()),
-        Label::Enter(task) => (1, *task, None),
-        Label::Return(task, result) => (2, *task, *result),
-        Label::Exit(task) => (3, *task, None),
-    }
+    let run = run_script(alloc, &graph, &script)?;
+    Ok(Some(trace_text(alloc, run.labels.as_slice(), run.end)?))
 }
 
 #[test]
 fn calls_run_as_far_as_their_fuel(rt: HostRuntime) -> Result<(), Fail> {
-    laws::one_linking();
+    one_linking();
     laws::scripts_are_sound();
     laws::one_outcome();
     run_laws::one_next();
     run_laws::one_run();
     run_laws::each_run_ends();
-    let lines = [
-        (0, 1, Some(Value::U32(2))),
-        (1, 1, None),
-        (2, 1, Some(Value::U32(5))),
-        (3, 1, None),
-        (0, 2, Some(Value::U32(7))),
-        (1, 2, None),
-        (2, 2, Some(Value::U32(15))),
-        (3, 2, None),
-    ];
-    for (script, count, end) in [
-        ("", 0, End::Done),
-        ("fuel 3\ncall add (2, 3)", 2, End::Fuel),
-        ("fuel 4\ncall add (2, 3)", 4, End::Done),
-        ("fuel 4\ncall add (2, 3)\ncall add (7, 8)", 4, End::Fuel),
-        ("fuel 5\ncall add (2, 3)\ncall add (7, 8)", 6, End::Fuel),
-        ("fuel 8\ncall add (2, 3)\ncall add (7, 8)", 8, End::Done),
-    ] {
-        match run_of(rt.alloc(), script)? {
-            Some(run) => {
-                assert_eq!(rt; run.labels.len(), count, "at {script}");
-                assert_eq!(rt; run.end, end, "at {script}");
-                for (label, line) in run.labels.as_slice().iter().zip(lines) {
-                    assert_eq!(rt; numbers_of(label), line, "at {script}");
-                }
-            }
-            None => assert!(rt; false, "no call at {script}"),
+    let alloc = rt.alloc();
+    let mut script = String::new(alloc);
+    let mut wanted = String::new(alloc);
+    let mut count: u32 = 0;
+    for line in CASES.lines() {
+        if let Some(line) = line.strip_prefix("> ") {
+            push_line(line, &mut script)?;
+        } else if !line.is_empty() {
+            push_line(line, &mut wanted)?;
+        } else if !wanted.is_empty() {
+            count = count.saturating_add(1);
+            let trace = trace_of(alloc, script.as_str())?.ok_or("refused")?;
+            assert_eq!(rt; trace.as_slice(), wanted.as_bytes(), "case {count}");
+            script.clear();
+            wanted.clear();
         }
     }
+    assert_eq!(rt; count, COUNT);
     Ok(())
 }

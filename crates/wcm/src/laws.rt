@@ -1,15 +1,10 @@
 //! What holds of the definitions alone.
 
-ghost use Rattle.wcm.specs.Laws.{OneLinking, ScriptsAreSound, OneOutcome};
+ghost use Rattle.wcm.specs.Laws.{ScriptsAreSound, OneOutcome};
 
 use crate::run_laws::each_run_ends;
 use comp_reader::one_reading;
 use script_reader::scripts_call_exports;
-
-/// A component is linked to exactly one graph, or is refused at exactly one place for exactly one reason.
-pub fn one_linking()
-    ensures { OneLinking }
-{}
 
 /// A script that is read for a component that is read and linked is sound.
 pub fn scripts_are_sound()

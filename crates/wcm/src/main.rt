@@ -6,29 +6,29 @@ mod answer;
 mod calling;
 #[cfg(test)]
 mod calling_tests;
-mod exports;
-mod graph;
 mod laws;
-mod link_fault;
-mod linking;
 mod name_text;
+mod named_graph;
 mod refusals;
 #[cfg(test)]
 mod refusals_tests;
 mod run;
 mod run_laws;
-mod spaces;
 mod status;
+#[cfg(test)]
+mod tests_cases;
 mod top;
 #[cfg(test)]
 mod top_tests;
+#[cfg(test)]
+mod top_tests_cases;
 mod trace_text;
 #[cfg(test)]
 mod trace_text_tests;
 mod words;
 
 use adapters::{Stream, SystemFiles};
-use status::Status;
+use status::{Status, exit_code};
 use std::env;
 use std::io::ErrorKind;
 use std::process::ExitCode;
@@ -55,5 +55,5 @@ fn run_command(rt: &HostRuntime) -> Status {
 }
 
 fn main(rt: HostRuntime) -> ExitCode {
-    ExitCode::from(run_command(&rt).code())
+    exit_code(run_command(&rt))
 }

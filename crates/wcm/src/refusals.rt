@@ -5,9 +5,9 @@ ghost use Rattle.std.specs.Fmt.{decimal};
 ghost use Rattle.wcm.specs.Refusals.{with_argument, byte_text, module_why_text, valid_why_text, component_why_text, link_why_text, script_why_text, refused_line, link_refused_line, script_refused_line};
 ghost use Rattle.wcm.specs.Text.{name_text};
 
-use crate::link_fault::{LinkFault, LinkWhy};
 use crate::name_text::push_name;
 use ca_base::{Bytes, Memory, Name, Refusal, Seq};
+use comp_link::{LinkFault, LinkWhy};
 use comp_reader::ComponentWhy;
 use script_reader::{ScriptFault, ScriptWhy};
 use std::alloc::Global;

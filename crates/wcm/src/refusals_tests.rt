@@ -1,133 +1,157 @@
 //! Examples of the lines that tell of a refusal.
 
-use crate::link_fault::{LinkFault, LinkWhy};
 use crate::refusals::{link_refused_line, refused_line, script_refused_line};
-use ca_base::{Name, Refusal};
+use crate::tests_cases::number_of;
+use ca_base::{Bytes, Name, Refusal};
+use comp_link::{LinkFault, LinkWhy};
 use comp_reader::ComponentWhy;
 use script_reader::{ScriptFault, ScriptWhy};
+use std::alloc::Global;
 use std::test::Fail;
 use wasm_reader::ModuleWhy;
 use wasm_valid::ValidWhy;
 
-#[test]
-fn components(rt: HostRuntime) -> Result<(), Fail> {
-    for (place, why, want) in [
-        (0, ComponentWhy::Truncated, "refused at 0: Truncated\n"),
-        (8, ComponentWhy::Leb, "refused at 8: Leb\n"),
-        (12, ComponentWhy::Utf8, "refused at 12: Utf8\n"),
-        (4, ComponentWhy::Magic, "refused at 4: Magic\n"),
-        (9, ComponentWhy::SectionSize, "refused at 9: SectionSize\n"),
-        (
-            11,
-            ComponentWhy::Unsupported(0x1C),
-            "refused at 11: Unsupported(1c)\n",
-        ),
-        (
-            8,
-            ComponentWhy::Unsupported(0),
-            "refused at 8: Unsupported(00)\n",
-        ),
-        (11, ComponentWhy::Float, "refused at 11: Float\n"),
-        (
-            16_777_216,
-            ComponentWhy::Limit,
-            "refused at 16777216: Limit\n",
-        ),
-    ] {
-        let text = refused_line(rt.alloc(), Refusal { place, why })?;
-        assert_eq!(rt; text.as_slice(), want.as_bytes());
-    }
-    Ok(())
+/// A line a case: what is refused, its place or its line, why, and the line that tells of it.
+const CASES: &str = "
+component 0 Truncated = refused at 0: Truncated
+component 8 Leb = refused at 8: Leb
+component 12 Utf8 = refused at 12: Utf8
+component 4 Magic = refused at 4: Magic
+component 9 SectionSize = refused at 9: SectionSize
+component 11 Unsupported 28 = refused at 11: Unsupported(1c)
+component 8 Unsupported 0 = refused at 8: Unsupported(00)
+component 11 Float = refused at 11: Float
+component 16777216 Limit = refused at 16777216: Limit
+module 49 Truncated = refused at 49: Module(Truncated)
+module 49 Leb = refused at 49: Module(Leb)
+module 49 Magic = refused at 49: Module(Magic)
+module 49 SectionOrder = refused at 49: Module(SectionOrder)
+module 49 SectionSize = refused at 49: Module(SectionSize)
+module 49 Utf8 = refused at 49: Module(Utf8)
+module 49 Float = refused at 49: Module(Float)
+module 49 Unsupported 124 = refused at 49: Module(Unsupported(7c))
+module 49 Count = refused at 49: Module(Count)
+module 49 Limit = refused at 49: Module(Limit)
+invalid 49 Index = refused at 49: Invalid(Index)
+invalid 49 Stack = refused at 49: Invalid(Stack)
+invalid 49 Typing = refused at 49: Invalid(Typing)
+invalid 49 Name = refused at 49: Invalid(Name)
+link 94 Index = link refused at 94: Index
+link 94 Missing nope = link refused at 94: Missing(nope)
+link 94 Missing a b = link refused at 94: Missing(a\\u{20}b)
+link 94 Typing = link refused at 94: Typing
+link 94 Canon = link refused at 94: Canon
+link 94 Limit = link refused at 94: Limit
+script 0 Size = script refused at line 0: Size
+script 1 Utf8 = script refused at line 1: Utf8
+script 2 Form = script refused at line 2: Form
+script 10 Fuel = script refused at line 10: Fuel
+script 65536 Export = script refused at line 65536: Export
+script 1048577 Value = script refused at line 1048577: Value
+";
+
+/// How many cases there are.
+const COUNT: u32 = 35;
+
+fn module_why(name: &str, argument: &str) -> Result<ModuleWhy, Fail> {
+    Ok(match name {
+        "Truncated" => ModuleWhy::Truncated,
+        "Leb" => ModuleWhy::Leb,
+        "Magic" => ModuleWhy::Magic,
+        "SectionOrder" => ModuleWhy::SectionOrder,
+        "SectionSize" => ModuleWhy::SectionSize,
+        "Utf8" => ModuleWhy::Utf8,
+        "Float" => ModuleWhy::Float,
+        "Unsupported" => ModuleWhy::Unsupported(argument.parse::<u8>()?),
+        "Count" => ModuleWhy::Count,
+        "Limit" => ModuleWhy::Limit,
+        _ => return Err("a reason of a module".into()),
+    })
+}
+
+fn valid_why(name: &str) -> Result<ValidWhy, Fail> {
+    Ok(match name {
+        "Index" => ValidWhy::Index,
+        "Stack" => ValidWhy::Stack,
+        "Typing" => ValidWhy::Typing,
+        "Name" => ValidWhy::Name,
+        _ => return Err("a reason of validation".into()),
+    })
+}
+
+fn component_why(name: &str, argument: &str) -> Result<ComponentWhy, Fail> {
+    Ok(match name {
+        "Truncated" => ComponentWhy::Truncated,
+        "Leb" => ComponentWhy::Leb,
+        "Utf8" => ComponentWhy::Utf8,
+        "Magic" => ComponentWhy::Magic,
+        "SectionSize" => ComponentWhy::SectionSize,
+        "Unsupported" => ComponentWhy::Unsupported(argument.parse::<u8>()?),
+        "Float" => ComponentWhy::Float,
+        "Limit" => ComponentWhy::Limit,
+        _ => return Err("a reason of a component".into()),
+    })
+}
+
+fn link_why(alloc: Global, name: &str, argument: &str) -> Result<LinkWhy, Fail> {
+    Ok(match name {
+        "Index" => LinkWhy::Index,
+        "Missing" => LinkWhy::Missing(Name::new(alloc, argument)?),
+        "Typing" => LinkWhy::Typing,
+        "Canon" => LinkWhy::Canon,
+        "Limit" => LinkWhy::Limit,
+        _ => return Err("a reason of linking".into()),
+    })
+}
+
+fn script_why(name: &str) -> Result<ScriptWhy, Fail> {
+    Ok(match name {
+        "Size" => ScriptWhy::Size,
+        "Utf8" => ScriptWhy::Utf8,
+        "Form" => ScriptWhy::Form,
+        "Fuel" => ScriptWhy::Fuel,
+        "Export" => ScriptWhy::Export,
+        "Value" => ScriptWhy::Value,
+        _ => return Err("a reason of a script".into()),
+    })
+}
+
+/// The line for this refusal: the kind of what is refused, where, and why.
+fn line_of(alloc: Global, kind: &str, at: &str, why: &str) -> Result<Bytes, Fail> {
+    let (name, argument) = why.split_once(' ').unwrap_or((why, ""));
+    let place = number_of(at)? as usize;
+    let why = match kind {
+        "component" => component_why(name, argument)?,
+        "module" => ComponentWhy::Module(module_why(name, argument)?),
+        "invalid" => ComponentWhy::Invalid(valid_why(name)?),
+        "link" => {
+            let why = link_why(alloc, name, argument)?;
+            return Ok(link_refused_line(alloc, &LinkFault { place, why })?);
+        }
+        _ => {
+            let why = script_why(name)?;
+            return Ok(script_refused_line(alloc, ScriptFault { line: place, why })?);
+        }
+    };
+    Ok(refused_line(alloc, Refusal { place, why })?)
 }
 
 #[test]
-fn modules_of_components(rt: HostRuntime) -> Result<(), Fail> {
-    for (why, want) in [
-        (ModuleWhy::Truncated, "refused at 49: Module(Truncated)\n"),
-        (ModuleWhy::Leb, "refused at 49: Module(Leb)\n"),
-        (ModuleWhy::Magic, "refused at 49: Module(Magic)\n"),
-        (
-            ModuleWhy::SectionOrder,
-            "refused at 49: Module(SectionOrder)\n",
-        ),
-        (
-            ModuleWhy::SectionSize,
-            "refused at 49: Module(SectionSize)\n",
-        ),
-        (ModuleWhy::Utf8, "refused at 49: Module(Utf8)\n"),
-        (ModuleWhy::Float, "refused at 49: Module(Float)\n"),
-        (
-            ModuleWhy::Unsupported(0x7C),
-            "refused at 49: Module(Unsupported(7c))\n",
-        ),
-        (ModuleWhy::Count, "refused at 49: Module(Count)\n"),
-        (ModuleWhy::Limit, "refused at 49: Module(Limit)\n"),
-    ] {
-        let why = ComponentWhy::Module(why);
-        let text = refused_line(rt.alloc(), Refusal { place: 49, why })?;
-        assert_eq!(rt; text.as_slice(), want.as_bytes());
+fn lines(rt: HostRuntime) -> Result<(), Fail> {
+    let mut count: u32 = 0;
+    for case in CASES.lines() {
+        if let Some((refusal, wanted)) = case.split_once(" = ") {
+            let (kind, rest) = refusal.split_once(' ').ok_or("no kind")?;
+            let (at, why) = rest.split_once(' ').ok_or("no reason")?;
+            let text = line_of(rt.alloc(), kind, at, why)?;
+            let (told, end) = text
+                .as_slice()
+                .split_at(wanted.len().min(text.as_slice().len()));
+            assert_eq!(rt; told, wanted.as_bytes(), "at {case}");
+            assert_eq!(rt; end, b"\n".as_slice(), "at {case}");
+            count = count.saturating_add(1);
+        }
     }
-    Ok(())
-}
-
-#[test]
-fn modules_that_are_not_valid(rt: HostRuntime) -> Result<(), Fail> {
-    for (why, want) in [
-        (ValidWhy::Index, "refused at 49: Invalid(Index)\n"),
-        (ValidWhy::Stack, "refused at 49: Invalid(Stack)\n"),
-        (ValidWhy::Typing, "refused at 49: Invalid(Typing)\n"),
-        (ValidWhy::Name, "refused at 49: Invalid(Name)\n"),
-    ] {
-        let why = ComponentWhy::Invalid(why);
-        let text = refused_line(rt.alloc(), Refusal { place: 49, why })?;
-        assert_eq!(rt; text.as_slice(), want.as_bytes());
-    }
-    Ok(())
-}
-
-#[test]
-fn links(rt: HostRuntime) -> Result<(), Fail> {
-    let alloc = rt.alloc();
-    for (why, want) in [
-        (LinkWhy::Index, "link refused at 94: Index\n"),
-        (
-            LinkWhy::Missing(Name::new(alloc, "nope")?),
-            "link refused at 94: Missing(nope)\n",
-        ),
-        (
-            LinkWhy::Missing(Name::new(alloc, "a b")?),
-            "link refused at 94: Missing(a\\u{20}b)\n",
-        ),
-        (LinkWhy::Typing, "link refused at 94: Typing\n"),
-        (LinkWhy::Canon, "link refused at 94: Canon\n"),
-        (LinkWhy::Limit, "link refused at 94: Limit\n"),
-    ] {
-        let text = link_refused_line(alloc, &LinkFault { place: 94, why })?;
-        assert_eq!(rt; text.as_slice(), want.as_bytes());
-    }
-    Ok(())
-}
-
-#[test]
-fn scripts(rt: HostRuntime) -> Result<(), Fail> {
-    for (line, why, want) in [
-        (0, ScriptWhy::Size, "script refused at line 0: Size\n"),
-        (1, ScriptWhy::Utf8, "script refused at line 1: Utf8\n"),
-        (2, ScriptWhy::Form, "script refused at line 2: Form\n"),
-        (10, ScriptWhy::Fuel, "script refused at line 10: Fuel\n"),
-        (
-            65_536,
-            ScriptWhy::Export,
-            "script refused at line 65536: Export\n",
-        ),
-        (
-            1_048_577,
-            ScriptWhy::Value,
-            "script refused at line 1048577: Value\n",
-        ),
-    ] {
-        let text = script_refused_line(rt.alloc(), ScriptFault { line, why })?;
-        assert_eq!(rt; text.as_slice(), want.as_bytes());
-    }
+    assert_eq!(rt; count, COUNT);
     Ok(())
 }

@@ -1,9 +1,11 @@
 //! How a call of the program ends.
 
 ghost use Rattle.std.specs.Prelude.{◌≡◌};
+ghost use Rattle.std.specs.Process.{exit_status};
 ghost use Rattle.wcm.specs.Status.{status_of, status_code};
 
 use crate::run::End;
+use std::process::ExitCode;
 
 /// How a call of the program ends.
 #[derive(Clone, Copy, Debug, PartialEq, Eq)]
@@ -33,8 +35,8 @@ pub enum Status {
 }
 
 impl Status {
-    /// The exit status of the process.
-    pub fn code(self) -> u8
+    /// The number of the exit status.
+    fn code(self) -> u8
         ensures { result ≡ status_code self }
     {
         match self {
@@ -51,6 +53,13 @@ impl Status {
             Status::LinkRefused => 10,
         }
     }
+}
+
+/// The exit status of the process.
+pub fn exit_code(status: Status) -> ExitCode
+    ensures { exit_status result ≡ status_code status }
+{
+    ExitCode::from(status.code())
 }
 
 /// The status of a run that ends so.

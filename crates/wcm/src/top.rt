@@ -1,19 +1,19 @@
 //! The top call.
 
 ghost use Rattle.std.specs.Prelude.{◌≡◌, ◌≢◌, ◌<◌, ◌⊎◌, ◌↔◌, ◌∷◌, ◌++◌, ℕ, List, [], None, OnOk, OnErr, map, string_bytes, codes};
-ghost use Rattle.ca_base.specs.Causes.{Rose};
-ghost use Rattle.ca_base.specs.Bytes.{grown, TookFront};
+ghost use Rattle.ca_io.specs.Causes.{Rose};
+ghost use Rattle.ca_io.specs.Bytes.{grown, TookFront};
 ghost use Rattle.wcm.specs.declared.answer.Answer.{Answer};
 ghost use Rattle.wcm.specs.declared.run.End.TheVariants as end;
-ghost use Rattle.wcm.specs.Outcome.{Outcome, IsTold, NamesRefused, NamesLinkRefused, NamesScriptRefused, NamesRun};
+ghost use Rattle.wcm.specs.Outcome.{Outcome, IsTold, IsComponentTold, NamesRefused, NamesLinkRefused, NamesScriptRefused, NamesRun};
 ghost use Rattle.wcm.specs.Status.{IsGiven, IsFinal};
-ghost use Rattle.wcm.specs.Words.{plain};
-ghost use Rattle.wcm.specs.Written.{WroteAll, WroteFront};
+ghost use Rattle.wcm.specs.Words.{command_of};
+ghost use Rattle.wcm.specs.Written.{WroteAll, WroteFront, WroteFrontOrLine};
 
 use crate::answer::{Answer, Stop, answer_of};
 use crate::status::Status;
-use crate::words::plain;
-use ca_base::{Failed, Files, Sink, write_all};
+use crate::words::command_of;
+use ca_io::{Failed, Files, Sink, write_all};
 use std::alloc::Global;
 
 /// The line for a file that was not read.
@@ -39,6 +39,8 @@ fn write_answer<K: Sink>(answer: &Answer, out: &mut K, err: &mut K) -> Result<()
 /// Runs the command that the words say, over the files, the output and the error output that are handed in, and
 /// answers how it ends. `words[0]` is the program's name. The one command is `run FILE SCRIPT`: it reads and links the
 /// component file, reads the script file, makes the script's calls, and writes the trace to the output.
+///
+/// The files are told where the component file is, and either that one decides the answer or the script file is told too.
 #[tactic(auto, using(crate::proofs::Taken::grown_nil, crate::proofs::Taken::took))]
 pub fn run_words<F: Files, K: Sink>(
     alloc: Global,
@@ -47,7 +49,7 @@ pub fn run_words<F: Files, K: Sink>(
     out: &mut K,
     err: &mut K,
 ) -> Status
-    // Where both files are told, while no source or sink fails and memory lasts, what is written is the outcome's texts, and
+    // Where the files are told, while no source or sink fails and memory lasts, what is written is the outcome's texts, and
     // nothing else.
     ensures headline { IsTold (map string_bytes words.now) (F.held files.old)
         → (Rose (F.faults files.old) (F.faults files.new) → ⊥)
@@ -57,19 +59,20 @@ pub fn run_words<F: Files, K: Sink>(
         → (a : Answer) × Outcome (map string_bytes words.now) (F.held files.old) a × (result ≡ a.status)
         × WroteAll a (K.taken out.old) (K.taken out.new) (K.taken err.old) (K.taken err.new) }
 
-    // The same where both files are told, and no fault and no want of memory ended the call.
+    // The same where the files are told, and no fault and no want of memory ended the call.
     ensures written { IsTold (map string_bytes words.now) (F.held files.old) → IsFinal result
         → (a : Answer) × Outcome (map string_bytes words.now) (F.held files.old) a × (result ≡ a.status)
         × WroteAll a (K.taken out.old) (K.taken out.new) (K.taken err.old) (K.taken err.new) }
 
     // Usage, exactly where the words are no command. Files and outputs are left alone with it.
-    ensures usage { (result ≡ Status.Usage) ↔ (plain (map string_bytes words.now) ≡ None) }
+    ensures usage { (result ≡ Status.Usage) ↔ (command_of (map string_bytes words.now) ≡ None) }
     ensures usage_is_silent { result ≡ Status.Usage → (files.new ≡ files.old) × (out.new ≡ out.old) × (err.new ≡ err.old) }
 
-    // Where both files are told, and no fault and no want of memory ended the call: what each answer tells of the files.
-    ensures refused { IsTold (map string_bytes words.now) (F.held files.old) → IsFinal result
+    // Where no fault and no want of memory ended the call: what each answer tells of the files. The component file alone is to
+    // be told for the refusals of the component.
+    ensures refused { IsComponentTold (map string_bytes words.now) (F.held files.old) → IsFinal result
         → ((result ≡ Status.Refused) ↔ NamesRefused (map string_bytes words.now) (F.held files.old)) }
-    ensures link_refused { IsTold (map string_bytes words.now) (F.held files.old) → IsFinal result
+    ensures link_refused { IsComponentTold (map string_bytes words.now) (F.held files.old) → IsFinal result
         → ((result ≡ Status.LinkRefused) ↔ NamesLinkRefused (map string_bytes words.now) (F.held files.old)) }
     ensures script_refused { IsTold (map string_bytes words.now) (F.held files.old) → IsFinal result
         → ((result ≡ Status.ScriptRefused) ↔ NamesScriptRefused (map string_bytes words.now) (F.held files.old)) }
@@ -103,17 +106,20 @@ pub fn run_words<F: Files, K: Sink>(
         × (K.taken out.new ≡ K.taken out.old)
         × TookFront (K.taken err.old) (K.taken err.new) (codes "read fault" ++ 10 ∷ [])) }
 
-    // After want of memory the output took nothing, and the error output a front of the line.
-    ensures memory { result ≡ Status.Memory → (K.taken out.new ≡ K.taken out.old)
-        × TookFront (K.taken err.old) (K.taken err.new) (codes "want of memory" ++ 10 ∷ []) }
+    // After want of memory the output took a front of what the outcome has for it, and the error output a front of what the
+    // outcome has for it or of the line, which is whole where the error output did not fail.
+    ensures memory { (a : Answer) → Outcome (map string_bytes words.now) (F.held files.old) a → result ≡ Status.Memory
+        → WroteFrontOrLine a (codes "want of memory" ++ 10 ∷ []) (K.taken out.old) (K.taken out.new) (K.taken err.old) (K.taken err.new) }
+    ensures memory_line { result ≡ Status.Memory → (Rose (K.faults err.old) (K.faults err.new) → ⊥)
+        → K.taken err.new ≡ grown (K.taken err.old) (codes "want of memory" ++ 10 ∷ []) }
 
     // What the files hold stays.
     ensures held { (name : List ℕ) → F.held files.new name ≡ F.held files.old name }
 {
-    let Some((file, script)) = plain(words) else {
+    let Some(command) = command_of(words) else {
         return Status::Usage;
     };
-    match answer_of(alloc, file, script, files) {
+    match answer_of(alloc, command, files) {
         Ok(answer) => match write_answer(&answer, out, err) {
             Ok(()) => answer.status,
             Err(Failed) => Status::WriteFault,

@@ -3,11 +3,11 @@
 ghost use Rattle.std.specs.Prelude.{◌≡◌, ◌++◌, OnOk, IfOk, codes};
 ghost use Rattle.std.specs.Fmt.{decimal};
 ghost use Rattle.wcm.specs.declared.run.Label.TheVariants.{Take};
-ghost use Rattle.wcm.specs.Text.{name_text, value_text, values_text, task_text, result_text, line, label_text, end_text, trace_text};
+ghost use Rattle.wcm.specs.Text.{name_text, values_text, task_text, result_text, line, label_text, end_text, trace_text};
 
 use crate::name_text::push_name;
 use crate::run::{End, Label};
-use ca_base::{Bytes, Memory, Name, Seq};
+use ca_base::{Bytes, Memory, Name, Seq, Text, push_all, push_separated};
 use ca_types::Value;
 use std::alloc::Global;
 
@@ -20,26 +20,21 @@ fn push_number(alloc: Global, number: u32, text: &mut Vec<u8>) -> Result<(), Mem
     Ok(())
 }
 
-/// Appends a value.
-fn push_value(alloc: Global, value: Value, text: &mut Vec<u8>) -> Result<(), Memory>
-    ensures { OnOk result (text.new.items ≡ text.old.items ++ value_text value) }
-{
-    match value {
-        Value::U32(number) => push_number(alloc, number, text),
-    }
-}
+/// Values, as a line writes them.
+struct Values;
 
-/// Appends values, with a comma and a space between them.
-fn push_values(alloc: Global, values: &[Value], text: &mut Vec<u8>) -> Result<(), Memory>
-    ensures { OnOk result (text.new.items ≡ text.old.items ++ values_text values.now) }
-{
-    for (index, value) in values.iter().enumerate() {
-        if index > 0 {
-            text.extend_from_slice(b", ")?;
+impl Text for Values {
+    ghost use Rattle.wcm.specs.Text.{value_text};
+
+    type Item = Value;
+
+    ghost text = { value_text };
+
+    fn push(alloc: Global, item: &Value, to: &mut Vec<u8>) -> Result<(), Memory> {
+        match item {
+            Value::U32(number) => push_number(alloc, *number, to),
         }
-        push_value(alloc, *value, text)?;
     }
-    Ok(())
 }
 
 /// Appends a task's name.
@@ -56,7 +51,7 @@ fn push_result(alloc: Global, value: Option<Value>, text: &mut Vec<u8>) -> Resul
 {
     text.push(b'(')?;
     if let Some(value) = value {
-        push_value(alloc, value, text)?;
+        Values::push(alloc, &value, text)?;
     }
     text.push(b')')?;
     Ok(())
@@ -68,7 +63,7 @@ fn push_call(alloc: Global, name: &Name, values: &[Value], text: &mut Vec<u8>) -
 {
     push_name(name, text)?;
     text.extend_from_slice(b" (")?;
-    push_values(alloc, values, text)?;
+    push_separated::<Values>(alloc, b", ", values, text)?;
     text.extend_from_slice(b")\n")?;
     Ok(())
 }
@@ -92,36 +87,44 @@ fn push_take(
     push_call(alloc, name, values, text)
 }
 
-/// Appends the line of a label.
-fn push_label(alloc: Global, label: &Label, text: &mut Vec<u8>) -> Result<(), Memory>
-    ensures { OnOk result (text.new.items ≡ text.old.items ++ label_text label.now) }
-{
-    match label {
-        Label::Take {
-            call,
-            task,
-            name,
-            values,
-        } => push_take(alloc, *call, *task, name, values.as_slice(), text),
-        Label::Enter(task) => {
-            text.extend_from_slice(b"enter ")?;
-            push_task(alloc, *task, text)?;
-            text.push(b'\n')?;
-            Ok(())
-        }
-        Label::Return(task, result) => {
-            text.extend_from_slice(b"return ")?;
-            push_task(alloc, *task, text)?;
-            text.push(b' ')?;
-            push_result(alloc, *result, text)?;
-            text.push(b'\n')?;
-            Ok(())
-        }
-        Label::Exit(task) => {
-            text.extend_from_slice(b"exit ")?;
-            push_task(alloc, *task, text)?;
-            text.push(b'\n')?;
-            Ok(())
+/// Labels, a line for each.
+struct Lines;
+
+impl Text for Lines {
+    ghost use Rattle.wcm.specs.Text.{label_text};
+
+    type Item = Label;
+
+    ghost text = { label_text };
+
+    fn push(alloc: Global, item: &Label, to: &mut Vec<u8>) -> Result<(), Memory> {
+        match item {
+            Label::Take {
+                call,
+                task,
+                name,
+                values,
+            } => push_take(alloc, *call, *task, name, values.as_slice(), to),
+            Label::Enter(task) => {
+                to.extend_from_slice(b"enter ")?;
+                push_task(alloc, *task, to)?;
+                to.push(b'\n')?;
+                Ok(())
+            }
+            Label::Return(task, result) => {
+                to.extend_from_slice(b"return ")?;
+                push_task(alloc, *task, to)?;
+                to.push(b' ')?;
+                push_result(alloc, *result, to)?;
+                to.push(b'\n')?;
+                Ok(())
+            }
+            Label::Exit(task) => {
+                to.extend_from_slice(b"exit ")?;
+                push_task(alloc, *task, to)?;
+                to.push(b'\n')?;
+                Ok(())
+            }
         }
     }
 }
@@ -142,9 +145,7 @@ pub fn trace_text(alloc: Global, labels: &[Label], end: End) -> Result<Bytes, Me
     ensures { IfOk result (λ text. text ≡ trace_text labels.now end) }
 {
     let mut text = Vec::new(alloc);
-    for label in labels {
-        push_label(alloc, label, &mut text)?;
-    }
+    push_all::<Lines>(alloc, labels, &mut text)?;
     push_end(end, &mut text)?;
     Ok(Seq::from_vec(text))
 }

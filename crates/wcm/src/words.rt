@@ -1,7 +1,19 @@
-//! The words of the command line.
+//! The words of the command line, and the command that they lead to.
 
 ghost use Rattle.std.specs.Prelude.{◌≡◌, None, Some, MatchOption, map, string_bytes};
-ghost use Rattle.wcm.specs.Words.{plain, is_file_name};
+ghost use Rattle.wcm.specs.Words.{command_of, said, is_file_name};
+
+/// What the program is told to do.
+#[derive(Clone, Copy, Debug)]
+pub enum Command<'a> {
+    /// Run the component of a file under the script of another file.
+    Run {
+        /// The component file's name.
+        file: &'a str,
+        /// The script file's name.
+        script: &'a str,
+    },
+}
 
 /// Whether this may be the name of a file: it is not empty, and does not begin with a minus.
 fn is_file_name(name: &str) -> bool
@@ -13,16 +25,16 @@ fn is_file_name(name: &str) -> bool
     }
 }
 
-/// The names of the component file and the script file, where the words are `run FILE SCRIPT` behind the program's name.
-pub fn plain(words: &[String]) -> Option<(&str, &str)>
-    ensures { MatchOption result (plain (map string_bytes words.now) ≡ None) (λ p. plain (map string_bytes words.now) ≡ Some (p.0.now, p.1.now)) }
+/// The command that the words behind the program's name lead to, or `None` where they are no command.
+pub fn command_of(words: &[String]) -> Option<Command<'_>>
+    ensures { MatchOption result (command_of (map string_bytes words.now) ≡ None) (λ c. command_of (map string_bytes words.now) ≡ Some (said c)) }
 {
     match words {
         [_, command, file, script] => {
             let file = file.as_str();
             let script = script.as_str();
             if command.as_str() == "run" && is_file_name(file) && is_file_name(script) {
-                Some((file, script))
+                Some(Command::Run { file, script })
             } else {
                 None
             }

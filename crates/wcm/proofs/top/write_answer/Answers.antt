@@ -1,6 +1,6 @@
 use Rattle.std.proofs.Common.{ℕ, List, ap, take, ◌∙◌}
 use Rattle.std.proofs.lemmas.Result.{err_from_is_err_and}
-use Rattle.ca_base.specs.Bytes.{grown}
+use Rattle.ca_io.specs.Bytes.{grown}
 use Rattle.wcm.proofs.Taken.{took_all}
 use Rattle.wcm.proofs.top.write_answer.Goals as goal
 
