@@ -1,0 +1,60 @@
+//! Modules of texts as stores, and calls of their first functions.
+
+ghost use Rattle.std.specs.Prelude.{ℕ, List, ◌∷◌, IfOk, IsTrue};
+ghost use Rattle.wasm_reader.specs.declared.module.ValType.{ValType};
+ghost use Rattle.wasm_machine.specs.Running.{IsRunning};
+ghost use Rattle.wasm_machine.specs.Step.{AreWords};
+
+use ca_base::Seq;
+use std::alloc::Global;
+use std::test::Fail;
+use wasm_machine::{Running, Store, start};
+use wasm_reader::{ValType, read_module};
+use wasm_valid::validate;
+
+/// A store of the module whose bytes a text has.
+pub(crate) fn store_of(alloc: Global, hex: &str) -> Result<Store, Fail> {
+    let bytes = cases::bytes_of(alloc, hex)?;
+    let valid = validate(alloc, read_module(alloc, &bytes, 0)?)?;
+    let mut store = Store::new(alloc);
+    store.add(alloc, &valid)?;
+    Ok(store)
+}
+
+/// Whether a word is one of a type.
+fn is_word(val_type: ValType, word: u64) -> bool
+    ensures { IsTrue result → (types : List ValType) → (words : List ℕ) → AreWords types words → AreWords (val_type ∷ types) (word ∷ words) }
+{
+    match val_type {
+        ValType::I32 => word < 1 << 32,
+        ValType::I64 => true,
+    }
+}
+
+/// Whether words are those of types.
+fn are_words(types: &[ValType], words: &[u64]) -> bool
+    ensures { IsTrue result → AreWords types.now words.now }
+{
+    let Some((first, types)) = types.split_first() else {
+        return words.is_empty();
+    };
+    let Some((word, words)) = words.split_first() else {
+        return false;
+    };
+    is_word(*first, *word) && are_words(types, words)
+}
+
+/// A call of the first function of a store, with words of its parameters' types.
+pub(crate) fn called(alloc: Global, store: &Store, args: Vec<u64>) -> Result<Running, Fail>
+    ensures { IfOk result (λ r. IsRunning store.now r) }
+{
+    if store.len() == 0 {
+        return Err(Fail::new("no function"));
+    }
+    let args = Seq::from_vec(args);
+    let params = store.function(0).func_type.params.as_slice();
+    if !are_words(params, args.as_slice()) {
+        return Err(Fail::new("other parameters"));
+    }
+    Ok(start(alloc, store, 0, &args)?)
+}
