@@ -1,0 +1,73 @@
+//! Every run of six acts on lengths 0 to 3, beside the plain model.
+
+use crate::act::{Act, Answer};
+use crate::plain::Plain;
+use crate::stream_tests::happen;
+use std::process::Abort;
+use std::test::Fail;
+use stream_ends::{Rendezvous, Side};
+
+/// What a place in a run counts for, where each act is a digit of 14: reads and writes of four lengths, deliveries,
+/// cancels and drops. The first act is the first digit.
+const PLACES: [u32; 6] = [537_824, 38_416, 2_744, 196, 14, 1];
+
+/// The act of this number.
+fn act_at(number: u32) -> Act {
+    match number {
+        0..=3 => Act::Call(Side::Reader, number),
+        4..=7 => Act::Call(Side::Writer, number - 4),
+        8 => Act::Deliver(Side::Reader),
+        9 => Act::Deliver(Side::Writer),
+        10 => Act::Cancel(Side::Reader),
+        11 => Act::Cancel(Side::Writer),
+        12 => Act::DropEnd(Side::Reader),
+        _ => Act::DropEnd(Side::Writer),
+    }
+}
+
+/// Lets the acts of a run happen, up to the first that may not, and answers how many runs begin alike.
+fn compare(rt: &impl Abort, run: u32) -> u32 {
+    let mut ends = Rendezvous::new();
+    let mut plain = Plain::new();
+    for place in &PLACES {
+        if *place == 0 {
+            return 1;
+        }
+        let act = act_at(run / *place % 14);
+        let got = happen(&mut ends, act);
+        let wanted = plain.happen(act);
+        assert_eq!(rt; got, wanted, "{run}");
+        if got == Answer::No {
+            return *place;
+        }
+    }
+    1
+}
+
+/// Compares these runs. Of those that begin alike up to an act that may not happen, one is enough.
+fn compare_all(rt: &impl Abort, from: u32, to: u32) {
+    let mut next = from;
+    for run in from..to {
+        if run >= next {
+            next = run.saturating_add(compare(rt, run));
+        }
+    }
+}
+
+#[test]
+fn runs_that_begin_with_a_read(rt: HostRuntime) -> Result<(), Fail> {
+    compare_all(&rt, 0, 2_151_296);
+    Ok(())
+}
+
+#[test]
+fn runs_that_begin_with_a_write(rt: HostRuntime) -> Result<(), Fail> {
+    compare_all(&rt, 2_151_296, 4_302_592);
+    Ok(())
+}
+
+#[test]
+fn all_other_runs(rt: HostRuntime) -> Result<(), Fail> {
+    compare_all(&rt, 4_302_592, 7_529_536);
+    Ok(())
+}

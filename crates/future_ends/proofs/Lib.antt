@@ -1,0 +1,6 @@
+mod Counting
+mod Ending
+mod Keeping
+mod Meetings
+mod Stopping
+mod Telling

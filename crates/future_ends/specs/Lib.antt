@@ -1,0 +1,4 @@
+pub mod Closed
+pub mod Laws
+pub mod Meeting
+pub mod Runs

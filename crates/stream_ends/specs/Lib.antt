@@ -1,0 +1,5 @@
+pub mod Closed
+pub mod Ends
+pub mod Laws
+pub mod Meeting
+pub mod Runs
