@@ -1,0 +1,90 @@
+"""Bytes of core modules and components, as docs/FORMATS.md has them."""
+
+MODULE = bytes.fromhex("0061736d01000000")
+COMPONENT = bytes.fromhex("0061736d0d000100")
+
+# The characters of short names: printable, and none that ends a name in a script.
+LETTERS = "abcdefghijklmnopqrstuvwxyzABCDEFGHIJKLMNOPQRSTUVWXYZ0123456789"
+
+
+def u32(number):
+    """A number as LEB128."""
+    found = bytearray()
+    while number >= 128:
+        found.append(number % 128 + 128)
+        number //= 128
+    found.append(number)
+    return bytes(found)
+
+
+def name(text):
+    """A length, and so many bytes of UTF-8."""
+    return u32(len(text.encode())) + text.encode()
+
+
+def vec(items):
+    """How many items, and the items."""
+    items = list(items)
+    return u32(len(items)) + b"".join(items)
+
+
+def section(number, payload):
+    """A section: its id, its size and its payload."""
+    return bytes([number]) + u32(len(payload)) + payload
+
+
+def short_name(number, letters):
+    """The name of so many letters that has this number."""
+    found = ""
+    for _ in range(letters):
+        found += LETTERS[number % len(LETTERS)]
+        number //= len(LETTERS)
+    return found
+
+
+def short_names(count, letters):
+    """So many names of so many letters, all distinct."""
+    assert count <= len(LETTERS) ** letters
+    return [short_name(number, letters) for number in range(count)]
+
+
+def module(names):
+    """A core module with one function, from nothing to nothing, which it exports under these names."""
+    return (
+        MODULE
+        + section(1, vec([b"\x60\x00\x00"]))
+        + section(3, vec([u32(0)]))
+        + section(7, vec(name(text) + b"\x00" + u32(0) for text in names))
+        + section(10, vec([b"\x02\x00\x0b"]))
+    )
+
+
+def instance():
+    """An instance of core module 0."""
+    return section(2, vec([b"\x00" + u32(0) + b"\x00"]))
+
+
+def aliases(names):
+    """The core functions that core instance 0 exports under these names."""
+    return section(6, vec(b"\x00\x00\x01" + u32(0) + name(text) for text in names))
+
+
+def func_type(labels):
+    """A function type from numbers under these labels to nothing."""
+    params = vec(name(label) + b"\x79" for label in labels)
+    return section(7, vec([b"\x40" + params + b"\x01\x00"]))
+
+
+def lift():
+    """The lift of core function 0 to type 0."""
+    return section(8, vec([b"\x00\x00" + u32(0) + b"\x00" + u32(0)]))
+
+
+def exports(names):
+    """Exports of function 0 under these names."""
+    return section(11, vec(b"\x00" + name(text) + b"\x01" + u32(0) + b"\x00" for text in names))
+
+
+def component(*parts):
+    """A component of these sections."""
+    return COMPONENT + b"".join(parts)

@@ -1,0 +1,193 @@
+#!/usr/bin/env python3
+"""Runs a built wcm, and compares its exit status and what it writes.
+
+    checks/process.py crates/wcm/out/wcm
+
+A line a case is printed. The status is 1 where a case fails.
+"""
+
+import resource
+import subprocess
+import sys
+import tempfile
+from pathlib import Path
+from typing import NamedTuple, Optional
+
+# No folder of compiled files is left beside the scripts.
+sys.dont_write_bytecode = True
+
+import formats
+
+MIB = 1024 * 1024
+# The address space in which announced counts are read.
+SPACE = 256 * MIB
+ADD = Path(__file__).resolve().parent.parent / "crates" / "wcm" / "data" / "add.wasm"
+SUM = "take 1 T1 add (2, 3)\nenter T1\nreturn T1 (5)\nexit T1\ndone\n"
+
+
+class Case(NamedTuple):
+    """A call of the program, and what is wanted of it. Files that are None are missing."""
+
+    title: str
+    status: int
+    out: str = ""
+    err: str = ""
+    component: Optional[bytes] = None
+    script: Optional[bytes] = b"call add (2, 3)\n"
+    words: tuple = ("run", "file.wasm", "script.txt")
+    space: Optional[int] = None
+    # Devices in place of the output and the error output.
+    out_to: Optional[str] = None
+    err_to: Optional[str] = None
+
+
+class Found(NamedTuple):
+    status: int
+    out: bytes
+    err: bytes
+
+
+def run(program, case):
+    """Makes the call in a folder of its own."""
+
+    def limit():
+        if case.space is not None:
+            resource.setrlimit(resource.RLIMIT_AS, (case.space, case.space))
+
+    with tempfile.TemporaryDirectory() as folder:
+        for file, data in (("file.wasm", case.component), ("script.txt", case.script)):
+            if data is not None:
+                (Path(folder) / file).write_bytes(data)
+        out = open(case.out_to, "wb") if case.out_to else subprocess.PIPE
+        err = open(case.err_to, "wb") if case.err_to else subprocess.PIPE
+        done = subprocess.run(
+            [program, *case.words],
+            cwd=folder,
+            stdin=subprocess.DEVNULL,
+            stdout=out,
+            stderr=err,
+            preexec_fn=limit,
+            timeout=120,
+        )
+        for stream in (out, err):
+            if stream is not subprocess.PIPE:
+                stream.close()
+        return Found(done.returncode, done.stdout or b"", done.stderr or b"")
+
+
+def refused(title, text, line):
+    """A component of these bytes behind its preamble, which is refused in this way in little space."""
+    data = formats.COMPONENT + bytes.fromhex(text)
+    return Case(title, 3, err=f"refused at {line}\n", component=data, space=SPACE)
+
+
+def counts():
+    """Components that announce 2^32 - 1 of something. Places are counted by hand from the formats."""
+    core = "0061736d01000000"
+    most = "ffffffff0f"
+    return [
+        refused("core instances", f"0205{most}", "15: SectionSize"),
+        refused("arguments of a core instance", f"0208010000{most}", "13: Unsupported(ff)"),
+        refused("aliases", f"0605{most}", "15: SectionSize"),
+        refused("types", f"0705{most}", "15: SectionSize"),
+        refused("parameters of a function type", f"07070140{most}", "17: SectionSize"),
+        refused("canonical functions", f"0805{most}", "15: SectionSize"),
+        refused("options of a lift", f"080901000000{most}", "19: SectionSize"),
+        refused("exports", f"0b05{most}", "15: SectionSize"),
+        refused("bytes of a section", f"07{most}", "14: Truncated"),
+        refused("bytes of a core module", f"01{most}", "14: Truncated"),
+        refused("bytes of a custom section's name", f"0005{most}", "15: SectionSize"),
+        refused("bytes of an alias's name", f"060a0100000100{most}", "20: SectionSize"),
+        refused("bytes of a label", f"0708014001{most}", "18: SectionSize"),
+        refused("bytes of an export's name", f"0b070100{most}", "17: SectionSize"),
+        refused("core types", f"010f{core}0105{most}", "25: Module(SectionSize)"),
+        refused("core parameters", f"0111{core}01070160{most}", "27: Module(SectionSize)"),
+        refused("core results", f"0112{core}0108016000{most}", "28: Module(SectionSize)"),
+        refused("core functions", f"010f{core}0305{most}", "25: Module(SectionSize)"),
+        refused("core exports", f"010f{core}0705{most}", "25: Module(SectionSize)"),
+        refused("bytes of a core export's name", f"0110{core}070601{most}", "26: Module(SectionSize)"),
+        refused("bodies without functions", f"010f{core}0a05{most}", "20: Module(Count)"),
+        refused("bodies for one function", f"0113{core}030201000a05{most}", "24: Module(Count)"),
+        refused("bytes of a body", f"0114{core}030201000a0601{most}", "30: Module(SectionSize)"),
+        refused("groups of locals", f"0115{core}030201000a070105{most}", "31: Module(SectionSize)"),
+        refused("locals", f"0118{core}030201000a0a010801{most}7f0b", "27: Module(Limit)"),
+    ]
+
+
+def statuses(add):
+    """A call for each status that can come."""
+    float_type = formats.component(bytes.fromhex("07020176"))
+    no_function = formats.component(bytes.fromhex("0806010000000000"))
+    long = formats.COMPONENT + bytes(16 * MIB - 7)
+    return [
+        Case("done", 0, out=SUM, component=add),
+        Case("no words", 2, component=add, words=()),
+        Case("no script's name", 2, component=add, words=("run", "file.wasm")),
+        Case("a name that begins with a minus", 2, component=add, words=("run", "-f", "script.txt")),
+        Case("another command", 2, component=add, words=("walk", "file.wasm", "script.txt")),
+        Case("a word too many", 2, component=add, words=("run", "file.wasm", "script.txt", "x")),
+        Case("a refused component", 3, err="refused at 11: Float\n", component=float_type),
+        Case("a refused component without a script", 3, err="refused at 11: Float\n", component=float_type, script=None),
+        Case("an empty component file", 3, err="refused at 0: Truncated\n", component=b""),
+        Case("a component file of more than 16 MiB", 3, err="refused at 16777216: Limit\n", component=long),
+        Case("a call of no export", 4, err="script refused at line 2: Export\n", component=add, script=b"\ncall sub (2, 3)\n"),
+        Case("a script of more than 1 MiB", 4, err="script refused at line 0: Size\n", component=add, script=b"\n" * (MIB + 1)),
+        Case("fuel for all but the last instruction", 6, out="take 1 T1 add (2, 3)\nenter T1\nfuel\n", component=add, script=b"fuel 3\ncall add (2, 3)\n"),
+        Case("fuel for the whole call", 0, out=SUM, component=add, script=b"fuel 4\ncall add (2, 3)\n"),
+        Case("a component file that is not there", 7, err="read fault\n"),
+        Case("a script file that is not there", 7, err="read fault\n", component=add, script=None),
+        Case("a folder in the place of a component file", 7, err="read fault\n", words=("run", ".", "script.txt")),
+        Case("an output that is full", 8, component=add, out_to="/dev/full"),
+        Case("an error output that is full", 8, component=float_type, err_to="/dev/full"),
+        Case("an item that is not linked", 10, err="link refused at 11: Index\n", component=no_function),
+    ]
+
+
+def failures(case, found):
+    """What differs from what is wanted."""
+    wanted = Found(case.status, case.out.encode(), case.err.encode())
+    return [
+        f"{part}: {got!r}, wanted {want!r}"
+        for part, got, want in zip(Found._fields, found, wanted)
+        if got != want
+    ]
+
+
+def report(title, differences):
+    """Prints the line of a case, and answers whether it passed."""
+    print(f"{'failed' if differences else 'ok'}: {title}")
+    for difference in differences:
+        print(f"    {difference}")
+    return not differences
+
+
+def want_of_memory(program):
+    """Reads a component of 15 MiB in less and less space. The status is 0 up to where it is 9."""
+    large = formats.component(formats.section(0, formats.name("") + bytes(15 * MIB)))
+    for space in range(128, 0, -4):
+        case = Case("", 9, component=large, script=b"", space=space * MIB)
+        found = run(program, case)
+        if found.status == 0 and found.out == b"done\n":
+            continue
+        if found.status != 9:
+            return [f"status {found.status} in {space} MiB: {found.err!r}"]
+        if found.out != b"" or not b"want of memory\n".startswith(found.err):
+            return [f"in {space} MiB: {found.out!r}, {found.err!r}"]
+        return []
+    return ["it never came"]
+
+
+def main():
+    if len(sys.argv) != 2:
+        sys.exit(__doc__)
+    program = str(Path(sys.argv[1]).resolve())
+    cases = statuses(ADD.read_bytes())
+    cases += [case._replace(title=f"2^32 - 1 {case.title}") for case in counts()]
+    passed = [report(case.title, failures(case, run(program, case))) for case in cases]
+    passed.append(report("want of memory", want_of_memory(program)))
+    print(f"{passed.count(True)} of {len(passed)} passed")
+    sys.exit(0 if all(passed) else 1)
+
+
+if __name__ == "__main__":
+    main()

@@ -1,0 +1,165 @@
+#!/usr/bin/env python3
+"""Times a built wcm on large files.
+
+    checks/speed.py crates/wcm/out/wcm [FACTOR]
+
+Each file is made at its full number of items, and at twice that number; where that is past a limit of the formats, at
+half of it. The full number is wanted within 3 seconds, and the greater of the two in less than three times the time of the
+smaller. FACTOR, a number such as 0.01, makes all files smaller or larger. A line a case is printed. The status is 1
+where a case fails.
+"""
+
+import subprocess
+import sys
+import tempfile
+import time
+from pathlib import Path
+from typing import Callable, NamedTuple
+
+# No folder of compiled files is left beside the scripts.
+sys.dont_write_bytecode = True
+
+import formats
+
+# Seconds for the full number of items.
+SECONDS = 3.0
+# How much longer twice the number of items may take.
+TIMES = 3.0
+# The time in seconds that the start of a process and the clock may take: shorter times are not compared.
+START = 0.1
+# Seconds after which a run is stopped.
+PATIENCE = 60
+
+
+class Case(NamedTuple):
+    title: str
+    number: int
+    # From a number of items to a component, a script and the lines of the trace.
+    make: Callable
+    # Whether twice the number is within the limits of the formats.
+    doubles: bool = True
+
+
+def module_exports(count):
+    """A core module with so many exports."""
+    return formats.component(formats.section(1, formats.module(formats.short_names(count, 4)))), b"", 1
+
+
+def labels(count):
+    """A function type with so many labels."""
+    return formats.component(formats.func_type(formats.short_names(count, 4))), b"", 1
+
+
+def aliases_of(count, exports):
+    """So many aliases of one core instance, whose module has so many exports."""
+    names = formats.short_names(exports, 4)
+    module = formats.section(1, formats.module(names))
+    # The last exports first, so that each look-up is as long as it can be.
+    asked = [names[-1 - index % exports] for index in range(count)]
+    return formats.component(module, formats.instance(), formats.aliases(asked)), b"", 1
+
+
+def few_exports(count):
+    """Aliases of a core instance with 1,000 exports at most."""
+    return aliases_of(count, min(count, 1000))
+
+
+def many_exports(count):
+    """As many aliases as exports."""
+    return aliases_of(count, count)
+
+
+def component_exports(count):
+    """A component with so many exports."""
+    names = formats.short_names(count, 4)
+    parts = [
+        formats.section(1, formats.module(["f"])),
+        formats.instance(),
+        formats.aliases(["f"]),
+        formats.func_type([]),
+        formats.lift(),
+        formats.exports(names),
+    ]
+    return formats.component(*parts), b"", 1
+
+
+def calls(count):
+    """A script of so many calls, for a component with 1,000 exports."""
+    names = formats.short_names(1000, 2)
+    parts = [
+        formats.section(1, formats.module(["f"])),
+        formats.instance(),
+        formats.aliases(["f"]),
+        formats.func_type([]),
+        formats.lift(),
+        formats.exports(names),
+    ]
+    script = "".join(f"call {names[-1 - index % len(names)]}()\n" for index in range(count))
+    return formats.component(*parts), script.encode(), 4 * count + 1
+
+
+CASES = [
+    Case("exports of a core module", 400_000, module_exports),
+    Case("labels of a function type", 400_000, labels),
+    Case("aliases of a core instance with 1,000 exports", 400_000, few_exports),
+    Case("aliases of a core instance with as many exports", 400_000, many_exports),
+    Case("exports of a component", 400_000, component_exports),
+    Case("calls of a script, for a component with 1,000 exports", 60_000, calls, doubles=False),
+]
+
+
+def seconds(program, made):
+    """The shorter time of two runs that are done, or why there is none."""
+    component, script, lines = made
+    best = None
+    with tempfile.TemporaryDirectory() as folder:
+        (Path(folder) / "file.wasm").write_bytes(component)
+        (Path(folder) / "script.txt").write_bytes(script)
+        for _ in range(2):
+            with open(Path(folder) / "out", "wb") as out:
+                began = time.monotonic()
+                done = subprocess.run(
+                    [program, "run", "file.wasm", "script.txt"],
+                    cwd=folder,
+                    stdin=subprocess.DEVNULL,
+                    stdout=out,
+                    stderr=subprocess.PIPE,
+                    timeout=PATIENCE,
+                )
+                took = time.monotonic() - began
+            written = (Path(folder) / "out").read_bytes().count(b"\n")
+            if done.returncode != 0 or written != lines:
+                raise ValueError(f"status {done.returncode}, {written} lines, {done.stderr!r}")
+            best = took if best is None else min(best, took)
+    return best
+
+
+def check(program, case, factor):
+    """Prints the line of a case, and answers whether it passed."""
+    number = max(2, int(case.number * factor))
+    sizes = (number, 2 * number) if case.doubles else (number // 2, number)
+    try:
+        small, large = (seconds(program, case.make(size)) for size in sizes)
+    except (ValueError, subprocess.TimeoutExpired) as why:
+        print(f"failed: {number:,} {case.title}: {why}")
+        return False
+    full = small if case.doubles else large
+    in_time = full <= SECONDS
+    in_proportion = large <= START or large < TIMES * max(small, START)
+    word = "ok" if in_time and in_proportion else "failed"
+    print(f"{word}: {number:,} {case.title}: {sizes[0]:,} in {small:.2f} s, {sizes[1]:,} in {large:.2f} s")
+    return in_time and in_proportion
+
+
+def main():
+    if len(sys.argv) not in (2, 3):
+        sys.exit(__doc__)
+    program = str(Path(sys.argv[1]).resolve())
+    factor = float(sys.argv[2]) if len(sys.argv) == 3 else 1.0
+    passed = [check(program, case, factor) for case in CASES]
+    print(f"{passed.count(True)} of {len(passed)} passed")
+    sys.exit(0 if all(passed) else 1)
+
+
+if __name__ == "__main__":
+    main()
