@@ -1,7 +1,7 @@
 -- What the tests ask of lists.
 use Rattle.std.specs.Prelude.{ℕ, List, ◌+◌, length, nat_lt, nat_le, if◌then◌else◌, Option, Some, None, Result, Ok, Err}
-use Rattle.base_tests.specs.declared.lists.AtMost.{AtMost}
-use Rattle.base_tests.specs.declared.lists.Total.{Total}
+use Rattle.base_tests.specs.declared.samples.AtMost.{AtMost}
+use Rattle.base_tests.specs.declared.samples.Total.{Total}
 
 -- the fault of a number that stands behind so many others
 abbrev pub too_many : AtMost → List ℕ → ℕ → Option ℕ

@@ -5,7 +5,7 @@ use ca_base::{Kind, KindOf, Name, ReadError, Window};
 use std::alloc::Global;
 
 /// Two numbers.
-pub(crate) struct Pairs;
+pub struct Pairs;
 
 impl Kind for Pairs {
     ghost use Rattle.base_tests.specs.Sample.{pair};
@@ -25,7 +25,7 @@ impl Kind for Pairs {
 }
 
 /// Numbers.
-pub(crate) struct Numbers;
+pub struct Numbers;
 
 impl Kind for Numbers {
     ghost use Rattle.ca_base.specs.Items.{u32};
@@ -44,7 +44,7 @@ impl Kind for Numbers {
 }
 
 /// Names.
-pub(crate) struct Names;
+pub struct Names;
 
 impl Kind for Names {
     ghost use Rattle.ca_base.specs.Items.{name};
@@ -64,7 +64,7 @@ impl Kind for Names {
 }
 
 /// What custom sections hold.
-pub(crate) struct Customs;
+pub struct Customs;
 
 impl Kind for Customs {
     ghost use Rattle.ca_base.specs.Items.{custom};
@@ -84,9 +84,9 @@ impl Kind for Customs {
 
 /// Numbers behind a byte, which is the first of the item.
 #[derive(Drop)]
-pub(crate) struct Marked {
+pub struct Marked {
     /// The byte.
-    pub(crate) byte: u8,
+    pub byte: u8,
 }
 
 impl KindOf for Marked {

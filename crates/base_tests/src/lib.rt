@@ -6,7 +6,7 @@
 //! - `numbers`: numbers and names
 //! - `windows`: parts of files, call by call
 //! - `format` and `formats`: a small format of a few kinds of items, and its readings
-//! - `lists`: names that stand twice, look-ups, rules, states and texts of lists
+//! - `lists`: names that stand twice, look-ups, rules, states and texts of lists, over the `samples`
 //! - `files`: sources and sinks
 //! - `values`: lists, places and fuel
 //! - `texts` and `why`: answers as texts, and the reasons of the tests
@@ -14,19 +14,18 @@
 
 #[cfg(test)]
 mod files;
-#[cfg(test)]
-mod format;
+pub mod format;
 #[cfg(test)]
 mod formats;
 #[cfg(test)]
 mod lists;
 #[cfg(test)]
 mod numbers;
+pub mod samples;
 #[cfg(test)]
 mod texts;
 #[cfg(test)]
 mod values;
-#[cfg(test)]
-mod why;
+pub mod why;
 #[cfg(test)]
 mod windows;

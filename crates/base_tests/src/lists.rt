@@ -1,28 +1,15 @@
 //! Names that stand twice, look-ups, rules, states and texts of lists.
 
+use crate::samples::{AtMost, Decimals, Item, Total};
 use ca_base::{
-    Memory, MemoryOr, Name, Named, Rule, Step, Text, adds, are_distinct, by_name, check_all, find,
-    first_twice, push_all, push_separated, step_all,
+    Name, Rule, Text, adds, are_distinct, by_name, check_all, find, first_twice, push_all,
+    push_separated, step_all,
 };
 use std::alloc::{AllocError, Global};
 use std::collections::BTreeSet;
 use std::fmt::Debug;
 use std::str::from_utf8;
 use std::test::Fail;
-
-/// What has a name.
-#[derive(Debug, Drop)]
-struct Item {
-    name: Name,
-}
-
-impl Named for Item {
-    ghost name = { λ item. item.name };
-
-    fn name(&self) -> &str {
-        self.name.as_str()
-    }
-}
 
 /// The items of the words of a text.
 fn items_of(alloc: Global, words: &str) -> Result<Vec<Item>, AllocError> {
@@ -76,77 +63,6 @@ fn names_are_added(rt: HostRuntime) -> Result<(), Fail> {
         assert_eq!(rt; adds(&mut seen, name)?, new, "{name}");
     }
     Ok(())
-}
-
-/// No more than so many numbers may stand in a list.
-#[derive(Drop)]
-pub(crate) struct AtMost {
-    /// How many.
-    pub(crate) count: usize,
-}
-
-impl Rule for AtMost {
-    ghost use Rattle.base_tests.specs.Lists.{too_many};
-
-    type Item = u32;
-
-    type Fault = u32;
-
-    ghost fault = { too_many };
-
-    fn check(&self, _alloc: Global, before: &[u32], item: &u32) -> Result<(), MemoryOr<u32>> {
-        if before.len() < self.count {
-            Ok(())
-        } else {
-            Err(MemoryOr::Fault(*item))
-        }
-    }
-}
-
-/// A sum, which is at most 100.
-#[derive(Drop)]
-pub(crate) struct Total {
-    /// The sum.
-    pub(crate) sum: u64,
-}
-
-impl<'a> Step<'a> for Total {
-    ghost use Rattle.base_tests.specs.Lists.{added};
-
-    type Item = u32;
-
-    type Fault = u32;
-
-    ghost stepped = { added };
-
-    fn step(&mut self, _alloc: Global, item: &'a u32) -> Result<(), MemoryOr<u32>> {
-        let Some(sum) = self.sum.checked_add(u64::from(*item)) else {
-            return Err(MemoryOr::Fault(*item));
-        };
-        if sum <= 100 {
-            self.sum = sum;
-            Ok(())
-        } else {
-            Err(MemoryOr::Fault(*item))
-        }
-    }
-}
-
-/// Numbers in decimal digits.
-struct Decimals;
-
-impl Text for Decimals {
-    ghost use Rattle.std.specs.Fmt.{decimal};
-
-    type Item = u32;
-
-    ghost text = { decimal };
-
-    fn push(alloc: Global, item: &u32, to: &mut Vec<u8>) -> Result<(), Memory> {
-        let digits = item.to_string(alloc)?;
-        to.extend_from_slice(digits.as_bytes())?;
-        Ok(())
-    }
 }
 
 /// A line a list of numbers: what is found where no more than three may stand in it, the sum up to the first number

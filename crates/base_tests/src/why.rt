@@ -4,7 +4,7 @@ use ca_base::{NumberReason, Reason};
 
 /// Why bytes are refused.
 #[derive(Clone, Copy, Debug, PartialEq, Eq)]
-pub(crate) enum Why {
+pub enum Why {
     /// An item passes the end of a window.
     Past,
     /// An item passes the end of its section, or does not fill it.

@@ -1,0 +1,90 @@
+//! Something with a name, a rule, a state and a text, on which the calls over lists are tried.
+
+use ca_base::{Memory, MemoryOr, Name, Named, Rule, Step, Text};
+use std::alloc::Global;
+
+/// What has a name.
+#[derive(Debug, Drop)]
+pub struct Item {
+    /// The name.
+    pub name: Name,
+}
+
+impl Named for Item {
+    ghost name = { λ item. item.name };
+
+    fn name(&self) -> &str {
+        self.name.as_str()
+    }
+}
+
+/// No more than so many numbers may stand in a list.
+#[derive(Drop)]
+pub struct AtMost {
+    /// How many.
+    pub count: usize,
+}
+
+impl Rule for AtMost {
+    ghost use Rattle.base_tests.specs.Lists.{too_many};
+
+    type Item = u32;
+
+    type Fault = u32;
+
+    ghost fault = { too_many };
+
+    fn check(&self, _alloc: Global, before: &[u32], item: &u32) -> Result<(), MemoryOr<u32>> {
+        if before.len() < self.count {
+            Ok(())
+        } else {
+            Err(MemoryOr::Fault(*item))
+        }
+    }
+}
+
+/// A sum, which is at most 100.
+#[derive(Drop)]
+pub struct Total {
+    /// The sum.
+    pub sum: u64,
+}
+
+impl<'a> Step<'a> for Total {
+    ghost use Rattle.base_tests.specs.Lists.{added};
+
+    type Item = u32;
+
+    type Fault = u32;
+
+    ghost stepped = { added };
+
+    fn step(&mut self, _alloc: Global, item: &'a u32) -> Result<(), MemoryOr<u32>> {
+        let Some(sum) = self.sum.checked_add(u64::from(*item)) else {
+            return Err(MemoryOr::Fault(*item));
+        };
+        if sum <= 100 {
+            self.sum = sum;
+            Ok(())
+        } else {
+            Err(MemoryOr::Fault(*item))
+        }
+    }
+}
+
+/// Numbers in decimal digits.
+pub struct Decimals;
+
+impl Text for Decimals {
+    ghost use Rattle.std.specs.Fmt.{decimal};
+
+    type Item = u32;
+
+    ghost text = { decimal };
+
+    fn push(alloc: Global, item: &u32, to: &mut Vec<u8>) -> Result<(), Memory> {
+        let digits = item.to_string(alloc)?;
+        to.extend_from_slice(digits.as_bytes())?;
+        Ok(())
+    }
+}
