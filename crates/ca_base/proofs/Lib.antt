@@ -2,6 +2,7 @@ pub mod Distinct
 pub mod Eachs
 pub mod Laws
 pub mod Leb
+pub mod Left
 pub mod Many
 pub mod FirstNamed
 pub mod Places
