@@ -6,7 +6,9 @@
 A line a case is printed. The status is 1 where a case fails.
 """
 
+import os
 import resource
+import shutil
 import subprocess
 import sys
 import tempfile
@@ -23,6 +25,16 @@ MIB = 1024 * 1024
 SPACE = 256 * MIB
 ADD = Path(__file__).resolve().parent.parent / "crates" / "wcm" / "data" / "add.wasm"
 SUM = "take 1 T1 add (2, 3)\nenter T1\nreturn T1 (5)\nexit T1\ndone\n"
+# How many calls the script has whose run wants more and more memory.
+CALLS = 20_000
+# A `write` that takes one byte a call, in place of the system's.
+ONE_BYTE = """
+#include <sys/syscall.h>
+#include <unistd.h>
+ssize_t write(int file, const void *bytes, size_t count) {
+    return syscall(SYS_write, file, bytes, count > 1 ? 1 : count);
+}
+"""
 
 
 class Case(NamedTuple):
@@ -39,6 +51,8 @@ class Case(NamedTuple):
     # Devices in place of the output and the error output.
     out_to: Optional[str] = None
     err_to: Optional[str] = None
+    # A library in front of the system's.
+    preload: Optional[str] = None
 
 
 class Found(NamedTuple):
@@ -67,6 +81,7 @@ def run(program, case):
             stdout=out,
             stderr=err,
             preexec_fn=limit,
+            env={**os.environ, "LD_PRELOAD": case.preload} if case.preload else None,
             timeout=120,
         )
         for stream in (out, err):
@@ -161,20 +176,62 @@ def report(title, differences):
     return not differences
 
 
-def want_of_memory(program):
-    """Reads a component of 15 MiB in less and less space. The status is 0 up to where it is 9."""
-    large = formats.component(formats.section(0, formats.name("") + bytes(15 * MIB)))
+def calls(count):
+    """A script of so many calls, and the text of its run."""
+    script = f"fuel {10 * count}\n" + "call add (2, 3)\n" * count
+    text = "".join(
+        f"take {k} T{k} add (2, 3)\nenter T{k}\nreturn T{k} (5)\nexit T{k}\n" for k in range(1, count + 1)
+    )
+    return script.encode(), (text + "done\n").encode()
+
+
+def want_of_memory(program, case, text):
+    """Makes the call in less and less space. The status is 0, with the text, up to where it is 9."""
     for space in range(128, 0, -4):
-        case = Case("", 9, component=large, script=b"", space=space * MIB)
-        found = run(program, case)
-        if found.status == 0 and found.out == b"done\n":
+        found = run(program, case._replace(space=space * MIB))
+        if found.status == 0 and found.out == text:
             continue
         if found.status != 9:
             return [f"status {found.status} in {space} MiB: {found.err!r}"]
-        if found.out != b"" or not b"want of memory\n".startswith(found.err):
-            return [f"in {space} MiB: {found.out!r}, {found.err!r}"]
+        if not text.startswith(found.out) or found.err != b"want of memory\n":
+            return [f"in {space} MiB: {found.out[-80:]!r}, {found.err!r}"]
         return []
     return ["it never came"]
+
+
+def memory_cases(add):
+    """Calls that want more memory the less they are given, and the text of their run."""
+    large = formats.component(formats.section(0, formats.name("") + bytes(15 * MIB)))
+    script, text = calls(CALLS)
+    return [
+        (Case("in reading", 9, component=large, script=b""), b"done\n"),
+        (Case("in a run", 9, component=add, script=script), text),
+    ]
+
+
+def one_byte_library(folder):
+    """The library whose `write` takes one byte a call, or None where there is no compiler of C."""
+    compiler = shutil.which("cc")
+    if compiler is None:
+        return None
+    source, library = Path(folder) / "one_byte.c", Path(folder) / "one_byte.so"
+    source.write_text(ONE_BYTE)
+    subprocess.run([compiler, "-shared", "-fPIC", "-o", library, source], check=True)
+    return str(library)
+
+
+def one_byte_cases(program, add):
+    """The answers where each output takes one byte a call: of whole runs, and where memory is wanting."""
+    with tempfile.TemporaryDirectory() as folder:
+        library = one_byte_library(folder)
+        if library is None:
+            return [report("one byte a call", ["there is no compiler of C"])]
+        case = Case("one byte a call", 0, out=SUM, component=add, preload=library)
+        passed = [report(case.title, failures(case, run(program, case)))]
+        for case, text in memory_cases(add):
+            found = want_of_memory(program, case._replace(preload=library), text)
+            passed.append(report(f"want of memory {case.title}, one byte a call", found))
+        return passed
 
 
 def main():
@@ -184,7 +241,9 @@ def main():
     cases = statuses(ADD.read_bytes())
     cases += [case._replace(title=f"2^32 - 1 {case.title}") for case in counts()]
     passed = [report(case.title, failures(case, run(program, case))) for case in cases]
-    passed.append(report("want of memory", want_of_memory(program)))
+    for case, text in memory_cases(ADD.read_bytes()):
+        passed.append(report(f"want of memory {case.title}", want_of_memory(program, case, text)))
+    passed += one_byte_cases(program, ADD.read_bytes())
     print(f"{passed.count(True)} of {len(passed)} passed")
     sys.exit(0 if all(passed) else 1)
 
