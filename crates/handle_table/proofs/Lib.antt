@@ -1,0 +1,7 @@
+pub mod Alike
+pub mod Freed
+pub mod Histories
+pub mod Places
+pub mod Soundness
+pub mod Standing
+pub mod Writes

@@ -1,0 +1,4 @@
+pub mod Runs
+pub mod Standing
+pub mod SubtaskRuns
+pub mod SubtaskStanding

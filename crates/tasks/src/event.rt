@@ -1,0 +1,89 @@
+//! What happens to a task.
+
+ghost use Rattle.std.specs.Prelude.{◌≡◌};
+ghost use Rattle.tasks.specs.Tasks.{is_entry};
+
+/// Where a task waits.
+#[derive(Clone, Copy, Debug, PartialEq, Eq)]
+pub enum BlockedAt {
+    /// It waits to enter its instance.
+    Entry,
+    /// It waits in its loop, after its core function or its callback returned this word.
+    Loop(u32),
+    /// In `yield`.
+    Yield,
+    /// In `waitable-set.wait`, at the set of this index.
+    Set(u32),
+    /// In a synchronous call of this task.
+    Call(u32),
+    /// In a synchronous read or write at the end of this index.
+    Copy(u32),
+    /// In a synchronous `subtask.cancel` of the subtask of this index.
+    Cancel(u32),
+}
+
+/// What happens to a task.
+#[derive(Clone, Copy, Debug, PartialEq, Eq)]
+pub enum TaskEvent {
+    /// A new task, or one that waits to enter, enters its instance.
+    Enter,
+    /// It blocks there. The flag is that of the built-in: whether a cancellation may end the wait.
+    Block(BlockedAt, bool),
+    /// A task that is blocked, and not at its entry, goes on.
+    Go,
+    /// `task.return` is called: a task that is lifted without `async` may not.
+    AskReturn,
+    /// Its result is returned.
+    Return,
+    /// `task.cancel` is called.
+    Cancel,
+    /// A borrow handle is made for it.
+    Borrow,
+    /// A borrow handle that was made for it is dropped.
+    Unborrow,
+    /// It is told that its cancellation is asked.
+    ToldCancel,
+    /// It exits.
+    Exit,
+}
+
+/// Why something may not happen to a task.
+#[derive(Clone, Copy, Debug, PartialEq, Eq)]
+pub enum TaskTrap {
+    /// The task is lifted without `async`.
+    SyncTask,
+    /// It was not told that its cancellation is asked.
+    NotAsked,
+    /// It is resolved already.
+    Resolved,
+    /// A borrow handle that was made for it is live.
+    BorrowLives,
+}
+
+/// What comes of a request to cancel a task.
+#[derive(Clone, Copy, Debug, PartialEq, Eq)]
+pub enum Asked {
+    /// It waited to enter, and is removed.
+    Removed,
+    /// It waits where a cancellation ends the wait: it goes on at once, and is told.
+    ResumeNow,
+    /// It is told when it next asks for events, if it does.
+    Pending,
+}
+
+impl BlockedAt {
+    /// Whether it is the entry.
+    pub(crate) fn is_entry(self) -> bool
+        ensures { result ≡ is_entry self }
+    {
+        match self {
+            BlockedAt::Entry => true,
+            BlockedAt::Loop(_) => false,
+            BlockedAt::Yield => false,
+            BlockedAt::Set(_) => false,
+            BlockedAt::Call(_) => false,
+            BlockedAt::Copy(_) => false,
+            BlockedAt::Cancel(_) => false,
+        }
+    }
+}

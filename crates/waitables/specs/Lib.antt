@@ -1,0 +1,4 @@
+pub mod Placing
+pub mod Sets
+pub mod History
+pub mod Laws

@@ -1,0 +1,8 @@
+//! Where a waitable is a member.
+
+/// The set that a waitable is in, and the time at which it joined.
+#[derive(Clone, Copy, Debug)]
+pub struct Place {
+    pub set: u32,
+    pub time: u64,
+}
