@@ -1,0 +1,7 @@
+pub mod Binary
+pub mod Bodies
+pub mod Examples
+pub mod Instrs
+pub mod Items
+pub mod Laws
+pub mod Parts

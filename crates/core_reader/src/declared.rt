@@ -1,0 +1,62 @@
+//! What is read of a module before its tree is made.
+
+use crate::parted::Parted;
+use ca_base::{Placed, Seq};
+use wasm_module::{
+    Body, ConstInstr, DataPlaces, DataSegment, ElementPlaces, ElementSegment, Export, Func,
+    FuncPlaces, FuncType, Global, GlobalPlaces, Import, Limits,
+};
+
+/// A function as the function section declares it.
+#[derive(Clone, Copy, Debug, PartialEq, Eq)]
+pub(crate) struct DeclaredFunc {
+    /// The index of its type.
+    pub type_index: u32,
+    /// The place of that index.
+    pub place: usize,
+}
+
+/// A body, and the place of each of its operations.
+#[derive(Debug, Drop)]
+pub(crate) struct PlacedBody {
+    pub body: Body,
+    pub ops: Seq<usize>,
+}
+
+/// A constant expression without its end, and the place of each instruction and of the end.
+#[derive(Debug, Drop)]
+pub(crate) struct PlacedConst {
+    pub instrs: Seq<ConstInstr>,
+    pub places: Seq<usize>,
+}
+
+/// What the sections of types, imports and functions declare.
+#[derive(Debug, Drop)]
+pub(crate) struct Declarations {
+    pub types: Seq<FuncType>,
+    pub imports: Seq<Placed<Import>>,
+    pub funcs: Seq<DeclaredFunc>,
+}
+
+/// What the sections of tables, memories and globals define.
+#[derive(Debug, Drop)]
+pub(crate) struct Definitions {
+    pub tables: Seq<Placed<Limits>>,
+    pub memories: Seq<Placed<Limits>>,
+    pub globals: Seq<Parted<Global, GlobalPlaces>>,
+}
+
+/// What the sections of exports, of the start and of elements tell.
+#[derive(Debug, Drop)]
+pub(crate) struct Uses {
+    pub exports: Seq<Placed<Export>>,
+    pub start: Option<Placed<u32>>,
+    pub element_segments: Seq<Parted<ElementSegment, ElementPlaces>>,
+}
+
+/// What the sections of code and of data hold.
+#[derive(Debug, Drop)]
+pub(crate) struct Contents {
+    pub funcs: Seq<Parted<Func, FuncPlaces>>,
+    pub data_segments: Seq<Parted<DataSegment, DataPlaces>>,
+}

@@ -1,0 +1,48 @@
+-- What the rules know of a module and of one of its functions (Core 2.0, section 3.1.1), and the types of blocks.
+use Rattle.std.specs.Prelude.{ℕ, Bool, List, [], ◌∷◌, Option, Some, None, is_none}
+use Rattle.std.specs.List.{slice_get}
+use Rattle.wasm_module.specs.declared.types.ValType.{ValType}
+use Rattle.wasm_module.specs.declared.types.FuncType.{FuncType}
+use Rattle.wasm_module.specs.declared.types.GlobalType.{GlobalType}
+use Rattle.wasm_module.specs.declared.instr.BlockType.{BlockType}
+use Rattle.wasm_module.specs.declared.instr.BlockType.TheVariants.{Empty, Value, TypeIndex}
+
+pub record Context : Type 0 where
+  -- the module's types
+  pub types : List FuncType
+  -- of each function, imported ones first, the index of its type
+  pub funcs : List ℕ
+  -- how many tables and memories there are, imported ones among them
+  pub tables : ℕ
+  pub memories : ℕ
+  -- the types of the globals, imported ones first
+  pub globals : List GlobalType
+  -- the types of the function's parameters and locals
+  pub locals : List ValType
+  -- the types of its results
+  pub results : List ValType
+
+-- from operands of these types to results of those
+abbrev pub arrow : List ValType → List ValType → FuncType
+arrow params results = record { params = params; results = results }
+
+-- the type that a block's type stands for (section 3.2.2)
+abbrev pub block_type : List FuncType → BlockType → Option FuncType
+block_type types Empty = Some (arrow [] [])
+block_type types (Value type) = Some (arrow [] (type ∷ []))
+block_type types (TypeIndex index) = slice_get types index
+
+-- it is not there
+abbrev pub no_block_type : List FuncType → BlockType → Bool
+no_block_type types type = is_none (block_type types type)
+
+abbrev pub found_type : Option FuncType → FuncType
+found_type None = arrow [] []
+found_type (Some type) = type
+
+-- its parameters and its results
+abbrev pub params : List FuncType → BlockType → List ValType
+params types type = (found_type (block_type types type)).params
+
+abbrev pub results : List FuncType → BlockType → List ValType
+results types type = (found_type (block_type types type)).results

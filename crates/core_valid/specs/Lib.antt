@@ -1,0 +1,13 @@
+pub mod Checking
+pub mod Context
+pub mod Faults
+pub mod Finding
+pub mod Instrs
+pub mod Items
+pub mod Laws
+pub mod Modules
+pub mod Runs
+pub mod Spaces
+pub mod State
+pub mod Typing
+pub mod Untyped

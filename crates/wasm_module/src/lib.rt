@@ -1,0 +1,36 @@
+//! Core modules as trees, which a reader makes of bytes and a validation goes over; types and opcodes in bytes.
+//!
+//! A module is a tree of its parts, and beside it stand the places of these parts in its file, one for each. The body of a
+//! function is a tree too, which stands there as flat code, so that nothing that a file nests makes a call nest.
+//!
+//! - `types`: types of values, functions, memories, tables and globals; `type_kinds`: these in bytes
+//! - `instr`: instructions, and what stands in flat code; `opcodes`: groups of instructions by their opcodes
+//! - `body`: the body of a function
+//! - `locals`: the locals of a function
+//! - `module`: modules, and the places of their parts
+//! - `fault`: why the bytes of a module are refused
+#![tactic(auto)]
+
+mod body;
+mod fault;
+mod instr;
+mod locals;
+mod module;
+mod opcodes;
+mod type_kinds;
+mod types;
+
+pub use body::Body;
+pub use fault::{ModuleWhy, refused_byte};
+pub use instr::{
+    BinaryOp, BlockType, ConstInstr, Instr, LoadOp, MemArg, NumericOp, Op, RelationOp, StoreOp,
+    UnaryOp, Width,
+};
+pub use locals::{DeclaredLocals, local_types};
+pub use module::{
+    DataPlaces, DataSegment, ElementPlaces, ElementSegment, Export, ExportDesc, Func, FuncPlaces,
+    Global, GlobalPlaces, Import, ImportDesc, Module, ModuleParts, ModulePlaces, ModuleTree,
+};
+pub use opcodes::{is_float, load, numeric, store};
+pub use type_kinds::{FuncTypes, GlobalTypes, Memories, Tables, ValTypes};
+pub use types::{FuncType, GlobalType, Limits, Locals, Mutability, ValType};
