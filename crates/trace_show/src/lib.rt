@@ -1,0 +1,31 @@
+//! The text of a run: a line for each of its steps, and the dump of what it leaves.
+//!
+//! A `Label` is a line of a trace, `label_text` its text. A `Trace` writes labels to a sink as a run goes, and keeps back
+//! no more than a bounded number of bytes.
+//!
+//! - `label`: the lines of a trace; `builtin` and `trap`: the names of built-ins and traps; `typed`: values with types
+//! - `names` and `lines`: the texts of names and labels
+//! - `dump` and `dump_lines`: what a run leaves in tables and memories, and its text
+//! - `trace`: a trace over a sink
+#![tactic(auto)]
+
+mod builtin;
+mod dump;
+mod dump_lines;
+mod label;
+mod lines;
+mod names;
+mod trace;
+mod trap;
+mod typed;
+mod values;
+
+pub use builtin::Builtin;
+pub use dump::{Dump, EndState, Entry, LiveEntry, Side};
+pub use dump_lines::dump_text;
+pub use label::{BlockReason, Channel, Copied, Label};
+pub use lines::label_text;
+pub use names::name_text;
+pub use trace::{ROOM, Trace};
+pub use trap::TrapName;
+pub use typed::{TypedValue, TypedValues};

@@ -1,0 +1,24 @@
+//! What a component exports.
+
+use crate::types::FuncType;
+use ca_base::{Name, Named, Seq};
+
+/// A function that a component exports.
+#[derive(Debug, Drop)]
+pub struct Export {
+    /// The name under which it is called.
+    pub name: Name,
+    /// Its type.
+    pub func_type: FuncType,
+}
+
+impl Named for Export {
+    ghost name = { λ e. e.name };
+
+    fn name(&self) -> &str {
+        self.name.as_str()
+    }
+}
+
+/// The functions that a component exports, in order.
+pub type Exports = Seq<Export>;
