@@ -1,11 +1,11 @@
 -- The exports of a linked component can be called: what is linked later leaves what an earlier lift stands on. No two
--- of them have one name, and no two parameters of one of them have one label.
-use Rattle.std.proofs.Common.{◌≡◌, ℕ, zero, suc, List, [], ◌∷◌, ◌++◌, refl, ◌∙◌, ap, subst, Bool, true, false, cond, Option, Some, None, Result, Ok, Err, length}
+-- of them have one name, and no two parameters of one of them have one label. The machine runs each module of an instance.
+use Rattle.std.proofs.Common.{◌≡◌, ℕ, zero, suc, List, [], ◌∷◌, ◌++◌, refl, ◌∙◌, ap, subst, Bool, true, false, cond, ◌||◌, is_some, Option, Some, None, Result, Ok, Err, length}
 use Rattle.std.specs.Prelude.{is_none}
 use Rattle.std.specs.List.{slice_get, AllByRecursion}
 use Rattle.std.specs.Option.{option_and_then, option_map_or}
-use Rattle.wasm_reader.specs.declared.module.FuncType as core
-use Rattle.wasm_reader.specs.declared.module.ModuleTree.{ModuleTree}
+use Rattle.wasm_module.specs.declared.types.FuncType as core
+use Rattle.wasm_module.specs.declared.module.ModuleTree.{ModuleTree}
 use Rattle.ca_types.specs.declared.types.FuncType.{FuncType}
 use Rattle.comp_reader.specs.declared.component.CoreInstance.TheVariants.{Instantiate}
 use Rattle.comp_reader.specs.declared.component.Alias.TheVariants as alias
@@ -18,11 +18,12 @@ use Rattle.comp_reader.specs.declared.component.Item.TheVariants as item
 use Rattle.comp_reader.specs.declared.component.Component.{Component}
 use Rattle.comp_link.specs.declared.graph.CoreFunc.{CoreFunc}
 use Rattle.ca_base.specs.declared.placed.Placed.{Placed}
+use Rattle.wasm_machine.specs.Straight.{runs}
 use Rattle.comp_link.specs.declared.link_fault.LinkFault.{LinkFault}
 use Rattle.comp_link.specs.declared.link_fault.LinkWhy.{LinkWhy}
 use Rattle.ca_base.specs.Faults.{and_on, folded}
 use Rattle.ca_base.specs.Names.{first_twice, is_among, AreDistinct}
-use Rattle.comp_link.specs.Linking.{Lifted, Exported, Spaces, Graph, no_spaces, with_core_instance, with_type, with_func, with_export, link_core_instance, link_exported, link_alias, with_closed, link_type, lift_to, link_lift, link_export, link_item, link_items, link_placed, linked_at, linked_or, linked, exported, is_flat, core_type, type_at, ClosedType, Value, Func, all_within, labels, names, close_func, LiftsCore, IsCallable, HasDistinctLabels, HaveDistinctLabels}
+use Rattle.comp_link.specs.Linking.{Lifted, Exported, Spaces, Graph, no_spaces, with_core_module, with_core_instance, with_type, with_func, with_export, first_import, is_accepted, link_core_module, link_made, link_core_instance, link_exported, link_alias, with_closed, link_type, lift_to, link_lift, link_export, link_item, link_items, link_placed, linked_at, linked_or, linked, exported, is_flat, core_type, type_at, ClosedType, Value, Func, all_within, labels, names, close_func, LiftsCore, IsCallable, AllRun, HasDistinctLabels, HaveDistinctLabels}
 use Rattle.ca_base.proofs.Distinct.{distinct_law}
 use Rattle.comp_link.proofs.Distinction.{distinct_export}
 use Rattle.comp_link.proofs.Labelled.{IsLabelled, found, labels_kept}
@@ -64,36 +65,58 @@ record Labels (s : Spaces) : Type 0 where
   pub funcs : AllByRecursion (λ f. HasDistinctLabels f.func_type) s.funcs
   pub exports : AllByRecursion (λ e. HasDistinctLabels e.func.func_type) s.exports
 
+-- The machine is enough for these core modules, and runs those of these core instances.
+record Runnable (modules instances : List ModuleTree) : Type 0 where
+  pub accepted : AllByRecursion (λ m. is_accepted m ≡ true) modules
+  pub run : AllByRecursion (λ m. runs m ≡ true) instances
+
 -- The functions and the exports so far can be called.
 record Kept (s : Spaces) : Type 0 where
   pub funcs : AllByRecursion (LiftsCore s.core_instances) s.funcs
   pub exports : AllByRecursion (λ e. LiftsCore s.core_instances e.func) s.exports
   pub names : AreDistinct (names s.exports)
   pub labels : Labels s
+  pub runnable : Runnable s.core_modules s.core_instances
 
 -- what an item that is linked leaves
 abbrev Keeps : Result Spaces LinkWhy → Type 0
 Keeps (Ok t) = Kept t
 Keeps (Err why) = Unit {0}
 
-instance_tested : (s : Spaces) (m : ModuleTree) (b : Bool) (why : LinkWhy) → Kept s → Keeps (cond b (Ok (with_core_instance s m)) (Err why))
-instance_tested s m true why k = record { funcs = kept_lifts s.core_instances (m ∷ []) s.funcs k.funcs; exports = kept_exports s.core_instances (m ∷ []) s.exports k.exports; names = k.names; labels = record { types = k.labels.types; funcs = k.labels.funcs; exports = k.labels.exports } }
-instance_tested s m false why k = tt
+module_tested : (s : Spaces) (m : ModuleTree) (b : Bool) (why : LinkWhy) → is_accepted m ≡ b → Kept s → Keeps (cond b (Ok (with_core_module s m)) (Err why))
+module_tested s m true why e k = record { funcs = k.funcs; exports = k.exports; names = k.names; labels = record { types = k.labels.types; funcs = k.labels.funcs; exports = k.labels.exports }; runnable = record { accepted = behind_all (λ m. is_accepted m ≡ true) s.core_modules m k.runnable.accepted e; run = k.runnable.run } }
+module_tested s m false why e k = tt
 
-instance_keeps : (s : Spaces) (o : Option ModuleTree) → Kept s → Keeps (link_core_instance s o)
-instance_keeps s None k = tt
-instance_keeps s (Some m) k = instance_tested s m _ _ k
+module_keeps : (s : Spaces) (m : ModuleTree) → Kept s → Keeps (link_core_module s m)
+module_keeps s m k = module_tested s m _ _ refl k
+
+instance_tested : (s : Spaces) (m : ModuleTree) (b : Bool) (why : LinkWhy) → runs m ≡ true → Kept s → Keeps (cond b (Ok (with_core_instance s m)) (Err why))
+instance_tested s m true why r k = record { funcs = kept_lifts s.core_instances (m ∷ []) s.funcs k.funcs; exports = kept_exports s.core_instances (m ∷ []) s.exports k.exports; names = k.names; labels = record { types = k.labels.types; funcs = k.labels.funcs; exports = k.labels.exports }; runnable = record { accepted = k.runnable.accepted; run = behind_all (λ m. runs m ≡ true) s.core_instances m k.runnable.run r } }
+instance_tested s m false why r k = tt
+
+-- The machine runs a module that it is enough for and that has no imports.
+without_imports : (b : Bool) → (b || false) ≡ true → b ≡ true
+without_imports true h = refl
+without_imports false h = h
+
+made_keeps : (s : Spaces) (m : ModuleTree) (o : Option (List ℕ)) → (runs m || is_some o) ≡ true → Kept s → Keeps (link_made s m o)
+made_keeps s m None a k = instance_tested s m _ _ (without_imports (runs m) a) k
+made_keeps s m (Some name) a k = tt
+
+instance_keeps : (s : Spaces) (index : ℕ) (o : Option ModuleTree) → slice_get s.core_modules index ≡ o → Kept s → Keeps (link_core_instance s o)
+instance_keeps s index None e k = tt
+instance_keeps s index (Some m) e k = made_keeps s m (first_import m) (all_at (λ m. is_accepted m ≡ true) s.core_modules index m k.runnable.accepted e) k
 
 exported_keeps : (s : Spaces) (index : ℕ) (name : List ℕ) (o : Option ℕ) → Kept s → Keeps (link_exported s index name o)
 exported_keeps s index name None k = tt
-exported_keeps s index name (Some func) k = record { funcs = k.funcs; exports = k.exports; names = k.names; labels = record { types = k.labels.types; funcs = k.labels.funcs; exports = k.labels.exports } }
+exported_keeps s index name (Some func) k = record { funcs = k.funcs; exports = k.exports; names = k.names; labels = record { types = k.labels.types; funcs = k.labels.funcs; exports = k.labels.exports }; runnable = k.runnable }
 
 alias_keeps : (s : Spaces) (index : ℕ) (name : List ℕ) (o : Option ModuleTree) → Kept s → Keeps (link_alias s index name o)
 alias_keeps s index name None k = tt
 alias_keeps s index name (Some m) k = exported_keeps s index name (exported m name) k
 
 with_type_keeps : (s : Spaces) (t : ClosedType) → IsLabelled t → Kept s → Kept (with_type s t)
-with_type_keeps s t l k = record { funcs = k.funcs; exports = k.exports; names = k.names; labels = record { types = behind_all IsLabelled s.types t k.labels.types l; funcs = k.labels.funcs; exports = k.labels.exports } }
+with_type_keeps s t l k = record { funcs = k.funcs; exports = k.exports; names = k.names; labels = record { types = behind_all IsLabelled s.types t k.labels.types l; funcs = k.labels.funcs; exports = k.labels.exports }; runnable = k.runnable }
 
 closed_keeps : (s : Spaces) (type : read_func.FuncType) (o : Option FuncType) → close_func s.types type ≡ o → AreDistinct (labels type.params) → Kept s → Keeps (with_closed s o)
 closed_keeps s type None e d k = tt
@@ -118,7 +141,7 @@ lifted_type (Some t) type h = (t, refl, h)
 lift_tested : (s : Spaces) (f : CoreFunc) (type : FuncType) (b : Bool) (why : LinkWhy) → option_map_or (is_flat type) (core_type s.core_instances f) false ≡ b → HasDistinctLabels type → Kept s → Keeps (cond b (Ok (with_func s (record { core = f; func_type = type }))) (Err why))
 lift_tested s f type true why e d k =
     let t = lifted_type (core_type s.core_instances f) type e in
-    record { funcs = behind_all (LiftsCore s.core_instances) s.funcs (record { core = f; func_type = type }) k.funcs (record { type = t.0; there = t.1; flat = t.2 }); exports = k.exports; names = k.names; labels = record { types = k.labels.types; funcs = behind_all (λ f. HasDistinctLabels f.func_type) s.funcs (record { core = f; func_type = type }) k.labels.funcs d; exports = k.labels.exports } }
+    record { funcs = behind_all (LiftsCore s.core_instances) s.funcs (record { core = f; func_type = type }) k.funcs (record { type = t.0; there = t.1; flat = t.2 }); exports = k.exports; names = k.names; labels = record { types = k.labels.types; funcs = behind_all (λ f. HasDistinctLabels f.func_type) s.funcs (record { core = f; func_type = type }) k.labels.funcs d; exports = k.labels.exports }; runnable = k.runnable }
 lift_tested s f type false why e d k = tt
 
 to_keeps : (s : Spaces) (f : CoreFunc) (t : ClosedType) → IsLabelled t → Kept s → Keeps (lift_to s f t)
@@ -133,15 +156,15 @@ lift_keeps s (Some f) index (Some type) e k = to_keeps s f type (all_at IsLabell
 export_tested : (s : Spaces) (name : List ℕ) (f : Lifted) (b : Bool) (why : LinkWhy) → is_among name (names s.exports) ≡ b → LiftsCore s.core_instances f → HasDistinctLabels f.func_type → Kept s → Keeps (cond b (Err why) (Ok (with_export s name f)))
 export_tested s name f true why e l d k = tt
 export_tested s name f false why e l d k =
-    record { funcs = behind_all (LiftsCore s.core_instances) s.funcs f k.funcs l; exports = behind_all (λ e. LiftsCore s.core_instances e.func) s.exports (record { name = name; func = f }) k.exports l; names = distinct_export s name f k.names e; labels = record { types = k.labels.types; funcs = behind_all (λ f. HasDistinctLabels f.func_type) s.funcs f k.labels.funcs d; exports = behind_all (λ e. HasDistinctLabels e.func.func_type) s.exports (record { name = name; func = f }) k.labels.exports d } }
+    record { funcs = behind_all (LiftsCore s.core_instances) s.funcs f k.funcs l; exports = behind_all (λ e. LiftsCore s.core_instances e.func) s.exports (record { name = name; func = f }) k.exports l; names = distinct_export s name f k.names e; labels = record { types = k.labels.types; funcs = behind_all (λ f. HasDistinctLabels f.func_type) s.funcs f k.labels.funcs d; exports = behind_all (λ e. HasDistinctLabels e.func.func_type) s.exports (record { name = name; func = f }) k.labels.exports d }; runnable = k.runnable }
 
 export_keeps : (s : Spaces) (name : List ℕ) (index : ℕ) (o : Option Lifted) → slice_get s.funcs index ≡ o → Kept s → Keeps (link_export s name o)
 export_keeps s name index None e k = tt
 export_keeps s name index (Some f) e k = export_tested s name f _ _ refl (all_at (LiftsCore s.core_instances) s.funcs index f k.funcs e) (all_at (λ f. HasDistinctLabels f.func_type) s.funcs index f k.labels.funcs e) k
 
 item_keeps : (s : Spaces) (i : Item) → Kept s → Keeps (link_item s i)
-item_keeps s (item.CoreModule m) k = record { funcs = k.funcs; exports = k.exports; names = k.names; labels = record { types = k.labels.types; funcs = k.labels.funcs; exports = k.labels.exports } }
-item_keeps s (item.CoreInstance (Instantiate index)) k = instance_keeps s (slice_get s.core_modules index) k
+item_keeps s (item.CoreModule m) k = module_keeps s m k
+item_keeps s (item.CoreInstance (Instantiate index)) k = instance_keeps s index (slice_get s.core_modules index) refl k
 item_keeps s (item.Alias (alias.CoreFunc index name)) k = alias_keeps s index name (slice_get s.core_instances index) k
 item_keeps s (item.Type type) k = type_keeps s type k
 item_keeps s (item.Canon (Lift f type)) k = lift_keeps s (slice_get s.core_funcs f) type (slice_get s.types type) refl k
@@ -166,20 +189,24 @@ items_keep s (p ∷ items) k = behind_keeps items (link_placed s p) (λ t h. ite
 -- what holds of a graph that a component is linked to
 record IsKept (g : Graph) : Type 0 where
   pub callable : IsCallable g
+  pub run : AllRun g
   pub distinct : AreDistinct (names g.exports)
   pub labels : HaveDistinctLabels g
 
 graph_keeps : (r : Result Spaces LinkFault) (g : Graph) → AllKeep r → linked_or r ≡ Ok g → IsKept g
 graph_keeps (Ok s) g k h =
     let same : record { instances = s.core_instances; exports = s.exports } ≡ g = cc in
-    subst IsKept same (record { callable = k.exports; distinct = k.names; labels = k.labels.exports })
+    subst IsKept same (record { callable = k.exports; run = k.runnable.run; distinct = k.names; labels = k.labels.exports })
 graph_keeps (Err e) g k h = cc
 
 linked_keeps : (c : Component) (g : Graph) → linked c ≡ Ok g → IsKept g
-linked_keeps c g h = graph_keeps (link_items no_spaces c.items) g (items_keep no_spaces c.items (record { funcs = tt; exports = tt; names = tt; labels = record { types = tt; funcs = tt; exports = tt } })) h
+linked_keeps c g h = graph_keeps (link_items no_spaces c.items) g (items_keep no_spaces c.items (record { funcs = tt; exports = tt; names = tt; labels = record { types = tt; funcs = tt; exports = tt }; runnable = record { accepted = tt; run = tt } })) h
 
 pub linked_callable : (c : Component) (g : Graph) → linked c ≡ Ok g → IsCallable g
 linked_callable c g h = (linked_keeps c g h).callable
+
+pub linked_run : (c : Component) (g : Graph) → linked c ≡ Ok g → AllRun g
+linked_run c g h = (linked_keeps c g h).run
 
 pub linked_distinct : (c : Component) (g : Graph) → linked c ≡ Ok g → AreDistinct (names g.exports)
 linked_distinct c g h = (linked_keeps c g h).distinct

@@ -3,7 +3,7 @@ use Rattle.std.proofs.Common.{◌≡◌, ◌+◌, ◌<◌, ◌∙◌, ℕ, zero,
 use Rattle.std.specs.List.{slice_get}
 use Rattle.std.specs.Option.{option_and_then, MatchOption}
 use Rattle.std.proofs.lemmas.List.{map-append}
-use Rattle.wasm_reader.specs.declared.module.ModuleTree.{ModuleTree}
+use Rattle.wasm_module.specs.declared.module.ModuleTree.{ModuleTree}
 use Rattle.comp_link.specs.Linking.{core_instance_limit}
 use Rattle.comp_link.specs.Made.{AreMade}
 

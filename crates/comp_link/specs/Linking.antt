@@ -1,7 +1,7 @@
 -- Linking (Component Model, Explainer.md, "Index Spaces" and "Instance Definitions"; CanonicalABI.md, `canon lift`). The
 -- items of a component are linked in file order. Each one looks its indices up in the index spaces of the items before
 -- it, and adds one index to the space of its sort. The first item that has no meaning is refused.
-use Rattle.std.specs.Prelude.{◌≡◌, ℕ, Bool, true, false, is_none, ◌&&◌, ◌==◌, nat_lt, nat_le, List, [], ◌∷◌, ◌++◌, length, map, find, if◌then◌else◌, Option, Some, None, Result, Ok, Err}
+use Rattle.std.specs.Prelude.{◌≡◌, ℕ, Bool, true, false, is_some, is_none, ◌&&◌, ◌||◌, ◌==◌, nat_lt, nat_le, List, [], ◌∷◌, ◌++◌, length, map, find, if◌then◌else◌, Option, Some, None, Result, Ok, Err}
 use Rattle.std.specs.List.{slice_get, list_all, AllByRecursion}
 use Rattle.std.specs.Option.{option_and_then, option_map, option_map_or}
 use Rattle.std.specs.Str.{bytes_eq}
@@ -9,10 +9,13 @@ use Rattle.ca_types.specs.declared.types.ValType.{ValType}
 use Rattle.ca_types.specs.declared.types.Param.{Param}
 use Rattle.ca_types.specs.declared.types.FuncType.{FuncType}
 use Rattle.ca_types.specs.declared.exports.Export.{Export}
-use Rattle.wasm_reader.specs.declared.module.ValType as core_val
-use Rattle.wasm_reader.specs.declared.module.ValType.TheVariants.{I32, I64}
-use Rattle.wasm_reader.specs.declared.module.FuncType as core
-use Rattle.wasm_reader.specs.declared.module.ModuleTree.{ModuleTree}
+use Rattle.wasm_module.specs.declared.types.ValType as core_val
+use Rattle.wasm_module.specs.declared.types.ValType.TheVariants.{I32, I64}
+use Rattle.wasm_module.specs.declared.types.FuncType as core
+use Rattle.wasm_module.specs.declared.module.ExportDesc.{ExportDesc}
+use Rattle.wasm_module.specs.declared.module.ExportDesc.TheVariants as offered
+use Rattle.wasm_module.specs.declared.module.ModuleTree.{ModuleTree}
+use Rattle.wasm_machine.specs.Straight.{runs}
 use Rattle.ca_base.specs.declared.placed.Placed.{Placed}
 use Rattle.comp_reader.specs.declared.component.CoreInstance.TheVariants.{Instantiate}
 use Rattle.comp_reader.specs.declared.component.Alias.TheVariants as alias
@@ -91,20 +94,45 @@ with_func s f = record { core_modules = s.core_modules; core_instances = s.core_
 abbrev pub with_export : Spaces → List ℕ → Lifted → Spaces
 with_export s name f = record { core_modules = s.core_modules; core_instances = s.core_instances; core_funcs = s.core_funcs; types = s.types; funcs = s.funcs ++ f ∷ []; exports = s.exports ++ record { name = name; func = f } ∷ [] }
 
+-- the name of the module that the first import of a core module comes from, where it has imports
+abbrev pub first_import : ModuleTree → Option (List ℕ)
+first_import m = option_map (λ i. i.module) (slice_get m.imports 0)
+
+-- Whether the machine is enough for a core module: it runs it, or no instance of it can be made, since it has imports.
+abbrev pub is_accepted : ModuleTree → Bool
+is_accepted m = runs m || is_some (first_import m)
+
+-- A core module: `Limit` where the machine is not enough for it.
+abbrev pub link_core_module : Spaces → ModuleTree → Result Spaces LinkWhy
+link_core_module s m = if is_accepted m then Ok (with_core_module s m) else Err why.Limit
+
 -- how many core instances a component may make
 abbrev pub core_instance_limit : ℕ
 core_instance_limit = 256
 
--- A core instance: `Index` where the module is not there, `Limit` where there are as many as there may be.
+-- A core instance, which has no arguments: `Index` where the module is not there, `Missing` of the module that its first
+-- import comes from, where it has imports, `Limit` where there are as many instances as there may be.
+abbrev pub link_made : Spaces → ModuleTree → Option (List ℕ) → Result Spaces LinkWhy
+link_made s m (Some name) = Err (why.Missing name)
+link_made s m None = if nat_lt (length s.core_instances) core_instance_limit then Ok (with_core_instance s m) else Err why.Limit
+
 abbrev pub link_core_instance : Spaces → Option ModuleTree → Result Spaces LinkWhy
 link_core_instance s None = Err why.Index
-link_core_instance s (Some m) = if nat_lt (length s.core_instances) core_instance_limit then Ok (with_core_instance s m) else Err why.Limit
+link_core_instance s (Some m) = link_made s m (first_import m)
+
+-- the index of the function that an export offers, where it offers one
+abbrev pub offered_func : ExportDesc → Option ℕ
+offered_func (offered.Func index) = Some index
+offered_func (offered.Table index) = None
+offered_func (offered.Memory index) = None
+offered_func (offered.Global index) = None
 
 -- the index of the function that a core module exports under a name
 abbrev pub exported : ModuleTree → List ℕ → Option ℕ
-exported m name = option_map (λ e. e.func) (find (λ e. bytes_eq e.name name) m.exports)
+exported m name = option_and_then (λ e. offered_func e.desc) (find (λ e. bytes_eq e.name name) m.exports)
 
--- An alias of a core instance's export: `Index` where the instance is not there, `Missing` where it has no such export.
+-- An alias of a function that a core instance exports: `Index` where the instance is not there, `Missing` where it exports no
+-- function under this name.
 abbrev pub link_exported : Spaces → ℕ → List ℕ → Option ℕ → Result Spaces LinkWhy
 link_exported s instance name None = Err (why.Missing name)
 link_exported s instance name (Some func) = Ok (with_core_func s (record { instance = instance; func = func }))
@@ -168,7 +196,8 @@ link_type s (def_type.Func type) =
     (if is_none (first_twice (labels type.params)) then with_closed s (close_func s.types type) else Err why.Typing)
     else Err why.Index
 
--- the type of a core function, where it is there
+-- The type of a core function, where it is there. The module of an instance has no imports, so its functions are those that
+-- it defines.
 abbrev pub type_at : ModuleTree → ℕ → Option core.FuncType
 type_at m func = option_and_then (λ f. slice_get m.types f.type_index) (slice_get m.funcs func)
 
@@ -218,7 +247,7 @@ link_export s name (Some f) = if is_among name (names s.exports) then Err why.Ty
 
 -- an item, behind others that have these index spaces
 abbrev pub link_item : Spaces → Item → Result Spaces LinkWhy
-link_item s (item.CoreModule m) = Ok (with_core_module s m)
+link_item s (item.CoreModule m) = link_core_module s m
 link_item s (item.CoreInstance (Instantiate index)) = link_core_instance s (slice_get s.core_modules index)
 link_item s (item.Alias (alias.CoreFunc index name)) = link_alias s index name (slice_get s.core_instances index)
 link_item s (item.Type type) = link_type s type
@@ -261,6 +290,10 @@ pub record LiftsCore (instances : List ModuleTree) (f : Lifted) : Type 0 where
 -- what a graph needs so that its exports can be called
 abbrev pub IsCallable : Graph → Type 0
 IsCallable g = AllByRecursion (λ e. LiftsCore g.instances e.func) g.exports
+
+-- The machine runs the module of each core instance.
+abbrev pub AllRun : Graph → Type 0
+AllRun g = AllByRecursion (λ m. runs m ≡ true) g.instances
 
 -- no two parameters of an export have one label
 abbrev pub HasDistinctLabels : FuncType → Type 0

@@ -1,15 +1,17 @@
-//! Core modules whose exports are looked up by their names.
+//! Core modules: what they import and export.
 
-ghost use Rattle.std.specs.Prelude.{◌≡◌, IfOk};
+ghost use Rattle.std.specs.Prelude.{◌≡◌, IfOk, MatchOption, None, Some};
 ghost use Rattle.std.specs.List.{slice_get};
-ghost use Rattle.std.specs.Option.{option_and_then, option_map};
-ghost use Rattle.comp_link.specs.Linking.{exported};
+ghost use Rattle.std.specs.Option.{option_and_then};
+ghost use Rattle.comp_link.specs.Linking as linking;
+ghost use Rattle.comp_link.specs.Linking.{exported, offered_func};
 
-use ca_base::{by_name, find};
+use ca_base::{Name, by_name, find};
 use std::alloc::{AllocError, Global};
 use std::collections::BTreeMap;
 use std::marker::Model;
-use wasm_reader::ModuleTree;
+use wasm_machine::runs;
+use wasm_module::{ExportDesc, ModuleTree};
 use wasm_valid::Valid;
 
 /// A core module, and the numbers of its exports by their names. Contracts see the module.
@@ -21,8 +23,8 @@ pub struct CoreModule<'a> {
 
 impl<'a> Model for CoreModule<'a> {
     ghost use Rattle.std.specs.Prelude.{◌≡◌, ℕ, List, map};
-    ghost use Rattle.wasm_reader.specs.declared.module.ModuleTree.{ModuleTree};
-    ghost use Rattle.wasm_reader.specs.contracts.module.ModuleTree as tree;
+    ghost use Rattle.wasm_module.specs.declared.module.ModuleTree.{ModuleTree};
+    ghost use Rattle.wasm_module.specs.contracts.module.ModuleTree as tree;
     ghost use Rattle.ca_base.specs.Names.{at_name, first_named};
 
     ghost Value = { ModuleTree };
@@ -50,7 +52,7 @@ impl<'a> CoreModule<'a> {
         self.valid
     }
 
-    /// The index of the function that the module exports under a name.
+    /// The index of the function that the module exports under a name, if it exports one.
     pub fn exported_func(&self, name: &str) -> Option<u32>
         ensures { result ≡ exported self.now name.now }
     {
@@ -60,10 +62,35 @@ impl<'a> CoreModule<'a> {
     }
 }
 
-/// The index of the function of the export of a number, if there is one.
+/// The index of the function that the export of a number offers, if there is one and it does.
 fn func_at(tree: &ModuleTree, number: Option<usize>) -> Option<u32>
-    ensures { result ≡ option_map (λ e. e.func) (option_and_then (λ k. slice_get tree.now.exports k) number) }
+    ensures { result ≡ option_and_then (λ e. offered_func e.desc) (option_and_then (λ k. slice_get tree.now.exports k) number) }
 {
     let export = tree.exports.as_slice().get(number?)?;
-    Some(export.func)
+    offered_func(export.desc)
+}
+
+/// The index of the function that an export offers, if it offers one.
+fn offered_func(desc: ExportDesc) -> Option<u32>
+    ensures { result ≡ offered_func desc }
+{
+    match desc {
+        ExportDesc::Func(index) => Some(index),
+        ExportDesc::Table(_) | ExportDesc::Memory(_) | ExportDesc::Global(_) => None,
+    }
+}
+
+/// The name of the module that the first import of a core module comes from, if it has imports.
+pub fn first_import<'a>(tree: &'a ModuleTree) -> Option<&'a Name>
+    ensures { MatchOption result (linking.first_import tree.now ≡ None) (λ name. linking.first_import tree.now ≡ Some name.now) }
+{
+    let import = tree.imports.as_slice().first()?;
+    Some(&import.module)
+}
+
+/// Whether the machine is enough for a core module: it runs it, or no instance of it can be made, since it has imports.
+pub fn is_accepted(tree: &ModuleTree) -> bool
+    ensures { result ≡ linking.is_accepted tree.now }
+{
+    runs(tree) || first_import(tree).is_some()
 }

@@ -53,7 +53,7 @@ pub struct Graph<'a> {
 
 impl<'a> Model for Graph<'a> {
     ghost use Rattle.std.specs.Prelude.{◌≤◌, length, map};
-    ghost use Rattle.wasm_reader.specs.contracts.module.ModuleTree as tree;
+    ghost use Rattle.wasm_module.specs.contracts.module.ModuleTree as tree;
     ghost use Rattle.ca_types.specs.contracts.types.FuncType as func_type;
     ghost use Rattle.comp_link.specs.contracts.graph.CoreFunc as core_func;
     ghost use Rattle.comp_link.specs.Linking as linking;

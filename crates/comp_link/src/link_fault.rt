@@ -9,13 +9,14 @@ use ca_base::{MemoryOr, Name};
 pub enum LinkWhy {
     /// An index is past its index space.
     Index,
-    /// An instance has no export of this name.
+    /// A core instance exports no function under this name, or its module has imports, for which it has no arguments: this
+    /// is the name of the module that the first one comes from.
     Missing(Name),
     /// A label or an export's name stands twice, or a type is none of a function where one is wanted.
     Typing,
     /// The core function of a lift does not have the flat type of the function (Component Model, CanonicalABI.md).
     Canon,
-    /// There are more than 256 core instances.
+    /// There are more than 256 core instances, or the machine is not enough for a core module.
     Limit,
 }
 

@@ -5,10 +5,11 @@ ghost use Rattle.std.specs.List.{slice_get, list_all};
 ghost use Rattle.std.specs.Option.{option_map, option_map_or};
 ghost use Rattle.ca_base.specs.Faults.{IfFault};
 ghost use Rattle.comp_link.specs.Linking as linking;
-ghost use Rattle.comp_link.specs.Linking.{labels, names, close_val, close_result, close_func, with_type, is_i32, is_flat, core_type, linked, IsLinked, IsLinkRefused, IsCallable, HaveDistinctLabels};
+ghost use Rattle.comp_link.specs.Linking.{labels, names, close_val, close_result, close_func, with_type, is_i32, is_flat, core_type, linked, IsLinked, IsLinkRefused, IsCallable, AllRun, HaveDistinctLabels};
 ghost use Rattle.ca_base.specs.Names.{first_twice, AreDistinct};
 ghost use Rattle.comp_link.specs.Plain.{plain_val, plain_func};
 
+use crate::core_module::{first_import, is_accepted};
 use crate::graph::{CoreFunc, Graph, Lifted};
 use crate::link_fault::{ItemError, LinkError, LinkFault, LinkWhy};
 use crate::spaces::Spaces;
@@ -17,7 +18,8 @@ use comp_reader::{
     Alias, Canon, Component, CoreInstance, DefType, Export, FuncType, Item, Param, ValTypeRef,
 };
 use std::alloc::{AllocError, Global};
-use wasm_reader::{ModuleTree, ValType};
+use wasm_module::{ModuleTree, ValType};
+use wasm_valid::Valid;
 
 /// How many core instances a component may make.
 const CORE_INSTANCE_LIMIT: usize = 256;
@@ -25,11 +27,34 @@ const CORE_INSTANCE_LIMIT: usize = 256;
 /// How many parameters are passed as core parameters.
 const FLAT_LIMIT: usize = 16;
 
+/// Links a core module.
+fn link_core_module<'a>(
+    alloc: Global,
+    valid: &'a Valid,
+    spaces: &mut Spaces<'a>,
+) -> Result<(), ItemError>
+    ensures { MatchResult result (λ _. linking.link_core_module spaces.old valid.now ≡ Ok spaces.new) (λ e. IfFault e (λ why. linking.link_core_module spaces.old valid.now ≡ Err why)) }
+{
+    if !is_accepted(valid.tree()) {
+        return Err(MemoryOr::Fault(LinkWhy::Limit));
+    }
+    spaces.add_core_module(alloc, valid)?;
+    Ok(())
+}
+
 /// Links a core instance of the core module of this index.
-fn link_core_instance<'a>(index: u32, spaces: &mut Spaces<'a>) -> Result<(), ItemError>
+fn link_core_instance<'a>(
+    alloc: Global,
+    index: u32,
+    spaces: &mut Spaces<'a>,
+) -> Result<(), ItemError>
     ensures { MatchResult result (λ _. linking.link_core_instance spaces.old (slice_get spaces.old.core_modules index) ≡ Ok spaces.new) (λ e. IfFault e (λ why. linking.link_core_instance spaces.old (slice_get spaces.old.core_modules index) ≡ Err why)) }
 {
     let valid = spaces.core_module(index).ok_or(LinkWhy::Index)?.valid();
+    if let Some(name) = first_import(valid.tree()) {
+        let name = Name::new(alloc, name.as_str())?;
+        return Err(MemoryOr::Fault(LinkWhy::Missing(name)));
+    }
     if spaces.core_instance_count() >= CORE_INSTANCE_LIMIT {
         return Err(MemoryOr::Fault(LinkWhy::Limit));
     }
@@ -185,7 +210,7 @@ fn result_count(returned: Option<ValTypeRef>) -> usize
 
 /// Whether a core type is that of the lift of a function of this type.
 #[tactic(auto, using(crate::proofs::Closing::plain_count))]
-fn is_flat(func_type: &FuncType, of_core: &wasm_reader::FuncType) -> bool
+fn is_flat(func_type: &FuncType, of_core: &wasm_module::FuncType) -> bool
     ensures { result ≡ is_flat (plain_func func_type.now) of_core.now }
 {
     let count = func_type.params.len();
@@ -198,7 +223,7 @@ fn is_flat(func_type: &FuncType, of_core: &wasm_reader::FuncType) -> bool
 }
 
 /// The type of the function of an index, where it is there.
-fn type_at<'a>(tree: &'a ModuleTree, func: u32) -> Option<&'a wasm_reader::FuncType>
+fn type_at<'a>(tree: &'a ModuleTree, func: u32) -> Option<&'a wasm_module::FuncType>
     ensures { MatchOption result (linking.type_at tree.now func ≡ None) (λ t. linking.type_at tree.now func ≡ Some t.now) }
 {
     let func = tree.funcs.as_slice().get(func as usize)?;
@@ -252,9 +277,9 @@ fn link_item<'a>(alloc: Global, item: &'a Item, spaces: &mut Spaces<'a>) -> Resu
     ensures { MatchResult result (λ _. linking.link_item spaces.old item.now ≡ Ok spaces.new) (λ e. IfFault e (λ why. linking.link_item spaces.old item.now ≡ Err why)) }
 {
     match item {
-        Item::CoreModule(valid) => spaces.add_core_module(alloc, valid)?,
+        Item::CoreModule(valid) => link_core_module(alloc, valid, spaces)?,
         Item::CoreInstance(CoreInstance::Instantiate(index)) => {
-            link_core_instance(*index, spaces)?
+            link_core_instance(alloc, *index, spaces)?
         }
         Item::Alias(Alias::CoreFunc { instance, name }) => {
             link_alias(alloc, *instance, name, spaces)?
@@ -303,6 +328,8 @@ pub fn link<'a>(alloc: Global, component: &'a Component) -> Result<Graph<'a>, Li
     ensures refused { IfErr result (λ e. IfFault e (λ fault. IsLinkRefused component.now fault)) }
     // The core function of each export is there and has the flat type.
     ensures callable { IfOk result (λ g. IsCallable g) }
+    // The machine runs the module of each core instance.
+    ensures runs { IfOk result (λ g. AllRun g) }
     // No two exports have one name.
     ensures distinct { IfOk result (λ g. AreDistinct (names g.exports)) }
     // No two parameters of an export have one label.

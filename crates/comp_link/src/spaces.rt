@@ -30,7 +30,7 @@ pub struct Spaces<'a> {
 
 impl<'a> Model for Spaces<'a> {
     ghost use Rattle.std.specs.Prelude.{map};
-    ghost use Rattle.wasm_reader.specs.contracts.module.ModuleTree as tree;
+    ghost use Rattle.wasm_module.specs.contracts.module.ModuleTree as tree;
     ghost use Rattle.ca_types.specs.contracts.types.FuncType as func_type;
     ghost use Rattle.comp_reader.specs.contracts.component.DefType as def_type;
     ghost use Rattle.comp_link.specs.contracts.graph.CoreFunc as core_func;

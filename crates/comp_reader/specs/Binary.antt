@@ -8,12 +8,12 @@ use Rattle.ca_base.specs.Items.{byte_of, NumberReasons, Reasons, fixed, marker, 
 use Rattle.ca_base.specs.declared.refusal.Refusal.{Refusal}
 use Rattle.ca_base.specs.declared.placed.Placed.{Placed}
 use Rattle.ca_types.specs.declared.types.ValType.TheVariants.{U32}
-use Rattle.wasm_reader.specs.declared.fault.ModuleWhy.TheVariants as module_why
-use Rattle.wasm_reader.specs.declared.module.ModuleParts.{ModuleParts}
-use Rattle.wasm_reader.specs.declared.module.ModuleTree.{ModuleTree}
+use Rattle.wasm_module.specs.declared.fault.ModuleWhy.TheVariants as module_why
+use Rattle.wasm_module.specs.declared.module.ModuleParts.{ModuleParts}
+use Rattle.wasm_module.specs.declared.module.ModuleTree.{ModuleTree}
 use Rattle.wasm_reader.specs.Binary.{the_module}
 use Rattle.wasm_valid.specs.declared.fault.ValidFault.{ValidFault}
-use Rattle.wasm_valid.specs.Checking.{untyped}
+use Rattle.wasm_valid.specs.Finding.{untyped}
 use Rattle.comp_reader.specs.declared.component.CoreInstance.TheVariants.{Instantiate}
 use Rattle.comp_reader.specs.declared.component.Alias.TheVariants.{CoreFunc}
 use Rattle.comp_reader.specs.declared.component.ValTypeRef.{ValTypeRef}

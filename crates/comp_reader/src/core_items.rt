@@ -10,7 +10,8 @@ use crate::fault::ComponentWhy;
 use crate::items::read_name;
 use ca_base::{Kind, MemoryOr, ReadError, Refusal, Window};
 use std::alloc::Global;
-use wasm_reader::{Module, ModuleWhy, read_module};
+use wasm_module::{Module, ModuleWhy};
+use wasm_reader::read_module;
 use wasm_valid::validate;
 
 /// The refusal of a module as one of its component.

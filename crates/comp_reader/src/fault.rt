@@ -1,7 +1,7 @@
 //! Why components are refused.
 
 use ca_base::{NumberReason, Reason};
-use wasm_reader::ModuleWhy;
+use wasm_module::ModuleWhy;
 use wasm_valid::ValidWhy;
 
 /// Why the bytes of a component are refused (Component Model, Binary.md).

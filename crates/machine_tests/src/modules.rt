@@ -1,21 +1,25 @@
 //! Modules of texts as stores, and calls of their first functions.
 
 ghost use Rattle.std.specs.Prelude.{ℕ, List, ◌∷◌, IfOk, IsTrue};
-ghost use Rattle.wasm_reader.specs.declared.module.ValType.{ValType};
+ghost use Rattle.wasm_module.specs.declared.types.ValType.{ValType};
 ghost use Rattle.wasm_machine.specs.Running.{IsRunning};
 ghost use Rattle.wasm_machine.specs.Step.{AreWords};
 
 use ca_base::Seq;
 use std::alloc::Global;
 use std::test::Fail;
-use wasm_machine::{Running, Store, start};
-use wasm_reader::{ValType, read_module};
+use wasm_machine::{Running, Store, runs, start};
+use wasm_module::ValType;
+use wasm_reader::read_module;
 use wasm_valid::validate;
 
-/// A store of the module whose bytes a text has.
+/// A store of the module whose bytes a text has, if the machine runs it.
 pub(crate) fn store_of(alloc: Global, hex: &str) -> Result<Store, Fail> {
     let bytes = cases::bytes_of(alloc, hex)?;
     let valid = validate(alloc, read_module(alloc, &bytes, 0)?)?;
+    if !runs(valid.tree()) {
+        return Err(Fail::new("not run"));
+    }
     let mut store = Store::new(alloc);
     store.add(alloc, &valid)?;
     Ok(store)

@@ -1,7 +1,7 @@
 //! The functions of instances, and the laws.
 
 use std::test::Fail;
-use wasm_machine::{Store, laws};
+use wasm_machine::{Store, laws, runs};
 use wasm_reader::read_module;
 use wasm_valid::validate;
 
@@ -20,6 +20,9 @@ fn instances_stand_one_behind_the_other(rt: HostRuntime) -> Result<(), Fail> {
     let alloc = rt.alloc();
     let bytes = cases::bytes_of(alloc, ADDER)?;
     let valid = validate(alloc, read_module(alloc, &bytes, 0)?)?;
+    if !runs(valid.tree()) {
+        return Err(Fail::new("not run"));
+    }
     let mut store = Store::new(alloc);
     assert_eq!(rt; store.len(), 0);
     assert_eq!(rt; store.add(alloc, &valid)?.first_func, 0);

@@ -3,7 +3,8 @@
 use ca_base::{Name, Seq};
 use ca_types::{Export, Exports, FuncType, Param, ValType, Value, Values};
 use std::test::Fail;
-use wasm_reader::{Body, Instr, read_module};
+use wasm_module::{BinaryOp, Body, Instr, NumericOp, Op, Width};
+use wasm_reader::read_module;
 use wasm_valid::validate;
 
 #[test]
@@ -15,18 +16,26 @@ fn laws_hold() {
 }
 
 #[test]
-fn a_body_is_copied(rt: HostRuntime) -> Result<(), Fail> {
+fn a_body_has_operations(rt: HostRuntime) -> Result<(), Fail> {
     let alloc = rt.alloc();
-    let body = Body::from_code(vec![in alloc; Instr::LocalGet(7), Instr::I32Add]?);
-    let copy = body.copied(alloc)?;
+    let add = NumericOp::Binary(Width::W32, BinaryOp::Add);
+    let code = vec![in alloc;
+        Op::Plain(Instr::LocalGet(7)),
+        Op::Plain(Instr::Numeric(add)),
+        Op::End,
+    ]?;
+    let body = Body::from_code(code);
+    assert_eq!(rt; body.len(), 3);
     for (at, want) in [
-        (0, Some(Instr::LocalGet(7))),
-        (1, Some(Instr::I32Add)),
-        (2, None),
-        (usize::MAX, None),
+        (0, "Some(Plain(LocalGet(7)))"),
+        (1, "Some(Plain(Numeric(Binary(W32, Add))))"),
+        (2, "Some(End)"),
+        (3, "None"),
+        (usize::MAX, "None"),
     ] {
-        assert_eq!(rt; body.next(at), want, "at {at}");
-        assert_eq!(rt; copy.next(at), want, "at {at}");
+        let got = body.op_at(at);
+        let text = format!(in alloc; "{got:?}")?;
+        assert_eq!(rt; text.as_str(), want, "at {at}");
     }
     Ok(())
 }
@@ -41,7 +50,11 @@ fn a_module_has_parts(rt: HostRuntime) -> Result<(), Fail> {
     let bytes = cases::bytes_of(alloc, HANDS_ON)?;
     let parts = read_module(alloc, &bytes, 0)?.into_parts();
     assert_eq!(rt; parts.tree.types.len(), 1);
-    assert_eq!(rt; parts.places.funcs.as_slice(), [21].as_slice());
+    assert_eq!(rt; parts.places.funcs.len(), 1);
+    for places in parts.places.funcs.as_slice() {
+        assert_eq!(rt; places.place, 21);
+        assert_eq!(rt; places.ops.as_slice(), [34, 36, 38].as_slice());
+    }
     Ok(())
 }
 

@@ -84,6 +84,25 @@ is
 10 core module of 0 types and 0 functions, exporting
 24 core module of 0 types and 0 functions, exporting
 
+a core module with imports, a table, a memory, a global, and segments
+00 61 73 6D 0D 00 01 00 ; 0: the preamble
+01 50 ; 8: a core module of 80 bytes
+00 61 73 6D 01 00 00 00 ; 10: its preamble
+01 04 01 60 00 00 ; 18: its types
+02 07 01 01 6D 01 66 00 00 ; 24: `f` of `m`, a function
+04 04 01 70 00 01 ; 33: a table of one entry
+05 04 01 01 01 02 ; 39: a memory of one page, of two at most
+06 06 01 7F 00 41 07 0B ; 45: a global, which is 7
+07 11 04 ; 53: four exports
+01 66 00 00 ; 56: the function
+01 74 01 00 ; 60: the table
+01 6D 02 00 ; 64: the memory
+01 67 03 00 ; 68: the global
+09 07 01 00 41 00 0B 01 00 ; 72: a segment of the table
+0B 07 01 00 41 08 0B 01 2A ; 81: a segment of the memory
+is
+10 core module of 1 types and 0 functions, exporting f t m g
+
 value types that are indices
 00 61 73 6D 0D 00 01 00 ; 0: the preamble
 07 0D 01 40 ; 8: a function type
@@ -203,6 +222,6 @@ fn components_are_read(rt: HostRuntime) -> Result<(), Fail> {
         let got = answer(rt.alloc(), given)?;
         assert_eq!(rt; got.as_str(), wanted, "{given}");
     }
-    assert_eq!(rt; COMPONENTS.trim().split("\n\n").count(), 5);
+    assert_eq!(rt; COMPONENTS.trim().split("\n\n").count(), 6);
     Ok(())
 }

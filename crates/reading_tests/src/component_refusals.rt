@@ -128,10 +128,18 @@ types twice | 01 0E 00 61 73 6D 01 00 00 00 01 01 00 01 01 00 | 21 Module(Sectio
 a name that is not UTF-8 | 01 0C 00 61 73 6D 01 00 00 00 00 02 01 FF | 21 Module(Utf8)
 a parameter of floats | 01 0F 00 61 73 6D 01 00 00 00 01 05 01 60 01 7D 00 | 23 Module(Float)
 a function without code | 01 0C 00 61 73 6D 01 00 00 00 03 02 01 00 | 22 Module(Count)
-an unknown section | 01 0A 00 61 73 6D 01 00 00 00 0C 00 | 18 Module(Unsupported(12))
+a data count that its section cuts off | 01 0A 00 61 73 6D 01 00 00 00 0C 00 | 20 Module(SectionSize)
+an unknown section | 01 0A 00 61 73 6D 01 00 00 00 0D 00 | 18 Module(Unsupported(13))
 a byte behind the module | 01 09 00 61 73 6D 01 00 00 00 00 07 01 00 | 19 Module(Truncated)
 a fault in the second core module | 01 08 00 61 73 6D 01 00 00 00 01 08 00 61 73 6D 01 00 00 01 | 27 Module(Magic)
-an opcode that is not read: `i64.add` | 01 29 00 61 73 6D 01 00 00 00 01 07 01 60 02 7F 7F 01 7F 03 02 01 00 07 07 01 03 61 64 64 00 00 0A 09 01 07 00 20 00 20 01 7C 0B | 49 Module(Unsupported(124))
+`i64.add` of two i32 | 01 29 00 61 73 6D 01 00 00 00 01 07 01 60 02 7F 7F 01 7F 03 02 01 00 07 07 01 03 61 64 64 00 00 0A 09 01 07 00 20 00 20 01 7C 0B | 49 Invalid(Typing)
+an opcode that is not read | 01 29 00 61 73 6D 01 00 00 00 01 07 01 60 02 7F 7F 01 7F 03 02 01 00 07 07 01 03 61 64 64 00 00 0A 09 01 07 00 20 00 20 01 06 0B | 49 Module(Unsupported(6))
+a memory of 1,025 pages | 01 0E 00 61 73 6D 01 00 00 00 05 04 01 00 81 08 | 22 Module(Limit)
+a data count of one and no segment of bytes | 01 0E 00 61 73 6D 01 00 00 00 0C 01 01 0B 01 00 | 23 Module(Count)
+a branch past the body | 01 28 00 61 73 6D 01 00 00 00 01 07 01 60 02 7F 7F 01 7F 03 02 01 00 07 07 01 03 61 64 64 00 00 0A 08 01 06 00 20 00 0C 01 0B | 47 Invalid(Label)
+a load of 4 bytes with an alignment of 8 | 01 24 00 61 73 6D 01 00 00 00 01 06 01 60 01 7F 01 7F 03 02 01 00 05 03 01 00 01 0A 09 01 07 00 20 00 28 03 00 0B | 42 Invalid(Align)
+two memories | 01 0F 00 61 73 6D 01 00 00 00 05 05 02 00 01 00 01 | 23 Invalid(Limit)
+a memory that is exported twice under one name | 01 18 00 61 73 6D 01 00 00 00 05 03 01 00 01 07 09 02 01 61 02 00 01 61 02 00 | 30 Invalid(Name)
 a module that its section cuts off by one byte | 01 28 00 61 73 6D 01 00 00 00 01 07 01 60 02 7F 7F 01 7F 03 02 01 00 07 07 01 03 61 64 64 00 00 0A 09 01 07 00 20 00 20 01 6A 0B | 50 Module(Truncated)
 two operands at the end | 01 28 00 61 73 6D 01 00 00 00 01 07 01 60 02 7F 7F 01 7F 03 02 01 00 07 07 01 03 61 64 64 00 00 0A 08 01 06 00 20 00 20 01 0B | 49 Invalid(Typing)
 one operand for `i32.add` | 01 27 00 61 73 6D 01 00 00 00 01 07 01 60 02 7F 7F 01 7F 03 02 01 00 07 07 01 03 61 64 64 00 00 0A 07 01 05 00 20 00 6A 0B | 47 Invalid(Stack)
@@ -172,6 +180,6 @@ fn sections_are_refused(rt: HostRuntime) -> Result<(), Fail> {
         assert_eq!(rt; got.as_str(), wanted, "{line}");
     }
     assert_eq!(rt; SECTIONS.trim().lines().count(), 93);
-    assert_eq!(rt; MODULES.trim().lines().count(), 21);
+    assert_eq!(rt; MODULES.trim().lines().count(), 29);
     Ok(())
 }

@@ -5,10 +5,11 @@ use ca_base::Seq;
 use std::alloc::{AllocError, Global};
 use std::fmt::Write;
 use std::test::Fail;
-use wasm_reader::{Export, Func, FuncType, Module, local_types, read_module};
+use wasm_module::{Export, ExportDesc, Func, FuncPlaces, FuncType, Module, Op, local_types};
+use wasm_reader::read_module;
 
 /// A paragraph a module: what it is, the place of its first byte, its bytes, and behind `is` its items: each type, each
-/// function with its instructions, and each export.
+/// function with its operations, and each export.
 const MODULES: &str = "
 a function of two parameters as `add`: `local.get 0`, `local.get 1`, `i32.add`
 0
@@ -22,7 +23,7 @@ type from I32 I32 to I32
 20 function of type 0 with locals I32 I32
 35 LocalGet(0)
 37 LocalGet(1)
-39 I32Add
+39 Numeric(Binary(W32, Add))
 40 end
 24 export add of function 0
 
@@ -69,7 +70,7 @@ type from to
 46 end
 25 function of type 0 with locals I32 I64 I32 I32 I64
 53 LocalGet(3)
-55 I32Add
+55 Numeric(Binary(W32, Add))
 56 end
 29 export  of function 1
 32 export é of function 0
@@ -101,22 +102,39 @@ fn write_func(
     Ok(())
 }
 
-/// Writes the instructions of a function at their places.
-fn write_body(text: &mut String, func: &Func, places: &[usize]) -> Result<(), AllocError> {
-    for (at, place) in places.iter().enumerate() {
-        match func.body.next(at) {
-            Some(instr) => write!(text, "\n{place} {instr:?}")?,
-            None => write!(text, "\n{place} end")?,
-        }
+/// Writes an operation.
+fn write_op(text: &mut String, op: &Op) -> Result<(), AllocError> {
+    match op {
+        Op::Plain(instr) => write!(text, "{instr:?}"),
+        Op::End => write!(text, "end"),
+        other => write!(text, "{other:?}"),
+    }
+}
+
+/// Writes the operations of a function at their places.
+fn write_body(text: &mut String, func: &Func, places: &FuncPlaces) -> Result<(), AllocError> {
+    for (op, place) in func.body.ops().iter().zip(places.ops.as_slice()) {
+        write!(text, "\n{place} ")?;
+        write_op(text, op)?;
     }
     Ok(())
+}
+
+/// Writes what an export offers.
+fn write_desc(text: &mut String, desc: ExportDesc) -> Result<(), AllocError> {
+    match desc {
+        ExportDesc::Func(index) => write!(text, "function {index}"),
+        ExportDesc::Table(index) => write!(text, "table {index}"),
+        ExportDesc::Memory(index) => write!(text, "memory {index}"),
+        ExportDesc::Global(index) => write!(text, "global {index}"),
+    }
 }
 
 /// Writes an export.
 fn write_export(text: &mut String, export: &Export, place: usize) -> Result<(), AllocError> {
     let name = export.name.as_str();
-    let func = export.func;
-    write!(text, "\n{place} export {name} of function {func}")
+    write!(text, "\n{place} export {name} of ")?;
+    write_desc(text, export.desc)
 }
 
 /// The items of a module, a line each.
@@ -126,10 +144,9 @@ fn module_text(alloc: Global, read: &Module) -> Result<String, AllocError> {
         write_type(&mut text, func_type)?;
     }
     let places = read.places().funcs.as_slice().iter();
-    let funcs = read.tree().funcs.as_slice().iter().zip(places);
-    for ((func, place), inside) in funcs.zip(read.places().bodies.as_slice()) {
-        write_func(alloc, &mut text, read, func, *place)?;
-        write_body(&mut text, func, inside.as_slice())?;
+    for (func, inside) in read.tree().funcs.as_slice().iter().zip(places) {
+        write_func(alloc, &mut text, read, func, inside.place)?;
+        write_body(&mut text, func, inside)?;
     }
     let places = read.places().exports.as_slice().iter();
     for (export, place) in read.tree().exports.as_slice().iter().zip(places) {
@@ -164,6 +181,10 @@ fn modules_are_read(rt: HostRuntime) -> Result<(), Fail> {
 const SIZES: &str = "
 the preamble alone | | 0 types, 0 exports
 each section, with nothing in it | 01 01 00 03 01 00 07 01 00 0A 01 00 | 0 types, 0 exports
+a section of imports alone | 02 01 00 | 0 types, 0 exports
+each other section, with nothing in it | 02 01 00 04 01 00 05 01 00 06 01 00 09 01 00 0C 01 00 0B 01 00 | 0 types, 0 exports
+an export of a table | 07 04 01 00 01 00 | 0 types, 1 exports
+a function with another instruction than `i32.add` | 03 02 01 00 0A 05 01 03 00 6B 0B | 0 types, 0 exports, 0 locals
 custom sections alone | 00 01 00 00 02 01 61 | 0 types, 0 exports
 a function without locals | 03 02 01 00 0A 04 01 02 00 0B | 0 types, 0 exports, 0 locals
 50,000 locals | 03 02 01 00 0A 08 01 06 01 d0 86 03 7F 0B | 0 types, 0 exports, 50000 locals
@@ -202,6 +223,6 @@ fn sizes_are_read(rt: HostRuntime) -> Result<(), Fail> {
         let got = sizes(rt.alloc(), given)?;
         assert_eq!(rt; got.as_str(), wanted, "{line}");
     }
-    assert_eq!(rt; SIZES.trim().lines().count(), 6);
+    assert_eq!(rt; SIZES.trim().lines().count(), 10);
     Ok(())
 }

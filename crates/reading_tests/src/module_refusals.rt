@@ -39,9 +39,9 @@ types behind functions | 0 | 03 01 00 01 01 00 | 11 SectionOrder
 functions behind exports | 0 | 07 01 00 03 01 00 | 11 SectionOrder
 exports behind code | 0 | 0A 01 00 07 01 00 | 11 SectionOrder
 the code section twice | 0 | 0A 01 00 0A 01 00 | 11 SectionOrder
-a section of imports | 100 | 02 01 00 | 108 Unsupported(2)
+a section of imports behind functions | 100 | 03 01 00 02 01 00 | 111 SectionOrder
 a section of an unknown id behind code | 0 | 0A 01 00 0D 01 00 | 11 Unsupported(13)
-a byte behind the code section | 0 | 0A 01 00 05 | 11 Unsupported(5)
+the id of memories behind the code section | 0 | 0A 01 00 05 | 11 SectionOrder
 a type that does not begin with 60 | 0 | 01 02 01 5F | 11 Unsupported(95)
 a parameter of an unknown type | 0 | 01 05 01 60 01 7B 00 | 13 Unsupported(123)
 a parameter of type f64 | 100 | 01 05 01 60 01 7C 00 | 113 Float
@@ -53,7 +53,7 @@ a custom section whose name has 2^32 - 1 bytes | 0 | 00 05 FF FF FF FF 0F | 15 S
 a custom section whose name ends with a byte that begins no character | 0 | 00 03 02 61 FF | 12 Utf8
 a custom section whose name has half a character at its front | 30 | 00 04 03 E2 82 41 | 41 Utf8
 a custom section behind code whose name passes its end | 0 | 0A 01 00 00 01 05 | 14 SectionSize
-an export of another kind | 0 | 07 04 01 00 01 00 | 12 Unsupported(1)
+an export of another kind | 0 | 07 04 01 00 04 00 | 12 Unsupported(4)
 an export whose name is not UTF-8 | 0 | 07 05 01 01 C0 00 00 | 12 Utf8
 an export without an index | 0 | 07 03 01 00 00 00 | 13 SectionSize
 an export whose name has 2^32 - 1 bytes | 0 | 07 06 01 FF FF FF FF 0F | 16 SectionSize
@@ -70,7 +70,7 @@ an instruction whose index passes the end of the body | 0 | 03 02 01 00 0A 04 01
 a byte behind the end of a body | 0 | 03 02 01 00 0A 05 01 03 00 0B 0B | 18 SectionSize
 a body that passes the end of its section | 0 | 03 02 01 00 0A 04 01 05 00 0B 00 00 00 | 18 SectionSize
 a byte behind the last body | 0 | 03 02 01 00 0A 05 01 02 00 0B 00 | 18 SectionSize
-the second body has another opcode | 0 | 03 03 02 00 01 0A 08 02 02 00 0B 03 00 6B 0B | 21 Unsupported(107)
+the second body has another opcode | 0 | 03 03 02 00 01 0A 08 02 02 00 0B 03 00 06 0B | 21 Unsupported(6)
 50,001 locals | 0 | 03 02 01 00 0A 08 01 06 01 d1 86 03 7F 0B | 17 Limit
 50,000 locals and one | 50 | 03 02 01 00 0A 0A 01 08 02 d0 86 03 7F 01 7E 0B | 71 Limit
 2^32 - 1 locals of an unknown type | 0 | 03 02 01 00 0A 0A 01 08 01 FF FF FF FF 0F 00 0B | 17 Limit
@@ -80,7 +80,7 @@ locals of type f64 | 0 | 03 02 01 00 0A 06 01 04 01 01 7C 0B | 18 Float
 locals without a type | 0 | 03 02 01 00 0A 04 01 02 01 01 | 18 SectionSize
 an instruction of floats | 0 | 03 02 01 00 0A 05 01 03 00 92 0B | 17 Float
 a constant of type f64 | 9 | 03 02 01 00 0A 05 01 03 00 44 0B | 26 Float
-an opcode that is not read | 0 | 03 02 01 00 0A 05 01 03 00 6B 0B | 17 Unsupported(107)
+an opcode that is not read | 0 | 03 02 01 00 0A 05 01 03 00 06 0B | 17 Unsupported(6)
 FC and the number of an instruction of floats | 0 | 03 02 01 00 0A 06 01 04 00 FC 07 0B | 18 Float
 FC and such a number in two bytes | 0 | 03 02 01 00 0A 07 01 05 00 FC 87 00 0B | 18 Float
 FC and another number | 0 | 03 02 01 00 0A 06 01 04 00 FC 08 0B | 18 Unsupported(8)

@@ -43,6 +43,10 @@ type 0: get 0, i32.add; type 9: get 0; exports `a` 0, `a` 1 | 03 03 02 00 09 07 
 type 9: get 0; type 9: get 0 | 03 03 02 09 09 0A 13 02 08 02 02 7E 01 7F 20 00 0B 08 02 02 7E 01 7F 20 00 0B | None 27 Index
 type 0: get 0, i32.add; type 0: get 0, i32.add | 03 03 02 00 00 0A 15 02 09 02 02 7E 01 7F 20 00 6A 0B 09 02 02 7E 01 7F 20 00 6A 0B | Some(0) 40 Stack
 type 0: get 0; type 0: get 0, i32.add; exports `a` 1 | 03 03 02 00 00 07 05 01 01 61 00 01 0A 14 02 08 02 02 7E 01 7F 20 00 0B 09 02 02 7E 01 7F 20 00 6A 0B | Some(1) 56 Stack
+type 0: get 0, br 1 | 03 02 01 00 0A 0C 01 0A 02 02 7E 01 7F 20 00 0C 01 0B | Some(0) 39 Label
+a memory; type 0: get 0, i32.load with an alignment of 8 | 03 02 01 00 05 03 01 00 01 0A 0D 01 0B 02 02 7E 01 7F 20 00 28 03 00 0B | Some(0) 44 Align
+two memories | 05 05 02 00 01 00 01 | None 29 Limit
+imports `f` of `m` of type 0; type 0: get 0, get 1, call 0; exports `a` 1 | 02 07 01 01 6D 01 66 00 00 03 02 01 00 07 05 01 01 61 00 01 0A 0E 01 0C 02 02 7E 01 7F 20 00 20 01 10 00 0B | valid
 type 0: get 0, i32.add; type 0: get 0; exports `a` 1 | 03 03 02 00 00 07 05 01 01 61 00 01 0A 14 02 09 02 02 7E 01 7F 20 00 6A 0B 08 02 02 7E 01 7F 20 00 0B | Some(0) 47 Stack
 ";
 
@@ -72,6 +76,6 @@ fn faults_are_found(rt: HostRuntime) -> Result<(), Fail> {
         let got = answer(rt.alloc(), given)?;
         assert_eq!(rt; got.as_str(), wanted, "{line}");
     }
-    assert_eq!(rt; MODULES.trim().lines().count(), 30);
+    assert_eq!(rt; MODULES.trim().lines().count(), 34);
     Ok(())
 }

@@ -3,9 +3,9 @@ use Rattle.std.proofs.Common.{◌≡◌, ℕ, ◌+◌, ◌%◌, ◌^◌, ◌<◌
 use Rattle.std.specs.List.{slice_get}
 use Rattle.std.proofs.lemmas.List.{reverse-append}
 use Rattle.std.proofs.lemmas.Option.{slice_get-get_or, slice_get_within}
-use Rattle.wasm_reader.specs.declared.instr.Instr.{Instr}
-use Rattle.wasm_reader.specs.declared.instr.Instr.TheVariants.{LocalGet, I32Add}
-use Rattle.wasm_reader.specs.Expr.{Plain}
+use Rattle.wasm_machine.specs.declared.instr.Instr.{Instr}
+use Rattle.wasm_machine.specs.declared.instr.Instr.TheVariants.{LocalGet, I32Add}
+use Rattle.wasm_machine.specs.Expr.{Plain}
 use Rattle.wasm_machine.specs.Step.{Goes, got_local, added}
 use Rattle.wasm_machine.specs.Instruction.{InstrFits, InstrGoes, AddGives}
 use Rattle.wasm_machine.proofs.Safety.{word_at}

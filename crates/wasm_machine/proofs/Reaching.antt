@@ -3,10 +3,10 @@ use Rattle.std.proofs.Common.{◌≡◌, ℕ, zero, suc, ◌+◌, ◌<◌, List,
 use Rattle.std.specs.Result.{is_err}
 use Rattle.std.specs.List.{slice_get}
 use Rattle.std.proofs.lemmas.List.{reverse-reverse}
-use Rattle.wasm_reader.specs.declared.module.ValType.{ValType}
-use Rattle.wasm_reader.specs.declared.instr.Instr.{Instr}
-use Rattle.wasm_reader.specs.Expr.{Expr, End, Plain, rest_at}
-use Rattle.wasm_valid.specs.Typing.{ExprTyped}
+use Rattle.wasm_module.specs.declared.types.ValType.{ValType}
+use Rattle.wasm_machine.specs.declared.instr.Instr.{Instr}
+use Rattle.wasm_machine.specs.Expr.{Expr, End, Plain, rest_at}
+use Rattle.wasm_machine.specs.StraightTyping.{ExprTyped}
 use Rattle.wasm_machine.specs.declared.store.Function.{Function}
 use Rattle.wasm_machine.specs.Step.{Stack, Goes, Ends, next, move_at, Steps, AreWords, StackTyped}
 use Rattle.wasm_machine.specs.Instruction.{InstrFits, InstrGoes}

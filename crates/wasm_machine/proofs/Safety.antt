@@ -2,12 +2,12 @@
 use Rattle.std.proofs.Common.{◌≡◌, ◌≢◌, ℕ, zero, suc, ◌+◌, ◌%◌, ◌^◌, List, [], ◌∷◌, ◌++◌, reverse, map, refl, sym, ap, ◌∙◌, subst, arith, Option, Some}
 use Rattle.std.specs.List.{slice_get}
 use Rattle.std.proofs.lemmas.List.{reverse-append, reverse-reverse}
-use Rattle.wasm_reader.specs.declared.module.ValType.{ValType}
-use Rattle.wasm_reader.specs.declared.module.ValType.TheVariants.{I32, I64}
-use Rattle.wasm_reader.specs.declared.instr.Instr.{Instr}
-use Rattle.wasm_reader.specs.declared.instr.Instr.TheVariants.{LocalGet, I32Add}
-use Rattle.wasm_reader.specs.Expr.{Expr, End, Plain, instr_count}
-use Rattle.wasm_valid.specs.Typing.{InstrTyped, ExprTyped}
+use Rattle.wasm_module.specs.declared.types.ValType.{ValType}
+use Rattle.wasm_module.specs.declared.types.ValType.TheVariants.{I32, I64}
+use Rattle.wasm_machine.specs.declared.instr.Instr.{Instr}
+use Rattle.wasm_machine.specs.declared.instr.Instr.TheVariants.{LocalGet, I32Add}
+use Rattle.wasm_machine.specs.Expr.{Expr, End, Plain, instr_count}
+use Rattle.wasm_machine.specs.StraightTyping.{InstrTyped, ExprTyped}
 use Rattle.wasm_machine.specs.Step.{Stack, Goes, Ends, Stuck, next, moved, move_at, got_local, added, Steps, AreWords, StackTyped}
 use Rattle.wasm_machine.specs.Laws.{Progress, Preservation, NeverStuck, EachEnds}
 

@@ -3,11 +3,11 @@ use Rattle.std.proofs.Common.{◌≡◌, ℕ, ◌+◌, ◌<◌, List, [], ◌∷
 use Rattle.std.specs.List.{slice_get}
 use Rattle.std.proofs.lemmas.List.{map-append, append-nil}
 use Rattle.std.proofs.lemmas.Grind.{take_at_read}
-use Rattle.wasm_reader.specs.declared.module.ValType.{ValType}
-use Rattle.wasm_reader.specs.declared.module.Locals.{Locals}
-use Rattle.wasm_reader.specs.Locals.{local_types, declared_locals}
-use Rattle.wasm_reader.specs.Expr.{Expr}
-use Rattle.wasm_valid.specs.Typing.{ExprTyped}
+use Rattle.wasm_module.specs.declared.types.ValType.{ValType}
+use Rattle.wasm_module.specs.declared.types.Locals.{Locals}
+use Rattle.wasm_module.specs.Locals.{local_types, declared_locals}
+use Rattle.wasm_machine.specs.Expr.{Expr}
+use Rattle.wasm_machine.specs.StraightTyping.{ExprTyped}
 use Rattle.wasm_machine.specs.declared.store.Function.{Function}
 use Rattle.wasm_machine.specs.Step.{Stack, AreWords}
 use Rattle.wasm_machine.specs.Store.{FunctionTyped, params_of, locals_of, body_of, first_locals}

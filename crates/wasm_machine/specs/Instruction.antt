@@ -1,9 +1,9 @@
 -- One instruction, over locals and operands. A list of operands has the last operand first.
 use Rattle.std.specs.Prelude.{◌≡◌, ◌+◌, ◌%◌, ◌^◌, ℕ, List, ◌∷◌}
-use Rattle.wasm_reader.specs.declared.module.ValType.{ValType}
-use Rattle.wasm_reader.specs.declared.instr.Instr.{Instr}
-use Rattle.wasm_reader.specs.Expr.{Expr, Plain}
-use Rattle.wasm_valid.specs.Typing.{InstrTyped}
+use Rattle.wasm_module.specs.declared.types.ValType.{ValType}
+use Rattle.wasm_machine.specs.declared.instr.Instr.{Instr}
+use Rattle.wasm_machine.specs.Expr.{Expr, Plain}
+use Rattle.wasm_machine.specs.StraightTyping.{InstrTyped}
 use Rattle.wasm_machine.specs.Step.{Goes, next, AreWords}
 
 -- The instruction is typed over these locals and operands.

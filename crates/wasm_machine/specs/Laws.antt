@@ -1,7 +1,7 @@
 -- A typed stack never gets stuck, and straight-line code ends.
 use Rattle.std.specs.Prelude.{◌≡◌, ◌≢◌, ℕ, List}
-use Rattle.wasm_reader.specs.declared.module.ValType.{ValType}
-use Rattle.wasm_reader.specs.Expr.{instr_count}
+use Rattle.wasm_module.specs.declared.types.ValType.{ValType}
+use Rattle.wasm_machine.specs.Expr.{instr_count}
 use Rattle.wasm_machine.specs.Step.{Stack, Goes, Ends, Stuck, next, Steps, AreWords, StackTyped}
 
 -- A typed stack has a move.

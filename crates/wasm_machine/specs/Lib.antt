@@ -1,7 +1,11 @@
 pub mod Activation
+pub mod Expr
 pub mod Instruction
 pub mod Laws
 pub mod Run
 pub mod Running
 pub mod Step
 pub mod Store
+pub mod Straight
+pub mod StraightOps
+pub mod StraightTyping

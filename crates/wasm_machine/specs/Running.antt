@@ -1,7 +1,7 @@
 -- A function that runs in a store: a place among the store's functions and their instructions.
 use Rattle.std.specs.Prelude.{◌≡◌, List, Some}
 use Rattle.std.specs.List.{slice_get}
-use Rattle.wasm_reader.specs.Expr.{rest_at}
+use Rattle.wasm_machine.specs.Expr.{rest_at}
 use Rattle.wasm_machine.specs.declared.store.Function.{Function}
 use Rattle.wasm_machine.specs.Step.{Stack, StackTyped}
 use Rattle.wasm_machine.specs.Store.{body_of}

@@ -2,12 +2,12 @@
 -- i32 is below 2^32. A list of operands has the last operand first.
 use Rattle.std.specs.Prelude.{◌≡◌, ◌<◌, ◌+◌, ◌%◌, ◌^◌, ℕ, zero, suc, List, [], ◌∷◌, reverse, Option, Some, None}
 use Rattle.std.specs.List.{slice_get}
-use Rattle.wasm_reader.specs.declared.module.ValType.{ValType}
-use Rattle.wasm_reader.specs.declared.module.ValType.TheVariants.{I32, I64}
-use Rattle.wasm_reader.specs.declared.instr.Instr.{Instr}
-use Rattle.wasm_reader.specs.declared.instr.Instr.TheVariants.{LocalGet, I32Add}
-use Rattle.wasm_reader.specs.Expr.{Expr, End, Plain}
-use Rattle.wasm_valid.specs.Typing.{ExprTyped}
+use Rattle.wasm_module.specs.declared.types.ValType.{ValType}
+use Rattle.wasm_module.specs.declared.types.ValType.TheVariants.{I32, I64}
+use Rattle.wasm_machine.specs.declared.instr.Instr.{Instr}
+use Rattle.wasm_machine.specs.declared.instr.Instr.TheVariants.{LocalGet, I32Add}
+use Rattle.wasm_machine.specs.Expr.{Expr, End, Plain}
+use Rattle.wasm_machine.specs.StraightTyping.{ExprTyped}
 
 -- a running function: its locals, its operands, and the instructions that are left
 pub record Stack : Type 0 where
@@ -34,7 +34,7 @@ added [] s rest = Stuck
 added (b ∷ []) s rest = Stuck
 added (b ∷ a ∷ below) s rest = Goes (record { locals = s.locals; operands = (a + b) % 2 ^ 32 ∷ below; rest = rest })
 
--- an instruction (sections 4.4.1 and 4.4.4)
+-- an instruction (sections 4.4.1 and 4.4.5)
 abbrev pub moved : Instr → Stack → Expr → Move
 moved (LocalGet index) s rest = got_local (slice_get s.locals index) s rest
 moved I32Add s rest = added s.operands s rest

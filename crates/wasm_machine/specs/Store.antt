@@ -1,15 +1,16 @@
 -- The store (Core 2.0, section 4.2.3): functions, each with its type, its locals and its body.
 use Rattle.std.specs.Prelude.{ℕ, List, [], ◌++◌, map, Option, Some, None}
 use Rattle.std.specs.List.{slice_get, AllByRecursion}
-use Rattle.wasm_reader.specs.declared.module.ValType.{ValType}
-use Rattle.wasm_reader.specs.declared.module.FuncType.{FuncType}
-use Rattle.wasm_reader.specs.declared.module.Func.{Func}
-use Rattle.wasm_reader.specs.declared.module.Locals.{Locals}
-use Rattle.wasm_reader.specs.declared.module.ModuleTree.{ModuleTree}
-use Rattle.wasm_reader.specs.Expr.{Expr, End}
-use Rattle.wasm_reader.specs.Locals.{local_types, declared_locals}
-use Rattle.wasm_valid.specs.Typing.{ExprTyped}
+use Rattle.wasm_module.specs.declared.types.ValType.{ValType}
+use Rattle.wasm_module.specs.declared.types.FuncType.{FuncType}
+use Rattle.wasm_module.specs.declared.module.Func.{Func}
+use Rattle.wasm_module.specs.declared.types.Locals.{Locals}
+use Rattle.wasm_module.specs.declared.module.ModuleTree.{ModuleTree}
+use Rattle.wasm_machine.specs.Expr.{Expr, End}
+use Rattle.wasm_module.specs.Locals.{local_types, declared_locals}
 use Rattle.wasm_machine.specs.declared.store.Function.{Function}
+use Rattle.wasm_machine.specs.Straight.{straight}
+use Rattle.wasm_machine.specs.StraightTyping.{ExprTyped}
 
 -- a function whose body has its type: it starts with no operands
 abbrev pub FunctionTyped : Function → Type 0
@@ -24,9 +25,9 @@ abbrev pub type_or_empty : Option FuncType → FuncType
 type_or_empty None = record { params = []; results = [] }
 type_or_empty (Some type) = type
 
--- a function of a module, with its type
+-- a function of a module that the machine runs, with its type
 abbrev pub function_of : List FuncType → Func → Function
-function_of types func = record { func_type = type_or_empty (slice_get types func.type_index); locals = func.locals; body = func.body }
+function_of types func = record { func_type = type_or_empty (slice_get types func.type_index); locals = func.locals; body = straight func.body }
 
 -- the functions of a module, in its order
 abbrev pub functions_of : ModuleTree → List Function

@@ -10,7 +10,7 @@ use crate::store::Store;
 use ca_base::{Memory, Seq};
 use std::alloc::{AllocError, Global};
 use std::marker::Model;
-use wasm_reader::Locals;
+use wasm_module::Locals;
 
 /// A list of values.
 pub type Words = Seq<u64>;

@@ -1,13 +1,13 @@
 //! Single instructions.
 
 ghost use Rattle.std.specs.Prelude.{◌≡◌, ◌<◌, ◌+◌, ◌%◌, ◌^◌, ◌∷◌, reverse, List, OnOk, vec_len};
-ghost use Rattle.wasm_reader.specs.declared.module.ValType.{ValType};
-ghost use Rattle.wasm_reader.specs.declared.module.ValType.TheVariants.{I32};
+ghost use Rattle.wasm_module.specs.declared.types.ValType.{ValType};
+ghost use Rattle.wasm_module.specs.declared.types.ValType.TheVariants.{I32};
 ghost use Rattle.wasm_machine.specs.Step.{AreWords};
 ghost use Rattle.wasm_machine.specs.Instruction.{InstrFits, InstrGoes, AddGives};
 
+use crate::instr::Instr;
 use ca_base::Memory;
-use wasm_reader::Instr;
 
 /// Makes an instruction that is typed over these locals and operands.
 pub(crate) fn step(instr: Instr, locals: &[u64], operands: &mut Vec<u64>) -> Result<(), Memory>

@@ -1,13 +1,16 @@
 //! The store: the functions of the instances.
 
-ghost use Rattle.std.specs.Prelude.{◌≡◌, ◌<◌, ◌++◌, [], length, IfOk, OnErr, Some};
+ghost use Rattle.std.specs.Prelude.{◌≡◌, ◌<◌, ◌++◌, [], length, IfOk, OnErr, Some, true};
 ghost use Rattle.std.specs.List.{slice_get};
+ghost use Rattle.wasm_machine.specs.Straight.{runs};
 ghost use Rattle.wasm_machine.specs.Store.{FunctionTyped, StoreTyped, functions_of};
 
+use crate::instr::Body;
+use crate::straight::straight_body;
 use ca_base::{Memory, Seq};
 use std::alloc::{AllocError, Global};
 use std::marker::Model;
-use wasm_reader::{Body, FuncType, Locals};
+use wasm_module::{DeclaredLocals, FuncType};
 use wasm_valid::Valid;
 
 /// A function in the store.
@@ -16,7 +19,7 @@ pub struct Function {
     /// Its type.
     pub func_type: FuncType,
     /// Its locals behind the parameters.
-    pub locals: Seq<Locals>,
+    pub locals: DeclaredLocals,
     /// What it does.
     pub body: Body,
 }
@@ -76,9 +79,10 @@ impl Store {
         &self.functions[func]
     }
 
-    /// Makes an instance of a module: its functions go behind those of the store. Where memory is wanting, the
-    /// store stays as it is.
+    /// Makes an instance of a module that the machine runs: its functions go behind those of the store. Where memory is
+    /// wanting, the store stays as it is.
     pub fn add(&mut self, alloc: Global, valid: &Valid) -> Result<CoreInstance, Memory>
+        requires { runs valid.now ≡ true }
         ensures first { IfOk result (λ i. i.first_func ≡ length self.old) }
         ensures added { IfOk result (λ _. self.new ≡ self.old ++ functions_of valid.now) }
         ensures unchanged { OnErr result (self.new ≡ self.old) }
@@ -90,8 +94,9 @@ impl Store {
     }
 }
 
-/// The functions of a module.
+/// The functions of a module that the machine runs.
 fn made_functions(alloc: Global, valid: &Valid) -> Result<Vec<Function>, AllocError>
+    requires { runs valid.now ≡ true }
     ensures value { IfOk result (λ v. v.items ≡ functions_of valid.now) }
     ensures typed { IfOk result (λ v. StoreTyped v.items) }
 {
@@ -100,8 +105,8 @@ fn made_functions(alloc: Global, valid: &Valid) -> Result<Vec<Function>, AllocEr
     let mut functions = Vec::new(alloc);
     for func in tree.funcs.as_slice() {
         let func_type = copied_type(alloc, &types[func.type_index as usize])?;
-        let body = func.body.copied(alloc)?;
-        let locals = Seq::from_vec(Vec::from_slice(alloc, func.locals.as_slice())?);
+        let body = straight_body(alloc, &func.body)?;
+        let locals = func.locals.copied(alloc)?;
         functions.push(Function {
             func_type,
             locals,

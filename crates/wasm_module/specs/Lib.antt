@@ -1,6 +1,12 @@
+pub mod Accesses
+pub mod BlockTypes
 pub mod Expr
 pub mod Locals
 pub mod Opcodes
 pub mod Places
 pub mod Reasons
+pub mod Runs
+pub mod SameTypes
+pub mod Spaces
+pub mod Spots
 pub mod Types

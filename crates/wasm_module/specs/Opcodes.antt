@@ -3,14 +3,14 @@
 use Rattle.std.specs.Prelude.{◌-◌, ℕ, List, [], ◌∷◌, nat_le, ◌==◌, ◌&&◌, ◌||◌, if◌then◌else◌, Option, Some, None, Bool, slice_get}
 use Rattle.std.specs.Option.{option_map}
 use Rattle.wasm_module.specs.declared.instr.NumericOp.{NumericOp}
-use Rattle.wasm_module.specs.declared.instr.NumericOp.TheVariants.{Eqz, Relation, Unary, Binary, WrapI64, ExtendI32S, ExtendI32U}
+use Rattle.wasm_module.specs.declared.instr.NumericOp.TheVariants.{Eqz, Relation, Unary, Binary, WrapI64, ExtendI32S, ExtendI32U, I64Extend32S}
 use Rattle.wasm_module.specs.declared.instr.Width.TheVariants.{W32, W64}
 use Rattle.wasm_module.specs.declared.instr.RelationOp.{RelationOp}
 use Rattle.wasm_module.specs.declared.instr.RelationOp.TheVariants.{Eq, Ne, LtS, LtU, GtS, GtU, LeS, LeU, GeS, GeU}
 use Rattle.wasm_module.specs.declared.instr.BinaryOp.{BinaryOp}
 use Rattle.wasm_module.specs.declared.instr.BinaryOp.TheVariants.{Add, Sub, Mul, DivS, DivU, RemS, RemU, And, Or, Xor, Shl, ShrS, ShrU, Rotl, Rotr}
 use Rattle.wasm_module.specs.declared.instr.UnaryOp.{UnaryOp}
-use Rattle.wasm_module.specs.declared.instr.UnaryOp.TheVariants.{Clz, Ctz, Popcnt, Extend8S, Extend16S, Extend32S}
+use Rattle.wasm_module.specs.declared.instr.UnaryOp.TheVariants.{Clz, Ctz, Popcnt, Extend8S, Extend16S}
 use Rattle.wasm_module.specs.declared.instr.LoadOp.{LoadOp}
 use Rattle.wasm_module.specs.declared.instr.LoadOp.TheVariants.{I32Load, I64Load, I32Load8S, I32Load8U, I32Load16S, I32Load16U, I64Load8S, I64Load8U, I64Load16S, I64Load16U, I64Load32S, I64Load32U}
 use Rattle.wasm_module.specs.declared.instr.StoreOp.{StoreOp}
@@ -23,7 +23,7 @@ abbrev pub unaries : List UnaryOp
 unaries = Clz ∷ Ctz ∷ Popcnt ∷ []
 
 abbrev pub extensions : List UnaryOp
-extensions = Extend8S ∷ Extend16S ∷ Extend32S ∷ []
+extensions = Extend8S ∷ Extend16S ∷ []
 
 abbrev pub binaries : List BinaryOp
 binaries = Add ∷ Sub ∷ Mul ∷ DivS ∷ DivU ∷ RemS ∷ RemU ∷ And ∷ Or ∷ Xor ∷ Shl ∷ ShrS ∷ ShrU ∷ Rotl ∷ Rotr ∷ []
@@ -59,8 +59,9 @@ numeric opcode =
     else (if opcode == 0xAC then Some ExtendI32S
     else (if opcode == 0xAD then Some ExtendI32U
     else (if among 0xC0 0xC1 opcode then option_map (Unary W32) (slice_get extensions (opcode - 0xC0))
-    else (if among 0xC2 0xC4 opcode then option_map (Unary W64) (slice_get extensions (opcode - 0xC2))
-    else None))))))))))))
+    else (if among 0xC2 0xC3 opcode then option_map (Unary W64) (slice_get extensions (opcode - 0xC2))
+    else (if opcode == 0xC4 then Some I64Extend32S
+    else None)))))))))))))
 
 -- the load of an opcode (section 5.4.6)
 unfoldable pub load : ℕ → Option LoadOp

@@ -12,7 +12,7 @@ pub enum Width {
     W64,
 }
 
-/// An operation of one integer that gives another one of its width.
+/// An operation of one integer that gives another one of its width, and that both widths have.
 #[derive(Clone, Copy, Debug, PartialEq, Eq)]
 pub enum UnaryOp {
     Clz,
@@ -20,7 +20,6 @@ pub enum UnaryOp {
     Popcnt,
     Extend8S,
     Extend16S,
-    Extend32S,
 }
 
 /// An operation of two integers that gives one of their width.
@@ -75,6 +74,8 @@ pub enum NumericOp {
     ExtendI32S,
     /// `i64.extend_i32_u`.
     ExtendI32U,
+    /// `i64.extend32_s`, which an `i32` does not have.
+    I64Extend32S,
 }
 
 /// A load from memory (Core 2.0, section 2.4.7): the type, and where fewer bits are read, these and how they are extended.

@@ -43,7 +43,6 @@ fn extension(at: u8) -> Option<UnaryOp>
     match at {
         0 => Some(UnaryOp::Extend8S),
         1 => Some(UnaryOp::Extend16S),
-        2 => Some(UnaryOp::Extend32S),
         _ => None,
     }
 }
@@ -145,7 +144,8 @@ pub fn numeric(opcode: u8) -> Option<NumericOp>
         0xAC => Some(NumericOp::ExtendI32S),
         0xAD => Some(NumericOp::ExtendI32U),
         0xC0..=0xC1 => extension(opcode - 0xC0).map(|op| NumericOp::Unary(Width::W32, op)),
-        0xC2..=0xC4 => extension(opcode - 0xC2).map(|op| NumericOp::Unary(Width::W64, op)),
+        0xC2..=0xC3 => extension(opcode - 0xC2).map(|op| NumericOp::Unary(Width::W64, op)),
+        0xC4 => Some(NumericOp::I64Extend32S),
         _ => None,
     }
 }

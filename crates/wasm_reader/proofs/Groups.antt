@@ -7,12 +7,14 @@ use Rattle.ca_base.specs.declared.refusal.Refusal.{Refusal}
 use Rattle.ca_base.specs.Grammar.{read, and_then}
 use Rattle.ca_base.specs.Items.{u32}
 use Rattle.ca_base.proofs.Times.{preceded}
-use Rattle.wasm_reader.specs.declared.fault.ModuleWhy.{ModuleWhy}
-use Rattle.wasm_reader.specs.declared.fault.ModuleWhy.TheVariants.{Limit}
-use Rattle.wasm_reader.specs.declared.module.ValType.{ValType}
-use Rattle.wasm_reader.specs.declared.module.Locals.{Locals}
-use Rattle.wasm_reader.specs.Binary.{numbers, val_type, locals}
-use Rattle.wasm_reader.specs.Locals.{local_count}
+use Rattle.wasm_module.specs.declared.fault.ModuleWhy.{ModuleWhy}
+use Rattle.wasm_module.specs.declared.fault.ModuleWhy.TheVariants.{Limit}
+use Rattle.wasm_module.specs.declared.types.ValType.{ValType}
+use Rattle.wasm_module.specs.declared.types.Locals.{Locals}
+use Rattle.wasm_module.specs.Reasons.{numbers}
+use Rattle.wasm_module.specs.Types.{val_type}
+use Rattle.wasm_reader.specs.Bodies.{locals}
+use Rattle.wasm_module.specs.Locals.{local_count}
 
 one_more : (groups : List Locals) (g : Locals) (r : Result (List Locals × Span ModuleWhy) (Refusal ModuleWhy)) → preceded groups (and_then r (λ others u. Ok (g ∷ others, u))) ≡ preceded (groups ++ g ∷ []) r
 one_more groups g (Ok x) = simp append_assoc

@@ -1,7 +1,9 @@
+pub mod Back
+pub mod BodyReading
+pub mod ConstExprs
 pub mod Customs
-pub mod Exprs
+pub mod Ended
 pub mod Fitting
+pub mod Fuel
 pub mod Groups
-pub mod Rest
 pub mod Rows
-pub mod Whole

@@ -1,12 +1,16 @@
 -- A module that exports the sum of two integers, as its bytes and as what is read of them.
-use Rattle.std.specs.Prelude.{ℕ, List, [], ◌∷◌}
+use Rattle.std.specs.Prelude.{ℕ, List, [], ◌∷◌, None}
 use Rattle.ca_base.specs.declared.refusal.Refusal.{Refusal}
-use Rattle.wasm_reader.specs.declared.fault.ModuleWhy.{ModuleWhy}
-use Rattle.wasm_reader.specs.declared.fault.ModuleWhy.TheVariants.{Unsupported}
-use Rattle.wasm_reader.specs.declared.module.ValType.TheVariants.{I32}
-use Rattle.wasm_reader.specs.declared.module.ModuleParts.{ModuleParts}
-use Rattle.wasm_reader.specs.declared.instr.Instr.TheVariants.{LocalGet, I32Add}
-use Rattle.wasm_reader.specs.Expr.{End, Plain}
+use Rattle.wasm_module.specs.declared.fault.ModuleWhy.{ModuleWhy}
+use Rattle.wasm_module.specs.declared.fault.ModuleWhy.TheVariants.{Unsupported}
+use Rattle.wasm_module.specs.declared.types.ValType.TheVariants.{I32}
+use Rattle.wasm_module.specs.declared.module.ModuleParts.{ModuleParts}
+use Rattle.wasm_module.specs.declared.module.ExportDesc.TheVariants as export_desc
+use Rattle.wasm_module.specs.declared.instr.Instr.TheVariants.{LocalGet, Numeric}
+use Rattle.wasm_module.specs.declared.instr.NumericOp.TheVariants.{Binary}
+use Rattle.wasm_module.specs.declared.instr.Width.TheVariants.{W32}
+use Rattle.wasm_module.specs.declared.instr.BinaryOp.TheVariants.{Add}
+use Rattle.wasm_module.specs.Expr.{End, Plain}
 
 -- the bytes, with this opcode in the place of the addition
 unfoldable pub bytes_with : ℕ → List ℕ
@@ -21,12 +25,29 @@ unfoldable pub add_module : ModuleParts
 add_module = record {
   tree = record {
     types = record { params = I32 ∷ I32 ∷ []; results = I32 ∷ [] } ∷ [];
-    funcs = record { type_index = 0; locals = []; body = Plain (LocalGet 0) (Plain (LocalGet 1) (Plain I32Add End)) } ∷ [];
-    exports = record { name = 0x61 ∷ 0x64 ∷ 0x64 ∷ []; func = 0 } ∷ [];
+    imports = [];
+    funcs = record { type_index = 0; locals = []; body = Plain (LocalGet 0) (Plain (LocalGet 1) (Plain (Numeric (Binary W32 Add)) End)) } ∷ [];
+    tables = [];
+    memories = [];
+    globals = [];
+    exports = record { name = 0x61 ∷ 0x64 ∷ 0x64 ∷ []; desc = export_desc.Func 0 } ∷ [];
+    start = None;
+    element_segments = [];
+    data_segments = [];
   };
-  places = record { funcs = 20 ∷ []; exports = 24 ∷ []; bodies = (35 ∷ 37 ∷ 39 ∷ 40 ∷ []) ∷ [] };
+  places = record {
+    imports = [];
+    funcs = record { place = 20; ops = 35 ∷ 37 ∷ 39 ∷ 40 ∷ [] } ∷ [];
+    tables = [];
+    memories = [];
+    globals = [];
+    exports = 24 ∷ [];
+    start = None;
+    element_segments = [];
+    data_segments = [];
+  };
 }
 
--- where the bytes are refused with the opcode 6B, whose place is 39
+-- where the bytes are refused with the opcode 06, whose place is 39
 unfoldable pub no_such_opcode : Refusal ModuleWhy
-no_such_opcode = record { place = 39; why = Unsupported 0x6B }
+no_such_opcode = record { place = 39; why = Unsupported 0x06 }

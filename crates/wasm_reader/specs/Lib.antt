@@ -1,6 +1,7 @@
 pub mod Binary
+pub mod Bodies
 pub mod Examples
-pub mod Expr
+pub mod Instrs
+pub mod Items
 pub mod Laws
-pub mod Locals
-pub mod Places
+pub mod Parts

@@ -1,26 +1,34 @@
-//! The readers of locals, instructions and bodies.
+//! The readers of bodies and of the code of functions (Core 2.0, sections 5.4.9 and 5.5.13).
 
 ghost use Rattle.std.specs.Prelude.{◌≡◌};
-ghost use Rattle.ca_base.specs.Grammar.{Reads, MayRead};
-ghost use Rattle.wasm_reader.specs.Binary.{locals, all_locals, instr, prefixed, body, func_code, is_float};
+ghost use Rattle.ca_base.specs.Grammar.{MayRead};
+ghost use Rattle.wasm_reader.specs.Bodies.{locals, all_locals, body, func_code, code_payload};
 
-use crate::fault::ModuleWhy;
-use crate::funcs::{DeclaredFunc, PlacedBody, PlacedFunc};
-use crate::instr::{Body, Instr};
-use crate::items::read_val_type;
-use crate::locals::DeclaredLocals;
-use crate::module::{Func, Locals};
-use ca_base::{KindOf, ReadError, Refusal, Seq, Window};
+use crate::declared::{DeclaredFunc, PlacedBody};
+use crate::instrs::{read_block_type, read_instr};
+use crate::parted::Parted;
+use crate::parts::{Part, is_else, leave};
+use ca_base::{Kind, KindOf, ReadError, Refusal, Seq, Window, read_each};
 use std::alloc::Global;
+use wasm_module::{Body, DeclaredLocals, Func, FuncPlaces, Locals, ModuleWhy, Op, ValTypes};
 
 /// The opcode that ends an expression.
 const END: u8 = 0x0B;
 
+/// The opcode that begins a block.
+const BLOCK: u8 = 0x02;
+
+/// The opcode that begins a loop.
+const LOOP: u8 = 0x03;
+
+/// The opcode that begins an `if`.
+const IF: u8 = 0x04;
+
 /// How many locals a function may declare.
 const LOCALS_LIMIT: u64 = 50_000;
 
-/// Reads the groups of locals of a function (Core 2.0, section 5.5.13).
-#[tactic(auto, unfolding(crate::specs::Binary::all_locals))]
+/// Reads the groups of locals of a function.
+#[tactic(auto, unfolding(crate::specs::Bodies::all_locals))]
 fn read_all_locals(
     alloc: Global,
     window: &mut Window<ModuleWhy>,
@@ -53,80 +61,14 @@ fn read_locals(
                 why: ModuleWhy::Limit,
             }));
         }
-        let val_type = read_val_type(window)?;
+        let val_type = ValTypes::read(alloc, window)?;
         before = total;
         read.push(Locals { count, val_type })?;
     }
     Ok(DeclaredLocals::of(read))
 }
 
-/// Whether an opcode is one of floats (Core 2.0, section 5.4).
-fn is_float(opcode: u8) -> bool
-    ensures { result ≡ is_float opcode }
-{
-    (0x2A <= opcode && opcode <= 0x2B)
-        || (0x38 <= opcode && opcode <= 0x39)
-        || (0x43 <= opcode && opcode <= 0x44)
-        || (0x5B <= opcode && opcode <= 0x66)
-        || (0x8B <= opcode && opcode <= 0xA6)
-        || (0xA8 <= opcode && opcode <= 0xAB)
-        || (0xAE <= opcode && opcode <= 0xBF)
-}
-
-/// Reads the number behind the opcode FC, and refuses the instruction (Core 2.0, section 5.4.7).
-#[tactic(auto, unfolding(crate::specs::Binary::prefixed))]
-fn read_prefixed(window: &mut Window<ModuleWhy>) -> Result<Instr, Refusal<ModuleWhy>>
-    ensures { Reads (λ i. i) prefixed window.old window.new result }
-{
-    let place = window.at();
-    let first = window.next().unwrap_or(0);
-    let number = window.u32()?;
-    if number <= 7 {
-        return Err(Refusal {
-            place,
-            why: ModuleWhy::Float,
-        });
-    }
-    Err(Refusal {
-        place,
-        why: ModuleWhy::Unsupported(first),
-    })
-}
-
-/// Reads the instruction of an opcode that stood at a place (Core 2.0, section 5.4).
-#[tactic(auto, unfolding(crate::specs::Binary::instr))]
-fn read_instr(
-    place: usize,
-    opcode: u8,
-    window: &mut Window<ModuleWhy>,
-) -> Result<Instr, Refusal<ModuleWhy>>
-    ensures { Reads (λ i. i) (instr place opcode) window.old window.new result }
-{
-    if opcode == 0x20 {
-        let index = window.u32()?;
-        return Ok(Instr::LocalGet(index));
-    }
-    if opcode == 0x6A {
-        return Ok(Instr::I32Add);
-    }
-    if opcode == 0xFC {
-        let instr = read_prefixed(window)?;
-        return Ok(instr);
-    }
-    if is_float(opcode) {
-        return Err(Refusal {
-            place,
-            why: ModuleWhy::Float,
-        });
-    }
-    Err(Refusal {
-        place,
-        why: ModuleWhy::Unsupported(opcode),
-    })
-}
-
-/// Reads instructions up to an end, with no more bytes than are left (Core 2.0, section 5.4.9).
-#[tactic(auto, unfolding(crate::specs::Binary::body), using(crate::proofs::Exprs::none_before, crate::proofs::Exprs::expr_goes, crate::proofs::Exprs::expr_ends, crate::proofs::Exprs::expr_refused, crate::proofs::Exprs::expr_short, crate::proofs::Exprs::expr_long))]
+/// Reads operations up to the end of the whole, with no more bytes than are left.
 fn read_body(
     alloc: Global,
     window: &mut Window<ModuleWhy>,
@@ -134,19 +76,55 @@ fn read_body(
     ensures { MayRead (λ read. read) body window.old window.new result }
 {
     let mut code = Vec::new(alloc);
-    let mut places = Seq::new(alloc);
+    let mut places = Vec::new(alloc);
+    let mut part = Part::Other;
+    let mut around = Vec::new(alloc);
     let count = window.left();
     for _index in 0..count {
         let place = window.at();
         let opcode = window.byte()?;
-        if opcode == END {
-            places.push(place)?;
-            let body = Body::from_code(code);
-            return Ok(PlacedBody { body, places });
-        }
-        let instr = read_instr(place, opcode, window)?;
-        code.push(instr)?;
         places.push(place)?;
+        if opcode == END {
+            code.push(Op::End)?;
+            match leave(&mut around) {
+                None => {
+                    return Ok(PlacedBody {
+                        body: Body::from_code(code),
+                        ops: Seq::from_vec(places),
+                    });
+                }
+                Some(outer) => part = outer,
+            }
+            continue;
+        }
+        if is_else(part, opcode) {
+            code.push(Op::Else)?;
+            part = Part::Other;
+            continue;
+        }
+        if opcode == BLOCK {
+            let block_type = read_block_type(window)?;
+            code.push(Op::OpenBlock(block_type))?;
+            around.push(part)?;
+            part = Part::Other;
+            continue;
+        }
+        if opcode == LOOP {
+            let block_type = read_block_type(window)?;
+            code.push(Op::OpenLoop(block_type))?;
+            around.push(part)?;
+            part = Part::Other;
+            continue;
+        }
+        if opcode == IF {
+            let block_type = read_block_type(window)?;
+            code.push(Op::OpenIf(block_type))?;
+            around.push(part)?;
+            part = Part::First;
+            continue;
+        }
+        let instr = read_instr(alloc, place, opcode, window)?;
+        code.push(Op::Plain(instr))?;
     }
     let place = window.at();
     let byte = window.byte()?;
@@ -157,46 +135,82 @@ fn read_body(
 }
 
 /// Reads what the size of a function's code tells the length of: its locals and its body.
-#[tactic(auto, unfolding(crate::specs::Binary::func_code))]
+#[tactic(auto, unfolding(crate::specs::Bodies::func_code))]
 fn read_func_code(
     alloc: Global,
     declared: DeclaredFunc,
     window: &mut Window<ModuleWhy>,
-) -> Result<PlacedFunc, ReadError<ModuleWhy>>
+) -> Result<Parted<Func, FuncPlaces>, ReadError<ModuleWhy>>
     ensures { MayRead (λ read. read) (func_code declared) window.old window.new result }
 {
     let locals = read_all_locals(alloc, window)?;
-    let PlacedBody { body, places } = read_body(alloc, window)?;
-    Ok(PlacedFunc {
-        func: Func {
+    let PlacedBody { body, ops } = read_body(alloc, window)?;
+    Ok(Parted {
+        part: Func {
             type_index: declared.type_index,
             locals,
             body,
         },
-        place: declared.place,
-        body_places: places,
+        places: FuncPlaces {
+            place: declared.place,
+            ops,
+        },
     })
 }
 
-// The code of a function that is declared so (Core 2.0, section 5.5.13).
+// The code of a function that is declared so.
 impl KindOf for DeclaredFunc {
-    ghost use Rattle.wasm_reader.specs.Binary.{code};
+    ghost use Rattle.wasm_reader.specs.Bodies.{code};
 
     type Why = ModuleWhy;
 
-    type Item = PlacedFunc;
+    type Item = Parted<Func, FuncPlaces>;
 
     ghost grammar = { code };
 
-    #[tactic(auto, unfolding(crate::specs::Binary::code))]
+    #[tactic(auto, unfolding(crate::specs::Bodies::code))]
     fn read(
         &self,
         alloc: Global,
         window: &mut Window<ModuleWhy>,
-    ) -> Result<PlacedFunc, ReadError<ModuleWhy>> {
+    ) -> Result<Parted<Func, FuncPlaces>, ReadError<ModuleWhy>> {
         let mut inner = window.open()?;
         let read = read_func_code(alloc, *self, &mut inner)?;
         inner.finish()?;
         Ok(read)
+    }
+}
+
+/// Functions as their section declares them.
+#[derive(Drop)]
+pub(crate) struct Declared<'a> {
+    pub funcs: &'a [DeclaredFunc],
+}
+
+// The payload of the code section: as many codes as functions.
+impl<'a> KindOf for Declared<'a> {
+    ghost use Rattle.wasm_reader.specs.Bodies.{code_payload};
+
+    type Why = ModuleWhy;
+
+    type Item = Seq<Parted<Func, FuncPlaces>>;
+
+    ghost grammar = { λ d. code_payload d.funcs.now };
+
+    #[tactic(auto, unfolding(crate::specs::Bodies::code_payload))]
+    fn read(
+        &self,
+        alloc: Global,
+        window: &mut Window<ModuleWhy>,
+    ) -> Result<Seq<Parted<Func, FuncPlaces>>, ReadError<ModuleWhy>> {
+        let place = window.at();
+        let count = window.u32()?;
+        if count as usize != self.funcs.len() {
+            return Err(ReadError::Fault(Refusal {
+                place,
+                why: ModuleWhy::Count,
+            }));
+        }
+        read_each(alloc, self.funcs, window)
     }
 }

@@ -1,81 +1,92 @@
-//! The items of sections, a kind for each: types, functions that are declared, exports.
+//! The items of the sections of imports, functions and exports, a kind for each (Core 2.0, section 5.5).
 
-ghost use Rattle.ca_base.specs.Grammar.{Reads};
-ghost use Rattle.wasm_reader.specs.Binary.{val_type};
+ghost use Rattle.ca_base.specs.Grammar.{Reads, MayRead};
+ghost use Rattle.wasm_reader.specs.Items.{import_of, export_of};
 
-use crate::fault::ModuleWhy;
-use crate::funcs::DeclaredFunc;
-use crate::module::{Export, FuncType, ValType};
-use ca_base::{Kind, Name, ReadError, Refusal, Window, read_vec};
+use crate::declared::DeclaredFunc;
+use ca_base::{Kind, Name, ReadError, Refusal, Window};
 use std::alloc::Global;
+use wasm_module::{
+    Export, ExportDesc, GlobalTypes, Import, ImportDesc, Memories, ModuleWhy, Tables, refused_byte,
+};
 
-/// Reads a value type (Core 2.0, section 5.3.4).
-#[tactic(auto, unfolding(crate::specs::Binary::val_type))]
-pub(crate) fn read_val_type(window: &mut Window<ModuleWhy>) -> Result<ValType, Refusal<ModuleWhy>>
-    ensures { Reads (λ t. t) val_type window.old window.new result }
+/// Reads what an import asks for.
+#[tactic(auto, unfolding(crate::specs::Items::import_of))]
+fn read_import_of(
+    alloc: Global,
+    window: &mut Window<ModuleWhy>,
+) -> Result<ImportDesc, ReadError<ModuleWhy>>
+    ensures { MayRead (λ d. d) import_of window.old window.new result }
 {
     let place = window.at();
-    let byte = window.byte()?;
-    if byte == 0x7F {
-        return Ok(ValType::I32);
+    let kind = window.byte()?;
+    if kind == 0 {
+        let index = window.u32()?;
+        return Ok(ImportDesc::Func(index));
     }
-    if byte == 0x7E {
-        return Ok(ValType::I64);
+    if kind == 1 {
+        let limits = Tables::read(alloc, window)?;
+        return Ok(ImportDesc::Table(limits));
     }
-    if byte == 0x7D || byte == 0x7C {
-        return Err(Refusal {
-            place,
-            why: ModuleWhy::Float,
-        });
+    if kind == 2 {
+        let limits = Memories::read(alloc, window)?;
+        return Ok(ImportDesc::Memory(limits));
     }
-    Err(Refusal {
-        place,
-        why: ModuleWhy::Unsupported(byte),
-    })
+    if kind == 3 {
+        let global_type = GlobalTypes::read(alloc, window)?;
+        return Ok(ImportDesc::Global(global_type));
+    }
+    Err(ReadError::Fault(refused_byte(false, place, kind)))
 }
 
-/// Value types (Core 2.0, section 5.3.4).
-struct ValTypes;
+/// Reads what an export offers.
+#[tactic(auto, unfolding(crate::specs::Items::export_of))]
+fn read_export_of(window: &mut Window<ModuleWhy>) -> Result<ExportDesc, Refusal<ModuleWhy>>
+    ensures { Reads (λ d. d) export_of window.old window.new result }
+{
+    let place = window.at();
+    let kind = window.byte()?;
+    if kind == 0 {
+        let index = window.u32()?;
+        return Ok(ExportDesc::Func(index));
+    }
+    if kind == 1 {
+        let index = window.u32()?;
+        return Ok(ExportDesc::Table(index));
+    }
+    if kind == 2 {
+        let index = window.u32()?;
+        return Ok(ExportDesc::Memory(index));
+    }
+    if kind == 3 {
+        let index = window.u32()?;
+        return Ok(ExportDesc::Global(index));
+    }
+    Err(refused_byte(false, place, kind))
+}
 
-impl Kind for ValTypes {
-    ghost use Rattle.wasm_reader.specs.Binary.{val_type};
+/// Imports (Core 2.0, section 5.5.5).
+pub(crate) struct Imports;
+
+impl Kind for Imports {
+    ghost use Rattle.wasm_reader.specs.Items.{import};
 
     type Why = ModuleWhy;
 
-    type Item = ValType;
+    type Item = Import;
 
-    ghost grammar = { val_type };
+    ghost grammar = { import };
 
-    fn read(
-        _alloc: Global,
-        window: &mut Window<ModuleWhy>,
-    ) -> Result<ValType, ReadError<ModuleWhy>> {
-        let read = read_val_type(window)?;
-        Ok(read)
-    }
-}
-
-/// Function types (Core 2.0, section 5.3.6).
-pub(crate) struct FuncTypes;
-
-impl Kind for FuncTypes {
-    ghost use Rattle.wasm_reader.specs.Binary.{func_type};
-
-    type Why = ModuleWhy;
-
-    type Item = FuncType;
-
-    ghost grammar = { func_type };
-
-    #[tactic(auto, unfolding(crate::specs::Binary::func_type))]
-    fn read(
-        alloc: Global,
-        window: &mut Window<ModuleWhy>,
-    ) -> Result<FuncType, ReadError<ModuleWhy>> {
-        window.marker(0x60)?;
-        let params = read_vec::<ValTypes>(alloc, window)?;
-        let results = read_vec::<ValTypes>(alloc, window)?;
-        Ok(FuncType { params, results })
+    #[tactic(auto, unfolding(crate::specs::Items::import))]
+    fn read(alloc: Global, window: &mut Window<ModuleWhy>) -> Result<Import, ReadError<ModuleWhy>> {
+        let module = window.name()?;
+        let text = window.name()?;
+        let desc = read_import_of(alloc, window)?;
+        Ok(Import {
+            module: Name::new(alloc, module)?,
+            name: Name::new(alloc, text)?,
+            desc,
+        })
     }
 }
 
@@ -83,7 +94,7 @@ impl Kind for FuncTypes {
 pub(crate) struct DeclaredFuncs;
 
 impl Kind for DeclaredFuncs {
-    ghost use Rattle.wasm_reader.specs.Binary.{declared_func};
+    ghost use Rattle.wasm_reader.specs.Items.{declared_func};
 
     type Why = ModuleWhy;
 
@@ -91,7 +102,7 @@ impl Kind for DeclaredFuncs {
 
     ghost grammar = { declared_func };
 
-    #[tactic(auto, unfolding(crate::specs::Binary::declared_func))]
+    #[tactic(auto, unfolding(crate::specs::Items::declared_func))]
     fn read(
         _alloc: Global,
         window: &mut Window<ModuleWhy>,
@@ -102,11 +113,11 @@ impl Kind for DeclaredFuncs {
     }
 }
 
-/// Exports of functions (Core 2.0, section 5.5.10).
+/// Exports (Core 2.0, section 5.5.10).
 pub(crate) struct Exports;
 
 impl Kind for Exports {
-    ghost use Rattle.wasm_reader.specs.Binary.{export};
+    ghost use Rattle.wasm_reader.specs.Items.{export};
 
     type Why = ModuleWhy;
 
@@ -114,12 +125,11 @@ impl Kind for Exports {
 
     ghost grammar = { export };
 
-    #[tactic(auto, unfolding(crate::specs::Binary::export))]
+    #[tactic(auto, unfolding(crate::specs::Items::export))]
     fn read(alloc: Global, window: &mut Window<ModuleWhy>) -> Result<Export, ReadError<ModuleWhy>> {
         let text = window.name()?;
-        window.marker(0)?;
-        let func = window.u32()?;
+        let desc = read_export_of(window)?;
         let name = Name::new(alloc, text)?;
-        Ok(Export { name, func })
+        Ok(Export { name, desc })
     }
 }

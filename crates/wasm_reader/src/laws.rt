@@ -12,5 +12,5 @@ pub fn one_reading()
 /// The format has an example: these bytes are that module, and with another opcode they are refused.
 pub fn add_is_read()
     ensures module { IsModule (bytes_with 0x6A) 0 add_module }
-    ensures refused { IsRefused (bytes_with 0x6B) 0 no_such_opcode }
+    ensures refused { IsRefused (bytes_with 0x06) 0 no_such_opcode }
 {}

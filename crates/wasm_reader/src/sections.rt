@@ -1,24 +1,26 @@
-//! The readers of sections and of the whole module.
+//! The readers of sections and of the whole module (Core 2.0, section 5.5).
 
-ghost use Rattle.std.specs.Prelude.{◌≡◌, IfOk};
+ghost use Rattle.std.specs.Prelude.{◌≡◌, ◌&&◌, length, unwrap_or, IfOk, OkIff};
+ghost use Rattle.std.specs.Option.{option_map};
 ghost use Rattle.ca_base.specs.Grammar.{Reads, MayRead};
-ghost use Rattle.ca_base.specs.Items.{sized, custom};
-ghost use Rattle.wasm_reader.specs.Binary.{numbers, reasons, customs, items, code_payload, out_of_order, module_end, no_codes, code_section, module_of, the_module};
-ghost use Rattle.wasm_reader.specs.Places.{Fits};
+ghost use Rattle.ca_base.specs.Items.{sized, custom, u32 as number};
+ghost use Rattle.wasm_module.specs.Reasons.{numbers, reasons};
+ghost use Rattle.wasm_reader.specs.Items.{data_payload};
+ghost use Rattle.wasm_reader.specs.Bodies.{code_payload};
+ghost use Rattle.wasm_reader.specs.Binary.{customs, payload, items, declarations, definitions, uses, module_end, is_there, ends, contents};
 
-use crate::fault::ModuleWhy;
-use crate::funcs::{DeclaredFunc, PlacedFunc, funcs_apart};
-use crate::items::{DeclaredFuncs, Exports, FuncTypes};
-use crate::module::{Export, FuncType, Module, ModuleParts, ModulePlaces, ModuleTree};
+use crate::bodies::Declared;
+use crate::declared::{Contents, Declarations, DeclaredFunc, Definitions, Uses};
+use crate::instrs::Indices;
+use crate::items::{DeclaredFuncs, Exports, Imports};
+use crate::segments::{DataCount, Elements, Globals};
 use ca_base::{
-    Kind, Placed, PlacedOf, ReadError, Refusal, Seq, VecOf, Window, apart, read_each, read_section,
+    Kind, KindOf, PlacedOf, ReadError, Refusal, Seq, VecOf, Window, read_section, read_sized_of,
 };
-use std::alloc::{AllocError, Global};
+use std::alloc::Global;
+use wasm_module::{FuncTypes, Memories, ModuleWhy, Tables, refused_byte};
 
-/// The preamble of a module: its magic number and its version.
-const PREAMBLE: [u8; 8] = [0x00, 0x61, 0x73, 0x6D, 0x01, 0x00, 0x00, 0x00];
-
-/// Skips custom sections (Core 2.0, section 5.5.3).
+/// Skips custom sections.
 #[tactic(auto, unfolding(crate::specs::Binary::customs), using(crate::proofs::Customs::customs_none, crate::proofs::Customs::customs_stop, crate::proofs::Customs::customs_go, crate::proofs::Customs::customs_short, crate::proofs::Customs::customs_refused))]
 fn skip_customs(window: &mut Window<ModuleWhy>) -> Result<(), Refusal<ModuleWhy>>
     ensures { Reads (λ _. tt) customs window.old window.new result }
@@ -38,13 +40,45 @@ fn skip_customs(window: &mut Window<ModuleWhy>) -> Result<(), Refusal<ModuleWhy>
 fn skip_custom(window: &mut Window<ModuleWhy>) -> Result<(), Refusal<ModuleWhy>>
     ensures { Reads (λ _. tt) (sized numbers reasons (custom numbers)) window.old window.new result }
 {
-    let mut payload = window.open()?;
-    payload.custom()?;
-    payload.finish()?;
+    let mut inner = window.open()?;
+    inner.custom()?;
+    inner.finish()?;
     Ok(())
 }
 
-/// Reads the items of the section of an id, behind custom sections: none where there is no such section.
+/// Reads the section of an id, behind custom sections, where there is such a section.
+#[tactic(auto, unfolding(crate::specs::Binary::payload))]
+fn read_payload<K: Kind<Why = ModuleWhy>>(
+    alloc: Global,
+    id: u8,
+    window: &mut Window<ModuleWhy>,
+) -> Result<Option<K::Item>, ReadError<ModuleWhy>>
+    ensures { MayRead (λ found. found) (payload id K.grammar) window.old window.new result }
+{
+    skip_customs(window)?;
+    read_section::<K>(alloc, id, window)
+}
+
+/// Reads the section of an id whose kind a value tells, behind custom sections, where there is such a section.
+#[tactic(auto, unfolding(crate::specs::Binary::payload))]
+fn read_payload_of<K: KindOf<Why = ModuleWhy>>(
+    alloc: Global,
+    id: u8,
+    kind: &K,
+    window: &mut Window<ModuleWhy>,
+) -> Result<Option<K::Item>, ReadError<ModuleWhy>>
+    ensures { MayRead (λ found. found) (payload id (K.grammar kind.now)) window.old window.new result }
+{
+    skip_customs(window)?;
+    if window.next() != Some(id) {
+        return Ok(None);
+    }
+    window.byte()?;
+    let read = read_sized_of(alloc, kind, window)?;
+    Ok(Some(read))
+}
+
+/// Reads the items of the section of an id: none where there is no such section.
 #[tactic(auto, unfolding(crate::specs::Binary::items))]
 fn read_items<K: Kind<Why = ModuleWhy>>(
     alloc: Global,
@@ -53,50 +87,62 @@ fn read_items<K: Kind<Why = ModuleWhy>>(
 ) -> Result<Seq<K::Item>, ReadError<ModuleWhy>>
     ensures { MayRead (λ xs. xs) (items id K.grammar) window.old window.new result }
 {
-    skip_customs(window)?;
-    let found = read_section::<VecOf<K>>(alloc, id, window)?;
+    let found = read_payload::<VecOf<K>>(alloc, id, window)?;
     Ok(found.unwrap_or(Seq::new(alloc)))
 }
 
-/// Reads the payload of the code section: as many codes as functions.
-#[tactic(auto, unfolding(crate::specs::Binary::code_payload))]
-fn read_code_payload(
+/// Reads types, imports, and functions as they are declared.
+#[tactic(auto, unfolding(crate::specs::Binary::declarations))]
+pub(crate) fn read_declarations(
     alloc: Global,
-    declared: &[DeclaredFunc],
     window: &mut Window<ModuleWhy>,
-) -> Result<Seq<PlacedFunc>, ReadError<ModuleWhy>>
-    ensures { MayRead (λ read. read) (code_payload declared.now) window.old window.new result }
+) -> Result<Declarations, ReadError<ModuleWhy>>
+    ensures { MayRead (λ d. d) declarations window.old window.new result }
 {
-    let place = window.at();
-    let count = window.u32()?;
-    if count as usize != declared.len() {
-        return Err(ReadError::Fault(Refusal {
-            place,
-            why: ModuleWhy::Count,
-        }));
-    }
-    read_each(alloc, declared, window)
+    let types = read_items::<FuncTypes>(alloc, 1, window)?;
+    let imports = read_items::<PlacedOf<Imports>>(alloc, 2, window)?;
+    let funcs = read_items::<DeclaredFuncs>(alloc, 3, window)?;
+    Ok(Declarations {
+        types,
+        imports,
+        funcs,
+    })
 }
 
-/// Reads what stands behind the id of the code section.
-fn read_sized_codes(
+/// Reads tables, memories and globals.
+#[tactic(auto, unfolding(crate::specs::Binary::definitions))]
+pub(crate) fn read_definitions(
     alloc: Global,
-    declared: &[DeclaredFunc],
     window: &mut Window<ModuleWhy>,
-) -> Result<Seq<PlacedFunc>, ReadError<ModuleWhy>>
-    ensures { MayRead (λ read. read) (sized numbers reasons (code_payload declared.now)) window.old window.new result }
+) -> Result<Definitions, ReadError<ModuleWhy>>
+    ensures { MayRead (λ d. d) definitions window.old window.new result }
 {
-    let mut payload = window.open()?;
-    let read = read_code_payload(alloc, declared, &mut payload)?;
-    payload.finish()?;
-    Ok(read)
+    let tables = read_items::<PlacedOf<Tables>>(alloc, 4, window)?;
+    let memories = read_items::<PlacedOf<Memories>>(alloc, 5, window)?;
+    let globals = read_items::<Globals>(alloc, 6, window)?;
+    Ok(Definitions {
+        tables,
+        memories,
+        globals,
+    })
 }
 
-/// Whether a section has an order among the others.
-fn out_of_order(id: u8) -> bool
-    ensures { result ≡ out_of_order id }
+/// Reads exports, the function that runs first, and segments of functions.
+#[tactic(auto, unfolding(crate::specs::Binary::uses))]
+pub(crate) fn read_uses(
+    alloc: Global,
+    window: &mut Window<ModuleWhy>,
+) -> Result<Uses, ReadError<ModuleWhy>>
+    ensures { MayRead (λ u. u) uses window.old window.new result }
 {
-    id == 1 || id == 3 || id == 7 || id == 10
+    let exports = read_items::<PlacedOf<Exports>>(alloc, 7, window)?;
+    let start = read_payload::<PlacedOf<Indices>>(alloc, 8, window)?;
+    let element_segments = read_items::<Elements>(alloc, 9, window)?;
+    Ok(Uses {
+        exports,
+        start,
+        element_segments,
+    })
 }
 
 /// Reads the end of the module, behind custom sections.
@@ -109,101 +155,62 @@ fn read_module_end(window: &mut Window<ModuleWhy>) -> Result<(), Refusal<ModuleW
     match window.next() {
         None => Ok(()),
         Some(id) => {
-            if out_of_order(id) {
+            if 1 <= id && id <= 12 {
                 Err(Refusal {
                     place,
                     why: ModuleWhy::SectionOrder,
                 })
             } else {
-                Err(Refusal {
-                    place,
-                    why: ModuleWhy::Unsupported(id),
-                })
+                Err(refused_byte(false, place, id))
             }
         }
     }
 }
 
-/// Reads the end of a module that has no code section.
-#[tactic(auto, unfolding(crate::specs::Binary::no_codes))]
-fn read_no_codes(
-    alloc: Global,
-    declared: &[DeclaredFunc],
+/// Whether something is there, or none of it is wanted.
+fn is_there<T>(wanted: usize, found: &Option<T>) -> bool
+    ensures { result ≡ is_there wanted found.now }
+{
+    found.is_some() || wanted == 0
+}
+
+/// Reads the end of a module of so many functions and segments of bytes, whose sections have to stand there.
+#[tactic(auto, unfolding(crate::specs::Binary::ends))]
+fn read_ends<C, S>(
+    functions: usize,
+    codes: &Option<C>,
+    counted: u32,
+    segments: &Option<S>,
     window: &mut Window<ModuleWhy>,
-) -> Result<Seq<PlacedFunc>, ReadError<ModuleWhy>>
-    ensures { MayRead (λ read. read) (no_codes declared.now) window.old window.new result }
+) -> Result<(), Refusal<ModuleWhy>>
+    ensures { Reads (λ _. tt) (ends functions codes.now counted segments.now) window.old window.new result }
 {
     read_module_end(window)?;
     let place = window.at();
-    if declared.len() != 0 {
-        return Err(ReadError::Fault(Refusal {
-            place,
-            why: ModuleWhy::Count,
-        }));
+    if is_there(functions, codes) && is_there(counted as usize, segments) {
+        return Ok(());
     }
-    Ok(Seq::new(alloc))
+    Err(Refusal {
+        place,
+        why: ModuleWhy::Count,
+    })
 }
 
-/// Reads the code section, where there is one, for functions that are declared so, and the end of the module (Core 2.0,
-/// section 5.5.13).
-#[tactic(auto, unfolding(crate::specs::Binary::code_section))]
-fn read_code_section(
+/// Reads the data count, the code of functions that are declared so, and segments of bytes, up to the module's end.
+#[tactic(auto, unfolding(crate::specs::Binary::contents))]
+pub(crate) fn read_contents(
     alloc: Global,
     declared: &[DeclaredFunc],
     window: &mut Window<ModuleWhy>,
-) -> Result<Seq<PlacedFunc>, ReadError<ModuleWhy>>
-    ensures { MayRead (λ read. read) (code_section declared.now) window.old window.new result }
+) -> Result<Contents, ReadError<ModuleWhy>>
+    ensures { MayRead (λ c. c) (contents declared.now) window.old window.new result }
 {
-    if window.next() == Some(10) {
-        window.byte()?;
-        let read = read_sized_codes(alloc, declared, window)?;
-        read_module_end(window)?;
-        return Ok(read);
-    }
-    let none = read_no_codes(alloc, declared, window)?;
-    Ok(none)
-}
-
-/// The module of these types, functions and exports. It fails for want of memory alone.
-fn make_module(
-    alloc: Global,
-    types: Seq<FuncType>,
-    funcs: Seq<PlacedFunc>,
-    exports: Seq<Placed<Export>>,
-) -> Result<Module, AllocError>
-    requires { let m = module_of types funcs exports in Fits m.tree m.places }
-    ensures { IfOk result (λ m. m ≡ module_of types funcs exports) }
-{
-    let funcs = funcs_apart(alloc, funcs)?;
-    let (exports, export_places) = apart(alloc, exports)?;
-    Ok(Module::of(ModuleParts {
-        tree: ModuleTree {
-            types,
-            funcs: funcs.funcs,
-            exports,
-        },
-        places: ModulePlaces {
-            funcs: funcs.places,
-            exports: export_places,
-            bodies: funcs.bodies,
-        },
-    }))
-}
-
-/// Reads a module (Core 2.0, section 5.5.16).
-#[tactic(auto, unfolding(crate::specs::Binary::the_module))]
-pub(crate) fn read_the_module(
-    alloc: Global,
-    window: &mut Window<ModuleWhy>,
-) -> Result<Module, ReadError<ModuleWhy>>
-    ensures { MayRead (λ m. m) the_module window.old window.new result }
-{
-    window.fixed(&PREAMBLE, ModuleWhy::Magic)?;
-    let types = read_items::<FuncTypes>(alloc, 1, window)?;
-    let declared = read_items::<DeclaredFuncs>(alloc, 3, window)?;
-    let exports = read_items::<PlacedOf<Exports>>(alloc, 7, window)?;
-    skip_customs(window)?;
-    let funcs = read_code_section(alloc, declared.as_slice(), window)?;
-    let module = make_module(alloc, types, funcs, exports)?;
-    Ok(module)
+    let told = read_payload::<Indices>(alloc, 12, window)?;
+    let codes = read_payload_of(alloc, 10, &Declared { funcs: declared }, window)?;
+    let segments = read_payload_of(alloc, 11, &DataCount { told }, window)?;
+    read_ends(declared.len(), &codes, told.unwrap_or(0), &segments, window)?;
+    Ok(Contents {
+        funcs: codes.unwrap_or(Seq::new(alloc)),
+        data_segments: segments.unwrap_or(Seq::new(alloc)),
+    })
 }

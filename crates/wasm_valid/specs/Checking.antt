@@ -1,130 +1,262 @@
--- The first fault of a module, in the order of its file (Core 2.0, section 5.5): the functions' type indices, the
--- exports, and then each body from its first instruction, by the algorithm of the appendix (Core 2.0, appendix
--- "Validation Algorithm"). A list of operand types has the last operand first.
-use Rattle.std.specs.Prelude.{ℕ, ◌+◌, Bool, true, false, nat_lt, if◌then◌else◌, List, [], ◌∷◌, length, map, reverse, Option, Some, None, Result, Ok, Err}
+-- The algorithm for flat code (Core 2.0, appendix "Validation Algorithm"), over what is known of the operands.
+use Rattle.std.specs.Prelude.{ℕ, suc, Bool, true, false, cond, ◌==◌, ◌||◌, List, [], ◌∷◌, ◌++◌, length, reverse, Option, Some, None, is_some, nat_lt}
 use Rattle.std.specs.List.{slice_get}
-use Rattle.std.specs.Option.{ok_or, option_or, option_map, option_and_then}
-use Rattle.std.specs.Result.{result_and}
-use Rattle.ca_base.specs.Faults.{first_in}
-use Rattle.ca_base.specs.Names.{is_among}
-use Rattle.wasm_reader.specs.declared.module.ValType.{ValType}
-use Rattle.wasm_reader.specs.declared.module.ValType.TheVariants.{I32, I64}
-use Rattle.wasm_reader.specs.declared.module.FuncType.{FuncType}
-use Rattle.wasm_reader.specs.declared.module.Func.{Func}
-use Rattle.wasm_reader.specs.declared.module.Export.{Export}
-use Rattle.wasm_reader.specs.declared.module.ModuleTree.{ModuleTree}
-use Rattle.wasm_reader.specs.declared.module.ModulePlaces.{ModulePlaces}
-use Rattle.wasm_reader.specs.declared.instr.Instr.{Instr}
-use Rattle.wasm_reader.specs.declared.instr.Instr.TheVariants.{LocalGet, I32Add}
-use Rattle.wasm_reader.specs.Expr.{Expr, End, Plain}
-use Rattle.wasm_reader.specs.Locals.{local_types}
-use Rattle.wasm_valid.specs.declared.fault.ValidWhy.{ValidWhy}
-use Rattle.wasm_valid.specs.declared.fault.ValidWhy.TheVariants.{Index, Stack, Typing, Name}
-use Rattle.wasm_valid.specs.declared.fault.Spot.{Spot}
-use Rattle.wasm_valid.specs.declared.fault.Spot.TheVariants as spot
-use Rattle.wasm_valid.specs.declared.fault.BodyFault.{BodyFault}
-use Rattle.wasm_valid.specs.declared.fault.Fault.{Fault}
-use Rattle.wasm_valid.specs.declared.fault.ValidFault.{ValidFault}
+use Rattle.wasm_module.specs.declared.types.ValType.{ValType}
+use Rattle.wasm_module.specs.declared.types.ValType.TheVariants.{I32}
+use Rattle.wasm_module.specs.declared.types.FuncType.{FuncType}
+use Rattle.wasm_module.specs.declared.instr.BlockType.{BlockType}
+use Rattle.wasm_module.specs.declared.instr.Instr.{Instr}
+use Rattle.wasm_module.specs.declared.instr.Instr.TheVariants as instr
+use Rattle.wasm_module.specs.declared.instr.Op.{Op}
+use Rattle.wasm_module.specs.declared.instr.Op.TheVariants.{Plain as PlainOp, OpenBlock, OpenLoop, OpenIf, Else, End as EndOp}
+use Rattle.wasm_module.specs.Expr.{Expr, flat}
+pub use Rattle.wasm_module.specs.SameTypes.{same_type, same_types}
+use Rattle.wasm_valid.specs.declared.why.ValidWhy.{ValidWhy}
+use Rattle.wasm_valid.specs.declared.why.ValidWhy.TheVariants as why
+use Rattle.wasm_valid.specs.declared.fault.PartFault.{PartFault}
+use Rattle.wasm_valid.specs.declared.block.Part.{Part}
+use Rattle.wasm_valid.specs.declared.block.Part.TheVariants as part
+use Rattle.wasm_valid.specs.Context.{Context, params, results}
+use Rattle.wasm_valid.specs.Instrs.{instr_type}
+use Rattle.wasm_valid.specs.Typing.{Operands, operands_of, no_type}
+use Rattle.wasm_valid.specs.Faults.{label_of, bad_index, bad_label, misaligned, need, ends_short}
 
--- whether two types are the same: a line for each type
-abbrev pub same_type : ValType → ValType → Bool
-same_type I32 I32 = true
-same_type I32 I64 = false
-same_type I64 I32 = false
-same_type I64 I64 = true
+-- The types of the last operands, where one without a type may be any, and whether any others may lie under them.
+pub record Known : Type 0 where
+  pub types : Operands
+  pub any : Bool
 
--- Another type than the wanted one is a fault, where the operands below are enough.
-abbrev pub where_same : Bool → Result (List ValType) ValidWhy → Result (List ValType) ValidWhy
-where_same true below = below
-where_same false below = result_and below (Err Typing)
+abbrev pub known : Operands → Bool → Known
+known types any = record { types = types; any = any }
 
--- the operands below the last ones, which are to have the wanted types
-abbrev pub taken : List ValType → List ValType → Result (List ValType) ValidWhy
-taken [] operands = Ok operands
-taken (want ∷ wanted) [] = Err Stack
-taken (want ∷ wanted) (type ∷ operands) = where_same (same_type want type) (taken wanted operands)
+abbrev pub if_so : Bool → Known → Option Known
+if_so true k = Some k
+if_so false k = None
 
--- a result on the operands below
-abbrev pub put_on : ValType → Result (List ValType) ValidWhy → Result (List ValType) ValidWhy
-put_on type (Ok operands) = Ok (type ∷ operands)
-put_on type (Err why) = Err why
+-- whether an operand of which this is known may have a type
+abbrev pub may_be : Option ValType → ValType → Bool
+may_be None type = true
+may_be (Some found) type = same_type found type
 
--- the operands behind an instruction
-abbrev pub instr_after : List ValType → Instr → List ValType → Result (List ValType) ValidWhy
-instr_after locals (LocalGet index) operands = ok_or (option_map (λ type. type ∷ operands) (slice_get locals index)) Index
-instr_after locals I32Add operands = put_on I32 (taken (I32 ∷ I32 ∷ []) operands)
+-- what is left below an operand of a type
+abbrev pub taken_of : ValType → Operands → Bool → Option Known
+taken_of type [] true = Some (known [] true)
+taken_of type [] false = None
+taken_of type (first ∷ others) any = if_so (may_be first type) (known others any)
 
--- the fault of the results, or the one behind them
-abbrev pub fault_or : Result (List ValType) ValidWhy → (List ValType → Option ValidWhy) → Option ValidWhy
-fault_or (Ok operands) behind = behind operands
-fault_or (Err why) behind = Some why
+abbrev pub taken : ValType → Known → Option Known
+taken type k = taken_of type k.types k.any
 
--- no operand is left below the results
-abbrev pub surplus : List ValType → Option ValidWhy
-surplus [] = None
-surplus (type ∷ operands) = Some Typing
+abbrev pub taken_all : List ValType → Option Known → Option Known
+taken_all types None = None
+taken_all [] (Some k) = Some k
+taken_all (type ∷ types) (Some k) = taken_all types (taken type k)
 
--- the fault of an instruction behind so many others, or the first one behind it
-abbrev pub behind_instr : ℕ → Result (List ValType) ValidWhy → (List ValType → Option BodyFault) → Option BodyFault
-behind_instr at (Ok operands) behind = behind operands
-behind_instr at (Err why) behind = Some (record { at = at; why = why })
+abbrev pub given : Operands → Option Known → Option Known
+given os None = None
+given os (Some k) = Some (known (os ++ k.types) k.any)
 
--- the first fault of an expression at these operands, behind so many instructions
-abbrev pub expr_fault : List ValType → List ValType → Expr → ℕ → List ValType → Option BodyFault
-expr_fault locals results End at operands = option_map (λ why. record { at = at; why = why }) (fault_or (taken (reverse results) operands) surplus)
-expr_fault locals results (Plain instr e) at operands = behind_instr at (instr_after locals instr operands) (expr_fault locals results e (at + 1))
+-- by an instruction of this type, if it has one
+abbrev pub turned : Option FuncType → Known → Option Known
+turned None k = None
+turned (Some type) k = given (operands_of type.results) (taken_all (reverse type.params) (Some k))
 
--- the first fault in the body of a function of this type: it starts with no operands
-abbrev pub body_fault : FuncType → Func → Option BodyFault
-body_fault type func = expr_fault (local_types type func.locals) type.results func.body 0 []
+-- behind a branch any operands may be
+abbrev pub anything : Option Known → Option Known
+anything None = None
+anything (Some k) = Some (known [] true)
 
--- the fault of a function behind these others, for so many types: the type is not among them (section 5.5.6)
-abbrev pub type_fault : ℕ → List Func → Func → Option Fault
-type_fault count before func =
-    if nat_lt func.type_index count then None else Some (record { spot = spot.Func (length before); why = Index })
+abbrev pub branched : Option (List ValType) → Option Known → Option Known
+branched None k = None
+branched (Some types) k = anything (taken_all (reverse types) k)
 
--- the fault of the export of this number, for so many functions, by whether its name stands before (section 5.5.10)
-abbrev pub numbered_fault : ℕ → ℕ → Bool → Export → Option Fault
-numbered_fault count number named export =
-    if nat_lt export.func count then (if named then Some (record { spot = spot.Export number; why = Name }) else None)
-    else Some (record { spot = spot.Export number; why = Index })
+-- the last operand and what is left below it
+abbrev pub popped_of : Operands → Bool → Option (Option ValType × Known)
+popped_of [] true = Some (None, known [] true)
+popped_of [] false = None
+popped_of (first ∷ others) any = Some (first, known others any)
 
--- the fault of an export behind these others
-abbrev pub export_fault : ℕ → List Export → Export → Option Fault
-export_fault count before export =
-    numbered_fault count (length before) (is_among export.name (map (λ other. other.name) before)) export
+abbrev pub popped : Known → Option (Option ValType × Known)
+popped k = popped_of k.types k.any
 
--- the first fault in the body of a function behind these others; where its type is not there, it has its fault before all
--- bodies
-abbrev pub func_fault : List FuncType → List Func → Func → Option Fault
-func_fault types before func =
-    option_map (λ found. record { spot = spot.Instr (length before) found.at; why = found.why })
-    (option_and_then (λ type. body_fault type func) (slice_get types func.type_index))
+abbrev pub dropped : Option (Option ValType × Known) → Option Known
+dropped None = None
+dropped (Some p) = Some p.1
 
--- the first fault of a module, if it has one
-abbrev pub first_fault : ModuleTree → Option Fault
-first_fault m =
-    option_or (first_in (type_fault (length m.types)) [] m.funcs)
-    (option_or (first_in (export_fault (length m.funcs)) [] m.exports)
-    (first_in (func_fault m.types) [] m.funcs))
+-- `select` gives what both operands may be
+abbrev pub if_joined : Bool → ValType → Option (Option ValType)
+if_joined true type = Some (Some type)
+if_joined false type = None
 
--- where a part stands: at the place that has its number. In a module that is read, each part has one
-abbrev pub place_of : ModulePlaces → Spot → Option ℕ
-place_of places (spot.Func index) = slice_get places.funcs index
-place_of places (spot.Export number) = slice_get places.exports number
-place_of places (spot.Instr index at) = option_and_then (λ body. slice_get body at) (slice_get places.bodies index)
+abbrev pub joined : Option ValType → Option ValType → Option (Option ValType)
+joined None second = Some second
+joined (Some type) None = Some (Some type)
+joined (Some type) (Some other) = if_joined (same_type type other) type
 
--- the function in whose body a part stands
-abbrev pub func_of : Spot → Option ℕ
-func_of (spot.Func index) = None
-func_of (spot.Export number) = None
-func_of (spot.Instr index at) = Some index
+abbrev pub put : Option (Option ValType) → Known → Option Known
+put None k = None
+put (Some o) k = Some (known (o ∷ k.types) k.any)
 
--- a fault, with the function and the place of its part
-abbrev pub told : ModulePlaces → Fault → Option ValidFault
-told places fault =
-    option_map (λ place. record { func = func_of fault.spot; place = place; why = fault.why }) (place_of places fault.spot)
+abbrev pub select_both : Option ValType → Option (Option ValType × Known) → Option Known
+select_both first None = None
+select_both first (Some p) = put (joined first p.0) p.1
 
--- the first ill-typed part of a module whose parts stand at these places: its function, its place, and why
-abbrev pub untyped : ModuleTree → ModulePlaces → Option ValidFault
-untyped m places = option_and_then (told places) (first_fault m)
+abbrev pub select_first : Option (Option ValType × Known) → Option Known
+select_first None = None
+select_first (Some p) = select_both p.0 (popped p.1)
+
+abbrev pub selected : Option Known → Option Known
+selected None = None
+selected (Some k) = select_first (popped k)
+
+-- whether the last operands may go to a label of so many types
+abbrev pub may_go : Option (List ValType) → ℕ → Known → Bool
+may_go None count k = false
+may_go (Some types) count k = cond (length types == count) (is_some (taken_all (reverse types) (Some k))) false
+
+abbrev pub may_go_all : List (List ValType) → List ℕ → ℕ → Known → Bool
+may_go_all labels [] count k = true
+may_go_all labels (label ∷ others) count k = cond (may_go (slice_get labels label) count k) (may_go_all labels others count k) false
+
+abbrev pub tabled_at : List (List ValType) → List ℕ → Option (List ValType) → Known → Option Known
+tabled_at labels others None k = None
+tabled_at labels others (Some types) k = cond (may_go_all labels others (length types) k) (branched (Some types) (Some k)) None
+
+abbrev pub tabled : List (List ValType) → List ℕ → ℕ → Option Known → Option Known
+tabled labels others label None = None
+tabled labels others label (Some k) = tabled_at labels others (slice_get labels label) k
+
+-- what is known behind an instruction
+abbrev pub learn : Context → List (List ValType) → Instr → Known → Option Known
+learn c labels instr.Unreachable k = Some (known [] true)
+learn c labels (instr.Br label) k = branched (slice_get labels label) (Some k)
+learn c labels (instr.BrTable others label) k = tabled labels others label (taken I32 k)
+learn c labels instr.Return k = branched (Some c.results) (Some k)
+learn c labels instr.Drop k = dropped (popped k)
+learn c labels instr.Select k = selected (taken I32 k)
+learn c labels i k = turned (instr_type c labels i) k
+
+-- an open block, with what is known of the operands above its floor
+pub record Control : Type 0 where
+  pub kind : Part
+  pub type : BlockType
+  pub known : Known
+
+abbrev pub control : Part → BlockType → Known → Control
+control kind type k = record { kind = kind; type = type; known = k }
+
+abbrev pub knowing : Control → Known → Control
+knowing f k = control f.kind f.type k
+
+abbrev pub labels_in : Context → List Control → List (List ValType)
+labels_in c [] = []
+labels_in c (f ∷ fs) = label_of c f.kind f.type ∷ labels_in c fs
+
+abbrev pub ends_in : Context → List Control → List ValType
+ends_in c [] = []
+ends_in c (f ∷ fs) = results c.types f.type
+
+abbrev pub with_known : Control → List Control → Option Known → Option (List Control)
+with_known f fs None = None
+with_known f fs (Some k) = Some (knowing f k ∷ fs)
+
+-- what is known where a block of a type begins
+abbrev pub begun : Context → Part → BlockType → Control
+begun c kind type = control kind type (known (operands_of (params c.types type)) false)
+
+abbrev pub opened : Control → Control → List Control → Option Known → Option (List Control)
+opened new f fs None = None
+opened new f fs (Some k) = Some (new ∷ knowing f k ∷ fs)
+
+abbrev pub opened_where : Bool → Control → Control → List Control → Option Known → Option (List Control)
+opened_where true new f fs k = None
+opened_where false new f fs k = opened new f fs k
+
+abbrev pub closed_in : List ValType → List Control → List Control
+closed_in ends [] = []
+closed_in ends (f ∷ fs) = knowing f (known (operands_of ends ++ f.known.types) f.known.any) ∷ fs
+
+abbrev pub if_empty : Operands → List Control → Option (List Control)
+if_empty [] fs = Some fs
+if_empty (o ∷ os) fs = None
+
+abbrev pub if_bare : Option Known → List Control → Option (List Control)
+if_bare None fs = None
+if_bare (Some k) fs = if_empty k.types fs
+
+-- what is known where the operands of a block are exactly its results
+abbrev pub ended : Context → Control → List Control → Option (List Control)
+ended c f fs = if_bare (taken_all (reverse (results c.types f.type)) (Some f.known)) fs
+
+abbrev pub may_end : Context → Part → BlockType → Bool
+may_end c part.Block type = true
+may_end c part.Loop type = true
+may_end c part.If type = same_types (params c.types type) (results c.types type)
+
+abbrev pub second_part : Context → Part → Control → List Control → Option (List Control)
+second_part c part.Block f fs = None
+second_part c part.Loop f fs = None
+second_part c part.If f fs = ended c f (begun c part.Block f.type ∷ fs)
+
+abbrev pub if_may : Bool → Option (List Control) → Option (List Control)
+if_may true fs = fs
+if_may false fs = None
+
+-- what is known behind an item
+abbrev pub step : Context → Op → List Control → Option (List Control)
+step c op [] = None
+step c (PlainOp i) (f ∷ fs) = with_known f fs (learn c (labels_in c (f ∷ fs)) i f.known)
+step c (OpenBlock t) (f ∷ fs) = opened_where (no_type c t) (begun c part.Block t) f fs (taken_all (reverse (params c.types t)) (Some f.known))
+step c (OpenLoop t) (f ∷ fs) = opened_where (no_type c t) (begun c part.Loop t) f fs (taken_all (reverse (params c.types t)) (Some f.known))
+step c (OpenIf t) (f ∷ fs) = opened_where (no_type c t) (begun c part.If t) f fs (taken_all (I32 ∷ reverse (params c.types t)) (Some f.known))
+step c Else (f ∷ fs) = second_part c f.kind f fs
+step c EndOp (f ∷ fs) = if_may (may_end c f.kind f.type) (ended c f (closed_in (results c.types f.type) fs))
+
+abbrev pub short_of : ℕ → Bool → Operands → Bool
+short_of n true types = false
+short_of n false types = nat_lt (length types) n
+
+abbrev pub too_short : ℕ → List Control → Bool
+too_short n [] = false
+too_short n (f ∷ fs) = short_of n f.known.any f.known.types
+
+abbrev pub why_by : Bool → Bool → Bool → Bool → ValidWhy
+why_by true label align short = why.Index
+why_by false true align short = why.Label
+why_by false false true short = why.Align
+why_by false false false true = why.Stack
+why_by false false false false = why.Typing
+
+-- whether an `if` ends here whose empty second part has too few operands
+abbrev pub second_in : Context → Op → List Control → Bool
+second_in c op [] = false
+second_in c op (f ∷ fs) = ends_short c op f.kind f.type
+
+abbrev pub lacks : Context → Op → List Control → Bool
+lacks c op fs = too_short (need c (labels_in c fs) (ends_in c fs) op) fs || second_in c op fs
+
+abbrev pub why_of : Context → Op → List Control → ValidWhy
+why_of c op fs = why_by (bad_index c op) (bad_label (labels_in c fs) op) (misaligned op) (lacks c op fs)
+
+abbrev pub part_fault : ℕ → ValidWhy → PartFault
+part_fault at w = record { at = at; why = w }
+
+abbrev pub later : Option PartFault → Option PartFault
+later None = None
+later (Some f) = Some (part_fault (suc f.at) f.why)
+
+abbrev pub fault_on : ValidWhy → Option (List Control) → (List Control → Option PartFault) → Option PartFault
+fault_on w None next = Some (part_fault 0 w)
+fault_on w (Some fs) next = later (next fs)
+
+abbrev pub first_fault : Context → List Op → List Control → Option PartFault
+first_fault c [] fs = None
+first_fault c (op ∷ ops) fs = fault_on (why_of c op fs) (step c op fs) (first_fault c ops)
+
+-- what is known where a body begins, whose type has this index
+abbrev pub begins : BlockType → List Control
+begins type = control part.Block type (known [] false) ∷ []
+
+-- the first fault of a body: behind how many items of its flat code it stands, and why
+abbrev pub body_fault : Context → BlockType → Expr → Option PartFault
+body_fault c type e = first_fault c (flat e) (begins type)

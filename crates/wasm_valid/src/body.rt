@@ -1,90 +1,134 @@
-//! Whether the body of a function has its type, by the validation algorithm (Core 2.0, appendix "Validation Algorithm").
+//! Whether a body has the type of its function, by the validation algorithm over its flat code (Core 2.0, appendix
+//! "Validation Algorithm").
 
-ghost use Rattle.std.specs.Prelude.{◌≡◌, reverse, Some, None, MatchResult};
-ghost use Rattle.ca_base.specs.Faults.{IfFault, MayFind, MayStep};
-ghost use Rattle.wasm_valid.specs.Checking.{taken, instr_after, fault_or, surplus, body_fault};
+ghost use Rattle.std.specs.Prelude.{◌≡◌, ◌∷◌, IfOk, reverse, Some};
+ghost use Rattle.wasm_valid.specs.Checking.{step, taken_all, may_end, second_part};
+ghost use Rattle.wasm_valid.specs.Context.{params, results};
+ghost use Rattle.wasm_valid.specs.State.{all_of, GoesOn, Closed, Bare, opened_in};
 
-use crate::fault::{BodyFault, ValidWhy};
-use ca_base::MemoryOr;
-use std::alloc::Global;
-use wasm_reader::{Func, FuncType, Instr, ValType, local_types};
+use crate::block::Part;
+use crate::checker::Checker;
+use crate::context::Context;
+use std::alloc::AllocError;
+use wasm_module::{BlockType, Op, ValType, are_same};
 
-/// Takes the last operands, which are to have these types.
-fn take_operands(operands: &mut Vec<ValType>, wanted: &[ValType]) -> Result<(), ValidWhy>
-    ensures { MatchResult result (λ _. taken (reverse wanted.now) (reverse operands.old.items) ≡ Ok (reverse operands.new.items)) (λ why. taken (reverse wanted.now) (reverse operands.old.items) ≡ Err why) }
-{
-    if operands.len() < wanted.len() {
-        return Err(ValidWhy::Stack);
-    }
-    if !operands.ends_with(wanted) {
-        return Err(ValidWhy::Typing);
-    }
-    operands.truncate(operands.len() - wanted.len());
-    Ok(())
+/// What an item of flat code leads to.
+#[derive(Clone, Copy, Debug, PartialEq, Eq)]
+pub(crate) enum Stepped {
+    /// The rules don't get past it.
+    Stops,
+    /// They go on behind it.
+    Goes,
+    /// It ends the body.
+    Ends,
 }
 
-/// Puts an instruction's results in place of its operands.
-fn check_instr(
-    locals: &[ValType],
-    instr: Instr,
-    operands: &mut Vec<ValType>,
-) -> Result<(), MemoryOr<ValidWhy>>
-    ensures { MayStep (instr_after locals.now instr (reverse operands.old.items)) (reverse operands.new.items) result }
-{
-    match instr {
-        Instr::LocalGet(index) => {
-            let local = locals.get(index as usize).copied().ok_or(ValidWhy::Index)?;
-            operands.push(local)?;
+impl Checker {
+    /// Opens a block of a type, which takes its parameters.
+    fn enter(
+        &mut self,
+        context: &Context,
+        part: Part,
+        block_type: BlockType,
+    ) -> Result<bool, AllocError>
+        ensures { IfOk result (λ passed. GoesOn (opened_in context.now part block_type self.old.0 self.old.1 (taken_all (reverse (params context.now.types block_type)) (Some self.old.0.known))) passed self.new) }
+    {
+        if context.has_no_type(block_type) {
+            return Ok(false);
         }
-        Instr::I32Add => {
-            take_operands(operands, &[ValType::I32, ValType::I32])?;
-            operands.push(ValType::I32)?;
+        let params = context.params(block_type);
+        if !self.take_all(params) {
+            return Ok(false);
+        }
+        self.open(part, block_type)?;
+        self.push_all(params)?;
+        Ok(true)
+    }
+
+    /// Opens an `if` of a type, which takes an `i32` above its parameters.
+    fn enter_if(&mut self, context: &Context, block_type: BlockType) -> Result<bool, AllocError>
+        ensures { IfOk result (λ passed. GoesOn (opened_in context.now Part.If block_type self.old.0 self.old.1 (taken_all (ValType.I32 ∷ reverse (params context.now.types block_type)) (Some self.old.0.known))) passed self.new) }
+    {
+        if context.has_no_type(block_type) {
+            return Ok(false);
+        }
+        if !self.take(ValType::I32) {
+            return Ok(false);
+        }
+        Ok(self.enter(context, Part::If, block_type)?)
+    }
+
+    /// Takes the results of the innermost block, which are to be all its operands.
+    fn finish(&mut self, context: &Context) -> bool
+        ensures { Bare (taken_all (reverse (results context.now.types self.old.0.type)) (Some self.old.0.known)) result self.old self.new }
+    {
+        let results = context.results(self.block_type());
+        if !self.take_all(results) {
+            return false;
+        }
+        self.known_len() == 0
+    }
+
+    /// Goes from the first part of an `if` to the second one.
+    fn enter_else(&mut self, context: &Context) -> Result<bool, AllocError>
+        ensures { IfOk result (λ passed. GoesOn (second_part context.now self.old.0.kind self.old.0 self.old.1) passed self.new) }
+    {
+        let Part::If = self.part() else {
+            return Ok(false);
+        };
+        if !self.finish(context) {
+            return Ok(false);
+        }
+        let params = context.params(self.block_type());
+        self.begin_second();
+        self.push_all(params)?;
+        Ok(true)
+    }
+
+    /// Whether the innermost block may end here: the first part of an `if` only where its results are its parameters.
+    fn may_end(&self, context: &Context) -> bool
+        ensures { result ≡ may_end context.now self.now.0.kind self.now.0.type }
+    {
+        let block_type = self.block_type();
+        match self.part() {
+            Part::Block | Part::Loop => true,
+            Part::If => are_same(context.params(block_type), context.results(block_type)),
         }
     }
-    Ok(())
-}
 
-/// Takes the results, which are to be all operands that are left.
-fn check_end(results: &[ValType], mut operands: Vec<ValType>) -> Result<(), ValidWhy>
-    ensures { MatchResult result (λ _. fault_or (taken (reverse results.now) (reverse operands.items)) surplus ≡ None) (λ why. fault_or (taken (reverse results.now) (reverse operands.items)) surplus ≡ Some why) }
-{
-    take_operands(&mut operands, results)?;
-    if !operands.is_empty() {
-        return Err(ValidWhy::Typing);
-    }
-    Ok(())
-}
-
-/// The error of an instruction behind so many others.
-fn error_behind(at: usize, e: MemoryOr<ValidWhy>) -> MemoryOr<BodyFault>
-    ensures fault { IfFault result (λ fault. (fault.at ≡ at) × (e ≡ MemoryOr.Fault fault.why)) }
-    ensures memory { result ≡ MemoryOr.Memory → e ≡ MemoryOr.Memory }
-{
-    match e {
-        MemoryOr::Memory => MemoryOr::Memory,
-        MemoryOr::Fault(why) => MemoryOr::Fault(BodyFault { at, why }),
-    }
-}
-
-/// Checks the body of a function of this type, from its first instruction.
-pub(crate) fn check_body(
-    alloc: Global,
-    func_type: &FuncType,
-    func: &Func,
-) -> Result<(), MemoryOr<BodyFault>>
-    ensures { MayFind (body_fault func_type.now func.now) result }
-{
-    let locals = local_types(alloc, func_type, func.locals.as_slice())?;
-    let mut operands = Vec::new(alloc);
-    let mut at: usize = 0;
-    while let Some(instr) = func.body.next(at) {
-        if let Err(e) = check_instr(&locals, instr, &mut operands) {
-            return Err(error_behind(at, e));
+    /// Ends the innermost block.
+    fn close(&mut self, context: &Context) -> Result<Stepped, AllocError>
+        ensures { IfOk result (λ stepped. Closed (step context.now Op.End (all_of self.old)) stepped self.new) }
+    {
+        if !self.may_end(context) {
+            return Ok(Stepped::Stops);
         }
-        at += 1;
+        let results = context.results(self.block_type());
+        if !self.finish(context) {
+            return Ok(Stepped::Stops);
+        }
+        if !self.leave() {
+            return Ok(Stepped::Ends);
+        }
+        self.push_all(results)?;
+        Ok(Stepped::Goes)
     }
-    match check_end(func_type.results.as_slice(), operands) {
-        Ok(()) => Ok(()),
-        Err(why) => Err(MemoryOr::Fault(BodyFault { at, why })),
+
+    /// What an item makes of the open blocks.
+    pub fn step(&mut self, context: &Context, op: &Op) -> Result<Stepped, AllocError>
+        ensures { IfOk result (λ stepped. Closed (step context.now op.now (all_of self.old)) stepped self.new) }
+    {
+        let passed = match op {
+            Op::Plain(instr) => self.apply(context, instr)?,
+            Op::OpenBlock(block_type) => self.enter(context, Part::Block, *block_type)?,
+            Op::OpenLoop(block_type) => self.enter(context, Part::Loop, *block_type)?,
+            Op::OpenIf(block_type) => self.enter_if(context, *block_type)?,
+            Op::Else => self.enter_else(context)?,
+            Op::End => return Ok(self.close(context)?),
+        };
+        if !passed {
+            return Ok(Stepped::Stops);
+        }
+        Ok(Stepped::Goes)
     }
 }

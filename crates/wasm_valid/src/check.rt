@@ -1,42 +1,56 @@
-//! Whether a module is valid (Core 2.0, section 3), by the validation algorithm (Core 2.0, appendix "Validation Algorithm").
+//! Whether a module is valid (Core 2.0, section 3).
 
-ghost use Rattle.std.specs.Prelude.{◌≡◌, Some, [], length, IfOk, IfErr};
+ghost use Rattle.std.specs.Prelude.{◌≡◌, IfOk, IfErr, Some};
 ghost use Rattle.ca_base.specs.Faults.{IfFault, MayFind};
-ghost use Rattle.wasm_valid.specs.Checking.{first_fault, untyped};
-ghost use Rattle.wasm_valid.specs.Typing.{Typed};
+ghost use Rattle.wasm_valid.specs.Finding.{first_fault, untyped};
+ghost use Rattle.wasm_valid.specs.Modules.{Typed};
+ghost use Rattle.wasm_valid.specs.Untyped.{Untyped};
 
-use crate::exports::check_exports;
+use crate::codes::CodeRule;
 use crate::fault::{Fault, ValidFault};
-use crate::funcs::{BodyRule, TypeRule};
+use crate::items::{
+    DataRule, ElementRule, GlobalRule, ImportRule, MemoryRule, TableRule, TypeRule, check_exports,
+    check_start,
+};
 use crate::place::told;
 use crate::valid::Valid;
 use ca_base::{MemoryOr, check_all};
 use std::alloc::Global;
-use wasm_reader::{Module, ModuleParts, ModuleTree};
+use wasm_module::{Module, ModuleParts, ModuleTree, Space};
 
-/// Looks for the module's first fault.
+/// Looks for the first fault of a module, section by section.
 fn check_module(alloc: Global, tree: &ModuleTree) -> Result<(), MemoryOr<Fault>>
     ensures { MayFind (first_fault tree.now) result }
 {
-    let types = tree.types.as_slice();
-    let funcs = tree.funcs.as_slice();
-    let count = types.len();
-    check_all(alloc, &TypeRule { count }, funcs)?;
-    check_exports(alloc, funcs.len(), tree.exports.as_slice())?;
-    check_all(alloc, &BodyRule { types }, funcs)?;
+    let space = &Space::of(alloc, tree)?;
+    check_all(alloc, &ImportRule { space }, tree.imports.as_slice())?;
+    check_all(alloc, &TypeRule { space }, tree.funcs.as_slice())?;
+    check_all(alloc, &TableRule { space }, tree.tables.as_slice())?;
+    check_all(alloc, &MemoryRule { space }, tree.memories.as_slice())?;
+    check_all(alloc, &GlobalRule { space }, tree.globals.as_slice())?;
+    check_exports(alloc, space, tree.exports.as_slice())?;
+    check_start(space, tree.start)?;
+    check_all(
+        alloc,
+        &ElementRule { space },
+        tree.element_segments.as_slice(),
+    )?;
+    check_all(alloc, &CodeRule { space }, tree.funcs.as_slice())?;
+    check_all(alloc, &DataRule { space }, tree.data_segments.as_slice())?;
     Ok(())
 }
 
 /// The module as a valid one, or its first fault. `Memory` is want of memory, or a first fault in the body of a function
-/// whose index is 2^32 or more.
+/// whose number is 2^32 or more.
 pub fn validate(alloc: Global, read: Module) -> Result<Valid, MemoryOr<ValidFault>>
-    // The valid module is the tree, which is typed and has no fault.
+    // The valid module is the tree, which is typed.
     ensures valid { IfOk result (λ v. v ≡ read.tree) }
     ensures typed { IfOk result (λ _. Typed read.tree) }
     // The fault is the first one, with its place.
     ensures exact { MayFind (untyped read.tree read.places) result }
+    ensures fault { IfErr result (λ e. IfFault e (λ f. Untyped read.tree read.places f.func f.place f.why)) }
     // A typed module has none.
-    ensures fault { IfErr result (λ e. IfFault e (λ _. Typed read.tree → ⊥)) }
+    ensures ill { IfErr result (λ e. IfFault e (λ _. Typed read.tree → ⊥)) }
 {
     let ModuleParts { tree, places } = read.into_parts();
     match check_module(alloc, &tree) {

@@ -1,10 +1,10 @@
 //! Modules that are valid.
 
 ghost use Rattle.std.specs.Prelude.{◌≡◌};
-ghost use Rattle.wasm_valid.specs.Typing.{Typed};
+ghost use Rattle.wasm_valid.specs.Modules.{Typed};
 
 use std::marker::Model;
-use wasm_reader::ModuleTree;
+use wasm_module::ModuleTree;
 
 /// A module that is typed. Contracts see its tree.
 #[derive(Debug, Drop)]
@@ -13,9 +13,9 @@ pub struct Valid {
 }
 
 impl Model for Valid {
-    ghost use Rattle.wasm_reader.specs.declared.module.ModuleTree.{ModuleTree};
-    ghost use Rattle.wasm_reader.specs.contracts.module.ModuleTree as contract;
-    ghost use Rattle.wasm_valid.specs.Typing.{Typed};
+    ghost use Rattle.wasm_module.specs.declared.module.ModuleTree.{ModuleTree};
+    ghost use Rattle.wasm_module.specs.contracts.module.ModuleTree as contract;
+    ghost use Rattle.wasm_valid.specs.Modules.{Typed};
 
     ghost Value = { ModuleTree };
 

@@ -8,11 +8,11 @@ use Rattle.std.proofs.lemmas.Bool.{cases_lt, le-leb, lt-leb}
 use Rattle.std.proofs.lemmas.List.{drop_more, drop_all, length-map}
 use Rattle.std.proofs.lemmas.List.Sums.{sum_by-cons}
 use Rattle.std.proofs.lemmas.Option.{slice_get_within}
-use Rattle.wasm_reader.specs.declared.module.ValType.{ValType}
-use Rattle.wasm_reader.specs.declared.module.ValType.TheVariants.{I32, I64}
-use Rattle.wasm_reader.specs.declared.module.FuncType as core_func_type
-use Rattle.wasm_reader.specs.declared.module.ModuleTree.{ModuleTree}
-use Rattle.wasm_reader.specs.Expr.{instr_count}
+use Rattle.wasm_module.specs.declared.types.ValType.{ValType}
+use Rattle.wasm_module.specs.declared.types.ValType.TheVariants.{I32, I64}
+use Rattle.wasm_module.specs.declared.types.FuncType as core_func_type
+use Rattle.wasm_module.specs.declared.module.ModuleTree.{ModuleTree}
+use Rattle.wasm_machine.specs.Expr.{instr_count}
 use Rattle.wasm_machine.specs.Step.{Stack, Move, Goes, next, AreWords}
 use Rattle.wasm_machine.specs.Step as core_step
 use Rattle.wasm_machine.specs.declared.store.Function.{Function}
@@ -21,8 +21,9 @@ use Rattle.wasm_machine.specs.Activation.{Activation}
 use Rattle.wasm_machine.specs.Running.{stack_of}
 use Rattle.wasm_machine.specs.Run.{RunGives}
 use Rattle.wasm_machine.specs.Store.{FunctionTyped, functions_of, params_of, results_of, body_of}
-use Rattle.wasm_machine.proofs.Functions.{typed_all}
-use Rattle.wasm_valid.specs.Typing.{Typed}
+use Rattle.wasm_machine.specs.Straight.{runs}
+use Rattle.wasm_machine.proofs.Functions.{all_run, typed_all}
+use Rattle.wasm_valid.specs.Modules.{Typed}
 use Rattle.ca_types.specs.declared.value.Value.{Value}
 use Rattle.comp_link.proofs.Callable.{all_at}
 use Rattle.wasm_machine.proofs.Safety.{each_ends}
@@ -41,7 +42,7 @@ use Rattle.wcm.specs.declared.run.End.TheVariants.{Done, Fuel}
 use Rattle.wcm.specs.declared.calling.Instances.{Instances}
 use Rattle.comp_link.specs.declared.graph.CoreFunc.{CoreFunc}
 use Rattle.wcm.specs.Run.{World, Steps, Ends, Starting, Running, Returned, store_of, address, func_named, lowered, lifted, started, entered, taken, turn, core_turn, Runs}
-use Rattle.comp_link.specs.Linking.{Lifted, Exported, Graph, exports_of, is_i32, core_type, IsCallable}
+use Rattle.comp_link.specs.Linking.{Lifted, Exported, Graph, exports_of, is_i32, core_type, AllRun, IsCallable}
 use Rattle.wcm.specs.Calling.{idle, AreMade, Calls, CoreEnds, CoreWaits, GoesOn, Stops}
 use Rattle.wcm.specs.RunLaws.{SoundCall, Sound, item_cost, cost, EachRunEnds}
 use Rattle.wcm.proofs.Labels.{find_of_map}
@@ -294,9 +295,9 @@ both_all P [] ys h k = k
 both_all P (x ∷ xs) ys h k = (h.0, both_all P xs ys h.1 k)
 
 -- The functions of valid modules are typed.
-store_typed : (modules : List ModuleTree) → AllByRecursion Typed modules → AllByRecursion FunctionTyped (store_of modules)
-store_typed [] h = tt
-store_typed (m ∷ modules) h = both_all FunctionTyped (functions_of m) (store_of modules) (typed_all m.types m.funcs h.0.funcs) (store_typed modules h.1)
+store_typed : (modules : List ModuleTree) → AllByRecursion Typed modules → AllByRecursion (λ m. runs m ≡ true) modules → AllByRecursion FunctionTyped (store_of modules)
+store_typed [] h r = tt
+store_typed (m ∷ modules) h r = both_all FunctionTyped (functions_of m) (store_of modules) (typed_all m m.funcs (all_run m r.0) h.0.funcs) (store_typed modules h.1 r.1)
 
 -- Values that lower to words below 2^32 are words of i32.
 lowered_words : (values : List Value) → AllByRecursion (λ v. lowered v < 2 ^ 32) values → AreWords (map (λ v. I32) values) (map lowered values)
@@ -304,8 +305,8 @@ lowered_words [] h = tt
 lowered_words (v ∷ values) h = (h.0, lowered_words values h.1)
 
 -- A call of an export of a graph over valid modules is sound.
-pub call_sound : (g : Graph) (call : Call) → IsCallable g → AllByRecursion Typed g.instances → CallsExport (exports_of g) (item.Call call) → AllByRecursion (λ v. lowered v < 2 ^ 32) call.values → SoundCall g call
-call_sound g call callable valid calls small =
+pub call_sound : (g : Graph) (call : Call) → IsCallable g → AllByRecursion Typed g.instances → AllRun g → CallsExport (exports_of g) (item.Call call) → AllByRecursion (λ v. lowered v < 2 ^ 32) call.values → SoundCall g call
+call_sound g call callable valid run calls small =
     let f = is_named g call calls in
     let l = named_callable g call.name f.0 callable f.1 in
     let s = stored g.instances f.0.core l.type l.there in
@@ -316,6 +317,6 @@ call_sound g call callable valid calls small =
       named = f.1;
       function = s.function;
       there = s.there;
-      typed = all_at FunctionTyped (store_of g.instances) (address g.instances f.0.core) s.function (store_typed g.instances valid) s.there;
+      typed = all_at FunctionTyped (store_of g.instances) (address g.instances f.0.core) s.function (store_typed g.instances valid run) s.there;
       values = subst (λ (types : List ValType). AreWords types (map lowered call.values)) (sym types) (lowered_words call.values small);
     }

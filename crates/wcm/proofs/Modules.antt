@@ -6,12 +6,18 @@ use Rattle.ca_base.specs.Span.{Span, window}
 use Rattle.ca_base.specs.Grammar.{Grammar, Give, Refuse, Choose, ◌>>=◌, times, Matches}
 use Rattle.ca_base.specs.Items.{NumberReasons, Reasons, placed, placed_vec, many, sized, joined}
 use Rattle.ca_base.specs.declared.placed.Placed.{Placed}
-use Rattle.wasm_reader.specs.declared.module.ModuleTree.{ModuleTree}
-use Rattle.wasm_reader.specs.declared.fault.ModuleWhy.TheVariants as module_why
+use Rattle.ca_base.proofs.Laws.{matches_reads}
+use Rattle.wasm_module.specs.declared.module.ModuleTree.{ModuleTree}
+use Rattle.wasm_module.specs.declared.module.ModuleParts.{ModuleParts}
+use Rattle.wasm_module.specs.declared.fault.ModuleWhy.{ModuleWhy}
+use Rattle.wasm_module.specs.declared.fault.ModuleWhy.TheVariants as module_why
+use Rattle.wasm_module.specs.Places.{Fits}
+use Rattle.wasm_reader.specs.Binary.{definitions, uses, contents, the_module}
+use Rattle.wasm_reader.proofs.Fitting.{parts_fit}
 use Rattle.wasm_valid.specs.declared.fault.ValidFault.{ValidFault}
-use Rattle.wasm_valid.specs.Checking.{untyped}
-use Rattle.wasm_valid.specs.Typing.{Typed}
-use Rattle.wasm_valid.proofs.Reading.{told_where_read}
+use Rattle.wasm_valid.specs.Finding.{untyped}
+use Rattle.wasm_valid.specs.Modules.{Typed}
+use Rattle.wasm_valid.proofs.Placing.{told_or_typed}
 use Rattle.comp_reader.specs.declared.component.Item.{Item}
 use Rattle.comp_reader.specs.declared.component.Item.TheVariants as item
 use Rattle.comp_reader.specs.declared.component.Component.{Component}
@@ -66,11 +72,24 @@ valid_typed : (tree : ModuleTree) (o : Option ValidFault) (s : Span ComponentWhy
 valid_typed tree None s x t h m = subst Typed (sym m.0) (h refl)
 valid_typed tree (Some fault) s x t h m = absurd m
 
+-- Each part of a core module that is read has a place.
+module_fits : (s : Span ModuleWhy) (m : ModuleParts) (t : Span ModuleWhy) → Matches the_module s m t → Fits m.tree m.places
+unfolding the_module
+module_fits s m t h =
+    let defines = h.3.3 in
+    let uses_them = defines.3 in
+    let holds = uses_them.3 in
+    let fits = parts_fit h.3.0 defines.0 uses_them.0 holds.0 h.3.1 defines.1 defines.1 uses_them.1 uses_them.1 holds.1
+    (matches_reads definitions h.3.1 defines.0 defines.1 defines.2) (matches_reads uses defines.1 uses_them.0 uses_them.1 uses_them.2)
+    (matches_reads (contents h.3.0.funcs) uses_them.1 holds.0 holds.1 holds.2) in
+    subst (λ (m : ModuleParts). Fits m.tree m.places) (sym holds.3.0) fits
+
 module_gives : Gives ItemTyped core_module
 unfolding core_module module_file
 module_gives s x t m =
     let read = m.0 in
-    let typed = valid_typed read.tree (untyped read.tree read.places) m.1 m.3.0 m.3.1 (told_where_read (window m.2.0 module_why.Truncated m.2.1) read m.2.3.2.0 m.2.3.2.1).0 m.3.2 in
+    let fits = module_fits (window m.2.0 module_why.Truncated m.2.1) read m.2.3.2.0 m.2.3.2.1 in
+    let typed = valid_typed read.tree (untyped read.tree read.places) m.1 m.3.0 m.3.1 (told_or_typed read.tree read.places fits).0 m.3.2 in
     subst ItemTyped (sym m.3.3.0) typed
 
 -- The other items are no core modules.

@@ -3,8 +3,8 @@ use Rattle.std.proofs.Common.{◌≡◌, ◌<◌, ◌^◌, ℕ, zero, suc, Bool,
 use Rattle.std.specs.Prelude.{is_none}
 use Rattle.std.specs.List.{slice_get, AllByRecursion}
 use Rattle.std.specs.Option.{option_map_or}
-use Rattle.wasm_reader.specs.declared.module.ModuleTree.{ModuleTree}
-use Rattle.wasm_valid.specs.Typing.{Typed}
+use Rattle.wasm_module.specs.declared.module.ModuleTree.{ModuleTree}
+use Rattle.wasm_valid.specs.Modules.{Typed}
 use Rattle.ca_types.specs.declared.types.ValType.{ValType}
 use Rattle.ca_types.specs.declared.types.ValType.TheVariants as val_type
 use Rattle.ca_types.specs.declared.value.Value as passed
@@ -29,11 +29,11 @@ use Rattle.comp_link.specs.declared.link_fault.LinkWhy.{LinkWhy}
 use Rattle.comp_link.specs.declared.link_fault.LinkWhy.TheVariants as why
 use Rattle.ca_base.specs.Faults.{and_on, folded}
 use Rattle.ca_base.specs.Names.{first_twice, is_among}
-use Rattle.comp_link.specs.Linking.{Lifted, Spaces, Graph, no_spaces, with_core_instance, with_func, with_export, link_core_instance, link_exported, link_alias, with_closed, link_type, lift_to, link_lift, link_export, link_item, link_items, link_placed, linked_at, linked_or, linked, exported, exports_of, ClosedType, Value, Func, all_within, labels, names, close_func, is_flat, core_type, IsCallable}
+use Rattle.comp_link.specs.Linking.{Lifted, Spaces, Graph, no_spaces, with_core_module, with_core_instance, with_func, with_export, first_import, is_accepted, link_made, link_core_instance, link_exported, link_alias, with_closed, link_type, lift_to, link_lift, link_export, link_item, link_items, link_placed, linked_at, linked_or, linked, exported, exports_of, ClosedType, Value, Func, all_within, labels, names, close_func, is_flat, core_type, AllRun, IsCallable}
 use Rattle.wcm.specs.Run.{lowered}
 use Rattle.wcm.specs.RunLaws.{Sound}
 use Rattle.wcm.specs.Laws.{ScriptsAreSound}
-use Rattle.comp_link.proofs.Callable.{linked_callable}
+use Rattle.comp_link.proofs.Callable.{linked_callable, linked_run}
 use Rattle.wcm.proofs.Calls.{call_sound}
 use Rattle.wcm.proofs.Modules.{ItemTyped, PlacedTyped, component_typed}
 
@@ -61,10 +61,14 @@ either_keeps : (b : Bool) (q r : Result Spaces LinkWhy) → Keeps q → Keeps r 
 either_keeps true q r k l = k
 either_keeps false q r k l = l
 
+made_keeps : (s : Spaces) (m : ModuleTree) (o : Option (List ℕ)) → Typed m → Kept s → Keeps (link_made s m o)
+made_keeps s m (Some name) t k = tt
+made_keeps s m None t k =
+    either_keeps _ (Ok (with_core_instance s m)) (Err _) (record { modules = k.modules; instances = all_push Typed s.core_instances m k.instances t }) tt
+
 instance_keeps : (s : Spaces) (index : ℕ) (o : Option ModuleTree) → slice_get s.core_modules index ≡ o → Kept s → Keeps (link_core_instance s o)
 instance_keeps s index None e k = tt
-instance_keeps s index (Some m) e k =
-    either_keeps _ (Ok (with_core_instance s m)) (Err _) (record { modules = k.modules; instances = all_push Typed s.core_instances m k.instances (all_at Typed s.core_modules index m k.modules e) }) tt
+instance_keeps s index (Some m) e k = made_keeps s m (first_import m) (all_at Typed s.core_modules index m k.modules e) k
 
 exported_keeps : (s : Spaces) (index : ℕ) (name : List ℕ) (o : Option ℕ) → Kept s → Keeps (link_exported s index name o)
 exported_keeps s index name None k = tt
@@ -97,7 +101,8 @@ export_keeps s name None k = tt
 export_keeps s name (Some f) k = either_keeps (is_among name (names s.exports)) (Err why.Typing) (Ok (with_export s name f)) tt (record { modules = k.modules; instances = k.instances })
 
 item_keeps : (s : Spaces) (i : Item) → ItemTyped i → Kept s → Keeps (link_item s i)
-item_keeps s (item.CoreModule m) t k = record { modules = all_push Typed s.core_modules m k.modules t; instances = k.instances }
+item_keeps s (item.CoreModule m) t k =
+    either_keeps (is_accepted m) (Ok (with_core_module s m)) (Err _) (record { modules = all_push Typed s.core_modules m k.modules t; instances = k.instances }) tt
 item_keeps s (item.CoreInstance (Instantiate index)) t k = instance_keeps s index (slice_get s.core_modules index) refl k
 item_keeps s (item.Alias (alias.CoreFunc index name)) t k = alias_keeps s index name (slice_get s.core_instances index) k
 item_keeps s (item.Type type) t k = type_keeps s type k
@@ -136,11 +141,11 @@ small [] (v ∷ values) h = absurd h
 small (t ∷ types) [] h = absurd h
 small (val_type.U32 ∷ types) (value.U32 n ∷ values) h = (h.0, small types values h.1)
 
-items_sound : (g : Graph) (items : List said.Item) → IsCallable g → AllByRecursion Typed g.instances → AllByRecursion (CallsExport (exports_of g)) items → Sound g items
-items_sound g [] callable typed called = tt
-items_sound g (says.Call call ∷ items) callable typed called =
-    (call_sound g call callable typed called.0 (small (param_types called.0.0) call.values called.0.2), items_sound g items callable typed called.1)
+items_sound : (g : Graph) (items : List said.Item) → IsCallable g → AllByRecursion Typed g.instances → AllRun g → AllByRecursion (CallsExport (exports_of g)) items → Sound g items
+items_sound g [] callable typed run called = tt
+items_sound g (says.Call call ∷ items) callable typed run called =
+    (call_sound g call callable typed run called.0 (small (param_types called.0.0) call.values called.0.2), items_sound g items callable typed run called.1)
 
 pub scripts_are_sound : ScriptsCallExports → ScriptsAreSound
 scripts_are_sound calls bytes text c g script read links h =
-    items_sound g script.items (linked_callable c g links) (instances_typed c g (component_typed bytes c read) links) (calls (exports_of g) text script h)
+    items_sound g script.items (linked_callable c g links) (instances_typed c g (component_typed bytes c read) links) (linked_run c g links) (calls (exports_of g) text script h)

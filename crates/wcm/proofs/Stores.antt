@@ -5,13 +5,14 @@ use Rattle.std.specs.Option.{option_map}
 use Rattle.std.proofs.lemmas.Option.{slice_get-map, slice_get_within}
 use Rattle.std.proofs.lemmas.Bool.{eqb-true}
 use Rattle.std.proofs.lemmas.List.{get_or_append_left, get_or-append_right}
-use Rattle.wasm_reader.specs.declared.module.ValType as core_val
-use Rattle.wasm_reader.specs.declared.module.ValType.TheVariants.{I32, I64}
-use Rattle.wasm_reader.specs.declared.module.FuncType as core
-use Rattle.wasm_reader.specs.declared.module.Func as core_func
-use Rattle.wasm_reader.specs.declared.module.ModuleTree.{ModuleTree}
+use Rattle.wasm_module.specs.declared.types.ValType as core_val
+use Rattle.wasm_module.specs.declared.types.ValType.TheVariants.{I32, I64}
+use Rattle.wasm_module.specs.declared.types.FuncType as core
+use Rattle.wasm_module.specs.declared.module.Func as core_func
+use Rattle.wasm_module.specs.declared.module.ModuleTree.{ModuleTree}
 use Rattle.wasm_machine.specs.declared.store.Function.{Function}
 use Rattle.wasm_machine.specs.Store.{functions_of, function_of, type_or_empty}
+use Rattle.wasm_machine.specs.Straight.{runs}
 use Rattle.ca_types.specs.declared.types.FuncType.{FuncType}
 use Rattle.comp_link.specs.declared.graph.CoreFunc.{CoreFunc}
 use Rattle.comp_link.specs.Linking.{Lifted, Exported, Graph, type_at, core_type, is_i32, is_flat, result_count, flat_limit, LiftsCore, IsCallable}
@@ -148,3 +149,9 @@ firsts_more trees n made store firsts new f s m e = record {
       (λ k h. let within : k < length firsts = omega (arith, f.count) in ap (λ (xs : List ℕ). get_or xs k 0) e ∙ (get_or_append_left firsts (made ∷ []) 0 k within ∙ f.firsts k h))
       (let last : get_or (firsts ++ made ∷ []) n 0 ≡ made = get_or_append_last firsts made n f.count in ap (λ (xs : List ℕ). get_or xs n 0) e ∙ (last ∙ (m ∙ ap length s)));
 }
+
+-- The machine runs each of these modules.
+pub runs_at : {A : Type 0} (h : A → ModuleTree) (xs : List A) (i : ℕ) (x : A) → i < length xs → x ≡ get_or xs i x → AllByRecursion (λ m. runs m ≡ true) (map h xs) → runs (h x) ≡ true
+runs_at h [] i x l e all = absurd (omega arith)
+runs_at h (y ∷ xs) zero x l e all = subst (λ (z : _). runs (h z) ≡ true) (sym e) all.0
+runs_at h (y ∷ xs) (suc i) x l e all = runs_at h xs i x (omega arith) e all.1

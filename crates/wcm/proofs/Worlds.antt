@@ -7,8 +7,8 @@ use Rattle.wasm_machine.specs.Step as core
 use Rattle.wasm_machine.specs.Store.{FunctionTyped}
 use Rattle.wasm_machine.proofs.Safety.{progress, preservation, words_append, zero_words}
 use Rattle.ca_types.specs.declared.value.Value.{Value}
-use Rattle.wasm_reader.specs.declared.module.ValType.{ValType}
-use Rattle.wasm_reader.specs.Locals.{local_types, declared_locals}
+use Rattle.wasm_module.specs.declared.types.ValType.{ValType}
+use Rattle.wasm_module.specs.Locals.{local_types, declared_locals}
 use Rattle.comp_link.specs.Linking.{Lifted, Graph}
 use Rattle.script_reader.specs.declared.script.Call.{Call}
 use Rattle.script_reader.specs.declared.script.Item.{Item}

@@ -1,8 +1,8 @@
 -- What the parts of a run give.
 use Rattle.std.specs.Prelude.{◌≡◌, ◌<◌, ◌+◌, ◌^◌, ◌++◌, ℕ, Bool, true, false, List, [], ◌∷◌, length, map, take, Option, Some, None, slice_index}
 use Rattle.std.specs.List.{slice_get, list_all, AllByRecursion}
-use Rattle.wasm_reader.specs.declared.module.ValType.TheVariants.{I32}
-use Rattle.wasm_reader.specs.declared.module.ModuleTree.{ModuleTree}
+use Rattle.wasm_module.specs.declared.types.ValType.TheVariants.{I32}
+use Rattle.wasm_module.specs.declared.module.ModuleTree.{ModuleTree}
 use Rattle.wasm_machine.specs.Step.{Stack, next}
 use Rattle.wasm_machine.specs.Step as core
 use Rattle.wasm_machine.specs.Store.{params_of, results_of}

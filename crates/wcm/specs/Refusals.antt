@@ -5,10 +5,10 @@ use Rattle.std.specs.Prelude.{ℕ, List, [], ◌∷◌, ◌++◌, codes}
 use Rattle.std.specs.Fmt.{decimal}
 use Rattle.hex.specs.Hex.{encode_lower}
 use Rattle.ca_base.specs.declared.refusal.Refusal.{Refusal}
-use Rattle.wasm_reader.specs.declared.fault.ModuleWhy.{ModuleWhy}
-use Rattle.wasm_reader.specs.declared.fault.ModuleWhy.TheVariants as of_module
-use Rattle.wasm_valid.specs.declared.fault.ValidWhy.{ValidWhy}
-use Rattle.wasm_valid.specs.declared.fault.ValidWhy.TheVariants as valid
+use Rattle.wasm_module.specs.declared.fault.ModuleWhy.{ModuleWhy}
+use Rattle.wasm_module.specs.declared.fault.ModuleWhy.TheVariants as of_module
+use Rattle.wasm_valid.specs.declared.why.ValidWhy.{ValidWhy}
+use Rattle.wasm_valid.specs.declared.why.ValidWhy.TheVariants as valid
 use Rattle.comp_reader.specs.declared.fault.ComponentWhy.{ComponentWhy}
 use Rattle.comp_reader.specs.declared.fault.ComponentWhy.TheVariants.{Truncated, Leb, Utf8, Magic, SectionSize, Unsupported, Float, Limit, Module, Invalid}
 use Rattle.script_reader.specs.declared.fault.ScriptWhy.{ScriptWhy}
@@ -42,9 +42,12 @@ module_why_text of_module.Limit = codes "Limit"
 -- why a core module is not valid
 abbrev pub valid_why_text : ValidWhy → List ℕ
 valid_why_text valid.Index = codes "Index"
+valid_why_text valid.Label = codes "Label"
+valid_why_text valid.Align = codes "Align"
 valid_why_text valid.Stack = codes "Stack"
 valid_why_text valid.Typing = codes "Typing"
 valid_why_text valid.Name = codes "Name"
+valid_why_text valid.Limit = codes "Limit"
 
 -- why a component is refused
 abbrev pub component_why_text : ComponentWhy → List ℕ

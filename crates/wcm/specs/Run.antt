@@ -9,7 +9,7 @@ use Rattle.wasm_machine.specs.Step.{Stack, Move, next}
 use Rattle.wasm_machine.specs.Step as core
 use Rattle.wasm_machine.specs.declared.store.Function.{Function}
 use Rattle.wasm_machine.specs.Store.{functions_of, locals_of, body_of, first_locals}
-use Rattle.wasm_reader.specs.declared.module.ModuleTree.{ModuleTree}
+use Rattle.wasm_module.specs.declared.module.ModuleTree.{ModuleTree}
 use Rattle.ca_types.specs.declared.value.Value.{Value}
 use Rattle.ca_types.specs.declared.value.Value.TheVariants.{U32}
 use Rattle.comp_link.specs.declared.graph.CoreFunc.{CoreFunc}

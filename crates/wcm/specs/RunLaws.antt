@@ -4,7 +4,7 @@ use Rattle.std.specs.List.{slice_get, sum_by, AllByRecursion}
 use Rattle.std.specs.Option.{option_map_or}
 use Rattle.wasm_machine.specs.declared.store.Function.{Function}
 use Rattle.wasm_machine.specs.Step.{AreWords}
-use Rattle.wasm_reader.specs.Expr.{instr_count}
+use Rattle.wasm_machine.specs.Expr.{instr_count}
 use Rattle.wasm_machine.specs.Store.{FunctionTyped, body_of}
 use Rattle.script_reader.specs.declared.script.Call.{Call}
 use Rattle.script_reader.specs.declared.script.Item.{Item}

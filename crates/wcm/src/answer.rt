@@ -4,7 +4,7 @@ ghost use Rattle.std.specs.Prelude.{◌≡◌, ℕ, List, [], IfOk, IfSome, Matc
 ghost use Rattle.std.specs.List.{AllByRecursion};
 ghost use Rattle.script_reader.specs.Script.{IsScript, IsScriptRefused, CallsExport};
 ghost use Rattle.comp_link.specs.Linking as linking;
-ghost use Rattle.comp_link.specs.Linking.{IsCallable};
+ghost use Rattle.comp_link.specs.Linking.{AllRun, IsCallable};
 ghost use Rattle.wcm.specs.Gives.{CommandGives, GraphGives};
 ghost use Rattle.wcm.specs.Outcome.{FileAnswers, LinkAnswers, RunAnswers, IsComponentFile, IsRefusedFile};
 ghost use Rattle.wcm.specs.Stops.{StopsFor};
@@ -144,6 +144,7 @@ fn refusal(alloc: Global, status: Status, err: Bytes) -> Answer
 /// The answer of the run of a graph under a script.
 fn run_answer(alloc: Global, graph: &Graph, script: &Script) -> Result<Answer, Memory>
     requires callable { IsCallable graph.now }
+    requires runs { AllRun graph.now }
     requires calls { AllByRecursion (CallsExport (linking.exports_of graph.now)) script.now.items }
     ensures run { IfOk result (λ a. RunAnswers graph.now script.now a) }
     ensures status { IfOk result (λ a. IsBehindGraph a.status) }
@@ -164,7 +165,8 @@ fn script_answer<F: Files>(
     script: &str,
     files: &mut F,
 ) -> Result<Answer, Stop>
-    requires { IsCallable graph.now }
+    requires callable { IsCallable graph.now }
+    requires runs { AllRun graph.now }
     ensures file { IfOk result (λ a. GraphGives graph.now (F.held files.old script.now) a) }
     ensures same { (other : List ℕ) → F.held files.new other ≡ F.held files.old other }
     ensures cause { StopsFor (F.faults files.old) (F.faults files.new) result }

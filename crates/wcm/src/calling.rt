@@ -1,12 +1,13 @@
 //! Runs of scripts over the functions that a component exports.
 
-ghost use Rattle.std.specs.Prelude.{◌≡◌, ◌<◌, ◌+◌, ◌^◌, ◌++◌, [], ◌∷◌, length, map, slice_index, IfOk, OnOk};
+ghost use Rattle.std.specs.Prelude.{◌≡◌, ◌<◌, ◌+◌, ◌^◌, ◌++◌, [], ◌∷◌, true, length, map, slice_index, IfOk, OnOk};
 ghost use Rattle.std.specs.List.{AllByRecursion};
-ghost use Rattle.wasm_reader.specs.declared.module.ValType.TheVariants.{I32};
+ghost use Rattle.wasm_module.specs.declared.types.ValType.TheVariants.{I32};
 ghost use Rattle.wasm_machine.specs.Step.{AreWords};
 ghost use Rattle.wasm_machine.specs.Store.{functions_of};
+ghost use Rattle.wasm_machine.specs.Straight.{runs};
 ghost use Rattle.script_reader.specs.Script.{CallsExport};
-ghost use Rattle.comp_link.specs.Linking.{exports_of, IsCallable};
+ghost use Rattle.comp_link.specs.Linking.{exports_of, AllRun, IsCallable};
 ghost use Rattle.wcm.specs.Run.{lowered, lifted, first_world, Runs};
 ghost use Rattle.wcm.specs.Calling.{AreMade, Calls, CoreGives, ItemRuns};
 
@@ -42,6 +43,7 @@ struct Instances {
 /// instruction; the end of a function costs nothing.
 pub fn run_script(alloc: Global, graph: &Graph, script: &Script) -> Result<Run, Memory>
     requires callable { IsCallable graph.now }
+    requires runs { AllRun graph.now }
     requires calls { AllByRecursion (CallsExport (exports_of graph.now)) script.now.items }
     ensures { IfOk result (λ r. Runs graph.now (first_world script.now) r.labels r.end) }
 {
@@ -52,6 +54,7 @@ pub fn run_script(alloc: Global, graph: &Graph, script: &Script) -> Result<Run, 
 /// Runs the items of a script, as `run_script` does.
 fn run_items(alloc: Global, graph: &NamedGraph, script: &Script) -> Result<Run, Memory>
     requires callable { IsCallable graph.now }
+    requires runs { AllRun graph.now }
     requires calls { AllByRecursion (CallsExport (exports_of graph.now)) script.now.items }
     ensures { IfOk result (λ r. Runs graph.now (first_world script.now) r.labels r.end) }
 {
@@ -211,6 +214,7 @@ fn lift_result(words: &Words) -> Option<Value>
 
 /// Makes core instances of these modules.
 fn instantiated(alloc: Global, modules: &[&Valid]) -> Result<Instances, Memory>
+    requires { AllByRecursion (λ m. runs m ≡ true) (map (λ r. r.now) modules.now) }
     ensures { IfOk result (λ i. AreMade (map (λ r. r.now) modules.now) i) }
 {
     let mut store = Store::new(alloc);
@@ -225,6 +229,7 @@ fn instantiated(alloc: Global, modules: &[&Valid]) -> Result<Instances, Memory>
 
 /// Adds the functions of an instance of a module to a store, and answers how many functions it has then.
 fn add_instance(alloc: Global, valid: &Valid, store: &mut Store) -> Result<usize, Memory>
+    requires { runs valid.now ≡ true }
     ensures added { IfOk result (λ count. (store.new ≡ store.old ++ functions_of valid.now) × (count ≡ length store.new)) }
     ensures small { IfOk result (λ count. count < 2 ^ 64) }
 {

@@ -23,7 +23,7 @@ pub struct NamedGraph<'g, 'a> {
 impl<'g, 'a> Model for NamedGraph<'g, 'a> {
     ghost use Rattle.std.specs.Prelude.{◌≡◌, ℕ, List, map};
     ghost use Rattle.std.specs.Coded.{codes};
-    ghost use Rattle.wasm_reader.specs.contracts.module.ModuleTree as tree;
+    ghost use Rattle.wasm_module.specs.contracts.module.ModuleTree as tree;
     ghost use Rattle.ca_types.specs.contracts.types.FuncType as func_type;
     ghost use Rattle.comp_link.specs.Linking as linking;
     ghost use Rattle.comp_link.specs.contracts.graph.CoreFunc as core_func;

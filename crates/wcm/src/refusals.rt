@@ -11,7 +11,7 @@ use comp_link::{LinkFault, LinkWhy};
 use comp_reader::ComponentWhy;
 use script_reader::{ScriptFault, ScriptWhy};
 use std::alloc::Global;
-use wasm_reader::ModuleWhy;
+use wasm_module::ModuleWhy;
 use wasm_valid::ValidWhy;
 
 /// Appends a byte as two hexadecimal digits.
@@ -58,9 +58,12 @@ fn push_valid_why(why: ValidWhy, text: &mut Vec<u8>) -> Result<(), Memory>
 {
     match why {
         ValidWhy::Index => text.extend_from_slice(b"Index")?,
+        ValidWhy::Label => text.extend_from_slice(b"Label")?,
+        ValidWhy::Align => text.extend_from_slice(b"Align")?,
         ValidWhy::Stack => text.extend_from_slice(b"Stack")?,
         ValidWhy::Typing => text.extend_from_slice(b"Typing")?,
         ValidWhy::Name => text.extend_from_slice(b"Name")?,
+        ValidWhy::Limit => text.extend_from_slice(b"Limit")?,
     }
     Ok(())
 }

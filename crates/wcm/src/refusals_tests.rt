@@ -8,7 +8,7 @@ use comp_reader::ComponentWhy;
 use script_reader::{ScriptFault, ScriptWhy};
 use std::alloc::Global;
 use std::test::Fail;
-use wasm_reader::ModuleWhy;
+use wasm_module::ModuleWhy;
 use wasm_valid::ValidWhy;
 
 /// A line a case: what is refused, its place or its line, why, and the line that tells of it.
@@ -33,9 +33,12 @@ module 49 Unsupported 124 = refused at 49: Module(Unsupported(7c))
 module 49 Count = refused at 49: Module(Count)
 module 49 Limit = refused at 49: Module(Limit)
 invalid 49 Index = refused at 49: Invalid(Index)
+invalid 49 Label = refused at 49: Invalid(Label)
+invalid 49 Align = refused at 49: Invalid(Align)
 invalid 49 Stack = refused at 49: Invalid(Stack)
 invalid 49 Typing = refused at 49: Invalid(Typing)
 invalid 49 Name = refused at 49: Invalid(Name)
+invalid 49 Limit = refused at 49: Invalid(Limit)
 link 94 Index = link refused at 94: Index
 link 94 Missing nope = link refused at 94: Missing(nope)
 link 94 Missing a b = link refused at 94: Missing(a\\u{20}b)
@@ -51,7 +54,7 @@ script 1048577 Value = script refused at line 1048577: Value
 ";
 
 /// How many cases there are.
-const COUNT: u32 = 35;
+const COUNT: u32 = 38;
 
 fn module_why(name: &str, argument: &str) -> Result<ModuleWhy, Fail> {
     Ok(match name {
@@ -72,9 +75,12 @@ fn module_why(name: &str, argument: &str) -> Result<ModuleWhy, Fail> {
 fn valid_why(name: &str) -> Result<ValidWhy, Fail> {
     Ok(match name {
         "Index" => ValidWhy::Index,
+        "Label" => ValidWhy::Label,
+        "Align" => ValidWhy::Align,
         "Stack" => ValidWhy::Stack,
         "Typing" => ValidWhy::Typing,
         "Name" => ValidWhy::Name,
+        "Limit" => ValidWhy::Limit,
         _ => return Err("a reason of validation".into()),
     })
 }

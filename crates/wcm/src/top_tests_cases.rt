@@ -20,7 +20,7 @@ pub const ADD: &str = "
 ";
 
 /// How many cases there are.
-pub const COUNT: u32 = 68;
+pub const COUNT: u32 = 71;
 
 /// The cases.
 pub const CASES: &str = "
@@ -134,6 +134,22 @@ component 00 61 73 6D 0D 00 01 00 08 02 01 1C
 last calls
 status Refused
 err refused at 11: Unsupported(1c)
+
+# core modules that are not valid, that the machine does not run yet, and that import from a module that is not there
+change 49 7C
+script call add (2, 3)
+status Refused
+err refused at 49: Invalid(Typing)
+
+change 49 6B
+script call add (2, 3)
+status LinkRefused
+err link refused at 10: Limit
+
+component 00 61 73 6D 0D 00 01 00 01 17 00 61 73 6D 01 00 00 00 01 04 01 60 00 00 02 07 01 01 6D 01 66 00 00
+bytes 02 04 01 00 00 00
+status LinkRefused
+err link refused at 36: Missing(m)
 
 # components that are not linked, whatever the script is
 change 65 73

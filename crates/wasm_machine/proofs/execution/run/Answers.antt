@@ -1,5 +1,5 @@
 use Rattle.std.proofs.Common.{◌≡◌, ◌+◌, ap, sym, refl, arith, reverse}
-use Rattle.wasm_reader.specs.Expr.{rest_at}
+use Rattle.wasm_machine.specs.Expr.{rest_at}
 use Rattle.wasm_machine.specs.Activation.{Activation}
 use Rattle.wasm_machine.specs.Instruction.{InstrGoes}
 use Rattle.wasm_machine.proofs.Reaching.{waits, goes_on, finishes, none_left, ok_known}

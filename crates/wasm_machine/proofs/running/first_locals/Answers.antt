@@ -1,5 +1,5 @@
 use Rattle.std.proofs.Common.{arith}
-use Rattle.wasm_reader.specs.declared.module.ValType.TheVariants.{I32}
+use Rattle.wasm_module.specs.declared.types.ValType.TheVariants.{I32}
 use Rattle.wasm_machine.proofs.Starting.{group_pushed}
 use Rattle.wasm_machine.proofs.running.first_locals.Goals as goal
 

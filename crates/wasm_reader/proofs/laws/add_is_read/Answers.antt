@@ -8,4 +8,4 @@ pub returns-clause-module : goal.returns-clause-module
 returns-clause-module c = reads_matches the_module (file (bytes_with 0x6A) 0) add_module (file_end (bytes_with 0x6A) 0) add_read
 
 pub returns-clause-refused : goal.returns-clause-refused
-returns-clause-refused c = reads_refuses the_module (file (bytes_with 0x6B) 0) no_such_opcode opcode_refused
+returns-clause-refused c = reads_refuses the_module (file (bytes_with 0x06) 0) no_such_opcode opcode_refused

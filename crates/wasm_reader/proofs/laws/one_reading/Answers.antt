@@ -1,4 +1,4 @@
-use Rattle.wasm_reader.proofs.Whole.{one_reading}
+use Rattle.wasm_reader.proofs.Ended.{one_reading}
 use Rattle.wasm_reader.proofs.laws.one_reading.Goals as goal
 
 pub returns : goal.returns

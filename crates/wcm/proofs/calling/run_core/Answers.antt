@@ -1,7 +1,7 @@
 use Rattle.std.proofs.Common.{◌≡◌, ◌∙◌, ap, sym, subst, arith, map, length, List}
 use Rattle.std.specs.List.{slice_get}
-use Rattle.wasm_reader.specs.declared.module.ValType.{ValType}
-use Rattle.wasm_reader.specs.declared.module.ValType.TheVariants.{I32}
+use Rattle.wasm_module.specs.declared.types.ValType.{ValType}
+use Rattle.wasm_module.specs.declared.types.ValType.TheVariants.{I32}
 use Rattle.wasm_machine.specs.Step.{AreWords}
 use Rattle.wasm_machine.specs.Store.{params_of}
 use Rattle.wasm_machine.specs.Running.{stack_of}

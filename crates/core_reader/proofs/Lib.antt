@@ -1,9 +1,0 @@
-pub mod Back
-pub mod BodyReading
-pub mod ConstExprs
-pub mod Customs
-pub mod Ended
-pub mod Fitting
-pub mod Fuel
-pub mod Groups
-pub mod Rows

@@ -1,5 +1,0 @@
-use Rattle.core_reader.proofs.Ended.{one_reading}
-use Rattle.core_reader.proofs.laws.one_reading.Goals as goal
-
-pub returns : goal.returns
-returns c = one_reading

@@ -1,6 +1,0 @@
-use Rattle.std.proofs.Common.{sym}
-use Rattle.core_valid.proofs.Stacks.{leaves}
-use Rattle.core_valid.proofs.checker.Checker.leave.Goals as goal
-
-pub returns : goal.returns
-returns c = leaves _ _ _ _ _ _ (sym c.self.view_is) c.requires c.in-Some.ensures.items

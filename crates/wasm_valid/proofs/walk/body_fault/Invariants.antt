@@ -1,0 +1,10 @@
+-- So many items passed, and the fault of what is left is that of all.
+use Rattle.wasm_module.specs.declared.instr.BlockType.TheVariants.{TypeIndex}
+use Rattle.wasm_module.specs.Expr.{flat}
+use Rattle.wasm_valid.specs.Checking.{begins}
+use Rattle.wasm_valid.specs.State.{all_of}
+use Rattle.wasm_valid.proofs.Driving.{IsChecking}
+use Rattle.wasm_valid.proofs.walk.body_fault.Given as goal
+
+abbrev pub invariant-loop-at : goal.invariant-loop-at
+invariant-loop-at l = IsChecking l.context (flat l.body) (begins (TypeIndex l.fn.type_index)) l.at (all_of l.checker)
