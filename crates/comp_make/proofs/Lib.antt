@@ -1,0 +1,4 @@
+pub mod Emptiness
+pub mod Leb
+pub mod NumberReading
+pub mod OpcodeReading

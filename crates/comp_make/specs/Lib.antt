@@ -1,0 +1,10 @@
+pub mod Code
+pub mod Component
+pub mod Instrs
+pub mod Items
+pub mod Laws
+pub mod Lists
+pub mod Module
+pub mod Numbers
+pub mod Opcodes
+pub mod Types
