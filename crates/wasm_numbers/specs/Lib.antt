@@ -1,0 +1,4 @@
+pub mod Laws
+pub mod Numeric
+pub mod Stack
+pub mod Types

@@ -1,0 +1,10 @@
+//! Why a numeric instruction has no result.
+
+/// Why a numeric instruction traps (Core 2.0, section 4.3.2).
+#[derive(Clone, Copy, Debug, PartialEq, Eq)]
+pub enum NumberTrap {
+    /// A division by 0, or the remainder of one.
+    DivideByZero,
+    /// A signed quotient that is no number of its width: the least one by -1.
+    DivideOverflow,
+}
