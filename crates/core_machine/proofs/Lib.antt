@@ -1,0 +1,11 @@
+pub mod Adding
+pub mod Changing
+pub mod Effecting
+pub mod Framing
+pub mod Lists
+pub mod Memories
+pub mod Moving
+pub mod Operands
+pub mod Stores
+pub mod Words
+pub mod Zips

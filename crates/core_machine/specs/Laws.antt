@@ -1,0 +1,75 @@
+-- What holds of all stacks that are typed in a typed store, and of the modules that are added to one.
+use Rattle.std.specs.Prelude.{◌≡◌, ◌≢◌, ◌<◌, ℕ, List, [], length, Some}
+use Rattle.std.specs.List.{slice_get, AllByRecursion}
+use Rattle.wasm_module.specs.declared.types.ValType.{ValType}
+use Rattle.wasm_module.specs.declared.types.FuncType.{FuncType}
+use Rattle.wasm_module.specs.declared.module.ModuleTree.{ModuleTree}
+use Rattle.wasm_valid.specs.Modules.{Typed}
+use Rattle.wasm_numbers.specs.Types.{AreWords}
+use Rattle.wasm_memory.specs.Memories.{MemoryState}
+use Rattle.core_machine.specs.Store.{Function, Host, type_of, Store}
+use Rattle.core_machine.specs.Stack.{Stack}
+use Rattle.core_machine.specs.Effects.{with_memory}
+use Rattle.core_machine.specs.Step.{Move, Goes, Calls, Ends, Traps, Stuck, next, resume, start, Steps}
+use Rattle.core_machine.specs.Instantiation.{External, Instantiation, Makes, SegmentBounds, empty, with_host, instance_of, instantiated, start_call, ImportsMatch, InRange}
+use Rattle.core_machine.specs.Typed.{StoreTyped, Extends, StackTyped}
+
+-- What a typed stack does next is typed: where it goes on, its store extends the old one; where it calls, it goes on with
+-- any words of the called function's results; where it ends, it ends with words of its own.
+abbrev pub MoveTyped : Store → List ValType → Move → Type 0
+MoveTyped s results (Goes costs t l) = Extends s t × StoreTyped t × StackTyped t results l
+MoveTyped s results (Calls address words l) =
+    (type : FuncType) × (slice_get s.funcs address ≡ Some (Host type)) × AreWords type.params words
+    × ((answers : List ℕ) → AreWords type.results answers → StackTyped s results (resume answers l))
+MoveTyped s results (Ends words) = AreWords results words
+MoveTyped s results (Traps why) = Unit {0}
+MoveTyped s results Stuck = ⊥
+
+-- A typed stack has a typed move.
+abbrev pub MovesTyped : Type 0
+MovesTyped = (s : Store) (results : List ValType) (k : Stack) → StoreTyped s → StackTyped s results k → MoveTyped s results (next s k)
+
+-- Whatever steps a typed stack makes, it stays typed, and isn't stuck.
+abbrev pub NeverStuck : Type 0
+NeverStuck =
+    (fuel : ℕ) (s t : Store) (results : List ValType) (k l : Stack) → StoreTyped s → StackTyped s results k → Steps fuel s k t l
+    → Extends s t × StoreTyped t × StackTyped t results l × (next t l ≢ Stuck)
+
+-- A call with words of the function's parameters is typed.
+abbrev pub StartsTyped : Type 0
+StartsTyped =
+    (s : Store) (address : ℕ) (function : Function) (args : List ℕ) → StoreTyped s → slice_get s.funcs address ≡ Some function
+    → AreWords (type_of function).params args → StackTyped s (type_of function).results (start function address args)
+
+-- What is typed in a store is typed in each store that extends it.
+abbrev pub StaysTyped : Type 0
+StaysTyped = (s t : Store) (results : List ValType) (k : Stack) → Extends s t → StackTyped s results k → StackTyped t results k
+
+-- What extends a store that extends another one extends that one.
+abbrev pub ExtendsFurther : Type 0
+ExtendsFurther = (s t u : Store) → Extends s t → Extends t u → Extends s u
+
+-- A valid module is instantiated, with imports of its types: the store stays typed and extends the old one, also where a
+-- segment doesn't fit, and the call of the function that runs first is typed.
+abbrev pub AddedTyped : Store → ModuleTree → List External → Instantiation → Type 0
+AddedTyped s m imports (Makes t) =
+    Extends s t × StoreTyped t × ((k : Stack) → start_call m (instance_of m imports s) t ≡ Some k → StackTyped t [] k)
+AddedTyped s m imports (SegmentBounds t) = Extends s t × StoreTyped t
+
+abbrev pub AddsTyped : Type 0
+AddsTyped =
+    (s : Store) (m : ModuleTree) (imports : List External) → StoreTyped s → Typed m → InRange m → ImportsMatch s m imports
+    → AddedTyped s m imports (instantiated m imports s)
+
+-- A store with nothing is typed, a further function of the host leaves a store typed, and so do other bytes in a memory, as
+-- many as before. All extend the store before.
+abbrev pub EmptyTyped : Type 0
+EmptyTyped = StoreTyped empty
+
+abbrev pub HostsTyped : Type 0
+HostsTyped = (s : Store) (type : FuncType) → StoreTyped s → Extends s (with_host type s) × StoreTyped (with_host type s)
+
+abbrev pub WritesTyped : Type 0
+WritesTyped =
+    (s : Store) (address : ℕ) (m n : MemoryState) → StoreTyped s → slice_get s.memories address ≡ Some m → n.maximum ≡ m.maximum → length n.bytes ≡ length m.bytes
+    → AllByRecursion (λ b. b < 256) n.bytes → Extends s (with_memory address n s) × StoreTyped (with_memory address n s)

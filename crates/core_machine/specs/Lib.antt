@@ -1,0 +1,9 @@
+pub mod Codes
+pub mod Effects
+pub mod Examples
+pub mod Instantiation
+pub mod Laws
+pub mod Stack
+pub mod Step
+pub mod Store
+pub mod Typed

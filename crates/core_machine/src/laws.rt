@@ -1,0 +1,31 @@
+//! What holds of every stack that is typed in a typed store.
+
+ghost use Rattle.core_machine.specs.Laws.{MovesTyped, NeverStuck, StartsTyped, StaysTyped, ExtendsFurther, AddsTyped, EmptyTyped, HostsTyped, WritesTyped};
+
+/// A stack that is typed in a typed store never gets stuck: what it does next is typed, and so is all that it comes to. A
+/// call with words of the function's parameters is such a stack.
+pub fn typed_stacks_never_get_stuck()
+    ensures moves { MovesTyped }
+    ensures never_stuck { NeverStuck }
+    ensures starts { StartsTyped }
+{}
+
+/// A stack that is typed in a store is typed in each store that extends it, and what extends that one extends the first.
+pub fn stacks_stay_typed()
+    ensures stays { StaysTyped }
+    ensures further { ExtendsFurther }
+{}
+
+/// A valid module that is instantiated with imports of its types leaves a typed store, which extends the one before, also
+/// where a segment does not fit; and the call of its start function is typed.
+pub fn added_modules_are_typed()
+    ensures { AddsTyped }
+{}
+
+/// The empty store is typed. A store with a further function of the host, or with other bytes in a memory, as many as
+/// before, is typed and extends the one before.
+pub fn changed_stores_are_typed()
+    ensures empty { EmptyTyped }
+    ensures hosts { HostsTyped }
+    ensures writes { WritesTyped }
+{}
