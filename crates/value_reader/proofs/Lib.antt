@@ -1,0 +1,12 @@
+pub mod Cases
+pub mod Chosen
+pub mod Contents
+pub mod Digits
+pub mod Elements
+pub mod Fronts
+pub mod Literals
+pub mod NumberTexts
+pub mod ReaderEquations
+pub mod Utf8
+pub mod Words
+pub mod WrittenBack

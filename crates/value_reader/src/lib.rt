@@ -1,0 +1,33 @@
+//! The values in the texts of scripts, read by their types.
+//!
+//! The contract for the layer above: `read_value` answers the value of a type that a text stands for, and `read_arguments`
+//! the arguments of a function's parameters, exactly where the text is one of theirs (`specs/Values`), and else none; only
+//! want of memory is free. A type of another kind is one more case of `value_at`.
+//!
+//! - `fault`: why a text is not read
+//! - `text`: texts that are read from front to back: blanks, marks, words, labels and digits
+//! - `numbers`: numbers
+//! - `quoted`: characters and texts between quotes
+//! - `labels`: labels that are looked up: flags and enums
+//! - `values`: values by their types
+//! - `reading`: whole texts: a value, and the arguments of a call
+//! - `host`: which types have values that no script can write
+//! - `laws`: what holds of the format alone
+#![tactic(auto)]
+
+mod fault;
+mod host;
+mod labels;
+mod laws;
+mod numbers;
+mod quoted;
+mod reading;
+mod text;
+mod values;
+
+pub use host::{func_has_host_type, has_host_type};
+pub use laws::{
+    chars_are_read_back, literals_are_texts, numbers_are_read_back, numbers_are_texts,
+    signed_numbers_are_read_back, signed_numbers_are_texts, texts_are_read_back,
+};
+pub use reading::{read_arguments, read_value};
