@@ -30,13 +30,13 @@ fn push_import_desc(alloc: Heap, desc: &ImportDesc, to: &mut Vec<u8>) -> Result<
             to.push(0x00)?;
             push_unsigned(u64::from(*index), to)
         }
-        ImportDesc::Table(limits) => {
+        ImportDesc::Table(table_type) => {
             to.push(0x01)?;
-            Tables::push(alloc, limits, to)
+            Tables::push(alloc, table_type, to)
         }
-        ImportDesc::Memory(limits) => {
+        ImportDesc::Memory(memory_type) => {
             to.push(0x02)?;
-            Memories::push(alloc, limits, to)
+            Memories::push(alloc, memory_type, to)
         }
         ImportDesc::Global(global_type) => {
             to.push(0x03)?;

@@ -7,7 +7,7 @@ use crate::lists::push_vec;
 use crate::numbers::push_unsigned;
 use ca_base::{Memory, Text};
 use std::alloc::Global;
-use wasm_module::{FuncType, GlobalType, Limits, Mutability, ValType};
+use wasm_module::{FuncType, GlobalType, Limits, MemoryType, Mutability, TableType, ValType};
 
 /// The byte of a value type.
 pub(crate) fn val_type_byte(val_type: ValType) -> u8
@@ -82,12 +82,12 @@ pub(crate) struct Memories;
 impl Text for Memories {
     ghost use Rattle.comp_make.specs.Types.{limits_bytes};
 
-    type Item = Limits;
+    type Item = MemoryType;
 
     ghost text = { limits_bytes };
 
-    fn push(_alloc: Global, item: &Limits, to: &mut Vec<u8>) -> Result<(), Memory> {
-        push_limits(*item, to)
+    fn push(_alloc: Global, item: &MemoryType, to: &mut Vec<u8>) -> Result<(), Memory> {
+        push_limits(item.limits(), to)
     }
 }
 
@@ -97,13 +97,13 @@ pub(crate) struct Tables;
 impl Text for Tables {
     ghost use Rattle.comp_make.specs.Types.{table_bytes};
 
-    type Item = Limits;
+    type Item = TableType;
 
     ghost text = { table_bytes };
 
-    fn push(_alloc: Global, item: &Limits, to: &mut Vec<u8>) -> Result<(), Memory> {
+    fn push(_alloc: Global, item: &TableType, to: &mut Vec<u8>) -> Result<(), Memory> {
         to.push(0x70)?;
-        push_limits(*item, to)
+        push_limits(item.limits(), to)
     }
 }
 

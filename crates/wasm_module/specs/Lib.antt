@@ -1,6 +1,7 @@
 pub mod Accesses
 pub mod BlockTypes
 pub mod Expr
+pub mod Limited
 pub mod Locals
 pub mod Opcodes
 pub mod Places

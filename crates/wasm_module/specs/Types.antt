@@ -12,6 +12,7 @@ use Rattle.wasm_module.specs.declared.types.GlobalType.{GlobalType}
 use Rattle.wasm_module.specs.declared.fault.ModuleWhy.{ModuleWhy}
 use Rattle.wasm_module.specs.declared.fault.ModuleWhy.TheVariants.{Unsupported, Limit}
 use Rattle.wasm_module.specs.Reasons.{numbers, reasons, refused_byte}
+use Rattle.wasm_module.specs.Limited.{starting_pages, starting_entries}
 
 -- a value type (section 5.3.4); 7D and 7C are those of floats
 unfoldable pub val_type : Grammar ModuleWhy ValType
@@ -53,12 +54,12 @@ limits most = do
 -- The type of a memory (section 5.3.8), which has at most 1,024 pages from the start, and that of a table (section 5.3.9):
 -- 70, the type of references to functions, and at most 65,536 entries from the start.
 unfoldable pub memory_type : Grammar ModuleWhy Limits
-memory_type = limits 1024
+memory_type = limits starting_pages
 
 unfoldable pub table_type : Grammar ModuleWhy Limits
 table_type = do
   _ ← marker reasons 0x70
-  limits 65536
+  limits starting_entries
 
 -- the mutability of a global: 00 for a constant, 01 for a variable
 unfoldable pub mutability : Grammar ModuleWhy Mutability

@@ -3,8 +3,8 @@
 //! A module is a tree of its parts, and beside it stand the places of these parts in its file, one for each. The body of a
 //! function is a tree too, which stands there as flat code, so that nothing that a file nests makes a call nest.
 //!
-//! - `types`: types of values, functions, memories, tables and globals; `type_kinds`: these in bytes;
-//!   `same_types`: whether they are the same
+//! - `types`: types of values, functions and globals, and limits; `limited`: types of memories and tables;
+//!   `type_kinds`: these in bytes; `same_types`: whether types of functions are the same
 //! - `instr`: instructions, and what stands in flat code; `opcodes`: groups of instructions by their opcodes;
 //!   `accesses`: what they are on
 //! - `body`: the body of a function
@@ -20,6 +20,7 @@ mod block_types;
 mod body;
 mod fault;
 mod instr;
+mod limited;
 mod local_runs;
 mod locals;
 mod module;
@@ -36,6 +37,7 @@ pub use instr::{
     BinaryOp, BlockType, ConstInstr, Instr, LoadOp, MemArg, NumericOp, Op, RelationOp, StoreOp,
     UnaryOp, Width,
 };
+pub use limited::{MemoryType, TableType};
 pub use local_runs::LocalTypes;
 pub use locals::{DeclaredLocals, local_types};
 pub use module::{

@@ -5,8 +5,9 @@ ghost use Rattle.wasm_module.specs.Places.{Fits};
 
 use crate::body::Body;
 use crate::instr::ConstInstr;
+use crate::limited::{MemoryType, TableType};
 use crate::locals::DeclaredLocals;
-use crate::types::{FuncType, GlobalType, Limits};
+use crate::types::{FuncType, GlobalType};
 use ca_base::{Bytes, Name, Named, Seq};
 use std::marker::Model;
 
@@ -16,9 +17,9 @@ pub enum ImportDesc {
     /// A function of the type of this index.
     Func(u32),
     /// A table of references to functions.
-    Table(Limits),
+    Table(TableType),
     /// A memory.
-    Memory(Limits),
+    Memory(MemoryType),
     /// A global.
     Global(GlobalType),
 }
@@ -117,9 +118,9 @@ pub struct ModuleTree {
     /// The functions.
     pub funcs: Seq<Func>,
     /// The tables, of references to functions.
-    pub tables: Seq<Limits>,
+    pub tables: Seq<TableType>,
     /// The memories.
-    pub memories: Seq<Limits>,
+    pub memories: Seq<MemoryType>,
     /// The globals.
     pub globals: Seq<Global>,
     /// The exports.

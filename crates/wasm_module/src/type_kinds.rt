@@ -1,9 +1,11 @@
 //! Types in bytes (Core 2.0, section 5.3), a kind for each.
 
+ghost use Rattle.std.specs.Prelude.{◌≤◌, IfOk};
 ghost use Rattle.ca_base.specs.Grammar.{Reads};
 ghost use Rattle.wasm_module.specs.Types.{limited, bounds, limits, mutability};
 
 use crate::fault::{ModuleWhy, refused_byte};
+use crate::limited::{MemoryType, TableType};
 use crate::types::{FuncType, GlobalType, Limits, Mutability, ValType};
 use ca_base::{Kind, ReadError, Refusal, Window, read_vec};
 use std::alloc::Global;
@@ -71,7 +73,8 @@ impl Kind for FuncTypes {
 /// Reads a number that is at most this limit.
 #[tactic(auto, unfolding(crate::specs::Types::limited))]
 fn read_limited(most: u32, window: &mut Window<ModuleWhy>) -> Result<u32, Refusal<ModuleWhy>>
-    ensures { Reads (λ n. n) (limited most) window.old window.new result }
+    ensures reads { Reads (λ n. n) (limited most) window.old window.new result }
+    ensures limit { IfOk result (λ n. n ≤ most) }
 {
     let place = window.at();
     let number = window.u32()?;
@@ -91,7 +94,8 @@ fn read_bounds(
     has_max: bool,
     window: &mut Window<ModuleWhy>,
 ) -> Result<Limits, Refusal<ModuleWhy>>
-    ensures { Reads (λ l. l) (bounds most has_max) window.old window.new result }
+    ensures reads { Reads (λ l. l) (bounds most has_max) window.old window.new result }
+    ensures limit { IfOk result (λ l. l.min ≤ most) }
 {
     let min = read_limited(most, window)?;
     if has_max {
@@ -107,7 +111,8 @@ fn read_bounds(
 /// Reads limits (Core 2.0, section 5.3.7) whose minimum is at most this one.
 #[tactic(auto, unfolding(crate::specs::Types::limits))]
 fn read_limits(most: u32, window: &mut Window<ModuleWhy>) -> Result<Limits, Refusal<ModuleWhy>>
-    ensures { Reads (λ l. l) (limits most) window.old window.new result }
+    ensures reads { Reads (λ l. l) (limits most) window.old window.new result }
+    ensures limit { IfOk result (λ l. l.min ≤ most) }
 {
     let place = window.at();
     let byte = window.byte()?;
@@ -125,7 +130,7 @@ impl Kind for Memories {
 
     type Why = ModuleWhy;
 
-    type Item = Limits;
+    type Item = MemoryType;
 
     ghost grammar = { memory_type };
 
@@ -133,9 +138,9 @@ impl Kind for Memories {
     fn read(
         _alloc: Global,
         window: &mut Window<ModuleWhy>,
-    ) -> Result<Limits, ReadError<ModuleWhy>> {
+    ) -> Result<MemoryType, ReadError<ModuleWhy>> {
         let limits = read_limits(MEMORY_LIMIT, window)?;
-        Ok(limits)
+        Ok(MemoryType::of(limits))
     }
 }
 
@@ -147,7 +152,7 @@ impl Kind for Tables {
 
     type Why = ModuleWhy;
 
-    type Item = Limits;
+    type Item = TableType;
 
     ghost grammar = { table_type };
 
@@ -155,10 +160,10 @@ impl Kind for Tables {
     fn read(
         _alloc: Global,
         window: &mut Window<ModuleWhy>,
-    ) -> Result<Limits, ReadError<ModuleWhy>> {
+    ) -> Result<TableType, ReadError<ModuleWhy>> {
         window.marker(0x70)?;
         let limits = read_limits(TABLE_LIMIT, window)?;
-        Ok(limits)
+        Ok(TableType::of(limits))
     }
 }
 

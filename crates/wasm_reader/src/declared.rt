@@ -4,7 +4,7 @@ use crate::parted::Parted;
 use ca_base::{Placed, Seq};
 use wasm_module::{
     Body, ConstInstr, DataPlaces, DataSegment, ElementPlaces, ElementSegment, Export, Func,
-    FuncPlaces, FuncType, Global, GlobalPlaces, Import, Limits,
+    FuncPlaces, FuncType, Global, GlobalPlaces, Import, MemoryType, TableType,
 };
 
 /// A function as the function section declares it.
@@ -41,8 +41,8 @@ pub(crate) struct Declarations {
 /// What the sections of tables, memories and globals define.
 #[derive(Debug, Drop)]
 pub(crate) struct Definitions {
-    pub tables: Seq<Placed<Limits>>,
-    pub memories: Seq<Placed<Limits>>,
+    pub tables: Seq<Placed<TableType>>,
+    pub memories: Seq<Placed<MemoryType>>,
     pub globals: Seq<Parted<Global, GlobalPlaces>>,
 }
 

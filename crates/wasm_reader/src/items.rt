@@ -25,12 +25,12 @@ fn read_import_of(
         return Ok(ImportDesc::Func(index));
     }
     if kind == 1 {
-        let limits = Tables::read(alloc, window)?;
-        return Ok(ImportDesc::Table(limits));
+        let table_type = Tables::read(alloc, window)?;
+        return Ok(ImportDesc::Table(table_type));
     }
     if kind == 2 {
-        let limits = Memories::read(alloc, window)?;
-        return Ok(ImportDesc::Memory(limits));
+        let memory_type = Memories::read(alloc, window)?;
+        return Ok(ImportDesc::Memory(memory_type));
     }
     if kind == 3 {
         let global_type = GlobalTypes::read(alloc, window)?;

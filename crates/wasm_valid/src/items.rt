@@ -15,7 +15,7 @@ use std::alloc::Global;
 use std::collections::BTreeSet;
 use wasm_module::{
     DataSegment, ElementSegment, Export, Func, FuncType, Global as GlobalItem, Import, ImportDesc,
-    Limits, Space, Spot, ValType, imported_memories, imported_tables,
+    Limits, MemoryType, Space, Spot, TableType, ValType, imported_memories, imported_tables,
 };
 
 /// The largest number of entries that a table may have (Core 2.0, section 3.2.4).
@@ -105,12 +105,12 @@ fn import_why(space: &Space, before: &[Import], desc: ImportDesc) -> Option<Vali
             }
             None
         }
-        ImportDesc::Table(limits) => limits_why(
-            limits_fit(ENTRY_LIMIT, limits),
+        ImportDesc::Table(table_type) => limits_why(
+            limits_fit(ENTRY_LIMIT, table_type.limits()),
             imported_tables(before),
         ),
-        ImportDesc::Memory(limits) => limits_why(
-            limits_fit(PAGE_LIMIT, limits),
+        ImportDesc::Memory(memory_type) => limits_why(
+            limits_fit(PAGE_LIMIT, memory_type.limits()),
             imported_memories(before),
         ),
         ImportDesc::Global(_) => None,
@@ -152,7 +152,7 @@ pub(crate) struct TableRule<'a> {
 impl<'a> Rule for TableRule<'a> {
     ghost use Rattle.wasm_valid.specs.Items.{table_fault};
 
-    type Item = Limits;
+    type Item = TableType;
 
     type Fault = Fault;
 
@@ -161,12 +161,12 @@ impl<'a> Rule for TableRule<'a> {
     fn check(
         &self,
         _alloc: Global,
-        before: &[Limits],
-        limits: &Limits,
+        before: &[TableType],
+        table_type: &TableType,
     ) -> Result<(), MemoryOr<Fault>> {
         let count = imported_tables(self.space.tree().imports.as_slice());
         let why = limits_why(
-            limits_fit(ENTRY_LIMIT, *limits),
+            limits_fit(ENTRY_LIMIT, table_type.limits()),
             count.saturating_add(before.len()),
         );
         at_spot(Spot::Table(before.len()), why)
@@ -183,7 +183,7 @@ pub(crate) struct MemoryRule<'a> {
 impl<'a> Rule for MemoryRule<'a> {
     ghost use Rattle.wasm_valid.specs.Items.{memory_fault};
 
-    type Item = Limits;
+    type Item = MemoryType;
 
     type Fault = Fault;
 
@@ -192,12 +192,12 @@ impl<'a> Rule for MemoryRule<'a> {
     fn check(
         &self,
         _alloc: Global,
-        before: &[Limits],
-        limits: &Limits,
+        before: &[MemoryType],
+        memory_type: &MemoryType,
     ) -> Result<(), MemoryOr<Fault>> {
         let count = imported_memories(self.space.tree().imports.as_slice());
         let why = limits_why(
-            limits_fit(PAGE_LIMIT, *limits),
+            limits_fit(PAGE_LIMIT, memory_type.limits()),
             count.saturating_add(before.len()),
         );
         at_spot(Spot::Memory(before.len()), why)
