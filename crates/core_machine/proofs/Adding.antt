@@ -34,13 +34,13 @@ use Rattle.core_machine.specs.Stack.{Stack}
 use Rattle.core_machine.specs.Effects.{word_of, with_memory}
 use Rattle.core_machine.specs.Step.{start}
 use Rattle.core_machine.specs.Instantiation.{External, FuncAddress, TableAddress, MemoryAddress, GlobalAddress, func_address, table_address, memory_address, global_address, imported_globals, instance_of, const_value, init_value, global_value, new_func, new_table, new_memory, new_global, allocated, with_table, overwritten, into_table, into_memory, element_written, data_written, Instantiation, Makes, SegmentBounds, written_then, all_written, start_call, ImportMatches, ImportsMatch, InRange}
-use Rattle.core_machine.specs.Typed.{IsSame, IsLaterTable, IsLaterMemory, IsLaterGlobal, Extends, HasContext, OwnTyped, FunctionTyped, EntryTyped, TableTyped, MemoryTyped, GlobalTyped, StoreTyped, StackTyped}
-use Rattle.core_machine.specs.Laws.{AddedTyped, AddsTyped}
+use Rattle.core_machine.specs.Typed.{IsSame, IsLaterTable, IsLaterMemory, IsLaterGlobal, Extends, HasContext, OwnTyped, FunctionTyped, EntryTyped, TableTyped, MemoryTyped, GlobalTyped, StoreTyped, StackTyped, module_context}
+use Rattle.core_machine.specs.Laws.{IsThere, AddedTyped, AddsTyped}
 use Rattle.core_machine.proofs.Lists.{all_at, all_map, all_append, all_set, all_replicate, all_overwritten, get_within, found_there, keeps_same, keeps_append, keeps_set}
 use Rattle.core_machine.proofs.Zips.{zip_at, zip_append, zip_made, all_true, all_both, all_made, get_behind, StandsAt, numbered}
 use Rattle.core_machine.proofs.Words.{rest_below}
-use Rattle.core_machine.proofs.Stores.{same_later, table_later, memory_later, global_later, store_same, further, still, function_later, entry_later, entries_later, memory_changed}
-use Rattle.core_machine.proofs.Memories.{IsByte, put_small, memory_rewritten, memory_made}
+use Rattle.core_machine.proofs.Stores.{same_later, table_later, memory_later, global_later, store_same, further, still, has_later, function_later, entry_later, entries_later, memory_changed}
+use Rattle.core_machine.proofs.Memories.{memory_rewritten, memory_made}
 use Rattle.core_machine.proofs.Moving.{starts_typed}
 
 -- What index spaces have, and the addresses of it.
@@ -202,7 +202,7 @@ globals_all s m imports match =
     later (w ∷ xs) (y ∷ ys) h = (let k = (allocates m imports s).globals y h.0.0 h.0.1 in ((k.0, k.1, k.2.0 ∙ h.0.2), later xs ys h.1))
 
 -- what is found at an address that is there
-found_is : {X : Type 0} (xs : List X) (o : Option ℕ) (a : ℕ) (x : X) → o ≡ Some a → slice_get xs a ≡ Some x → found_at xs o ≡ (let p : Option (ℕ × X) = Some (a, x) in p)
+pub found_is : {X : Type 0} (xs : List X) (o : Option ℕ) (a : ℕ) (x : X) → o ≡ Some a → slice_get xs a ≡ Some x → found_at xs o ≡ (let p : Option (ℕ × X) = Some (a, x) in p)
 found_is {X} xs o a x e k = ap (found_at xs) e ∙ ap (λ (o : Option X). (let p : Option (ℕ × X) = option_map (λ x. (a, x)) o in p)) k
 
 then_some : {A B : Type 0} (f : A → Option B) (o : Option A) (y : B) → option_and_then f o ≡ Some y → (x : A) × (o ≡ Some x) × (f x ≡ Some y)
@@ -210,8 +210,8 @@ then_some f None y h = cc
 then_some f (Some x) y h = (x, refl, h)
 
 -- The new instance has the context of each of its functions.
-pub has_context : (s : Store) (m : ModuleTree) (imports : List External) (func : Func) (type : FuncType) → Typed m → ImportsMatch s m imports → HasContext (allocated m imports s) (instance_of m imports s) (func_context m func type)
-has_context s m imports func type typed match = record {
+pub has_context : (s : Store) (m : ModuleTree) (imports : List External) (locals results : List ValType) → Typed m → ImportsMatch s m imports → HasContext (allocated m imports s) (instance_of m imports s) (record { types = m.types; funcs = func_space m; tables = table_count m; memories = memory_count m; globals = global_space m; locals = locals; results = results })
+has_context s m imports locals results typed match = record {
   types = refl;
   funcs = λ index type e. (
       let n = then_some (λ (type : ℕ). slice_get m.types type) (slice_get (func_space m) index) type e in
@@ -243,7 +243,7 @@ new_func_typed s m imports typed match func h =
       context = func_context m func h.0;
       owner = instance_of m imports s;
       there = get_behind s.instances (instance_of m imports s) [];
-      has = has_context s m imports func h.0 typed match;
+      has = has_context s m imports (local_types h.0 func.locals) h.0.results typed match;
       locals_are = refl;
       results_are = refl;
       typed = h.2;
@@ -292,7 +292,7 @@ allocated_typed s m imports st typed range match =
           (all_made (FuncTyped m) (FunctionTyped t) (new_func m (length s.instances)) (new_func_typed s m imports typed match) m.funcs typed.funcs);
       tables = all_append (TableTyped t) s.tables (map new_table m.tables) (all_map (TableTyped s) (TableTyped t) (entries_later s t x) s.tables st.tables)
           (all_made (λ (l : Limits). Unit {0}) (TableTyped t) new_table (new_table_typed t) m.tables (all_true m.tables));
-      memories = all_append MemoryTyped s.memories (map new_memory m.memories) st.memories (all_made (λ (l : Limits). modules.MemoryTyped l × (l.min ≤ most_pages None)) MemoryTyped new_memory new_memory_typed m.memories (all_both modules.MemoryTyped (λ (l : Limits). l.min ≤ most_pages None) m.memories typed.memories range.memories));
+      memories = all_append MemoryTyped s.memories (map new_memory m.memories) st.memories (all_made (λ (l : Limits). modules.MemoryTyped l × (l.min ≤ most_pages None)) MemoryTyped new_memory new_memory_typed m.memories (all_both modules.MemoryTyped (λ (l : Limits). l.min ≤ most_pages None) m.memories typed.memories range));
       globals = all_append GlobalTyped s.globals (map (new_global s (imported_globals imports)) m.globals) st.globals
           (all_made (modules.GlobalTyped m) GlobalTyped (new_global s (imported_globals imports)) (new_global_typed s m imports st match) m.globals typed.globals);
     }
@@ -321,7 +321,7 @@ table_changed s a x entries st e long all =
     )
 
 -- a store behind the one with the module's parts
-abbrev Behind : Store → Store → Type 0
+abbrev pub Behind : Store → Store → Type 0
 Behind t u = Extends t u × StoreTyped u
 
 -- what holds of each store that segments leave holds at last
@@ -343,7 +343,7 @@ overwritten_long : (at : ℕ) (new old : List (Option ℕ)) → at + length new 
 overwritten_long at new old h = simp (length-append, length-take, length-drop) (omega arith)
 
 -- entries are written
-into_table_typed : (u v : Store) (at : ℕ) (entries : List (Option ℕ)) (o : Option (ℕ × Table)) (index : Option ℕ) → StoreTyped u → o ≡ found_at u.tables index → AllByRecursion (EntryTyped u) entries → into_table at entries o u ≡ Some v → Behind u v
+pub into_table_typed : (u v : Store) (at : ℕ) (entries : List (Option ℕ)) (o : Option (ℕ × Table)) (index : Option ℕ) → StoreTyped u → o ≡ found_at u.tables index → AllByRecursion (EntryTyped u) entries → into_table at entries o u ≡ Some v → Behind u v
 into_table_typed u v at entries None index st e all h = cc
 into_table_typed u v at entries (Some p) index st e all h =
     let w = test_some (nat_le (at + length entries) (length p.1.entries)) (with_table p.0 (record { entries = overwritten at entries p.1.entries; max = p.1.max }) u) v h in
@@ -353,17 +353,17 @@ into_table_typed u v at entries (Some p) index st e all h =
     subst (Behind u) w.1
     (table_changed u p.0 p.1 (overwritten at entries p.1.entries) st there (overwritten_long at entries p.1.entries within) (all_overwritten (EntryTyped u) at entries p.1.entries all old))
 
-into_memory_typed : (u v : Store) (at : ℕ) (bytes : List ℕ) (o : Option (ℕ × MemoryState)) (index : Option ℕ) → StoreTyped u → o ≡ found_at u.memories index → AllByRecursion IsByte bytes → into_memory at bytes o u ≡ Some v → Behind u v
-into_memory_typed u v at bytes None index st e all h = cc
-into_memory_typed u v at bytes (Some p) index st e all h =
+pub into_memory_typed : (u v : Store) (at : ℕ) (bytes : List ℕ) (o : Option (ℕ × MemoryState)) (index : Option ℕ) → StoreTyped u → o ≡ found_at u.memories index → into_memory at bytes o u ≡ Some v → Behind u v
+into_memory_typed u v at bytes None index st e h = cc
+into_memory_typed u v at bytes (Some p) index st e h =
     let w = test_some (is_inside at (length bytes) p.1.bytes) (with_memory p.0 (with_bytes p.1 (put at bytes p.1.bytes)) u) v h in
     let there = (found_there u.memories index p (sym e)).1 in
     let old = all_at MemoryTyped u.memories p.0 p.1 st.memories there in
-    let new = memory_rewritten p.1 (put at bytes p.1.bytes) old (put_small at bytes p.1.bytes all old.0) (length_put at bytes p.1.bytes) in
+    let new = memory_rewritten p.1 (put at bytes p.1.bytes) old (length_put at bytes p.1.bytes) in
     subst (Behind u) w.1 (memory_changed u p.0 p.1 (with_bytes p.1 (put at bytes p.1.bytes)) st there new.0 new.1)
 
 -- the entries of a segment are functions of the store
-entries_typed : (s : Store) (m : ModuleTree) (imports : List External) (u : Store) → Typed m → ImportsMatch s m imports → Extends (allocated m imports s) u → (indices : List ℕ) → AllByRecursion (λ index. index < length (func_space m)) indices → AllByRecursion (EntryTyped u) (map (λ index. slice_get (instance_of m imports s).funcs index) indices)
+pub entries_typed : (s : Store) (m : ModuleTree) (imports : List External) (u : Store) → Typed m → ImportsMatch s m imports → Extends (allocated m imports s) u → (indices : List ℕ) → AllByRecursion (λ index. index < length (func_space m)) indices → AllByRecursion (EntryTyped u) (map (λ index. slice_get (instance_of m imports s).funcs index) indices)
 entries_typed s m imports u typed match x [] h = tt
 entries_typed s m imports u typed match x (index ∷ indices) h =
     let n = get_within (func_space m) index h.0 in
@@ -405,12 +405,14 @@ adds_typed s m imports st typed range match =
     let i : Instance = instance_of m imports s in
     let x = allocates m imports s in
     let begin : Behind t t = (store_same t, allocated_typed s m imports st typed range match) in
-    let stop : (u : Store) → Behind t u → AddedTyped s m imports (SegmentBounds u) = λ u h. (further s t u x h.0, h.1) in
-    let done : (u : Store) → Behind t u → AddedTyped s m imports (Makes u) = λ u h. (further s t u x h.0, h.1, start_typed s m imports u typed match h) in
-    let data_step : (u v : Store) (d : DataSegment) → AllByRecursion IsByte d.bytes → Behind t u → data_written i u d ≡ Some v → Behind t v =
-    λ u v d bytes h e. behind_further t u v h (into_memory_typed u v (init_value u i.globals d.offset) d.bytes (memory_at d.memory i u) (slice_get i.memories d.memory) h.1 refl bytes e) in
+    let there : (u : Store) → Behind t u → IsThere s m imports u =
+    λ u h. (still t.instances u.instances (length s.instances) i h.0.instances (get_behind s.instances i []), has_later t u i (module_context m) h.0 (has_context s m imports [] [] typed match)) in
+    let stop : (u : Store) → Behind t u → AddedTyped s m imports (SegmentBounds u) = λ u h. (further s t u x h.0, h.1, there u h) in
+    let done : (u : Store) → Behind t u → AddedTyped s m imports (Makes u) = λ u h. (further s t u x h.0, h.1, there u h, start_typed s m imports u typed match h) in
+    let data_step : (u v : Store) (d : DataSegment) → Unit {0} → Behind t u → data_written i u d ≡ Some v → Behind t v =
+    λ u v d any h e. behind_further t u v h (into_memory_typed u v (init_value u i.globals d.offset) d.bytes (memory_at d.memory i u) (slice_get i.memories d.memory) h.1 refl e) in
     let element_step : (u v : Store) (d : ElementSegment) → modules.ElementTyped m d → Behind t u → element_written i u d ≡ Some v → Behind t v =
     λ u v d own h e. behind_further t u v h (into_table_typed u v (init_value u i.globals d.offset) (map (λ index. slice_get i.funcs index) d.funcs) (table_at d.table i u) (slice_get i.tables d.table) h.1 refl
     (entries_typed s m imports u typed match h.0 d.funcs own.2) e) in
     written_all (Behind t) (AddedTyped s m imports) (modules.ElementTyped m) (element_written i) element_step stop (λ u. all_written (data_written i) m.data_segments u Makes)
-    (λ u h. written_all (Behind t) (AddedTyped s m imports) (λ (d : DataSegment). AllByRecursion IsByte d.bytes) (data_written i) data_step stop Makes done m.data_segments range.bytes u h) m.element_segments typed.element_segments t begin
+    (λ u h. written_all (Behind t) (AddedTyped s m imports) (λ (d : DataSegment). Unit {0}) (data_written i) data_step stop Makes done m.data_segments (all_true m.data_segments) u h) m.element_segments typed.element_segments t begin

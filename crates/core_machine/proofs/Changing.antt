@@ -31,9 +31,9 @@ hosts_typed s type st =
     )
 
 pub writes_typed : WritesTyped
-writes_typed s address m n st there max long bytes =
+writes_typed s address m n st there max long =
     let old : MemoryTyped m = all_at MemoryTyped s.memories address m st.memories there in
-    let whole : length n.bytes % 65536 ≡ 0 = subst (λ (k : ℕ). k % 65536 ≡ 0) (sym long) old.1.whole in
+    let whole : length n.bytes % 65536 ≡ 0 = subst (λ (k : ℕ). k % 65536 ≡ 0) (sym long) old.whole in
     let few : page_count n ≤ most_pages n.maximum =
-    subst (λ (max : Option ℕ). page_count n ≤ most_pages max) (sym max) (subst (λ (k : ℕ). k / 65536 ≤ most_pages m.maximum) (sym long) old.1.few) in
-    memory_changed s address m n st there (max, omega arith) (bytes, record { whole = whole; few = few })
+    subst (λ (max : Option ℕ). page_count n ≤ most_pages max) (sym max) (subst (λ (k : ℕ). k / 65536 ≤ most_pages m.maximum) (sym long) old.few) in
+    memory_changed s address m n st there (max, omega arith) (record { whole = whole; few = few })

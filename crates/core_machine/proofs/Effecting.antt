@@ -1,9 +1,8 @@
 -- What instructions make of typed stores, locals and values is typed.
 use Rattle.std.proofs.Common.{◌≡◌, ◌<◌, ◌+◌, ◌-◌, ◌%◌, ◌^◌, ℕ, zero, suc, Bool, true, false, ◌&&◌, List, [], ◌∷◌, ◌++◌, length, reverse, set, refl, sym, subst, arith, Option, Some, None, Result, Ok, Err}
 use Rattle.std.specs.Prelude.{IsSome}
-use Rattle.std.specs.List.{slice_get, AllByRecursion}
+use Rattle.std.specs.List.{slice_get}
 use Rattle.std.specs.Option.{option_map}
-use Rattle.std.proofs.lemmas.Nat.{mod_below}
 use Rattle.wasm_module.specs.declared.types.ValType.{ValType}
 use Rattle.wasm_module.specs.declared.types.ValType.TheVariants.{I32, I64}
 use Rattle.wasm_module.specs.declared.types.FuncType.{FuncType}
@@ -26,12 +25,12 @@ use Rattle.wasm_memory.specs.Stores.{stored_bytes}
 use Rattle.wasm_memory.specs.Memories.{MemoryState, page_count, growth, grown, with_bytes}
 use Rattle.wasm_memory.proofs.Putting.{length_put}
 use Rattle.core_machine.specs.Store.{Global, Store}
-use Rattle.core_machine.specs.Effects.{Effect, Leaves, Fails, NoRule, by_number, selected, local_get, local_set, local_tee, global_get, global_set, by_load, by_bounds, by_growth, load, store, memory_size, memory_grow, memory_fill, memory_copy}
+use Rattle.core_machine.specs.Effects.{Effect, Leaves, Fails, NoRule, by_number, selected, local_get, local_set, local_tee, global_get, global_set, as_word, by_load, by_bounds, by_growth, load, store, memory_size, memory_grow, memory_fill, memory_copy}
 use Rattle.core_machine.specs.Typed.{Extends, StoreTyped, MemoryTyped, IsLaterMemory}
 use Rattle.core_machine.proofs.Lists.{all_at}
 use Rattle.core_machine.proofs.Words.{word_at, word_set}
 use Rattle.core_machine.proofs.Stores.{store_same, memory_changed, global_changed}
-use Rattle.core_machine.proofs.Memories.{IsByte, loaded_word, stored_small, put_small, copied_small, filled_small, copied_long, filled_long, memory_rewritten, memory_grown, pages_small, growth_small}
+use Rattle.core_machine.proofs.Memories.{loaded_word, copied_long, filled_long, memory_rewritten, memory_grown, pages_small, growth_small}
 
 -- What is left is typed: locals of these types, and over the values under them words of the results.
 abbrev pub EffectTyped : Store → List ValType → List ValType → List ℕ → Effect → Type 0
@@ -143,12 +142,12 @@ global_set_typed s locals g ls (a ∷ b ∷ more) under h l e free k = absurd k.
 
 -- Memories.
 
-bounds_typed : (s : Store) (locals : List ValType) (inside : Bool) (m : ℕ × MemoryState) (bytes ls under : List ℕ) → StoreTyped s → AreWords locals ls → slice_get s.memories m.0 ≡ Some m.1 → AllByRecursion IsByte bytes → length bytes ≡ length m.1.bytes → EffectTyped s locals [] under (by_bounds inside m bytes s ls under)
-bounds_typed s locals true m bytes ls under h l e small long =
-    let new = memory_rewritten m.1 bytes (all_at MemoryTyped s.memories m.0 m.1 h.memories e) small long in
+bounds_typed : (s : Store) (locals : List ValType) (inside : Bool) (m : ℕ × MemoryState) (bytes ls under : List ℕ) → StoreTyped s → AreWords locals ls → slice_get s.memories m.0 ≡ Some m.1 → length bytes ≡ length m.1.bytes → EffectTyped s locals [] under (by_bounds inside m bytes s ls under)
+bounds_typed s locals true m bytes ls under h l e long =
+    let new = memory_rewritten m.1 bytes (all_at MemoryTyped s.memories m.0 m.1 h.memories e) long in
     let c = memory_changed s m.0 m.1 (with_bytes m.1 bytes) h e new.0 new.1 in
     (c.0, c.1, l, ([], refl, tt))
-bounds_typed s locals false m bytes ls under h l e small long = tt
+bounds_typed s locals false m bytes ls under h l e long = tt
 
 given_typed : (s : Store) (locals : List ValType) (type : ValType) (o : Option ℕ) (ls under : List ℕ) → StoreTyped s → AreWords locals ls → ((value : ℕ) → o ≡ Some value → IsWord type value) → EffectTyped s locals (type ∷ []) under (by_load o s ls under)
 given_typed s locals type None ls under h l word = tt
@@ -160,21 +159,26 @@ growth_typed s locals (Some pages) a m n ls under h l e new small =
     let c = memory_changed s a m n h e new.0 new.1 in
     (c.0, c.1, l, (pages ∷ [], refl, (small pages refl, tt)))
 
+word_loaded : (op : LoadOp) (o : Option ℕ) (value : ℕ) → option_map (as_word op) o ≡ Some value → IsWord (load_gives op) value
+word_loaded op None value e = cc
+word_loaded op (Some n) value e = let same : as_word op n ≡ value = some_is (as_word op n) value e in subst (IsWord (load_gives op)) same (loaded_word op n)
+  where
+    some_is : (a b : ℕ) → (let o : Option ℕ = Some a in o) ≡ Some b → a ≡ b
+    some_is a b e = cc
+
 pub load_typed : (s : Store) (locals : List ValType) (op : LoadOp) (offset : ℕ) (m : ℕ × MemoryState) (ls front under : List ℕ) → StoreTyped s → AreWords locals ls → slice_get s.memories m.0 ≡ Some m.1 → AreWords (I32 ∷ []) front → EffectTyped s locals (load_gives op ∷ []) under (load op offset (Some m) s ls (front ++ under))
 load_typed s locals op offset m ls [] under h l e k = absurd k
 load_typed s locals op offset m ls (a ∷ []) under h l e k =
-    let bytes = (all_at MemoryTyped s.memories m.0 m.1 h.memories e).0 in
-    given_typed s locals (load_gives op) (loaded op (a + offset) m.1.bytes) ls under h l (λ value e. loaded_word op (a + offset) value m.1.bytes bytes e)
+    given_typed s locals (load_gives op) (option_map (as_word op) (loaded op (a + offset) m.1.bytes)) ls under h l (λ value e. word_loaded op (loaded op (a + offset) m.1.bytes) value e)
 load_typed s locals op offset m ls (a ∷ b ∷ more) under h l e k = absurd k.1
 
 pub store_typed : (s : Store) (locals : List ValType) (op : StoreOp) (offset : ℕ) (m : ℕ × MemoryState) (ls front under : List ℕ) → StoreTyped s → AreWords locals ls → slice_get s.memories m.0 ≡ Some m.1 → AreWords (store_takes op ∷ I32 ∷ []) front → EffectTyped s locals [] under (store op offset (Some m) s ls (front ++ under))
 store_typed s locals op offset m ls [] under h l e k = absurd k
 store_typed s locals op offset m ls (b ∷ []) under h l e k = absurd k.1
 store_typed s locals op offset m ls (b ∷ a ∷ []) under h l e k =
-    let bytes = (all_at MemoryTyped s.memories m.0 m.1 h.memories e).0 in
     let new : List ℕ = stored_bytes op b in
     bounds_typed s locals (is_inside (a + offset) (length new) m.1.bytes) m (put (a + offset) new m.1.bytes) ls under h l e
-    (put_small (a + offset) new m.1.bytes (stored_small op b) bytes) (length_put (a + offset) new m.1.bytes)
+    (length_put (a + offset) new m.1.bytes)
 store_typed s locals op offset m ls (b ∷ a ∷ c ∷ more) under h l e k = absurd k.1.1
 
 pub size_typed : (s : Store) (locals : List ValType) (m : ℕ × MemoryState) (ls under : List ℕ) → StoreTyped s → AreWords locals ls → slice_get s.memories m.0 ≡ Some m.1 → EffectTyped s locals (I32 ∷ []) under (memory_size (Some m) s ls under)
@@ -192,9 +196,8 @@ fill_typed s locals m ls [] under h l e k = absurd k
 fill_typed s locals m ls (count ∷ []) under h l e k = absurd k.1
 fill_typed s locals m ls (count ∷ value ∷ []) under h l e k = absurd k.1.1
 fill_typed s locals m ls (count ∷ value ∷ at ∷ []) under h l e k =
-    let bytes = (all_at MemoryTyped s.memories m.0 m.1 h.memories e).0 in
     bounds_typed s locals (is_inside at count m.1.bytes) m (filled at (value % 256) count m.1.bytes) ls under h l e
-    (filled_small at (value % 256) count m.1.bytes (mod_below value 256 (omega arith)) bytes) (filled_long at (value % 256) count m.1.bytes)
+    (filled_long at (value % 256) count m.1.bytes)
 fill_typed s locals m ls (count ∷ value ∷ at ∷ b ∷ more) under h l e k = absurd k.1.1.1
 
 pub copy_typed : (s : Store) (locals : List ValType) (m : ℕ × MemoryState) (ls front under : List ℕ) → StoreTyped s → AreWords locals ls → slice_get s.memories m.0 ≡ Some m.1 → AreWords (I32 ∷ I32 ∷ I32 ∷ []) front → EffectTyped s locals [] under (memory_copy (Some m) s ls (front ++ under))
@@ -202,7 +205,6 @@ copy_typed s locals m ls [] under h l e k = absurd k
 copy_typed s locals m ls (count ∷ []) under h l e k = absurd k.1
 copy_typed s locals m ls (count ∷ from ∷ []) under h l e k = absurd k.1.1
 copy_typed s locals m ls (count ∷ from ∷ to ∷ []) under h l e k =
-    let bytes = (all_at MemoryTyped s.memories m.0 m.1 h.memories e).0 in
     bounds_typed s locals (is_inside to count m.1.bytes && is_inside from count m.1.bytes) m (copied to from count m.1.bytes) ls under h l e
-    (copied_small to from count m.1.bytes bytes) (copied_long to from count m.1.bytes)
+    (copied_long to from count m.1.bytes)
 copy_typed s locals m ls (count ∷ from ∷ to ∷ b ∷ more) under h l e k = absurd k.1.1.1

@@ -5,7 +5,10 @@ pub mod Framing
 pub mod Lists
 pub mod Memories
 pub mod Moving
+pub mod Onward
 pub mod Operands
+pub mod Runs
+pub mod Settling
 pub mod Stores
 pub mod Words
 pub mod Zips

@@ -3,6 +3,7 @@
 -- wasm_numbers, and memories those of wasm_memory.
 use Rattle.std.specs.Prelude.{ℕ, zero, suc, ◌+◌, ◌-◌, ◌%◌, ◌^◌, Bool, ◌&&◌, if◌then◌else◌, List, [], ◌∷◌, length, Option, Some, None, Result, Ok, Err, ℤ, set}
 use Rattle.std.specs.List.{slice_get}
+use Rattle.std.specs.Option.{option_map}
 use Rattle.std.specs.Int.{Width as Bits, w32, w64, cast_unsigned}
 use mir.Val.{bits}
 use Rattle.wasm_module.specs.declared.instr.Instr.{Instr}
@@ -13,7 +14,7 @@ use Rattle.wasm_numbers.specs.declared.trap.NumberTrap.{NumberTrap}
 use Rattle.wasm_numbers.specs.declared.trap.NumberTrap.TheVariants as number_trap
 use Rattle.wasm_numbers.specs.Stack.{applied}
 use Rattle.wasm_memory.specs.Bytes.{is_inside, put, copied, filled}
-use Rattle.wasm_memory.specs.Loads.{loaded}
+use Rattle.wasm_memory.specs.Loads.{loaded, result_width}
 use Rattle.wasm_memory.specs.Stores.{stored_bytes}
 use Rattle.wasm_memory.specs.Memories.{MemoryState, page_count, growth, grown, with_bytes}
 use Rattle.core_machine.specs.declared.trap.Trap.{Trap}
@@ -93,9 +94,13 @@ abbrev pub by_growth : Option ℕ → ℕ → MemoryState → Store → List ℕ
 by_growth (Some pages) address m s ls vs = Leaves (with_memory address m s) ls (pages ∷ vs)
 by_growth None address m s ls vs = Leaves s ls ((2 ^ 32 - 1) ∷ vs)
 
+-- a load's number as a word of its type; of bytes, which are below 256, it is one already
+abbrev pub as_word : LoadOp → ℕ → ℕ
+as_word op n = n % 2 ^ bits (result_width op)
+
 -- The place is the operand and the offset together, and may pass 2 ^ 32.
 abbrev pub load : LoadOp → ℕ → Option (ℕ × MemoryState) → Store → List ℕ → List ℕ → Effect
-load op offset (Some m) s ls (a ∷ vs) = by_load (loaded op (a + offset) m.1.bytes) s ls vs
+load op offset (Some m) s ls (a ∷ vs) = by_load (option_map (as_word op) (loaded op (a + offset) m.1.bytes)) s ls vs
 load op offset m s ls vs = NoRule
 
 abbrev pub store : StoreOp → ℕ → Option (ℕ × MemoryState) → Store → List ℕ → List ℕ → Effect

@@ -1,6 +1,6 @@
 -- Instantiation (Core 2.0, sections 4.5.3 and 4.5.4): a module's functions, tables, memories and globals are added to a
 -- store, and then its segments are written, those of functions before those of bytes.
-use Rattle.std.specs.Prelude.{◌≡◌, ◌<◌, ◌≤◌, ◌+◌, ℕ, nat_le, if◌then◌else◌, List, [], ◌∷◌, ◌++◌, map, length, take, drop, replicate, set, Option, Some, None}
+use Rattle.std.specs.Prelude.{◌≡◌, ◌≤◌, ◌+◌, ℕ, nat_le, if◌then◌else◌, List, [], ◌∷◌, ◌++◌, map, length, take, drop, replicate, set, Option, Some, None}
 use Rattle.std.specs.List.{slice_get, flat_map, range_with_len, AllByRecursion, AllZip}
 use Rattle.std.specs.Option.{option_and_then, option_map, IfSome, IsSomeAnd}
 use Rattle.std.specs.Int.{w32, w64}
@@ -166,7 +166,6 @@ ImportMatches s types desc other = ⊥
 abbrev pub ImportsMatch : Store → ModuleTree → List External → Type 0
 ImportsMatch s m imports = AllZip (λ i e. ImportMatches s m.types i.desc e) m.imports imports
 
--- The numbers of a module are in their ranges: no memory begins with more pages than any may have, and bytes are below 256.
-pub record InRange (m : ModuleTree) : Type 0 where
-  pub memories : AllByRecursion (λ l. l.min ≤ most_pages None) m.memories
-  pub bytes : AllByRecursion (λ d. AllByRecursion (λ b. b < 256) d.bytes) m.data_segments
+-- No memory of a module begins with more pages than any may have.
+abbrev pub InRange : ModuleTree → Type 0
+InRange m = AllByRecursion (λ l. l.min ≤ most_pages None) m.memories

@@ -1,6 +1,7 @@
--- What holds of all stacks that are typed in a typed store, and of the modules that are added to one.
-use Rattle.std.specs.Prelude.{◌≡◌, ◌≢◌, ◌<◌, ℕ, List, [], length, Some}
-use Rattle.std.specs.List.{slice_get, AllByRecursion}
+-- What holds of all stacks (Core 2.0, section 4.4), of those that are typed in a typed store, and of the modules that are
+-- added to one (the appendix on soundness).
+use Rattle.std.specs.Prelude.{◌≡◌, ◌≢◌, ◌≤◌, ◌+◌, ℕ, suc, false, List, [], length, Some}
+use Rattle.std.specs.List.{slice_get}
 use Rattle.wasm_module.specs.declared.types.ValType.{ValType}
 use Rattle.wasm_module.specs.declared.types.FuncType.{FuncType}
 use Rattle.wasm_module.specs.declared.module.ModuleTree.{ModuleTree}
@@ -8,11 +9,11 @@ use Rattle.wasm_valid.specs.Modules.{Typed}
 use Rattle.wasm_numbers.specs.Types.{AreWords}
 use Rattle.wasm_memory.specs.Memories.{MemoryState}
 use Rattle.core_machine.specs.Store.{Function, Host, type_of, Store}
-use Rattle.core_machine.specs.Stack.{Stack}
+use Rattle.core_machine.specs.Stack.{Stack, Running, AtHost, Given}
 use Rattle.core_machine.specs.Effects.{with_memory}
-use Rattle.core_machine.specs.Step.{Move, Goes, Calls, Ends, Traps, Stuck, next, resume, start, Steps}
+use Rattle.core_machine.specs.Step.{Move, Goes, Calls, Ends, Traps, Stuck, frame_limit, next, resume, start, Moves, Steps}
 use Rattle.core_machine.specs.Instantiation.{External, Instantiation, Makes, SegmentBounds, empty, with_host, instance_of, instantiated, start_call, ImportsMatch, InRange}
-use Rattle.core_machine.specs.Typed.{StoreTyped, Extends, StackTyped}
+use Rattle.core_machine.specs.Typed.{StoreTyped, Extends, HasContext, module_context, StackTyped}
 
 -- What a typed stack does next is typed: where it goes on, its store extends the old one; where it calls, it goes on with
 -- any words of the called function's results; where it ends, it ends with words of its own.
@@ -49,12 +50,16 @@ StaysTyped = (s t : Store) (results : List ValType) (k : Stack) → Extends s t 
 abbrev pub ExtendsFurther : Type 0
 ExtendsFurther = (s t u : Store) → Extends s t → Extends t u → Extends s u
 
+-- The new instance stands behind the old ones, and has what its module says.
+abbrev pub IsThere : Store → ModuleTree → List External → Store → Type 0
+IsThere s m imports t = (slice_get t.instances (length s.instances) ≡ Some (instance_of m imports s)) × HasContext t (instance_of m imports s) (module_context m)
+
 -- A valid module is instantiated, with imports of its types: the store stays typed and extends the old one, also where a
--- segment doesn't fit, and the call of the function that runs first is typed.
+-- segment doesn't fit, the new instance is there, and the call of the function that runs first is typed.
 abbrev pub AddedTyped : Store → ModuleTree → List External → Instantiation → Type 0
 AddedTyped s m imports (Makes t) =
-    Extends s t × StoreTyped t × ((k : Stack) → start_call m (instance_of m imports s) t ≡ Some k → StackTyped t [] k)
-AddedTyped s m imports (SegmentBounds t) = Extends s t × StoreTyped t
+    Extends s t × StoreTyped t × IsThere s m imports t × ((k : Stack) → start_call m (instance_of m imports s) t ≡ Some k → StackTyped t [] k)
+AddedTyped s m imports (SegmentBounds t) = Extends s t × StoreTyped t × IsThere s m imports t
 
 abbrev pub AddsTyped : Type 0
 AddsTyped =
@@ -72,4 +77,52 @@ HostsTyped = (s : Store) (type : FuncType) → StoreTyped s → Extends s (with_
 abbrev pub WritesTyped : Type 0
 WritesTyped =
     (s : Store) (address : ℕ) (m n : MemoryState) → StoreTyped s → slice_get s.memories address ≡ Some m → n.maximum ≡ m.maximum → length n.bytes ≡ length m.bytes
-    → AllByRecursion (λ b. b < 256) n.bytes → Extends s (with_memory address n s) × StoreTyped (with_memory address n s)
+    → Extends s (with_memory address n s) × StoreTyped (with_memory address n s)
+
+-- Of all stacks, typed or not.
+
+-- From each stack finitely many moves that cost nothing lead to one whose next move is none of these.
+abbrev pub FreeMovesEnd : Type 0
+FreeMovesEnd =
+    (s : Store) (k : Stack)
+    → (count : ℕ) × (l : Stack) × Moves count 0 s k s l × ((t : Store) (m : Stack) → next s l ≢ Goes false t m)
+
+-- how many frames a stack has, and that these are no more than it may have
+abbrev pub frame_count : Stack → ℕ
+frame_count (Running f fs) = suc (length fs)
+frame_count (AtHost address words) = 0
+frame_count (Given words) = 0
+
+abbrev pub FewFrames : Stack → Type 0
+FewFrames k = frame_count k ≤ frame_limit
+
+-- A call of a function begins with few frames, and no step makes too many of few.
+abbrev pub StartsFew : Type 0
+StartsFew = (function : Function) (address : ℕ) (args : List ℕ) → FewFrames (start function address args)
+
+abbrev pub StepsFew : Type 0
+StepsFew = (fuel : ℕ) (s t : Store) (k l : Stack) → FewFrames k → Steps fuel s k t l → FewFrames l
+
+-- Nor does a call of the host: a stack that waits has few frames, and so it has when it is resumed.
+abbrev pub WaitsFew : Type 0
+WaitsFew =
+    (s : Store) (address : ℕ) (words : List ℕ) (k l : Stack) → FewFrames k → next s k ≡ Calls address words l → FewFrames l
+
+abbrev pub ResumesFew : Type 0
+ResumesFew = (answers : List ℕ) (k : Stack) → FewFrames k → FewFrames (resume answers k)
+
+-- As many moves from the same store and stack lead to the same ones, for the same units.
+abbrev pub OneNext : Type 0
+OneNext =
+    (count a b : ℕ) (s t u : Store) (k l m : Stack) → Moves count a s k t l → Moves count b s k u m
+    → (a ≡ b) × (t ≡ u) × (l ≡ m)
+
+-- Steps behind steps are steps for the units of both.
+abbrev pub StepsJoin : Type 0
+StepsJoin = (a b : ℕ) (s t u : Store) (k l m : Stack) → Steps a s k t l → Steps b t l u m → Steps (a + b) s k u m
+
+-- Fewer moves are a front of more: the others go on from where they led, for the units that are left.
+abbrev pub FewerAreFront : Type 0
+FewerAreFront =
+    (count more a b : ℕ) (s t u : Store) (k l m : Stack) → Moves count a s k t l → Moves (count + more) b s k u m
+    → (left : ℕ) × (b ≡ a + left) × Moves more left t l u m

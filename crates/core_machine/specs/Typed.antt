@@ -8,8 +8,10 @@ use Rattle.wasm_module.specs.declared.types.Mutability.{Mutability}
 use Rattle.wasm_module.specs.declared.types.Mutability.TheVariants.{Constant, Variable}
 use Rattle.wasm_module.specs.Expr.{Expr}
 use Rattle.wasm_module.specs.Locals.{local_types}
+use Rattle.wasm_module.specs.declared.module.ModuleTree.{ModuleTree}
 use Rattle.wasm_valid.specs.Context.{Context}
 use Rattle.wasm_valid.specs.Instrs.{func_type}
+use Rattle.wasm_valid.specs.Modules.{func_space, table_count, memory_count, global_space}
 use Rattle.wasm_valid.specs.Typing.{Operands, operands_of, TypedFrom, BodyTyped}
 use Rattle.wasm_numbers.specs.Types.{IsWord, AreWords}
 use Rattle.wasm_memory.specs.Memories.{MemoryState, IsMemory}
@@ -24,6 +26,18 @@ pub record HasContext (s : Store) (i : Instance) (c : Context) : Type 0 where
   pub tables : (index : ℕ) → index < c.tables → (p : ℕ × Table) × (table_at index i s ≡ Some p)
   pub memories : (index : ℕ) → index < c.memories → (p : ℕ × MemoryState) × (memory_at index i s ≡ Some p)
   pub globals : (index : ℕ) (type : GlobalType) → slice_get c.globals index ≡ Some type → (p : ℕ × Global) × (global_at index i s ≡ Some p) × (p.1.type ≡ type)
+
+-- the context of a module, of none of its functions
+abbrev pub module_context : ModuleTree → Context
+module_context m = record {
+  types = m.types;
+  funcs = func_space m;
+  tables = table_count m;
+  memories = memory_count m;
+  globals = global_space m;
+  locals = [];
+  results = [];
+}
 
 -- a function whose body is typed in a context that its instance has
 pub record OwnTyped (s : Store) (type : FuncType) (locals : List ValType) (instance : ℕ) (body : Expr) : Type 0 where
@@ -47,9 +61,9 @@ EntryTyped s (Some address) = (f : Function) × (slice_get s.funcs address ≡ S
 abbrev pub TableTyped : Store → Table → Type 0
 TableTyped s t = AllByRecursion (EntryTyped s) t.entries
 
--- A memory has bytes, in whole pages, and no more pages than it may have.
+-- A memory has whole pages, and no more than it may have.
 abbrev pub MemoryTyped : MemoryState → Type 0
-MemoryTyped m = AllByRecursion (λ b. b < 256) m.bytes × IsMemory m
+MemoryTyped m = IsMemory m
 
 abbrev pub GlobalTyped : Global → Type 0
 GlobalTyped g = IsWord g.type.val_type g.value

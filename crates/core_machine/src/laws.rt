@@ -1,6 +1,6 @@
-//! What holds of every stack that is typed in a typed store.
+//! What holds of every stack, and of those that are typed in a typed store.
 
-ghost use Rattle.core_machine.specs.Laws.{MovesTyped, NeverStuck, StartsTyped, StaysTyped, ExtendsFurther, AddsTyped, EmptyTyped, HostsTyped, WritesTyped};
+ghost use Rattle.core_machine.specs.Laws.{MovesTyped, NeverStuck, StartsTyped, StaysTyped, ExtendsFurther, AddsTyped, EmptyTyped, HostsTyped, WritesTyped, FreeMovesEnd, StartsFew, StepsFew, WaitsFew, ResumesFew, OneNext, StepsJoin, FewerAreFront};
 
 /// A stack that is typed in a typed store never gets stuck: what it does next is typed, and so is all that it comes to. A
 /// call with words of the function's parameters is such a stack.
@@ -28,4 +28,27 @@ pub fn changed_stores_are_typed()
     ensures empty { EmptyTyped }
     ensures hosts { HostsTyped }
     ensures writes { WritesTyped }
+{}
+
+/// Moves that cost nothing, the ends of blocks and of functions, come to an end: from each store and stack, finitely many
+/// lead to a stack whose next move is no such one.
+pub fn free_moves_end()
+    ensures { FreeMovesEnd }
+{}
+
+/// Stacks have at most 512 frames, typed or not: a call of a function begins with so few, and they stay so few in all steps,
+/// where a function of the host is called, and where the stack goes on with its answers.
+pub fn frames_stay_few()
+    ensures starts { StartsFew }
+    ensures steps { StepsFew }
+    ensures waits { WaitsFew }
+    ensures resumes { ResumesFew }
+{}
+
+/// A store and a stack have one next move. So as many moves lead to the same store and stack for the same units of fuel,
+/// and fewer moves are a front of more. Steps behind steps are steps for the units of both.
+pub fn moves_are_determined()
+    ensures one { OneNext }
+    ensures join { StepsJoin }
+    ensures front { FewerAreFront }
 {}
