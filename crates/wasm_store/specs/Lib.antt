@@ -1,0 +1,4 @@
+pub mod Fits
+pub mod Lends
+pub mod Parts
+pub mod Views
