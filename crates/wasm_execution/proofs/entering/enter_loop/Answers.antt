@@ -1,0 +1,22 @@
+use Rattle.std.proofs.Common.{ap, sym, ◌∙◌, subst, length, ℕ, List}
+use Rattle.wasm_module.specs.declared.types.FuncType.{FuncType}
+use Rattle.wasm_valid.specs.Context.{params}
+use Rattle.wasm_store.specs.Views.{instance_of}
+use Rattle.wasm_execution.specs.Places.{frame_of}
+use Rattle.wasm_execution.specs.Shape.{HasOver}
+use Rattle.wasm_execution.proofs.Taking.{loop_over}
+use Rattle.wasm_execution.proofs.Going.{loop_goes}
+use Rattle.wasm_execution.proofs.entering.enter_loop.Goals as goal
+
+pub enter_loop-requires-clause-over : goal.enter_loop-requires-clause-over
+enter_loop-requires-clause-over c =
+    let types = c.as_slice-types.ensures ∙ c.deref.ensures in
+    let long = ap length (c.params-params.ensures ∙ ap (λ (ts : List FuncType). params ts c.args.block_type) types) in
+    subst (λ (n : ℕ). HasOver n (frame_of c.args.frame.now).labels (frame_of c.args.frame.now).values) (sym long)
+    (loop_over c.args.store.now c.requires.typed.0 (frame_of c.args.frame.now) (instance_of c.instance.result.now) c.args.block_type c.requires.next.0 c.requires.next.1 c.requires.typed.1 c.instance.ensures c.requires.next.2)
+
+pub returns-clause-gives : goal.returns-clause-gives
+returns-clause-gives c =
+    let types = c.as_slice-types.ensures ∙ c.deref.ensures in
+    let p = ap length (c.params-params.ensures ∙ ap (λ (ts : List FuncType). params ts c.args.block_type) types) in
+    loop_goes c.args.store.now (frame_of c.args.frame.now) (frame_of c.enter_loop.new.self) (instance_of c.instance.result.now) c.args.block_type c.requires.next.0 c.requires.next.1 (length c.params-params.result.now) c.instance.ensures c.requires.next.2 p c.in_ok-enter_loop.ensures.frame
