@@ -23,7 +23,7 @@ digits_pass : (base : ℕ) (ds : List ℕ) → AllDigits base ds → AllByRecurs
 digits_pass base [] a = tt
 digits_pass base (d ∷ ds) a = (lt-ltb (digit_value d) base a.0, digits_pass base ds a.1)
 
-decimal_is_number : (n : ℕ) → n < 2 ^ 64 → IsNumber 10 (decimal n) n
+pub decimal_is_number : (n : ℕ) → n < 2 ^ 64 → IsNumber 10 (decimal n) n
 decimal_is_number n low =
     let numeral = decimal_is_IsNumeral n low in
     let some : 1 ≤ length (decimal n) = omega (arith, numeral.0.0) in
@@ -213,7 +213,7 @@ piece_bytes : (q : ℕ) (cs : List ℕ) → flat_map (λ (p : Piece). p.1) (map 
 piece_bytes q [] = refl
 piece_bytes q (c ∷ cs) = ap (λ (l : List ℕ). encode_utf8 c ++ l) (piece_bytes q cs)
 
-quoted_is_literal : (q : ℕ) (cs : List ℕ) → escaped q ≡ Some q → all_scalars cs ≡ true → IsLiteral q (quoted_chars q cs) (encode_utf8_all cs)
+pub quoted_is_literal : (q : ℕ) (cs : List ℕ) → escaped q ≡ Some q → all_scalars cs ≡ true → IsLiteral q (quoted_chars q cs) (encode_utf8_all cs)
 quoted_is_literal q cs e h = (
   map (piece q) cs,
   all_pieces q cs e h,

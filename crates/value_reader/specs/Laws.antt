@@ -1,11 +1,20 @@
 -- What holds of the format alone.
-use Rattle.std.specs.Prelude.{◌≡◌, ◌≢◌, ◌≤◌, ◌<◌, ◌^◌, ◌↔◌, ℕ, ℤ, List, [], ◌∷◌, ◌++◌, Some}
+use Rattle.std.specs.Prelude.{◌≡◌, IsTrue, ◌≢◌, ◌≤◌, ◌<◌, ◌^◌, ◌↔◌, ℕ, ℤ, List, [], ◌∷◌, ◌++◌, Some}
 use Rattle.std.specs.Fmt.{decimal, signed_decimal}
 use Rattle.std.specs.Char.{IsScalar}
 use Rattle.std.specs.Str.{IsUtf8}
 use Rattle.value_types.specs.CharText.{quoted, quoted_chars}
 use Rattle.value_reader.specs.Tokens.{is_digit, unsigned_at, signed_at}
 use Rattle.value_reader.specs.Quoted.{literal_at, string_at, char_at}
+use Rattle.value_types.specs.declared.types.ValType.{ValType}
+use Rattle.value_types.specs.declared.value.Value.{Value}
+use Rattle.value_reader.specs.Values.{read_value, arguments}
+use Rattle.value_types.specs.declared.types.ValType.TheViews as view
+use Rattle.value_types.specs.declared.value.Value.TheViews as values
+use Rattle.value_types.specs.Fits.{fits}
+use Rattle.value_types.specs.ValueText.{value_text}
+use Rattle.value_reader.specs.Writable.{is_writable, is_sound}
+use Rattle.value_reader.specs.Written.{IsWholeText, AreArguments}
 use Rattle.value_reader.specs.Syntax.{IsNumber, IsSigned, IsInRange, BeginsWithout, IsLiteral}
 
 -- A number that is not above a limit is read exactly where it is written at the front of a text, and no digit behind it.
@@ -26,6 +35,21 @@ LiteralsAreTexts =
     (quote : ℕ) (text content rest : List ℕ) → quote ≢ 92
     → (literal_at quote text ≡ Some (content, rest)) ↔ ((written : List ℕ) × (text ≡ written ++ rest) × IsLiteral quote written content)
 
+-- A value of any type is read exactly where the whole text is written as one of it.
+abbrev pub ValuesAreTexts : Type 0
+ValuesAreTexts = (type : ValType) (v : Value) (text : List ℕ) → (read_value type text ≡ Some v) ↔ IsWholeText type v text
+
+-- Arguments are read exactly where the text is written as theirs.
+abbrev pub ArgumentsAreTexts : Type 0
+ArgumentsAreTexts = (types : List ValType) (all : List Value) (text : List ℕ) → (arguments types text ≡ Some all) ↔ AreArguments types all text
+
+-- A text is written as at most one value of a type, and as at most one list of arguments.
+abbrev pub TextsAreOneValue : Type 0
+TextsAreOneValue = (type : ValType) (v w : Value) (text : List ℕ) → IsWholeText type v text → IsWholeText type w text → v ≡ w
+
+abbrev pub TextsAreOneCall : Type 0
+TextsAreOneCall = (types : List ValType) (all others : List Value) (text : List ℕ) → AreArguments types all text → AreArguments types others text → all ≡ others
+
 -- The texts that traces have of numbers, of texts and of characters are read as these, where no digit stands behind a
 -- number.
 abbrev pub NumbersAreReadBack : Type 0
@@ -42,3 +66,16 @@ TextsAreReadBack = (text rest : List ℕ) → IsUtf8 text → string_at (quoted 
 
 abbrev pub CharsAreReadBack : Type 0
 CharsAreReadBack = (c : ℕ) (rest : List ℕ) → IsScalar c → char_at (quoted_chars 39 (c ∷ []) ++ rest) ≡ Some (c, rest)
+
+-- What is written for a sound value of a type that a script can write is read as that value.
+abbrev pub ValuesAreReadBack : Type 0
+ValuesAreReadBack =
+    (type : ValType) (v : Value)
+    → IsTrue (is_writable type) → IsTrue (fits v type) → IsTrue (is_sound v) → read_value type (value_text v type) ≡ Some v
+
+-- The same of the arguments of a call, between parentheses and with a comma and a space between two.
+abbrev pub CallsAreReadBack : Type 0
+CallsAreReadBack =
+    (types : List ValType) (all : List Value)
+    → IsTrue (is_writable (view.Tuple types)) → IsTrue (fits (values.Record all) (view.Tuple types)) → IsTrue (is_sound (values.Record all))
+    → arguments types (value_text (values.Record all) (view.Tuple types)) ≡ Some all

@@ -4,4 +4,6 @@ pub mod Quoted
 pub mod Values
 pub mod Host
 pub mod Syntax
+pub mod Written
+pub mod Writable
 pub mod Laws

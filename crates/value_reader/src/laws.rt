@@ -1,6 +1,6 @@
 //! What holds of the format alone.
 
-ghost use Rattle.value_reader.specs.Laws.{NumbersAreTexts, SignedAreTexts, LiteralsAreTexts, NumbersAreReadBack, SignedAreReadBack, TextsAreReadBack, CharsAreReadBack};
+ghost use Rattle.value_reader.specs.Laws.{NumbersAreTexts, SignedAreTexts, LiteralsAreTexts, ValuesAreTexts, ArgumentsAreTexts, TextsAreOneValue, TextsAreOneCall, NumbersAreReadBack, SignedAreReadBack, TextsAreReadBack, CharsAreReadBack, ValuesAreReadBack, CallsAreReadBack};
 
 /// A number is read exactly where it is written: one decimal digit or more, and none behind them.
 pub fn numbers_are_texts()
@@ -15,6 +15,26 @@ pub fn signed_numbers_are_texts()
 /// What is between quotes is read exactly where it is written: bytes and escapes, and the quote behind them.
 pub fn literals_are_texts()
     ensures { LiteralsAreTexts }
+{}
+
+/// A value of any type is read exactly where the whole text is written as one of it, for each form that a type has.
+pub fn values_are_texts()
+    ensures { ValuesAreTexts }
+{}
+
+/// Arguments are read exactly where the text is written as theirs: values in parentheses, with a comma between two.
+pub fn arguments_are_texts()
+    ensures { ArgumentsAreTexts }
+{}
+
+/// A text is written as at most one value of a type.
+pub fn texts_are_one_value()
+    ensures { TextsAreOneValue }
+{}
+
+/// A text is written as at most one list of arguments.
+pub fn texts_are_one_call()
+    ensures { TextsAreOneCall }
 {}
 
 /// The text that a trace has of a number is read as that number.
@@ -35,4 +55,15 @@ pub fn texts_are_read_back()
 /// What a trace has between quotes for a character is read as that character.
 pub fn chars_are_read_back()
     ensures { CharsAreReadBack }
+{}
+
+/// What `value_text` writes for a value that fits its type is read as that value, where a script can write the type's
+/// values: it holds no handle, stream or future, and its labels have no blanks, brackets, commas, colons and quotes.
+pub fn values_are_read_back()
+    ensures { ValuesAreReadBack }
+{}
+
+/// What `value_text` writes for the arguments of a call, as one tuple, is read as these arguments.
+pub fn calls_are_read_back()
+    ensures { CallsAreReadBack }
 {}

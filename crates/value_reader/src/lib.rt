@@ -2,7 +2,8 @@
 //!
 //! The contract for the layer above: `read_value` answers the value of a type that a text stands for, and `read_arguments`
 //! the arguments of a function's parameters, exactly where the text is one of theirs (`specs/Values`), and else none; only
-//! want of memory is free. A type of another kind is one more case of `value_at`.
+//! want of memory is free. How values are written is told apart from that (`specs/Written`), and the laws say that both are
+//! the same. A type of another kind is one more case of `value_at`.
 //!
 //! - `fault`: why a text is not read
 //! - `text`: texts that are read from front to back: blanks, marks, words, labels and digits
@@ -27,7 +28,9 @@ mod values;
 
 pub use host::{func_has_host_type, has_host_type};
 pub use laws::{
-    chars_are_read_back, literals_are_texts, numbers_are_read_back, numbers_are_texts,
-    signed_numbers_are_read_back, signed_numbers_are_texts, texts_are_read_back,
+    arguments_are_texts, calls_are_read_back, chars_are_read_back, literals_are_texts,
+    numbers_are_read_back, numbers_are_texts, signed_numbers_are_read_back,
+    signed_numbers_are_texts, texts_are_one_call, texts_are_one_value, texts_are_read_back,
+    values_are_read_back, values_are_texts,
 };
 pub use reading::{read_arguments, read_value};
