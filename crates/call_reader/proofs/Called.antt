@@ -1,0 +1,161 @@
+-- Each item of a script calls an export, with values of its parameters' types.
+use Rattle.std.proofs.Common.{◌≡◌, ◌+◌, ◌^◌, ◌<◌, ◌≤◌, ℕ, suc, Bool, true, false, nat_le, nat_eq, List, [], ◌∷◌, ◌++◌, length, map, codes, Option, Some, None, Result, Ok, Err, refl, sym, ap, ◌∙◌, subst, arith, append-nil, append_assoc, ◌⊎◌, inl, inr}
+use Rattle.std.specs.Bool.{if◌then◌else◌}
+use Rattle.std.specs.List.{AllByRecursion}
+use Rattle.std.specs.Option.{option_and_then, option_map}
+use Rattle.std.specs.Str.{bytes_eq}
+use Rattle.std.proofs.lemmas.Bool.{leb-true}
+use Rattle.std.proofs.lemmas.Slice.Eq.{bytes_eq-Decides}
+use Rattle.std.proofs.lemmas.Option.{option_and_then_some, none-some, same_Some}
+use Rattle.value_types.specs.declared.types.ValType.{ValType, out-ValType}
+use Rattle.value_types.specs.declared.types.ValType.TheOpen.{ValType-F}
+use Rattle.value_types.specs.declared.types.ValType.TheFolds.{fold_out-ValType}
+use Rattle.value_types.specs.declared.value.Value.{Value}
+use Rattle.value_types.specs.declared.value.Value.TheVariants as value
+use Rattle.value_types.specs.ValueText.{Labelled}
+use Rattle.value_types.specs.declared.exports.Export.{Export}
+use Rattle.value_reader.specs.Tokens.{digits_of, behind_digits, number, number_up_to, unsigned_at}
+use Rattle.value_reader.specs.Values.{Reader, reader, reader_step, reader_case, reader_field, u32_at, separated, values_from, values_at, arguments}
+use Rattle.call_reader.specs.declared.script.Call.{Call}
+use Rattle.call_reader.specs.declared.script.Item.TheVariants as item
+use Rattle.call_reader.specs.declared.fault.ScriptWhy.{ScriptWhy}
+use Rattle.call_reader.specs.declared.fault.ScriptWhy.TheVariants as why
+use Rattle.call_reader.specs.declared.fault.ScriptFault.{ScriptFault}
+use Rattle.call_reader.specs.Laws.{ScriptsCallExports}
+use Rattle.call_reader.specs.Script.{Script, Draft, IsOfType, AreOfTypes, without_blanks, export_named, param_types, arguments_of, call_of_values, call_of_export, call_of_name, call_of, name_of, behind_name, after_mark, after, is_begun, with_fuel, with_call, fuel_of, is_skipped, add_by_word, add_line, add_others, add_lines, line_text, lines, empty_draft, script_or, too_long, not_utf8, CallsExport}
+use Rattle.call_reader.proofs.Arguments.{mapped_some, chained_some, left_with, whole_told}
+use Rattle.call_reader.proofs.Cases.{some_inj, passed_some, failed_some}
+use Rattle.call_reader.proofs.CallLines.{arguments_told}
+
+ok_inj : {A E : Type 0} {x y : A} → ◌≡◌ {A = Result A E} (Ok x) (Ok y) → x ≡ y
+ok_inj h = cc
+
+err_not_ok : {A E : Type 0} {e : E} {x : A} → ◌≡◌ {A = Result A E} (Err e) (Ok x) → ⊥
+err_not_ok h = cc
+
+-- a number that is read is not above the most that it may be
+unsigned_below : (most : ℕ) (text : List ℕ) (p : ℕ × List ℕ) → unsigned_at most text ≡ Some p → p.0 ≤ most
+unsigned_below most text p h =
+    let some = failed_some (nat_eq (length (digits_of 10 text)) 0) (option_map (λ (n : ℕ). (n, behind_digits 10 text)) (number_up_to 10 most (digits_of 10 text))) p h in
+    let found = mapped_some (λ (n : ℕ). (n, behind_digits 10 text)) (number_up_to 10 most (digits_of 10 text)) p some.1 in
+    let small = passed_some (nat_le (number 10 (digits_of 10 text)) most) (Some (number 10 (digits_of 10 text))) found.0 found.1 in
+    let same : number 10 (digits_of 10 text) ≡ found.0 = some_inj small.1 in
+    let first : found.0 ≡ p.0 = ap (λ (q : ℕ × List ℕ). q.0) found.2 in
+    subst (λ k. k ≤ most) (same ∙ first) (leb-true (number 10 (digits_of 10 text)) most small.0)
+
+-- one value more
+typed_push : (types : List ValType) (values : List Value) (t : ValType) (v : Value) → AreOfTypes types values → IsOfType t v → AreOfTypes (types ++ t ∷ []) (values ++ v ∷ [])
+typed_push [] [] t v h k = (k, tt)
+typed_push [] (w ∷ values) t v h k = absurd h
+typed_push (u ∷ types) [] t v h k = absurd h
+typed_push (u ∷ types) (w ∷ values) t v h k = (h.0, typed_push types values t v h.1 k)
+
+-- There are as many values as types.
+pub as_many : (types : List ValType) (values : List Value) → AreOfTypes types values → length values ≡ length types
+as_many [] [] h = refl
+as_many [] (v ∷ values) h = absurd h
+as_many (t ∷ types) [] h = absurd h
+as_many (t ∷ types) (v ∷ values) h = ap suc (as_many types values h.1)
+
+-- A value of type u32 is a number below 2^32.
+pub is_number : (t : ValType) (v : Value) → out-ValType t ≡ ValType-F.U32 → IsOfType t v → (n : ℕ) × (value.U32 n ≡ v) × (n < 2 ^ 32)
+is_number t v e h =
+    let as_u32 : reader t h.0 ≡ u32_at h.0 = ap (λ (r : Reader). r h.0) (fold_out-ValType Reader (Labelled (Option Reader)) Reader reader_step reader_case reader_field t) ∙ rw e refl in
+    let found = mapped_some (λ (q : ℕ × List ℕ). (value.U32 q.0, q.1)) (unsigned_at 0xFFFFFFFF h.0) (v, h.1) (sym as_u32 ∙ h.2) in
+    let low = unsigned_below 0xFFFFFFFF h.0 found.0 found.1 in
+    (found.0.0, ap (λ (q : Value × List ℕ). q.0) found.2, omega (arith, low))
+
+-- values of the types
+filled : (done : List ValType) (before : List Value) (types : List ValType) (text : List ℕ) (read : List Value × List ℕ) → AreOfTypes done before → values_from 41 before (map reader types) text ≡ Some read → AreOfTypes (done ++ types) read.0
+filled done before [] text read k h =
+    let found = mapped_some (left_with before) (after_mark 41 text) read h in
+    let same : before ≡ read.0 = ap (λ (p : List Value × List ℕ). p.0) found.2 in
+    subst (λ (ts : List ValType). AreOfTypes ts read.0) (sym (append-nil done)) (subst (AreOfTypes done) same k)
+filled done before (t ∷ types) text read k h =
+    option_and_then_some (λ p. values_from 41 (before ++ p.0 ∷ []) (map reader types) p.1) (option_and_then (λ rest. reader t (without_blanks rest)) (separated before text)) read h
+    (λ p found others. option_and_then_some (λ rest. reader t (without_blanks rest)) (separated before text) p found
+    (λ rest there one.
+    let of_type : IsOfType t p.0 = (without_blanks rest, p.1, one) in
+    let more = filled (done ++ t ∷ []) (before ++ p.0 ∷ []) types p.1 read (typed_push done before t p.0 k of_type) others in
+    subst (λ (ts : List ValType). AreOfTypes ts read.0) (append_assoc done (t ∷ []) types) more))
+
+all_filled : (e : Export) (text : List ℕ) (values : List Value) → arguments (param_types e) text ≡ Some values → AreOfTypes (param_types e) values
+all_filled e text values h =
+    let found = chained_some (values_at 41 (map reader (param_types e))) (after_mark 40 text) (left_with values []) (whole_told _ values h) in
+    filled [] [] (param_types e) found.0 (left_with values []) tt found.2
+
+-- a call
+of_values : (exports : List Export) (name : List ℕ) (e : Export) (r : Result (List Value) ScriptWhy) (call : Call) → export_named exports name ≡ Some e → ((values : List Value) → r ≡ Ok values → AreOfTypes (param_types e) values) → call_of_values name r ≡ Ok call → CallsExport exports (item.Call call)
+of_values exports name e (Err w) call named count h = absurd (err_not_ok h)
+of_values exports name e (Ok values) call named count h = subst (λ c. CallsExport exports (item.Call c)) (ok_inj h) (e, named, count values refl)
+
+of_export : (exports : List Export) (name : List ℕ) (o : Option Export) (text : List ℕ) (call : Call) → export_named exports name ≡ o → call_of_export name o text ≡ Ok call → CallsExport exports (item.Call call)
+of_export exports name None text call named h = absurd (err_not_ok h)
+of_export exports name (Some e) text call named h = of_values exports name e (arguments_of e text) call named (λ values r. all_filled e text values (arguments_told e text values r).1) h
+
+of_name : (exports : List Export) (name text : List ℕ) (o : Option (List ℕ)) (call : Call) → call_of_name exports name text o ≡ Ok call → CallsExport exports (item.Call call)
+of_name exports name text None call h = absurd (err_not_ok h)
+of_name exports name text (Some inner) call h = of_export exports name (export_named exports name) text call refl h
+
+calls_export : (exports : List Export) (text : List ℕ) (call : Call) → call_of exports text ≡ Ok call → CallsExport exports (item.Call call)
+calls_export exports text call h = of_name exports (name_of text) (behind_name text) (after_mark 40 (behind_name text)) call h
+
+-- one item more
+all_push : {A : Type 0} (P : A → Type 0) (xs : List A) (x : A) → AllByRecursion P xs → P x → AllByRecursion P (xs ++ x ∷ [])
+all_push P [] x all p = (p, tt)
+all_push P (y ∷ xs) x all p = (all.0, all_push P xs x all.1 p)
+
+by_call : (exports : List Export) (s t : Draft) (r : Result Call ScriptWhy) → ((call : Call) → r ≡ Ok call → CallsExport exports (item.Call call)) → with_call s r ≡ Ok t → AllByRecursion (CallsExport exports) s.items → AllByRecursion (CallsExport exports) t.items
+by_call exports s t (Err w) f h all = absurd (err_not_ok h)
+by_call exports s t (Ok call) f h all = subst (λ u. AllByRecursion (CallsExport exports) u.items) (ok_inj h) (all_push (CallsExport exports) s.items (item.Call call) all (f call refl))
+
+by_fuel : (exports : List Export) (s t : Draft) (b : Bool) (r : Result ℕ ScriptWhy) → (if b then Err why.Form else with_fuel s r) ≡ Ok t → AllByRecursion (CallsExport exports) s.items → AllByRecursion (CallsExport exports) t.items
+by_fuel exports s t true r h all = absurd (err_not_ok h)
+by_fuel exports s t false (Err w) h all = absurd (err_not_ok h)
+by_fuel exports s t false (Ok n) h all = subst (λ u. AllByRecursion (CallsExport exports) u.items) (ok_inj h) all
+
+by_words : (exports : List Export) (s t : Draft) (fuel call : Option (List ℕ)) → add_by_word exports s fuel call ≡ Ok t → AllByRecursion (CallsExport exports) s.items → AllByRecursion (CallsExport exports) t.items
+by_words exports s t (Some fuel) call h all = by_fuel exports s t (is_begun s) (fuel_of fuel) h all
+by_words exports s t None (Some call) h all = by_call exports s t (call_of exports call) (calls_export exports call) h all
+by_words exports s t None None h all = absurd (err_not_ok h)
+
+by_line : (exports : List Export) (s t : Draft) (b : Bool) (fuel call : Option (List ℕ)) → (if b then Ok s else add_by_word exports s fuel call) ≡ Ok t → AllByRecursion (CallsExport exports) s.items → AllByRecursion (CallsExport exports) t.items
+by_line exports s t true fuel call h all = subst (λ u. AllByRecursion (CallsExport exports) u.items) (ok_inj h) all
+by_line exports s t false fuel call h all = by_words exports s t fuel call h all
+
+-- all lines
+said_on : (others : Draft → Result Draft ScriptFault) (number : ℕ) (r : Result Draft ScriptWhy) (t : Draft) → add_others others number r ≡ Ok t → (u : Draft) × (r ≡ Ok u) × (others u ≡ Ok t)
+said_on others number (Ok u) t h = (u, refl, h)
+said_on others number (Err w) t h = absurd (err_not_ok h)
+
+by_lines : (exports : List Export) (s t : Draft) (number : ℕ) (lines : List (List ℕ)) → add_lines exports s number lines ≡ Ok t → AllByRecursion (CallsExport exports) s.items → AllByRecursion (CallsExport exports) t.items
+by_lines exports s t number [] h all = subst (λ u. AllByRecursion (CallsExport exports) u.items) (ok_inj h) all
+by_lines exports s t number (line ∷ lines) h all =
+    let p = said_on (λ u. add_lines exports u (number + 1) lines) number (add_line exports s (line_text line)) t h in
+    let first = by_line exports s p.0 (is_skipped (line_text line)) (after (codes "fuel ") (line_text line)) (after (codes "call ") (line_text line)) p.1 all in
+    by_lines exports p.0 t (number + 1) lines p.2 first
+
+of_said : (exports : List Export) (bytes : List ℕ) (r : Result Draft ScriptFault) (s : Script) → add_lines exports empty_draft 1 (lines bytes) ≡ r → script_or r ≡ Ok s → AllByRecursion (CallsExport exports) s.items
+of_said exports bytes (Err fault) s e h = absurd (err_not_ok h)
+of_said exports bytes (Ok said) s e h = subst (λ u. AllByRecursion (CallsExport exports) u.items) (ok_inj h) (by_lines exports empty_draft said 1 (lines bytes) e tt)
+
+of_tests : (exports : List Export) (bytes : List ℕ) (long whole : Bool) (s : Script) → (if long then Err too_long else if whole then script_or (add_lines exports empty_draft 1 (lines bytes)) else Err (not_utf8 bytes)) ≡ Ok s → AllByRecursion (CallsExport exports) s.items
+of_tests exports bytes true whole s h = absurd (err_not_ok h)
+of_tests exports bytes false false s h = absurd (err_not_ok h)
+of_tests exports bytes false true s h = of_said exports bytes (add_lines exports empty_draft 1 (lines bytes)) s refl h
+
+pub scripts_call_exports : ScriptsCallExports
+scripts_call_exports exports bytes s h = of_tests exports bytes _ _ s h
+
+-- the export that is found has the name
+found_by : {A : Type 0} (b : Bool) (x y : A) (o : Option A) → (if b then Some y else o) ≡ Some x → ((b ≡ true) × (y ≡ x)) ⊎ (o ≡ Some x)
+found_by true x y o h = inl (refl, same_Some y x h)
+found_by false x y o h = inr h
+
+pub named : (exports : List Export) (name : List ℕ) (e : Export) → export_named exports name ≡ Some e → e.name ≡ name
+named [] name e h = absurd (none-some e h)
+named (d ∷ exports) name e h =
+    elim (found_by (bytes_eq d.name name) e d (export_named exports name) h) [
+      | inl a ↦ subst (λ x. x.name ≡ name) a.1 ((bytes_eq-Decides d.name name).0 a.0)
+      | inr r ↦ named exports name e r
+    ]

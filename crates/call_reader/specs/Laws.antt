@@ -1,0 +1,56 @@
+-- What holds of the format alone.
+use Rattle.std.specs.Prelude.{◌≡◌, ◌⊎◌, ◌↔◌, IsTrue, ℕ, List, Some, Ok, Err}
+use Rattle.std.specs.List.{AllByRecursion}
+use Rattle.value_types.specs.declared.types.ValType.{ValType}
+use Rattle.value_types.specs.declared.value.Value.{Value}
+use Rattle.value_types.specs.declared.exports.Export.{Export}
+use Rattle.call_reader.specs.declared.script.Call.{Call}
+use Rattle.call_reader.specs.declared.fault.ScriptFault.{ScriptFault}
+use Rattle.call_reader.specs.declared.fault.ScriptWhy.{ScriptWhy}
+use Rattle.value_reader.specs.Values.{arguments}
+use Rattle.call_reader.specs.Script.{Script, Draft, call_of, fuel_of, add_line, is_begun, IsScript, IsScriptRefused, CallsExport}
+use Rattle.call_reader.specs.Syntax.{AreArguments, IsCallOf, IsNoCallOf, IsFuelOf, IsNoFuelOf, IsNoLine, IsScriptText, IsNoScriptText}
+
+-- A text is exactly one script, or is refused at exactly one line for exactly one reason.
+abbrev pub OneScript : Type 0
+OneScript =
+    (exports : List Export) (bytes : List ℕ)
+    → ((s : Script) × IsScript exports bytes s × ((other : Script) → IsScript exports bytes other → other ≡ s) × ((fault : ScriptFault) → IsScriptRefused exports bytes fault → ⊥))
+    ⊎ ((fault : ScriptFault) × IsScriptRefused exports bytes fault × ((other : ScriptFault) → IsScriptRefused exports bytes other → other ≡ fault) × ((s : Script) → IsScript exports bytes s → ⊥))
+
+-- A text is a script exactly where it is written as one.
+abbrev pub ScriptsAreTexts : Type 0
+ScriptsAreTexts = (exports : List Export) (bytes : List ℕ) (s : Script) → IsScript exports bytes s ↔ IsScriptText exports bytes s
+
+-- A text is refused exactly at the first line that is not well said, and for the reason that this line has; but a text that
+-- is too long, and one that is not UTF-8, is refused for that.
+abbrev pub FirstFaultIsTold : Type 0
+FirstFaultIsTold = (exports : List Export) (bytes : List ℕ) (fault : ScriptFault) → IsScriptRefused exports bytes fault ↔ IsNoScriptText exports bytes fault
+
+-- A line is refused behind others exactly for the reason that its text has.
+abbrev pub OtherLinesAreRefused : Type 0
+OtherLinesAreRefused = (exports : List Export) (s : Draft) (text : List ℕ) (why : ScriptWhy) → (add_line exports s text ≡ Err why) ↔ IsNoLine exports (IsTrue (is_begun s)) text why
+
+-- Arguments are read exactly where the text is one of theirs: values of their types in parentheses, with commas and blanks
+-- between them, and nothing behind them.
+abbrev pub ArgumentsAreTexts : Type 0
+ArgumentsAreTexts = (types : List ValType) (values : List Value) (text : List ℕ) → (arguments types text ≡ Some values) ↔ AreArguments types values text
+
+-- A call is read exactly where the text behind the word is `NAME (v, ..)`, NAME being an export's; and it is refused for
+-- the first reason that it has.
+abbrev pub CallsAreLines : Type 0
+CallsAreLines = (exports : List Export) (text : List ℕ) (call : Call) → (call_of exports text ≡ Ok call) ↔ IsCallOf exports text call
+
+abbrev pub OtherCallsAreRefused : Type 0
+OtherCallsAreRefused = (exports : List Export) (text : List ℕ) (why : ScriptWhy) → (call_of exports text ≡ Err why) ↔ IsNoCallOf exports text why
+
+-- An amount of fuel is read exactly where the text behind the word is a number in the range.
+abbrev pub FuelIsALine : Type 0
+FuelIsALine = (text : List ℕ) (n : ℕ) → (fuel_of text ≡ Ok n) ↔ IsFuelOf text n
+
+abbrev pub OtherFuelIsRefused : Type 0
+OtherFuelIsRefused = (text : List ℕ) (why : ScriptWhy) → (fuel_of text ≡ Err why) ↔ IsNoFuelOf text why
+
+-- Each item of a script calls an exported function, with values of its parameters' types.
+abbrev pub ScriptsCallExports : Type 0
+ScriptsCallExports = (exports : List Export) (bytes : List ℕ) (s : Script) → IsScript exports bytes s → AllByRecursion (CallsExport exports) s.items

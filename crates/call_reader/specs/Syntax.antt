@@ -1,0 +1,207 @@
+-- How a script is written: which texts stand for a number, for arguments, for a call, for an amount of fuel, and for a
+-- whole script; and at which line and for which reason other texts are refused. The format is the program's own.
+-- `specs/Script` computes what these say; the laws in `specs/Laws` say that both are the same.
+use Rattle.std.specs.Prelude.{◌≡◌, ◌≢◌, ◌+◌, ◌≤◌, ◌<◌, ◌⊎◌, IsTrue, ℕ, true, false, List, [], ◌∷◌, ◌++◌, length, codes, Some, None}
+use Rattle.std.specs.List.{join_with_byte, AllByRecursion}
+use Rattle.std.specs.Str.{IsUtf8, IsValidUpTo}
+use Rattle.value_types.specs.declared.types.ValType.{ValType}
+use Rattle.value_types.specs.declared.value.Value.{Value}
+use Rattle.value_types.specs.declared.exports.Export.{Export}
+use Rattle.value_reader.specs.Values.{reader}
+use Rattle.value_reader.specs.Host.{func_has_host_type}
+use Rattle.call_reader.specs.declared.script.Call.{Call}
+use Rattle.call_reader.specs.declared.script.Item.{Item}
+use Rattle.call_reader.specs.declared.script.Item.TheVariants as item
+use Rattle.call_reader.specs.declared.fault.ScriptWhy.{ScriptWhy}
+use Rattle.call_reader.specs.declared.fault.ScriptWhy.TheVariants as why
+use Rattle.call_reader.specs.declared.fault.ScriptFault.{ScriptFault}
+use Rattle.call_reader.specs.Script.{is_blank, is_digit, ends_name, number, export_named, param_types, size_limit, fuel_limit, default_fuel, line_at, Script}
+
+-- spaces and tabs, or nothing
+abbrev pub AreBlanks : List ℕ → Type 0
+AreBlanks text = AllByRecursion (λ b. IsTrue (is_blank b)) text
+
+-- one digit or more, of this number
+abbrev pub IsNumber : List ℕ → ℕ → Type 0
+IsNumber text n = (1 ≤ length text) × AllByRecursion (λ b. IsTrue (is_digit b)) text × (n ≡ number text)
+
+-- the text is at its end, or begins with a byte that is no blank
+abbrev pub BeginsWithoutBlank : List ℕ → Type 0
+BeginsWithoutBlank [] = Unit {0}
+BeginsWithoutBlank (b ∷ text) = is_blank b ≡ false
+
+-- a value at the front of a text, behind blanks, and what follows it. Which texts a type's values have is said by
+-- `value_reader`
+abbrev pub IsSpacedValue : ValType → Value → List ℕ → List ℕ → Type 0
+IsSpacedValue t v text rest =
+    (blanks : List ℕ) × (written : List ℕ) × (text ≡ blanks ++ written)
+    × AreBlanks blanks × BeginsWithoutBlank written × (reader t written ≡ Some (v, rest))
+
+-- the values of these types behind others, each with a comma before it, and a closing parenthesis behind them
+abbrev pub AreOthers : List ValType → List Value → List ℕ → Type 0
+AreOthers [] [] text = (blanks : List ℕ) × (text ≡ blanks ++ 41 ∷ []) × AreBlanks blanks
+AreOthers [] (v ∷ values) text = ⊥
+AreOthers (t ∷ types) [] text = ⊥
+AreOthers (t ∷ types) (v ∷ values) text =
+    (blanks : List ℕ) × (behind : List ℕ) × (rest : List ℕ) × (text ≡ blanks ++ 44 ∷ behind)
+    × AreBlanks blanks × IsSpacedValue t v behind rest × AreOthers types values rest
+
+-- the values of these types, with a comma between two, and a closing parenthesis behind them
+abbrev pub AreValues : List ValType → List Value → List ℕ → Type 0
+AreValues [] values text = AreOthers [] values text
+AreValues (t ∷ types) [] text = ⊥
+AreValues (t ∷ types) (v ∷ values) text = (rest : List ℕ) × IsSpacedValue t v text rest × AreOthers types values rest
+
+-- values of these types in parentheses, and nothing behind them
+abbrev pub AreArguments : List ValType → List Value → List ℕ → Type 0
+AreArguments types values text =
+    (blanks : List ℕ) × (written : List ℕ) × (text ≡ blanks ++ 40 ∷ written) × AreBlanks blanks × AreValues types values written
+
+-- a name without blanks and opening parentheses, and behind it blanks and an opening parenthesis
+abbrev pub HasName : List ℕ → List ℕ → List ℕ → Type 0
+HasName text name behind =
+    (blanks : List ℕ) × (written : List ℕ) × (text ≡ name ++ behind) × (behind ≡ blanks ++ 40 ∷ written)
+    × AllByRecursion (λ b. ends_name b ≡ false) name × AreBlanks blanks
+
+-- `NAME (v, ..)`: the name of an export whose type holds no handle and no end of a stream or a future, and its arguments
+abbrev pub IsCallOf : List Export → List ℕ → Call → Type 0
+IsCallOf exports text call =
+    (behind : List ℕ) × (e : Export) × HasName text call.name behind
+    × (export_named exports call.name ≡ Some e) × (func_has_host_type e.func_type ≡ false) × AreArguments (param_types e) call.values behind
+
+-- `N`: a number from 1 to the limit
+abbrev pub IsFuelOf : List ℕ → ℕ → Type 0
+IsFuelOf text n = IsNumber text n × (1 ≤ n) × (n ≤ fuel_limit)
+
+-- a text without blanks at its ends
+abbrev pub IsTrimmed : List ℕ → Type 0
+IsTrimmed text =
+    ((b : ℕ) (more : List ℕ) → text ≡ b ∷ more → is_blank b ≡ false)
+    × ((b : ℕ) (more : List ℕ) → text ≡ more ++ b ∷ [] → is_blank b ≡ false)
+
+-- one carriage return behind a line, or none where the line does not end in one
+abbrev pub EndsLine : List ℕ → List ℕ → Type 0
+EndsLine line ending = (ending ≡ 13 ∷ []) ⊎ ((ending ≡ []) × ((more : List ℕ) → line ≡ more ++ 13 ∷ [] → ⊥))
+
+-- a line with this text: blanks before it and behind it, and then at most one carriage return
+abbrev pub IsLineOf : List ℕ → List ℕ → Type 0
+IsLineOf text line =
+    (before : List ℕ) × (behind : List ℕ) × (ending : List ℕ)
+    × (line ≡ (before ++ text ++ behind) ++ ending)
+    × AreBlanks before × IsTrimmed text × AreBlanks behind × EndsLine (before ++ text ++ behind) ending
+
+-- the lines of a text: a line feed between two, and none in a line
+abbrev pub AreLinesOf : List ℕ → List (List ℕ) → Type 0
+AreLinesOf bytes lines =
+    (bytes ≡ join_with_byte 10 lines) × (1 ≤ length lines)
+    × AllByRecursion (λ line. AllByRecursion (λ b. b ≢ 10) line) lines
+
+-- each text is that of its line
+abbrev pub ArePaired : (List ℕ → List ℕ → Type 0) → List (List ℕ) → List (List ℕ) → Type 0
+ArePaired R [] [] = Unit {0}
+ArePaired R [] (line ∷ lines) = ⊥
+ArePaired R (text ∷ texts) [] = ⊥
+ArePaired R (text ∷ texts) (line ∷ lines) = R text line × ArePaired R texts lines
+
+-- nothing, or a comment
+abbrev pub SaysNothing : List ℕ → Type 0
+SaysNothing text = (text ≡ []) ⊎ ((comment : List ℕ) × (text ≡ codes "#" ++ comment))
+
+-- texts of lines that call these functions, one after the other, with texts among them that say nothing
+abbrev pub SayItems : List Export → List (List ℕ) → List Item → Type 0
+SayItems exports [] items = items ≡ []
+SayItems exports (text ∷ texts) items =
+    (SaysNothing text × SayItems exports texts items)
+    ⊎ ((written : List ℕ) × (call : Call) × (others : List Item)
+    × (text ≡ codes "call " ++ written) × IsCallOf exports written call
+    × (items ≡ item.Call call ∷ others) × SayItems exports texts others)
+
+-- texts of lines that say a script: its calls alone, or an amount of fuel before them
+abbrev pub SayScript : List Export → List (List ℕ) → Script → Type 0
+SayScript exports texts s =
+    ((s.fuel ≡ default_fuel) × SayItems exports texts s.items)
+    ⊎ ((skipped : List (List ℕ)) × (written : List ℕ) × (others : List (List ℕ))
+    × (texts ≡ skipped ++ (codes "fuel " ++ written) ∷ others)
+    × AllByRecursion SaysNothing skipped × IsFuelOf written s.fuel × SayItems exports others s.items)
+
+-- a whole script: not too long, UTF-8, and its lines have the texts of a script
+abbrev pub IsScriptText : List Export → List ℕ → Script → Type 0
+IsScriptText exports bytes s =
+    (length bytes ≤ size_limit) × IsUtf8 bytes
+    × ((lines : List (List ℕ)) × (texts : List (List ℕ))
+    × AreLinesOf bytes lines × ArePaired IsLineOf texts lines × SayScript exports texts s)
+
+-- Why a text behind the word `call` is refused: `Form` where it has no name with a parenthesis, `Export` where no function
+-- is exported under the name, `HostType` where the function's type holds a handle or the end of a stream or a future,
+-- `Value` where what stands behind the name is no arguments of the function.
+abbrev pub IsNoCallOf : List Export → List ℕ → ScriptWhy → Type 0
+IsNoCallOf exports text why.Form = (name : List ℕ) (behind : List ℕ) → HasName text name behind → ⊥
+IsNoCallOf exports text why.Export = (name : List ℕ) × (behind : List ℕ) × HasName text name behind × (export_named exports name ≡ None)
+IsNoCallOf exports text why.HostType =
+    (name : List ℕ) × (behind : List ℕ) × (e : Export) × HasName text name behind × (export_named exports name ≡ Some e)
+    × (func_has_host_type e.func_type ≡ true)
+IsNoCallOf exports text why.Value =
+    (name : List ℕ) × (behind : List ℕ) × (e : Export) × HasName text name behind × (export_named exports name ≡ Some e)
+    × (func_has_host_type e.func_type ≡ false) × ((values : List Value) → AreArguments (param_types e) values behind → ⊥)
+IsNoCallOf exports text why.Size = ⊥
+IsNoCallOf exports text why.Utf8 = ⊥
+IsNoCallOf exports text why.Fuel = ⊥
+
+-- Why a text behind the word `fuel` is refused: `Form` where it is no number, `Fuel` where the number is out of range.
+abbrev pub IsNoFuelOf : List ℕ → ScriptWhy → Type 0
+IsNoFuelOf text why.Form = (n : ℕ) → IsNumber text n → ⊥
+IsNoFuelOf text why.Fuel = (n : ℕ) × IsNumber text n × ((n ≡ 0) ⊎ (fuel_limit < n))
+IsNoFuelOf text why.Size = ⊥
+IsNoFuelOf text why.Utf8 = ⊥
+IsNoFuelOf text why.Export = ⊥
+IsNoFuelOf text why.HostType = ⊥
+IsNoFuelOf text why.Value = ⊥
+
+-- one of these texts says something
+abbrev pub SaySomething : List (List ℕ) → Type 0
+SaySomething [] = ⊥
+SaySomething (text ∷ texts) = (SaysNothing text → ⊥) ⊎ SaySomething texts
+
+-- The text of a line that is well said. `Begun` is that one of the lines before says something. It says nothing; or it is
+-- an amount of fuel where none before says anything; or a call.
+abbrev pub IsLine : List Export → Type 0 → List ℕ → Type 0
+IsLine exports Begun text =
+    SaysNothing text
+    ⊎ ((written : List ℕ) × (n : ℕ) × (text ≡ codes "fuel " ++ written) × (Begun → ⊥) × IsFuelOf written n)
+    ⊎ ((written : List ℕ) × (call : Call) × (text ≡ codes "call " ++ written) × IsCallOf exports written call)
+
+-- Why the text of a line is refused: `Form` where it says something and begins with no word that there is, or begins with
+-- `fuel` where a line before says something; and else for the reason of what stands behind its word.
+abbrev pub IsNoLine : List Export → Type 0 → List ℕ → ScriptWhy → Type 0
+IsNoLine exports Begun text reason =
+    ((reason ≡ why.Form) × (SaysNothing text → ⊥)
+    × ((written : List ℕ) → text ≡ codes "fuel " ++ written → ⊥) × ((written : List ℕ) → text ≡ codes "call " ++ written → ⊥))
+    ⊎ ((written : List ℕ) × (text ≡ codes "fuel " ++ written)
+    × ((Begun × (reason ≡ why.Form)) ⊎ ((Begun → ⊥) × IsNoFuelOf written reason)))
+    ⊎ ((written : List ℕ) × (text ≡ codes "call " ++ written) × IsNoCallOf exports written reason)
+
+-- each of these texts is well said behind those before it
+abbrev pub AreLines : List Export → List (List ℕ) → Type 0
+AreLines exports texts =
+    (before : List (List ℕ)) (text : List ℕ) (behind : List (List ℕ))
+    → texts ≡ before ++ text ∷ behind → IsLine exports (SaySomething before) text
+
+-- the first line of a text that is refused, and why: all before it are well said
+pub record HasFirstFault (exports : List Export) (bytes : List ℕ) (fault : ScriptFault) : Type 0 where
+  pub lines : List (List ℕ)
+  pub before : List (List ℕ)
+  pub text : List ℕ
+  pub behind : List (List ℕ)
+  pub parted : AreLinesOf bytes lines
+  pub paired : ArePaired IsLineOf (before ++ text ∷ behind) lines
+  pub good : AreLines exports before
+  pub place : fault.line ≡ length before + 1
+  pub bad : IsNoLine exports (SaySomething before) text fault.why
+
+-- Where and why a whole text is no script. It is too long, and is refused at line 0; or not UTF-8, and is refused at the
+-- line of the first byte that is not; or one of its lines is refused.
+abbrev pub IsNoScriptText : List Export → List ℕ → ScriptFault → Type 0
+IsNoScriptText exports bytes fault =
+    ((size_limit < length bytes) × (fault.line ≡ 0) × (fault.why ≡ why.Size))
+    ⊎ ((length bytes ≤ size_limit) × ((place : ℕ) × IsValidUpTo bytes place × (fault.line ≡ line_at place bytes) × (fault.why ≡ why.Utf8)))
+    ⊎ ((length bytes ≤ size_limit) × IsUtf8 bytes × HasFirstFault exports bytes fault)

@@ -1,0 +1,141 @@
+//! A script in the making.
+
+ghost use Rattle.std.specs.Prelude.{◌≡◌, Ok, Err, MatchResult};
+ghost use Rattle.std.specs.Str.{IsUtf8};
+ghost use Rattle.ca_base.specs.Faults.{MayStep};
+ghost use Rattle.call_reader.specs.Script as scripts;
+
+use crate::call::read_call;
+use crate::directory::Directory;
+use crate::fault::ScriptWhy;
+use crate::number::{is_number, number_up_to};
+use crate::script::{Item, Script};
+use crate::text::after;
+use ca_base::{MemoryOr, Seq};
+use std::alloc::Global;
+use std::marker::Model;
+
+/// How many units of fuel a script gives at most.
+const FUEL_LIMIT: u32 = 1_000_000_000;
+
+/// How many units of fuel a script gives where no line says so.
+const DEFAULT_FUEL: u32 = 1_000_000;
+
+/// A script in the making: what the lines so far say.
+#[derive(Drop)]
+pub struct Draft {
+    fuel: Option<u32>,
+    items: Seq<Item>,
+}
+
+impl Model for Draft {
+    ghost use Rattle.std.specs.Prelude.{◌≤◌, IfSome};
+    ghost use Rattle.call_reader.specs.Script as scripts;
+    ghost use Rattle.call_reader.specs.Script.{fuel_limit};
+    ghost use Rattle.call_reader.specs.contracts.script.Item as an_item;
+    ghost use Rattle.std.specs.Coded.{codes};
+
+    ghost Value = { scripts.Draft };
+
+    ghost coded = { Prim.hlevel (codes, an_item.the_row.coded) };
+
+    ghost view = { λ s. record { fuel = s.fuel; items = s.items } };
+
+    ghost invariant = { λ s. IfSome s.fuel (λ n. (1 ≤ n) × (n ≤ fuel_limit)) };
+}
+
+/// The units of fuel of a text behind the word `fuel` and one space.
+fn read_fuel(text: &[u8]) -> Result<u32, ScriptWhy>
+    ensures { result ≡ scripts.fuel_of text.now }
+{
+    if !is_number(text) {
+        return Err(ScriptWhy::Form);
+    }
+    match number_up_to(FUEL_LIMIT, text) {
+        None | Some(0) => Err(ScriptWhy::Fuel),
+        Some(fuel) => Ok(fuel),
+    }
+}
+
+/// Whether the text of a line says nothing: it is empty, or a comment.
+fn is_skipped(text: &[u8]) -> bool
+    ensures { result ≡ scripts.is_skipped text.now }
+{
+    match text {
+        [] => true,
+        [first, ..] => *first == b'#',
+    }
+}
+
+impl Draft {
+    /// What is said before the first line. It takes no memory.
+    pub fn new(alloc: Global) -> Draft
+        ensures { result ≡ scripts.empty_draft }
+    {
+        Draft {
+            fuel: None,
+            items: Seq::new(alloc),
+        }
+    }
+
+    /// Whether a line so far says anything.
+    fn is_begun(&self) -> bool
+        ensures { result ≡ scripts.is_begun self.now }
+    {
+        self.fuel.is_some() || !self.items.is_empty()
+    }
+
+    /// Adds the `fuel` line with this text behind its word.
+    fn add_fuel(&mut self, text: &[u8]) -> Result<(), ScriptWhy>
+        ensures { MatchResult result (λ _. scripts.add_fuel self.old text.now ≡ Ok self.new) (λ why. scripts.add_fuel self.old text.now ≡ Err why) }
+    {
+        if self.is_begun() {
+            return Err(ScriptWhy::Form);
+        }
+        self.fuel = Some(read_fuel(text)?);
+        Ok(())
+    }
+
+    /// Adds the `call` line with this text behind its word.
+    fn add_call(
+        &mut self,
+        alloc: Global,
+        directory: &Directory,
+        text: &[u8],
+    ) -> Result<(), MemoryOr<ScriptWhy>>
+        requires { IsUtf8 text.now }
+        ensures { MayStep (scripts.with_call self.old (scripts.call_of directory.now text.now)) self.new result }
+    {
+        let call = read_call(alloc, directory, text)?;
+        self.items.push(Item::Call(call))?;
+        Ok(())
+    }
+
+    /// Adds the line with this text.
+    pub fn add_line(
+        &mut self,
+        alloc: Global,
+        directory: &Directory,
+        text: &[u8],
+    ) -> Result<(), MemoryOr<ScriptWhy>>
+        requires { IsUtf8 text.now }
+        ensures { MayStep (scripts.add_line directory.now self.old text.now) self.new result }
+    {
+        if is_skipped(text) {
+            return Ok(());
+        }
+        if let Some(fuel) = after(b"fuel ", text) {
+            self.add_fuel(fuel)?;
+            return Ok(());
+        }
+        let call = after(b"call ", text).ok_or(ScriptWhy::Form)?;
+        self.add_call(alloc, directory, call)
+    }
+
+    /// The script of what all lines say.
+    pub fn into_script(self) -> Script
+        ensures { result ≡ scripts.script_of self }
+    {
+        Script::new(self.fuel.unwrap_or(DEFAULT_FUEL), self.items)
+    }
+}
