@@ -1,17 +1,19 @@
-//! Functions that run, with the results and the fuel that the rules give.
+//! Functions that run, with the results and the fuel that the rules give, and instances.
 
 ghost use Rattle.wasm_machine.specs.Running.{IsRunning};
 
-use crate::modules::{called, store_of};
+use crate::modules::{called, store_of, two_instances};
 use ca_base::Fuel;
 use std::alloc::Global;
 use std::fmt::Write;
 use std::test::Fail;
 use wasm_machine::{Outcome, Running, Store, run};
 
-/// A paragraph a module: what its first function does, what stands behind the preamble, and a line a call: the arguments,
-/// the units of fuel that the run gets one after the other, and how it comes out, with the units that are left of the
-/// last. Each instruction but the end costs one unit.
+/// A paragraph a module: what its first function does, what stands behind the preamble, and lines. A line is a call: the
+/// arguments, the units of fuel that the run gets one after the other, and how it comes out, with the units that are left of
+/// the last. Each instruction but the end costs one unit. Or it is `two instances`: how many functions a new store has, the
+/// first functions of two instances of the module, how many functions the store has then, and how many parameters and results
+/// function 1 has.
 const RUNS: &str = "
 two i32 are added
 01 07 01 60 02 7F 7F 01 7F 03 02 01 00 0A 09 01 07 00 20 00 20 01 6A 0B
@@ -25,6 +27,7 @@ two i32 are added
 2 3 | 1 1 1 | [5], 0 left
 2 3 | 0 0 3 | [5], 0 left
 2 3 | 1 1 0 | no fuel, 0 left
+two instances | - | [0, 0, 1, 2, 2, 1]
 
 a parameter, the first of two i64 and an i32 behind it
 01 08 01 60 01 7F 03 7F 7E 7F 03 02 01 00 0A 0E 01 0C 02 02 7E 01 7F 20 00 20 02 20 03 0B
@@ -75,36 +78,52 @@ fn numbers_of(alloc: Global, text: &str) -> Result<Vec<u64>, Fail> {
 }
 
 /// How the call of a line comes out.
-fn answer(alloc: Global, hex: &str, given: &str) -> Result<String, Fail> {
-    let (args, budgets) = given.split_once(" | ").ok_or("no fuel")?;
-    let text = format!(in alloc; "00 61 73 6D 01 00 00 00{hex}")?;
-    let mut store = store_of(alloc, text.as_str())?;
+fn call_answer(alloc: Global, hex: &str, args: &str, budgets: &str) -> Result<String, Fail> {
+    let mut store = store_of(alloc, hex)?;
     let budgets = numbers_of(alloc, budgets)?;
     let running = called(alloc, &store, numbers_of(alloc, args)?)?;
     run_on(alloc, running, &mut store, &budgets)
 }
 
-/// The calls of a paragraph, each with how it comes out.
-fn answers(alloc: Global, case: &str) -> Result<String, Fail> {
-    let (title, rest) = case.split_once('\n').ok_or("no bytes")?;
-    let (hex, lines) = rest.split_once('\n').ok_or("no calls")?;
-    let mut text = String::from_str(alloc, title)?;
-    write!(text, "\n{hex}")?;
-    for line in lines.lines() {
-        let (given, _wanted) = line.rsplit_once(" | ").ok_or("no answer")?;
-        let found = answer(alloc, hex, given)?;
-        write!(text, "\n{given} | {found}")?;
+/// What is told of the module of a paragraph at a line.
+fn answer(alloc: Global, hex: &str, given: &str) -> Result<String, Fail> {
+    let (args, budgets) = given.split_once(" | ").ok_or("no fuel")?;
+    let text = format!(in alloc; "00 61 73 6D 01 00 00 00{hex}")?;
+    if args == "two instances" {
+        two_instances(alloc, text.as_str())
+    } else {
+        call_answer(alloc, text.as_str(), args, budgets)
     }
-    Ok(text)
+}
+
+/// The lines of a paragraph whose answers are others than wanted, each with its answer.
+fn write_differing(alloc: Global, wrong: &mut String, case: &str) -> Result<(), Fail> {
+    let (_title, rest) = case.split_once('\n').ok_or("no bytes")?;
+    let (hex, lines) = rest.split_once('\n').ok_or("no calls")?;
+    for line in lines.lines() {
+        let (given, wanted) = line.rsplit_once(" | ").ok_or("no answer")?;
+        let got = answer(alloc, hex, given)?;
+        if got.as_str() != wanted {
+            writeln!(wrong, "{line}: {got}")?;
+        }
+    }
+    Ok(())
+}
+
+/// The lines whose answers are others than wanted, each with its answer.
+fn differing(alloc: Global, cases: &str) -> Result<String, Fail> {
+    let mut wrong = String::new(alloc);
+    for case in cases.trim().split("\n\n") {
+        write_differing(alloc, &mut wrong, case)?;
+    }
+    Ok(wrong)
 }
 
 #[test]
 fn functions_run(rt: HostRuntime) -> Result<(), Fail> {
-    for case in RUNS.trim().split("\n\n") {
-        let got = answers(rt.alloc(), case)?;
-        assert_eq!(rt; got.as_str(), case);
-    }
+    assert_eq!(rt; differing(rt.alloc(), RUNS)?.as_str(), "");
     assert_eq!(rt; RUNS.trim().split("\n\n").count(), 4);
     assert_eq!(rt; RUNS.matches(" left\n").count(), 14);
+    assert_eq!(rt; RUNS.matches("\ntwo instances | ").count(), 1);
     Ok(())
 }

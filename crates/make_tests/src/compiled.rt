@@ -1,10 +1,9 @@
 //! A module of a compiler.
 
-use crate::made::is_valid_and_made;
-use std::test::Fail;
-
 /// The module of the program `data/tools.c`, whose head says how it was compiled.
-const TOOLS: &str = "
+pub(crate) const TOOLS: &str = "
+tools.c
+bytes
 0061736d0100000001540f60027f7f017f60027f7f006000017e60017f017f60000060037f7f7f0060037f7f7f017f60
 027f7f017e60027e7e017e60037e7e7e017e60017e017f60027e7f017f60017f017e60027f7e0060037f7f7f017e021a
 0204686f73740474656c6c000104686f737405636c6f636b0002032120030405050606010000070501060608090a0b08
@@ -120,9 +119,3 @@ c82703b0c77f59bff30be0c64791a7d55163ca0667292914850ab72738211b2efc6d2c4d130d3853
 4c774827b5bcb034b30c1c394aaad84e4fca9c5bf36f2e68ee828f746f63a5781478c8840802c78cfaffbe90eb6c50a4
 f7a3f9bef27871c60041800b0b08447abfcb8d403901
 ";
-
-#[test]
-fn a_compiled_module_is_valid_and_made_again(rt: HostRuntime) -> Result<(), Fail> {
-    assert!(rt; is_valid_and_made(rt.alloc(), TOOLS)?);
-    Ok(())
-}

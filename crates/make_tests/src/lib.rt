@@ -4,10 +4,8 @@
 //! these are others. Each test states how many cases it has.
 //!
 //! - `made`: from the bytes of a module to its tree, and back
-//! - `sections`: modules of each section; `instructions`: of each instruction; `longer`: modules whose bytes are more than
-//!   they need
-//! - `texts`: modules that are written in the text format too, and are valid
-//! - `compiled`: a module of a compiler, which is valid
+//! - `module_cases`: modules of each section and of each instruction, and modules whose bytes are more than they need
+//! - `texts`: modules that are written in the text format too, and are valid; `compiled`: one of a compiler
 //! - `components`: components of core modules
 //! - `laws`: the laws of the maker
 #![tactic(auto)]
@@ -17,14 +15,10 @@ mod compiled;
 #[cfg(test)]
 mod components;
 #[cfg(test)]
-mod instructions;
-#[cfg(test)]
 mod laws;
-#[cfg(test)]
-mod longer;
 #[cfg(test)]
 mod made;
 #[cfg(test)]
-mod sections;
+mod module_cases;
 #[cfg(test)]
 mod texts;

@@ -1,6 +1,7 @@
-//! Modules that are written in the text format (Core 2.0, section 6) beside their bytes.
+//! Modules that are written in the text format (Core 2.0, section 6) beside their bytes, and the module of a compiler.
 
-use crate::made::is_valid_and_made;
+use crate::compiled::TOOLS;
+use crate::made::differing_valid;
 use std::test::Fail;
 
 /// A paragraph a module: its text, and its bytes, a line for the preamble and for each section.
@@ -175,10 +176,8 @@ bytes
 
 #[test]
 fn texts_are_valid_and_made_again(rt: HostRuntime) -> Result<(), Fail> {
-    for module in MODULES.trim().split("\n\n") {
-        let (text, hex) = module.split_once("\nbytes\n").ok_or("no bytes")?;
-        assert!(rt; is_valid_and_made(rt.alloc(), hex)?, "{text}");
-    }
+    assert_eq!(rt; differing_valid(rt.alloc(), MODULES)?.as_str(), "");
     assert_eq!(rt; MODULES.trim().split("\n\n").count(), 6);
+    assert_eq!(rt; differing_valid(rt.alloc(), TOOLS)?.as_str(), "");
     Ok(())
 }

@@ -5,6 +5,10 @@ use crate::modules::{PREAMBLE, differing};
 use std::test::Fail;
 
 /// A line a module: what it is, the place of its first byte, its bytes behind the preamble, and the answer.
+///
+/// Where what it is tells the code of functions, as `type 0: get 0`, the module has two types: type 0 from two i32 to an
+/// i32, and type 1 from an i64 and an i32 to the same. The locals of its functions behind the two parameters are two i64 and
+/// an i32.
 const MODULES: &str = "
 the preamble alone | 0 | | ok
 a section without a size | 0 | 01 | 9 Truncated
@@ -224,11 +228,76 @@ a fault of a body before that of a segment of bytes | 0 | 010401600000 03020100 
 a fault of an export before that of a body | 0 | 010401600000 03020100 07050101610001 0a050103001a0b | 21 Index
 the first of two bodies with faults | 0 | 010401600000 0303020000 0a090203001a0b03001a0b | 24 Stack in 0
 the second body has a fault | 0 | 010401600000 020701016d01660000 030403000000 0a0d03040010020b03001a0b02000b | 39 Stack in 1
+a count whose type is missing, with bytes behind the section | 0 | 01 01 01 60 00 00 | 11 SectionSize
+functions behind exports | 0 | 07 01 00 03 01 00 | 11 SectionOrder
+the code section twice | 0 | 0a 01 00 0a 01 00 | 11 SectionOrder
+a section of imports behind functions | 100 | 03 01 00 02 01 00 | 111 SectionOrder
+a section of an unknown id behind code | 0 | 0a 01 00 0d 01 00 | 11 Unsupported(13)
+the id of memories behind the code section | 0 | 0a 01 00 05 | 11 SectionOrder
+a custom section whose name passes its end | 0 | 00 02 02 61 62 | 12 SectionSize
+a custom section whose name has 2^32 - 1 bytes | 0 | 00 05 ff ff ff ff 0f | 15 SectionSize
+a function without code | 20 | 03 02 01 00 | 32 Count
+a function without code, with a custom section behind it | 0 | 03 02 01 00 00 01 00 | 15 Count
+fewer bodies than functions | 0 | 03 02 01 00 0a 01 00 | 14 Count
+2^32 - 1 bodies for one function | 0 | 03 02 01 00 0a 05 ff ff ff ff 0f | 14 Count
+a body without an end, in a longer section | 0 | 03 02 01 00 0a 05 01 02 00 20 0b | 18 SectionSize
+an instruction whose index passes the end of the body | 0 | 03 02 01 00 0a 04 01 02 00 20 | 18 SectionSize
+a byte behind the end of a body | 0 | 03 02 01 00 0a 05 01 03 00 0b 0b | 18 SectionSize
+a body that passes the end of its section | 0 | 03 02 01 00 0a 04 01 05 00 0b 00 00 00 | 18 SectionSize
+50,001 locals | 0 | 03 02 01 00 0a 08 01 06 01 d1 86 03 7f 0b | 17 Limit
+50,000 locals and one | 50 | 03 02 01 00 0a 0a 01 08 02 d0 86 03 7f 01 7e 0b | 71 Limit
+2^32 - 1 locals of an unknown type | 0 | 03 02 01 00 0a 0a 01 08 01 ff ff ff ff 0f 00 0b | 17 Limit
+2^32 - 1 locals | 0 | 03 02 01 00 0a 0a 01 08 01 ff ff ff ff 0f 7f 0b | 17 Limit
+a count of 2^32 - 1 groups of locals | 0 | 03 02 01 00 0a 07 01 05 ff ff ff ff 0f | 21 SectionSize
+locals of type f64 | 0 | 03 02 01 00 0a 06 01 04 01 01 7c 0b | 18 Float
+locals without a type | 0 | 03 02 01 00 0a 04 01 02 01 01 | 18 SectionSize
+an instruction of floats | 0 | 03 02 01 00 0a 05 01 03 00 92 0b | 17 Float
+a constant of type f64 | 9 | 03 02 01 00 0a 05 01 03 00 44 0b | 26 Float
+an opcode that is not read | 0 | 03 02 01 00 0a 05 01 03 00 06 0b | 17 Unsupported(6)
+FC and the number of an instruction of floats | 0 | 03 02 01 00 0a 06 01 04 00 fc 07 0b | 18 Float
+FC and such a number in two bytes | 0 | 03 02 01 00 0a 07 01 05 00 fc 87 00 0b | 18 Float
+FC and another number | 0 | 03 02 01 00 0a 06 01 04 00 fc 08 0b | 18 Unsupported(8)
+FC and another number in two bytes | 0 | 03 02 01 00 0a 07 01 05 00 fc 88 00 0b | 18 Unsupported(136)
+FC at the end of a body | 0 | 03 02 01 00 0a 05 01 02 00 fc 0b | 18 SectionSize
+type 0: get 0, get 1, i32.add; exports `a` 0 | 0 | 010e02 60027f7f017f 60027e7f027e7f 03 02 01 00 07 05 01 01 61 00 00 0a 0d 01 0b 02 02 7e 01 7f 20 00 20 01 6a 0b | ok
+type 0: get 0, get 1; exports `a` 0 | 0 | 010e02 60027f7f017f 60027e7f027e7f 03 02 01 00 07 05 01 01 61 00 00 0a 0c 01 0a 02 02 7e 01 7f 20 00 20 01 0b | 48 Typing in 0
+type 0: get 0, i32.add; exports `a` 0 | 0 | 010e02 60027f7f017f 60027e7f027e7f 03 02 01 00 07 05 01 01 61 00 00 0a 0b 01 09 02 02 7e 01 7f 20 00 6a 0b | 46 Stack in 0
+type 0: nothing; exports `a` 0 | 0 | 010e02 60027f7f017f 60027e7f027e7f 03 02 01 00 07 05 01 01 61 00 00 0a 08 01 06 02 02 7e 01 7f 0b | 44 Stack in 0
+type 0: get 4; exports `a` 0 | 0 | 010e02 60027f7f017f 60027e7f027e7f 03 02 01 00 07 05 01 01 61 00 00 0a 0a 01 08 02 02 7e 01 7f 20 04 0b | ok
+type 0: get 3; exports `a` 0 | 0 | 010e02 60027f7f017f 60027e7f027e7f 03 02 01 00 07 05 01 01 61 00 00 0a 0a 01 08 02 02 7e 01 7f 20 03 0b | 46 Typing in 0
+type 0: get 5; exports `a` 0 | 0 | 010e02 60027f7f017f 60027e7f027e7f 03 02 01 00 07 05 01 01 61 00 00 0a 0a 01 08 02 02 7e 01 7f 20 05 0b | 44 Index in 0
+type 0: get 0, get 2, i32.add; exports `a` 0 | 0 | 010e02 60027f7f017f 60027e7f027e7f 03 02 01 00 07 05 01 01 61 00 00 0a 0d 01 0b 02 02 7e 01 7f 20 00 20 02 6a 0b | 48 Typing in 0
+type 0: get 2, i32.add; exports `a` 0 | 0 | 010e02 60027f7f017f 60027e7f027e7f 03 02 01 00 07 05 01 01 61 00 00 0a 0b 01 09 02 02 7e 01 7f 20 02 6a 0b | 46 Stack in 0
+type 0: i32.add, get 5; exports `a` 0 | 0 | 010e02 60027f7f017f 60027e7f027e7f 03 02 01 00 07 05 01 01 61 00 00 0a 0b 01 09 02 02 7e 01 7f 6a 20 05 0b | 44 Stack in 0
+type 1: get 0, get 1; exports `a` 0 | 0 | 010e02 60027f7f017f 60027e7f027e7f 03 02 01 01 07 05 01 01 61 00 00 0a 0c 01 0a 02 02 7e 01 7f 20 00 20 01 0b | ok
+type 1: get 1, get 0; exports `a` 0 | 0 | 010e02 60027f7f017f 60027e7f027e7f 03 02 01 01 07 05 01 01 61 00 00 0a 0c 01 0a 02 02 7e 01 7f 20 01 20 00 0b | 48 Typing in 0
+type 2: get 0; exports `a` 0 | 0 | 010e02 60027f7f017f 60027e7f027e7f 03 02 01 02 07 05 01 01 61 00 00 0a 0a 01 08 02 02 7e 01 7f 20 00 0b | 27 Index
+type 0: get 0; exports `a` 1 | 0 | 010e02 60027f7f017f 60027e7f027e7f 03 02 01 00 07 05 01 01 61 00 01 0a 0a 01 08 02 02 7e 01 7f 20 00 0b | 31 Index
+type 0: i32.add; exports `a` 1 | 0 | 010e02 60027f7f017f 60027e7f027e7f 03 02 01 00 07 05 01 01 61 00 01 0a 09 01 07 02 02 7e 01 7f 6a 0b | 31 Index
+type 2: i32.add; exports `a` 1 | 0 | 010e02 60027f7f017f 60027e7f027e7f 03 02 01 02 07 05 01 01 61 00 01 0a 09 01 07 02 02 7e 01 7f 6a 0b | 27 Index
+type 0: get 4294967295; exports `a` 0 | 0 | 010e02 60027f7f017f 60027e7f027e7f 03 02 01 00 07 05 01 01 61 00 00 0a 0e 01 0c 02 02 7e 01 7f 20 ff ff ff ff 0f 0b | 44 Index in 0
+type 4294967295: get 0; exports `a` 0 | 0 | 010e02 60027f7f017f 60027e7f027e7f 03 06 01 ff ff ff ff 0f 07 05 01 01 61 00 00 0a 0a 01 08 02 02 7e 01 7f 20 00 0b | 27 Index
+type 0: get 0; exports `a` 4294967295 | 0 | 010e02 60027f7f017f 60027e7f027e7f 03 02 01 00 07 09 01 01 61 00 ff ff ff ff 0f 0a 0a 01 08 02 02 7e 01 7f 20 00 0b | 31 Index
+type 0: get 0; type 0: get 0; exports `a` 0, `b` 1, `` 0 | 0 | 010e02 60027f7f017f 60027e7f027e7f 03 03 02 00 00 07 0c 03 01 61 00 00 01 62 00 01 00 00 00 0a 13 02 08 02 02 7e 01 7f 20 00 0b 08 02 02 7e 01 7f 20 00 0b | ok
+type 0: get 0; type 0: get 0; exports `a` 0, `a` 1 | 0 | 010e02 60027f7f017f 60027e7f027e7f 03 03 02 00 00 07 09 02 01 61 00 00 01 61 00 01 0a 13 02 08 02 02 7e 01 7f 20 00 0b 08 02 02 7e 01 7f 20 00 0b | 36 Name
+type 0: get 0; type 0: get 0; exports `a` 0, `b` 0, `a` 1 | 0 | 010e02 60027f7f017f 60027e7f027e7f 03 03 02 00 00 07 0d 03 01 61 00 00 01 62 00 00 01 61 00 01 0a 13 02 08 02 02 7e 01 7f 20 00 0b 08 02 02 7e 01 7f 20 00 0b | 40 Name
+type 0: get 0; type 0: get 0; exports `a` 0, `a` 2 | 0 | 010e02 60027f7f017f 60027e7f027e7f 03 03 02 00 00 07 09 02 01 61 00 00 01 61 00 02 0a 13 02 08 02 02 7e 01 7f 20 00 0b 08 02 02 7e 01 7f 20 00 0b | 36 Index
+type 0: get 0; type 0: get 0; exports `a` 2, `a` 0 | 0 | 010e02 60027f7f017f 60027e7f027e7f 03 03 02 00 00 07 09 02 01 61 00 02 01 61 00 00 0a 13 02 08 02 02 7e 01 7f 20 00 0b 08 02 02 7e 01 7f 20 00 0b | 32 Index
+type 0: get 0, i32.add; type 0: get 0, i32.add; exports `a` 0, `a` 1 | 0 | 010e02 60027f7f017f 60027e7f027e7f 03 03 02 00 00 07 09 02 01 61 00 00 01 61 00 01 0a 15 02 09 02 02 7e 01 7f 20 00 6a 0b 09 02 02 7e 01 7f 20 00 6a 0b | 36 Name
+type 0: get 0, i32.add; type 9: get 0; exports `a` 0, `a` 1 | 0 | 010e02 60027f7f017f 60027e7f027e7f 03 03 02 00 09 07 09 02 01 61 00 00 01 61 00 01 0a 14 02 09 02 02 7e 01 7f 20 00 6a 0b 08 02 02 7e 01 7f 20 00 0b | 28 Index
+type 9: get 0; type 9: get 0 | 0 | 010e02 60027f7f017f 60027e7f027e7f 03 03 02 09 09 0a 13 02 08 02 02 7e 01 7f 20 00 0b 08 02 02 7e 01 7f 20 00 0b | 27 Index
+type 0: get 0, i32.add; type 0: get 0, i32.add | 0 | 010e02 60027f7f017f 60027e7f027e7f 03 03 02 00 00 0a 15 02 09 02 02 7e 01 7f 20 00 6a 0b 09 02 02 7e 01 7f 20 00 6a 0b | 40 Stack in 0
+type 0: get 0; type 0: get 0, i32.add; exports `a` 1 | 0 | 010e02 60027f7f017f 60027e7f027e7f 03 03 02 00 00 07 05 01 01 61 00 01 0a 14 02 08 02 02 7e 01 7f 20 00 0b 09 02 02 7e 01 7f 20 00 6a 0b | 56 Stack in 1
+type 0: get 0, br 1 | 0 | 010e02 60027f7f017f 60027e7f027e7f 03 02 01 00 0a 0c 01 0a 02 02 7e 01 7f 20 00 0c 01 0b | 39 Label in 0
+a memory; type 0: get 0, i32.load with an alignment of 8 | 0 | 010e02 60027f7f017f 60027e7f027e7f 03 02 01 00 05 03 01 00 01 0a 0d 01 0b 02 02 7e 01 7f 20 00 28 03 00 0b | 44 Align in 0
+two memories | 0 | 010e02 60027f7f017f 60027e7f027e7f 05 05 02 00 01 00 01 | 29 Limit
+imports `f` of `m` of type 0; type 0: get 0, get 1, call 0; exports `a` 1 | 0 | 010e02 60027f7f017f 60027e7f027e7f 02 07 01 01 6d 01 66 00 00 03 02 01 00 07 05 01 01 61 00 01 0a 0e 01 0c 02 02 7e 01 7f 20 00 20 01 10 00 0b | ok
+type 0: get 0, i32.add; type 0: get 0; exports `a` 1 | 0 | 010e02 60027f7f017f 60027e7f027e7f 03 03 02 00 00 07 05 01 01 61 00 01 0a 14 02 09 02 02 7e 01 7f 20 00 6a 0b 08 02 02 7e 01 7f 20 00 0b | 47 Stack in 0
 ";
 
 #[test]
 fn modules_are_answered(rt: HostRuntime) -> Result<(), Fail> {
     assert_eq!(rt; differing(rt.alloc(), PREAMBLE, MODULES)?.as_str(), "");
-    assert_eq!(rt; MODULES.trim().lines().count(), 218);
+    assert_eq!(rt; MODULES.trim().lines().count(), 283);
     Ok(())
 }

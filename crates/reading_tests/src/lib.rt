@@ -1,26 +1,21 @@
-//! Tests of the layers that read and validate: core modules, components and the types that both speak of.
+//! Tests of the layer that reads components, and of the types that callers speak of. Core modules have tests of their own.
 //!
 //! A case is a line or a paragraph of a text: what is given, and the answer that is wanted. Answers are derived from the
 //! formats by hand, and each test states how many cases it has.
 //!
-//! - `module_refusals` and `component_refusals`: files that are refused, with their places and reasons
-//! - `module_readings` and `component_readings`: files that are read, with all their items and places
-//! - `validations`: modules that are read and then validated
-//! - `calls`: the calls that the others do not make, and the laws
-//! - `texts`: answers as texts
+//! - `refusal_cases`: components that are refused, with their places and reasons
+//! - `reading_cases`: components that are read, with all their items and places
+//! - `answers` and `items`: answers as texts
+//! - `calls`: the calls that the others do not make, and the law
 #![tactic(auto)]
 
 #[cfg(test)]
+mod answers;
+#[cfg(test)]
 mod calls;
 #[cfg(test)]
-mod component_readings;
+mod items;
 #[cfg(test)]
-mod component_refusals;
+mod reading_cases;
 #[cfg(test)]
-mod module_readings;
-#[cfg(test)]
-mod module_refusals;
-#[cfg(test)]
-mod texts;
-#[cfg(test)]
-mod validations;
+mod refusal_cases;
