@@ -24,7 +24,7 @@ TESTS = Path(__file__).resolve().parent.parent / "crates" / "module_tests" / "sr
 # The files of the tables, and whether their modules stand in a frame, behind the preamble, or alone.
 TABLES = {"body_cases.rt": "framed", "module_cases.rt": "behind", "file_cases.rt": "alone"}
 # How many cases there are.
-COUNT = 606
+COUNT = 671
 
 # Types from nothing to nothing, from i32 to i32, from i32 and i64 to i64 and i32, from nothing to i32, from two i32 to i32,
 # from i64 to i32, and from i32 to i32 and i64.
