@@ -1,0 +1,11 @@
+pub mod Folds
+pub mod Parts
+pub mod Equations
+pub mod Layouts
+pub mod FlatEquations
+pub mod Joins
+pub mod FitsEquations
+pub mod Letters
+pub mod TextEquations
+pub mod Separated
+pub mod WriterEquations

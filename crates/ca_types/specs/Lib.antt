@@ -1,0 +1,9 @@
+pub mod Ends
+pub mod Layout
+pub mod Limited
+pub mod Flat
+pub mod Fits
+pub mod CharText
+pub mod TypeText
+pub mod ValueText
+pub mod formers

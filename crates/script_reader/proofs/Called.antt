@@ -1,24 +1,22 @@
 -- Each item of a script calls an export, with values of its parameters' types.
-use Rattle.std.proofs.Common.{◌≡◌, ◌+◌, ◌-◌, ◌^◌, ◌<◌, ◌≤◌, ℕ, suc, Bool, true, false, cond, nat_le, nat_eq, List, [], ◌∷◌, ◌++◌, length, drop, codes, Option, Some, None, Result, Ok, Err, refl, sym, ap, subst, arith, append-nil, append_assoc, ◌⊎◌, inl, inr}
+use Rattle.std.proofs.Common.{◌≡◌, ◌+◌, ℕ, suc, Bool, true, false, List, [], ◌∷◌, ◌++◌, length, codes, Option, Some, None, Result, Ok, Err, refl, ap, subst, ◌⊎◌, inl, inr}
 use Rattle.std.specs.Bool.{if◌then◌else◌}
 use Rattle.std.specs.List.{AllByRecursion}
-use Rattle.std.specs.Option.{option_and_then, option_map}
 use Rattle.std.specs.Str.{bytes_eq}
-use Rattle.std.proofs.lemmas.Bool.{leb-true}
 use Rattle.std.proofs.lemmas.Slice.Eq.{bytes_eq-Decides}
-use Rattle.std.proofs.lemmas.Option.{option_and_then_some, cond_some, none-some, same_Some}
+use Rattle.std.proofs.lemmas.Option.{none-some, same_Some}
 use Rattle.ca_types.specs.declared.types.ValType.{ValType}
-use Rattle.ca_types.specs.declared.types.ValType.TheVariants as val_type
 use Rattle.ca_types.specs.declared.value.Value.{Value}
-use Rattle.ca_types.specs.declared.value.Value.TheVariants as value
 use Rattle.ca_types.specs.declared.exports.Export.{Export}
+use Rattle.value_reader.proofs.ReadFits.{read_arguments_fit}
 use Rattle.script_reader.specs.declared.script.Call.{Call}
 use Rattle.script_reader.specs.declared.script.Item.TheVariants as item
 use Rattle.script_reader.specs.declared.fault.ScriptWhy.{ScriptWhy}
 use Rattle.script_reader.specs.declared.fault.ScriptWhy.TheVariants as why
 use Rattle.script_reader.specs.declared.fault.ScriptFault.{ScriptFault}
 use Rattle.script_reader.specs.Laws.{ScriptsCallExports}
-use Rattle.script_reader.specs.Script.{Script, Draft, IsOfType, AreOfTypes, number, number_up_to, first_digits, u32_at, is_closed, value_at, separated, without_blanks, values_from, arguments, export_named, param_types, call_of_values, call_of_export, call_of_name, call_of, name_of, behind_name, after_mark, after, is_begun, with_fuel, with_call, fuel_of, is_skipped, add_by_word, add_line, add_others, add_lines, line_text, lines, empty_draft, script_or, too_long, not_utf8, CallsExport}
+use Rattle.script_reader.specs.Script.{Script, Draft, AreOfTypes, export_named, param_types, arguments_of, call_of_values, call_of_export, call_of_name, call_of, name_of, behind_name, after_mark, after, is_begun, with_fuel, with_call, fuel_of, is_skipped, add_by_word, add_line, add_others, add_lines, line_text, lines, empty_draft, script_or, too_long, not_utf8, CallsExport}
+use Rattle.script_reader.proofs.CallLines.{arguments_told}
 
 ok_inj : {A E : Type 0} {x y : A} → ◌≡◌ {A = Result A E} (Ok x) (Ok y) → x ≡ y
 ok_inj h = cc
@@ -26,79 +24,28 @@ ok_inj h = cc
 err_not_ok : {A E : Type 0} {e : E} {x : A} → ◌≡◌ {A = Result A E} (Err e) (Ok x) → ⊥
 err_not_ok h = cc
 
--- the value that a mapped option is of
-mapped_some : {A B : Type 0} (f : A → B) (o : Option A) (y : B) → option_map f o ≡ Some y → (x : A) × (o ≡ Some x) × (f x ≡ y)
-mapped_some f None y h = cc
-mapped_some f (Some x) y h = (x, refl, cc)
-
-none_or : {A : Type 0} (b : Bool) (o : Option A) (x : A) → cond b None o ≡ Some x → o ≡ Some x
-none_or true o x h = cc
-none_or false o x h = h
-
--- a number that is read is not above the most that it may be
-number_below : (b : Bool) (n m most : ℕ) → nat_le n most ≡ b → cond b (Some n) None ≡ Some m → m ≤ most
-number_below true n m most e h =
-    let same : n ≡ m = cc in
-    let low : n ≤ most = leb-true n most e in
-    omega arith
-number_below false n m most e h = cc
-
-u32_below : (text : List ℕ) (p : ℕ × List ℕ) → u32_at text ≡ Some p → p.0 < 2 ^ 32
-u32_below text p h =
-    let digits = first_digits text in
-    let q = mapped_some (λ n. (n, drop (length digits) text)) (number_up_to (2 ^ 32 - 1) digits) p (none_or (nat_eq (length digits) 0) _ p h) in
-    let most : q.0 ≤ 2 ^ 32 - 1 = number_below (nat_le (number digits) (2 ^ 32 - 1)) (number digits) q.0 (2 ^ 32 - 1) refl q.1 in
-    let same : q.0 ≡ p.0 = ap (λ (p : ℕ × List ℕ). p.0) q.2 in
-    omega arith
-
-value_typed : (type : ValType) (text : List ℕ) (p : Value × List ℕ) → value_at type text ≡ Some p → IsOfType type p.0
-value_typed val_type.U32 text p h =
-    let q = mapped_some (λ p. (value.U32 p.0, p.1)) (u32_at text) p h in
-    subst (λ (p : Value × List ℕ). IsOfType val_type.U32 p.0) q.2 (u32_below text q.0 q.1)
-
--- one value more
-typed_push : (types : List ValType) (values : List Value) (t : ValType) (v : Value) → AreOfTypes types values → IsOfType t v → AreOfTypes (types ++ t ∷ []) (values ++ v ∷ [])
-typed_push [] [] t v h k = (k, tt)
-typed_push [] (w ∷ values) t v h k = absurd h
-typed_push (u ∷ types) [] t v h k = absurd h
-typed_push (u ∷ types) (w ∷ values) t v h k = (h.0, typed_push types values t v h.1 k)
-
 -- There are as many values as types.
 pub as_many : (types : List ValType) (values : List Value) → AreOfTypes types values → length values ≡ length types
 as_many [] [] h = refl
 as_many [] (v ∷ values) h = absurd h
 as_many (t ∷ types) [] h = absurd h
-as_many (t ∷ types) (v ∷ values) h = ap suc (as_many types values h.1)
-
--- values of the types
-filled : (done : List ValType) (before : List Value) (types : List ValType) (text : List ℕ) (values : List Value) → AreOfTypes done before → values_from before types text ≡ Some values → AreOfTypes (done ++ types) values
-filled done before [] text values k h =
-    subst (λ (ts : List ValType). AreOfTypes ts values) (sym (append-nil done)) (subst (AreOfTypes done) ((cond_some (is_closed text) before values h).1) k)
-filled done before (t ∷ types) text values k h =
-    option_and_then_some (λ p. values_from (before ++ p.0 ∷ []) types p.1) (option_and_then (λ rest. value_at t (without_blanks rest)) (separated before text)) values h
-    (λ p found others. option_and_then_some (λ rest. value_at t (without_blanks rest)) (separated before text) p found
-    (λ rest there read.
-    let more = filled (done ++ t ∷ []) (before ++ p.0 ∷ []) types p.1 values (typed_push done before t p.0 k (value_typed t (without_blanks rest) p read)) others in
-    subst (λ (ts : List ValType). AreOfTypes ts values) (append_assoc done (t ∷ []) types) more))
-
-all_filled : (e : Export) (text : List ℕ) (values : List Value) → arguments (param_types e) text ≡ Some values → AreOfTypes (param_types e) values
-all_filled e text values h = filled [] [] (param_types e) text values tt h
+as_many (t ∷ types) (v ∷ values) h = ap suc (as_many types values h.2)
 
 -- a call
-of_values : (exports : List Export) (name : List ℕ) (e : Export) (o : Option (List Value)) (call : Call) → export_named exports name ≡ Some e → ((values : List Value) → o ≡ Some values → AreOfTypes (param_types e) values) → call_of_values name o ≡ Ok call → CallsExport exports (item.Call call)
-of_values exports name e None call named count h = absurd (err_not_ok h)
-of_values exports name e (Some values) call named count h = subst (λ c. CallsExport exports (item.Call c)) (ok_inj h) (e, named, count values refl)
+of_values : (exports : List Export) (name : List ℕ) (e : Export) (r : Result (List Value) ScriptWhy) (call : Call) → export_named exports name ≡ Some e → ((values : List Value) → r ≡ Ok values → AreOfTypes (param_types e) values) → call_of_values name r ≡ Ok call → CallsExport exports (item.Call call)
+of_values exports name e (Err w) call named count h = absurd (err_not_ok h)
+of_values exports name e (Ok values) call named count h = subst (λ c. CallsExport exports (item.Call c)) (ok_inj h) (e, named, count values refl)
 
 of_export : (exports : List Export) (name : List ℕ) (o : Option Export) (text : List ℕ) (call : Call) → export_named exports name ≡ o → call_of_export name o text ≡ Ok call → CallsExport exports (item.Call call)
 of_export exports name None text call named h = absurd (err_not_ok h)
-of_export exports name (Some e) text call named h = of_values exports name e (arguments (param_types e) text) call named (all_filled e text) h
+of_export exports name (Some e) text call named h = of_values exports name e (arguments_of e text) call named (λ values r. read_arguments_fit (param_types e) values text (arguments_told e text values r).1) h
 
-of_name : (exports : List Export) (name : List ℕ) (o : Option (List ℕ)) (call : Call) → call_of_name exports name o ≡ Ok call → CallsExport exports (item.Call call)
-of_name exports name None call h = absurd (err_not_ok h)
-of_name exports name (Some text) call h = of_export exports name (export_named exports name) text call refl h
+of_name : (exports : List Export) (name text : List ℕ) (o : Option (List ℕ)) (call : Call) → call_of_name exports name text o ≡ Ok call → CallsExport exports (item.Call call)
+of_name exports name text None call h = absurd (err_not_ok h)
+of_name exports name text (Some inner) call h = of_export exports name (export_named exports name) text call refl h
 
 calls_export : (exports : List Export) (text : List ℕ) (call : Call) → call_of exports text ≡ Ok call → CallsExport exports (item.Call call)
-calls_export exports text call h = of_name exports (name_of text) (after_mark 40 (behind_name text)) call h
+calls_export exports text call h = of_name exports (name_of text) (behind_name text) (after_mark 40 (behind_name text)) call h
 
 -- one item more
 all_push : {A : Type 0} (P : A → Type 0) (xs : List A) (x : A) → AllByRecursion P xs → P x → AllByRecursion P (xs ++ x ∷ [])

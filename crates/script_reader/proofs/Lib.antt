@@ -1,5 +1,4 @@
 pub mod AreLines
-pub mod Arguments
 pub mod CallLines
 pub mod Called
 pub mod Cases

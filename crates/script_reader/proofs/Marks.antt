@@ -1,11 +1,10 @@
 -- Blanks, and marks of one byte behind them.
-use Rattle.std.proofs.Common.{◌≡◌, ℕ, List, [], ◌∷◌, ◌++◌, length, take, drop, true, false, Some, refl, sym, ap, ◌∙◌, arith}
+use Rattle.std.proofs.Common.{◌≡◌, ℕ, List, [], ◌∷◌, ◌++◌, length, take, drop, false, Some, refl, sym, ap, ◌∙◌}
 use Rattle.std.specs.Str.{bytes_eq}
 use Rattle.std.specs.List.{prefix_len}
-use Rattle.std.proofs.lemmas.Bool.Decides.{nat_tests}
 use Rattle.std.proofs.lemmas.Slice.Eq.{bytes_eq-Decides}
 use Rattle.std.proofs.lemmas.List.{take-append-drop}
-use Rattle.script_reader.specs.Script.{is_blank, is_digit, after, after_mark, without_blanks}
+use Rattle.script_reader.specs.Script.{is_blank, after, after_mark, without_blanks}
 use Rattle.script_reader.specs.Syntax.{AreBlanks}
 use Rattle.script_reader.proofs.Fronts.{Stops, front_dropped, front_passes, front_and_rest}
 use Rattle.script_reader.proofs.Cases.{some_inj, passed_some}
@@ -24,21 +23,9 @@ mark_at mark rest =
     let same = (bytes_eq-Decides (mark ∷ []) (mark ∷ [])).1 refl in
     rw same refl
 
--- a blank is no mark, and no digit
-pub no_blank : (b : ℕ) → is_digit b ≡ true → is_blank b ≡ false
-no_blank b h = grind (arith, nat_tests)
-
-pub no_digit : (b : ℕ) → is_blank b ≡ true → is_digit b ≡ false
-no_digit b h = grind (arith, nat_tests)
-
 -- what stands behind blanks
 pub blanks_passed : (blanks rest : List ℕ) → AreBlanks blanks → Stops is_blank rest → without_blanks (blanks ++ rest) ≡ rest
 blanks_passed blanks rest a s = front_dropped is_blank blanks rest a s
-
--- no digit stands where blanks and a mark do
-pub no_digits_there : (blanks rest : List ℕ) → AreBlanks blanks → Stops is_digit rest → Stops is_digit (blanks ++ rest)
-no_digits_there [] rest a s = s
-no_digits_there (b ∷ blanks) rest a s = no_digit b a.0
 
 -- a mark, with or without blanks before it
 pub mark_told : (mark : ℕ) (text rest : List ℕ) → after_mark mark text ≡ Some rest → (blanks : List ℕ) × (text ≡ blanks ++ mark ∷ rest) × AreBlanks blanks

@@ -69,6 +69,7 @@ refuses_fuel text why.Fuel i = out_of_range text i.0 i.1 i.2
 refuses_fuel text why.Size i = absurd i
 refuses_fuel text why.Utf8 i = absurd i
 refuses_fuel text why.Export i = absurd i
+refuses_fuel text why.HostType i = absurd i
 refuses_fuel text why.Value i = absurd i
 
 pub other_fuel_is_refused : (text : List ℕ) (w : ScriptWhy) → (fuel_of text ≡ Err w) ↔ IsNoFuelOf text w

@@ -7,7 +7,8 @@ use Rattle.ca_types.specs.declared.exports.Export.{Export}
 use Rattle.script_reader.specs.declared.script.Call.{Call}
 use Rattle.script_reader.specs.declared.fault.ScriptFault.{ScriptFault}
 use Rattle.script_reader.specs.declared.fault.ScriptWhy.{ScriptWhy}
-use Rattle.script_reader.specs.Script.{Script, Draft, arguments, call_of, fuel_of, add_line, is_begun, IsScript, IsScriptRefused, CallsExport}
+use Rattle.value_reader.specs.Values.{arguments}
+use Rattle.script_reader.specs.Script.{Script, Draft, call_of, fuel_of, add_line, is_begun, IsScript, IsScriptRefused, CallsExport}
 use Rattle.script_reader.specs.Syntax.{AreArguments, IsCallOf, IsNoCallOf, IsFuelOf, IsNoFuelOf, IsNoLine, IsScriptText, IsNoScriptText}
 
 -- A text is exactly one script, or is refused at exactly one line for exactly one reason.
@@ -30,8 +31,8 @@ FirstFaultIsTold = (exports : List Export) (bytes : List ℕ) (fault : ScriptFau
 abbrev pub OtherLinesAreRefused : Type 0
 OtherLinesAreRefused = (exports : List Export) (s : Draft) (text : List ℕ) (why : ScriptWhy) → (add_line exports s text ≡ Err why) ↔ IsNoLine exports (IsTrue (is_begun s)) text why
 
--- Arguments are read exactly where the text is one of theirs: numbers below 2^32, commas and blanks between them, and a
--- closing parenthesis.
+-- Arguments are read exactly where the text is one of theirs: values of their types in parentheses, with commas and blanks
+-- between them, and nothing behind them.
 abbrev pub ArgumentsAreTexts : Type 0
 ArgumentsAreTexts = (types : List ValType) (values : List Value) (text : List ℕ) → (arguments types text ≡ Some values) ↔ AreArguments types values text
 
@@ -50,6 +51,6 @@ FuelIsALine = (text : List ℕ) (n : ℕ) → (fuel_of text ≡ Ok n) ↔ IsFuel
 abbrev pub OtherFuelIsRefused : Type 0
 OtherFuelIsRefused = (text : List ℕ) (why : ScriptWhy) → (fuel_of text ≡ Err why) ↔ IsNoFuelOf text why
 
--- Each item of a script calls an exported function, with values of its parameters' types.
+-- Each item of a script calls an exported function, with one value for each of its parameters, of its type and in range.
 abbrev pub ScriptsCallExports : Type 0
 ScriptsCallExports = (exports : List Export) (bytes : List ℕ) (s : Script) → IsScript exports bytes s → AllByRecursion (CallsExport exports) s.items

@@ -2,17 +2,19 @@
 -- types of the Component Model (Explainer.md, "Type Definitions"). A script is UTF-8. Its lines say how much fuel the run
 -- has, and which exported functions are called with which arguments, one call after the other. The lines are read in
 -- order, each behind what those before it say, and the first that is refused tells its number and the reason.
-use Rattle.std.specs.Prelude.{◌≡◌, ◌+◌, ◌-◌, ◌*◌, ◌^◌, ◌<◌, ℕ, Bool, true, false, not, ◌&&◌, ◌||◌, ◌==◌, nat_lt, nat_le, List, [], ◌∷◌, ◌++◌, length, map, take, drop, codes, if◌then◌else◌, Option, Some, None, is_some, Result, Ok, Err}
-use Rattle.std.specs.List.{list_all, find, count_by, prefix_len, suffix_len, position_or_len, take_while, before_first, slice_split}
-use Rattle.std.specs.Option.{option_map, option_map_or, option_and_then, unwrap_or}
+use Rattle.std.specs.Prelude.{◌≡◌, ◌+◌, ◌-◌, ◌*◌, ℕ, Bool, true, not, ◌&&◌, ◌||◌, ◌==◌, nat_lt, nat_le, List, [], ◌∷◌, ◌++◌, length, map, take, drop, codes, if◌then◌else◌, Option, Some, None, is_some, Result, Ok, Err}
+use Rattle.std.specs.List.{list_all, find, count_by, suffix_len, position_or_len, before_first, slice_split}
+use Rattle.std.specs.Option.{unwrap_or}
 use Rattle.std.specs.Str.{bytes_eq}
 use Rattle.std.specs.Str.Lines.{strip_carriage_return}
 use Rattle.std.specs.Str.Lossy.{utf8_valid_len}
 use Rattle.ca_types.specs.declared.types.ValType.{ValType}
-use Rattle.ca_types.specs.declared.types.ValType.TheVariants as val_type
 use Rattle.ca_types.specs.declared.value.Value.{Value}
-use Rattle.ca_types.specs.declared.value.Value.TheVariants as value
 use Rattle.ca_types.specs.declared.exports.Export.{Export}
+pub use Rattle.value_reader.specs.Tokens.{is_blank, without_blanks, after, after_mark}
+use Rattle.value_reader.specs.Values.{arguments}
+pub use Rattle.value_reader.specs.Typed.{AreOfTypes}
+use Rattle.value_reader.specs.Host.{func_has_host_type}
 use Rattle.script_reader.specs.declared.script.Call.{Call}
 use Rattle.script_reader.specs.declared.script.Item.{Item}
 use Rattle.script_reader.specs.declared.script.Item.TheVariants as item
@@ -36,27 +38,12 @@ pub record Script : Type 0 where
   pub fuel : ℕ
   pub items : List Item
 
--- Texts. A blank is a space or a tab.
-abbrev pub is_blank : ℕ → Bool
-is_blank b = b == 32 || b == 9
-
--- a text without the blanks before it, without those behind it, and without both
-abbrev pub without_blanks : List ℕ → List ℕ
-without_blanks text = drop (prefix_len is_blank text) text
-
+-- Texts: a text without blanks behind it, and without blanks at both ends.
 abbrev pub without_last_blanks : List ℕ → List ℕ
 without_last_blanks text = take (length text - suffix_len is_blank text) text
 
 abbrev pub trimmed : List ℕ → List ℕ
 trimmed text = without_last_blanks (without_blanks text)
-
--- what follows a word, where a text begins with it
-abbrev pub after : List ℕ → List ℕ → Option (List ℕ)
-after word text = if bytes_eq (take (length word) text) word then Some (drop (length word) text) else None
-
--- what follows a delimiter of one byte, with or without blanks before it
-abbrev pub after_mark : ℕ → List ℕ → Option (List ℕ)
-after_mark mark text = after (mark ∷ []) (without_blanks text)
 
 -- Lines are what stands before, between and behind the line feeds. A line's text is the line without one carriage return
 -- at its end, and then without blanks at both ends.
@@ -90,10 +77,6 @@ number_up_to most digits = if nat_le (number digits) most then Some (number digi
 abbrev pub is_number : List ℕ → Bool
 is_number text = not (length text == 0) && list_all is_digit text
 
--- the digits at the front of a text
-abbrev pub first_digits : List ℕ → List ℕ
-first_digits text = take_while is_digit text
-
 -- `fuel N`, of the text behind the word: `Form` where it is no number, `Fuel` where the number is out of range.
 abbrev pub checked_fuel : Option ℕ → Result ℕ ScriptWhy
 checked_fuel None = Err why.Fuel
@@ -102,39 +85,11 @@ checked_fuel (Some n) = if n == 0 then Err why.Fuel else Ok n
 abbrev pub fuel_of : List ℕ → Result ℕ ScriptWhy
 fuel_of text = if is_number text then checked_fuel (number_up_to fuel_limit text) else Err why.Form
 
--- Values. A value of a type at the front of a text, and what follows it: of type u32 a number that is below 2^32.
-abbrev pub u32_at : List ℕ → Option (ℕ × List ℕ)
-u32_at text =
-    if length (first_digits text) == 0 then None
-    else option_map (λ n. (n, drop (length (first_digits text)) text)) (number_up_to (2 ^ 32 - 1) (first_digits text))
-
-abbrev pub value_at : ValType → List ℕ → Option (Value × List ℕ)
-value_at val_type.U32 text = option_map (λ p. (value.U32 p.0, p.1)) (u32_at text)
-
--- what stands behind these values where another one follows: a comma, but for the first one
-abbrev pub separated : List Value → List ℕ → Option (List ℕ)
-separated [] text = Some text
-separated (v ∷ values) text = after_mark 44 text
-
--- behind the last value: a closing parenthesis, and nothing more
-abbrev pub is_closed : List ℕ → Bool
-is_closed text = option_map_or (λ rest. length rest == 0) (after_mark 41 text) false
-
--- the values of these types behind those before, and the closing parenthesis
-abbrev pub values_from : List Value → List ValType → List ℕ → Option (List Value)
-values_from before [] text = if is_closed text then Some before else None
-values_from before (t ∷ types) text =
-    option_and_then (λ p. values_from (before ++ p.0 ∷ []) types p.1)
-    (option_and_then (λ rest. value_at t (without_blanks rest)) (separated before text))
-
--- arguments of these types, of the text behind the opening parenthesis
-abbrev pub arguments : List ValType → List ℕ → Option (List Value)
-arguments types text = values_from [] types text
-
 -- `call NAME (v, ..)`, of the text behind the word. NAME ends before the first blank or opening parenthesis. `Form` where
 -- no opening parenthesis follows it, with or without blanks before it; `Export` where no function is exported under it;
--- `Value` where what follows the parenthesis is no arguments of the function's types. Of two exports of one name the
--- first is called.
+-- `HostType` where the type of the function holds a handle or the end of a stream or a future, whose values no script can
+-- write; `Value` where what follows the name is no arguments of the function's types, as `value_reader` reads them. Of two
+-- exports of one name the first is called.
 abbrev pub ends_name : ℕ → Bool
 ends_name b = is_blank b || b == 40
 
@@ -150,20 +105,28 @@ export_named exports name = find (λ e. bytes_eq e.name name) exports
 abbrev pub param_types : Export → List ValType
 param_types e = map (λ p. p.val_type) e.func_type.params
 
-abbrev pub call_of_values : List ℕ → Option (List Value) → Result Call ScriptWhy
-call_of_values name None = Err why.Value
-call_of_values name (Some values) = Ok (record { name = name; values = values })
+abbrev pub values_or : Option (List Value) → Result (List Value) ScriptWhy
+values_or None = Err why.Value
+values_or (Some values) = Ok values
+
+-- the arguments of an export, of the text behind its name
+abbrev pub arguments_of : Export → List ℕ → Result (List Value) ScriptWhy
+arguments_of e text = if func_has_host_type e.func_type then Err why.HostType else values_or (arguments (param_types e) text)
+
+abbrev pub call_of_values : List ℕ → Result (List Value) ScriptWhy → Result Call ScriptWhy
+call_of_values name (Err reason) = Err reason
+call_of_values name (Ok values) = Ok (record { name = name; values = values })
 
 abbrev pub call_of_export : List ℕ → Option Export → List ℕ → Result Call ScriptWhy
 call_of_export name None text = Err why.Export
-call_of_export name (Some e) text = call_of_values name (arguments (param_types e) text)
+call_of_export name (Some e) text = call_of_values name (arguments_of e text)
 
-abbrev pub call_of_name : List Export → List ℕ → Option (List ℕ) → Result Call ScriptWhy
-call_of_name exports name None = Err why.Form
-call_of_name exports name (Some text) = call_of_export name (export_named exports name) text
+abbrev pub call_of_name : List Export → List ℕ → List ℕ → Option (List ℕ) → Result Call ScriptWhy
+call_of_name exports name text None = Err why.Form
+call_of_name exports name text (Some inner) = call_of_export name (export_named exports name) text
 
 abbrev pub call_of : List Export → List ℕ → Result Call ScriptWhy
-call_of exports text = call_of_name exports (name_of text) (after_mark 40 (behind_name text))
+call_of exports text = call_of_name exports (name_of text) (behind_name text) (after_mark 40 (behind_name text))
 
 -- a script in the making: what the lines so far say
 pub record Draft : Type 0 where
@@ -245,16 +208,6 @@ IsScript exports bytes s = script exports bytes ≡ Ok s
 abbrev pub IsScriptRefused : List Export → List ℕ → ScriptFault → Type 0
 IsScriptRefused exports bytes fault = script exports bytes ≡ Err fault
 
--- a value is of a type; values are of types, one for each
-abbrev pub IsOfType : ValType → Value → Type 0
-IsOfType val_type.U32 (value.U32 n) = n < 2 ^ 32
-
-abbrev pub AreOfTypes : List ValType → List Value → Type 0
-AreOfTypes [] [] = Unit {0}
-AreOfTypes [] (v ∷ values) = ⊥
-AreOfTypes (t ∷ types) [] = ⊥
-AreOfTypes (t ∷ types) (v ∷ values) = IsOfType t v × AreOfTypes types values
-
--- an item calls an exported function, with values of its parameters' types
+-- An item calls an exported function, with one value for each of its parameters, which fits its type and is sound.
 abbrev pub CallsExport : List Export → Item → Type 0
 CallsExport exports (item.Call call) = (e : Export) × (export_named exports call.name ≡ Some e) × AreOfTypes (param_types e) call.values

@@ -1,14 +1,14 @@
--- How a script is written: which texts stand for a number, for arguments, for a call, for an amount of fuel, and for a
--- whole script; and at which line and for which reason other texts are refused. The format is the program's own.
--- `specs/Script` computes what these say; the laws in `specs/Laws` say that both are the same.
-use Rattle.std.specs.Prelude.{◌≡◌, ◌≢◌, ◌+◌, ◌≤◌, ◌<◌, ◌^◌, ◌⊎◌, IsTrue, ℕ, false, List, [], ◌∷◌, ◌++◌, length, codes, Some, None}
+-- How a script is written: which texts stand for a number, for a call, for an amount of fuel, and for a whole script; and
+-- at which line and for which reason other texts are refused. How arguments are written is said by `value_reader`
+-- (`specs/Written`). The format is the program's own. `specs/Script` computes what these say; the laws in `specs/Laws` say
+-- that both are the same.
+use Rattle.std.specs.Prelude.{◌≡◌, ◌≢◌, ◌+◌, ◌≤◌, ◌<◌, ◌⊎◌, IsTrue, ℕ, true, false, List, [], ◌∷◌, ◌++◌, length, codes, Some, None}
 use Rattle.std.specs.List.{join_with_byte, AllByRecursion}
 use Rattle.std.specs.Str.{IsUtf8, IsValidUpTo}
-use Rattle.ca_types.specs.declared.types.ValType.{ValType}
-use Rattle.ca_types.specs.declared.types.ValType.TheVariants as val_type
 use Rattle.ca_types.specs.declared.value.Value.{Value}
-use Rattle.ca_types.specs.declared.value.Value.TheVariants as value
 use Rattle.ca_types.specs.declared.exports.Export.{Export}
+pub use Rattle.value_reader.specs.Written.{AreBlanks, AreArguments}
+use Rattle.value_reader.specs.Host.{func_has_host_type}
 use Rattle.script_reader.specs.declared.script.Call.{Call}
 use Rattle.script_reader.specs.declared.script.Item.{Item}
 use Rattle.script_reader.specs.declared.script.Item.TheVariants as item
@@ -17,46 +17,21 @@ use Rattle.script_reader.specs.declared.fault.ScriptWhy.TheVariants as why
 use Rattle.script_reader.specs.declared.fault.ScriptFault.{ScriptFault}
 use Rattle.script_reader.specs.Script.{is_blank, is_digit, ends_name, number, export_named, param_types, size_limit, fuel_limit, default_fuel, line_at, Script}
 
--- spaces and tabs, or nothing
-abbrev pub AreBlanks : List ℕ → Type 0
-AreBlanks text = AllByRecursion (λ b. IsTrue (is_blank b)) text
-
 -- one digit or more, of this number
 abbrev pub IsNumber : List ℕ → ℕ → Type 0
 IsNumber text n = (1 ≤ length text) × AllByRecursion (λ b. IsTrue (is_digit b)) text × (n ≡ number text)
 
--- a value of a type
-abbrev pub IsValue : ValType → Value → List ℕ → Type 0
-IsValue val_type.U32 (value.U32 n) text = IsNumber text n × (n < 2 ^ 32)
+-- a name without blanks and opening parentheses, and behind it blanks and an opening parenthesis
+abbrev pub HasName : List ℕ → List ℕ → List ℕ → Type 0
+HasName text name behind =
+    (blanks : List ℕ) × (written : List ℕ) × (text ≡ name ++ behind) × (behind ≡ blanks ++ 40 ∷ written)
+    × AllByRecursion (λ b. ends_name b ≡ false) name × AreBlanks blanks
 
--- a value with blanks around it
-abbrev pub IsSpacedValue : ValType → Value → List ℕ → Type 0
-IsSpacedValue t v text =
-    (before : List ℕ) × (written : List ℕ) × (behind : List ℕ) × (text ≡ before ++ written ++ behind)
-    × AreBlanks before × IsValue t v written × AreBlanks behind
-
--- values of these types, with a comma between two
-abbrev pub AreValues : List ValType → List Value → List ℕ → Type 0
-AreValues [] [] text = AreBlanks text
-AreValues [] (v ∷ values) text = ⊥
-AreValues (t ∷ types) [] text = ⊥
-AreValues (t ∷ []) (v ∷ []) text = IsSpacedValue t v text
-AreValues (t ∷ []) (v ∷ w ∷ values) text = ⊥
-AreValues (t ∷ u ∷ types) (v ∷ []) text = ⊥
-AreValues (t ∷ u ∷ types) (v ∷ w ∷ values) text =
-    (first : List ℕ) × (others : List ℕ) × (text ≡ first ++ codes "," ++ others) × IsSpacedValue t v first × AreValues (u ∷ types) (w ∷ values) others
-
--- values of these types, and a closing parenthesis behind them
-abbrev pub AreArguments : List ValType → List Value → List ℕ → Type 0
-AreArguments types values text = (written : List ℕ) × (text ≡ written ++ codes ")") × AreValues types values written
-
--- `NAME (v, ..)`: a name without blanks and opening parentheses, which is an export's, and its arguments
+-- `NAME (v, ..)`: the name of an export whose type holds no handle and no end of a stream or a future, and its arguments
 abbrev pub IsCallOf : List Export → List ℕ → Call → Type 0
 IsCallOf exports text call =
-    (blanks : List ℕ) × (written : List ℕ) × (e : Export)
-    × (text ≡ call.name ++ blanks ++ codes "(" ++ written)
-    × AllByRecursion (λ b. ends_name b ≡ false) call.name × AreBlanks blanks
-    × (export_named exports call.name ≡ Some e) × AreArguments (param_types e) call.values written
+    (behind : List ℕ) × (e : Export) × HasName text call.name behind
+    × (export_named exports call.name ≡ Some e) × (func_has_host_type e.func_type ≡ false) × AreArguments (param_types e) call.values behind
 
 -- `N`: a number from 1 to the limit
 abbrev pub IsFuelOf : List ℕ → ℕ → Type 0
@@ -120,20 +95,18 @@ IsScriptText exports bytes s =
     × ((lines : List (List ℕ)) × (texts : List (List ℕ))
     × AreLinesOf bytes lines × ArePaired IsLineOf texts lines × SayScript exports texts s)
 
--- a name, and behind it blanks and an opening parenthesis
-abbrev pub HasName : List ℕ → List ℕ → List ℕ → Type 0
-HasName text name written =
-    (blanks : List ℕ) × (text ≡ name ++ blanks ++ codes "(" ++ written)
-    × AllByRecursion (λ b. ends_name b ≡ false) name × AreBlanks blanks
-
 -- Why a text behind the word `call` is refused: `Form` where it has no name with a parenthesis, `Export` where no function
--- is exported under the name, `Value` where what stands behind the parenthesis is no arguments of the function.
+-- is exported under the name, `HostType` where the function's type holds a handle or the end of a stream or a future,
+-- `Value` where what stands behind the name is no arguments of the function.
 abbrev pub IsNoCallOf : List Export → List ℕ → ScriptWhy → Type 0
-IsNoCallOf exports text why.Form = (name : List ℕ) (written : List ℕ) → HasName text name written → ⊥
-IsNoCallOf exports text why.Export = (name : List ℕ) × (written : List ℕ) × HasName text name written × (export_named exports name ≡ None)
+IsNoCallOf exports text why.Form = (name : List ℕ) (behind : List ℕ) → HasName text name behind → ⊥
+IsNoCallOf exports text why.Export = (name : List ℕ) × (behind : List ℕ) × HasName text name behind × (export_named exports name ≡ None)
+IsNoCallOf exports text why.HostType =
+    (name : List ℕ) × (behind : List ℕ) × (e : Export) × HasName text name behind × (export_named exports name ≡ Some e)
+    × (func_has_host_type e.func_type ≡ true)
 IsNoCallOf exports text why.Value =
-    (name : List ℕ) × (written : List ℕ) × (e : Export) × HasName text name written × (export_named exports name ≡ Some e)
-    × ((values : List Value) → AreArguments (param_types e) values written → ⊥)
+    (name : List ℕ) × (behind : List ℕ) × (e : Export) × HasName text name behind × (export_named exports name ≡ Some e)
+    × (func_has_host_type e.func_type ≡ false) × ((values : List Value) → AreArguments (param_types e) values behind → ⊥)
 IsNoCallOf exports text why.Size = ⊥
 IsNoCallOf exports text why.Utf8 = ⊥
 IsNoCallOf exports text why.Fuel = ⊥
@@ -145,6 +118,7 @@ IsNoFuelOf text why.Fuel = (n : ℕ) × IsNumber text n × ((n ≡ 0) ⊎ (fuel_
 IsNoFuelOf text why.Size = ⊥
 IsNoFuelOf text why.Utf8 = ⊥
 IsNoFuelOf text why.Export = ⊥
+IsNoFuelOf text why.HostType = ⊥
 IsNoFuelOf text why.Value = ⊥
 
 -- one of these texts says something

@@ -10,9 +10,10 @@ use crate::directory::Directory;
 use crate::fault::ScriptWhy;
 use crate::script::Call;
 use crate::text::{after_mark, is_blank};
-use crate::values::read_arguments;
 use ca_base::{MemoryOr, Name};
+use ca_types::{Export, Values};
 use std::alloc::Global;
+use value_reader::{func_has_host_type, read_arguments};
 
 /// Whether a name ends before this byte.
 fn ends_name(byte: u8) -> bool
@@ -37,6 +38,19 @@ fn name_and_rest(text: &[u8]) -> (&[u8], &[u8])
     text.split_at(name_length(text))
 }
 
+/// Reads the arguments of an export, from the text behind its name.
+fn arguments_of(alloc: Global, export: &Export, text: &[u8]) -> Result<Values, MemoryOr<ScriptWhy>>
+    ensures { MayMake (λ values. values) (scripts.arguments_of export.now text.now) result }
+{
+    if func_has_host_type(&export.func_type) {
+        return Err(MemoryOr::Fault(ScriptWhy::HostType));
+    }
+    match read_arguments(alloc, text, export.func_type.params.as_slice())? {
+        Some(values) => Ok(values),
+        None => Err(MemoryOr::Fault(ScriptWhy::Value)),
+    }
+}
+
 /// Reads a call, from the text behind the word `call` and one space.
 pub fn read_call(
     alloc: Global,
@@ -47,9 +61,9 @@ pub fn read_call(
     ensures { MayMake (λ call. call) (scripts.call_of directory.now text.now) result }
 {
     let (name, rest) = name_and_rest(text);
-    let arguments = after_mark(b'(', rest).ok_or(ScriptWhy::Form)?;
+    let _opened = after_mark(b'(', rest).ok_or(ScriptWhy::Form)?;
     let export = directory.export_named(name).ok_or(ScriptWhy::Export)?;
-    let values = read_arguments(alloc, export.func_type.params.as_slice(), arguments)?;
+    let values = arguments_of(alloc, export, rest)?;
     let name = Name::new(alloc, export.name.as_str())?;
     Ok(Call { name, values })
 }

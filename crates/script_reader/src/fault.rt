@@ -17,6 +17,8 @@ pub enum ScriptWhy {
     Fuel,
     /// No function that can be called is exported under the name.
     Export,
+    /// The function's type holds a handle, or the end of a stream or a future, whose values no script can write.
+    HostType,
     /// The arguments are no values of the parameters' types.
     Value,
 }

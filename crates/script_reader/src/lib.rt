@@ -1,15 +1,14 @@
 //! Scripts: the text that says how much fuel a run has, and which exported functions it calls, one after the other.
 //!
 //! The contract for the layer above: `read_script` answers `Ok` exactly for the text of a script (`specs/Script`), with
-//! what the script says, and else the first line that is refused, and why. A value of another type is one more case of
-//! `value_at`, and another kind of line one more case of `Draft::add_line`.
+//! what the script says, and else the first line that is refused, and why. Values are read by `value_reader`; another kind of
+//! line is one more case of `Draft::add_line`.
 //!
 //! - `script`: what a script says
 //! - `fault`: why a text is refused
 //! - `text`: blanks, words and lines
 //! - `lines`: the lines of a text
 //! - `number`: numbers
-//! - `values`: values and arguments
 //! - `directory`: the exports of a component, to be found by their names
 //! - `call`: the calls of exported functions
 //! - `draft`: a script in the making: what the lines so far say
@@ -27,7 +26,6 @@ mod number;
 mod reading;
 mod script;
 mod text;
-mod values;
 
 pub use fault::{ScriptFault, ScriptWhy};
 pub use laws::{

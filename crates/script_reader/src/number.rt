@@ -1,21 +1,14 @@
 //! Numbers.
 
 ghost use Rattle.std.specs.Prelude.{◌≡◌, IsTrue};
-ghost use Rattle.std.specs.List.{list_all, prefix_len};
+ghost use Rattle.std.specs.List.{list_all};
 ghost use Rattle.script_reader.specs.Script as scripts;
 
 /// Whether a byte is a decimal digit.
-pub fn is_digit(byte: u8) -> bool
+fn is_digit(byte: u8) -> bool
     ensures { result ≡ scripts.is_digit byte }
 {
     byte.is_ascii_digit()
-}
-
-/// How many digits stand at the front of a text.
-fn digits_before(text: &[u8]) -> usize
-    ensures { result ≡ prefix_len scripts.is_digit text.now }
-{
-    text.iter().take_while(|byte| is_digit(**byte)).count()
 }
 
 /// Whether all bytes of a text are digits.
@@ -23,15 +16,6 @@ fn are_digits(text: &[u8]) -> bool
     ensures { result ≡ list_all scripts.is_digit text.now }
 {
     text.iter().all(|byte| is_digit(*byte))
-}
-
-/// The digits at the front of a text.
-#[tactic(auto, using(crate::proofs::Digits::digits_pass))]
-pub fn first_digits(text: &[u8]) -> &[u8]
-    ensures digits { result.now ≡ scripts.first_digits text.now }
-    ensures all { IsTrue (list_all scripts.is_digit result.now) }
-{
-    &text[..digits_before(text)]
 }
 
 /// Whether a text is a number and nothing else.

@@ -32,7 +32,7 @@ fn blanks_behind(text: &[u8]) -> usize
 }
 
 /// A text without the blanks before it.
-pub fn without_blanks(text: &[u8]) -> &[u8]
+fn without_blanks(text: &[u8]) -> &[u8]
     ensures { result.now ≡ scripts.without_blanks text.now }
 {
     &text[blanks_before(text)..]

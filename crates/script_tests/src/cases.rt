@@ -6,20 +6,23 @@ use std::alloc::Global;
 use std::process::Abort;
 use std::test::Fail;
 
-/// A line an export: its name, and the labels of its parameters. Two have one name.
+/// A line an export: its name, its parameters, and behind `>` the type of its result where it is not u32. Two have one name.
 const EXPORTS: &str = "
 add: a b
 zero:
 a#b: x
 zero: x
 größe: x
+greet: name=string
+close: file=own
+listen: >stream
 ";
 
 /// How many cases there are.
-const COUNT: usize = 89;
+const COUNT: usize = 101;
 
 /// A line a case: a script, and what it says or where it is refused and why.
-const CASES: &str = r"
+const CASES: &str = r#"
  => fuel 1000000
 \n\n\n => fuel 1000000
 # a\n\n \t\n\t# b\n   => fuel 1000000
@@ -115,7 +118,20 @@ pick 1\n\ncall \xFF\n# b\n => line 3: Utf8
 call zero ()\n\xC3 => line 2: Utf8
 # \xED\xA0\x80 => line 1: Utf8
 # \xC0\x8A\n\n\xFF => line 1: Utf8
-";
+
+call greet ("a") => fuel 1000000; greet (<a>)
+call greet\t( "a, (b) # c"\t)  => fuel 1000000; greet (<a, (b) # c>)
+call greet ("a) \\", \\u{e9}") => fuel 1000000; greet (<a) ", é>)
+call greet ("a => line 1: Value
+call greet (a) => line 1: Value
+call greet (1) => line 1: Value
+call greet ("a") "b" => line 1: Value
+call close (1) => line 1: HostType
+call close (x => line 1: HostType
+call close 1 => line 1: Form
+call listen () => line 1: HostType
+call zero ()\ncall listen (\ncall add (2) => line 2: HostType
+"#;
 
 /// Reads the script of a case, and compares what comes out.
 fn compare(

@@ -1,34 +1,48 @@
 //! Exports, texts with escapes, and the outcome of a reading as text.
 
 use ca_base::{MemoryOr, Name, Seq};
-use ca_types::{Export, Exports, FuncType, Param, ValType, Value};
+use ca_types::{Export, Exports, FuncType, Param, Shared, ValType, Value};
 use script_reader::{Call, Item, Script, read_script};
 use std::alloc::{AllocError, Global};
 
-/// A function's parameters, all of type u32: their labels, with a space between two.
+/// The type of this name: `string`, `own`, `stream`, `numbers` (a list of u32), and else u32.
+fn type_named(alloc: Global, name: &str) -> Result<Shared<ValType>, AllocError> {
+    let val_type = match name {
+        "string" => ValType::String,
+        "own" => ValType::Own(0),
+        "stream" => ValType::Stream(None),
+        "numbers" => ValType::List(Shared::new(alloc, ValType::U32)?),
+        _ => ValType::U32,
+    };
+    Shared::new(alloc, val_type)
+}
+
+/// A function's parameters: their labels, with a space between two, each with `=` and its type where it is not u32.
 fn params(alloc: Global, labels: &str) -> Result<Seq<Param>, AllocError> {
     let mut params = Seq::new(alloc);
-    for label in labels.split_whitespace() {
+    for word in labels.split_whitespace() {
+        let (label, val_type) = word.split_once("=").unwrap_or((word, "u32"));
         params.push(Param {
             label: Name::new(alloc, label)?,
-            val_type: ValType::U32,
+            val_type: type_named(alloc, val_type)?,
         })?;
     }
     Ok(params)
 }
 
-/// The export of this name.
+/// The export of this name: its parameters, and behind `>` the type of its result where it is not u32.
 pub fn export(alloc: Global, name: &str, labels: &str) -> Result<Export, AllocError> {
+    let (labels, returned) = labels.split_once(">").unwrap_or((labels, "u32"));
     Ok(Export {
         name: Name::new(alloc, name)?,
         func_type: FuncType {
             params: params(alloc, labels)?,
-            result: Some(ValType::U32),
+            result: Some(type_named(alloc, returned)?),
         },
     })
 }
 
-/// The exports of a text: a line an export, its name and then the labels of its parameters.
+/// The exports of a text: a line an export, its name and then its parameters and its result.
 pub fn exports_of(alloc: Global, text: &str) -> Result<Exports, AllocError> {
     let mut exports = Seq::new(alloc);
     for line in text.lines() {
@@ -98,15 +112,25 @@ pub fn bytes_of(alloc: Global, text: &str) -> Result<Vec<u8>, AllocError> {
     Ok(bytes)
 }
 
+/// A value: a number, or a text in angle brackets.
+fn value_text(alloc: Global, value: &Value) -> Result<String, AllocError> {
+    match value {
+        Value::U32(number) => format!(in alloc; "{number}"),
+        Value::String(text) => {
+            let text = text.as_str();
+            format!(in alloc; "<{text}>")
+        }
+        _ => String::from_str(alloc, "another value"),
+    }
+}
+
 /// The values of a call, with commas between them.
 fn values_text(alloc: Global, call: &Call) -> Result<String, AllocError> {
     let mut text = String::new(alloc);
     let mut between = "";
     for value in call.values.as_slice() {
         text.push_str(between)?;
-        match value {
-            Value::U32(number) => text.push_str(format!(in alloc; "{number}")?.as_str())?,
-        }
+        text.push_str(value_text(alloc, value)?.as_str())?;
         between = ", ";
     }
     Ok(text)

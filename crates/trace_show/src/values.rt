@@ -1,13 +1,13 @@
 //! The texts of values with their types.
 
 ghost use Rattle.std.specs.Prelude.{◌≡◌, ◌++◌, OnOk};
-ghost use Rattle.value_types.specs.ValueText.{value_text};
+ghost use Rattle.ca_types.specs.ValueText.{value_text};
 ghost use Rattle.trace_show.specs.Typed.{typed_text, each_typed_text};
 
 use crate::typed::{TypedValue, TypedValues};
 use ca_base::Memory;
+use ca_types::{ValType, Value, value_text};
 use std::alloc::Global;
-use value_types::{ValType, Value, value_text};
 
 /// Appends the text of a value of a type.
 fn push_value(

@@ -2,10 +2,10 @@
 
 use crate::lines::shown;
 use ca_base::{Name, Seq};
+use ca_types::{Handle, Shared, ValType, Value, fits};
 use std::alloc::{AllocError, Global};
 use std::test::Fail;
 use trace_show::{Channel, Copied, Label, TypedValue, TypedValues};
-use value_types::{Handle, Shared, ValType, Value, fits};
 
 /// A value with its type.
 fn typed(alloc: Global, value: Value, val_type: ValType) -> Result<TypedValue, Fail> {

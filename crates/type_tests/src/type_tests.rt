@@ -2,12 +2,12 @@
 
 use crate::types::{type_of, types_of};
 use ca_base::{Name, Seq};
-use std::alloc::{AllocError, Global};
-use std::test::Fail;
-use value_types::{
+use ca_types::{
     CoreType, FlatKind, FuncType, Param, ValType, align, flat_func, flatten, has_end, size,
     type_text,
 };
+use std::alloc::{AllocError, Global};
+use std::test::Fail;
 
 /// A line a type: its size, its alignment, its core types, whether it holds an end, its text.
 const TYPES: &str = "

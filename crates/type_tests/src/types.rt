@@ -1,8 +1,8 @@
 //! Types as cases write them.
 
 use ca_base::{Name, Seq};
+use ca_types::{Case, Field, Shared, ValType};
 use std::alloc::Global;
-use value_types::{Case, Field, Shared, ValType};
 
 /// Types that later words take as their parts.
 pub type Types = Vec<Shared<ValType>>;

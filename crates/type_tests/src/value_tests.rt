@@ -2,9 +2,9 @@
 
 use crate::types::type_of;
 use crate::values::value_of;
+use ca_types::{ValType, Value, fits, value_text};
 use std::alloc::Global;
 use std::test::Fail;
-use value_types::{ValType, Value, fits, value_text};
 
 /// A line a value: its type, the value, and its text between angle brackets.
 const TEXTS: &str = r#"

@@ -1,8 +1,8 @@
 //! Values as cases write them.
 
 use ca_base::{Name, Seq};
+use ca_types::{Boxed, Handle, Value, Values};
 use std::alloc::Global;
-use value_types::{Boxed, Handle, Value, Values};
 
 /// So many values that stand before.
 fn taken(alloc: Global, count: &str, before: &mut Vec<Value>) -> Option<Values> {

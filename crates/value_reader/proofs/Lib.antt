@@ -30,3 +30,5 @@ pub mod WritableEquations
 pub mod Showing
 pub mod TypesWritten
 pub mod ReadBack
+pub mod TextsFit
+pub mod ReadFits

@@ -1,22 +1,23 @@
--- A text of a value that a script can write is not blank.
-use Rattle.std.proofs.Common.{◌≡◌, ◌∙◌, ℕ, List, [], ◌∷◌, ◌++◌, codes, true, false, get_or, map, Some, refl, sym, subst, append-nil, arith}
+-- A text is not blank, where no value of the type is written as nothing.
+use Rattle.std.proofs.Common.{◌≡◌, ◌∙◌, ◌<◌, ℕ, zero, suc, List, [], ◌∷◌, ◌++◌, length, codes, Bool, true, false, get_or, map, Option, Some, refl, sym, subst, append-nil, append_assoc, arith}
 use Rattle.std.specs.Prelude.{ℤ, pos, negsuc}
 use Rattle.std.specs.List.{slice_get}
 use Rattle.std.specs.Str.{bytes_eq}
-use Rattle.std.proofs.lemmas.Bool.{and_parts}
-use Rattle.std.proofs.lemmas.Slice.Eq.{bytes_eq-Decides}
+use Rattle.std.proofs.lemmas.Bool.{or_left, or_right}
 use Rattle.std.proofs.lemmas.List.Quantifiers.{position-Some}
-use Rattle.std.proofs.lemmas.Option.{slice_get-get_or}
-use Rattle.value_types.specs.declared.types.ValType.{ValType}
-use Rattle.value_types.specs.declared.value.Value.{Value}
+use Rattle.ca_base.specs.Names.{is_among}
+use Rattle.ca_types.specs.Ends.{some_true}
+use Rattle.ca_types.specs.declared.types.ValType.{ValType}
+use Rattle.ca_types.specs.declared.value.Value.{Value}
 use Rattle.value_reader.specs.Tokens.{is_blank}
 use Rattle.value_reader.specs.Syntax.{IsNumber, IsSigned, IsLiteral}
 use Rattle.value_reader.specs.Values.{place_of}
-use Rattle.value_reader.specs.Writable.{all_true, is_label, are_labels, is_writable}
-use Rattle.value_reader.specs.Written.{AreBlanks, case_labels, IsText, true_text, false_text, s8_text, u8_text, s16_text, u16_text, s32_text, u32_text, s64_text, u64_text, char_text, string_text, record_text, tuple_text, list_text, flags_text, enum_text, case_text, none_text, some_text, ok_text, err_text}
+use Rattle.value_reader.specs.Writable.{is_silent, may_be_silent}
+use Rattle.value_reader.specs.Written.{AreBlanks, IsLabel, IsText, IsPayload, true_text, false_text, s8_text, u8_text, s16_text, u16_text, s32_text, u32_text, s64_text, u64_text, char_text, string_text, record_text, tuple_text, list_text, flags_text, enum_text, case_text, none_text, some_text, ok_text, err_text, no_payload, payload_text}
+use Rattle.value_reader.proofs.Cases.{some_inj, none_is_no_some}
 use Rattle.value_reader.proofs.Marks.{digit_is_no_blank}
-use Rattle.value_reader.proofs.WritingLabels.{label_shows, label_at_place}
-use Rattle.value_reader.proofs.WritableEquations.{rest_writable, writable_of_enum, writable_of_variant}
+use Rattle.value_reader.proofs.WritingLabels.{or_false, label_shows}
+use Rattle.value_reader.proofs.WritableEquations.{case_silent, silent_of_enum, silent_of_variant}
 
 first_shows : (b : ℕ) (text : List ℕ) → is_blank b ≡ false → AreBlanks (b ∷ text) → ⊥
 first_shows b text h a =
@@ -34,16 +35,42 @@ signed_shows (negsuc n) text i a = first_shows 45 i.0 refl (subst AreBlanks i.1 
 literal_shows : (q : ℕ) (text content : List ℕ) → is_blank q ≡ false → IsLiteral q text content → AreBlanks text → ⊥
 literal_shows q text content h i a = first_shows q _ h (subst AreBlanks i.2 a)
 
--- a label that has a place
-placed_label : (labels : List (List ℕ)) (n : ℕ) (label : List ℕ) → are_labels labels ≡ true → place_of label labels ≡ Some n → is_label label ≡ true
-placed_label labels n label h e =
-    let place = position-Some (λ (l : List ℕ). bytes_eq l label) labels n [] e in
-    let here = get_or labels n [] in
-    let same : here ≡ label = (bytes_eq-Decides here label).0 place.1 in
-    let there : slice_get labels n ≡ Some here = slice_get-get_or labels n [] place.0 in
-    subst (λ (l : List ℕ). is_label l ≡ true) same (label_at_place labels n here h there)
+-- a label that has a place is among the labels
+among_at : (l : List ℕ) (labels : List (List ℕ)) (n : ℕ) → n < length labels → bytes_eq (get_or labels n []) l ≡ true → is_among l labels ≡ true
+among_at l [] n low h = absurd (omega (arith, low))
+among_at l (m ∷ labels) zero low h = or_left (bytes_eq m l) (is_among l labels) h
+among_at l (m ∷ labels) (suc n) low h = or_right (bytes_eq m l) (is_among l labels) (among_at l labels n (omega (arith, low)) h)
 
-pub shows : {t : ValType} {v : Value} {text : List ℕ} → IsText t v text → is_writable t ≡ true → AreBlanks text → ⊥
+placed_among : (l : List ℕ) (labels : List (List ℕ)) (n : ℕ) → place_of l labels ≡ Some n → is_among l labels ≡ true
+placed_among l labels n e =
+    let place = position-Some (λ (x : List ℕ). bytes_eq x l) labels n [] e in
+    among_at l labels n place.0 place.1
+
+enum_shows : (labels : List (List ℕ)) (n : ℕ) (label : List ℕ) → IsLabel label → place_of label labels ≡ Some n → is_among [] labels ≡ false → AreBlanks label → ⊥
+enum_shows labels n [] l place s a =
+    let among = placed_among [] labels n place in
+    cc
+enum_shows labels n (b ∷ label) l place s a = label_shows b label [] l (subst AreBlanks (sym (append-nil (b ∷ label))) a)
+
+-- a case
+mark_shows : (blanks rest : List ℕ) → AreBlanks (blanks ++ 40 ∷ rest) → ⊥
+mark_shows [] rest a = first_shows 40 rest refl a
+mark_shows (b ∷ blanks) rest a = mark_shows blanks rest a.1
+
+payload_mark : (blanks inner : List ℕ) → blanks ++ codes "(" ++ inner ++ codes ")" ≡ blanks ++ 40 ∷ (inner ++ 41 ∷ [])
+payload_mark blanks inner = simp append_assoc
+
+case_shows : (label text : List ℕ) (p : Option ValType) (v : Option Value) → IsLabel label → is_silent label p ≡ false → IsPayload p v text → AreBlanks (label ++ text) → ⊥
+case_shows [] _ _ _ l s no_payload a = cc
+case_shows [] _ _ _ l s (payload_text t v blanks text b i) a = mark_shows blanks (text ++ 41 ∷ []) (subst AreBlanks (payload_mark blanks text) a)
+case_shows (b ∷ label) text p v l s i a = label_shows b label text l a
+
+some_false_get : {A : Type 0} (f : A → Bool) (xs : List A) (n : ℕ) (x : A) → some_true (map f xs) ≡ false → slice_get xs n ≡ Some x → f x ≡ false
+some_false_get f [] n x h e = absurd (none_is_no_some x e)
+some_false_get f (y ∷ xs) zero x h e = subst (λ z. f z ≡ false) (some_inj e) (or_false (f y) (some_true (map f xs)) h).0
+some_false_get f (y ∷ xs) (suc n) x h e = some_false_get f xs n x (or_false (f y) (some_true (map f xs)) h).1 e
+
+pub shows : {t : ValType} {v : Value} {text : List ℕ} → IsText t v text → may_be_silent t ≡ false → AreBlanks text → ⊥
 shows true_text w a = first_shows 116 (codes "rue") refl a
 shows false_text w a = first_shows 102 (codes "alse") refl a
 shows (s8_text n text i r) w a = signed_shows n text i a
@@ -60,11 +87,9 @@ shows (record_text fields all text i) w a = first_shows 123 (text ++ 125 ∷ [])
 shows (tuple_text parts all text i) w a = first_shows 40 (text ++ 41 ∷ []) refl a
 shows (list_text element all text i f) w a = first_shows 91 (text ++ 93 ∷ []) refl a
 shows (flags_text labels flags text i j f) w a = first_shows 123 (text ++ 125 ∷ []) refl a
-shows (enum_text labels n label l place) w a =
-    label_shows label [] (placed_label labels n label (sym (writable_of_enum labels) ∙ w) place) (subst AreBlanks (sym (append-nil label)) a)
+shows (enum_text labels n label l place) w a = enum_shows labels n label l place (sym (silent_of_enum labels) ∙ w) a
 shows (case_text cases n c payload text l place there i) w a =
-    let both = and_parts (are_labels (case_labels cases)) (all_true (map rest_writable cases)) (sym (writable_of_variant cases) ∙ w) in
-    label_shows c.label text (placed_label (case_labels cases) n c.label both.0 place) a
+    case_shows c.label text c.payload payload l (some_false_get case_silent cases n c (sym (silent_of_variant cases) ∙ w) there) i a
 shows (none_text part) w a = first_shows 110 (codes "one") refl a
 shows (some_text part payload text i) w a = first_shows 115 (codes "ome" ++ text) refl a
 shows (ok_text ok err payload text i) w a = first_shows 111 (codes "k" ++ text) refl a

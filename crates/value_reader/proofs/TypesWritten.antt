@@ -1,36 +1,37 @@
 -- What is written for a value of a type is a text of it, for every type.
-use Rattle.std.proofs.Common.{◌≡◌, ◌∙◌, ◌⊎◌, inl, inr, ℕ, zero, suc, List, [], ◌∷◌, ◌++◌, length, map, codes, Bool, true, false, ◌&&◌, cond, get_or, nat_eq, Option, Some, None, refl, sym, ap, subst}
+use Rattle.std.proofs.Common.{◌≡◌, ◌∙◌, ◌⊎◌, inl, inr, ℕ, zero, suc, List, [], ◌∷◌, ◌++◌, length, map, codes, Bool, true, false, not, ◌&&◌, cond, get_or, nat_eq, Option, Some, None, refl, sym, ap, subst}
 use Rattle.std.specs.List.{AllByRecursion, slice_get}
 use Rattle.std.specs.Option.{option_map}
 use Rattle.std.proofs.lemmas.Bool.{and_parts, cases_Bool, eqb-true, ltb-true}
 use Rattle.std.proofs.lemmas.Option.{slice_get-get_or}
-use Rattle.value_types.specs.declared.types.ValType.{ValType, roll-ValType}
-use Rattle.value_types.specs.declared.types.Case.{Case}
-use Rattle.value_types.specs.declared.types.Field.{Field}
-use Rattle.value_types.specs.declared.types.ValType.TheViews as types
-use Rattle.value_types.specs.declared.types.ValType.TheViews.{roll-Case, roll-Field}
-use Rattle.value_types.specs.declared.types.ValType.TheVariants as leaves
-use Rattle.value_types.specs.declared.types.ValType.TheVariants.{rolls-Bool, rolls-S8, rolls-U8, rolls-S16, rolls-U16, rolls-S32, rolls-U32, rolls-S64, rolls-U64, rolls-Char, rolls-String, rolls-Record, rolls-Variant, rolls-List, rolls-Tuple, rolls-Flags, rolls-Enum, rolls-Option, rolls-Result}
-use Rattle.value_types.specs.declared.types.ValType.TheOpen as F
-use Rattle.value_types.specs.declared.types.ValType.TheFolds.{fold-roll-ValType, ind-ValType, map-ValType, map-Case, map-Field}
-use Rattle.value_types.specs.declared.value.Value.{Value, roll-Value, out-Value}
-use Rattle.value_types.specs.declared.value.Value.TheOpen as V
-use Rattle.value_types.specs.declared.value.Value.TheViews as values
-use Rattle.value_types.specs.declared.value.Value.TheVariants as plain
-use Rattle.value_types.specs.TypeText.{listed}
-use Rattle.value_types.specs.Fits.{Test, test_of, fits_step, fits_case, fits_field, payload_test, payload_passes, case_passes, is_record, is_list, is_flags, is_enum, is_variant, is_either}
-use Rattle.value_types.specs.ValueText.{Writer, Labelled, writer, writer_step, writer_case, writer_field, payload_writer, field_writer, case_writer, by_each, by_label, set_labels, payload_text, rest_text, tuple_text, list_text, flags_text, enum_text, chosen_text, variant_text, option_text, result_text, label_at}
-use Rattle.value_types.specs.ValueText.{record_text}
-use Rattle.value_types.proofs.Parts.{get_image}
-use Rattle.value_types.proofs.FitsEquations.{fits_of_tuple, fits_of_record, fits_of_variant, fits_of_result, passes_case, passes_no_case}
-use Rattle.value_types.proofs.WriterEquations.{writer_of_tuple, writer_of_record, writer_of_variant, writer_of_result, writes_case}
-use Rattle.value_reader.specs.Writable.{all_true, true_if_some, is_label, are_labels, is_writable, is_sound, writable_step, writable_case, writable_field}
+use Rattle.ca_types.specs.declared.types.ValType.{ValType, roll-ValType}
+use Rattle.ca_types.specs.declared.types.Case.{Case}
+use Rattle.ca_types.specs.declared.types.Field.{Field}
+use Rattle.ca_types.specs.declared.types.ValType.TheViews as types
+use Rattle.ca_types.specs.declared.types.ValType.TheViews.{roll-Case, roll-Field}
+use Rattle.ca_types.specs.declared.types.ValType.TheVariants as leaves
+use Rattle.ca_types.specs.declared.types.ValType.TheVariants.{rolls-Bool, rolls-S8, rolls-U8, rolls-S16, rolls-U16, rolls-S32, rolls-U32, rolls-S64, rolls-U64, rolls-Char, rolls-String, rolls-Record, rolls-Variant, rolls-List, rolls-Tuple, rolls-Flags, rolls-Enum, rolls-Option, rolls-Result}
+use Rattle.ca_types.specs.declared.types.ValType.TheOpen as F
+use Rattle.ca_types.specs.declared.types.ValType.TheFolds.{fold-roll-ValType, ind-ValType, map-ValType, map-Case, map-Field}
+use Rattle.ca_types.specs.declared.value.Value.{Value, roll-Value, out-Value}
+use Rattle.ca_types.specs.declared.value.Value.TheOpen as V
+use Rattle.ca_types.specs.declared.value.Value.TheViews as values
+use Rattle.ca_types.specs.declared.value.Value.TheVariants as plain
+use Rattle.ca_types.specs.TypeText.{listed}
+use Rattle.ca_types.specs.Fits.{Test, test_of, fits_step, fits_case, fits_field, payload_test, payload_passes, case_passes, is_record, is_list, is_flags, is_enum, is_variant, is_either}
+use Rattle.ca_types.specs.ValueText.{Writer, Labelled, writer, writer_step, writer_case, writer_field, payload_writer, field_writer, case_writer, by_each, by_label, set_labels, payload_text, rest_text, tuple_text, list_text, flags_text, enum_text, chosen_text, variant_text, option_text, result_text, label_at}
+use Rattle.ca_types.specs.ValueText.{record_text}
+use Rattle.ca_types.proofs.Parts.{get_image}
+use Rattle.ca_types.proofs.FitsEquations.{fits_of_tuple, fits_of_record, fits_of_variant, fits_of_result, passes_case, passes_no_case}
+use Rattle.ca_types.proofs.WriterEquations.{writer_of_tuple, writer_of_record, writer_of_variant, writer_of_result, writes_case}
+use Rattle.value_reader.specs.Writable.{all_true, true_if_some, is_label, are_labels, is_writable, may_be_silent, Told, told_step, told_case, told_field, is_sound}
 use Rattle.value_reader.specs.Written as written
 use Rattle.value_reader.specs.Written.{AreBlanks, bare, place_of_field, case_labels, IsText, IsPayload, no_payload}
 use Rattle.value_reader.proofs.Cases.{some_inj, cases_Option, none_is_no_some, branch_true, branch_false}
 use Rattle.value_reader.proofs.Telling.{all_get}
 use Rattle.value_reader.proofs.WritingLeaves.{by_layer, sound_layer, written_bool, written_s8, written_u8, written_s16, written_u16, written_s32, written_u32, written_s64, written_u64, written_char, written_string}
-use Rattle.value_reader.proofs.WritingLabels.{label_is_label, set_listed, set_shows, flags_of, place_found, label_at_place}
+use Rattle.ca_base.specs.Names.{is_among}
+use Rattle.value_reader.proofs.WritingLabels.{not_true, label_is_label, set_listed, set_shows, flags_of, place_found, label_at_place}
 use Rattle.value_reader.proofs.Writing.{Writes, WritesRest, listed_texts, fields_written, parts_written, elements_written, payload_written, nothing_written}
 use Rattle.value_reader.proofs.WritableEquations.{rest_writable, writable_of_tuple, writable_of_list, writable_of_option, writable_of_flags, writable_of_enum, writable_of_record, writable_of_variant, writable_of_result}
 use Rattle.value_reader.proofs.Showing.{shows}
@@ -71,7 +72,7 @@ writes_tuple parts a v h s w =
     by_layer (types.Tuple parts) (is_record (map test_of parts)) (tuple_text (map writer parts)) (fits_of_tuple parts) (writer_of_tuple parts) (layer_tuple parts a (sym (writable_of_tuple parts) ∙ w)) v h s
 
 -- Lists.
-fits_of_list : (t : ValType) (v : Value) → test_of (types.List t) v ≡ is_list (test_of t) (out-Value v)
+pub fits_of_list : (t : ValType) (v : Value) → test_of (types.List t) v ≡ is_list (test_of t) (out-Value v)
 fits_of_list t v = ap (λ (t : ValType). test_of t v) (sym (rolls-List t)) ∙ ap (λ (t : Test). t v) (fold-roll-ValType Test (Option Test) Test fits_step fits_case fits_field (F.List t))
 
 writer_of_list : (t : ValType) (v : Value) → writer (types.List t) v ≡ list_text (writer t) (out-Value v)
@@ -83,29 +84,29 @@ blank_front (b ∷ x) y a = (a.0, blank_front x y a.1)
 
 -- elements that are written show
 elements_show : (t : ValType) (all : List Value) → Writes t → is_list (test_of t) (V.List all) ≡ true → sound_layer (V.List all) ≡ true → is_writable t ≡ true
-    → AreBlanks (listed (map (writer t) all)) → all ≡ []
-elements_show t [] a h s w b = refl
-elements_show t (v ∷ all) a h s w b =
+    → may_be_silent t ≡ false → AreBlanks (listed (map (writer t) all)) → all ≡ []
+elements_show t [] a h s w n b = refl
+elements_show t (v ∷ all) a h s w n b =
     let passes = (and_parts (test_of t v) _ h).0 in
     let sound = (and_parts (is_sound v) _ s).0 in
-    absurd (shows (a v passes sound w) w (blank_front (writer t v) _ b))
+    absurd (shows (a v passes sound w) n (blank_front (writer t v) _ b))
 
-layer_list : (t : ValType) → Writes t → is_writable t ≡ true
+layer_list : (t : ValType) → Writes t → is_writable t ≡ true → may_be_silent t ≡ false
     → (o : V.Value-F Value) → is_list (test_of t) o ≡ true → sound_layer o ≡ true → IsText (types.List t) (roll-Value o) (list_text (writer t) o)
-layer_list t a w (V.List all) h s =
+layer_list t a w n (V.List all) h s =
     let texts = map (writer t) all in
     let is = listed_texts (map (λ (v : Value). bare t) all) all texts (elements_written t all a h s w) in
     subst (λ (v : Value). IsText (types.List t) v (codes "[" ++ listed texts ++ codes "]")) (sym (plain.rolls-List all))
-    (written.list_text t all (listed texts) is (elements_show t all a h s w))
-layer_list t a w o h s = cc
+    (written.list_text t all (listed texts) is (elements_show t all a h s w n))
+layer_list t a w n o h s = cc
 
 pub writes_list : (t : ValType) → Writes t → Writes (types.List t)
 writes_list t a v h s w =
-    let part = sym (writable_of_list t) ∙ w in
-    by_layer (types.List t) (is_list (test_of t)) (list_text (writer t)) (fits_of_list t) (writer_of_list t) (layer_list t a part) v h s
+    let part = and_parts (is_writable t) (not (may_be_silent t)) (sym (writable_of_list t) ∙ w) in
+    by_layer (types.List t) (is_list (test_of t)) (list_text (writer t)) (fits_of_list t) (writer_of_list t) (layer_list t a part.0 (not_true (may_be_silent t) part.1)) v h s
 
 -- Flags and enums.
-fits_of_flags : (labels : List (List ℕ)) (v : Value) → test_of (leaves.Flags labels) v ≡ is_flags (length labels) (out-Value v)
+pub fits_of_flags : (labels : List (List ℕ)) (v : Value) → test_of (leaves.Flags labels) v ≡ is_flags (length labels) (out-Value v)
 fits_of_flags labels v =
     ap (λ (t : ValType). test_of t v) (sym (rolls-Flags labels)) ∙ ap (λ (t : Test). t v) (fold-roll-ValType Test (Option Test) Test fits_step fits_case fits_field (F.Flags labels))
 
@@ -113,20 +114,21 @@ writer_of_flags : (labels : List (List ℕ)) (v : Value) → writer (leaves.Flag
 writer_of_flags labels v =
     ap (λ (t : ValType). writer t v) (sym (rolls-Flags labels)) ∙ ap (λ (w : Writer). w v) (fold-roll-ValType Writer Rest Named writer_step writer_case writer_field (F.Flags labels))
 
-layer_flags : (labels : List (List ℕ)) → are_labels labels ≡ true
+layer_flags : (labels : List (List ℕ)) → are_labels labels ≡ true → is_among [] labels ≡ false
     → (o : V.Value-F Value) → is_flags (length labels) o ≡ true → sound_layer o ≡ true → IsText (leaves.Flags labels) (roll-Value o) (flags_text labels o)
-layer_flags labels w (V.Flags flags) h s =
+layer_flags labels w n (V.Flags flags) h s =
     let text = listed (set_labels labels flags) in
     let count = eqb-true (length flags) (length labels) h in
     subst (λ (v : Value). IsText (leaves.Flags labels) v (codes "{" ++ text ++ codes "}")) (sym (plain.rolls-Flags flags))
-    (written.flags_text labels flags text (flags_of labels flags w count) (set_listed labels flags w) (set_shows labels flags w))
-layer_flags labels w o h s = cc
+    (written.flags_text labels flags text (flags_of labels flags w count) (set_listed labels flags w) (set_shows labels flags w n))
+layer_flags labels w n o h s = cc
 
 pub writes_flags : (labels : List (List ℕ)) → Writes (leaves.Flags labels)
 writes_flags labels v h s w =
-    by_layer (leaves.Flags labels) (is_flags (length labels)) (flags_text labels) (fits_of_flags labels) (writer_of_flags labels) (layer_flags labels (sym (writable_of_flags labels) ∙ w)) v h s
+    let good = and_parts (are_labels labels) (not (is_among [] labels)) (sym (writable_of_flags labels) ∙ w) in
+    by_layer (leaves.Flags labels) (is_flags (length labels)) (flags_text labels) (fits_of_flags labels) (writer_of_flags labels) (layer_flags labels good.0 (not_true (is_among [] labels) good.1)) v h s
 
-fits_of_enum : (labels : List (List ℕ)) (v : Value) → test_of (leaves.Enum labels) v ≡ is_enum (length labels) (out-Value v)
+pub fits_of_enum : (labels : List (List ℕ)) (v : Value) → test_of (leaves.Enum labels) v ≡ is_enum (length labels) (out-Value v)
 fits_of_enum labels v =
     ap (λ (t : ValType). test_of t v) (sym (rolls-Enum labels)) ∙ ap (λ (t : Test). t v) (fold-roll-ValType Test (Option Test) Test fits_step fits_case fits_field (F.Enum labels))
 
@@ -199,7 +201,7 @@ either_fits first second n p h =
           ]
     ]
 
-fits_of_option : (t : ValType) (v : Value) → test_of (types.Option t) v ≡ is_either None (Some (test_of t)) (out-Value v)
+pub fits_of_option : (t : ValType) (v : Value) → test_of (types.Option t) v ≡ is_either None (Some (test_of t)) (out-Value v)
 fits_of_option t v = ap (λ (t : ValType). test_of t v) (sym (rolls-Option t)) ∙ ap (λ (t : Test). t v) (fold-roll-ValType Test (Option Test) Test fits_step fits_case fits_field (F.Option t))
 
 writer_of_option : (t : ValType) (v : Value) → writer (types.Option t) v ≡ option_text (writer t) (out-Value v)
@@ -292,7 +294,7 @@ abbrev layer : F.ValType-F OfType OfCase OfField → F.ValType-F ValType Case Fi
 layer y = map-ValType OfType OfCase OfField ValType Case Field (λ e. e.0) (λ e. e.0) (λ e. e.0) y
 
 abbrev Chosen : Type 0
-Chosen = Labelled Bool
+Chosen = Labelled Told
 
 writes_step : (y : F.ValType-F OfType OfCase OfField) → Writes (roll-ValType (layer y))
 writes_step F.Bool = writes_at _ leaves.Bool rolls-Bool (leaf leaves.Bool written_bool)
@@ -327,10 +329,10 @@ writes_step (F.Result (Some o) None) =
 writes_step (F.Result (Some o) (Some e)) =
     writes_at (roll-ValType (F.Result (Some o.0) (Some e.0))) (types.Result (Some o.0) (Some e.0)) (rolls-Result (Some o.0) (Some e.0))
     (writes_result (Some o.0) (Some e.0) (payload_written o.0 o.1) (payload_written e.0 e.1))
-writes_step (F.Own n) = unwritten (roll-ValType (F.Own n)) (fold-roll-ValType Bool Chosen Bool writable_step writable_case writable_field (F.Own n))
-writes_step (F.Borrow n) = unwritten (roll-ValType (F.Borrow n)) (fold-roll-ValType Bool Chosen Bool writable_step writable_case writable_field (F.Borrow n))
-writes_step (F.Stream e) = unwritten (roll-ValType (layer (F.Stream e))) (fold-roll-ValType Bool Chosen Bool writable_step writable_case writable_field (layer (F.Stream e)))
-writes_step (F.Future e) = unwritten (roll-ValType (layer (F.Future e))) (fold-roll-ValType Bool Chosen Bool writable_step writable_case writable_field (layer (F.Future e)))
+writes_step (F.Own n) = unwritten (roll-ValType (F.Own n)) (ap (λ (k : Told). k.writable) (fold-roll-ValType Told Chosen Bool told_step told_case told_field (F.Own n)))
+writes_step (F.Borrow n) = unwritten (roll-ValType (F.Borrow n)) (ap (λ (k : Told). k.writable) (fold-roll-ValType Told Chosen Bool told_step told_case told_field (F.Borrow n)))
+writes_step (F.Stream e) = unwritten (roll-ValType (layer (F.Stream e))) (ap (λ (k : Told). k.writable) (fold-roll-ValType Told Chosen Bool told_step told_case told_field (layer (F.Stream e))))
+writes_step (F.Future e) = unwritten (roll-ValType (layer (F.Future e))) (ap (λ (k : Told). k.writable) (fold-roll-ValType Told Chosen Bool told_step told_case told_field (layer (F.Future e))))
 
 writes_case_step : (y : F.Case-F OfType OfCase OfField) → WritesCase (roll-Case (map-Case OfType OfCase OfField ValType Case Field (λ e. e.0) (λ e. e.0) (λ e. e.0) y))
 writes_case_step y =

@@ -1,78 +1,106 @@
--- What it says of a type with parts that a script can write its values.
-use Rattle.std.proofs.Common.{◌≡◌, ◌∙◌, ℕ, List, [], ◌∷◌, map, Bool, ◌&&◌, Option, Some, None, refl, sym, ap}
+-- What it says of a type with parts that a script can write its values, and that one of them is written as nothing.
+use Rattle.std.proofs.Common.{◌≡◌, ◌∙◌, ℕ, List, [], ◌∷◌, map, Bool, not, ◌&&◌, Option, Some, None, refl, sym, ap}
 use Rattle.std.specs.Option.{option_map}
-use Rattle.value_types.specs.declared.types.ValType.{ValType}
-use Rattle.value_types.specs.declared.types.Case.{Case}
-use Rattle.value_types.specs.declared.types.Field.{Field}
-use Rattle.value_types.specs.declared.types.ValType.TheViews as types
-use Rattle.value_types.specs.declared.types.ValType.TheVariants as leaves
-use Rattle.value_types.specs.declared.types.ValType.TheOpen as F
-use Rattle.value_types.specs.declared.types.ValType.TheFolds.{fold-Case, fold-Field, fold-roll-ValType}
-use Rattle.value_types.specs.declared.types.ValType.TheVariants.{rolls-Tuple, rolls-Record, rolls-Variant, rolls-Result, rolls-List, rolls-Option, rolls-Flags, rolls-Enum}
-use Rattle.value_types.proofs.Folds.{held, fold_case, fold_field, fold_result}
-use Rattle.value_types.proofs.Parts.{map_alike}
-use Rattle.value_types.specs.ValueText.{Labelled}
-use Rattle.value_reader.specs.Writable.{all_true, true_if_some, is_label, are_labels, is_writable, writable_step, writable_case, writable_field}
+use Rattle.ca_base.specs.Names.{is_among}
+use Rattle.ca_types.specs.declared.types.ValType.{ValType}
+use Rattle.ca_types.specs.declared.types.Case.{Case}
+use Rattle.ca_types.specs.declared.types.Field.{Field}
+use Rattle.ca_types.specs.declared.types.ValType.TheViews as types
+use Rattle.ca_types.specs.declared.types.ValType.TheVariants as leaves
+use Rattle.ca_types.specs.declared.types.ValType.TheOpen as F
+use Rattle.ca_types.specs.declared.types.ValType.TheFolds.{fold-Case, fold-Field, fold-roll-ValType}
+use Rattle.ca_types.specs.declared.types.ValType.TheVariants.{rolls-Tuple, rolls-Record, rolls-Variant, rolls-Result, rolls-List, rolls-Option, rolls-Flags, rolls-Enum}
+use Rattle.ca_types.specs.Ends.{some_true}
+use Rattle.ca_types.proofs.Folds.{held, fold_case, fold_field, fold_result}
+use Rattle.ca_types.proofs.Parts.{map_alike}
+use Rattle.ca_types.specs.ValueText.{Labelled}
+use Rattle.value_reader.specs.Writable.{all_true, true_if_some, is_label, are_labels, Told, told, told_step, told_case, told_field, payload_writable, is_silent, is_writable, may_be_silent}
 use Rattle.value_reader.specs.Written.{case_labels}
 
 abbrev OfCase : Type 0
-OfCase = Labelled Bool
+OfCase = Labelled Told
+
+parts_writable : (parts : List ValType) → map (λ (p : Told). p.writable) (map told parts) ≡ map is_writable parts
+parts_writable [] = refl
+parts_writable (t ∷ parts) = ap (λ (l : List Bool). is_writable t ∷ l) (parts_writable parts)
 
 pub writable_of_tuple : (parts : List ValType) → is_writable (types.Tuple parts) ≡ all_true (map is_writable parts)
-writable_of_tuple parts = ap is_writable (sym (rolls-Tuple parts)) ∙ fold-roll-ValType Bool OfCase Bool writable_step writable_case writable_field (F.Tuple parts)
+writable_of_tuple parts = ap (λ (k : Told). k.writable) (ap told (sym (rolls-Tuple parts)) ∙ fold-roll-ValType Told OfCase Bool told_step told_case told_field (F.Tuple parts)) ∙ ap all_true (parts_writable parts)
 
-pub writable_of_list : (element : ValType) → is_writable (types.List element) ≡ is_writable element
-writable_of_list element = ap is_writable (sym (rolls-List element)) ∙ fold-roll-ValType Bool OfCase Bool writable_step writable_case writable_field (F.List element)
+pub writable_of_list : (element : ValType) → is_writable (types.List element) ≡ (is_writable element && not (may_be_silent element))
+writable_of_list element = ap (λ (k : Told). k.writable) (ap told (sym (rolls-List element)) ∙ fold-roll-ValType Told OfCase Bool told_step told_case told_field (F.List element))
 
 pub writable_of_option : (part : ValType) → is_writable (types.Option part) ≡ is_writable part
-writable_of_option part = ap is_writable (sym (rolls-Option part)) ∙ fold-roll-ValType Bool OfCase Bool writable_step writable_case writable_field (F.Option part)
+writable_of_option part = ap (λ (k : Told). k.writable) (ap told (sym (rolls-Option part)) ∙ fold-roll-ValType Told OfCase Bool told_step told_case told_field (F.Option part))
 
-pub writable_of_flags : (labels : List (List ℕ)) → is_writable (leaves.Flags labels) ≡ are_labels labels
-writable_of_flags labels = ap is_writable (sym (rolls-Flags labels)) ∙ fold-roll-ValType Bool OfCase Bool writable_step writable_case writable_field (F.Flags labels)
+pub writable_of_flags : (labels : List (List ℕ)) → is_writable (leaves.Flags labels) ≡ (are_labels labels && not (is_among [] labels))
+writable_of_flags labels = ap (λ (k : Told). k.writable) (ap told (sym (rolls-Flags labels)) ∙ fold-roll-ValType Told OfCase Bool told_step told_case told_field (F.Flags labels))
 
 pub writable_of_enum : (labels : List (List ℕ)) → is_writable (leaves.Enum labels) ≡ are_labels labels
-writable_of_enum labels = ap is_writable (sym (rolls-Enum labels)) ∙ fold-roll-ValType Bool OfCase Bool writable_step writable_case writable_field (F.Enum labels)
+writable_of_enum labels = ap (λ (k : Told). k.writable) (ap told (sym (rolls-Enum labels)) ∙ fold-roll-ValType Told OfCase Bool told_step told_case told_field (F.Enum labels))
 
-held_map : (p : Option ValType) → held is_writable p ≡ option_map is_writable p
-held_map (Some p) = refl
-held_map None = refl
+pub silent_of_enum : (labels : List (List ℕ)) → may_be_silent (leaves.Enum labels) ≡ is_among [] labels
+silent_of_enum labels = ap (λ (k : Told). k.silent) (ap told (sym (rolls-Enum labels)) ∙ fold-roll-ValType Told OfCase Bool told_step told_case told_field (F.Enum labels))
+
+-- Cases and fields.
+held_writable : (p : Option ValType) → payload_writable (held told p) ≡ true_if_some (option_map is_writable p)
+held_writable (Some p) = refl
+held_writable None = refl
+
+held_silent : (label : List ℕ) (p : Option ValType) → is_silent label (held told p) ≡ is_silent label p
+held_silent [] (Some p) = refl
+held_silent [] None = refl
+held_silent (b ∷ label) p = refl
 
 abbrev pub rest_writable : Case → Bool
 rest_writable c = true_if_some (option_map is_writable c.payload)
 
-abbrev case_writable : Case → OfCase
-case_writable c = record { label = c.label; rest = rest_writable c }
+abbrev pub case_silent : Case → Bool
+case_silent c = is_silent c.label c.payload
 
-of_field : (f : Field) → fold-Field Bool OfCase Bool writable_step writable_case writable_field f ≡ (is_label f.label && is_writable f.val_type)
-of_field = fold_field Bool OfCase Bool writable_step writable_case writable_field
+abbrev case_told : Case → OfCase
+case_told c = record { label = c.label; rest = record { writable = rest_writable c; silent = case_silent c } }
 
-of_case : (c : Case) → fold-Case Bool OfCase Bool writable_step writable_case writable_field c ≡ case_writable c
+of_field : (f : Field) → fold-Field Told OfCase Bool told_step told_case told_field f ≡ (is_label f.label && is_writable f.val_type)
+of_field = fold_field Told OfCase Bool told_step told_case told_field
+
+of_case : (c : Case) → fold-Case Told OfCase Bool told_step told_case told_field c ≡ case_told c
 of_case c =
-    fold_case Bool OfCase Bool writable_step writable_case writable_field c
-    ∙ ap (λ (p : Option Bool). let l : OfCase = record { label = c.label; rest = true_if_some p } in l) (held_map c.payload)
+    fold_case Told OfCase Bool told_step told_case told_field c
+    ∙ ap (λ (b : Bool). let l : OfCase = record { label = c.label; rest = record { writable = b; silent = is_silent c.label (held told c.payload) } } in l) (held_writable c.payload)
+    ∙ ap (λ (b : Bool). let l : OfCase = record { label = c.label; rest = record { writable = rest_writable c; silent = b } } in l) (held_silent c.label c.payload)
 
 pub writable_of_record : (fields : List Field) → is_writable (types.Record fields) ≡ all_true (map (λ (f : Field). is_label f.label && is_writable f.val_type) fields)
 writable_of_record fields =
-    ap is_writable (sym (rolls-Record fields)) ∙ fold-roll-ValType Bool OfCase Bool writable_step writable_case writable_field (F.Record fields)
-    ∙ ap all_true (map_alike _ _ of_field fields)
+    ap (λ (k : Told). k.writable) (ap told (sym (rolls-Record fields)) ∙ fold-roll-ValType Told OfCase Bool told_step told_case told_field (F.Record fields)) ∙ ap all_true (map_alike _ _ of_field fields)
 
-labels_of : (cases : List Case) → map (λ (c : OfCase). c.label) (map case_writable cases) ≡ case_labels cases
+labels_of : (cases : List Case) → map (λ (c : OfCase). c.label) (map case_told cases) ≡ case_labels cases
 labels_of [] = refl
 labels_of (c ∷ cases) = ap (λ (l : List (List ℕ)). c.label ∷ l) (labels_of cases)
 
-rests_of : (cases : List Case) → map (λ (c : OfCase). c.rest) (map case_writable cases) ≡ map rest_writable cases
+rests_of : (cases : List Case) → map (λ (c : OfCase). c.rest.writable) (map case_told cases) ≡ map rest_writable cases
 rests_of [] = refl
 rests_of (c ∷ cases) = ap (λ (l : List Bool). rest_writable c ∷ l) (rests_of cases)
 
+silents_of : (cases : List Case) → map (λ (c : OfCase). c.rest.silent) (map case_told cases) ≡ map case_silent cases
+silents_of [] = refl
+silents_of (c ∷ cases) = ap (λ (l : List Bool). case_silent c ∷ l) (silents_of cases)
+
 pub writable_of_variant : (cases : List Case) → is_writable (types.Variant cases) ≡ (are_labels (case_labels cases) && all_true (map rest_writable cases))
 writable_of_variant cases =
-    ap is_writable (sym (rolls-Variant cases)) ∙ fold-roll-ValType Bool OfCase Bool writable_step writable_case writable_field (F.Variant cases)
-    ∙ ap (λ (cs : List OfCase). are_labels (map (λ (c : OfCase). c.label) cs) && all_true (map (λ (c : OfCase). c.rest) cs)) (map_alike _ _ of_case cases)
-    ∙ ap (λ (l : List (List ℕ)). are_labels l && all_true (map (λ (c : OfCase). c.rest) (map case_writable cases))) (labels_of cases)
+    ap (λ (k : Told). k.writable) (ap told (sym (rolls-Variant cases)) ∙ fold-roll-ValType Told OfCase Bool told_step told_case told_field (F.Variant cases))
+    ∙ ap (λ (cs : List OfCase). are_labels (map (λ (c : OfCase). c.label) cs) && all_true (map (λ (c : OfCase). c.rest.writable) cs)) (map_alike _ _ of_case cases)
+    ∙ ap (λ (l : List (List ℕ)). are_labels l && all_true (map (λ (c : OfCase). c.rest.writable) (map case_told cases))) (labels_of cases)
     ∙ ap (λ (l : List Bool). are_labels (case_labels cases) && all_true l) (rests_of cases)
+
+pub silent_of_variant : (cases : List Case) → may_be_silent (types.Variant cases) ≡ some_true (map case_silent cases)
+silent_of_variant cases =
+    ap (λ (k : Told). k.silent) (ap told (sym (rolls-Variant cases)) ∙ fold-roll-ValType Told OfCase Bool told_step told_case told_field (F.Variant cases))
+    ∙ ap (λ (cs : List OfCase). some_true (map (λ (c : OfCase). c.rest.silent) cs)) (map_alike _ _ of_case cases)
+    ∙ ap some_true (silents_of cases)
 
 pub writable_of_result : (ok err : Option ValType) → is_writable (types.Result ok err) ≡ (true_if_some (option_map is_writable ok) && true_if_some (option_map is_writable err))
 writable_of_result ok err =
-    ap is_writable (sym (rolls-Result ok err)) ∙ fold_result Bool OfCase Bool writable_step writable_case writable_field ok err
-    ∙ ap (λ (p : Option Bool). true_if_some p && true_if_some (held is_writable err)) (held_map ok)
-    ∙ ap (λ (p : Option Bool). true_if_some (option_map is_writable ok) && true_if_some p) (held_map err)
+    ap is_writable (sym (rolls-Result ok err)) ∙ ap (λ (k : Told). k.writable) (fold_result Told OfCase Bool told_step told_case told_field ok err)
+    ∙ ap (λ (b : Bool). b && payload_writable (held told err)) (held_writable ok)
+    ∙ ap (λ (b : Bool). true_if_some (option_map is_writable ok) && b) (held_writable err)

@@ -1,41 +1,39 @@
 -- Labels and flags as they are written.
-use Rattle.std.proofs.Common.{◌≡◌, ◌≢◌, ◌∙◌, inl, inr, ℕ, zero, suc, List, [], ◌∷◌, ◌++◌, length, codes, Bool, true, false, not, ◌&&◌, ◌||◌, nat_lt, Some, refl, sym, ap, subst, append_assoc, append-nil, lt-ltb, arith}
+use Rattle.std.proofs.Common.{◌≡◌, ◌≢◌, ◌∙◌, inl, inr, ℕ, zero, suc, List, [], ◌∷◌, ◌++◌, length, codes, Bool, true, false, not, ◌&&◌, ◌||◌, nat_eq, nat_lt, Some, refl, sym, ap, subst, append_assoc, append-nil, lt-ltb, arith}
 use Rattle.std.specs.List.{AllByRecursion, slice_get, position_or_len, flat_map}
 use Rattle.std.specs.Str.{bytes_eq}
 use Rattle.std.proofs.lemmas.Bool.{and_parts, cases_Bool}
 use Rattle.std.proofs.lemmas.Option.{slice_get_within}
 use Rattle.std.proofs.lemmas.Slice.Eq.{bytes_eq-Decides}
 use Rattle.ca_base.specs.Names.{is_among}
-use Rattle.value_types.specs.TypeText.{listed}
-use Rattle.value_types.specs.ValueText.{set_labels}
+use Rattle.ca_types.specs.TypeText.{listed}
+use Rattle.ca_types.specs.ValueText.{set_labels}
 use Rattle.value_reader.specs.Tokens.{is_blank, ends_label}
 use Rattle.value_reader.specs.Values.{place_of}
-use Rattle.value_reader.specs.Writable.{goes_on, is_label, are_labels}
+use Rattle.value_reader.specs.Writable.{is_label, are_labels}
 use Rattle.value_reader.specs.Written.{AreBlanks, IsLabel, IsSpacedLabel, AreLabels, IsNotNext, AreFlags}
 use Rattle.value_reader.proofs.Cases.{some_inj}
 use Rattle.value_reader.proofs.Marks.{label_byte}
 
 -- Labels that a script can write.
-not_true : (b : Bool) → not b ≡ true → b ≡ false
+pub not_true : (b : Bool) → not b ≡ true → b ≡ false
 not_true true h = cc
 not_true false h = refl
 
-label_goes : (l : List ℕ) → goes_on l ≡ true → IsLabel l
-label_goes [] h = tt
-label_goes (b ∷ l) h =
-    let both = and_parts (not (ends_label b)) (goes_on l) h in
-    (not_true (ends_label b) both.0, label_goes l both.1)
+pub or_false : (a b : Bool) → (a || b) ≡ false → (a ≡ false) × (b ≡ false)
+or_false true b h = cc
+or_false false b h = (refl, h)
 
 pub label_is_label : (l : List ℕ) → is_label l ≡ true → IsLabel l
-label_is_label [] h = cc
-label_is_label (b ∷ l) h = label_goes (b ∷ l) h
+label_is_label [] h = tt
+label_is_label (b ∷ l) h =
+    let both = and_parts (not (ends_label b || nat_eq b 10)) (is_label l) h in
+    ((or_false (ends_label b) (nat_eq b 10) (not_true (ends_label b || nat_eq b 10) both.0)).0, label_is_label l both.1)
 
--- such a label is not blank, whatever stands behind it
-pub label_shows : (l text : List ℕ) → is_label l ≡ true → AreBlanks (l ++ text) → ⊥
-label_shows [] text h a = cc
-label_shows (b ∷ l) text h a =
-    let label = label_goes (b ∷ l) h in
-    let no = label_byte b label.0 in
+-- a label with bytes is not blank, whatever stands behind it
+pub label_shows : (b : ℕ) (l text : List ℕ) → IsLabel (b ∷ l) → AreBlanks ((b ∷ l) ++ text) → ⊥
+label_shows b l text i a =
+    let no = label_byte b i.0 in
     let yes : is_blank b ≡ true = a.0 in
     cc
 
@@ -82,18 +80,30 @@ labels_listed (l ∷ m ∷ ls) a =
 pub set_listed : (labels : List (List ℕ)) (flags : List Bool) → are_labels labels ≡ true → AreLabels (set_labels labels flags) (listed (set_labels labels flags))
 set_listed labels flags h = labels_listed (set_labels labels flags) (good_set labels flags h)
 
-good_shows : (ls : List (List ℕ)) → AreGood ls → AreBlanks (listed ls) → ls ≡ []
-good_shows [] a b = refl
-good_shows (l ∷ ls) a b = absurd (label_shows l _ a.0 b)
+-- labels with bytes
+abbrev HaveBytes : List (List ℕ) → Type 0
+HaveBytes ls = AllByRecursion (λ (l : List ℕ). bytes_eq l [] ≡ false) ls
 
-pub set_shows : (labels : List (List ℕ)) (flags : List Bool) → are_labels labels ≡ true → AreBlanks (listed (set_labels labels flags)) → set_labels labels flags ≡ []
-set_shows labels flags h = good_shows (set_labels labels flags) (good_set labels flags h)
+set_bytes : (labels : List (List ℕ)) (flags : List Bool) → is_among [] labels ≡ false → HaveBytes (set_labels labels flags)
+set_bytes [] flags h = tt
+set_bytes (l ∷ labels) [] h = tt
+set_bytes (l ∷ labels) (true ∷ flags) h =
+    let both = or_false (bytes_eq l []) (is_among [] labels) h in
+    (both.0, set_bytes labels flags both.1)
+set_bytes (l ∷ labels) (false ∷ flags) h = set_bytes labels flags (or_false (bytes_eq l []) (is_among [] labels) h).1
+
+good_shows : (ls : List (List ℕ)) → AreGood ls → HaveBytes ls → AreBlanks (listed ls) → ls ≡ []
+good_shows [] a c b = refl
+good_shows ([] ∷ ls) a c b =
+    let same : bytes_eq [] [] ≡ true = (bytes_eq-Decides [] []).1 refl in
+    let no : bytes_eq [] [] ≡ false = c.0 in
+    cc
+good_shows ((d ∷ l) ∷ ls) a c b = absurd (label_shows d l _ (label_is_label (d ∷ l) a.0) b)
+
+pub set_shows : (labels : List (List ℕ)) (flags : List Bool) → are_labels labels ≡ true → is_among [] labels ≡ false → AreBlanks (listed (set_labels labels flags)) → set_labels labels flags ≡ []
+set_shows labels flags h n = good_shows (set_labels labels flags) (good_set labels flags h) (set_bytes labels flags n)
 
 -- Flags.
-or_false : (a b : Bool) → (a || b) ≡ false → (a ≡ false) × (b ≡ false)
-or_false true b h = cc
-or_false false b h = (refl, h)
-
 differs : (m l : List ℕ) → bytes_eq m l ≡ false → l ≢ m
 differs m l h = λ e. (let yes : bytes_eq m l ≡ true = (bytes_eq-Decides m l).1 (sym e) in cc)
 

@@ -6,19 +6,19 @@ use Rattle.std.specs.Char.{encode_utf8, IsScalar}
 use Rattle.std.specs.Str.{IsUtf8, chars, all_scalars}
 use Rattle.std.proofs.lemmas.Bool.{and_parts, leb-true}
 use Rattle.std.proofs.lemmas.Str.{IsUtf8-from_is_utf8, encodes-chars, scalars-chars}
-use Rattle.value_types.specs.declared.types.ValType.{ValType}
-use Rattle.value_types.specs.declared.types.ValType.TheVariants as leaves
-use Rattle.value_types.specs.declared.types.ValType.TheVariants.{rolls-Bool, rolls-S8, rolls-U8, rolls-S16, rolls-U16, rolls-S32, rolls-U32, rolls-S64, rolls-U64, rolls-Char, rolls-String}
-use Rattle.value_types.specs.declared.types.ValType.TheOpen as F
-use Rattle.value_types.specs.declared.types.ValType.TheFolds.{fold-roll-ValType}
-use Rattle.value_types.specs.declared.value.Value.{Value, roll-Value, out-Value}
-use Rattle.value_types.specs.declared.value.Value.TheOpen as V
-use Rattle.value_types.specs.declared.value.Value.TheViews.{the_lemmas}
-use Rattle.value_types.specs.declared.value.Value.TheVariants as plain
-use Rattle.value_types.specs.declared.value.Value.TheFolds.{fold_out-Value, map-Value}
-use Rattle.value_types.specs.CharText.{quoted, quoted_chars}
-use Rattle.value_types.specs.Fits.{Test, test_of, fits_step, fits_case, fits_field, is_bool, is_s8, is_u8, is_s16, is_u16, is_s32, is_u32, is_s64, is_u64, is_char, is_string}
-use Rattle.value_types.specs.ValueText.{Writer, Labelled, writer, writer_step, writer_case, writer_field, plain_text}
+use Rattle.ca_types.specs.declared.types.ValType.{ValType}
+use Rattle.ca_types.specs.declared.types.ValType.TheVariants as leaves
+use Rattle.ca_types.specs.declared.types.ValType.TheVariants.{rolls-Bool, rolls-S8, rolls-U8, rolls-S16, rolls-U16, rolls-S32, rolls-U32, rolls-S64, rolls-U64, rolls-Char, rolls-String}
+use Rattle.ca_types.specs.declared.types.ValType.TheOpen as F
+use Rattle.ca_types.specs.declared.types.ValType.TheFolds.{fold-roll-ValType}
+use Rattle.ca_types.specs.declared.value.Value.{Value, roll-Value, out-Value}
+use Rattle.ca_types.specs.declared.value.Value.TheOpen as V
+use Rattle.ca_types.specs.declared.value.Value.TheViews.{the_lemmas}
+use Rattle.ca_types.specs.declared.value.Value.TheVariants as plain
+use Rattle.ca_types.specs.declared.value.Value.TheFolds.{fold_out-Value, map-Value}
+use Rattle.ca_types.specs.CharText.{quoted, quoted_chars}
+use Rattle.ca_types.specs.Fits.{Test, test_of, fits_step, fits_case, fits_field, is_bool, is_s8, is_u8, is_s16, is_u16, is_s32, is_u32, is_s64, is_u64, is_char, is_string}
+use Rattle.ca_types.specs.ValueText.{Writer, Labelled, writer, writer_step, writer_case, writer_field, plain_text}
 use Rattle.value_reader.specs.Syntax.{IsNumber, IsSigned, IsInRange, IsLiteral}
 use Rattle.value_reader.specs.Writable.{is_within, sound_step, is_sound}
 use Rattle.value_reader.specs.Written.{IsText, true_text, false_text, s8_text, u8_text, s16_text, u16_text, s32_text, u32_text, s64_text, u64_text, char_text, string_text}
@@ -43,67 +43,67 @@ Rest = Labelled (Option Writer)
 abbrev Named : Type 0
 Named = Labelled Writer
 
-fits_of_bool : (v : Value) → test_of leaves.Bool v ≡ is_bool (out-Value v)
+pub fits_of_bool : (v : Value) → test_of leaves.Bool v ≡ is_bool (out-Value v)
 fits_of_bool v = ap (λ (t : ValType). test_of t v) (sym rolls-Bool) ∙ ap (λ (t : Test). t v) (fold-roll-ValType Test (Option Test) Test fits_step fits_case fits_field F.Bool)
 
 writer_of_bool : (v : Value) → writer leaves.Bool v ≡ plain_text (out-Value v)
 writer_of_bool v = ap (λ (t : ValType). writer t v) (sym rolls-Bool) ∙ ap (λ (w : Writer). w v) (fold-roll-ValType Writer Rest Named writer_step writer_case writer_field F.Bool)
 
-fits_of_s8 : (v : Value) → test_of leaves.S8 v ≡ is_s8 (out-Value v)
+pub fits_of_s8 : (v : Value) → test_of leaves.S8 v ≡ is_s8 (out-Value v)
 fits_of_s8 v = ap (λ (t : ValType). test_of t v) (sym rolls-S8) ∙ ap (λ (t : Test). t v) (fold-roll-ValType Test (Option Test) Test fits_step fits_case fits_field F.S8)
 
 writer_of_s8 : (v : Value) → writer leaves.S8 v ≡ plain_text (out-Value v)
 writer_of_s8 v = ap (λ (t : ValType). writer t v) (sym rolls-S8) ∙ ap (λ (w : Writer). w v) (fold-roll-ValType Writer Rest Named writer_step writer_case writer_field F.S8)
 
-fits_of_u8 : (v : Value) → test_of leaves.U8 v ≡ is_u8 (out-Value v)
+pub fits_of_u8 : (v : Value) → test_of leaves.U8 v ≡ is_u8 (out-Value v)
 fits_of_u8 v = ap (λ (t : ValType). test_of t v) (sym rolls-U8) ∙ ap (λ (t : Test). t v) (fold-roll-ValType Test (Option Test) Test fits_step fits_case fits_field F.U8)
 
 writer_of_u8 : (v : Value) → writer leaves.U8 v ≡ plain_text (out-Value v)
 writer_of_u8 v = ap (λ (t : ValType). writer t v) (sym rolls-U8) ∙ ap (λ (w : Writer). w v) (fold-roll-ValType Writer Rest Named writer_step writer_case writer_field F.U8)
 
-fits_of_s16 : (v : Value) → test_of leaves.S16 v ≡ is_s16 (out-Value v)
+pub fits_of_s16 : (v : Value) → test_of leaves.S16 v ≡ is_s16 (out-Value v)
 fits_of_s16 v = ap (λ (t : ValType). test_of t v) (sym rolls-S16) ∙ ap (λ (t : Test). t v) (fold-roll-ValType Test (Option Test) Test fits_step fits_case fits_field F.S16)
 
 writer_of_s16 : (v : Value) → writer leaves.S16 v ≡ plain_text (out-Value v)
 writer_of_s16 v = ap (λ (t : ValType). writer t v) (sym rolls-S16) ∙ ap (λ (w : Writer). w v) (fold-roll-ValType Writer Rest Named writer_step writer_case writer_field F.S16)
 
-fits_of_u16 : (v : Value) → test_of leaves.U16 v ≡ is_u16 (out-Value v)
+pub fits_of_u16 : (v : Value) → test_of leaves.U16 v ≡ is_u16 (out-Value v)
 fits_of_u16 v = ap (λ (t : ValType). test_of t v) (sym rolls-U16) ∙ ap (λ (t : Test). t v) (fold-roll-ValType Test (Option Test) Test fits_step fits_case fits_field F.U16)
 
 writer_of_u16 : (v : Value) → writer leaves.U16 v ≡ plain_text (out-Value v)
 writer_of_u16 v = ap (λ (t : ValType). writer t v) (sym rolls-U16) ∙ ap (λ (w : Writer). w v) (fold-roll-ValType Writer Rest Named writer_step writer_case writer_field F.U16)
 
-fits_of_s32 : (v : Value) → test_of leaves.S32 v ≡ is_s32 (out-Value v)
+pub fits_of_s32 : (v : Value) → test_of leaves.S32 v ≡ is_s32 (out-Value v)
 fits_of_s32 v = ap (λ (t : ValType). test_of t v) (sym rolls-S32) ∙ ap (λ (t : Test). t v) (fold-roll-ValType Test (Option Test) Test fits_step fits_case fits_field F.S32)
 
 writer_of_s32 : (v : Value) → writer leaves.S32 v ≡ plain_text (out-Value v)
 writer_of_s32 v = ap (λ (t : ValType). writer t v) (sym rolls-S32) ∙ ap (λ (w : Writer). w v) (fold-roll-ValType Writer Rest Named writer_step writer_case writer_field F.S32)
 
-fits_of_u32 : (v : Value) → test_of leaves.U32 v ≡ is_u32 (out-Value v)
+pub fits_of_u32 : (v : Value) → test_of leaves.U32 v ≡ is_u32 (out-Value v)
 fits_of_u32 v = ap (λ (t : ValType). test_of t v) (sym rolls-U32) ∙ ap (λ (t : Test). t v) (fold-roll-ValType Test (Option Test) Test fits_step fits_case fits_field F.U32)
 
 writer_of_u32 : (v : Value) → writer leaves.U32 v ≡ plain_text (out-Value v)
 writer_of_u32 v = ap (λ (t : ValType). writer t v) (sym rolls-U32) ∙ ap (λ (w : Writer). w v) (fold-roll-ValType Writer Rest Named writer_step writer_case writer_field F.U32)
 
-fits_of_s64 : (v : Value) → test_of leaves.S64 v ≡ is_s64 (out-Value v)
+pub fits_of_s64 : (v : Value) → test_of leaves.S64 v ≡ is_s64 (out-Value v)
 fits_of_s64 v = ap (λ (t : ValType). test_of t v) (sym rolls-S64) ∙ ap (λ (t : Test). t v) (fold-roll-ValType Test (Option Test) Test fits_step fits_case fits_field F.S64)
 
 writer_of_s64 : (v : Value) → writer leaves.S64 v ≡ plain_text (out-Value v)
 writer_of_s64 v = ap (λ (t : ValType). writer t v) (sym rolls-S64) ∙ ap (λ (w : Writer). w v) (fold-roll-ValType Writer Rest Named writer_step writer_case writer_field F.S64)
 
-fits_of_u64 : (v : Value) → test_of leaves.U64 v ≡ is_u64 (out-Value v)
+pub fits_of_u64 : (v : Value) → test_of leaves.U64 v ≡ is_u64 (out-Value v)
 fits_of_u64 v = ap (λ (t : ValType). test_of t v) (sym rolls-U64) ∙ ap (λ (t : Test). t v) (fold-roll-ValType Test (Option Test) Test fits_step fits_case fits_field F.U64)
 
 writer_of_u64 : (v : Value) → writer leaves.U64 v ≡ plain_text (out-Value v)
 writer_of_u64 v = ap (λ (t : ValType). writer t v) (sym rolls-U64) ∙ ap (λ (w : Writer). w v) (fold-roll-ValType Writer Rest Named writer_step writer_case writer_field F.U64)
 
-fits_of_char : (v : Value) → test_of leaves.Char v ≡ is_char (out-Value v)
+pub fits_of_char : (v : Value) → test_of leaves.Char v ≡ is_char (out-Value v)
 fits_of_char v = ap (λ (t : ValType). test_of t v) (sym rolls-Char) ∙ ap (λ (t : Test). t v) (fold-roll-ValType Test (Option Test) Test fits_step fits_case fits_field F.Char)
 
 writer_of_char : (v : Value) → writer leaves.Char v ≡ plain_text (out-Value v)
 writer_of_char v = ap (λ (t : ValType). writer t v) (sym rolls-Char) ∙ ap (λ (w : Writer). w v) (fold-roll-ValType Writer Rest Named writer_step writer_case writer_field F.Char)
 
-fits_of_string : (v : Value) → test_of leaves.String v ≡ is_string (out-Value v)
+pub fits_of_string : (v : Value) → test_of leaves.String v ≡ is_string (out-Value v)
 fits_of_string v = ap (λ (t : ValType). test_of t v) (sym rolls-String) ∙ ap (λ (t : Test). t v) (fold-roll-ValType Test (Option Test) Test fits_step fits_case fits_field F.String)
 
 writer_of_string : (v : Value) → writer leaves.String v ≡ plain_text (out-Value v)

@@ -3,17 +3,20 @@ use Rattle.std.specs.Prelude.{◌≡◌, IsTrue, ◌≢◌, ◌≤◌, ◌<◌, 
 use Rattle.std.specs.Fmt.{decimal, signed_decimal}
 use Rattle.std.specs.Char.{IsScalar}
 use Rattle.std.specs.Str.{IsUtf8}
-use Rattle.value_types.specs.CharText.{quoted, quoted_chars}
+use Rattle.ca_types.specs.CharText.{quoted, quoted_chars}
 use Rattle.value_reader.specs.Tokens.{is_digit, unsigned_at, signed_at}
 use Rattle.value_reader.specs.Quoted.{literal_at, string_at, char_at}
-use Rattle.value_types.specs.declared.types.ValType.{ValType}
-use Rattle.value_types.specs.declared.value.Value.{Value}
-use Rattle.value_reader.specs.Values.{read_value, arguments}
-use Rattle.value_types.specs.declared.types.ValType.TheViews as view
-use Rattle.value_types.specs.declared.value.Value.TheViews as values
-use Rattle.value_types.specs.Fits.{fits}
-use Rattle.value_types.specs.ValueText.{value_text}
+use Rattle.ca_types.specs.declared.types.ValType.{ValType, out-ValType}
+use Rattle.ca_types.specs.declared.types.ValType.TheOpen.{ValType-F}
+use Rattle.ca_types.specs.declared.value.Value.{Value}
+use Rattle.value_reader.specs.Values.{reader, read_value, arguments}
+use Rattle.ca_types.specs.declared.types.ValType.TheViews as view
+use Rattle.ca_types.specs.declared.value.Value.TheViews as values
+use Rattle.ca_types.specs.declared.value.Value.TheVariants as plain
+use Rattle.ca_types.specs.Fits.{fits}
+use Rattle.ca_types.specs.ValueText.{value_text}
 use Rattle.value_reader.specs.Writable.{is_writable, is_sound}
+use Rattle.value_reader.specs.Typed.{AreOfTypes}
 use Rattle.value_reader.specs.Written.{IsWholeText, AreArguments}
 use Rattle.value_reader.specs.Syntax.{IsNumber, IsSigned, IsInRange, BeginsWithout, IsLiteral}
 
@@ -79,3 +82,17 @@ CallsAreReadBack =
     (types : List ValType) (all : List Value)
     → IsTrue (is_writable (view.Tuple types)) → IsTrue (fits (values.Record all) (view.Tuple types)) → IsTrue (is_sound (values.Record all))
     → arguments types (value_text (values.Record all) (view.Tuple types)) ≡ Some all
+
+-- What is read of a type fits it, and is sound.
+abbrev pub ReadValuesFit : Type 0
+ReadValuesFit = (type : ValType) (v : Value) (text rest : List ℕ) → reader type text ≡ Some (v, rest) → IsTrue (fits v type) × IsTrue (is_sound v)
+
+-- The same of arguments.
+abbrev pub ReadArgumentsFit : Type 0
+ReadArgumentsFit = (types : List ValType) (all : List Value) (text : List ℕ) → arguments types text ≡ Some all → AreOfTypes types all
+
+-- A sound value of an unsigned integer of 32 bits is a number below 2^32.
+abbrev pub SoundValuesAreSmall : Type 0
+SoundValuesAreSmall =
+    (type : ValType) (v : Value)
+    → out-ValType type ≡ ValType-F.U32 → IsTrue (fits v type) → IsTrue (is_sound v) → (n : ℕ) × (plain.U32 n ≡ v) × (n < 2 ^ 32)

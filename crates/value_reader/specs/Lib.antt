@@ -6,4 +6,5 @@ pub mod Host
 pub mod Syntax
 pub mod Written
 pub mod Writable
+pub mod Typed
 pub mod Laws

@@ -1,14 +1,16 @@
--- Which types have values that a script can write: those without handles and ends of streams and futures, whose labels are
--- such as a script has. And which values are sound: each number is within its width, each character is a Unicode scalar
+-- Which types have values that a script can write, each as no other value is written: those without handles and ends of
+-- streams and futures, whose labels are such as a script has (Component Model, Explainer.md, "Type Definitions"; the format
+-- is the program's own). And which values are sound: each number is within its width, each character is a Unicode scalar
 -- value, each text is UTF-8. Every value of the program is sound.
-use Rattle.std.specs.Prelude.{ℕ, ℤ, pos, negsuc, ◌&&◌, Bool, true, false, not, nat_le, List, [], ◌∷◌, map, Option, Some, None}
+use Rattle.std.specs.Prelude.{ℕ, ℤ, pos, negsuc, ◌==◌, ◌&&◌, ◌||◌, Bool, true, false, not, nat_le, List, [], ◌∷◌, map, Option, Some, None}
 use Rattle.std.specs.Str.{is_utf8, all_scalars}
 use Rattle.ca_base.specs.Names.{is_among}
-use Rattle.value_types.specs.declared.types.ValType.{ValType, fold-ValType}
-use Rattle.value_types.specs.declared.types.ValType.TheOpen.{ValType-F, Field-F, Case-F}
-use Rattle.value_types.specs.declared.value.Value.{Value, fold-Value}
-use Rattle.value_types.specs.declared.value.Value.TheOpen.{Value-F}
-use Rattle.value_types.specs.ValueText.{Labelled}
+use Rattle.ca_types.specs.declared.types.ValType.{ValType, fold-ValType}
+use Rattle.ca_types.specs.declared.types.ValType.TheOpen.{ValType-F, Field-F, Case-F}
+use Rattle.ca_types.specs.declared.value.Value.{Value, fold-Value}
+use Rattle.ca_types.specs.declared.value.Value.TheOpen.{Value-F}
+use Rattle.ca_types.specs.Ends.{some_true}
+use Rattle.ca_types.specs.ValueText.{Labelled}
 use Rattle.value_reader.specs.Tokens.{ends_label}
 
 -- all of these
@@ -21,45 +23,71 @@ abbrev pub true_if_some : Option Bool → Bool
 true_if_some (Some b) = b
 true_if_some None = true
 
--- A label has one byte or more, and no blanks, brackets, commas, colons and quotes.
-abbrev pub goes_on : List ℕ → Bool
-goes_on [] = true
-goes_on (b ∷ label) = not (ends_label b) && goes_on label
-
+-- A label has no blanks, brackets, commas, colons and quotes, at which it would end, and no line feed, at which its line
+-- would. One without bytes is written as nothing.
 abbrev pub is_label : List ℕ → Bool
-is_label [] = false
-is_label (b ∷ label) = goes_on (b ∷ label)
+is_label [] = true
+is_label (b ∷ label) = not (ends_label b || b == 10) && is_label label
 
 -- labels, no two of them equal
 abbrev pub are_labels : List (List ℕ) → Bool
 are_labels [] = true
 are_labels (l ∷ labels) = is_label l && not (is_among l labels) && are_labels labels
 
--- A type, where it is known of its parts whether a script can write their values.
-abbrev pub writable_step : ValType-F Bool (Labelled Bool) Bool → Bool
-writable_step (ValType-F.Record fields) = all_true fields
-writable_step (ValType-F.Variant cases) = are_labels (map (λ (c : Labelled Bool). c.label) cases) && all_true (map (λ (c : Labelled Bool). c.rest) cases)
-writable_step (ValType-F.List element) = element
-writable_step (ValType-F.Tuple parts) = all_true parts
-writable_step (ValType-F.Flags labels) = are_labels labels
-writable_step (ValType-F.Enum labels) = are_labels labels
-writable_step (ValType-F.Option part) = part
-writable_step (ValType-F.Result ok err) = true_if_some ok && true_if_some err
-writable_step (ValType-F.Own resource) = false
-writable_step (ValType-F.Borrow resource) = false
-writable_step (ValType-F.Stream element) = false
-writable_step (ValType-F.Future element) = false
-writable_step _ = true
+-- what is told of a type: whether a script can write its values, and whether one of them is written as nothing
+pub record Told : Type 0 where
+  pub writable : Bool
+  pub silent : Bool
 
-abbrev pub writable_case : Case-F Bool (Labelled Bool) Bool → Labelled Bool
-writable_case c = record { label = c.label; rest = true_if_some c.payload }
+-- a type whose values are never written as nothing
+abbrev pub spoken : Bool → Told
+spoken writable = record { writable = writable; silent = false }
 
-abbrev pub writable_field : Field-F Bool (Labelled Bool) Bool → Bool
-writable_field f = is_label f.label && f.val_type
+abbrev pub payload_writable : Option Told → Bool
+payload_writable (Some told) = told.writable
+payload_writable None = true
 
--- whether a script can write a type's values
+-- a case that is written as nothing: one without a label and without a payload
+abbrev pub is_silent : {A : Type 0} → List ℕ → Option A → Bool
+is_silent [] None = true
+is_silent [] (Some payload) = false
+is_silent (b ∷ label) payload = false
+
+-- A type, where this is told of its parts. Where the one element of a list is written as nothing, the list looks like one
+-- without elements; and so do flags where the one that is set is written as nothing.
+abbrev pub told_step : ValType-F Told (Labelled Told) Bool → Told
+told_step (ValType-F.Record fields) = spoken (all_true fields)
+told_step (ValType-F.Variant cases) = record {
+  writable = are_labels (map (λ (c : Labelled Told). c.label) cases) && all_true (map (λ (c : Labelled Told). c.rest.writable) cases);
+  silent = some_true (map (λ (c : Labelled Told). c.rest.silent) cases);
+}
+told_step (ValType-F.List element) = spoken (element.writable && not element.silent)
+told_step (ValType-F.Tuple parts) = spoken (all_true (map (λ (p : Told). p.writable) parts))
+told_step (ValType-F.Flags labels) = spoken (are_labels labels && not (is_among [] labels))
+told_step (ValType-F.Enum labels) = record { writable = are_labels labels; silent = is_among [] labels }
+told_step (ValType-F.Option part) = spoken part.writable
+told_step (ValType-F.Result ok err) = spoken (payload_writable ok && payload_writable err)
+told_step (ValType-F.Own resource) = spoken false
+told_step (ValType-F.Borrow resource) = spoken false
+told_step (ValType-F.Stream element) = spoken false
+told_step (ValType-F.Future element) = spoken false
+told_step _ = spoken true
+
+abbrev pub told_case : Case-F Told (Labelled Told) Bool → Labelled Told
+told_case c = record { label = c.label; rest = record { writable = payload_writable c.payload; silent = is_silent c.label c.payload } }
+
+abbrev pub told_field : Field-F Told (Labelled Told) Bool → Bool
+told_field f = is_label f.label && f.val_type.writable
+
+abbrev pub told : ValType → Told
+told = fold-ValType Told (Labelled Told) Bool told_step told_case told_field
+
+-- whether a script can write a type's values, and whether one of them is written as nothing
 abbrev pub is_writable : ValType → Bool
-is_writable = fold-ValType Bool (Labelled Bool) Bool writable_step writable_case writable_field
+is_writable type = (told type).writable
+
+abbrev pub may_be_silent : ValType → Bool
+may_be_silent type = (told type).silent
 
 -- a number that is within a range
 abbrev pub is_within : ℕ → ℤ → Bool

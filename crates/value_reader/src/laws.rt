@@ -1,6 +1,6 @@
 //! What holds of the format alone.
 
-ghost use Rattle.value_reader.specs.Laws.{NumbersAreTexts, SignedAreTexts, LiteralsAreTexts, ValuesAreTexts, ArgumentsAreTexts, TextsAreOneValue, TextsAreOneCall, NumbersAreReadBack, SignedAreReadBack, TextsAreReadBack, CharsAreReadBack, ValuesAreReadBack, CallsAreReadBack};
+ghost use Rattle.value_reader.specs.Laws.{NumbersAreTexts, SignedAreTexts, LiteralsAreTexts, ValuesAreTexts, ArgumentsAreTexts, TextsAreOneValue, TextsAreOneCall, NumbersAreReadBack, SignedAreReadBack, TextsAreReadBack, CharsAreReadBack, ValuesAreReadBack, CallsAreReadBack, ReadValuesFit, ReadArgumentsFit, SoundValuesAreSmall};
 
 /// A number is read exactly where it is written: one decimal digit or more, and none behind them.
 pub fn numbers_are_texts()
@@ -58,7 +58,9 @@ pub fn chars_are_read_back()
 {}
 
 /// What `value_text` writes for a value that fits its type is read as that value, where a script can write the type's
-/// values: it holds no handle, stream or future, and its labels have no blanks, brackets, commas, colons and quotes.
+/// values: it holds no handle, stream or future, and its labels have no blanks, brackets, commas, colons, quotes and line
+/// feeds. A label may be empty, but for one of flags, or one that is all that stands for an element of a list: there the
+/// text is that of no flag, or of a list without elements.
 pub fn values_are_read_back()
     ensures { ValuesAreReadBack }
 {}
@@ -66,4 +68,19 @@ pub fn values_are_read_back()
 /// What `value_text` writes for the arguments of a call, as one tuple, is read as these arguments.
 pub fn calls_are_read_back()
     ensures { CallsAreReadBack }
+{}
+
+/// What is read of a type fits it, and each number, character and text in it is in its range.
+pub fn read_values_fit()
+    ensures { ReadValuesFit }
+{}
+
+/// Arguments that are read are as many as the types, and each fits its type and is in its range.
+pub fn read_arguments_fit()
+    ensures { ReadArgumentsFit }
+{}
+
+/// A value of an unsigned integer of 32 bits that is in its range is a number below 2^32.
+pub fn sound_values_are_small()
+    ensures { SoundValuesAreSmall }
 {}

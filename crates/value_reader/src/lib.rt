@@ -29,8 +29,9 @@ mod values;
 pub use host::{func_has_host_type, has_host_type};
 pub use laws::{
     arguments_are_texts, calls_are_read_back, chars_are_read_back, literals_are_texts,
-    numbers_are_read_back, numbers_are_texts, signed_numbers_are_read_back,
-    signed_numbers_are_texts, texts_are_one_call, texts_are_one_value, texts_are_read_back,
-    values_are_read_back, values_are_texts,
+    numbers_are_read_back, numbers_are_texts, read_arguments_fit, read_values_fit,
+    signed_numbers_are_read_back, signed_numbers_are_texts, sound_values_are_small,
+    texts_are_one_call, texts_are_one_value, texts_are_read_back, values_are_read_back,
+    values_are_texts,
 };
 pub use reading::{read_arguments, read_value};

@@ -2,11 +2,11 @@
 
 use crate::driver::unbracketed;
 use ca_base::{Name, Seq};
+use ca_types::{FuncType, Param, ValType, Value, value_text};
 use std::alloc::Global;
 use std::test::Fail;
 use type_tests::types::{type_of, types_of};
 use value_reader::{func_has_host_type, has_host_type, read_arguments};
-use value_types::{FuncType, Param, ValType, Value, value_text};
 
 /// A line a text of arguments that are read: the types of the parameters, the text, and the text of the arguments.
 const READ: &str = r#"

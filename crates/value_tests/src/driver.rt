@@ -1,11 +1,11 @@
 //! What is read of a text, written as traces write it.
 
+use ca_types::{ValType, fits, value_text};
 use std::alloc::Global;
 use std::process::Abort;
 use std::test::Fail;
 use type_tests::types::type_of;
 use value_reader::read_value;
-use value_types::{ValType, fits, value_text};
 
 /// A text without the angle brackets around it, and with a tab for each `~`.
 pub fn unbracketed(alloc: Global, text: &str) -> Result<Vec<u8>, Fail> {

@@ -35,6 +35,20 @@ result__ | <err> | <err>
 u8 result*_ | <err> | <err>
 char result_* | <err('x')> | <err('x')>
 char result_* | <ok> | <ok>
+enum:,a | <> | <>
+enum:,a | < ~> | <>
+enum:,a | <a> | <a>
+enum:,a list | <[]> | <[]>
+enum:,a list | <[ ]> | <[]>
+enum:,a list | <[,]> | <[, ]>
+enum:,a list | <[a, ,a]> | <[a, , a]>
+enum:,a option | <some()> | <some()>
+enum:,a tuple/1 | <()> | <()>
+u8 variant:*,b | <(7)> | <(7)>
+u8 record: | <{: 5}> | <{: 5}>
+flags:,a | <{}> | <{}>
+flags:,a | <{a}> | <{a}>
+flags:,a | <{,a}> | <{, a}>
 "#;
 
 /// A line a text that is refused: a type and the text.
@@ -100,18 +114,23 @@ borrow:1 | <borrow R1:5>
 stream | <stream S1>
 u8 future* | <future F1>
 own:1 list | <[5]>
+enum:,a | <,>
+enum:a,b list | <[,]>
+flags:,a | <{a,}>
+u8 variant:*,b | <()>
+u8 record: | <{5}>
 "#;
 
 #[test]
 fn labels_that_are_read(rt: HostRuntime) -> Result<(), Fail> {
     let cases = all_read(&rt, rt.alloc(), READ)?;
-    assert_eq!(rt; cases, 30);
+    assert_eq!(rt; cases, 44);
     Ok(())
 }
 
 #[test]
 fn labels_that_are_refused(rt: HostRuntime) -> Result<(), Fail> {
     let cases = all_refused(&rt, rt.alloc(), REFUSED)?;
-    assert_eq!(rt; cases, 61);
+    assert_eq!(rt; cases, 66);
     Ok(())
 }

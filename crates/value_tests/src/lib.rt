@@ -7,6 +7,7 @@
 //! - `numbers`, `quoted`, `parts`, `labels`: texts that are read, and texts that are refused
 //! - `calls`: arguments, and types that no script can write
 //! - `limits`: long texts
+//! - `laws`: what holds of the format alone
 #![tactic(auto)]
 
 #[cfg(test)]
@@ -15,6 +16,8 @@ mod calls;
 mod driver;
 #[cfg(test)]
 mod labels;
+#[cfg(test)]
+mod laws;
 #[cfg(test)]
 mod limits;
 #[cfg(test)]

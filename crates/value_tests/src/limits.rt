@@ -1,10 +1,10 @@
 //! Long texts.
 
+use ca_types::Value;
 use std::alloc::Global;
 use std::test::Fail;
 use type_tests::types::type_of;
 use value_reader::read_value;
-use value_types::Value;
 
 /// A text that repeats a part so often between two others.
 fn repeated(alloc: Global, first: &str, part: &str, last: &str) -> Result<String, Fail> {

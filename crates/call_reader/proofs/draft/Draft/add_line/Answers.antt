@@ -1,6 +1,0 @@
-use Rattle.std.proofs.Common.{rules}
-use Rattle.call_reader.proofs.Pieces.{call_is_utf8}
-use Rattle.call_reader.proofs.draft.Draft.add_line.Goals as goal
-
-pub add_call-requires : goal.add_call-requires
-add_call-requires c = call_is_utf8 c.args.text.now c.in_ok-call.call.now c.requires (search rules)

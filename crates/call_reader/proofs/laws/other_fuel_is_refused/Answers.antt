@@ -1,5 +1,0 @@
-use Rattle.call_reader.proofs.OtherFuel.{other_fuel_is_refused}
-use Rattle.call_reader.proofs.laws.other_fuel_is_refused.Goals as goal
-
-pub returns : goal.returns
-returns c = other_fuel_is_refused
