@@ -8,7 +8,10 @@ use Rattle.std.proofs.lemmas.Slice.Eq.{bytes_eq-Decides}
 use Rattle.comp_link.specs.declared.link_fault.LinkWhy.TheVariants as why
 use Rattle.comp_link.specs.declared.link_fault.LinkWhy.{LinkWhy}
 use Rattle.ca_base.specs.Names.{AreDistinct, is_among, first_twice}
-use Rattle.comp_link.specs.Linking.{Spaces, Lifted, Exported, names, labels, with_export}
+use Rattle.ca_types.specs.declared.exports.Export.{Export}
+use Rattle.comp_graph.specs.Graph.{names}
+use Rattle.comp_link.specs.declared.closed.Lifted.{Lifted}
+use Rattle.comp_link.specs.Linking.{Spaces, labels, with_export}
 use Rattle.comp_link.specs.Laws.{DistinctLabelsAreWanted, DistinctNamesAreWanted}
 use Rattle.ca_base.proofs.Distinct.{distinct_law}
 
@@ -45,8 +48,8 @@ distinct_less name (n ∷ ns) d =
     let others : is_among name ns ≡ false = distinct_less name ns d.1 in
     rw (apart, others) refl
 
-names_more : (es : List Exported) (name : List ℕ) (f : Lifted) → names (es ++ record { name = name; func = f } ∷ []) ≡ names es ++ name ∷ []
-names_more es name f = map-append (λ e. e.name) es (record { name = name; func = f } ∷ [])
+names_more : (es : List Export) (name : List ℕ) (f : Lifted) → names (es ++ record { name = name; func_type = f.func_type } ∷ []) ≡ names es ++ name ∷ []
+names_more es name f = map-append (λ e. e.name) es (record { name = name; func_type = f.func_type } ∷ [])
 
 pub distinct_export : (s : Spaces) (name : List ℕ) (f : Lifted) → AreDistinct (names s.exports) → is_among name (names s.exports) ≡ false → AreDistinct (names (with_export s name f).exports)
 distinct_export s name f d h = subst AreDistinct (sym (names_more s.exports name f)) (distinct_more name (names s.exports) d h)

@@ -2,7 +2,8 @@
 use Rattle.std.proofs.Common.{◌≡◌, ◌⊎◌, inl, inr, refl, sym, ◌∙◌, Result, Ok, Err}
 use Rattle.comp_reader.specs.declared.component.Component.{Component}
 use Rattle.comp_link.specs.declared.link_fault.LinkFault.{LinkFault}
-use Rattle.comp_link.specs.Linking.{Graph, linked, IsLinked, IsLinkRefused}
+use Rattle.comp_graph.specs.Graph.{Graph}
+use Rattle.comp_link.specs.Linking.{linked, IsLinked, IsLinkRefused}
 use Rattle.comp_link.specs.Laws.{OneLinking}
 
 pub one_graph : (c : Component) (g h : Graph) → IsLinked c g → IsLinked c h → h ≡ g

@@ -4,7 +4,7 @@ use Rattle.std.specs.List.{slice_get}
 use Rattle.std.specs.Option.{option_and_then, MatchOption}
 use Rattle.std.proofs.lemmas.List.{map-append}
 use Rattle.wasm_module.specs.declared.module.ModuleTree.{ModuleTree}
-use Rattle.comp_link.specs.Linking.{core_instance_limit}
+use Rattle.comp_graph.specs.Graph.{core_instance_limit}
 use Rattle.comp_link.specs.Made.{AreMade}
 
 -- the module of an instance is that of its index

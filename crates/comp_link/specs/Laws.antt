@@ -6,7 +6,10 @@ use Rattle.comp_reader.specs.declared.component.DefType.TheVariants as def_type
 use Rattle.comp_reader.specs.declared.component.FuncType as read_func
 use Rattle.comp_link.specs.declared.link_fault.LinkFault.{LinkFault}
 use Rattle.ca_base.specs.Names.{AreDistinct}
-use Rattle.comp_link.specs.Linking.{Graph, Spaces, Lifted, Func, IsLinked, IsLinkRefused, all_within, close_func, link_type, link_export, with_type, with_export, labels, names}
+use Rattle.comp_graph.specs.Graph.{Graph, names}
+use Rattle.comp_link.specs.declared.closed.ClosedType.TheVariants.{Func}
+use Rattle.comp_link.specs.declared.closed.Lifted.{Lifted}
+use Rattle.comp_link.specs.Linking.{Spaces, IsLinked, IsLinkRefused, all_within, close_func, link_type, link_export, with_type, with_export, labels}
 
 -- A component is linked to exactly one graph, or is refused at exactly one place for exactly one reason.
 abbrev pub OneLinking : Type 0

@@ -1,4 +1,3 @@
 pub mod Laws
 pub mod Linking
 pub mod Made
-pub mod Plain

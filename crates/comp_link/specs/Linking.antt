@@ -1,26 +1,25 @@
 -- Linking (Component Model, Explainer.md, "Index Spaces" and "Instance Definitions"; CanonicalABI.md, `canon lift`). The
 -- items of a component are linked in file order. Each one looks its indices up in the index spaces of the items before
 -- it, and adds one index to the space of its sort. The first item that has no meaning is refused.
-use Rattle.std.specs.Prelude.{◌≡◌, ℕ, Bool, true, false, is_some, is_none, ◌&&◌, ◌||◌, ◌==◌, nat_lt, nat_le, List, [], ◌∷◌, ◌++◌, length, map, find, if◌then◌else◌, Option, Some, None, Result, Ok, Err}
+use Rattle.std.specs.Prelude.{◌≡◌, ℕ, Bool, true, false, is_none, ◌&&◌, nat_lt, List, [], ◌∷◌, ◌++◌, length, map, find, if◌then◌else◌, Option, Some, None, Result, Ok, Err}
 use Rattle.std.specs.List.{slice_get, list_all, AllByRecursion}
 use Rattle.std.specs.Option.{option_and_then, option_map, option_map_or}
 use Rattle.std.specs.Str.{bytes_eq}
 use Rattle.ca_types.specs.declared.types.ValType.{ValType}
+use Rattle.ca_types.specs.declared.types.ValType.TheVariants as val_type
 use Rattle.ca_types.specs.declared.types.Param.{Param}
 use Rattle.ca_types.specs.declared.types.FuncType.{FuncType}
 use Rattle.ca_types.specs.declared.exports.Export.{Export}
-use Rattle.wasm_module.specs.declared.types.ValType as core_val
-use Rattle.wasm_module.specs.declared.types.ValType.TheVariants.{I32, I64}
-use Rattle.wasm_module.specs.declared.types.FuncType as core
 use Rattle.wasm_module.specs.declared.module.ExportDesc.{ExportDesc}
 use Rattle.wasm_module.specs.declared.module.ExportDesc.TheVariants as offered
 use Rattle.wasm_module.specs.declared.module.ModuleTree.{ModuleTree}
-use Rattle.wasm_machine.specs.Straight.{runs}
 use Rattle.ca_base.specs.declared.placed.Placed.{Placed}
 use Rattle.comp_reader.specs.declared.component.CoreInstance.TheVariants.{Instantiate}
 use Rattle.comp_reader.specs.declared.component.Alias.TheVariants as alias
 use Rattle.comp_reader.specs.declared.component.DefType.{DefType}
 use Rattle.comp_reader.specs.declared.component.DefType.TheVariants as def_type
+use Rattle.comp_reader.specs.declared.component.PrimValType.{PrimValType}
+use Rattle.comp_reader.specs.declared.component.PrimValType.TheVariants as prim
 use Rattle.comp_reader.specs.declared.component.ValTypeRef.{ValTypeRef}
 use Rattle.comp_reader.specs.declared.component.ValTypeRef.TheVariants.{Primitive}
 use Rattle.comp_reader.specs.declared.component.ValTypeRef.TheVariants as type_ref
@@ -32,83 +31,58 @@ use Rattle.comp_reader.specs.declared.component.Item.TheVariants as item
 use Rattle.comp_reader.specs.declared.component.Component.{Component}
 use Rattle.ca_base.specs.Faults.{folded}
 use Rattle.ca_base.specs.Names.{AreDistinct, first_twice, is_among}
-use Rattle.comp_link.specs.declared.graph.CoreFunc.{CoreFunc}
+use Rattle.comp_graph.specs.declared.graph.CoreFunc.{CoreFunc}
+use Rattle.comp_graph.specs.Graph.{Graph, core_instance_limit, core_type, is_flat}
+use Rattle.comp_graph.specs.Graph as graph
+use Rattle.comp_link.specs.declared.closed.ClosedType.{ClosedType}
+use Rattle.comp_link.specs.declared.closed.ClosedType.TheVariants.{Value, Func}
+use Rattle.comp_link.specs.declared.closed.Lifted.{Lifted}
 use Rattle.comp_link.specs.declared.link_fault.LinkWhy.{LinkWhy}
 use Rattle.comp_link.specs.declared.link_fault.LinkWhy.TheVariants as why
 use Rattle.comp_link.specs.declared.link_fault.LinkFault.{LinkFault}
 
--- a type that is defined, closed: no index is left in it
-pub data ClosedType : Type 0 where
-  Value : ValType → ClosedType
-  Func : FuncType → ClosedType
-
--- a function: the core function that it lifts, and its closed type
-pub record Lifted : Type 0 where
-  pub core : CoreFunc
-  pub func_type : FuncType
-
--- a function that is exported
-pub record Exported : Type 0 where
-  pub name : List ℕ
-  pub func : Lifted
-
--- The index spaces of the items so far, and the exports among these. A core instance is told by its module.
+-- The index spaces of the items so far, and the exports among these, of each one the core function beside it. A core
+-- instance is told by its module, and a type is closed: no index is left in it.
 pub record Spaces : Type 0 where
   pub core_modules : List ModuleTree
   pub core_instances : List ModuleTree
   pub core_funcs : List CoreFunc
   pub types : List ClosedType
   pub funcs : List Lifted
-  pub exports : List Exported
+  pub exports : List Export
+  pub cores : List CoreFunc
 
 -- before the first item
 abbrev pub no_spaces : Spaces
-no_spaces = record { core_modules = []; core_instances = []; core_funcs = []; types = []; funcs = []; exports = [] }
-
--- what a component is linked to: the modules of its core instances, in order of making, and its exports, in order
-pub record Graph : Type 0 where
-  pub instances : List ModuleTree
-  pub exports : List Exported
-
--- the functions that can be called in a script: the exports, with their types
-abbrev pub exports_of : Graph → List Export
-exports_of g = map (λ e. record { name = e.name; func_type = e.func.func_type }) g.exports
+no_spaces = record { core_modules = []; core_instances = []; core_funcs = []; types = []; funcs = []; exports = []; cores = [] }
 
 -- one index more in a space
 abbrev pub with_core_module : Spaces → ModuleTree → Spaces
-with_core_module s m = record { core_modules = s.core_modules ++ m ∷ []; core_instances = s.core_instances; core_funcs = s.core_funcs; types = s.types; funcs = s.funcs; exports = s.exports }
+with_core_module s m = record { core_modules = s.core_modules ++ m ∷ []; core_instances = s.core_instances; core_funcs = s.core_funcs; types = s.types; funcs = s.funcs; exports = s.exports; cores = s.cores }
 
 abbrev pub with_core_instance : Spaces → ModuleTree → Spaces
-with_core_instance s m = record { core_modules = s.core_modules; core_instances = s.core_instances ++ m ∷ []; core_funcs = s.core_funcs; types = s.types; funcs = s.funcs; exports = s.exports }
+with_core_instance s m = record { core_modules = s.core_modules; core_instances = s.core_instances ++ m ∷ []; core_funcs = s.core_funcs; types = s.types; funcs = s.funcs; exports = s.exports; cores = s.cores }
 
 abbrev pub with_core_func : Spaces → CoreFunc → Spaces
-with_core_func s f = record { core_modules = s.core_modules; core_instances = s.core_instances; core_funcs = s.core_funcs ++ f ∷ []; types = s.types; funcs = s.funcs; exports = s.exports }
+with_core_func s f = record { core_modules = s.core_modules; core_instances = s.core_instances; core_funcs = s.core_funcs ++ f ∷ []; types = s.types; funcs = s.funcs; exports = s.exports; cores = s.cores }
 
 abbrev pub with_type : Spaces → ClosedType → Spaces
-with_type s t = record { core_modules = s.core_modules; core_instances = s.core_instances; core_funcs = s.core_funcs; types = s.types ++ t ∷ []; funcs = s.funcs; exports = s.exports }
+with_type s t = record { core_modules = s.core_modules; core_instances = s.core_instances; core_funcs = s.core_funcs; types = s.types ++ t ∷ []; funcs = s.funcs; exports = s.exports; cores = s.cores }
 
 abbrev pub with_func : Spaces → Lifted → Spaces
-with_func s f = record { core_modules = s.core_modules; core_instances = s.core_instances; core_funcs = s.core_funcs; types = s.types; funcs = s.funcs ++ f ∷ []; exports = s.exports }
+with_func s f = record { core_modules = s.core_modules; core_instances = s.core_instances; core_funcs = s.core_funcs; types = s.types; funcs = s.funcs ++ f ∷ []; exports = s.exports; cores = s.cores }
 
 -- an export is one function more, and one export more
 abbrev pub with_export : Spaces → List ℕ → Lifted → Spaces
-with_export s name f = record { core_modules = s.core_modules; core_instances = s.core_instances; core_funcs = s.core_funcs; types = s.types; funcs = s.funcs ++ f ∷ []; exports = s.exports ++ record { name = name; func = f } ∷ [] }
+with_export s name f = record { core_modules = s.core_modules; core_instances = s.core_instances; core_funcs = s.core_funcs; types = s.types; funcs = s.funcs ++ f ∷ []; exports = s.exports ++ record { name = name; func_type = f.func_type } ∷ []; cores = s.cores ++ f.core ∷ [] }
 
 -- the name of the module that the first import of a core module comes from, where it has imports
 abbrev pub first_import : ModuleTree → Option (List ℕ)
 first_import m = option_map (λ i. i.module) (slice_get m.imports 0)
 
--- Whether the machine is enough for a core module: it runs it, or no instance of it can be made, since it has imports.
-abbrev pub is_accepted : ModuleTree → Bool
-is_accepted m = runs m || is_some (first_import m)
-
--- A core module: `Limit` where the machine is not enough for it.
+-- a core module, which is valid
 abbrev pub link_core_module : Spaces → ModuleTree → Result Spaces LinkWhy
-link_core_module s m = if is_accepted m then Ok (with_core_module s m) else Err why.Limit
-
--- how many core instances a component may make
-abbrev pub core_instance_limit : ℕ
-core_instance_limit = 256
+link_core_module s m = Ok (with_core_module s m)
 
 -- A core instance, which has no arguments: `Index` where the module is not there, `Missing` of the module that its first
 -- import comes from, where it has imports, `Limit` where there are as many instances as there may be.
@@ -163,16 +137,22 @@ value_of None = None
 value_of (Some (Value type)) = Some type
 value_of (Some (Func type)) = None
 
+abbrev pub primitive : PrimValType → ValType
+primitive prim.U32 = val_type.U32
+
 abbrev pub close_val : List ClosedType → ValTypeRef → Option ValType
-close_val types (Primitive type) = Some type
+close_val types (Primitive type) = Some (primitive type)
 close_val types (type_ref.Index index) = value_of (slice_get types index)
+
+-- a parameter with its closed type, where it has one
+abbrev pub close_param : List ClosedType → read_param.Param → Option Param
+close_param types p = option_map (λ type. record { label = p.label; val_type = type }) (close_val types p.val_type)
 
 -- the closed type of a function type, where each value type in it has one
 abbrev pub close_params : List ClosedType → List read_param.Param → Option (List Param)
 close_params types [] = Some []
 close_params types (p ∷ params) =
-    option_and_then (λ type. option_map (λ others. record { label = p.label; val_type = type } ∷ others) (close_params types params))
-    (close_val types p.val_type)
+    option_and_then (λ closed. option_map (λ others. closed ∷ others) (close_params types params)) (close_param types p)
 
 abbrev pub close_result : List ClosedType → Option ValTypeRef → Option (Option ValType)
 close_result types None = Some None
@@ -190,40 +170,11 @@ with_closed s None = Err why.Typing
 with_closed s (Some type) = Ok (with_type s (Func type))
 
 abbrev pub link_type : Spaces → DefType → Result Spaces LinkWhy
-link_type s (def_type.Value type) = Ok (with_type s (Value type))
+link_type s (def_type.Value type) = Ok (with_type s (Value (primitive type)))
 link_type s (def_type.Func type) =
     if all_within (length s.types) type then
     (if is_none (first_twice (labels type.params)) then with_closed s (close_func s.types type) else Err why.Typing)
     else Err why.Index
-
--- The type of a core function, where it is there. The module of an instance has no imports, so its functions are those that
--- it defines.
-abbrev pub type_at : ModuleTree → ℕ → Option core.FuncType
-type_at m func = option_and_then (λ f. slice_get m.types f.type_index) (slice_get m.funcs func)
-
-abbrev pub core_type : List ModuleTree → CoreFunc → Option core.FuncType
-core_type instances f = option_and_then (λ m. type_at m f.func) (slice_get instances f.instance)
-
-abbrev pub is_i32 : core_val.ValType → Bool
-is_i32 I32 = true
-is_i32 I64 = false
-
--- how many core results a result has
-abbrev pub result_count : Option ValType → ℕ
-result_count None = 0
-result_count (Some type) = 1
-
--- how many parameters are passed as core parameters; more are passed in memory
-abbrev pub flat_limit : ℕ
-flat_limit = 16
-
--- The core type is that of the lift of a function of this type without options: an i32 for each parameter and for the
--- result. Without a memory no parameters are passed in it.
-abbrev pub is_flat : FuncType → core.FuncType → Bool
-is_flat type of_core =
-    nat_le (length type.params) flat_limit
-    && length of_core.params == length type.params && list_all is_i32 of_core.params
-    && length of_core.results == result_count type.result && list_all is_i32 of_core.results
 
 -- A lift: `Index` where the core function or the type is not there, `Typing` where the type is none of a function,
 -- `Canon` where the core function has another type than the flat one.
@@ -236,14 +187,10 @@ link_lift s None type = Err why.Index
 link_lift s (Some f) None = Err why.Index
 link_lift s (Some f) (Some type) = lift_to s f type
 
--- the names of exports
-abbrev pub names : List Exported → List (List ℕ)
-names exports = map (λ e. e.name) exports
-
 -- An export: `Index` where the function is not there, `Typing` where an earlier export has the name.
 abbrev pub link_export : Spaces → List ℕ → Option Lifted → Result Spaces LinkWhy
 link_export s name None = Err why.Index
-link_export s name (Some f) = if is_among name (names s.exports) then Err why.Typing else Ok (with_export s name f)
+link_export s name (Some f) = if is_among name (graph.names s.exports) then Err why.Typing else Ok (with_export s name f)
 
 -- an item, behind others that have these index spaces
 abbrev pub link_item : Spaces → Item → Result Spaces LinkWhy
@@ -268,7 +215,7 @@ link_items s items = folded link_placed s items
 
 -- the graph, or the refusal
 abbrev pub linked_or : Result Spaces LinkFault → Result Graph LinkFault
-linked_or (Ok s) = Ok (record { instances = s.core_instances; exports = s.exports })
+linked_or (Ok s) = Ok (record { instances = s.core_instances; exports = s.exports; cores = s.cores })
 linked_or (Err fault) = Err fault
 
 abbrev pub linked : Component → Result Graph LinkFault
@@ -281,23 +228,9 @@ IsLinked c g = linked c ≡ Ok g
 abbrev pub IsLinkRefused : Component → LinkFault → Type 0
 IsLinkRefused c fault = linked c ≡ Err fault
 
--- the core function of a lift is there and has the flat type
-pub record LiftsCore (instances : List ModuleTree) (f : Lifted) : Type 0 where
-  pub type : core.FuncType
-  pub there : core_type instances f.core ≡ Some type
-  pub flat : is_flat f.func_type type ≡ true
-
--- what a graph needs so that its exports can be called
-abbrev pub IsCallable : Graph → Type 0
-IsCallable g = AllByRecursion (λ e. LiftsCore g.instances e.func) g.exports
-
--- The machine runs the module of each core instance.
-abbrev pub AllRun : Graph → Type 0
-AllRun g = AllByRecursion (λ m. runs m ≡ true) g.instances
-
 -- no two parameters of an export have one label
 abbrev pub HasDistinctLabels : FuncType → Type 0
 HasDistinctLabels type = AreDistinct (map (λ p. p.label) type.params)
 
 abbrev pub HaveDistinctLabels : Graph → Type 0
-HaveDistinctLabels g = AllByRecursion (λ e. HasDistinctLabels e.func.func_type) g.exports
+HaveDistinctLabels g = AllByRecursion (λ e. HasDistinctLabels e.func_type) g.exports

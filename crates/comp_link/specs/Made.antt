@@ -3,7 +3,7 @@
 use Rattle.std.specs.Prelude.{◌≡◌, ◌≤◌, ℕ, List, length, map, Some}
 use Rattle.std.specs.List.{slice_get}
 use Rattle.wasm_module.specs.declared.module.ModuleTree.{ModuleTree}
-use Rattle.comp_link.specs.Linking.{core_instance_limit}
+use Rattle.comp_graph.specs.Graph.{core_instance_limit}
 
 pub record AreMade (modules instances : List ModuleTree) (numbers : List ℕ) : Type 0 where
   pub few : length instances ≤ core_instance_limit

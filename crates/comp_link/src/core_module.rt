@@ -10,7 +10,6 @@ use ca_base::{Name, by_name, find};
 use std::alloc::{AllocError, Global};
 use std::collections::BTreeMap;
 use std::marker::Model;
-use wasm_machine::runs;
 use wasm_module::{ExportDesc, ModuleTree};
 use wasm_valid::Valid;
 
@@ -86,11 +85,4 @@ pub fn first_import<'a>(tree: &'a ModuleTree) -> Option<&'a Name>
 {
     let import = tree.imports.as_slice().first()?;
     Some(&import.module)
-}
-
-/// Whether the machine is enough for a core module: it runs it, or no instance of it can be made, since it has imports.
-pub fn is_accepted(tree: &ModuleTree) -> bool
-    ensures { result ≡ linking.is_accepted tree.now }
-{
-    runs(tree) || first_import(tree).is_some()
 }

@@ -16,7 +16,7 @@ pub enum LinkWhy {
     Typing,
     /// The core function of a lift does not have the flat type of the function (Component Model, CanonicalABI.md).
     Canon,
-    /// There are more than 256 core instances, or the machine is not enough for a core module.
+    /// There are more than 256 core instances.
     Limit,
 }
 

@@ -1,12 +1,11 @@
 //! Exports whose names are looked up.
 
-ghost use Rattle.std.specs.Prelude.{◌≡◌, ◌∷◌, ◌++◌, [], OnOk, map};
-ghost use Rattle.comp_link.specs.Linking.{names};
+ghost use Rattle.std.specs.Prelude.{◌≡◌, ◌∷◌, ◌++◌, [], OnOk, OnErr};
 ghost use Rattle.ca_base.specs.Names.{is_among};
-ghost use Rattle.comp_link.specs.Plain.{plain_func};
+ghost use Rattle.comp_graph.specs.Graph.{names};
 
-use crate::graph::{Exported, Lifted};
-use ca_base::{Name, adds};
+use ca_base::{Name, Seq, adds};
+use ca_types::{Export, Exports, FuncType};
 use std::alloc::{AllocError, Global};
 use std::collections::BTreeSet;
 use std::marker::Model;
@@ -14,26 +13,24 @@ use std::marker::Model;
 /// Exports, in order, and the set of their names. Contracts see the exports.
 #[derive(Drop)]
 pub struct NamedExports<'a> {
-    exports: Vec<Exported<'a>>,
+    exports: Vec<Export>,
     seen: BTreeSet<&'a str>,
 }
 
 impl<'a> Model for NamedExports<'a> {
     ghost use Rattle.std.specs.Prelude.{◌≡◌, ℕ, List, map};
     ghost use Rattle.std.specs.Coded.{codes};
-    ghost use Rattle.ca_types.specs.contracts.types.FuncType as func_type;
-    ghost use Rattle.comp_link.specs.contracts.graph.CoreFunc as core_func;
-    ghost use Rattle.comp_link.specs.Linking as linking;
+    ghost use Rattle.ca_types.specs.declared.exports.Export.{Export};
+    ghost use Rattle.ca_types.specs.contracts.exports.Export as export;
     ghost use Rattle.ca_base.specs.Names.{has, is_among};
-    ghost use Rattle.comp_link.specs.Plain.{plain_func};
 
-    ghost Value = { List linking.Exported };
+    ghost Value = { List Export };
 
-    ghost coded = { Prim.hlevel (codes, core_func.the_row.coded, func_type.the_row.coded) };
+    ghost coded = { Prim.hlevel (codes, export.the_row.coded) };
 
-    ghost view = { λ n. map (λ e. record { name = e.name.now; func = record { core = e.func.core; func_type = plain_func e.func.func_type.now } }) n.exports.items };
+    ghost view = { λ n. n.exports.items };
 
-    ghost invariant = { λ n. (q : List ℕ) → has n.seen q ≡ is_among q (map (λ e. e.name.now) n.exports.items) };
+    ghost invariant = { λ n. (q : List ℕ) → has n.seen q ≡ is_among q (map (λ e. e.name) n.exports.items) };
 }
 
 impl<'a> NamedExports<'a> {
@@ -54,20 +51,30 @@ impl<'a> NamedExports<'a> {
         self.seen.contains(name)
     }
 
-    /// Adds an export behind the others. It fails for want of memory alone.
-    pub fn add(&mut self, name: &'a Name, func: Lifted<'a>) -> Result<(), AllocError>
-        ensures { OnOk result (self.new ≡ self.old ++ record { name = name.now; func = record { core = func.entry.core; func_type = plain_func func.entry.func_type.now } } ∷ []) }
+    /// Adds an export behind the others. It fails for want of memory alone, and then adds none.
+    pub fn add(
+        &mut self,
+        alloc: Global,
+        name: &'a Name,
+        func_type: FuncType,
+    ) -> Result<(), AllocError>
+        ensures ok { OnOk result (self.new ≡ self.old ++ record { name = name.now; func_type = func_type } ∷ []) }
+        ensures err { OnErr result (self.new ≡ self.old) }
     {
+        let export = Export {
+            name: Name::new(alloc, name.as_str())?,
+            func_type,
+        };
         self.exports.reserve(1)?;
         adds(&mut self.seen, name.as_str())?;
-        self.exports.push_reserved(Exported { name, func });
+        self.exports.push_reserved(export);
         Ok(())
     }
 
     /// The exports, in order.
-    pub fn into_vec(self) -> Vec<Exported<'a>>
-        ensures { map (λ e. record { name = e.name.now; func = record { core = e.func.core; func_type = plain_func e.func.func_type.now } }) result.items ≡ self.entry }
+    pub fn into_exports(self) -> Exports
+        ensures { result ≡ self.entry }
     {
-        self.exports
+        Seq::from_vec(self.exports)
     }
 }

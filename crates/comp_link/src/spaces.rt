@@ -2,15 +2,16 @@
 
 ghost use Rattle.std.specs.Prelude.{◌≡◌, ◌<◌, ◌≤◌, Some, None, MatchOption, OnOk, length};
 ghost use Rattle.std.specs.List.{slice_get};
-ghost use Rattle.comp_link.specs.Plain.{plain_func, plain_def};
 ghost use Rattle.ca_base.specs.Names.{is_among};
-ghost use Rattle.comp_link.specs.Linking.{core_instance_limit, names, no_spaces, with_core_module, with_core_instance, with_core_func, with_type, with_func, with_export};
+ghost use Rattle.comp_graph.specs.Graph.{core_instance_limit, names};
+ghost use Rattle.comp_link.specs.Linking.{no_spaces, with_core_module, with_core_instance, with_core_func, with_type, with_func, with_export};
 
+use crate::closed::{ClosedType, Lifted};
+use crate::copying::copied;
 use crate::core_module::CoreModule;
-use crate::graph::{CoreFunc, Graph, Lifted};
 use crate::named_exports::NamedExports;
-use ca_base::Name;
-use comp_reader::DefType;
+use ca_base::{Name, Seq};
+use comp_graph::{CoreFunc, Graph};
 use std::alloc::{AllocError, Global};
 use std::marker::Model;
 use wasm_valid::Valid;
@@ -23,29 +24,31 @@ pub struct Spaces<'a> {
     /// The index of each core instance's module.
     instantiated: Vec<u32>,
     core_funcs: Vec<CoreFunc>,
-    types: Vec<&'a DefType>,
-    funcs: Vec<Lifted<'a>>,
+    types: Vec<ClosedType>,
+    funcs: Vec<Lifted>,
     exports: NamedExports<'a>,
+    /// The core function of each export.
+    cores: Vec<CoreFunc>,
 }
 
 impl<'a> Model for Spaces<'a> {
-    ghost use Rattle.std.specs.Prelude.{map};
+    ghost use Rattle.std.specs.Prelude.{◌≡◌, length, map};
     ghost use Rattle.wasm_module.specs.contracts.module.ModuleTree as tree;
-    ghost use Rattle.ca_types.specs.contracts.types.FuncType as func_type;
-    ghost use Rattle.comp_reader.specs.contracts.component.DefType as def_type;
-    ghost use Rattle.comp_link.specs.contracts.graph.CoreFunc as core_func;
+    ghost use Rattle.ca_types.specs.contracts.exports.Export as export;
+    ghost use Rattle.comp_graph.specs.contracts.graph.CoreFunc as core_func;
+    ghost use Rattle.comp_link.specs.contracts.closed.ClosedType as closed_type;
+    ghost use Rattle.comp_link.specs.contracts.closed.Lifted as lifted;
     ghost use Rattle.comp_link.specs.Linking as linking;
     ghost use Rattle.comp_link.specs.Made.{AreMade};
-    ghost use Rattle.comp_link.specs.Plain.{plain_func, plain_def};
     ghost use Rattle.std.specs.Coded.{codes};
 
     ghost Value = { linking.Spaces };
 
-    ghost coded = { Prim.hlevel (codes, tree.the_row.coded, core_func.the_row.coded, func_type.the_row.coded, def_type.the_row.coded) };
+    ghost coded = { Prim.hlevel (codes, tree.the_row.coded, core_func.the_row.coded, closed_type.the_row.coded, lifted.the_row.coded, export.the_row.coded) };
 
-    ghost view = { λ s. record { core_modules = s.core_modules.items; core_instances = map (λ r. r.now) s.core_instances.items; core_funcs = s.core_funcs.items; types = map (λ r. plain_def r.now) s.types.items; funcs = map (λ l. record { core = l.core; func_type = plain_func l.func_type.now }) s.funcs.items; exports = s.exports } };
+    ghost view = { λ s. record { core_modules = s.core_modules.items; core_instances = map (λ r. r.now) s.core_instances.items; core_funcs = s.core_funcs.items; types = s.types.items; funcs = s.funcs.items; exports = s.exports; cores = s.cores.items } };
 
-    ghost invariant = { λ s. AreMade s.core_modules.items (map (λ r. r.now) s.core_instances.items) s.instantiated.items };
+    ghost invariant = { λ s. AreMade s.core_modules.items (map (λ r. r.now) s.core_instances.items) s.instantiated.items × (length s.cores.items ≡ length s.exports) };
 }
 
 impl<'a> Spaces<'a> {
@@ -61,6 +64,7 @@ impl<'a> Spaces<'a> {
             types: Vec::new(alloc),
             funcs: Vec::new(alloc),
             exports: NamedExports::new(alloc),
+            cores: Vec::new(alloc),
         }
     }
 
@@ -96,10 +100,10 @@ impl<'a> Spaces<'a> {
     }
 
     /// The type of an index.
-    pub fn def_type(&self, index: u32) -> Option<&'a DefType>
-        ensures { MatchOption result (slice_get self.now.types index ≡ None) (λ t. slice_get self.now.types index ≡ Some (plain_def t.now)) }
+    pub fn closed_type(&self, index: u32) -> Option<&ClosedType>
+        ensures { MatchOption result (slice_get self.now.types index ≡ None) (λ t. slice_get self.now.types index ≡ Some t.now) }
     {
-        self.types.get(index as usize).copied()
+        self.types.get(index as usize)
     }
 
     /// How many types there are.
@@ -110,10 +114,10 @@ impl<'a> Spaces<'a> {
     }
 
     /// The function of an index.
-    pub fn func(&self, index: u32) -> Option<Lifted<'a>>
-        ensures { MatchOption result (slice_get self.now.funcs index ≡ None) (λ l. slice_get self.now.funcs index ≡ Some (record { core = l.core; func_type = plain_func l.func_type.now })) }
+    pub fn func(&self, index: u32) -> Option<&Lifted>
+        ensures { MatchOption result (slice_get self.now.funcs index ≡ None) (λ l. slice_get self.now.funcs index ≡ Some l.now) }
     {
-        self.funcs.get(index as usize).copied()
+        self.funcs.get(index as usize)
     }
 
     /// Whether an export has this name.
@@ -154,35 +158,48 @@ impl<'a> Spaces<'a> {
     }
 
     /// Adds a type.
-    pub fn add_type(&mut self, def_type: &'a DefType) -> Result<(), AllocError>
-        ensures { OnOk result (self.new ≡ with_type self.old (plain_def def_type.now)) }
+    pub fn add_type(&mut self, closed: ClosedType) -> Result<(), AllocError>
+        ensures { OnOk result (self.new ≡ with_type self.old closed) }
     {
-        self.types.push(def_type)?;
+        self.types.push(closed)?;
         Ok(())
     }
 
     /// Adds a function.
-    pub fn add_func(&mut self, func: Lifted<'a>) -> Result<(), AllocError>
-        ensures { OnOk result (self.new ≡ with_func self.old (record { core = func.entry.core; func_type = plain_func func.entry.func_type.now })) }
+    pub fn add_func(&mut self, func: Lifted) -> Result<(), AllocError>
+        ensures { OnOk result (self.new ≡ with_func self.old func) }
     {
         self.funcs.push(func)?;
         Ok(())
     }
 
     /// Adds an export, which is one more function.
-    pub fn add_export(&mut self, name: &'a Name, func: Lifted<'a>) -> Result<(), AllocError>
-        ensures { OnOk result (self.new ≡ with_export self.old name.now (record { core = func.entry.core; func_type = plain_func func.entry.func_type.now })) }
+    pub fn add_export(
+        &mut self,
+        alloc: Global,
+        name: &'a Name,
+        func: Lifted,
+    ) -> Result<(), AllocError>
+        ensures { OnOk result (self.new ≡ with_export self.old name.now func) }
     {
+        let func_type = copied(alloc, func.func_type.get())?;
+        let core = func.core;
         self.funcs.push(func)?;
-        self.exports.add(name, func)?;
+        self.cores.reserve(1)?;
+        self.exports.add(alloc, name, func_type)?;
+        self.cores.push_reserved(core);
         Ok(())
     }
 
     /// What the component is linked to when all its items are.
     pub fn into_graph(self) -> Graph<'a>
-        ensures { result ≡ record { instances = self.entry.core_instances; exports = self.entry.exports } }
+        ensures { result ≡ record { instances = self.entry.core_instances; exports = self.entry.exports; cores = self.entry.cores } }
     {
-        Graph::new(self.core_instances, self.exports.into_vec())
+        Graph::new(
+            self.core_instances,
+            self.exports.into_exports(),
+            Seq::from_vec(self.cores),
+        )
     }
 }
 

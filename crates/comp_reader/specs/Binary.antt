@@ -7,7 +7,6 @@ use Rattle.ca_base.specs.Grammar.{Grammar, Give, Refuse, Here, Left, Next, Byte,
 use Rattle.ca_base.specs.Items.{byte_of, NumberReasons, Reasons, fixed, marker, u32, s33, name, custom, sized, vec, placed, placed_vec, to_the_end, joined, at_end}
 use Rattle.ca_base.specs.declared.refusal.Refusal.{Refusal}
 use Rattle.ca_base.specs.declared.placed.Placed.{Placed}
-use Rattle.ca_types.specs.declared.types.ValType.TheVariants.{U32}
 use Rattle.wasm_module.specs.declared.fault.ModuleWhy.TheVariants as module_why
 use Rattle.wasm_module.specs.declared.module.ModuleParts.{ModuleParts}
 use Rattle.wasm_module.specs.declared.module.ModuleTree.{ModuleTree}
@@ -16,6 +15,7 @@ use Rattle.wasm_valid.specs.declared.fault.ValidFault.{ValidFault}
 use Rattle.wasm_valid.specs.Finding.{untyped}
 use Rattle.comp_reader.specs.declared.component.CoreInstance.TheVariants.{Instantiate}
 use Rattle.comp_reader.specs.declared.component.Alias.TheVariants.{CoreFunc}
+use Rattle.comp_reader.specs.declared.component.PrimValType.TheVariants.{U32}
 use Rattle.comp_reader.specs.declared.component.ValTypeRef.{ValTypeRef}
 use Rattle.comp_reader.specs.declared.component.ValTypeRef.TheVariants.{Primitive, Index}
 use Rattle.comp_reader.specs.declared.component.Param.{Param}

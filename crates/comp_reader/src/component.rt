@@ -1,7 +1,6 @@
 //! Components (Component Model, Explainer.md and Binary.md).
 
 use ca_base::{Name, Named, Placed, Seq};
-use ca_types::ValType;
 use wasm_valid::Valid;
 
 /// What makes an instance of a core module.
@@ -23,11 +22,18 @@ pub enum Alias {
     },
 }
 
+/// A primitive type (Component Model, Binary.md, `primvaltype`), as far as it is read.
+#[derive(Clone, Copy, Debug, PartialEq, Eq)]
+pub enum PrimValType {
+    /// An unsigned 32-bit integer.
+    U32,
+}
+
 /// A value type as it is written (Component Model, Binary.md, `valtype`).
 #[derive(Clone, Copy, Debug, PartialEq, Eq)]
 pub enum ValTypeRef {
     /// A primitive type.
-    Primitive(ValType),
+    Primitive(PrimValType),
     /// The type of this index.
     Index(u32),
 }
@@ -62,7 +68,7 @@ pub struct FuncType {
 #[derive(Debug, Drop)]
 pub enum DefType {
     /// A primitive type.
-    Value(ValType),
+    Value(PrimValType),
     /// The type of a function.
     Func(FuncType),
 }

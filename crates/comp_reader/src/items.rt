@@ -5,10 +5,9 @@ ghost use Rattle.ca_base.specs.Grammar.{Reads, MayRead};
 ghost use Rattle.ca_base.specs.Items.{name, vec};
 ghost use Rattle.comp_reader.specs.Binary.{numbers, val_type, func_result, func_type, def_type, option, export_name};
 
-use crate::component::{Canon, DefType, Export, FuncType, Item, Param, ValTypeRef};
+use crate::component::{Canon, DefType, Export, FuncType, Item, Param, PrimValType, ValTypeRef};
 use crate::fault::ComponentWhy;
 use ca_base::{Kind, Name, ReadError, Refusal, Window, read_vec};
-use ca_types::ValType;
 use std::alloc::Global;
 
 /// Reads a name, and keeps it.
@@ -35,7 +34,7 @@ fn read_val_type(window: &mut Window<ComponentWhy>) -> Result<ValTypeRef, Refusa
         return Ok(ValTypeRef::Index(number as u32));
     }
     if first == 0x79 {
-        return Ok(ValTypeRef::Primitive(ValType::U32));
+        return Ok(ValTypeRef::Primitive(PrimValType::U32));
     }
     if first == 0x76 || first == 0x75 {
         return Err(Refusal {
@@ -126,7 +125,7 @@ fn read_def_type(
         return Ok(DefType::Func(func_type));
     }
     if byte == 0x79 {
-        return Ok(DefType::Value(ValType::U32));
+        return Ok(DefType::Value(PrimValType::U32));
     }
     if byte == 0x76 || byte == 0x75 {
         return Err(ReadError::Fault(Refusal {

@@ -22,7 +22,8 @@ mod reading;
 mod sections;
 
 pub use component::{
-    Alias, Canon, Component, CoreInstance, DefType, Export, FuncType, Item, Param, ValTypeRef,
+    Alias, Canon, Component, CoreInstance, DefType, Export, FuncType, Item, Param, PrimValType,
+    ValTypeRef,
 };
 pub use fault::ComponentWhy;
 pub use laws::one_reading;

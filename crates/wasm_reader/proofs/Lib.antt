@@ -6,4 +6,5 @@ pub mod Ended
 pub mod Fitting
 pub mod Fuel
 pub mod Groups
+pub mod Ranges
 pub mod Rows

@@ -11,4 +11,4 @@ returns c =
     let there : slice_get c.self.inside.instantiated.items c.args.index ≡ Some number = sym (c.in_ok-number.ensures ∙ ap (λ (ns : List ℕ). slice_get ns c.args.index) c.deref.ensures.value) in
     let told = subst (λ (s : linking.Spaces). MatchOption found (slice_get s.core_modules number ≡ None) (λ m. slice_get s.core_modules number ≡ Some m.now)) (sym c.self.view_is) c.core_module.ensures in
     subst (λ (s : linking.Spaces). MatchOption found (slice_get s.core_instances c.args.index ≡ None) (λ m. slice_get s.core_instances c.args.index ≡ Some m.now)) c.self.view_is
-    (told_made c.self.inside.core_modules.items (map (λ r. r.now) c.self.inside.core_instances.items) c.self.inside.instantiated.items c.args.index number found c.self.invariant there told)
+    (told_made c.self.inside.core_modules.items (map (λ r. r.now) c.self.inside.core_instances.items) c.self.inside.instantiated.items c.args.index number found c.self.invariant.0 there told)
