@@ -2,6 +2,7 @@ pub mod Adding
 pub mod Changing
 pub mod Effecting
 pub mod Framing
+pub mod Keeping
 pub mod Lists
 pub mod Memories
 pub mod Moving

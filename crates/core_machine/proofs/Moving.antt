@@ -215,7 +215,7 @@ types_same (t ∷ ts) (u ∷ us) h =
     let both = both_true (same_type t u) (same_types ts us) h in
     ap₂ (λ (t : ValType) (ts : List ValType). t ∷ ts) (type_same t u both.0) (types_same ts us both.1)
 
-signature_same : (t u : FuncType) → same_signature t u ≡ true → t ≡ u
+pub signature_same : (t u : FuncType) → same_signature t u ≡ true → t ≡ u
 signature_same t u h =
     let both = both_true (same_types t.params u.params) (same_types t.results u.results) h in
     ap₂ (λ (ps : List ValType) (rs : List ValType). (let type : FuncType = record { params = ps; results = rs } in type)) (types_same t.params u.params both.0) (types_same t.results u.results both.1)

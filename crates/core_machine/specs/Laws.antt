@@ -1,14 +1,14 @@
 -- What holds of all stacks (Core 2.0, section 4.4), of those that are typed in a typed store, and of the modules that are
--- added to one (the appendix on soundness).
+-- added to one (the appendix on soundness), and of stores without functions of the host.
 use Rattle.std.specs.Prelude.{◌≡◌, ◌≢◌, ◌≤◌, ◌+◌, ℕ, suc, false, List, [], length, Some}
-use Rattle.std.specs.List.{slice_get}
+use Rattle.std.specs.List.{slice_get, AllByRecursion}
 use Rattle.wasm_module.specs.declared.types.ValType.{ValType}
 use Rattle.wasm_module.specs.declared.types.FuncType.{FuncType}
 use Rattle.wasm_module.specs.declared.module.ModuleTree.{ModuleTree}
 use Rattle.wasm_valid.specs.Modules.{Typed}
 use Rattle.wasm_numbers.specs.Types.{AreWords}
 use Rattle.wasm_memory.specs.Memories.{MemoryState}
-use Rattle.core_machine.specs.Store.{Function, Host, type_of, Store}
+use Rattle.core_machine.specs.Store.{Function, Own, Host, type_of, Store}
 use Rattle.core_machine.specs.Stack.{Stack, Running, AtHost, Given}
 use Rattle.core_machine.specs.Effects.{with_memory}
 use Rattle.core_machine.specs.Step.{Move, Goes, Calls, Ends, Traps, Stuck, frame_limit, next, resume, start, Moves, Steps}
@@ -78,6 +78,38 @@ abbrev pub WritesTyped : Type 0
 WritesTyped =
     (s : Store) (address : ℕ) (m n : MemoryState) → StoreTyped s → slice_get s.memories address ≡ Some m → n.maximum ≡ m.maximum → length n.bytes ≡ length m.bytes
     → Extends s (with_memory address n s) × StoreTyped (with_memory address n s)
+
+-- Functions of the host (section 4.2.6): a store without them, and what becomes of it.
+
+-- a function of an instance
+abbrev pub IsOwn : Function → Type 0
+IsOwn (Own type instance locals body) = Unit {0}
+IsOwn (Host type) = ⊥
+
+abbrev pub HasNoHosts : Store → Type 0
+HasNoHosts s = AllByRecursion IsOwn s.funcs
+
+-- No step adds, changes or takes away a function.
+abbrev pub StepsKeepFunctions : Type 0
+StepsKeepFunctions = (fuel : ℕ) (s t : Store) (k l : Stack) → Steps fuel s k t l → t.funcs ≡ s.funcs
+
+-- A store with nothing has no function of the host, and a module that is instantiated adds none, also where a segment
+-- doesn't fit.
+abbrev pub EmptyHasNoHosts : Type 0
+EmptyHasNoHosts = HasNoHosts empty
+
+abbrev pub AddedWithoutHosts : Instantiation → Type 0
+AddedWithoutHosts (Makes t) = HasNoHosts t
+AddedWithoutHosts (SegmentBounds t) = HasNoHosts t
+
+abbrev pub AddsNoHosts : Type 0
+AddsNoHosts = (s : Store) (m : ModuleTree) (imports : List External) → HasNoHosts s → AddedWithoutHosts (instantiated m imports s)
+
+-- Whatever steps a typed stack makes in a store without functions of the host, it calls none next.
+abbrev pub NeverCallsHosts : Type 0
+NeverCallsHosts =
+    (fuel : ℕ) (s t : Store) (results : List ValType) (k l : Stack) (address : ℕ) (words : List ℕ) (waits : Stack) → StoreTyped s
+    → StackTyped s results k → HasNoHosts s → Steps fuel s k t l → next t l ≢ Calls address words waits
 
 -- Of all stacks, typed or not.
 

@@ -1,6 +1,6 @@
 //! What holds of every stack, and of those that are typed in a typed store.
 
-ghost use Rattle.core_machine.specs.Laws.{MovesTyped, NeverStuck, StartsTyped, StaysTyped, ExtendsFurther, AddsTyped, EmptyTyped, HostsTyped, WritesTyped, FreeMovesEnd, StartsFew, StepsFew, WaitsFew, ResumesFew, OneNext, StepsJoin, FewerAreFront};
+ghost use Rattle.core_machine.specs.Laws.{MovesTyped, NeverStuck, StartsTyped, StaysTyped, ExtendsFurther, AddsTyped, EmptyTyped, HostsTyped, WritesTyped, FreeMovesEnd, StepsKeepFunctions, EmptyHasNoHosts, AddsNoHosts, NeverCallsHosts, StartsFew, StepsFew, WaitsFew, ResumesFew, OneNext, StepsJoin, FewerAreFront};
 
 /// A stack that is typed in a typed store never gets stuck: what it does next is typed, and so is all that it comes to. A
 /// call with words of the function's parameters is such a stack.
@@ -28,6 +28,15 @@ pub fn changed_stores_are_typed()
     ensures empty { EmptyTyped }
     ensures hosts { HostsTyped }
     ensures writes { WritesTyped }
+{}
+
+/// No step adds, changes or takes away a function. The empty store has no function of the host, and modules that are added
+/// bring none, also where a segment does not fit. So a typed stack in such a store never calls one, whatever steps it makes.
+pub fn stores_without_hosts()
+    ensures steps { StepsKeepFunctions }
+    ensures empty { EmptyHasNoHosts }
+    ensures adds { AddsNoHosts }
+    ensures never { NeverCallsHosts }
 {}
 
 /// Moves that cost nothing, the ends of blocks and of functions, come to an end: from each store and stack, finitely many

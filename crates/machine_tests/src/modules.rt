@@ -1,99 +1,94 @@
-//! Modules of texts as stores, and calls of their first functions.
-
-ghost use Rattle.std.specs.Prelude.{ℕ, List, true, ◌∷◌, ◌≡◌, IfOk, IsTrue};
-ghost use Rattle.wasm_module.specs.declared.types.ValType.{ValType};
-ghost use Rattle.wasm_machine.specs.Running.{IsRunning};
-ghost use Rattle.wasm_machine.specs.Step.{AreWords};
-ghost use Rattle.wasm_machine.specs.Straight.{runs};
+//! Modules of texts, and imports.
 
 use ca_base::Seq;
+use cases::bytes_of;
 use std::alloc::Global;
 use std::test::Fail;
-use wasm_machine::{Running, Store, runs, start};
-use wasm_module::ValType;
+use wasm_module::{FuncType, ValType};
 use wasm_reader::read_module;
+use wasm_store::External;
 use wasm_valid::{Valid, validate};
 
-/// The module whose bytes a text has, if the machine runs it.
-fn module_of(alloc: Global, hex: &str) -> Result<Valid, Fail>
-    ensures { IfOk result (λ valid. runs valid ≡ true) }
-{
-    let bytes = cases::bytes_of(alloc, hex)?;
-    let valid = validate(alloc, read_module(alloc, &bytes, 0)?)?;
-    if !runs(valid.tree()) {
-        return Err(Fail::new("not run"));
+/// The preamble of a core module.
+const PREAMBLE: &[u8] = &[0x00, 0x61, 0x73, 0x6d, 0x01, 0x00, 0x00, 0x00];
+
+/// Puts bytes behind others, and before them how many they are, in two bytes of LEB128.
+pub(crate) fn push_sized(bytes: &mut Vec<u8>, content: &[u8]) -> Result<(), Fail> {
+    let size = content.len();
+    bytes.push((size % 128) as u8 + 128)?;
+    bytes.push((size / 128 % 128) as u8)?;
+    bytes.extend_from_slice(content)?;
+    Ok(())
+}
+
+/// Puts a section behind others, as its number, a colon and its bytes, without their size.
+pub(crate) fn push_section(alloc: Global, bytes: &mut Vec<u8>, text: &str) -> Result<(), Fail> {
+    let (id, content) = text.split_once(':').ok_or("no section")?;
+    let id = bytes_of(alloc, id)?;
+    let content = bytes_of(alloc, content)?;
+    bytes.extend_from_slice(&id)?;
+    push_sized(bytes, &content)
+}
+
+/// The preamble, and these sections.
+pub(crate) fn sections_of(alloc: Global, text: &str) -> Result<Vec<u8>, Fail> {
+    let mut bytes = Vec::from_slice(alloc, PREAMBLE)?;
+    for section in text.split(';') {
+        push_section(alloc, &mut bytes, section)?;
     }
-    Ok(valid)
+    Ok(bytes)
 }
 
-/// A store of the module whose bytes a text has, if the machine runs it.
-pub(crate) fn store_of(alloc: Global, hex: &str) -> Result<Store, Fail> {
-    let valid = module_of(alloc, hex)?;
-    let mut store = Store::new(alloc);
-    store.add(alloc, &valid)?;
-    Ok(store)
+/// The valid module of these bytes.
+pub(crate) fn module_of(alloc: Global, bytes: &[u8]) -> Result<Valid, Fail> {
+    Ok(validate(alloc, read_module(alloc, bytes, 0)?)?)
 }
 
-/// How many parameters and results function 1 of a store has, behind other numbers and the number of functions.
-fn numbers_text(alloc: Global, store: &Store, before: [usize; 3]) -> Result<String, Fail> {
-    let count = store.len();
-    if count < 2 {
-        return Err(Fail::new("no function 1"));
-    }
-    let func_type = &store.function(1).func_type;
-    let params = func_type.params.len();
-    let results = func_type.results.len();
-    let [empty, first, second] = before;
-    let numbers = [empty, first, second, count, params, results];
-    let numbers = numbers.as_slice();
-    Ok(format!(in alloc; "{numbers:?}")?)
-}
-
-/// What two instances of the module whose bytes a text has make of a store: how many functions it has before, the number of
-/// the first function of each, how many functions it has then, and how many parameters and results function 1 has.
-pub(crate) fn two_instances(alloc: Global, hex: &str) -> Result<String, Fail> {
-    let valid = module_of(alloc, hex)?;
-    let mut store = Store::new(alloc);
-    let empty = store.len();
-    let first = store.add(alloc, &valid)?.first_func;
-    let second = store.add(alloc, &valid)?.first_func;
-    numbers_text(alloc, &store, [empty, first, second])
-}
-
-/// Whether a word is one of a type.
-fn is_word(val_type: ValType, word: u64) -> bool
-    ensures { IsTrue result → (types : List ValType) → (words : List ℕ) → AreWords types words → AreWords (val_type ∷ types) (word ∷ words) }
-{
-    match val_type {
-        ValType::I32 => word < 1 << 32,
-        ValType::I64 => true,
+/// The type of a letter.
+fn type_of(letter: u8) -> ValType {
+    if letter == b'l' {
+        ValType::I64
+    } else {
+        ValType::I32
     }
 }
 
-/// Whether words are those of types.
-fn are_words(types: &[ValType], words: &[u64]) -> bool
-    ensures { IsTrue result → AreWords types.now words.now }
-{
-    let Some((first, types)) = types.split_first() else {
-        return words.is_empty();
-    };
-    let Some((word, words)) = words.split_first() else {
-        return false;
-    };
-    is_word(*first, *word) && are_words(types, words)
+/// The types of letters.
+fn types_of(alloc: Global, letters: &str) -> Result<Seq<ValType>, Fail> {
+    let mut types = Vec::new(alloc);
+    for letter in letters.bytes() {
+        types.push(type_of(letter))?;
+    }
+    Ok(Seq::from_vec(types))
 }
 
-/// A call of the first function of a store, with words of its parameters' types.
-pub(crate) fn called(alloc: Global, store: &Store, args: Vec<u64>) -> Result<Running, Fail>
-    ensures { IfOk result (λ r. IsRunning store.now r) }
-{
-    if store.len() == 0 {
-        return Err(Fail::new("no function"));
+/// The type of a function, its parameters and results as letters: `i` for i32 and `l` for i64.
+pub(crate) fn func_type(alloc: Global, text: &str) -> Result<FuncType, Fail> {
+    let (params, results) = text.split_once('>').ok_or("no type")?;
+    Ok(FuncType {
+        params: types_of(alloc, params)?,
+        results: types_of(alloc, results)?,
+    })
+}
+
+/// What an import brings: a letter for its sort, and its address.
+fn import_of(text: &str) -> Result<External, Fail> {
+    let (sort, address) = text.split_at_checked(1).ok_or("no import")?;
+    let address: usize = address.parse()?;
+    match sort {
+        "f" => Ok(External::Func(address)),
+        "t" => Ok(External::Table(address)),
+        "m" => Ok(External::Memory(address)),
+        "g" => Ok(External::Global(address)),
+        _ => Err(Fail::new("no such import")),
     }
-    let args = Seq::from_vec(args);
-    let params = store.function(0).func_type.params.as_slice();
-    if !are_words(params, args.as_slice()) {
-        return Err(Fail::new("other parameters"));
+}
+
+/// What imports bring.
+pub(crate) fn imports_of(alloc: Global, text: &str) -> Result<Vec<External>, Fail> {
+    let mut imports = Vec::new(alloc);
+    for word in text.trim_matches('-').split_whitespace() {
+        imports.push(import_of(word)?)?;
     }
-    Ok(start(alloc, store, 0, &args)?)
+    Ok(imports)
 }

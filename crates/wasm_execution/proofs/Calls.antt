@@ -1,12 +1,12 @@
 -- Calls: what they find, and what they make of a frame, as moves.
-use Rattle.std.proofs.Common.{◌≡◌, ◌<◌, ℕ, suc, Bool, true, false, ◌&&◌, nat_lt, if◌then◌else◌, List, [], ◌∷◌, ◌++◌, length, reverse, refl, ap, sym, ◌∙◌, subst, arith, get_or, Option, Some, None}
+use Rattle.std.proofs.Common.{◌≡◌, ◌<◌, ℕ, suc, Bool, true, false, nat_lt, if◌then◌else◌, List, [], ◌∷◌, ◌++◌, length, reverse, refl, ap, sym, ◌∙◌, subst, arith, get_or, Option, Some, None}
 use Rattle.std.specs.List.{slice_get}
 use Rattle.std.specs.Option.{option_map, option_and_then}
 use Rattle.std.proofs.lemmas.Bool.Decides.{nat_tests}
 use Rattle.std.proofs.lemmas.List.{length-reverse}
 use Rattle.std.proofs.lemmas.Option.{get_or_from_slice_get, slice_get_within}
 use Rattle.wasm_module.specs.declared.types.ValType.{ValType}
-use Rattle.wasm_module.specs.declared.types.ValType.TheVariants.{I32, I64}
+use Rattle.wasm_module.specs.declared.types.ValType.TheVariants.{I32}
 use Rattle.wasm_module.specs.declared.types.FuncType.{FuncType}
 use Rattle.wasm_module.specs.declared.instr.Instr.TheVariants as instr
 use Rattle.wasm_module.specs.Expr.{Expr, Plain}
@@ -25,26 +25,6 @@ use Rattle.wasm_execution.specs.Stepping.{CallsThere, Fails}
 use Rattle.wasm_execution.proofs.Going.{next_at}
 use Rattle.wasm_execution.proofs.Ready.{has_over, left_typed}
 use Rattle.wasm_execution.proofs.Taking.{CallReady, owner_is, has_under, one_over, last_first}
-
--- Types are compared in the same way.
-types_agree : (ts us : List ValType) → valid.same_types ts us ≡ same_types ts us
-types_agree [] [] = refl
-types_agree [] (u ∷ us) = refl
-types_agree (t ∷ ts) [] = refl
-types_agree (I32 ∷ ts) (I32 ∷ us) = types_agree ts us
-types_agree (I32 ∷ ts) (I64 ∷ us) = refl
-types_agree (I64 ∷ ts) (I32 ∷ us) = refl
-types_agree (I64 ∷ ts) (I64 ∷ us) = types_agree ts us
-
-pub both_same : (t u : FuncType) (a b : Bool) → a ≡ valid.same_types t.params u.params → b ≡ valid.same_types t.results u.results → a ≡ true → b ≡ same_signature t u
-both_same t u a b first second h =
-    let one : same_types t.params u.params ≡ true = sym (first ∙ types_agree t.params u.params) ∙ h in
-    second ∙ types_agree t.results u.results ∙ sym (ap (λ (c : Bool). c && same_types t.results u.results) one)
-
-pub not_same : (t u : FuncType) (a : Bool) → a ≡ valid.same_types t.params u.params → a ≡ false → false ≡ same_signature t u
-not_same t u a first h =
-    let one : same_types t.params u.params ≡ false = sym (first ∙ types_agree t.params u.params) ∙ h in
-    sym (ap (λ (c : Bool). c && same_types t.results u.results) one)
 
 same_long : (ts us : List ValType) → same_types ts us ≡ true → length ts ≡ length us
 same_long [] [] h = refl

@@ -5,7 +5,6 @@ ghost use Rattle.std.specs.List.{slice_get};
 ghost use Rattle.wasm_module.specs.declared.instr.Instr.TheVariants as instr;
 ghost use Rattle.wasm_module.specs.declared.types.FuncType.{FuncType};
 ghost use Rattle.wasm_module.specs.Expr.{Expr, Plain};
-ghost use Rattle.wasm_valid.specs.Context.{arrow};
 ghost use Rattle.core_machine.specs.Store.{type_of};
 ghost use Rattle.core_machine.specs.Step.{same_signature};
 ghost use Rattle.core_machine.specs.Typed.{StoreTyped};
@@ -16,7 +15,7 @@ ghost use Rattle.wasm_execution.specs.Stepping.{IsTyped, StepGives, PlacedAfter}
 use crate::frame::Frame;
 use crate::stepping::Step;
 use core_machine::Trap;
-use wasm_module::{FuncType, ValType, are_same};
+use wasm_module::FuncType;
 use wasm_store::{FunctionInstance, Store};
 
 /// `call`.
@@ -69,39 +68,5 @@ fn has_type(function: &FunctionInstance, types: &[FuncType], index: usize) -> bo
     requires { index < length types.now }
     ensures { (type : FuncType) × (slice_get types.now index ≡ Some type) × (result ≡ same_signature type (type_of (function_of function.now))) }
 {
-    let func_type = &types[index];
-    is_like(func_type, params_of(function), results_of(function))
-}
-
-/// Whether a function type has these parameters and these results.
-fn is_like(func_type: &FuncType, params: &[ValType], results: &[ValType]) -> bool
-    ensures { result ≡ same_signature func_type.now (arrow params.now results.now) }
-{
-    are_same(func_type.params.as_slice(), params) && are_same(func_type.results.as_slice(), results)
-}
-
-/// The types of what a function takes.
-fn params_of<'a>(function: &'a FunctionInstance) -> &'a [ValType]
-    ensures { result.now ≡ (type_of (function_of function.now)).params }
-{
-    match function {
-        FunctionInstance::Own(own) => match own.types.as_slice().get(own.type_index) {
-            None => &[],
-            Some(found) => found.params.as_slice(),
-        },
-        FunctionInstance::Host(found) => found.params.as_slice(),
-    }
-}
-
-/// The types of what it gives.
-fn results_of<'a>(function: &'a FunctionInstance) -> &'a [ValType]
-    ensures { result.now ≡ (type_of (function_of function.now)).results }
-{
-    match function {
-        FunctionInstance::Own(own) => match own.types.as_slice().get(own.type_index) {
-            None => &[],
-            Some(found) => found.results.as_slice(),
-        },
-        FunctionInstance::Host(found) => found.results.as_slice(),
-    }
+    function.has_type(&types[index])
 }

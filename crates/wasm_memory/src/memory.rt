@@ -61,7 +61,14 @@ impl LinearMemory {
         (self.bytes.len() / PAGE_SIZE as usize) as u32
     }
 
-    /// The most pages that it may have.
+    /// The most pages that it may have, where that is said.
+    pub fn max(&self) -> Option<u32>
+        ensures { result ≡ self.now.maximum }
+    {
+        self.max
+    }
+
+    /// The most pages that it may have, said or not.
     fn most(&self) -> u32
         ensures { result ≡ most_pages self.now.maximum }
     {

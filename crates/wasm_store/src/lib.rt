@@ -4,8 +4,8 @@
 //! Contracts see a store as the one of core_machine. It is typed.
 //!
 //! - `function`, `instance`: what stands in a store
-//! - `store`: the store; `adding`: instances of modules; `parts`: what a module brings; `constants`, `segments`: the values of
-//!   constant expressions, and segments that are written
+//! - `store`: the store; `adding`: instances of modules; `matching`: imports, compared with what a module asks for; `parts`:
+//!   what a module brings; `constants`, `segments`: the values of constant expressions, and segments that are written
 //! - `lending`: the bytes of memories
 //! - `effects`: instructions; `numbers`, `parametric`: those over operands alone; `variables`: those of locals and globals;
 //!   `accesses`: those of memories
@@ -20,6 +20,7 @@ mod effects;
 mod function;
 mod instance;
 mod lending;
+mod matching;
 mod numbers;
 mod operands;
 mod parametric;

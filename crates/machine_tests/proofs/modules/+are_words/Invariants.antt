@@ -1,6 +1,0 @@
--- Fewer types are left.
-use Rattle.std.proofs.Common.{length}
-use Rattle.machine_tests.proofs.modules.+are_words.Given as goal
-
-abbrev pub decreases-are_words : goal.decreases-are_words
-decreases-are_words l = length l.types.now

@@ -1,0 +1,164 @@
+//! Bodies of functions in a module, and what they give.
+
+ghost use Rattle.std.specs.Prelude.{IfOk};
+ghost use Rattle.machine_tests.specs.Typed.{MayRun, MayGoOn};
+
+use crate::blocks::BLOCKS;
+use crate::calls::CALLS;
+use crate::frame::part;
+use crate::memories::MEMORIES;
+use crate::modules::{func_type, module_of, push_section, push_sized, sections_of};
+use crate::numbers::NUMBERS;
+use crate::running::{answered, called, given, name_of, run_for, told};
+use crate::words::words_of;
+use ca_base::Fuel;
+use cases::bytes_of;
+use std::alloc::Global;
+use std::process::Abort;
+use std::test::Fail;
+use wasm_execution::{Outcome, Running, Suspended};
+use wasm_store::{External, Store};
+use wasm_valid::Valid;
+
+/// The slices of fuel in which each body is run.
+const SLICES: [u64; 3] = [1_000_000, 1, 3];
+
+/// The most slices that a run may take.
+const MOST_SLICES: u32 = 100_000;
+
+/// The names of the sections of the memory and of its bytes.
+#[derive(Clone, Copy)]
+struct Pages {
+    memory: &'static str,
+    bytes: &'static str,
+}
+
+/// A memory of a page with some bytes.
+const WITH_BYTES: Pages = Pages {
+    memory: "memory",
+    bytes: "bytes",
+};
+
+/// A memory without pages.
+const WITHOUT_PAGES: Pages = Pages {
+    memory: "memory without pages",
+    bytes: "no bytes",
+};
+
+/// The module in which function 1 has this type and this body.
+fn module_with(alloc: Global, type_index: &str, body: &str, pages: Pages) -> Result<Valid, Fail> {
+    let types = part("types")?;
+    let text = format!(in alloc;
+        "01:{types};02:01 016d 0168 00 02;03:08 {type_index} 01 0a 00 03 01 00 02"
+    )?;
+    let mut bytes = sections_of(alloc, text.as_str())?;
+    push_section(alloc, &mut bytes, part("table")?)?;
+    push_section(alloc, &mut bytes, part(pages.memory)?)?;
+    push_section(alloc, &mut bytes, part("globals")?)?;
+    push_section(alloc, &mut bytes, "07:01 0166 00 01")?;
+    push_section(alloc, &mut bytes, part("entries")?)?;
+    push_bodies(alloc, &mut bytes, body)?;
+    push_section(alloc, &mut bytes, part(pages.bytes)?)?;
+    module_of(alloc, &bytes)
+}
+
+/// Puts the section of this body and of those behind it behind others.
+fn push_bodies(alloc: Global, bytes: &mut Vec<u8>, body: &str) -> Result<(), Fail> {
+    let mut content = Vec::from_slice(alloc, &[8])?;
+    push_sized(&mut content, &bytes_of(alloc, body)?)?;
+    let others = bytes_of(alloc, part("bodies")?)?;
+    content.extend_from_slice(&others)?;
+    bytes.push(10)?;
+    push_sized(bytes, &content)
+}
+
+/// The stack that goes on with the two words that a function of the host was called with, the last one first.
+fn swapped(
+    store: &Store,
+    address: usize,
+    words: &[u64],
+    waiting: Suspended,
+) -> Result<Running, Fail>
+    requires { MayGoOn store.now address waiting }
+    ensures { IfOk result (λ r. MayRun store.now r) }
+{
+    if words.len() != 2 {
+        waiting.give_up();
+        return Err(Fail::new("not two words"));
+    }
+    let answers = [words[1], words[0]];
+    answered(store, address, waiting, answers.as_slice())
+}
+
+/// What a stack comes to that runs in such slices of fuel, and how many units it takes.
+fn finish(alloc: Global, running: Running, store: &mut Store, slice: u64) -> Result<String, Fail>
+    requires { MayRun store.old running }
+{
+    let mut running = running;
+    let mut units = 0u64;
+    for _turn in 0..MOST_SLICES {
+        let mut fuel = Fuel::new(slice);
+        let outcome = run_for(alloc, running, store, &mut fuel);
+        units = units.wrapping_add(slice.wrapping_sub(fuel.left()));
+        match outcome {
+            Outcome::Done(words) => return given(alloc, words.as_slice(), units),
+            Outcome::Trapped(why) => return told(alloc, name_of(why), units),
+            Outcome::NoFuel(later) => running = later,
+            Outcome::Calls(address, words, waiting) => {
+                running = swapped(store, address, words.as_slice(), waiting)?;
+            }
+            Outcome::Memory => return Err(Fail::new("want of memory")),
+        }
+    }
+    running.give_up();
+    Err(Fail::new("no end"))
+}
+
+/// What the body of a module gives for these words, in such slices of fuel.
+fn outcome(alloc: Global, valid: &Valid, args: &[u64], slice: u64) -> Result<String, Fail> {
+    let mut store = Store::new(alloc);
+    let host = store.host(func_type(alloc, "il>li")?)?;
+    let imports = [External::Func(host)];
+    if !store.matches(valid, imports.as_slice()) {
+        return Err(Fail::new("other imports"));
+    }
+    store.add(alloc, valid, imports.as_slice())?;
+    let running = called(alloc, &store, 1, args)?;
+    finish(alloc, running, &mut store, slice)
+}
+
+/// Compares what the body of a line gives.
+fn compare(rt: &impl Abort, alloc: Global, line: &str, pages: Pages) -> Result<(), Fail> {
+    let (given, wanted) = line.rsplit_once(" = ").ok_or("no answer")?;
+    let (given, args) = given.rsplit_once(" | ").ok_or("no arguments")?;
+    let (given, body) = given.rsplit_once(" | ").ok_or("no body")?;
+    let (_title, type_index) = given.rsplit_once(" | ").ok_or("no type")?;
+    let valid = module_with(alloc, type_index, body, pages)?;
+    let args = words_of(alloc, args, ' ')?;
+    for slice in SLICES {
+        let got = outcome(alloc, &valid, &args, slice)?;
+        assert_eq!(rt; got.as_str(), wanted, "{line}");
+    }
+    Ok(())
+}
+
+/// Compares what the bodies of lines give, and answers how many there are. A line has a title, the index of the body's
+/// type, the body without its size, its arguments, and what it gives for how many units of fuel. All but the units is
+/// hexadecimal. The function of the host gives its words the last one first.
+fn check(rt: &impl Abort, alloc: Global, lines: &str, pages: Pages) -> Result<u32, Fail> {
+    let mut count = 0u32;
+    for line in lines.trim().lines() {
+        compare(rt, alloc, line, pages)?;
+        count = count.wrapping_add(1);
+    }
+    Ok(count)
+}
+
+#[test]
+fn bodies_give_words(rt: HostRuntime) -> Result<(), Fail> {
+    assert_eq!(rt; check(&rt, rt.alloc(), NUMBERS, WITHOUT_PAGES)?, 176);
+    assert_eq!(rt; check(&rt, rt.alloc(), BLOCKS, WITHOUT_PAGES)?, 93);
+    assert_eq!(rt; check(&rt, rt.alloc(), CALLS, WITHOUT_PAGES)?, 44);
+    assert_eq!(rt; check(&rt, rt.alloc(), MEMORIES, WITH_BYTES)?, 163);
+    Ok(())
+}

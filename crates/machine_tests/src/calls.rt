@@ -1,0 +1,49 @@
+//! Bodies that call functions.
+
+/// Lines as those that `bodies` describes.
+pub(crate) const CALLS: &str = "
+call | 01 | 00 2000 1002 0b | 7 = 8 for 5
+call of a sum that wraps | 01 | 00 2000 1002 0b | ffffffff = 0 for 5
+call with two results | 0a | 00 1003 0b | - = 7 9 for 3
+call with two results over a value | 03 | 00 41e400 1003 6b 6a 0b | - = 62 for 6
+call with two parameters of two types | 02 | 00 2000 2001 1008 0b | 5 ffffffffffffffff = ffffffffffffffff 5 for 5
+call of a function that traps | 03 | 00 1005 0b | - = Unreachable for 2
+call leaves the locals | 01 | 00 2000 1002 2000 6a 0b | 7 = f for 7
+call of the host | 02 | 00 2000 2001 1000 0b | 5 6 = 6 5 for 3
+call of the host with the greatest words | 02 | 00 2000 2001 1000 0b | ffffffff ffffffffffffffff = ffffffffffffffff ffffffff for 3
+call of the host over a value | 01 | 00 4105 2000 4207 1000 2100 a7 6a 2000 6a 0b | 3 = f for 9
+call of the host twice | 02 | 00 2000 2001 1000 2100 2101 2000 2001 1000 0b | 5 6 = 6 5 for 8
+call of the host in a block | 02 | 00 2000 2001 0202 1000 0b 0b | 5 6 = 6 5 for 4
+the factorial of 0 | 01 | 00 2000 1006 0b | 0 = 1 for 6
+the factorial of 1 | 01 | 00 2000 1006 0b | 1 = 1 for 15
+the factorial of 5 | 01 | 00 2000 1006 0b | 5 = 78 for 51
+the factorial of 12 | 01 | 00 2000 1006 0b | c = 1c8cfc00 for 114
+the factorial of 13, modulo 2^32 | 01 | 00 2000 1006 0b | d = 7328cc00 for 123
+the factorial of 510, in 512 frames | 01 | 00 2000 1006 0b | 1fe = 0 for 4596
+the factorial of 511, which lacks a frame | 01 | 00 2000 1006 0b | 1ff = StackLimit for 4090
+calls without end | 00 | 00 1004 0b | - = StackLimit for 512
+calls of itself without end | 00 | 00 1001 0b | - = StackLimit for 512
+calls of itself through three frames | 01 | 00 2000 047f 2000 4101 6b 1001 4101 6a 05 4100 0b 0b | 3 = 3 for 27
+calls of itself through 512 frames | 01 | 00 2000 047f 2000 4101 6b 1001 4101 6a 05 4100 0b 0b | 1ff = 1ff for 4091
+calls of itself through 513 frames | 01 | 00 2000 047f 2000 4101 6b 1001 4101 6a 05 4100 0b 0b | 200 = StackLimit for 3072
+call of the host by 512 frames | 01 | 00 2000 047f 2000 4101 6b 1001 05 4105 4206 1000 2100 1a 2000 0b 0b | 1ff = 5 for 3074
+call_indirect | 01 | 00 2000 4101 110100 0b | 7 = 8 for 6
+call_indirect by the same type of another index | 01 | 00 2000 4101 111200 0b | 7 = 8 for 6
+call_indirect of the entry of a number | 01 | 00 4107 2000 110100 0b | 1 = 8 for 6
+call_indirect of an entry with nothing in it | 01 | 00 4107 2000 110100 0b | 0 = NullElement for 3
+call_indirect of an entry behind the segment | 01 | 00 4107 2000 110100 0b | 6 = NullElement for 3
+call_indirect of the last entry | 01 | 00 4107 2000 110100 0b | 9 = NullElement for 3
+call_indirect of no entry | 01 | 00 4107 2000 110100 0b | a = TableBounds for 3
+call_indirect of the entry 2^31 | 01 | 00 4107 2000 110100 0b | 80000000 = TableBounds for 3
+call_indirect of the entry 2^32 - 1 | 01 | 00 4107 2000 110100 0b | ffffffff = TableBounds for 3
+call_indirect of a function without parameters | 01 | 00 4107 2000 110100 0b | 2 = OtherSignature for 3
+call_indirect of a function with more parameters | 01 | 00 4107 2000 110100 0b | 3 = OtherSignature for 3
+call_indirect of a host function of another type | 01 | 00 4107 2000 110100 0b | 4 = OtherSignature for 3
+call_indirect with a result of another type | 0f | 00 2000 4101 110f00 0b | 1 = OtherSignature for 3
+call_indirect with a parameter of another type | 05 | 00 2000 4101 110500 0b | 1 = OtherSignature for 3
+call_indirect without a result | 10 | 00 2000 4101 111000 0b | 1 = OtherSignature for 3
+call_indirect with two results | 0a | 00 4102 110a00 0b | - = 7 9 for 4
+call_indirect with two parameters | 02 | 00 2000 2001 4103 110200 0b | 5 6 = 6 5 for 6
+call_indirect of a function of the host | 02 | 00 2000 2001 4104 110200 0b | 5 6 = 6 5 for 4
+call_indirect of a function that traps | 03 | 00 4105 110300 0b | - = Unreachable for 3
+";

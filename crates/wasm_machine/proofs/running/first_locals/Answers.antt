@@ -1,8 +1,0 @@
-use Rattle.std.proofs.Common.{arith}
-use Rattle.wasm_module.specs.declared.types.ValType.TheVariants.{I32}
-use Rattle.wasm_machine.proofs.Starting.{group_pushed}
-use Rattle.wasm_machine.proofs.running.first_locals.Goals as goal
-
-pub loop-group-preserved : goal.loop-group-preserved
-loop-group-preserved c =
-    group_pushed c.args.groups.now c.loop-group.group-index (record { count = 0; val_type = I32 }) c.args.args.now c.loop-group.locals.items c.push_zeros.new.locals.items (omega arith) c.loop-group.invariant c.in_ok-push_zeros.ensures
