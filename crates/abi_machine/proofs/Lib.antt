@@ -1,0 +1,7 @@
+pub mod Instances
+pub mod Worlds
+pub mod Runs
+pub mod Fuel
+pub mod Flat
+pub mod Endings
+pub mod CoreSteps

@@ -1,0 +1,284 @@
+-- What a run of a sound script keeps of its worlds, and that a world's next move is one.
+use Rattle.std.proofs.Common.{◌≡◌, ◌⊎◌, inl, inr, ℕ, zero, suc, ◌+◌, nat_eq, Bool, true, false, List, [], ◌∷◌, ◌++◌, length, map, refl, sym, ap, ◌∙◌, subst, arith, Option, Some, None, append-nil, append_assoc, length-append}
+use Rattle.std.specs.List.{slice_get, list_all, flat_map, AllByRecursion, AllZip}
+use Rattle.std.specs.Option.{option_map, option_and_then}
+use Rattle.std.proofs.lemmas.Option.{slice_get-map}
+use Rattle.std.proofs.lemmas.Bool.{eqb-true}
+use Rattle.wasm_module.specs.declared.types.ValType.{ValType}
+use Rattle.wasm_module.specs.declared.types.FuncType as core_type_of
+use Rattle.wasm_module.specs.declared.module.Func.{Func}
+use Rattle.wasm_module.specs.declared.module.Import.{Import}
+use Rattle.wasm_module.specs.declared.module.ModuleTree.{ModuleTree}
+use Rattle.wasm_module.specs.Spaces.{imported_funcs, func_space}
+use Rattle.wasm_numbers.specs.Types.{AreWords}
+use Rattle.wasm_valid.specs.Modules.{Typed}
+use Rattle.wasm_valid.specs.Instrs.{func_type}
+use Rattle.core_machine.specs.Store.{Function, Host, type_of, Instance, Store, func_at}
+use Rattle.core_machine.specs.Stack.{Stack}
+use Rattle.core_machine.specs.Step.{Move, Goes, Calls, Traps, next, start, units}
+use Rattle.core_machine.specs.Step as core
+use Rattle.core_machine.specs.Instantiation.{External, Instantiation, Makes, SegmentBounds, instance_of, instantiated, start_call, ImportMatches, ImportsMatch, InRange}
+use Rattle.core_machine.specs.Typed.{StoreTyped, Extends, HasContext, module_context, StackTyped}
+use Rattle.core_machine.specs.Laws.{MoveTyped, IsThere, AddedTyped, IsOwn, HasNoHosts, AddedWithoutHosts}
+use Rattle.core_machine.proofs.Lists.{both_true, all_at, found_there}
+use Rattle.core_machine.proofs.Stores.{still, has_later}
+use Rattle.core_machine.proofs.Moving.{moves_typed, starts_typed}
+use Rattle.core_machine.proofs.Adding.{adds_typed}
+use Rattle.core_machine.proofs.Changing.{empty_typed}
+use Rattle.core_machine.proofs.Keeping.{steps_keep, empty_has_none, adds_none}
+use Rattle.comp_graph.specs.declared.graph.CoreFunc.{CoreFunc}
+use Rattle.comp_graph.specs.Graph.{Graph, Lifted, func_named, type_at, core_type}
+use Rattle.script_reader.specs.declared.script.Call.{Call}
+use Rattle.script_reader.specs.declared.script.Item.{Item}
+use Rattle.script_reader.specs.declared.script.Item.TheVariants as item
+use Rattle.trace_show.specs.declared.label.Label.{Label}
+use Rattle.trace_show.specs.declared.trap.TrapName.TheVariants as trap
+use Rattle.abi_machine.specs.declared.run_end.RunEnd.{RunEnd}
+use Rattle.abi_machine.specs.World.{TaskState, Instantiating, StartsUp, Starting, Running, Returned, Doomed, Task, World, first_world, with_task, with_store}
+use Rattle.abi_machine.specs.Machine.{Turn, Steps, Ends, Stuck, charged, silent_for, trap_name, core_turn, started_up, made, instantiating_turn, lowered, core_func, entered, task_turn, taken, idle_turn, chain_turn, turn}
+use Rattle.abi_machine.specs.Run.{Reaches}
+use Rattle.abi_machine.specs.Laws.{SoundGraph, SoundCall, SoundItem, StepsOnce, EndsOnce, OneNext, OneRun}
+use Rattle.abi_machine.specs.Kept.{AreMade, AreMadeBut, StateKept, ChainKept, Kept}
+use Rattle.abi_machine.specs.KeptLaws.{FirstKept, StaysKept, IsNeverStuck}
+use Rattle.abi_machine.proofs.Instances.{MoveKeeps, next_keeps, LeavesWith, brings_one}
+
+-- Modules of a sound graph have no imports.
+no_items : {A : Type 0} (xs : List A) → nat_eq (length xs) 0 ≡ true → xs ≡ []
+no_items [] h = refl
+no_items (x ∷ xs) h = let e : suc (length xs) ≡ 0 = eqb-true (suc (length xs)) 0 h in absurd (omega arith)
+
+no_imports : (ms : List ModuleTree) → list_all (λ m. nat_eq (length m.imports) 0) ms ≡ true → AllByRecursion (λ m. m.imports ≡ []) ms
+no_imports [] h = tt
+no_imports (m ∷ ms) h =
+    let both = both_true (nat_eq (length m.imports) 0) (list_all (λ m. nat_eq (length m.imports) 0) ms) h in
+    (no_items m.imports both.0, no_imports ms both.1)
+
+none_match : (s : Store) (m : ModuleTree) → m.imports ≡ [] → ImportsMatch s m []
+none_match s m h = subst (λ (is : List Import). AllZip (λ i (e : External). ImportMatches s m.types i.desc e) is []) (sym h) tt
+
+-- Core instances that were made stay so, and one more is made.
+made_still : (s t : Store) (modules : List ModuleTree) → Extends s t → t.instances ≡ s.instances → AreMade s modules → AreMade t modules
+made_still s t modules x e h = record {
+  count = ap length e ∙ h.count;
+  each = λ n m k. (let i = h.each n m k in (i.0, still s.instances t.instances n i.0 x.instances i.1, has_later s t i.0 (module_context m) x i.2));
+}
+
+get_last : {A : Type 0} (xs : List A) (y : A) (n : ℕ) (x : A) → slice_get (xs ++ y ∷ []) n ≡ Some x → (slice_get xs n ≡ Some x) ⊎ ((n ≡ length xs) × (y ≡ x))
+get_last [] y zero x h = inr (refl, cc)
+get_last [] y (suc n) x h = cc
+get_last (z ∷ xs) y zero x h = inl h
+get_last (z ∷ xs) y (suc n) x h = elim (get_last xs y n x h) [
+  | inl k ↦ inl k
+  | inr k ↦ inr (ap (λ (n : ℕ). suc n) k.0, k.1)
+]
+
+made_more : (s t : Store) (m : ModuleTree) (modules : List ModuleTree) → Extends s t → t.instances ≡ s.instances ++ instance_of m [] s ∷ [] → IsThere s m [] t → AreMade s modules → AreMade t (modules ++ m ∷ [])
+made_more s t m modules x e (there, has) h = record {
+  count = ap length e ∙ (length-append s.instances (instance_of m [] s ∷ []) ∙ (ap (λ (n : ℕ). n + 1) h.count ∙ sym (length-append modules (m ∷ []))));
+  each = λ n k found. elim (get_last modules m n k found) [
+    | inl old ↦ (let i = h.each n k old in (i.0, still s.instances t.instances n i.0 x.instances i.1, has_later s t i.0 (module_context k) x i.2))
+    | inr new ↦ (instance_of m [] s, subst (λ (n : ℕ). slice_get t.instances n ≡ Some (instance_of m [] s)) (h.count ∙ sym new.0) there, subst (λ (k : ModuleTree). HasContext t (instance_of m [] s) (module_context k)) new.1 has)
+  ];
+}
+
+-- The core function of a lift is there, with its type.
+pub then_some : {A B : Type 0} (f : A → Option B) (o : Option A) (y : B) → option_and_then f o ≡ Some y → (x : A) × (o ≡ Some x) × (f x ≡ Some y)
+then_some f None y h = cc
+then_some f (Some x) y h = (x, refl, h)
+
+own_type : (m : ModuleTree) (func : ℕ) (type : core_type_of.FuncType) → m.imports ≡ [] → type_at m func ≡ Some type → func_type (module_context m) func ≡ Some type
+own_type m func type none h =
+    let f = then_some (λ (f : Func). slice_get m.types f.type_index) (slice_get m.funcs func) type h in
+    let space : func_space m ≡ map (λ f. f.type_index) m.funcs = ap (λ (is : List Import). imported_funcs is ++ map (λ f. f.type_index) m.funcs) none in
+    let at : slice_get (func_space m) func ≡ Some f.0.type_index =
+    ap (λ (xs : List ℕ). slice_get xs func) space ∙ (slice_get-map (λ f. f.type_index) m.funcs func ∙ ap (option_map (λ f. f.type_index)) f.1) in
+    ap (option_and_then (λ type. slice_get m.types type)) at ∙ f.2
+
+pub record CoreThere (s : Store) (f : CoreFunc) (type : core_type_of.FuncType) : Type 0 where
+  pub function : ℕ × Function
+  pub found : core_func s f ≡ Some function
+  pub there : slice_get s.funcs function.0 ≡ Some function.1
+  pub of_type : type_of function.1 ≡ type
+
+pub core_there : (g : Graph) (s : Store) (f : CoreFunc) (type : core_type_of.FuncType) → SoundGraph g → AreMade s g.instances → core_type g.instances f ≡ Some type → CoreThere s f type
+core_there g s f type sound all h =
+    let m = then_some (λ (m : ModuleTree). type_at m f.func) (slice_get g.instances f.instance) type h in
+    let i = all.each f.instance m.0 m.1 in
+    let none : m.0.imports ≡ [] = all_at (λ m. m.imports ≡ []) g.instances f.instance m.0 (no_imports g.instances sound.no_imports) m.1 in
+    let p = i.2.funcs f.func type (own_type m.0 f.func type none m.2) in
+    let there = found_there s.funcs (slice_get i.0.funcs f.func) p.0 p.1 in
+    record {
+      function = p.0;
+      found = ap (option_and_then (λ (i : Instance). func_at f.func i s)) i.1 ∙ p.1;
+      there = there.1;
+      of_type = p.2;
+    }
+
+-- what is kept of all but the chain
+record Ground (g : Graph) (s : Store) (items : List Item) (calls tasks : ℕ) : Type 0 where
+  pub sound : SoundGraph g
+  pub called : AllByRecursion (SoundItem g) items
+  pub typed : StoreTyped s
+  pub hostless : HasNoHosts s
+  pub numbered : calls ≡ tasks
+
+kept : (g : Graph) (w : World) → Ground g w.store w.items w.calls w.tasks → AllByRecursion (λ task. task.number ≡ w.tasks) w.chain → ChainKept g w.store w.chain → Kept g w
+kept g w h n c = record { graph = h.sound; items = h.called; store = h.typed; no_hosts = h.hostless; chain = c; numbers = n; calls = h.numbered }
+
+ground : (g : Graph) (w : World) → Kept g w → Ground g w.store w.items w.calls w.tasks
+ground g w h = record { sound = h.graph; called = h.items; typed = h.store; hostless = h.no_hosts; numbered = h.calls }
+
+-- a next move that keeps it
+abbrev Moves : Graph → Turn → Type 0
+Moves g (Steps labels w) = Kept g w
+Moves g (Ends end) = Unit {0}
+Moves g Stuck = ⊥
+
+charged_moves : (g : Graph) (units : ℕ) (step : ℕ → Turn) → ((k : ℕ) → Moves g (step k)) → Moves g (charged units step)
+charged_moves g zero step h = tt
+charged_moves g (suc units) step h = h units
+
+silent_moves : (g : Graph) (costs : Bool) (w : World) → ((units : ℕ) → Kept g (record w { units = units })) → Moves g (silent_for costs w)
+silent_moves g false w h = h w.units
+silent_moves g true w h = charged_moves g w.units _ h
+
+-- A step of a stack leaves functions and instances as they are.
+goes_keep : (s t : Store) (k l : Stack) (costs : Bool) → next s k ≡ Goes costs t l → (t.funcs ≡ s.funcs) × (t.instances ≡ s.instances)
+goes_keep s t k l costs e =
+    (steps_keep (units costs + 0) s t k l (suc zero, (costs, 0, t, l, e, refl, (refl, refl, refl))), subst (MoveKeeps s) e (next_keeps s k))
+
+-- by the move of the stack that runs
+core_moves : (g : Graph) (w : World) (number : ℕ) (state : Stack → TaskState) (behind : List ℕ → Turn) (results : List ValType) (m : Move) → Ground g w.store w.items w.calls w.tasks → number ≡ w.tasks → MoveTyped w.store results m → ((costs : Bool) (t : Store) (l : Stack) → m ≡ Goes costs t l → (t.funcs ≡ w.store.funcs) × (t.instances ≡ w.store.instances)) → ((t : Store) (l : Stack) → Extends w.store t → t.instances ≡ w.store.instances → StackTyped t results l → StateKept g t (state l)) → ((words : List ℕ) → Moves g (behind words)) → Moves g (core_turn m state behind number [] w)
+core_moves g w number state behind results (Goes costs t l) h n (x, typed, stack) same goes ends =
+    let both = same costs t l refl in
+    let later : Ground g t w.items w.calls w.tasks = record { sound = h.sound; called = h.called; typed = typed; hostless = subst (AllByRecursion IsOwn) (sym both.0) h.hostless; numbered = h.numbered } in
+    silent_moves g costs (with_store t (with_task number (state l) [] w)) (λ units. kept g (record (with_store t (with_task number (state l) [] w)) { units = units }) later (n, tt) (goes t l x both.1 stack))
+core_moves g w number state behind results (Calls address words l) h n (type, there, args, answers) same goes ends =
+    absurd (all_at IsOwn w.store.funcs address (Host type) h.hostless there)
+core_moves g w number state behind results (core.Ends words) h n typed same goes ends = ends words
+core_moves g w number state behind results (Traps why) h n typed same goes ends =
+    silent_moves g true (with_task number (Doomed (trap_name why)) [] w) (λ units. kept g (record (with_task number (Doomed (trap_name why)) [] w) { units = units }) h (n, tt) tt)
+core_moves g w number state behind results core.Stuck h n typed same goes ends = absurd typed
+
+-- A module's core instance is made, and its start function is called, where it has one.
+started_kept : (g : Graph) (t : Store) (modules : List ModuleTree) (o : Option Stack) → AreMadeBut g t modules → ((k : Stack) → o ≡ Some k → StackTyped t [] k) → StateKept g t (started_up o modules)
+started_kept g t modules None h typed = h
+started_kept g t modules (Some k) h typed = (h, typed k refl)
+
+made_moves : (g : Graph) (w : World) (number : ℕ) (m : ModuleTree) (modules : List ModuleTree) (r : Instantiation) → Ground g w.store w.items w.calls w.tasks → number ≡ w.tasks → AreMadeBut g w.store (m ∷ modules) → AddedTyped w.store m [] r → AddedWithoutHosts r → LeavesWith (w.store.instances ++ instance_of m [] w.store ∷ []) r → Moves g (made r m modules number [] w)
+made_moves g w number m modules (SegmentBounds t) h n but (x, typed, there) none one =
+    kept g (with_store t (with_task number (Doomed trap.SegmentBounds) [] w)) (record { sound = h.sound; called = h.called; typed = typed; hostless = none; numbered = h.numbered }) (n, tt) tt
+made_moves g w number m modules (Makes t) h n but (x, typed, there, calls) none one =
+    let later : AreMadeBut g t modules = record {
+      before = but.before ++ m ∷ [];
+      split = but.split ∙ sym (append_assoc but.before (m ∷ []) modules);
+      made = made_more w.store t m but.before x one there but.made;
+    } in
+    let state : StateKept g t (started_up (start_call m (instance_of m [] w.store) t) modules) = started_kept g t modules (start_call m (instance_of m [] w.store) t) later calls in
+    kept g (with_store t (with_task number (started_up (start_call m (instance_of m [] w.store) t) modules) [] w)) (record { sound = h.sound; called = h.called; typed = typed; hostless = none; numbered = h.numbered }) (n, tt) state
+
+get_middle : {A : Type 0} (xs ys : List A) (y : A) → slice_get (xs ++ y ∷ ys) (length xs) ≡ Some y
+get_middle [] ys y = refl
+get_middle (x ∷ xs) ys y = get_middle xs ys y
+
+instantiating_moves : (g : Graph) (w : World) (number : ℕ) (modules : List ModuleTree) → Ground g w.store w.items w.calls w.tasks → number ≡ w.tasks → AreMadeBut g w.store modules → Moves g (instantiating_turn modules number [] w)
+instantiating_moves g w number [] h n but =
+    kept g (record w { chain = [] }) h tt (subst (AreMade w.store) (sym (but.split ∙ append-nil but.before)) but.made)
+instantiating_moves g w number (m ∷ modules) h n but =
+    let at : slice_get g.instances (length but.before) ≡ Some m = ap (λ (ms : List ModuleTree). slice_get ms (length but.before)) but.split ∙ get_middle but.before modules m in
+    let typed : Typed m = all_at Typed g.instances (length but.before) m h.sound.valid at in
+    let range : InRange m = all_at InRange g.instances (length but.before) m h.sound.in_range at in
+    let none : m.imports ≡ [] = all_at (λ m. m.imports ≡ []) g.instances (length but.before) m (no_imports g.instances h.sound.no_imports) at in
+    made_moves g w number m modules (instantiated m [] w.store) h n but (adds_typed w.store m [] h.typed typed range (none_match w.store m none)) (adds_none w.store m [] h.hostless) (brings_one w.store m [])
+
+-- by where the acting task is
+state_moves : (g : Graph) (w : World) (number : ℕ) (state : TaskState) → Ground g w.store w.items w.calls w.tasks → number ≡ w.tasks → StateKept g w.store state → Moves g (task_turn state number [] w)
+state_moves g w number (Instantiating modules) h n but = instantiating_moves g w number modules h n but
+state_moves g w number (StartsUp k modules) h n (but, typed) =
+    core_moves g w number (λ l. StartsUp l modules) _ [] (next w.store k) h n (moves_typed w.store [] k h.typed typed) (λ costs t l e. goes_keep w.store t k l costs e)
+    (λ t l x e stack. (record { before = but.before; split = but.split; made = made_still w.store t but.before x e but.made }, stack))
+    (λ words. kept g (with_task number (Instantiating modules) [] w) h (n, tt) but)
+state_moves g w number (Starting f values) h n (all, (type, there, words)) =
+    let c = core_there g w.store f.core type h.sound all there.there in
+    let args : AreWords (type_of c.function.1).params (map lowered values) = subst (λ (type : core_type_of.FuncType). AreWords type.params (map lowered values)) (sym c.of_type) words in
+    let stack = starts_typed w.store c.function.0 c.function.1 (map lowered values) h.typed c.there args in
+    let state : StateKept g w.store (Running f (start c.function.1 c.function.0 (map lowered values))) = (all, (type, there, subst (λ (type : core_type_of.FuncType). StackTyped w.store type.results (start c.function.1 c.function.0 (map lowered values))) c.of_type stack)) in
+    subst (λ (o : Option (ℕ × Function)). Moves g (entered o f values number [] w)) (sym c.found)
+    (kept g (with_task number (Running f (start c.function.1 c.function.0 (map lowered values))) [] w) h (n, tt) state)
+state_moves g w number (Running f k) h n (all, (type, there, typed)) =
+    core_moves g w number (Running f) _ type.results (next w.store k) h n (moves_typed w.store type.results k h.typed typed) (λ costs t l e. goes_keep w.store t k l costs e)
+    (λ t l x e stack. (made_still w.store t g.instances x e all, (type, there, stack)))
+    (λ words. kept g (with_task number Returned [] w) h (n, tt) all)
+state_moves g w number Returned h n all = kept g (record w { chain = [] }) h tt all
+state_moves g w number (Doomed why) h n any = tt
+
+-- A call of a sound script names a function.
+taken_moves : (g : Graph) (w : World) (call : Call) (others : List Item) (o : Option Lifted) → func_named g call.name ≡ o → SoundCall g call → Ground g w.store others w.calls w.tasks → AreMade w.store g.instances → Moves g (taken o call others w)
+taken_moves g w call others None e s h all = cc (e, s.named)
+taken_moves g w call others (Some f) e s h all =
+    let same : s.lifted ≡ f = cc (e, s.named) in
+    let there : core_type g.instances f.core ≡ Some s.type = subst (λ (l : Lifted). core_type g.instances l.core ≡ Some s.type) same s.there in
+    charged_moves g w.units _ (λ units. record { graph = h.sound; items = h.called; store = h.typed; no_hosts = h.hostless; chain = (all, (s.type, record { name = call.name; named = e; there = there }, s.values)); numbers = (refl, tt); calls = ap (λ (n : ℕ). n + 1) h.numbered })
+
+idle_moves : (g : Graph) (w : World) (items : List Item) → Ground g w.store items w.calls w.tasks → AreMade w.store g.instances → Moves g (idle_turn g items w)
+idle_moves g w [] h all = tt
+idle_moves g w (item.Call call ∷ others) h all =
+    taken_moves g w call others (func_named g call.name) refl h.called.0 (record { sound = h.sound; called = h.called.1; typed = h.typed; hostless = h.hostless; numbered = h.numbered }) all
+
+chain_moves : (g : Graph) (w : World) (chain : List Task) → Ground g w.store w.items w.calls w.tasks → AllByRecursion (λ task. task.number ≡ w.tasks) chain → ChainKept g w.store chain → Moves g (chain_turn g chain w)
+chain_moves g w [] h n all = idle_moves g w w.items h all
+chain_moves g w (task ∷ []) h n state = state_moves g w task.number task.state h n.0 state
+chain_moves g w (task ∷ other ∷ below) h n state = absurd state
+
+moves : (g : Graph) (w : World) → Kept g w → Moves g (turn g w)
+moves g w k = chain_moves g w w.chain (ground g w k) k.numbers k.chain
+
+-- The laws.
+
+pub first_kept : FirstKept
+first_kept g script (graph, items) =
+    kept g (first_world g script) (record { sound = graph; called = items; typed = empty_typed; hostless = empty_has_none; numbered = refl }) (refl, tt)
+    (record { before = []; split = refl; made = record { count = refl; each = λ n m h. cc } })
+
+pub stays_kept : StaysKept
+stays_kept g w later labels k e = subst (Moves g) e (moves g w k)
+
+pub is_never_stuck : IsNeverStuck
+is_never_stuck g w k e = (let none : Moves g Stuck = subst (Moves g) e (moves g w k) in none)
+
+kept_reaches : (g : Graph) (steps : List (List Label)) (w v : World) → Kept g w → Reaches g w steps v → Kept g v
+kept_reaches g [] w v k r = subst (λ (u : World). Kept g u) (sym r) k
+kept_reaches g (labels ∷ steps) w v k (mid, goes, more) = kept_reaches g steps mid v (stays_kept g w mid labels k goes) more
+
+once : (g : Graph) (w : World) (t : Turn) → turn g w ≡ t → Moves g t → StepsOnce g w ⊎ EndsOnce g w
+once g w (Steps labels later) h m = inl (record { labels = labels; later = later; steps = h; only = λ others other e. (cc (h, e), cc (h, e)); no_end = λ end e. cc (h, e) })
+once g w (Ends end) h m = inr (record { end = end; ends = h; only = λ other e. cc (h, e); no_step = λ labels later e. cc (h, e) })
+once g w Stuck h m = absurd m
+
+pub one_next : OneNext
+one_next g script steps w s r =
+    let k = kept_reaches g steps (first_world g script) w (first_kept g script s) r in
+    once g w (turn g w) refl (moves g w k)
+
+-- Two runs from a world have the same steps.
+same_steps : (g : Graph) (xs ys : List (List Label)) (w v u : World) (end other : RunEnd) → Reaches g w xs v → turn g v ≡ Ends end → Reaches g w ys u → turn g u ≡ Ends other → (xs ≡ ys) × (end ≡ other)
+same_steps g [] [] w v u end other r e s o =
+    let a : turn g v ≡ turn g w = ap (turn g) r in
+    let b : turn g u ≡ turn g w = ap (turn g) s in
+    (refl, cc (a, b, e, o))
+same_steps g [] (y ∷ ys) w v u end other r e s o =
+    let a : turn g v ≡ turn g w = ap (turn g) r in
+    cc (a, e, s.1)
+same_steps g (x ∷ xs) [] w v u end other r e s o =
+    let b : turn g u ≡ turn g w = ap (turn g) s in
+    cc (b, o, r.1)
+same_steps g (x ∷ xs) (y ∷ ys) w v u end other r e s o =
+    let labels : x ≡ y = cc (r.1, s.1) in
+    let mid : s.0 ≡ r.0 = cc (r.1, s.1) in
+    let more = same_steps g xs ys r.0 v u end other r.2 e (subst (λ (m : World). Reaches g m ys u) mid s.2) o in
+    (cc (labels, more.0), more.1)
+
+pub one_run : OneRun
+one_run g w labels others end other r s =
+    let h = same_steps g r.0 s.0 w r.1 s.1 end other r.2 r.3 s.2 s.3 in
+    (r.4 ∙ (ap (λ (steps : List (List Label)). flat_map (λ step. step) steps) h.0 ∙ sym s.4), h.1)

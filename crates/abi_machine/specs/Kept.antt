@@ -1,0 +1,57 @@
+-- What a run keeps of its worlds (Core 2.0, the appendix on soundness): the store and the stacks are typed, the core instances
+-- that were made are those of the graph's modules, and the items that are left call the graph's functions.
+use Rattle.std.specs.Prelude.{◌≡◌, ℕ, List, [], ◌∷◌, ◌++◌, length, map, Some}
+use Rattle.std.specs.List.{slice_get, AllByRecursion}
+use Rattle.wasm_module.specs.declared.types.FuncType as core
+use Rattle.wasm_module.specs.declared.module.ModuleTree.{ModuleTree}
+use Rattle.wasm_numbers.specs.Types.{AreWords}
+use Rattle.core_machine.specs.Store.{Store, Instance}
+use Rattle.core_machine.specs.Typed.{StoreTyped, HasContext, module_context, StackTyped}
+use Rattle.core_machine.specs.Laws.{HasNoHosts}
+use Rattle.comp_graph.specs.Graph.{Lifted, Graph, func_named, core_type}
+use Rattle.abi_machine.specs.World.{TaskState, Instantiating, StartsUp, Starting, Running, Returned, Doomed, Task, World}
+use Rattle.abi_machine.specs.Machine.{lowered}
+use Rattle.abi_machine.specs.Laws.{SoundGraph, SoundItem}
+
+-- Core instances of these modules were made, in order, and no others: that of number k has address k and what its module says.
+pub record AreMade (s : Store) (modules : List ModuleTree) : Type 0 where
+  pub count : length s.instances ≡ length modules
+  pub each : (number : ℕ) (m : ModuleTree) → slice_get modules number ≡ Some m → (i : Instance) × (slice_get s.instances number ≡ Some i) × HasContext s i (module_context m)
+
+-- Core instances of all modules of a graph but these were made.
+pub record AreMadeBut (g : Graph) (s : Store) (modules : List ModuleTree) : Type 0 where
+  pub before : List ModuleTree
+  pub split : g.instances ≡ before ++ modules
+  pub made : AreMade s before
+
+-- The function is one of the graph's, and its core function is there, with this type.
+pub record IsOfGraph (g : Graph) (f : Lifted) (type : core.FuncType) : Type 0 where
+  pub name : List ℕ
+  pub named : func_named g name ≡ Some f
+  pub there : core_type g.instances f.core ≡ Some type
+
+-- by where a task is
+abbrev pub StateKept : Graph → Store → TaskState → Type 0
+StateKept g s (Instantiating modules) = AreMadeBut g s modules
+StateKept g s (StartsUp k modules) = AreMadeBut g s modules × StackTyped s [] k
+StateKept g s (Starting f values) =
+    AreMade s g.instances × ((type : core.FuncType) × IsOfGraph g f type × AreWords type.params (map lowered values))
+StateKept g s (Running f k) = AreMade s g.instances × ((type : core.FuncType) × IsOfGraph g f type × StackTyped s type.results k)
+StateKept g s Returned = AreMade s g.instances
+StateKept g s (Doomed why) = Unit {0}
+
+-- At most one task runs. Where none does, all is made.
+abbrev pub ChainKept : Graph → Store → List Task → Type 0
+ChainKept g s [] = AreMade s g.instances
+ChainKept g s (task ∷ []) = StateKept g s task.state
+ChainKept g s (task ∷ other ∷ below) = ⊥
+
+-- The task that runs is the last one that was made, by the last call that was taken; before the first one it is task 0.
+pub record Kept (g : Graph) (w : World) : Type 0 where
+  pub graph : SoundGraph g
+  pub items : AllByRecursion (SoundItem g) w.items
+  pub store : StoreTyped w.store
+  pub no_hosts : HasNoHosts w.store
+  pub chain : ChainKept g w.store w.chain
+  pub numbers : AllByRecursion (λ task. task.number ≡ w.tasks) w.chain
+  pub calls : w.calls ≡ w.tasks

@@ -1,0 +1,9 @@
+pub mod World
+pub mod Machine
+pub mod Run
+pub mod Laws
+pub mod Kept
+pub mod KeptLaws
+pub mod FlatLaws
+pub mod EndLaws
+pub mod Examples
