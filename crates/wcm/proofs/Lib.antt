@@ -1,12 +1,11 @@
+pub mod Arguments
 pub mod Calls
-pub mod Exports
-pub mod Labels
+pub mod CoreRuns
+pub mod Fitting
+pub mod Instancing
+pub mod Leads
 pub mod Modules
-pub mod Names
 pub mod Outcomes
 pub mod Rows
 pub mod Sounds
-pub mod Stores
 pub mod Taken
-pub mod Turns
-pub mod Worlds

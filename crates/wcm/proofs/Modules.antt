@@ -1,10 +1,10 @@
--- The core modules of a component that is read are typed.
+-- The core modules of a component that is read are typed, and no memory of theirs begins with more pages than any may have.
 use Rattle.std.proofs.Common.{◌≡◌, ℕ, zero, suc, Bool, true, false, List, [], ◌∷◌, ◌++◌, Option, Some, None, refl, sym, subst}
 use Rattle.std.specs.Prelude.{◌==◌}
 use Rattle.std.specs.List.{AllByRecursion}
 use Rattle.ca_base.specs.Span.{Span, window}
-use Rattle.ca_base.specs.Grammar.{Grammar, Give, Refuse, Choose, ◌>>=◌, times, Matches}
-use Rattle.ca_base.specs.Items.{NumberReasons, Reasons, placed, placed_vec, many, sized, joined}
+use Rattle.ca_base.specs.Grammar.{Grammar, Give, Refuse, Choose, Byte, ◌>>=◌, times, Matches}
+use Rattle.ca_base.specs.Items.{NumberReasons, Reasons, placed, vec, placed_vec, many, sized, section, is_byte, joined}
 use Rattle.ca_base.specs.declared.placed.Placed.{Placed}
 use Rattle.ca_base.proofs.Laws.{matches_reads}
 use Rattle.wasm_module.specs.declared.module.ModuleTree.{ModuleTree}
@@ -12,8 +12,10 @@ use Rattle.wasm_module.specs.declared.module.ModuleParts.{ModuleParts}
 use Rattle.wasm_module.specs.declared.fault.ModuleWhy.{ModuleWhy}
 use Rattle.wasm_module.specs.declared.fault.ModuleWhy.TheVariants as module_why
 use Rattle.wasm_module.specs.Places.{Fits}
+use Rattle.core_machine.specs.Instantiation.{InRange}
 use Rattle.wasm_reader.specs.Binary.{definitions, uses, contents, the_module}
 use Rattle.wasm_reader.proofs.Fitting.{parts_fit}
+use Rattle.wasm_reader.proofs.Ranges.{Gives, placed_gives, times_give, sized_gives, memories_in_range}
 use Rattle.wasm_valid.specs.declared.fault.ValidFault.{ValidFault}
 use Rattle.wasm_valid.specs.Finding.{untyped}
 use Rattle.wasm_valid.specs.Modules.{Typed}
@@ -23,11 +25,17 @@ use Rattle.comp_reader.specs.declared.component.Item.TheVariants as item
 use Rattle.comp_reader.specs.declared.component.Component.{Component}
 use Rattle.comp_reader.specs.declared.fault.ComponentWhy.{ComponentWhy}
 use Rattle.comp_reader.specs.declared.fault.ComponentWhy.TheVariants.{Unsupported}
-use Rattle.comp_reader.specs.Binary.{numbers, reasons, validated, module_file, core_module, core_instance, alias, type_item, canon, export, custom_items, module_items, payload, is_section, section, component, IsComponent}
+use Rattle.comp_reader.specs.Binary.{numbers, reasons, validated, module_file, core_module, core_instance, alias, type_item, canon, export, custom_items, module_items, payload, is_section, component, IsComponent}
+use Rattle.comp_reader.specs.Binary as file
 
--- an item that is typed, if it is a core module
+-- a module that is typed, and whose memories are in range
+pub record IsFit (m : ModuleTree) : Type 0 where
+  pub typed : Typed m
+  pub range : InRange m
+
+-- an item that is fit, if it is a core module
 abbrev pub ItemTyped : Item → Type 0
-ItemTyped (item.CoreModule m) = Typed m
+ItemTyped (item.CoreModule m) = IsFit m
 ItemTyped (item.CoreInstance i) = Unit {0}
 ItemTyped (item.Alias a) = Unit {0}
 ItemTyped (item.Type t) = Unit {0}
@@ -37,19 +45,6 @@ ItemTyped (item.Export e) = Unit {0}
 -- placed items that are typed
 abbrev pub PlacedTyped : List (Placed Item) → Type 0
 PlacedTyped ps = AllByRecursion (λ p. ItemTyped p.item) ps
-
--- What a grammar stands for has this property.
-abbrev Gives : {W A : Type 0} → (A → Type 0) → Grammar W A → Type 0
-Gives {W} {A} P g = (s : Span W) (x : A) (t : Span W) → Matches g s x t → P x
-
--- Several items, each with its place.
-placed_gives : {W A : Type 0} (P : A → Type 0) (g : Grammar W A) → Gives P g → Gives (λ (p : Placed A). P p.item) (placed g)
-unfolding placed
-placed_gives P g h s x t m = subst (λ (p : Placed _). P p.item) (sym m.3.3.0) (h m.1 m.3.0 m.3.1 m.3.2)
-
-times_give : {W A : Type 0} (P : A → Type 0) (g : Grammar W A) → Gives P g → (count : ℕ) (s : Span W) (x : List A) (t : Span W) → Matches (times count g) s x t → AllByRecursion P x
-times_give P g h zero s x t m = subst (AllByRecursion P) (sym m.0) tt
-times_give P g h (suc count) s x t m = subst (AllByRecursion P) (sym m.3.3.0) (h s m.0 m.1 m.2, times_give P g h count m.1 m.3.0 m.3.1 m.3.2)
 
 many_tested : {W A : Type 0} (P : A → Type 0) (g : Grammar W A) (others : Grammar W (List A)) → Gives P g → Gives (AllByRecursion P) others → (b : Bool) (s : Span W) (x : List A) (t : Span W) → Matches (Choose b (Give []) (g >>= (λ first. others >>= (λ more. Give (first ∷ more))))) s x t → AllByRecursion P x
 many_tested P g others h r true s x t m = subst (AllByRecursion P) (sym m.0) tt
@@ -64,13 +59,10 @@ choice_gives : {W A : Type 0} (P : A → Type 0) (g k : Grammar W A) → Gives P
 choice_gives P g k h i true s x t m = h s x t m
 choice_gives P g k h i false s x t m = i s x t m
 
-sized_gives : {W A : Type 0} (P : A → Type 0) (n : NumberReasons W) (r : Reasons W) (g : Grammar W A) → Gives P g → (s : Span W) (x : A) (t : Span W) → Matches (sized n r g) s x t → P x
-sized_gives P n r g h s x t m = h (window m.0 r.section_size m.1) x m.3.2.0 m.3.2.1
-
 -- A core module that has no fault is typed.
-valid_typed : (tree : ModuleTree) (o : Option ValidFault) (s : Span ComponentWhy) (x : ModuleTree) (t : Span ComponentWhy) → (o ≡ None → Typed tree) → Matches (validated tree o) s x t → Typed x
-valid_typed tree None s x t h m = subst Typed (sym m.0) (h refl)
-valid_typed tree (Some fault) s x t h m = absurd m
+valid_typed : (tree : ModuleTree) (o : Option ValidFault) (s : Span ComponentWhy) (x : ModuleTree) (t : Span ComponentWhy) → InRange tree → (o ≡ None → Typed tree) → Matches (validated tree o) s x t → IsFit x
+valid_typed tree None s x t r h m = subst IsFit (sym m.0) (record { typed = h refl; range = r })
+valid_typed tree (Some fault) s x t r h m = absurd m
 
 -- Each part of a core module that is read has a place.
 module_fits : (s : Span ModuleWhy) (m : ModuleParts) (t : Span ModuleWhy) → Matches the_module s m t → Fits m.tree m.places
@@ -89,7 +81,8 @@ unfolding core_module module_file
 module_gives s x t m =
     let read = m.0 in
     let fits = module_fits (window m.2.0 module_why.Truncated m.2.1) read m.2.3.2.0 m.2.3.2.1 in
-    let typed = valid_typed read.tree (untyped read.tree read.places) m.1 m.3.0 m.3.1 (told_or_typed read.tree read.places fits).0 m.3.2 in
+    let range = memories_in_range (window m.2.0 module_why.Truncated m.2.1) read m.2.3.2.0 m.2.3.2.1 in
+    let typed = valid_typed read.tree (untyped read.tree read.places) m.1 m.3.0 m.3.1 range (told_or_typed read.tree read.places fits).0 m.3.2 in
     subst ItemTyped (sym m.3.3.0) typed
 
 -- The other items are no core modules.
@@ -154,8 +147,8 @@ payload_gives id =
 nothing_gives : {W A : Type 0} (P : A → Type 0) (place : ℕ) (why : W) → Gives P (Refuse place why)
 nothing_gives P place why s x t m = absurd m
 
-section_gives : Gives PlacedTyped section
-unfolding section
+section_gives : Gives PlacedTyped file.section
+unfolding file.section
 section_gives s x t m =
     let id = m.3.0 in
     choice_gives PlacedTyped (sized numbers reasons (payload id)) (Refuse m.0 (Unsupported id)) (sized_gives PlacedTyped numbers reasons (payload id) (payload_gives id)) (nothing_gives PlacedTyped m.0 (Unsupported id)) (is_section id) m.3.1 x t m.3.3
@@ -172,5 +165,5 @@ pub component_typed : (bytes : List ℕ) (c : Component) → IsComponent bytes c
 unfolding component
 component_typed bytes c m =
     let sections = m.3.0 in
-    let all = many_give PlacedTyped section section_gives m.3.2.0 m.3.2.1 sections m.3.1 m.3.2.3 in
+    let all = many_give PlacedTyped file.section section_gives m.3.2.0 m.3.2.1 sections m.3.1 m.3.2.3 in
     subst (λ (c : Component). PlacedTyped c.items) (sym m.3.3.3.0) (joined_typed sections all)

@@ -1,6 +1,5 @@
 -- Words whose files are told have exactly one outcome.
-use Rattle.std.proofs.Common.{◌≡◌, ◌⊎◌, ℕ, List, length, Option, Some, None, Result, Ok, Err, inl, inr, refl, nat_le}
-use Rattle.std.specs.Bool.{if◌then◌else◌}
+use Rattle.std.proofs.Common.{◌≡◌, ◌⊎◌, ℕ, List, length, Option, Some, None, Result, Ok, Err, inl, inr, refl}
 use Rattle.std.specs.Option.{IsSome, MatchOption}
 use Rattle.std.proofs.lemmas.Bool.{cases_lt}
 use Rattle.comp_reader.specs.declared.component.Component.{Component}
@@ -10,27 +9,25 @@ use Rattle.script_reader.specs.declared.fault.ScriptFault.{ScriptFault}
 use Rattle.script_reader.specs.Script.{Script, script}
 use Rattle.wcm.specs.declared.answer.Answer.{Answer}
 use Rattle.comp_link.specs.declared.link_fault.LinkFault.{LinkFault}
-use Rattle.wcm.specs.declared.run.End.{End}
-use Rattle.wcm.specs.declared.run.End.TheVariants.{Done, Fuel}
-use Rattle.comp_link.specs.Linking.{Graph, exports_of, linked, IsLinked}
+use Rattle.comp_graph.specs.Graph.{Graph}
+use Rattle.comp_link.specs.Linking.{linked, IsLinked}
 use Rattle.wcm.specs.Laws.{ScriptsAreSound, OneOutcome}
-use Rattle.wcm.specs.RunLaws.{EachRunEnds, cost}
+use Rattle.abi_machine.specs.Laws.{EachRunEnds}
 use Rattle.wcm.specs.Words.{Command, Run, command_of}
 use Rattle.wcm.specs.Outcome.{component_limit, too_long, usage_answer, refused_answer, link_refused_answer, script_refused_answer, run_answer, ScriptAnswers, LinkAnswers, FileAnswers, HeldScriptAnswers, HeldAnswers, CommandAnswers, DecidesAlone, IsCommandTold}
 use Rattle.wcm.proofs.Rows.{one_answer}
 
 module _ (reading : OneReading) (sound : ScriptsAreSound) (ends : EachRunEnds) where
-  by_script : (bytes text : List ℕ) (c : Component) (g : Graph) (r : Result Script ScriptFault) → IsComponent bytes c → IsLinked c g → script (exports_of g) text ≡ r → (a : Answer) × ScriptAnswers g text a
+  by_script : (bytes text : List ℕ) (c : Component) (g : Graph) (r : Result Script ScriptFault) → IsComponent bytes c → IsLinked c g → script g.exports text ≡ r → (a : Answer) × ScriptAnswers g text a
   by_script bytes text c g (Err fault) i l h = (script_refused_answer fault, inl (fault, h, refl))
   by_script bytes text c g (Ok s) i l h =
       let run = ends g s (sound bytes text c g s i l h) in
-      let end : End = if nat_le (cost g s.items) s.fuel then Done else Fuel in
-      (run_answer run.0 end, inr (s, h, (run.0, end, run.1, refl)))
+      (run_answer run.0 run.1, inr (s, h, (run.0, run.1, run.2, refl)))
 
   by_link : (bytes text : List ℕ) (c : Component) (r : Result Graph LinkFault) → IsComponent bytes c → linked c ≡ r → (a : Answer) × LinkAnswers c a (λ g. HeldScriptAnswers g (Some text) a)
   by_link bytes text c (Err fault) i h = (link_refused_answer fault, inl (fault, h, refl))
   by_link bytes text c (Ok g) i h =
-      let a = by_script bytes text c g (script (exports_of g) text) i h refl in
+      let a = by_script bytes text c g (script g.exports text) i h refl in
       (a.0, inr (g, h, a.1))
 
   by_file : (bytes text : List ℕ) → (a : Answer) × FileAnswers bytes a (λ g. HeldScriptAnswers g (Some text) a)

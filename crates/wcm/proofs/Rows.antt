@@ -14,18 +14,19 @@ use Rattle.script_reader.specs.Script.{Script, IsScript, IsScriptRefused}
 use Rattle.comp_link.specs.declared.link_fault.LinkFault.{LinkFault}
 use Rattle.wcm.specs.declared.answer.Answer.{Answer}
 use Rattle.wcm.specs.declared.status.Status.{Status}
-use Rattle.wcm.specs.declared.status.Status.TheVariants.{Done, Refused, LinkRefused, ScriptRefused, Fuel}
-use Rattle.wcm.specs.declared.run.Label.{Label}
-use Rattle.wcm.specs.declared.run.End.{End}
-use Rattle.wcm.specs.declared.run.End.TheVariants as ends
-use Rattle.comp_link.specs.Linking.{Graph, exports_of, IsLinked, IsLinkRefused}
-use Rattle.wcm.specs.Run.{first_world}
+use Rattle.wcm.specs.declared.status.Status.TheVariants.{Done, Trap, Refused, LinkRefused, ScriptRefused, Fuel}
+use Rattle.trace_show.specs.declared.label.Label.{Label}
+use Rattle.abi_machine.specs.declared.run_end.RunEnd.{RunEnd}
+use Rattle.abi_machine.specs.declared.run_end.RunEnd.TheVariants as ends
+use Rattle.comp_graph.specs.Graph.{Graph}
+use Rattle.comp_link.specs.Linking.{IsLinked, IsLinkRefused}
+use Rattle.abi_machine.specs.World.{first_world}
 use Rattle.wcm.specs.Status.{status_of, IsBehindGraph}
 use Rattle.wcm.specs.Words.{Command, Run, command_of}
 use Rattle.wcm.specs.Gives.{GraphGives, CommandGives}
-use Rattle.wcm.specs.Outcome.{Outcome, DecidesAlone, IsCommandTold, IsTold, IsComponentTold, component_file, IsComponentFile, IsRefusedFile, RunAnswers, ScriptAnswers, LinkAnswers, FileAnswers, HeldScriptAnswers, HeldAnswers, CommandAnswers, run_answer, usage_answer, refused_answer, link_refused_answer, script_refused_answer, NamesRefused, NamesLinkRefused, NamesGraph, NamesScriptRefused, NamesRun}
+use Rattle.wcm.specs.Outcome.{Outcome, DecidesAlone, IsCommandTold, IsTold, IsComponentTold, component_file, IsComponentFile, IsRefusedFile, RunAnswers, ScriptAnswers, LinkAnswers, FileAnswers, HeldScriptAnswers, HeldAnswers, CommandAnswers, run_answer, usage_answer, refused_answer, link_refused_answer, script_refused_answer, NamesRefused, NamesLinkRefused, NamesGraph, NamesScriptRefused, NamesRun, NamesTrap}
 use Rattle.comp_link.proofs.Linked.{one_graph, one_fault, linked_or_not}
-use Rattle.wcm.proofs.Worlds.{one_run}
+use Rattle.abi_machine.proofs.Worlds.{one_run}
 
 -- what matches is not refused, and matches nothing else
 ok_inj : {A E : Type 0} {x y : A} → ◌≡◌ {A = Result A E} (Ok x) (Ok y) → x ≡ y
@@ -83,20 +84,20 @@ script_or_not exports bytes s e h k =
 -- The files have one answer.
 one_of_run : (g : Graph) (s : Script) (a b : Answer) → RunAnswers g s a → RunAnswers g s b → a ≡ b
 one_of_run g s a b h k =
-    let same = one_run g (first_world s) h.0 k.0 h.1 k.1 h.2 k.2 in
-    h.3 ∙ (ap (λ (labels : List Label). run_answer labels h.1) same.0 ∙ (ap (λ (end : End). run_answer k.0 end) same.1 ∙ sym k.3))
+    let same = one_run g (first_world g s) h.0 k.0 h.1 k.1 h.2 k.2 in
+    h.3 ∙ (ap (λ (labels : List Label). run_answer labels h.1) same.0 ∙ (ap (λ (end : RunEnd). run_answer k.0 end) same.1 ∙ sym k.3))
 
 one_of_script : (g : Graph) (t : List ℕ) (a b : Answer) → ScriptAnswers g t a → ScriptAnswers g t b → a ≡ b
 one_of_script g t a b h k =
     elim h [
       | inl bad ↦ elim k [
-        | inl worse ↦ bad.2 ∙ (ap (λ (f : ScriptFault). script_refused_answer f) (one_script_fault (exports_of g) t bad.0 worse.0 bad.1 worse.1) ∙ sym worse.2)
-        | inr good ↦ absurd (script_or_not (exports_of g) t good.0 bad.0 good.1 bad.1)
+        | inl worse ↦ bad.2 ∙ (ap (λ (f : ScriptFault). script_refused_answer f) (one_script_fault g.exports t bad.0 worse.0 bad.1 worse.1) ∙ sym worse.2)
+        | inr good ↦ absurd (script_or_not g.exports t good.0 bad.0 good.1 bad.1)
       ]
       | inr good ↦ elim k [
-        | inl bad ↦ absurd (script_or_not (exports_of g) t good.0 bad.0 good.1 bad.1)
+        | inl bad ↦ absurd (script_or_not g.exports t good.0 bad.0 good.1 bad.1)
         | inr better ↦
-            let same : better.0 ≡ good.0 = one_script (exports_of g) t better.0 good.0 better.1 good.1 in
+            let same : better.0 ≡ good.0 = one_script g.exports t better.0 good.0 better.1 good.1 in
             one_of_run g good.0 a b good.2 (subst (λ (s : Script). RunAnswers g s b) same better.2)
       ]
     ]
@@ -277,7 +278,7 @@ data Came (words : List (List ℕ)) (held : List ℕ → Option (List ℕ)) (s :
   OfFile : s ≡ Refused → Came words held s
   OfLink : s ≡ LinkRefused → Came words held s
   OfScript : s ≡ ScriptRefused → NamesScriptRefused words held → Came words held s
-  OfRun : (end : End) → s ≡ status_of end → NamesRun words held end → Came words held s
+  OfRun : (end : RunEnd) → s ≡ status_of end → NamesRun words held end → Came words held s
 
 came_script : (words : List (List ℕ)) (held : List ℕ → Option (List ℕ)) (a : Answer) (g : Graph) (t : List ℕ) → NamesGraph words held g t → ScriptAnswers g t a → Came words held a.status
 came_script words held a g t n h =
@@ -317,6 +318,7 @@ of_script words held s k (OfFile e) = cc
 of_script words held s k (OfLink e) = cc
 of_script words held s k (OfScript e n) = n
 of_script words held s k (OfRun ends.Done e n) = cc
+of_script words held s k (OfRun (ends.Trapped task why) e n) = cc
 of_script words held s k (OfRun ends.Fuel e n) = cc
 
 of_done : (words : List (List ℕ)) (held : List ℕ → Option (List ℕ)) (s : Status) → s ≡ Done → Came words held s → NamesRun words held ends.Done
@@ -324,6 +326,7 @@ of_done words held s k (OfFile e) = cc
 of_done words held s k (OfLink e) = cc
 of_done words held s k (OfScript e n) = cc
 of_done words held s k (OfRun ends.Done e n) = n
+of_done words held s k (OfRun (ends.Trapped task why) e n) = cc
 of_done words held s k (OfRun ends.Fuel e n) = cc
 
 of_fuel : (words : List (List ℕ)) (held : List ℕ → Option (List ℕ)) (s : Status) → s ≡ Fuel → Came words held s → NamesRun words held ends.Fuel
@@ -331,7 +334,16 @@ of_fuel words held s k (OfFile e) = cc
 of_fuel words held s k (OfLink e) = cc
 of_fuel words held s k (OfScript e n) = cc
 of_fuel words held s k (OfRun ends.Done e n) = cc
+of_fuel words held s k (OfRun (ends.Trapped task why) e n) = cc
 of_fuel words held s k (OfRun ends.Fuel e n) = n
+
+of_trap : (words : List (List ℕ)) (held : List ℕ → Option (List ℕ)) (s : Status) → s ≡ Trap → Came words held s → NamesTrap words held
+of_trap words held s k (OfFile e) = cc
+of_trap words held s k (OfLink e) = cc
+of_trap words held s k (OfScript e n) = cc
+of_trap words held s k (OfRun ends.Done e n) = cc
+of_trap words held s k (OfRun (ends.Trapped task why) e n) = (task, why, n)
+of_trap words held s k (OfRun ends.Fuel e n) = cc
 
 -- the outcome of words that name a graph and a script file
 graph_outcome : (words : List (List ℕ)) (held : List ℕ → Option (List ℕ)) (g : Graph) (t : List ℕ) (a : Answer) → NamesGraph words held g t → ScriptAnswers g t a → Outcome words held a
@@ -346,7 +358,7 @@ row_script_refused words held command a e h =
     (λ k. of_script words held a.status k (came words held command a e h), λ n. ap (λ (b : Answer). b.status) (one_answer words held a (script_refused_answer n.fault) h (graph_outcome words held n.graph n.text (script_refused_answer n.fault) n.named (inl (n.fault, n.refused, refl)))))
 
 -- the status of a run
-run_status : (words : List (List ℕ)) (held : List ℕ → Option (List ℕ)) (a : Answer) (end : End) → Outcome words held a → NamesRun words held end → a.status ≡ status_of end
+run_status : (words : List (List ℕ)) (held : List ℕ → Option (List ℕ)) (a : Answer) (end : RunEnd) → Outcome words held a → NamesRun words held end → a.status ≡ status_of end
 run_status words held a end h n =
     ap (λ (b : Answer). b.status) (one_answer words held a (run_answer n.labels end) h (graph_outcome words held n.graph n.text (run_answer n.labels end) n.named (inr (n.said, n.read_script, (n.labels, end, n.runs, refl)))))
 
@@ -355,3 +367,6 @@ row_done words held command a e h = (λ k. of_done words held a.status k (came w
 
 pub row_fuel : (words : List (List ℕ)) (held : List ℕ → Option (List ℕ)) (command : Command) (a : Answer) → command_of words ≡ Some command → Outcome words held a → (a.status ≡ Fuel) ↔ NamesRun words held ends.Fuel
 row_fuel words held command a e h = (λ k. of_fuel words held a.status k (came words held command a e h), λ n. run_status words held a ends.Fuel h n)
+
+pub row_trap : (words : List (List ℕ)) (held : List ℕ → Option (List ℕ)) (command : Command) (a : Answer) → command_of words ≡ Some command → Outcome words held a → (a.status ≡ Trap) ↔ NamesTrap words held
+row_trap words held command a e h = (λ k. of_trap words held a.status k (came words held command a e h), λ n. run_status words held a (ends.Trapped n.0 n.1) h n.2)

@@ -5,10 +5,7 @@ use Rattle.std.specs.List.{slice_get, AllByRecursion}
 use Rattle.std.specs.Option.{option_map_or}
 use Rattle.wasm_module.specs.declared.module.ModuleTree.{ModuleTree}
 use Rattle.wasm_valid.specs.Modules.{Typed}
-use Rattle.ca_types.specs.declared.types.ValType.{ValType}
-use Rattle.ca_types.specs.declared.types.ValType.TheVariants as val_type
-use Rattle.ca_types.specs.declared.value.Value as passed
-use Rattle.ca_types.specs.declared.value.Value.TheVariants as value
+use Rattle.core_machine.specs.Instantiation.{InRange}
 use Rattle.ca_types.specs.declared.types.FuncType.{FuncType}
 use Rattle.comp_reader.specs.declared.component.CoreInstance.TheVariants.{Instantiate}
 use Rattle.comp_reader.specs.declared.component.Alias.TheVariants as alias
@@ -20,22 +17,32 @@ use Rattle.comp_reader.specs.declared.component.Item.TheVariants as item
 use Rattle.comp_reader.specs.declared.component.Component.{Component}
 use Rattle.script_reader.specs.declared.script.Item as said
 use Rattle.script_reader.specs.declared.script.Item.TheVariants as says
-use Rattle.script_reader.specs.Script.{AreOfTypes, param_types, CallsExport}
+use Rattle.script_reader.specs.Script.{CallsExport}
 use Rattle.script_reader.specs.Laws.{ScriptsCallExports}
-use Rattle.comp_link.specs.declared.graph.CoreFunc.{CoreFunc}
+use Rattle.script_reader.specs.declared.fault.ScriptFault.{ScriptFault}
+use Rattle.script_reader.specs.Script.{Script}
+use Rattle.ca_types.specs.declared.exports.Export.{Export}
+use Rattle.comp_link.specs.Linking.{IsLinked}
+use Rattle.wcm.specs.Outcome.{IsRead, IsOfScript}
+use Rattle.std.specs.Prelude.{IfOk}
+use Rattle.comp_graph.specs.declared.graph.CoreFunc.{CoreFunc}
+use Rattle.comp_graph.specs.Graph.{Graph, names, core_type, is_flat, HasNoImports, IsCallable}
+use Rattle.comp_link.specs.declared.closed.ClosedType.{ClosedType}
+use Rattle.comp_link.specs.declared.closed.ClosedType.TheVariants.{Value, Func}
+use Rattle.comp_link.specs.declared.closed.Lifted.{Lifted}
+use Rattle.value_reader.specs.Laws.{SoundValuesAreSmall}
 use Rattle.ca_base.specs.declared.placed.Placed.{Placed}
 use Rattle.comp_link.specs.declared.link_fault.LinkFault.{LinkFault}
 use Rattle.comp_link.specs.declared.link_fault.LinkWhy.{LinkWhy}
 use Rattle.comp_link.specs.declared.link_fault.LinkWhy.TheVariants as why
 use Rattle.ca_base.specs.Faults.{and_on, folded}
 use Rattle.ca_base.specs.Names.{first_twice, is_among}
-use Rattle.comp_link.specs.Linking.{Lifted, Spaces, Graph, no_spaces, with_core_module, with_core_instance, with_func, with_export, first_import, is_accepted, link_made, link_core_instance, link_exported, link_alias, with_closed, link_type, lift_to, link_lift, link_export, link_item, link_items, link_placed, linked_at, linked_or, linked, exported, exports_of, ClosedType, Value, Func, all_within, labels, names, close_func, is_flat, core_type, AllRun, IsCallable}
-use Rattle.wcm.specs.Run.{lowered}
-use Rattle.wcm.specs.RunLaws.{Sound}
+use Rattle.comp_link.specs.Linking.{Spaces, no_spaces, with_core_module, with_core_instance, with_func, with_export, first_import, link_made, link_core_instance, link_exported, link_alias, with_closed, link_type, lift_to, link_lift, link_export, link_item, link_items, link_placed, linked_at, linked_or, linked, exported, all_within, labels, close_func}
+use Rattle.abi_machine.specs.Laws.{Sound, SoundItem}
 use Rattle.wcm.specs.Laws.{ScriptsAreSound}
-use Rattle.comp_link.proofs.Callable.{linked_callable, linked_run}
-use Rattle.wcm.proofs.Calls.{call_sound}
-use Rattle.wcm.proofs.Modules.{ItemTyped, PlacedTyped, component_typed}
+use Rattle.comp_link.proofs.Callable.{linked_callable, linked_imports}
+use Rattle.wcm.proofs.Fitting.{call_sound}
+use Rattle.wcm.proofs.Modules.{IsFit, ItemTyped, PlacedTyped, component_typed}
 
 -- one more at the end
 all_push : {A : Type 0} (P : A → Type 0) (xs : List A) (x : A) → AllByRecursion P xs → P x → AllByRecursion P (xs ++ x ∷ [])
@@ -47,10 +54,10 @@ all_at P [] i x h e = cc
 all_at P (y ∷ xs) zero x h e = let same : y ≡ x = cc in subst P same h.0
 all_at P (y ∷ xs) (suc i) x h e = all_at P xs i x h.1 e
 
--- The core modules so far and those of the core instances are typed.
+-- The core modules so far and those of the core instances are fit.
 record Kept (s : Spaces) : Type 0 where
-  pub modules : AllByRecursion Typed s.core_modules
-  pub instances : AllByRecursion Typed s.core_instances
+  pub modules : AllByRecursion IsFit s.core_modules
+  pub instances : AllByRecursion IsFit s.core_instances
 
 -- what an item that is linked leaves
 abbrev Keeps : Result Spaces LinkWhy → Type 0
@@ -61,14 +68,14 @@ either_keeps : (b : Bool) (q r : Result Spaces LinkWhy) → Keeps q → Keeps r 
 either_keeps true q r k l = k
 either_keeps false q r k l = l
 
-made_keeps : (s : Spaces) (m : ModuleTree) (o : Option (List ℕ)) → Typed m → Kept s → Keeps (link_made s m o)
+made_keeps : (s : Spaces) (m : ModuleTree) (o : Option (List ℕ)) → IsFit m → Kept s → Keeps (link_made s m o)
 made_keeps s m (Some name) t k = tt
 made_keeps s m None t k =
-    either_keeps _ (Ok (with_core_instance s m)) (Err _) (record { modules = k.modules; instances = all_push Typed s.core_instances m k.instances t }) tt
+    either_keeps _ (Ok (with_core_instance s m)) (Err _) (record { modules = k.modules; instances = all_push IsFit s.core_instances m k.instances t }) tt
 
 instance_keeps : (s : Spaces) (index : ℕ) (o : Option ModuleTree) → slice_get s.core_modules index ≡ o → Kept s → Keeps (link_core_instance s o)
 instance_keeps s index None e k = tt
-instance_keeps s index (Some m) e k = made_keeps s m (first_import m) (all_at Typed s.core_modules index m k.modules e) k
+instance_keeps s index (Some m) e k = made_keeps s m (first_import m) (all_at IsFit s.core_modules index m k.modules e) k
 
 exported_keeps : (s : Spaces) (index : ℕ) (name : List ℕ) (o : Option ℕ) → Kept s → Keeps (link_exported s index name o)
 exported_keeps s index name None k = tt
@@ -102,7 +109,7 @@ export_keeps s name (Some f) k = either_keeps (is_among name (names s.exports)) 
 
 item_keeps : (s : Spaces) (i : Item) → ItemTyped i → Kept s → Keeps (link_item s i)
 item_keeps s (item.CoreModule m) t k =
-    either_keeps (is_accepted m) (Ok (with_core_module s m)) (Err _) (record { modules = all_push Typed s.core_modules m k.modules t; instances = k.instances }) tt
+    record { modules = all_push IsFit s.core_modules m k.modules t; instances = k.instances }
 item_keeps s (item.CoreInstance (Instantiate index)) t k = instance_keeps s index (slice_get s.core_modules index) refl k
 item_keeps s (item.Alias (alias.CoreFunc index name)) t k = alias_keeps s index name (slice_get s.core_instances index) k
 item_keeps s (item.Type type) t k = type_keeps s type k
@@ -125,27 +132,40 @@ items_keep : (s : Spaces) (items : List (Placed Item)) → PlacedTyped items →
 items_keep s [] t k = k
 items_keep s (i ∷ items) t k = behind_keeps items (link_placed s i) (λ u h. items_keep u items t.1 h) (placed_keeps i.place (link_item s i.item) (item_keeps s i.item t.0 k))
 
-graph_keeps : (r : Result Spaces LinkFault) (g : Graph) → AllKeep r → linked_or r ≡ Ok g → AllByRecursion Typed g.instances
+graph_keeps : (r : Result Spaces LinkFault) (g : Graph) → AllKeep r → linked_or r ≡ Ok g → AllByRecursion IsFit g.instances
 graph_keeps (Ok s) g k h =
-    let same : record { instances = s.core_instances; exports = s.exports } ≡ g = cc in
-    subst (λ (g : Graph). AllByRecursion Typed g.instances) same k.instances
+    let same : record { instances = s.core_instances; exports = s.exports; cores = s.cores } ≡ g = cc in
+    subst (λ (g : Graph). AllByRecursion IsFit g.instances) same k.instances
 graph_keeps (Err e) g k h = cc
 
-instances_typed : (c : Component) (g : Graph) → PlacedTyped c.items → linked c ≡ Ok g → AllByRecursion Typed g.instances
+instances_typed : (c : Component) (g : Graph) → PlacedTyped c.items → linked c ≡ Ok g → AllByRecursion IsFit g.instances
 instances_typed c g t h = graph_keeps (link_items no_spaces c.items) g (items_keep no_spaces c.items t (record { modules = tt; instances = tt })) h
 
--- values of their types lower to words below 2^32
-small : (types : List ValType) (values : List passed.Value) → AreOfTypes types values → AllByRecursion (λ v. lowered v < 2 ^ 32) values
-small [] [] h = tt
-small [] (v ∷ values) h = absurd h
-small (t ∷ types) [] h = absurd h
-small (val_type.U32 ∷ types) (value.U32 n ∷ values) h = (h.0, small types values h.1)
+all_typed : (ms : List ModuleTree) → AllByRecursion IsFit ms → AllByRecursion Typed ms
+all_typed [] h = tt
+all_typed (m ∷ ms) h = (h.0.typed, all_typed ms h.1)
 
-items_sound : (g : Graph) (items : List said.Item) → IsCallable g → AllByRecursion Typed g.instances → AllRun g → AllByRecursion (CallsExport (exports_of g)) items → Sound g items
-items_sound g [] callable typed run called = tt
-items_sound g (says.Call call ∷ items) callable typed run called =
-    (call_sound g call callable typed run called.0 (small (param_types called.0.0) call.values called.0.2), items_sound g items callable typed run called.1)
+all_in_range : (ms : List ModuleTree) → AllByRecursion IsFit ms → AllByRecursion InRange ms
+all_in_range [] h = tt
+all_in_range (m ∷ ms) h = (h.0.range, all_in_range ms h.1)
 
-pub scripts_are_sound : ScriptsCallExports → ScriptsAreSound
-scripts_are_sound calls bytes text c g script read links h =
-    items_sound g script.items (linked_callable c g links) (instances_typed c g (component_typed bytes c read) links) (linked_run c g links) (calls (exports_of g) text script h)
+items_sound : SoundValuesAreSmall → (g : Graph) (items : List said.Item) → IsCallable g → AllByRecursion (CallsExport g.exports) items → AllByRecursion (SoundItem g) items
+items_sound small g [] callable called = tt
+items_sound small g (says.Call call ∷ items) callable called = (call_sound small g call callable called.0, items_sound small g items callable called.1)
+
+pub scripts_are_sound : SoundValuesAreSmall → ScriptsCallExports → ScriptsAreSound
+scripts_are_sound small calls bytes text c g script read links h =
+    let fit = instances_typed c g (component_typed bytes c read) links in (
+      record { valid = all_typed g.instances fit; in_range = all_in_range g.instances fit; no_imports = linked_imports c g links },
+      items_sound small g script.items (linked_callable c g links) (calls g.exports text script h),
+    )
+
+-- What is read as a script for a graph.
+pub sound_of : ScriptsAreSound → (g : Graph) (exports : List Export) (r : Result Script ScriptFault) (script : Script) → exports ≡ g.exports → r ≡ Ok script → IfOk r (IsOfScript exports) → ((c : Component) × IsRead c × IsLinked c g) → Sound g script.items
+sound_of sound g exports r script e h of linked =
+    let read : IsOfScript g.exports script = subst (λ (es : List Export). IsOfScript es script) e (subst (λ (r : Result Script ScriptFault). IfOk r (IsOfScript exports)) h of) in
+    sound linked.1.0 read.0 linked.0 g script linked.1.1 linked.2 read.1
+
+pub calls_of : (g : Graph) (exports : List Export) (r : Result Script ScriptFault) (script : Script) → exports ≡ g.exports → r ≡ Ok script → IfOk r (λ s. AllByRecursion (CallsExport exports) s.items) → AllByRecursion (CallsExport g.exports) script.items
+calls_of g exports r script e h calls =
+    subst (λ (es : List Export). AllByRecursion (CallsExport es) script.items) e (subst (λ (r : Result Script ScriptFault). IfOk r (λ (s : Script). AllByRecursion (CallsExport exports) s.items)) h calls)

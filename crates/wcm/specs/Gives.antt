@@ -3,7 +3,7 @@
 use Rattle.std.specs.Prelude.{ℕ, List, Option}
 use Rattle.std.specs.Option.{IfSome}
 use Rattle.wcm.specs.declared.answer.Answer.{Answer}
-use Rattle.comp_link.specs.Linking.{Graph}
+use Rattle.comp_graph.specs.Graph.{Graph}
 use Rattle.wcm.specs.Outcome.{ScriptAnswers, FileAnswers}
 use Rattle.wcm.specs.Status.{IsBehindGraph}
 use Rattle.wcm.specs.Words.{Command, Run}

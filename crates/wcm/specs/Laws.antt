@@ -4,15 +4,16 @@ use Rattle.comp_reader.specs.declared.component.Component.{Component}
 use Rattle.comp_reader.specs.Binary.{IsComponent}
 use Rattle.script_reader.specs.Script.{Script, IsScript}
 use Rattle.wcm.specs.declared.answer.Answer.{Answer}
-use Rattle.comp_link.specs.Linking.{Graph, exports_of, IsLinked}
+use Rattle.comp_graph.specs.Graph.{Graph}
+use Rattle.comp_link.specs.Linking.{IsLinked}
 use Rattle.wcm.specs.Outcome.{IsTold, Outcome}
-use Rattle.wcm.specs.RunLaws.{Sound}
+use Rattle.abi_machine.specs.Laws.{Sound}
 
--- A script that is read for a component that is read and linked is sound: so it has exactly one run (`specs/RunLaws`).
+-- A script that is read for a component that is read and linked is sound: so it has exactly one run (`specs/Laws` of abi_machine).
 abbrev pub ScriptsAreSound : Type 0
 ScriptsAreSound =
     (bytes text : List ℕ) (c : Component) (g : Graph) (script : Script)
-    → IsComponent bytes c → IsLinked c g → IsScript (exports_of g) text script → Sound g script.items
+    → IsComponent bytes c → IsLinked c g → IsScript g.exports text script → Sound g script.items
 
 -- Words whose files are told have exactly one outcome.
 abbrev pub OneOutcome : Type 0

@@ -3,10 +3,7 @@ pub mod Gives
 pub mod Laws
 pub mod Outcome
 pub mod Refusals
-pub mod Run
-pub mod RunLaws
 pub mod Status
 pub mod Stops
-pub mod Text
 pub mod Words
 pub mod Written

@@ -4,6 +4,7 @@
 use Rattle.std.specs.Prelude.{◌≡◌, ◌<◌, ◌≤◌, ◌⊎◌, ℕ, List, [], length, Option, Some, IsSome}
 use Rattle.std.specs.Option.{MatchOption}
 use Rattle.ca_base.specs.declared.refusal.Refusal.{Refusal}
+use Rattle.ca_types.specs.declared.exports.Export.{Export}
 use Rattle.comp_reader.specs.declared.component.Component.{Component}
 use Rattle.comp_reader.specs.declared.fault.ComponentWhy.{ComponentWhy}
 use Rattle.comp_reader.specs.declared.fault.ComponentWhy.TheVariants.{Limit}
@@ -11,16 +12,27 @@ use Rattle.comp_reader.specs.Binary.{IsComponent, IsRefused}
 use Rattle.script_reader.specs.declared.fault.ScriptFault.{ScriptFault}
 use Rattle.script_reader.specs.Script.{Script, IsScript, IsScriptRefused}
 use Rattle.comp_link.specs.declared.link_fault.LinkFault.{LinkFault}
-use Rattle.wcm.specs.declared.run.Label.{Label}
-use Rattle.wcm.specs.declared.run.End.{End}
+use Rattle.comp_graph.specs.Graph.{Graph}
+use Rattle.trace_show.specs.declared.label.Label.{Label}
+use Rattle.trace_show.specs.LabelText.{trace_text}
+use Rattle.abi_machine.specs.declared.run_end.RunEnd.{RunEnd}
+use Rattle.abi_machine.specs.declared.run_end.RunEnd.TheVariants.{Trapped}
+use Rattle.abi_machine.specs.World.{first_world}
+use Rattle.abi_machine.specs.Run.{Runs, lines_of}
+use Rattle.trace_show.specs.declared.trap.TrapName.{TrapName}
 use Rattle.wcm.specs.declared.answer.Answer.{Answer}
 use Rattle.wcm.specs.declared.status.Status.TheVariants.{Usage, Refused, ScriptRefused, LinkRefused}
-use Rattle.comp_link.specs.Linking.{Graph, exports_of, IsLinked, IsLinkRefused}
+use Rattle.comp_link.specs.Linking.{IsLinked, IsLinkRefused}
 use Rattle.wcm.specs.Refusals.{refused_line, link_refused_line, script_refused_line}
-use Rattle.wcm.specs.Run.{first_world, Runs}
 use Rattle.wcm.specs.Status.{status_of}
-use Rattle.wcm.specs.Text.{trace_text}
 use Rattle.wcm.specs.Words.{Command, Run, command_of}
+
+-- what is read of some bytes, and of some text for a component with these exports
+abbrev pub IsRead : Component → Type 0
+IsRead c = (bytes : List ℕ) × IsComponent bytes c
+
+abbrev pub IsOfScript : List Export → Script → Type 0
+IsOfScript exports s = (text : List ℕ) × IsScript exports text s
 
 -- how many bytes a component file may have: 16 MiB
 abbrev pub component_limit : ℕ
@@ -54,18 +66,18 @@ abbrev pub script_refused_answer : ScriptFault → Answer
 script_refused_answer fault = record { status = ScriptRefused; out = []; err = script_refused_line fault }
 
 -- the answer of a run
-abbrev pub run_answer : List Label → End → Answer
-run_answer labels end = record { status = status_of end; out = trace_text labels end; err = [] }
+abbrev pub run_answer : List Label → RunEnd → Answer
+run_answer labels end = record { status = status_of end; out = trace_text (lines_of labels end); err = [] }
 
 -- the answer is that of the run of the graph under this script
 abbrev pub RunAnswers : Graph → Script → Answer → Type 0
-RunAnswers g script a = (labels : List Label) × (end : End) × Runs g (first_world script) labels end × (a ≡ run_answer labels end)
+RunAnswers g script a = (labels : List Label) × (end : RunEnd) × Runs g (first_world g script) labels end × (a ≡ run_answer labels end)
 
 -- the answer for a graph and the bytes of a script file
 abbrev pub ScriptAnswers : Graph → List ℕ → Answer → Type 0
 ScriptAnswers g text a =
-    ((fault : ScriptFault) × IsScriptRefused (exports_of g) text fault × (a ≡ script_refused_answer fault))
-    ⊎ ((script : Script) × IsScript (exports_of g) text script × RunAnswers g script a)
+    ((fault : ScriptFault) × IsScriptRefused g.exports text fault × (a ≡ script_refused_answer fault))
+    ⊎ ((script : Script) × IsScript g.exports text script × RunAnswers g script a)
 
 -- the answer for a component: it is not linked, or the answer is what is said behind its graph
 abbrev pub LinkAnswers : Component → Answer → (Graph → Type 0) → Type 0
@@ -157,14 +169,18 @@ pub record NamesScriptRefused (words : List (List ℕ)) (held : List ℕ → Opt
   pub text : List ℕ
   pub fault : ScriptFault
   pub named : NamesGraph words held graph text
-  pub refused : IsScriptRefused (exports_of graph) text fault
+  pub refused : IsScriptRefused graph.exports text fault
 
 -- the words name a component that is linked, and a script for it whose run has this end
-pub record NamesRun (words : List (List ℕ)) (held : List ℕ → Option (List ℕ)) (end : End) : Type 0 where
+pub record NamesRun (words : List (List ℕ)) (held : List ℕ → Option (List ℕ)) (end : RunEnd) : Type 0 where
   pub graph : Graph
   pub text : List ℕ
   pub said : Script
   pub labels : List Label
   pub named : NamesGraph words held graph text
-  pub read_script : IsScript (exports_of graph) text said
-  pub runs : Runs graph (first_world said) labels end
+  pub read_script : IsScript graph.exports text said
+  pub runs : Runs graph (first_world graph said) labels end
+
+-- the words name a component that is linked, and a script for it whose run ends in a trap
+abbrev pub NamesTrap : List (List ℕ) → (List ℕ → Option (List ℕ)) → Type 0
+NamesTrap words held = (task : ℕ) × (why : TrapName) × NamesRun words held (Trapped task why)

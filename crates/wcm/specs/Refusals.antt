@@ -17,7 +17,8 @@ use Rattle.script_reader.specs.declared.fault.ScriptFault.{ScriptFault}
 use Rattle.comp_link.specs.declared.link_fault.LinkWhy.{LinkWhy}
 use Rattle.comp_link.specs.declared.link_fault.LinkWhy.TheVariants as link
 use Rattle.comp_link.specs.declared.link_fault.LinkFault.{LinkFault}
-use Rattle.wcm.specs.Text.{line, name_text}
+use Rattle.trace_show.specs.LabelText.{line}
+use Rattle.trace_show.specs.NameText.{name_text}
 
 -- a reason's name with its argument
 abbrev pub with_argument : List ℕ → List ℕ → List ℕ
@@ -77,6 +78,7 @@ script_why_text script.Utf8 = codes "Utf8"
 script_why_text script.Form = codes "Form"
 script_why_text script.Fuel = codes "Fuel"
 script_why_text script.Export = codes "Export"
+script_why_text script.HostType = codes "HostType"
 script_why_text script.Value = codes "Value"
 
 -- a place and a reason

@@ -1,7 +1,7 @@
 -- The statuses of the program: which number each has, and which one a run's end has.
 use Rattle.std.specs.Prelude.{ℕ}
-use Rattle.wcm.specs.declared.run.End.{End}
-use Rattle.wcm.specs.declared.run.End.TheVariants as ends
+use Rattle.abi_machine.specs.declared.run_end.RunEnd.{RunEnd}
+use Rattle.abi_machine.specs.declared.run_end.RunEnd.TheVariants as ends
 use Rattle.wcm.specs.declared.status.Status.{Status}
 use Rattle.wcm.specs.declared.status.Status.TheVariants.{Done, Trap, Usage, Refused, ScriptRefused, Deadlock, Fuel, ReadFault, WriteFault, Memory, LinkRefused}
 
@@ -18,14 +18,15 @@ status_code WriteFault = 8
 status_code Memory = 9
 status_code LinkRefused = 10
 
-abbrev pub status_of : End → Status
+abbrev pub status_of : RunEnd → Status
 status_of ends.Done = Done
+status_of (ends.Trapped task why) = Trap
 status_of ends.Fuel = Fuel
 
--- a status that the program gives, as far as it goes: a run neither traps nor blocks
+-- a status that the program gives, as far as it goes: no run blocks
 abbrev pub IsGiven : Status → Type 0
 IsGiven Done = Unit {0}
-IsGiven Trap = ⊥
+IsGiven Trap = Unit {0}
 IsGiven Usage = Unit {0}
 IsGiven Refused = Unit {0}
 IsGiven ScriptRefused = Unit {0}
@@ -53,7 +54,7 @@ IsFinal LinkRefused = Unit {0}
 -- a status that the files decide
 abbrev pub IsAnswered : Status → Type 0
 IsAnswered Done = Unit {0}
-IsAnswered Trap = ⊥
+IsAnswered Trap = Unit {0}
 IsAnswered Usage = ⊥
 IsAnswered Refused = Unit {0}
 IsAnswered ScriptRefused = Unit {0}
@@ -67,7 +68,7 @@ IsAnswered LinkRefused = Unit {0}
 -- a status that the script file and the run decide, behind a linked graph
 abbrev pub IsBehindGraph : Status → Type 0
 IsBehindGraph Done = Unit {0}
-IsBehindGraph Trap = ⊥
+IsBehindGraph Trap = Unit {0}
 IsBehindGraph Usage = ⊥
 IsBehindGraph Refused = ⊥
 IsBehindGraph ScriptRefused = Unit {0}

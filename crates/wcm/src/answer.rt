@@ -3,23 +3,26 @@
 ghost use Rattle.std.specs.Prelude.{◌≡◌, ℕ, List, [], IfOk, IfSome, MatchResult};
 ghost use Rattle.std.specs.List.{AllByRecursion};
 ghost use Rattle.script_reader.specs.Script.{IsScript, IsScriptRefused, CallsExport};
-ghost use Rattle.comp_link.specs.Linking as linking;
-ghost use Rattle.comp_link.specs.Linking.{AllRun, IsCallable};
+ghost use Rattle.comp_link.specs.Linking.{IsLinked};
+ghost use Rattle.comp_graph.specs.Graph.{IsCallable};
+ghost use Rattle.abi_machine.specs.Laws.{Sound};
 ghost use Rattle.wcm.specs.Gives.{CommandGives, GraphGives};
-ghost use Rattle.wcm.specs.Outcome.{FileAnswers, LinkAnswers, RunAnswers, IsComponentFile, IsRefusedFile};
+ghost use Rattle.wcm.specs.Outcome.{IsRead, IsOfScript, FileAnswers, LinkAnswers, RunAnswers, IsComponentFile, IsRefusedFile};
 ghost use Rattle.wcm.specs.Stops.{StopsFor};
 ghost use Rattle.wcm.specs.Status.{IsAnswered, IsBehindGraph};
 ghost use Rattle.wcm.specs.Words.{said};
 
-use crate::calling::run_script;
+use crate::laws::scripts_are_sound;
 use crate::refusals::{link_refused_line, refused_line, script_refused_line};
+use crate::running::run_script;
 use crate::status::{Status, status_of_end};
 use crate::trace_text::trace_text;
 use crate::words::Command;
 use ca_base::{Bytes, Memory, MemoryOr, Refusal, Seq};
 use ca_io::{FileError, Files, read_all};
 use ca_types::Exports;
-use comp_link::{Graph, exports_of, link};
+use comp_graph::Graph;
+use comp_link::link;
 use comp_reader::{Component, ComponentWhy, read_component};
 use script_reader::{Script, ScriptFault, ScriptWhy, read_script};
 use std::alloc::{AllocError, Global};
@@ -89,6 +92,7 @@ fn component_of<F: Files>(
     files: &mut F,
 ) -> Result<Result<Component, Refusal<ComponentWhy>>, Stop>
     ensures file { IfSome (F.held files.old name.now) (λ bytes. IfOk result (λ found. MatchResult found (IsComponentFile bytes) (IsRefusedFile bytes))) }
+    ensures read { IfOk result (λ found. IfOk found IsRead) }
     ensures same { (other : List ℕ) → F.held files.new other ≡ F.held files.old other }
     ensures cause { StopsFor (F.faults files.old) (F.faults files.new) result }
 {
@@ -113,6 +117,7 @@ fn script_of<F: Files>(
     exports: &Exports,
 ) -> Result<Result<Script, ScriptFault>, Stop>
     ensures file { IfSome (F.held files.old name.now) (λ bytes. IfOk result (λ found. MatchResult found (IsScript exports.now bytes) (IsScriptRefused exports.now bytes))) }
+    ensures read { IfOk result (λ found. IfOk found (IsOfScript exports.now)) }
     ensures calls { IfOk result (λ found. IfOk found (λ s. AllByRecursion (CallsExport exports.now) s.items)) }
     ensures same { (other : List ℕ) → F.held files.new other ≡ F.held files.old other }
     ensures cause { StopsFor (F.faults files.old) (F.faults files.new) result }
@@ -144,8 +149,8 @@ fn refusal(alloc: Global, status: Status, err: Bytes) -> Answer
 /// The answer of the run of a graph under a script.
 fn run_answer(alloc: Global, graph: &Graph, script: &Script) -> Result<Answer, Memory>
     requires callable { IsCallable graph.now }
-    requires runs { AllRun graph.now }
-    requires calls { AllByRecursion (CallsExport (linking.exports_of graph.now)) script.now.items }
+    requires sound { Sound graph.now script.now.items }
+    requires calls { AllByRecursion (CallsExport graph.now.exports) script.now.items }
     ensures run { IfOk result (λ a. RunAnswers graph.now script.now a) }
     ensures status { IfOk result (λ a. IsBehindGraph a.status) }
 {
@@ -165,14 +170,14 @@ fn script_answer<F: Files>(
     script: &str,
     files: &mut F,
 ) -> Result<Answer, Stop>
+    requires linked { (c : Component) × IsRead c × IsLinked c graph.now }
     requires callable { IsCallable graph.now }
-    requires runs { AllRun graph.now }
     ensures file { IfOk result (λ a. GraphGives graph.now (F.held files.old script.now) a) }
     ensures same { (other : List ℕ) → F.held files.new other ≡ F.held files.old other }
     ensures cause { StopsFor (F.faults files.old) (F.faults files.new) result }
 {
-    let exports = exports_of(alloc, graph)?;
-    match script_of(alloc, script, files, &exports)? {
+    scripts_are_sound();
+    match script_of(alloc, script, files, graph.exports())? {
         Ok(script) => Ok(run_answer(alloc, graph, &script)?),
         Err(fault) => {
             let line = script_refused_line(alloc, fault)?;
@@ -188,6 +193,7 @@ fn link_answer<F: Files>(
     script: &str,
     files: &mut F,
 ) -> Result<Answer, Stop>
+    requires read { IsRead component.now }
     ensures file { IfOk result (λ a. LinkAnswers component.now a (λ g. GraphGives g (F.held files.old script.now) a)) }
     ensures status { IfOk result (λ a. IsAnswered a.status) }
     ensures same { (other : List ℕ) → F.held files.new other ≡ F.held files.old other }

@@ -3,17 +3,18 @@
 
 mod adapters;
 mod answer;
+mod call_labels;
 mod calling;
-#[cfg(test)]
-mod calling_tests;
+mod core_runs;
+mod instantiating;
 mod laws;
-mod name_text;
 mod named_graph;
 mod refusals;
 #[cfg(test)]
 mod refusals_tests;
-mod run;
-mod run_laws;
+#[cfg(test)]
+mod run_tests_cases;
+mod running;
 mod status;
 #[cfg(test)]
 mod tests_cases;
@@ -23,8 +24,6 @@ mod top_tests;
 #[cfg(test)]
 mod top_tests_cases;
 mod trace_text;
-#[cfg(test)]
-mod trace_text_tests;
 mod words;
 
 use adapters::{Stream, SystemFiles};

@@ -1,17 +1,17 @@
 //! Graphs whose exports are looked up by their names.
 
-ghost use Rattle.std.specs.Prelude.{◌≡◌, None, Some, MatchOption, IfOk, map};
+ghost use Rattle.std.specs.Prelude.{◌≡◌, ◌<◌, Some, IfOk, length};
 ghost use Rattle.std.specs.List.{slice_get};
-ghost use Rattle.std.specs.Option.{option_map, option_and_then};
-ghost use Rattle.comp_link.specs.Plain.{plain_func};
-ghost use Rattle.wcm.specs.Run.{func_named};
+ghost use Rattle.ca_base.specs.Names.{first_named};
+ghost use Rattle.ca_types.specs.declared.exports.Export.{Export};
+ghost use Rattle.comp_graph.specs.Graph.{names};
 
 use ca_base::{by_name, find};
-use comp_link::{Exported, Graph, Lifted};
+use ca_types::FuncType;
+use comp_graph::{CoreFunc, Graph};
 use std::alloc::{AllocError, Global};
 use std::collections::BTreeMap;
 use std::marker::Model;
-use wasm_valid::Valid;
 
 /// A graph, and the numbers of its exports by their names. Contracts see the graph.
 #[derive(Drop)]
@@ -21,21 +21,21 @@ pub struct NamedGraph<'g, 'a> {
 }
 
 impl<'g, 'a> Model for NamedGraph<'g, 'a> {
-    ghost use Rattle.std.specs.Prelude.{◌≡◌, ℕ, List, map};
+    ghost use Rattle.std.specs.Prelude.{◌≡◌, ℕ, List};
     ghost use Rattle.std.specs.Coded.{codes};
     ghost use Rattle.wasm_module.specs.contracts.module.ModuleTree as tree;
-    ghost use Rattle.ca_types.specs.contracts.types.FuncType as func_type;
-    ghost use Rattle.comp_link.specs.Linking as linking;
-    ghost use Rattle.comp_link.specs.contracts.graph.CoreFunc as core_func;
+    ghost use Rattle.ca_types.specs.contracts.exports.Export as export;
+    ghost use Rattle.comp_graph.specs.contracts.graph.CoreFunc as core_func;
+    ghost use Rattle.comp_graph.specs.Graph as graphs;
     ghost use Rattle.ca_base.specs.Names.{at_name, first_named};
 
-    ghost Value = { linking.Graph };
+    ghost Value = { graphs.Graph };
 
-    ghost coded = { Prim.hlevel (codes, tree.the_row.coded, core_func.the_row.coded, func_type.the_row.coded) };
+    ghost coded = { Prim.hlevel (codes, tree.the_row.coded, export.the_row.coded, core_func.the_row.coded) };
 
     ghost view = { λ n. n.graph.now };
 
-    ghost invariant = { λ n. (q : List ℕ) → at_name n.numbers q ≡ first_named q (map (λ e. e.name) n.graph.now.exports) };
+    ghost invariant = { λ n. (q : List ℕ) → at_name n.numbers q ≡ first_named q (graphs.names n.graph.now.exports) };
 }
 
 impl<'g, 'a> NamedGraph<'g, 'a> {
@@ -43,32 +43,32 @@ impl<'g, 'a> NamedGraph<'g, 'a> {
     pub fn new(alloc: Global, graph: &'g Graph<'a>) -> Result<NamedGraph<'g, 'a>, AllocError>
         ensures { IfOk result (λ n. n ≡ graph.now) }
     {
-        let numbers = by_name(alloc, graph.exports())?;
+        let numbers = by_name(alloc, graph.exports().as_slice())?;
         Ok(NamedGraph { graph, numbers })
     }
 
-    /// The module of each core instance, in order of making.
-    pub fn instances(&self) -> &[&'a Valid]
-        ensures { map (λ r. r.now) result.now ≡ self.now.instances }
+    /// The number of the first export of a name.
+    pub fn number(&self, name: &str) -> Option<usize>
+        ensures { result ≡ first_named name.now (names self.now.exports) }
     {
-        let graph = self.graph;
-        graph.instances()
+        find(&self.numbers, name)
     }
 
-    /// The function that is exported under a name.
-    pub fn func(&self, name: &str) -> Option<Lifted<'a>>
-        ensures { MatchOption result (func_named self.now name.now ≡ None) (λ l. func_named self.now name.now ≡ Some (record { core = l.core; func_type = plain_func l.func_type.now })) }
+    /// The type of the export of a number.
+    pub fn func_type(&self, number: usize) -> &'g FuncType
+        requires { number < length self.now.exports }
+        ensures { (e : Export) × (slice_get self.now.exports number ≡ Some e) × (result.now ≡ e.func_type) }
     {
-        let number = find(&self.numbers, name);
         let graph = self.graph;
-        func_at(graph.exports(), number)
+        &graph.exports().as_slice()[number].func_type
     }
-}
 
-/// The function of the export of this number, if there is one.
-fn func_at<'a>(exports: &[Exported<'a>], number: Option<usize>) -> Option<Lifted<'a>>
-    ensures { result ≡ option_map (λ e. e.func) (option_and_then (λ k. slice_get exports.now k) number) }
-{
-    let export = exports.get(number?)?;
-    Some(export.func)
+    /// The core function of the export of a number.
+    pub fn core(&self, number: usize) -> CoreFunc
+        requires { number < length self.now.exports }
+        ensures { slice_get self.now.cores number ≡ Some result }
+    {
+        let graph = self.graph;
+        graph.core(number)
+    }
 }

@@ -3,14 +3,14 @@
 ghost use Rattle.std.specs.Prelude.{◌≡◌, ◌++◌, OnOk, IfOk, codes};
 ghost use Rattle.std.specs.Fmt.{decimal};
 ghost use Rattle.wcm.specs.Refusals.{with_argument, byte_text, module_why_text, valid_why_text, component_why_text, link_why_text, script_why_text, refused_line, link_refused_line, script_refused_line};
-ghost use Rattle.wcm.specs.Text.{name_text};
+ghost use Rattle.trace_show.specs.NameText.{name_text};
 
-use crate::name_text::push_name;
 use ca_base::{Bytes, Memory, Name, Refusal, Seq};
 use comp_link::{LinkFault, LinkWhy};
 use comp_reader::ComponentWhy;
 use script_reader::{ScriptFault, ScriptWhy};
 use std::alloc::Global;
+use trace_show::name_text;
 use wasm_module::ModuleWhy;
 use wasm_valid::ValidWhy;
 
@@ -108,22 +108,22 @@ fn push_component_why(alloc: Global, why: ComponentWhy, text: &mut Vec<u8>) -> R
 }
 
 /// Appends that an instance has no export of this name.
-fn push_missing(name: &Name, text: &mut Vec<u8>) -> Result<(), Memory>
+fn push_missing(alloc: Global, name: &Name, text: &mut Vec<u8>) -> Result<(), Memory>
     ensures { OnOk result (text.new.items ≡ text.old.items ++ with_argument (codes "Missing") (name_text name.now)) }
 {
     text.extend_from_slice(b"Missing(")?;
-    push_name(name, text)?;
+    text.extend_from_slice(name_text(alloc, name)?.as_slice())?;
     text.push(b')')?;
     Ok(())
 }
 
 /// Appends why a component is not linked.
-fn push_link_why(why: &LinkWhy, text: &mut Vec<u8>) -> Result<(), Memory>
+fn push_link_why(alloc: Global, why: &LinkWhy, text: &mut Vec<u8>) -> Result<(), Memory>
     ensures { OnOk result (text.new.items ≡ text.old.items ++ link_why_text why.now) }
 {
     match why {
         LinkWhy::Index => text.extend_from_slice(b"Index")?,
-        LinkWhy::Missing(name) => push_missing(name, text)?,
+        LinkWhy::Missing(name) => push_missing(alloc, name, text)?,
         LinkWhy::Typing => text.extend_from_slice(b"Typing")?,
         LinkWhy::Canon => text.extend_from_slice(b"Canon")?,
         LinkWhy::Limit => text.extend_from_slice(b"Limit")?,
@@ -161,7 +161,7 @@ pub fn link_refused_line(alloc: Global, fault: &LinkFault) -> Result<Bytes, Memo
     let mut text = Vec::new(alloc);
     text.extend_from_slice(b"link refused")?;
     push_place(alloc, fault.place, &mut text)?;
-    push_link_why(&fault.why, &mut text)?;
+    push_link_why(alloc, &fault.why, &mut text)?;
     text.push(b'\n')?;
     Ok(Seq::from_vec(text))
 }
@@ -176,6 +176,7 @@ fn push_script_why(why: ScriptWhy, text: &mut Vec<u8>) -> Result<(), Memory>
         ScriptWhy::Form => text.extend_from_slice(b"Form")?,
         ScriptWhy::Fuel => text.extend_from_slice(b"Fuel")?,
         ScriptWhy::Export => text.extend_from_slice(b"Export")?,
+        ScriptWhy::HostType => text.extend_from_slice(b"HostType")?,
         ScriptWhy::Value => text.extend_from_slice(b"Value")?,
     }
     Ok(())

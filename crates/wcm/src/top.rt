@@ -4,8 +4,8 @@ ghost use Rattle.std.specs.Prelude.{◌≡◌, ◌≢◌, ◌<◌, ◌⊎◌, �
 ghost use Rattle.ca_io.specs.Causes.{Rose};
 ghost use Rattle.ca_io.specs.Bytes.{grown, TookFront};
 ghost use Rattle.wcm.specs.declared.answer.Answer.{Answer};
-ghost use Rattle.wcm.specs.declared.run.End.TheVariants as end;
-ghost use Rattle.wcm.specs.Outcome.{Outcome, IsTold, IsComponentTold, NamesRefused, NamesLinkRefused, NamesScriptRefused, NamesRun};
+ghost use Rattle.abi_machine.specs.declared.run_end.RunEnd.TheVariants as end;
+ghost use Rattle.wcm.specs.Outcome.{Outcome, IsTold, IsComponentTold, NamesRefused, NamesLinkRefused, NamesScriptRefused, NamesRun, NamesTrap};
 ghost use Rattle.wcm.specs.Status.{IsGiven, IsFinal};
 ghost use Rattle.wcm.specs.Words.{command_of};
 ghost use Rattle.wcm.specs.Written.{WroteAll, WroteFront, WroteFrontOrLine};
@@ -38,7 +38,8 @@ fn write_answer<K: Sink>(answer: &Answer, out: &mut K, err: &mut K) -> Result<()
 
 /// Runs the command that the words say, over the files, the output and the error output that are handed in, and
 /// answers how it ends. `words[0]` is the program's name. The one command is `run FILE SCRIPT`: it reads and links the
-/// component file, reads the script file, makes the script's calls, and writes the trace to the output.
+/// component file, reads the script file, makes the core instances and then the script's calls, and writes the trace to the
+/// output.
 ///
 /// The files are told where the component file is, and either that one decides the answer or the script file is told too.
 #[tactic(auto, using(crate::proofs::Taken::grown_nil, crate::proofs::Taken::took))]
@@ -78,10 +79,12 @@ pub fn run_words<F: Files, K: Sink>(
         → ((result ≡ Status.ScriptRefused) ↔ NamesScriptRefused (map string_bytes words.now) (F.held files.old)) }
     ensures done { IsTold (map string_bytes words.now) (F.held files.old) → IsFinal result
         → ((result ≡ Status.Done) ↔ NamesRun (map string_bytes words.now) (F.held files.old) end.Done) }
+    ensures trap { IsTold (map string_bytes words.now) (F.held files.old) → IsFinal result
+        → ((result ≡ Status.Trap) ↔ NamesTrap (map string_bytes words.now) (F.held files.old)) }
     ensures fuel { IsTold (map string_bytes words.now) (F.held files.old) → IsFinal result
         → ((result ≡ Status.Fuel) ↔ NamesRun (map string_bytes words.now) (F.held files.old) end.Fuel) }
 
-    // No run traps or blocks.
+    // No run blocks.
     ensures given { IsGiven result }
 
     // A read fault, only where the count of the files' faults rose; wherever it grew, unless a write fault or want of

@@ -1,9 +1,12 @@
 //! Calls of the program over files and outputs in memory, by the tables of `top_tests_cases`.
 
+use crate::laws;
+use crate::run_tests_cases::{RUN_CASES, RUN_COUNT};
 use crate::tests_cases::{bytes_of, number_of, push_bytes, push_line};
 use crate::top::run_words;
 use crate::top_tests_cases::{ADD, CASES, COUNT, LONG_CASES, LONG_COUNT, MANY_CASES, MANY_COUNT};
 use ca_io::{MemFiles, MemSink};
+use comp_link::one_linking;
 use std::alloc::Global;
 use std::process::Abort;
 use std::test::Fail;
@@ -151,4 +154,16 @@ fn calls_over_a_long_file(rt: HostRuntime) -> Result<(), Fail> {
 #[test]
 fn calls_of_many_instructions(rt: HostRuntime) -> Result<(), Fail> {
     check_all(&rt, rt.alloc(), MANY_CASES, MANY_COUNT)
+}
+
+#[test]
+fn calls_of_whole_modules(rt: HostRuntime) -> Result<(), Fail> {
+    check_all(&rt, rt.alloc(), RUN_CASES, RUN_COUNT)
+}
+
+#[test]
+fn laws_hold() {
+    one_linking();
+    laws::scripts_are_sound();
+    laws::one_outcome();
 }

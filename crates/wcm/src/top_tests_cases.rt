@@ -135,7 +135,7 @@ last calls
 status Refused
 err refused at 11: Unsupported(1c)
 
-# core modules that are not valid, that the machine does not run yet, and that import from a module that is not there
+# core modules that are not valid, that subtract, and that import from a module that is not there
 change 49 7C
 script call add (2, 3)
 status Refused
@@ -143,8 +143,12 @@ err refused at 49: Invalid(Typing)
 
 change 49 6B
 script call add (2, 3)
-status LinkRefused
-err link refused at 10: Limit
+status Done
+out take 1 T1 add (2, 3)
+out enter T1
+out return T1 (4294967295)
+out exit T1
+out done
 
 component 00 61 73 6D 0D 00 01 00 01 17 00 61 73 6D 01 00 00 00 01 04 01 60 00 00 02 07 01 01 6D 01 66 00 00
 bytes 02 04 01 00 00 00

@@ -1,7 +1,7 @@
-use Rattle.std.proofs.Common.{◌≡◌, ◌<◌, ◌^◌, map, take}
-use Rattle.std.specs.List.{All}
-use Rattle.wcm.specs.Run.{lowered}
+-- The words so far are those of the values so far.
+use Rattle.std.proofs.Common.{◌≡◌, map, take}
+use Rattle.abi_machine.specs.Machine.{lowered}
 use Rattle.wcm.proofs.calling.lower_values.Given as goal
 
 abbrev pub invariant-loop-value : goal.invariant-loop-value
-invariant-loop-value l = record { lowered : l.words ≡ map lowered (take l.value-index l.values); below : All (λ w. w < 2 ^ 32) l.words }
+invariant-loop-value l = l.words ≡ map lowered (take l.value-index l.values)

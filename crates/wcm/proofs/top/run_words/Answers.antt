@@ -1,7 +1,7 @@
 use Rattle.std.proofs.Common.{refl, sym, map, string_bytes, inl}
 use Rattle.wcm.specs.Outcome.{usage_answer}
 use Rattle.wcm.proofs.Taken.{grown_nil}
-use Rattle.wcm.proofs.Rows.{outcome_of, usage_of, row_refused, row_link_refused, row_script_refused, row_done, row_fuel}
+use Rattle.wcm.proofs.Rows.{outcome_of, usage_of, row_refused, row_link_refused, row_script_refused, row_done, row_trap, row_fuel}
 use Rattle.wcm.proofs.top.run_words.Goals as goal
 
 pub returns-in_default-clause-headline : goal.returns-in_default-clause-headline
@@ -27,6 +27,9 @@ returns-in-Ok-write_answer-clause-script_refused g c = λ told final. row_script
 
 pub returns-in-Ok-write_answer-clause-done : goal.returns-in-Ok-write_answer-clause-done
 returns-in-Ok-write_answer-clause-done g c = λ told final. row_done (map string_bytes c.args.words.now) (g.F.Files.held c.args.files.now) _ c.in-Ok.answer c.in-Some.ensures (outcome_of (map string_bytes c.args.words.now) (g.F.Files.held c.args.files.now) _ c.in-Ok.answer c.in-Some.ensures c.in-Ok.ensures.files told)
+
+pub returns-in-Ok-write_answer-clause-trap : goal.returns-in-Ok-write_answer-clause-trap
+returns-in-Ok-write_answer-clause-trap g c = λ told final. row_trap (map string_bytes c.args.words.now) (g.F.Files.held c.args.files.now) _ c.in-Ok.answer c.in-Some.ensures (outcome_of (map string_bytes c.args.words.now) (g.F.Files.held c.args.files.now) _ c.in-Ok.answer c.in-Some.ensures c.in-Ok.ensures.files told)
 
 pub returns-in-Ok-write_answer-clause-fuel : goal.returns-in-Ok-write_answer-clause-fuel
 returns-in-Ok-write_answer-clause-fuel g c = λ told final. row_fuel (map string_bytes c.args.words.now) (g.F.Files.held c.args.files.now) _ c.in-Ok.answer c.in-Some.ensures (outcome_of (map string_bytes c.args.words.now) (g.F.Files.held c.args.files.now) _ c.in-Ok.answer c.in-Some.ensures c.in-Ok.ensures.files told)
