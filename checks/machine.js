@@ -1,4 +1,4 @@
-// Asks V8 for what the bodies in checks/machine give, and tells each line that says otherwise.
+// Asks V8 for what the bodies in the tables of the crate machine_tests give, and tells each line that says otherwise.
 //
 //     node checks/machine.js
 //
@@ -7,8 +7,13 @@
 const fs = require('fs');
 const path = require('path');
 
-const read = (name) => fs.readFileSync(path.join(__dirname, 'machine', name), 'utf8').trim();
-const parts = Object.fromEntries(read('module.txt').split('\n').map((line) => line.split(' | ')));
+// The table in a file of the crate: its one text of several lines.
+function read(name) {
+  const file = path.join(__dirname, '..', 'crates', 'machine_tests', 'src', `${name}.rt`);
+  return fs.readFileSync(file, 'utf8').match(/"\n([^"]*)\n"/)[1];
+}
+
+const parts = Object.fromEntries(read('frame').split('\n').map((line) => line.split(' | ')));
 const I64 = 0x7e;
 
 const bytesOf = (hex) => hex.replace(/\s+/g, '');
@@ -89,7 +94,7 @@ const traps = {
 let count = 0;
 let differing = 0;
 for (const name of ['numbers', 'memories', 'blocks', 'calls']) {
-  for (const line of read(`${name}.txt`).split('\n')) {
+  for (const line of read(name).split('\n')) {
     count += 1;
     const cut = line.lastIndexOf(' = ');
     const wanted = line.slice(cut + 3).replace(/ for \d+$/, '');

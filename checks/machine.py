@@ -1,13 +1,14 @@
 #!/usr/bin/env python3
 """Times programs that run a core module, on the same module: wabt's `wasm-interp`, and those that are named.
 
-    checks/machine.py [--factor FACTOR] [COMMAND..]
+    checks/machine.py [--factor FACTOR] [--wcm PROGRAM] [COMMAND..]
 
 The module has three functions without parameters, each exported and of about 33 million instructions: `work`, a loop of
 integer work; `calls`, a recursion 31 calls deep; and `bytes`, a loop of loads and stores. FACTOR, a number such as 0.01,
-makes the loops shorter and leaves the recursion out. Each COMMAND is one word for the shell, behind which the module's path
-is put, and is to run all three. A line a program is printed: its seconds of processor time, and those for a million instructions. `wat2wasm`
-and `wasm-interp` of wabt are wanted.
+makes the loops shorter and leaves the recursion out. PROGRAM is a built wcm: it runs a component with the module in it, and
+a script that calls the three. Each COMMAND is one word for the shell, behind which the module's path is put, and is to run
+all three. A line a program is printed: its seconds of processor time, and those for a million instructions. `wat2wasm` and
+`wasm-interp` of wabt are wanted.
 """
 
 import resource
@@ -16,6 +17,11 @@ import subprocess
 import sys
 import tempfile
 from pathlib import Path
+
+# No folder of compiled files is left beside the scripts.
+sys.dont_write_bytecode = True
+
+import formats
 
 # Rounds of the loops, and the number whose Fibonacci number is computed by calls.
 WORK_ROUNDS = 2_500_000
@@ -95,6 +101,25 @@ TEXT = """(module
 """
 
 
+# The functions that are run, and a script that calls them.
+NAMES = ["work", "calls", "bytes"]
+SCRIPT = "fuel 1000000000\n" + "".join(f"call {text}()\n" for text in NAMES)
+
+
+def component(module):
+    """A component that exports the three functions of a core module, each from nothing to a u32."""
+    lifts = (b"\x00\x00" + formats.u32(index) + b"\x00" + formats.u32(0) for index in range(len(NAMES)))
+    exports = (b"\x00" + formats.name(text) + b"\x01" + formats.u32(index) + b"\x00" for index, text in enumerate(NAMES))
+    return formats.component(
+        formats.section(1, module),
+        formats.instance(),
+        formats.aliases(NAMES),
+        formats.section(7, formats.vec([b"\x40\x00\x00\x79"])),
+        formats.section(8, formats.vec(lifts)),
+        formats.section(11, formats.vec(exports)),
+    )
+
+
 def fibonacci_calls(number):
     """How many calls that compute a Fibonacci number call two others, and how many call none."""
     calling, ending = [0, 0], [1, 1]
@@ -118,9 +143,13 @@ def timed(words):
 
 
 def main(words):
-    factor = 1.0
-    if words[:1] == ["--factor"]:
-        factor, words = float(words[1]), words[2:]
+    factor, programs = 1.0, []
+    while words[:1] in (["--factor"], ["--wcm"]):
+        if words[0] == "--factor":
+            factor = float(words[1])
+        else:
+            programs.append(words[1])
+        words = words[2:]
     work, loads = int(WORK_ROUNDS * factor), int(BYTE_ROUNDS * factor)
     number = FIBONACCI if factor >= 1 else 1
     calling, ending = fibonacci_calls(number)
@@ -133,6 +162,12 @@ def main(words):
         for command in ["wasm-interp --run-all-exports", *words]:
             seconds = timed([*shlex.split(command), str(module)])
             print(f"{command}: {seconds:.2f} s, {seconds * 1e6 / count:.4f} s a million")
+        file, script = Path(folder) / "loops.component", Path(folder) / "loops.script"
+        file.write_bytes(component(module.read_bytes()))
+        script.write_text(SCRIPT)
+        for program in programs:
+            seconds = timed([program, "run", str(file), str(script)])
+            print(f"{program}: {seconds:.2f} s, {seconds * 1e6 / count:.4f} s a million")
 
 
 if __name__ == "__main__":

@@ -129,6 +129,31 @@ def counts():
     ]
 
 
+def calling(between, body):
+    """A component that exports `f`, the one function of its module, from nothing to nothing; these sections stand before its body."""
+    module = (
+        formats.MODULE
+        + formats.section(1, formats.vec([b"\x60\x00\x00"]))
+        + formats.section(3, formats.vec([formats.u32(0)]))
+        + formats.section(7, formats.vec([formats.name("f") + b"\x00" + formats.u32(0)]))
+        + between
+        + formats.section(10, formats.vec([formats.u32(len(body) + 1) + b"\x00" + body]))
+    )
+    return formats.component(
+        formats.section(1, module), formats.instance(), formats.aliases(["f"]), formats.func_type([]), formats.lift(), formats.exports(["f"])
+    )
+
+
+def trapping(between):
+    """One whose function is `unreachable`."""
+    return calling(between, b"\x00\x0b")
+
+
+def looping():
+    """One whose function loops for ever."""
+    return calling(b"", b"\x03\x40\x0c\x00\x0b\x0b")
+
+
 def statuses(add):
     """A call for each status that can come."""
     float_type = formats.component(bytes.fromhex("07020176"))
@@ -136,6 +161,9 @@ def statuses(add):
     long = formats.COMPONENT + bytes(16 * MIB - 7)
     return [
         Case("done", 0, out=SUM, component=add),
+        Case("a trap", 1, out="take 1 T1 f ()\nenter T1\ntrap T1 Unreachable\n", component=trapping(b""), script=b"call f ()\n"),
+        Case("a trap in a start function", 1, out="trap T0 Unreachable\n", component=trapping(formats.section(8, formats.u32(0))), script=b"call f ()\n"),
+        Case("no fuel in a loop", 6, out="take 1 T1 f ()\nenter T1\nfuel\n", component=looping(), script=b"call f ()\n"),
         Case("no words", 2, component=add, words=()),
         Case("no script's name", 2, component=add, words=("run", "file.wasm")),
         Case("a name that begins with a minus", 2, component=add, words=("run", "-f", "script.txt")),
