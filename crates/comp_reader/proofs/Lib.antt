@@ -1,2 +1,3 @@
+mod Depth
 mod Options
 mod Whole

@@ -8,11 +8,11 @@ use Rattle.ca_base.proofs.Whole.{whole_decided}
 use Rattle.comp_reader.specs.declared.component.Component.{Component}
 use Rattle.comp_reader.specs.declared.fault.ComponentWhy.{ComponentWhy}
 use Rattle.comp_reader.specs.declared.fault.ComponentWhy.TheVariants.{Truncated}
-use Rattle.comp_reader.specs.Binary.{reasons, component, file, file_end}
+use Rattle.comp_reader.specs.Binary.{reasons, component, component_of, component_within, file, file_end}
 use Rattle.comp_reader.specs.Laws.{OneReading}
 
 pub matches_whole : (bytes : List ℕ) (c : Component) (t : Span ComponentWhy) → Matches component (file bytes) c t → t ≡ file_end bytes
-unfolding component
+unfolding component_within component_of
 matches_whole bytes c t h =
     let tail = h.3.3 in
     let e = at_end_matches reasons h.3.1 tail.0 tail.1 tail.2 in

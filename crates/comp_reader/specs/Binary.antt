@@ -1,7 +1,8 @@
 -- The binary format of components (Component Model, Binary.md), as far as it is read: sections of core modules, core
--- instances without arguments, aliases of core functions, types of functions over u32, lifts without options, exports of
--- functions, and custom sections; any number of them, in any order.
-use Rattle.std.specs.Prelude.{ℕ, ◌^◌, ℤ, pos, nat_abs, int_le, int_lt, ◌&&◌, Bool, List, [], ◌∷◌, length, ◌==◌, ◌||◌, Option, Some, None}
+-- instances, components, instances, aliases, types of functions over u32 and of instances, lifts without options, imports
+-- and exports of functions, types and instances, and custom sections; any number of them, in any order. Components and
+-- instance types may hold others; at most 16 of both are open at a place.
+use Rattle.std.specs.Prelude.{ℕ, zero, suc, if◌then◌else◌, ◌^◌, ℤ, pos, nat_abs, int_le, int_lt, ◌&&◌, Bool, true, false, List, [], ◌∷◌, length, ◌==◌, ◌||◌, Option, Some, None}
 use Rattle.ca_base.specs.Span.{Span}
 use Rattle.ca_base.specs.Grammar.{Grammar, Give, Refuse, Here, Left, Next, Byte, Sized, Choose, ◌>>=◌, Matches, Refuses}
 use Rattle.ca_base.specs.Items.{byte_of, NumberReasons, Reasons, fixed, marker, u32, s33, name, custom, sized, vec, placed, placed_vec, to_the_end, joined, at_end}
@@ -13,21 +14,35 @@ use Rattle.wasm_module.specs.declared.module.ModuleTree.{ModuleTree}
 use Rattle.wasm_reader.specs.Binary.{the_module}
 use Rattle.wasm_valid.specs.declared.fault.ValidFault.{ValidFault}
 use Rattle.wasm_valid.specs.Finding.{untyped}
-use Rattle.comp_reader.specs.declared.component.CoreInstance.TheVariants.{Instantiate}
-use Rattle.comp_reader.specs.declared.component.Alias.TheVariants.{CoreFunc}
+use Rattle.comp_reader.specs.declared.component.CoreSort.{CoreSort}
+use Rattle.comp_reader.specs.declared.component.CoreSort.TheVariants as core
+use Rattle.comp_reader.specs.declared.component.Sort.{Sort}
+use Rattle.comp_reader.specs.declared.component.Sort.TheVariants as sorts
+use Rattle.comp_reader.specs.declared.component.CoreArgument.{CoreArgument}
+use Rattle.comp_reader.specs.declared.component.CoreInlineExport.{CoreInlineExport}
+use Rattle.comp_reader.specs.declared.component.CoreInstance.TheVariants as made_core
+use Rattle.comp_reader.specs.declared.component.NamedDefinition.{NamedDefinition}
+use Rattle.comp_reader.specs.declared.component.Instance.TheVariants as made
+use Rattle.comp_reader.specs.declared.component.AliasTarget.{AliasTarget}
+use Rattle.comp_reader.specs.declared.component.AliasTarget.TheVariants.{InstanceExport, CoreInstanceExport, Outer}
+use Rattle.comp_reader.specs.declared.component.Alias.{Alias}
+use Rattle.comp_reader.specs.declared.component.ExternDesc.{ExternDesc}
+use Rattle.comp_reader.specs.declared.component.ExternDesc.TheVariants as descs
 use Rattle.comp_reader.specs.declared.component.PrimValType.TheVariants.{U32}
 use Rattle.comp_reader.specs.declared.component.ValTypeRef.{ValTypeRef}
 use Rattle.comp_reader.specs.declared.component.ValTypeRef.TheVariants.{Primitive, Index}
 use Rattle.comp_reader.specs.declared.component.Param.{Param}
 use Rattle.comp_reader.specs.declared.component.FuncType.{FuncType}
 use Rattle.comp_reader.specs.declared.component.DefType.{DefType}
-use Rattle.comp_reader.specs.declared.component.DefType.TheVariants.{Value, Func}
+use Rattle.comp_reader.specs.declared.component.DefType.TheVariants.{Value, Func, Instance}
+use Rattle.comp_reader.specs.declared.component.InstanceDecl.{InstanceDecl}
+use Rattle.comp_reader.specs.declared.component.InstanceDecl.TheVariants as decl
 use Rattle.comp_reader.specs.declared.component.Canon.TheVariants.{Lift}
 use Rattle.comp_reader.specs.declared.component.Item.{Item}
 use Rattle.comp_reader.specs.declared.component.Item.TheVariants as item
 use Rattle.comp_reader.specs.declared.component.Component.{Component}
 use Rattle.comp_reader.specs.declared.fault.ComponentWhy.{ComponentWhy}
-use Rattle.comp_reader.specs.declared.fault.ComponentWhy.TheVariants.{Truncated, Leb, Utf8, Magic, SectionSize, Unsupported, Float, Module, Invalid}
+use Rattle.comp_reader.specs.declared.fault.ComponentWhy.TheVariants.{Truncated, Leb, Utf8, Magic, SectionSize, Unsupported, Float, Limit, Module, Invalid}
 
 abbrev pub numbers : NumberReasons ComponentWhy
 numbers = record { leb = Leb; utf8 = Utf8 }
@@ -53,35 +68,163 @@ core_module = do
   tree ← validated read.tree (untyped read.tree read.places)
   Give (item.CoreModule tree)
 
--- a number that is 0; else its first byte is refused
-unfoldable pub no_arguments : Grammar ComponentWhy (Unit {0})
-no_arguments = do
-  place ← Here
-  first ← Next
-  count ← u32 numbers
-  Choose (count == 0) (Give tt) (Refuse place (Unsupported (byte_of first)))
+-- A byte that no rule has in its place.
+abbrev pub unsupported : {A : Type 0} → ℕ → ℕ → Grammar ComponentWhy A
+unsupported place b = Refuse place (Unsupported b)
 
--- a core instance: 00, a core module and no arguments
+-- Sorts: 00 to 03, 11 and 12 for what stands in core modules and what they and their instances are; behind 00 a core sort,
+-- 01, 03, 04 and 05 for functions, types, components and instances.
+unfoldable pub core_sort : Grammar ComponentWhy CoreSort
+core_sort = do
+  place ← Here
+  b ← Byte
+  Choose (b == 0x00) (Give core.Func)
+      (Choose (b == 0x01) (Give core.Table)
+      (Choose (b == 0x02) (Give core.Memory)
+      (Choose (b == 0x03) (Give core.Global)
+      (Choose (b == 0x11) (Give core.Module)
+      (Choose (b == 0x12) (Give core.Instance)
+      (unsupported place b))))))
+
+unfoldable pub any_sort : Grammar ComponentWhy Sort
+any_sort = do
+  place ← Here
+  b ← Byte
+  Choose (b == 0x00) (do
+    inner ← core_sort
+    Give (sorts.Core inner))
+      (Choose (b == 0x01) (Give sorts.Func)
+      (Choose (b == 0x03) (Give sorts.Type)
+      (Choose (b == 0x04) (Give sorts.Component)
+      (Choose (b == 0x05) (Give sorts.Instance)
+      (unsupported place b)))))
+
+-- a name of an import or an export: 00 or 01, and the name
+unfoldable pub extern_name : Grammar ComponentWhy (List ℕ)
+extern_name = do
+  place ← Here
+  b ← Byte
+  Choose (b == 0 || b == 1) (name numbers) (unsupported place b)
+
+-- an argument of a core module: its name, the sort 12 of instances, and the index
+unfoldable pub core_argument : Grammar ComponentWhy CoreArgument
+core_argument = do
+  from ← name numbers
+  _ ← marker reasons 0x12
+  index ← u32 numbers
+  Give (record { name = from; instance = index })
+
+-- an inline export of a core instance: its name, a core sort and an index
+unfoldable pub core_inline_export : Grammar ComponentWhy CoreInlineExport
+core_inline_export = do
+  export ← name numbers
+  sort ← core_sort
+  index ← u32 numbers
+  Give (record { name = export; sort = sort; index = index })
+
+-- a core instance: 00 a core module and its arguments, 01 inline exports
 unfoldable pub core_instance : Grammar ComponentWhy Item
 core_instance = do
-  _ ← marker reasons 0
-  index ← u32 numbers
-  _ ← no_arguments
-  Give (item.CoreInstance (Instantiate index))
+  place ← Here
+  b ← Byte
+  Choose (b == 0) (do
+    index ← u32 numbers
+    arguments ← vec numbers core_argument
+    Give (item.CoreInstance (made_core.Instantiate index arguments)))
+      (Choose (b == 1) (do
+        exports ← vec numbers core_inline_export
+        Give (item.CoreInstance (made_core.Inline exports)))
+      (unsupported place b))
 
--- an alias: the sort 00 00 of core functions, 01 of exports of core instances, the instance and the name
-unfoldable pub alias : Grammar ComponentWhy Item
-alias = do
-  _ ← marker reasons 0
-  _ ← marker reasons 0
-  _ ← marker reasons 1
+-- an argument of a component: its name, a sort and an index
+unfoldable pub argument : Grammar ComponentWhy NamedDefinition
+argument = do
+  import ← name numbers
+  sort ← any_sort
   index ← u32 numbers
-  export ← name numbers
-  Give (item.Alias (CoreFunc index export))
+  Give (record { name = import; sort = sort; index = index })
+
+-- an inline export of an instance, likewise under the name of an export
+unfoldable pub inline_export : Grammar ComponentWhy NamedDefinition
+inline_export = do
+  export ← extern_name
+  sort ← any_sort
+  index ← u32 numbers
+  Give (record { name = export; sort = sort; index = index })
+
+-- an instance: 00 a component and its arguments, 01 inline exports
+unfoldable pub instance : Grammar ComponentWhy Item
+instance = do
+  place ← Here
+  b ← Byte
+  Choose (b == 0) (do
+    index ← u32 numbers
+    arguments ← vec numbers argument
+    Give (item.Instance (made.Instantiate index arguments)))
+      (Choose (b == 1) (do
+        exports ← vec numbers inline_export
+        Give (item.Instance (made.Inline exports)))
+      (unsupported place b))
+
+-- The target of an alias of this sort: 00 an export of an instance, 01 one of a core instance, 02 an outer definition,
+-- which is a type or a component.
+abbrev pub may_be_outer : Sort → Bool
+may_be_outer (sorts.Core inner) = false
+may_be_outer sorts.Func = false
+may_be_outer sorts.Type = true
+may_be_outer sorts.Component = true
+may_be_outer sorts.Instance = false
+
+unfoldable pub alias_target : Sort → Grammar ComponentWhy AliasTarget
+alias_target sort = do
+  place ← Here
+  b ← Byte
+  Choose (b == 0) (do
+    index ← u32 numbers
+    export ← name numbers
+    Give (InstanceExport index export))
+      (Choose (b == 1) (do
+        index ← u32 numbers
+        export ← name numbers
+        Give (CoreInstanceExport index export))
+      (Choose (b == 2 && may_be_outer sort) (do
+        up ← u32 numbers
+        index ← u32 numbers
+        Give (Outer up index))
+      (unsupported place b)))
+
+-- an alias: its sort, and its target
+unfoldable pub alias : Grammar ComponentWhy Alias
+alias = do
+  sort ← any_sort
+  target ← alias_target sort
+  Give (record { sort = sort; target = target })
+
+unfoldable pub alias_item : Grammar ComponentWhy Item
+alias_item = do
+  read ← alias
+  Give (item.Alias read)
+
+-- what an import or an export is to be: 01 a function of a type, 03 00 an equal type, 05 an instance of a type
+unfoldable pub extern_desc : Grammar ComponentWhy ExternDesc
+extern_desc = do
+  place ← Here
+  b ← Byte
+  Choose (b == 1) (do
+    type ← u32 numbers
+    Give (descs.Func type))
+      (Choose (b == 3) (do
+        _ ← marker reasons 0
+        type ← u32 numbers
+        Give (descs.TypeEq type))
+      (Choose (b == 5) (do
+        type ← u32 numbers
+        Give (descs.Instance type))
+      (unsupported place b)))
 
 -- a byte at this place that is a type of floats, or has no rule there
 abbrev pub refused_type : {A : Type 0} → ℕ → ℕ → Grammar ComponentWhy A
-refused_type place b = Choose (b == 0x76 || b == 0x75) (Refuse place Float) (Refuse place (Unsupported b))
+refused_type place b = Refuse place (if b == 0x76 || b == 0x75 then Float else Unsupported b)
 
 -- whether a number is an index
 abbrev pub is_index : ℤ → Bool
@@ -123,19 +266,53 @@ func_type = do
   returned ← func_result
   Give (record { params = params; result = returned })
 
--- a type: 40 a function, 79 the value type u32
-unfoldable pub def_type : Grammar ComponentWhy DefType
-def_type = do
+-- A declaration of an instance type, in which types are of this grammar: 01 a type, 02 an alias, 04 an export.
+unfoldable pub instance_decl : Grammar ComponentWhy DefType → Grammar ComponentWhy InstanceDecl
+instance_decl inner = do
+  place ← Here
+  b ← Byte
+  Choose (b == 1) (do
+    type ← inner
+    Give (decl.Type type))
+      (Choose (b == 2) (do
+        read ← alias
+        Give (decl.Alias read))
+      (Choose (b == 4) (do
+        export ← extern_name
+        wanted ← extern_desc
+        Give (decl.Export export wanted))
+      (unsupported place b)))
+
+-- A type, where instance types are of this grammar at the place of their 42: 40 a function, 42 an instance, 79 the value
+-- type u32.
+unfoldable pub type_of : (ℕ → Grammar ComponentWhy DefType) → Grammar ComponentWhy DefType
+type_of inner = do
   place ← Here
   b ← Byte
   Choose (b == 0x40) (do
     type ← func_type
     Give (Func type))
-      (Choose (b == 0x79) (Give (Value U32)) (refused_type place b))
+      (Choose (b == 0x42) (inner place)
+      (Choose (b == 0x79) (Give (Value U32)) (refused_type place b)))
 
-unfoldable pub type_item : Grammar ComponentWhy Item
-type_item = do
-  type ← def_type
+-- the declarations of an instance type, in which types are of this grammar
+unfoldable pub declarations : Grammar ComponentWhy DefType → Grammar ComponentWhy DefType
+declarations inner = do
+  decls ← vec numbers (instance_decl inner)
+  Give (Instance decls)
+
+-- What stands behind the 42 of an instance type at this place, where so many may be opened, itself one of them.
+unfoldable pub instance_type : ℕ → ℕ → Grammar ComponentWhy DefType
+instance_type zero place = Refuse place Limit
+instance_type (suc more) place = declarations (type_of (instance_type more))
+
+-- a type, inside which so many components and instance types may be opened
+abbrev pub def_type : ℕ → Grammar ComponentWhy DefType
+def_type more = type_of (instance_type more)
+
+unfoldable pub type_item : ℕ → Grammar ComponentWhy Item
+type_item more = do
+  type ← def_type more
   Give (item.Type type)
 
 -- No option is read.
@@ -155,21 +332,32 @@ canon = do
   type ← u32 numbers
   Give (item.Canon (Lift index type))
 
--- an export's name: 00 or 01, and the name
-unfoldable pub export_name : Grammar ComponentWhy (List ℕ)
-export_name = do
+-- an import: its name, and what it is to be
+unfoldable pub import : Grammar ComponentWhy Item
+import = do
+  named ← extern_name
+  wanted ← extern_desc
+  Give (item.Import (record { name = named; desc = wanted }))
+
+-- what an export is said to be: 00 nothing, 01 and what it is to be
+unfoldable pub export_desc : Grammar ComponentWhy (Option ExternDesc)
+export_desc = do
   place ← Here
   b ← Byte
-  Choose (b == 0 || b == 1) (name numbers) (Refuse place (Unsupported b))
+  Choose (b == 0) (Give None)
+      (Choose (b == 1) (do
+        wanted ← extern_desc
+        Give (Some wanted))
+      (unsupported place b))
 
--- an export: its name, the sort 01 of functions, an index, and 00 for no type
+-- an export: its name, a sort, an index, and what it is to be, where it says so
 unfoldable pub export : Grammar ComponentWhy Item
 export = do
-  named ← export_name
-  _ ← marker reasons 1
+  named ← extern_name
+  sort ← any_sort
   index ← u32 numbers
-  _ ← marker reasons 0
-  Give (item.Export (record { name = named; func = index }))
+  wanted ← export_desc
+  Give (item.Export (record { name = named; sort = sort; index = index; desc = wanted }))
 
 -- a custom section has no item, and the section of a core module has one
 unfoldable pub custom_items : Grammar ComponentWhy (List (Placed Item))
@@ -182,39 +370,69 @@ module_items = do
   read ← placed core_module
   Give (read ∷ [])
 
--- the payload of a section, by its id
-unfoldable pub payload : ℕ → Grammar ComponentWhy (List (Placed Item))
-payload id =
+-- the section of a component that stands in this one, of this grammar, has one
+unfoldable pub component_items : Grammar ComponentWhy Component → Grammar ComponentWhy (List (Placed Item))
+component_items inner = do
+  place ← Here
+  read ← inner
+  Give (record { item = item.Component read; place = place } ∷ [])
+
+-- The payload of a section that is not one of a component, by its id. Inside, so many more components and instance types may
+-- be open.
+unfoldable pub plain_payload : ℕ → ℕ → Grammar ComponentWhy (List (Placed Item))
+plain_payload more id =
     Choose (id == 0) custom_items
     (Choose (id == 1) module_items
     (Choose (id == 2) (placed_vec numbers core_instance)
-    (Choose (id == 6) (placed_vec numbers alias)
-    (Choose (id == 7) (placed_vec numbers type_item)
+    (Choose (id == 5) (placed_vec numbers instance)
+    (Choose (id == 6) (placed_vec numbers alias_item)
+    (Choose (id == 7) (placed_vec numbers (type_item more))
     (Choose (id == 8) (placed_vec numbers canon)
-    (placed_vec numbers export))))))
+    (Choose (id == 10) (placed_vec numbers import)
+    (placed_vec numbers export))))))))
+
+-- the payload of a section, where components are of this grammar
+unfoldable pub payload : ℕ → Grammar ComponentWhy Component → ℕ → Grammar ComponentWhy (List (Placed Item))
+payload more inner id = Choose (id == 4) (component_items inner) (plain_payload more id)
 
 -- the ids of the sections that are read
 abbrev pub is_section : ℕ → Bool
-is_section id = id == 0 || id == 1 || id == 2 || id == 6 || id == 7 || id == 8 || id == 11
+is_section id = id == 0 || id == 1 || id == 2 || id == 4 || id == 5 || id == 6 || id == 7 || id == 8 || id == 10 || id == 11
 
 -- a section: its id, its size, and its payload, which fills it
-unfoldable pub section : Grammar ComponentWhy (List (Placed Item))
-section = do
+unfoldable pub section : ℕ → Grammar ComponentWhy Component → Grammar ComponentWhy (List (Placed Item))
+section more inner = do
   place ← Here
   id ← Byte
-  Choose (is_section id) (sized numbers reasons (payload id)) (Refuse place (Unsupported id))
+  Choose (is_section id) (sized numbers reasons (payload more inner id)) (unsupported place id)
 
 -- the preamble of a component
 abbrev pub preamble : List ℕ
 preamble = 0x00 ∷ 0x61 ∷ 0x73 ∷ 0x6D ∷ 0x0D ∷ 0x00 ∷ 0x01 ∷ 0x00 ∷ []
 
--- a component: its preamble, its sections up to the end of the file, and nothing else
-unfoldable pub component : Grammar ComponentWhy Component
-component = do
+-- how many components and instance types may be open at a place
+abbrev pub depth_limit : ℕ
+depth_limit = 16
+
+-- A component inside which so many components and instance types may be opened, and components are of this grammar: its
+-- preamble, its sections up to the end of its bytes, and nothing else.
+unfoldable pub component_of : ℕ → Grammar ComponentWhy Component → Grammar ComponentWhy Component
+component_of more inner = do
   _ ← fixed Magic preamble
-  sections ← to_the_end section
+  sections ← to_the_end (section more inner)
   _ ← at_end reasons
   Give (record { items = joined sections })
+
+-- A component where so many may be opened, itself one of them.
+unfoldable pub component_within : ℕ → Grammar ComponentWhy Component
+component_within zero = do
+  place ← Here
+  Refuse place Limit
+component_within (suc more) = component_of more (component_within more)
+
+-- a component
+abbrev pub component : Grammar ComponentWhy Component
+component = component_within depth_limit
 
 -- a whole file
 abbrev pub file : List ℕ → Span ComponentWhy

@@ -1,6 +1,9 @@
 //! Why components are refused.
 
-use ca_base::{NumberReason, Reason};
+ghost use Rattle.std.specs.Prelude.{◌≡◌, ◌==◌, ◌||◌, if◌then◌else◌};
+ghost use Rattle.comp_reader.specs.declared.fault.ComponentWhy.TheVariants as why;
+
+use ca_base::{NumberReason, Reason, Refusal};
 use wasm_module::ModuleWhy;
 use wasm_valid::ValidWhy;
 
@@ -22,7 +25,8 @@ pub enum ComponentWhy {
     Unsupported(u8),
     /// A type of floats, which are not read.
     Float,
-    /// The file is longer than 16 MiB. No call of this crate answers it.
+    /// A component or an instance type stands in 16 others. The place is the first byte of either. The layer above answers
+    /// it for a file that is longer than 16 MiB.
     Limit,
     /// A core module is refused where it stands.
     Module(ModuleWhy),
@@ -56,4 +60,26 @@ impl Reason for ComponentWhy {
     fn section_size() -> Self {
         ComponentWhy::SectionSize
     }
+}
+
+/// The refusal of a byte that no rule has in its place.
+pub(crate) fn unsupported(place: usize, byte: u8) -> Refusal<ComponentWhy>
+    ensures { result ≡ record { place = place; why = why.Unsupported byte } }
+{
+    Refusal {
+        place,
+        why: ComponentWhy::Unsupported(byte),
+    }
+}
+
+/// The refusal of a byte that begins no type that is read: it is one of floats, or has no rule.
+pub(crate) fn refused_type(place: usize, byte: u8) -> Refusal<ComponentWhy>
+    ensures { result ≡ record { place = place; why = if byte == 0x76 || byte == 0x75 then why.Float else why.Unsupported byte } }
+{
+    let why = if byte == 0x76 || byte == 0x75 {
+        ComponentWhy::Float
+    } else {
+        ComponentWhy::Unsupported(byte)
+    };
+    Refusal { place, why }
 }

@@ -6,24 +6,33 @@
 //!
 //! - `component`: components and their items
 //! - `reading`: the reading of a whole component
-//! - `core_items`: core modules, their instances and aliases of what these export, a kind of items each
-//! - `items`: types, canonical functions and exports, a kind of items each
-//! - `sections`: the sections by their ids, and the whole
+//! - `sections`: the sections by their ids, and components that hold others
+//! - `core_modules`, `core_instances`, `instances`, `aliases`, `def_types`, `canons`, `externs`: the items, a kind for each
+//! - `func_types`, `sorts`, `names`: what stands in them
 //! - `fault`: why bytes are refused
 //! - `laws`: that bytes are one component, or are refused in one way
 #![tactic(auto)]
 
+mod aliases;
+mod canons;
 mod component;
-mod core_items;
+mod core_instances;
+mod core_modules;
+mod def_types;
+mod externs;
 mod fault;
-mod items;
+mod func_types;
+mod instances;
 mod laws;
+mod names;
 mod reading;
 mod sections;
+mod sorts;
 
 pub use component::{
-    Alias, Canon, Component, CoreInstance, DefType, Export, FuncType, Item, Param, PrimValType,
-    ValTypeRef,
+    Alias, AliasTarget, Canon, Component, CoreArgument, CoreInlineExport, CoreInstance, CoreSort,
+    DefType, Export, ExternDesc, FuncType, Import, Instance, InstanceDecl, Item, NamedDefinition,
+    Param, PrimValType, Sort, ValTypeRef,
 };
 pub use fault::ComponentWhy;
 pub use laws::one_reading;

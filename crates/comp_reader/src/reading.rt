@@ -10,7 +10,7 @@ ghost use Rattle.comp_reader.specs.Binary.{component, file, file_end, IsComponen
 
 use crate::component::Component;
 use crate::fault::ComponentWhy;
-use crate::sections::read_the_component;
+use crate::sections::{DEPTH_LIMIT, read_component_within};
 use ca_base::{ReadError, Window};
 use std::alloc::Global;
 
@@ -37,5 +37,5 @@ fn read_whole(alloc: Global, bytes: &[u8]) -> Result<Component, ReadError<Compon
     ensures { MayRead (λ c. c) component (file bytes.now) (file_end bytes.now) result }
 {
     let mut window = Window::of(bytes, 0, ComponentWhy::Truncated);
-    read_the_component(alloc, &mut window)
+    read_component_within(alloc, DEPTH_LIMIT, &mut window)
 }

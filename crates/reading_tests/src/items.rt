@@ -1,6 +1,11 @@
 //! The items of components as text.
 
-use comp_reader::{Alias, Canon, CoreInstance, DefType, FuncType, Item, Param, ValTypeRef};
+use crate::types::{write_alias, write_type};
+use ca_base::Placed;
+use comp_reader::{
+    Canon, Component, CoreArgument, CoreInlineExport, CoreInstance, Export, Import, Instance, Item,
+    NamedDefinition,
+};
 use std::alloc::AllocError;
 use std::fmt::Write;
 use wasm_valid::Valid;
@@ -21,75 +26,128 @@ fn write_module(text: &mut String, valid: &Valid) -> Result<(), AllocError> {
     Ok(())
 }
 
-/// Writes a value type.
-fn write_val_type(text: &mut String, val_type: ValTypeRef) -> Result<(), AllocError> {
-    match val_type {
-        ValTypeRef::Primitive(primitive) => write!(text, "{primitive:?}"),
-        ValTypeRef::Index(index) => write!(text, "type {index}"),
+/// Writes the arguments of a core module.
+fn write_core_arguments(text: &mut String, arguments: &[CoreArgument]) -> Result<(), AllocError> {
+    for argument in arguments {
+        let name = argument.name.as_str();
+        let instance = argument.instance;
+        write!(text, ", {name} from core instance {instance}")?;
     }
+    Ok(())
 }
 
-/// Writes a parameter.
-fn write_param(text: &mut String, param: &Param) -> Result<(), AllocError> {
-    let label = param.label.as_str();
-    write!(text, " {label}: ")?;
-    write_val_type(text, param.val_type)?;
-    write!(text, ",")
+/// Writes the inline exports of a core instance.
+fn write_core_exports(text: &mut String, exports: &[CoreInlineExport]) -> Result<(), AllocError> {
+    for export in exports {
+        let name = export.name.as_str();
+        let sort = export.sort;
+        let index = export.index;
+        write!(text, ", {name} is {sort:?} {index}")?;
+    }
+    Ok(())
 }
 
-/// Writes a function type.
-fn write_func_type(text: &mut String, func_type: &FuncType) -> Result<(), AllocError> {
-    write!(text, "function type from")?;
-    for param in func_type.params.as_slice() {
-        write_param(text, param)?;
-    }
-    write!(text, " to ")?;
-    match func_type.result {
-        Some(val_type) => write_val_type(text, val_type),
-        None => write!(text, "nothing"),
-    }
-}
-
-/// Writes a type.
-fn write_type(text: &mut String, def_type: &DefType) -> Result<(), AllocError> {
-    match def_type {
-        DefType::Value(primitive) => write!(text, "value type {primitive:?}"),
-        DefType::Func(func_type) => write_func_type(text, func_type),
-    }
-}
-
-/// Writes an alias.
-fn write_alias(text: &mut String, alias: &Alias) -> Result<(), AllocError> {
-    match alias {
-        Alias::CoreFunc { instance, name } => {
-            let name = name.as_str();
-            write!(text, "core function {name} of core instance {instance}")
+/// Writes a core instance.
+fn write_core_instance(text: &mut String, made: &CoreInstance) -> Result<(), AllocError> {
+    match made {
+        CoreInstance::Instantiate { module, arguments } => {
+            write!(text, "instance of core module {module}")?;
+            write_core_arguments(text, arguments.as_slice())
+        }
+        CoreInstance::Inline(exports) => {
+            write!(text, "core instance")?;
+            write_core_exports(text, exports.as_slice())
         }
     }
 }
 
-/// Writes an item.
-pub(crate) fn write_item(text: &mut String, item: &Item) -> Result<(), AllocError> {
-    match item {
-        Item::CoreModule(valid) => write_module(text, valid),
-        Item::CoreInstance(CoreInstance::Instantiate(index)) => {
-            write!(text, "instance of core module {index}")
+/// Writes definitions under their names.
+fn write_named(text: &mut String, named: &[NamedDefinition]) -> Result<(), AllocError> {
+    for definition in named {
+        let name = definition.name.as_str();
+        let sort = definition.sort;
+        let index = definition.index;
+        write!(text, ", {name} is {sort:?} {index}")?;
+    }
+    Ok(())
+}
+
+/// Writes an instance.
+fn write_instance(text: &mut String, made: &Instance) -> Result<(), AllocError> {
+    match made {
+        Instance::Instantiate {
+            component,
+            arguments,
+        } => {
+            write!(text, "instance of component {component}")?;
+            write_named(text, arguments.as_slice())
         }
-        Item::Alias(alias) => write_alias(text, alias),
-        Item::Type(def_type) => write_type(text, def_type),
-        Item::Canon(
-            Canon::Lift {
-                core_func,
-                func_type,
-            },
-        ) => write!(
+        Instance::Inline(exports) => {
+            write!(text, "instance")?;
+            write_named(text, exports.as_slice())
+        }
+    }
+}
+
+/// Writes an import.
+fn write_import(text: &mut String, import: &Import) -> Result<(), AllocError> {
+    let name = import.name.as_str();
+    let desc = import.desc;
+    write!(text, "import {name}: {desc:?}")
+}
+
+/// Writes an export.
+fn write_export(text: &mut String, export: &Export) -> Result<(), AllocError> {
+    let name = export.name.as_str();
+    let sort = export.sort;
+    let index = export.index;
+    write!(text, "export {name} of {sort:?} {index}")?;
+    match export.desc {
+        Some(desc) => write!(text, ", {desc:?}"),
+        None => Ok(()),
+    }
+}
+
+/// Writes a canonical function.
+fn write_canon(text: &mut String, canon: Canon) -> Result<(), AllocError> {
+    match canon {
+        Canon::Lift {
+            core_func,
+            func_type,
+        } => write!(
             text,
             "lift of core function {core_func} at type {func_type}"
         ),
-        Item::Export(export) => {
-            let name = export.name.as_str();
-            let func = export.func;
-            write!(text, "export {name} of function {func}")
+    }
+}
+
+/// Writes the items of a component at their places, each behind a line break.
+#[cycle(items)]
+pub(crate) fn write_items(text: &mut String, read: &Component) -> Result<(), AllocError> {
+    for placed in read.items.as_slice() {
+        write_placed(text, placed)?;
+    }
+    Ok(())
+}
+
+/// Writes an item at its place behind a line break.
+#[cycle(items)]
+fn write_placed(text: &mut String, placed: &Placed<Item>) -> Result<(), AllocError> {
+    let place = placed.place;
+    write!(text, "\n{place} ")?;
+    match &placed.item {
+        Item::CoreModule(valid) => write_module(text, valid),
+        Item::CoreInstance(made) => write_core_instance(text, made),
+        Item::Component(inner) => {
+            write!(text, "component of")?;
+            write_items(text, inner)?;
+            write!(text, "\nend")
         }
+        Item::Instance(made) => write_instance(text, made),
+        Item::Alias(alias) => write_alias(text, alias),
+        Item::Type(def_type) => write_type(text, def_type),
+        Item::Canon(canon) => write_canon(text, *canon),
+        Item::Import(import) => write_import(text, import),
+        Item::Export(export) => write_export(text, export),
     }
 }

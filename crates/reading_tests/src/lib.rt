@@ -5,7 +5,10 @@
 //!
 //! - `refusal_cases`: components that are refused, with their places and reasons
 //! - `reading_cases`: components that are read, with all their items and places
-//! - `answers` and `items`: answers as texts
+//! - `item_cases`: the items of whole components, read and refused
+//! - `cut_cases`: sections that end within their items
+//! - `depth_cases`: components and instance types in others
+//! - `answers`, `items` and `types`: answers as texts
 //! - `calls`: the calls that the others do not make, and the law
 #![tactic(auto)]
 
@@ -14,8 +17,16 @@ mod answers;
 #[cfg(test)]
 mod calls;
 #[cfg(test)]
+mod cut_cases;
+#[cfg(test)]
+mod depth_cases;
+#[cfg(test)]
+mod item_cases;
+#[cfg(test)]
 mod items;
 #[cfg(test)]
 mod reading_cases;
 #[cfg(test)]
 mod refusal_cases;
+#[cfg(test)]
+mod types;

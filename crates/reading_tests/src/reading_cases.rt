@@ -1,8 +1,6 @@
 //! Components that are read, with items and places that are derived from the formats by hand.
 
-use crate::answers::answer;
-use std::alloc::Global;
-use std::fmt::Write;
+use crate::answers::differing_paragraphs;
 use std::test::Fail;
 
 /// A paragraph a component: what it is, its bytes, and behind `is` its items at their places.
@@ -24,10 +22,10 @@ a function of two parameters as `add`
 is
 10 core module of 1 types and 1 functions, exporting add
 54 instance of core module 0
-60 core function add of core instance 0
+60 alias of Core(Func) add of core instance 0
 71 function type from a: U32, b: U32, to U32
 84 lift of core function 0 at type 0
-92 export add of function 0
+92 export add of Func 0
 
 the preamble alone
 00 61 73 6D 0D 00 01 00
@@ -59,13 +57,13 @@ sections in another order, with several items or none, and numbers that have mor
 08 01 00 ; 101: no canonical functions
 0B 01 00 ; 104: no exports
 is
-11 export f of function 0
-17 export  of function 1
+11 export f of Func 0
+17 export  of Func 1
 33 value type U32
 34 function type from to nothing
 38 function type from x: U32, to U32
-52 core function a of core instance 0
-58 core function é of core instance 2
+52 alias of Core(Func) a of core instance 0
+58 alias of Core(Func) é of core instance 2
 69 lift of core function 3 at type 4
 74 lift of core function 128 at type 5
 84 instance of core module 0
@@ -108,23 +106,9 @@ is
 11 function type from a: type 0, to type 4294967295
 ";
 
-/// The paragraphs whose answers are others than wanted, each with its answer.
-fn differing(alloc: Global, cases: &str) -> Result<String, Fail> {
-    let mut wrong = String::new(alloc);
-    for case in cases.trim().split("\n\n") {
-        let (given, wanted) = case.split_once("\nis").ok_or("no items")?;
-        let (_title, lines) = given.split_once('\n').ok_or("no bytes")?;
-        let got = answer(alloc, lines)?;
-        if got.as_str() != wanted {
-            writeln!(wrong, "{case}: {got}")?;
-        }
-    }
-    Ok(wrong)
-}
-
 #[test]
 fn components_are_read(rt: HostRuntime) -> Result<(), Fail> {
-    assert_eq!(rt; differing(rt.alloc(), COMPONENTS)?.as_str(), "");
+    assert_eq!(rt; differing_paragraphs(rt.alloc(), COMPONENTS)?.as_str(), "");
     assert_eq!(rt; COMPONENTS.trim().split("\n\n").count(), 6);
     Ok(())
 }

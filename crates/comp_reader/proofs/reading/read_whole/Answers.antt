@@ -11,6 +11,6 @@ use Rattle.comp_reader.proofs.reading.read_whole.Goals as goal
 
 pub returns : goal.returns
 returns c =
-    whole_exact component (file c.args.bytes.now) (file_end c.args.bytes.now) c.read_the_component.new.window _
+    whole_exact component (file c.args.bytes.now) (file_end c.args.bytes.now) c.read_component_within.new.window _
     (matches_whole c.args.bytes.now)
-    (subst (λ (s : Span ComponentWhy). MayRead (λ (d : Component). d) component s c.read_the_component.new.window c.read_the_component.result) c.of-window.ensures c.read_the_component.ensures)
+    (subst (λ (s : Span ComponentWhy). MayRead (λ (d : Component). d) component s c.read_component_within.new.window c.read_component_within.result) c.of-window.ensures c.read_component_within.ensures)

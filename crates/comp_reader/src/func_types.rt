@@ -1,0 +1,87 @@
+//! Types of values and of functions.
+
+ghost use Rattle.std.specs.Prelude.{◌≡◌};
+ghost use Rattle.ca_base.specs.Grammar.{Reads, MayRead};
+ghost use Rattle.comp_reader.specs.Binary.{val_type, func_result, func_type};
+
+use crate::component::{FuncType, Param, PrimValType, ValTypeRef};
+use crate::fault::{ComponentWhy, refused_type, unsupported};
+use crate::names::read_name;
+use ca_base::{Kind, ReadError, Refusal, Window, read_vec};
+use std::alloc::Global;
+
+/// Reads a value type (Component Model, Binary.md, `valtype`).
+#[tactic(auto, unfolding(crate::specs::Binary::val_type))]
+fn read_val_type(window: &mut Window<ComponentWhy>) -> Result<ValTypeRef, Refusal<ComponentWhy>>
+    ensures { Reads (λ t. t) val_type window.old window.new result }
+{
+    let place = window.at();
+    let first = window.next().unwrap_or(0);
+    let number = window.s33()?;
+    if 0 <= number && number < 1 << 32 {
+        return Ok(ValTypeRef::Index(number as u32));
+    }
+    if first == 0x79 {
+        return Ok(ValTypeRef::Primitive(PrimValType::U32));
+    }
+    Err(refused_type(place, first))
+}
+
+/// Parameters.
+struct Params;
+
+impl Kind for Params {
+    ghost use Rattle.comp_reader.specs.Binary.{param};
+
+    type Why = ComponentWhy;
+
+    type Item = Param;
+
+    ghost grammar = { param };
+
+    #[tactic(auto, unfolding(crate::specs::Binary::param))]
+    fn read(
+        alloc: Global,
+        window: &mut Window<ComponentWhy>,
+    ) -> Result<Param, ReadError<ComponentWhy>> {
+        let label = read_name(alloc, window)?;
+        let val_type = read_val_type(window)?;
+        Ok(Param { label, val_type })
+    }
+}
+
+/// Reads the result of a function (Component Model, Binary.md, `resultlist`).
+#[tactic(auto, unfolding(crate::specs::Binary::func_result))]
+fn read_result(
+    window: &mut Window<ComponentWhy>,
+) -> Result<Option<ValTypeRef>, Refusal<ComponentWhy>>
+    ensures { Reads (λ r. r) func_result window.old window.new result }
+{
+    let place = window.at();
+    let byte = window.byte()?;
+    if byte == 0 {
+        let val_type = read_val_type(window)?;
+        return Ok(Some(val_type));
+    }
+    if byte == 1 {
+        window.marker(0)?;
+        return Ok(None);
+    }
+    Err(unsupported(place, byte))
+}
+
+/// Reads the parameters and the result of a function type (Component Model, Binary.md, `functype`).
+#[tactic(auto, unfolding(crate::specs::Binary::func_type))]
+pub(crate) fn read_func_type(
+    alloc: Global,
+    window: &mut Window<ComponentWhy>,
+) -> Result<FuncType, ReadError<ComponentWhy>>
+    ensures { MayRead (λ t. t) func_type window.old window.new result }
+{
+    let params = read_vec::<Params>(alloc, window)?;
+    let returned = read_result(window)?;
+    Ok(FuncType {
+        params,
+        result: returned,
+    })
+}

@@ -1,0 +1,238 @@
+//! The items of whole components, read and refused, with items, places and reasons that are derived from the formats by hand.
+
+use crate::answers::{differing_lines, differing_paragraphs};
+use std::test::Fail;
+
+/// A paragraph a component: what it is, its bytes, and behind `is` its items at their places.
+const READ: &str = "
+core instances with arguments, and of exports of every core sort
+00 61 73 6D 0D 00 01 00 ; 0: the preamble
+02 28 03 ; 8: three core instances
+00 02 02 01 61 12 00 00 12 81 00 ; 11: of core module 2, with core instance 0 as `a` and 1 under the empty name
+01 00 ; 22: without exports
+01 06 ; 24: of six exports
+01 66 00 00 ; 26: a function
+01 74 01 01 ; 30: a table
+01 6D 02 02 ; 34: a memory
+01 67 03 03 ; 38: a global
+01 6F 11 04 ; 42: a module
+01 69 12 05 ; 46: an instance
+is
+11 instance of core module 2, a from core instance 0,  from core instance 1
+22 core instance
+24 core instance, f is Func 0, t is Table 1, m is Memory 2, g is Global 3, o is Module 4, i is Instance 5
+
+instances with arguments of every sort, and of exports
+00 61 73 6D 0D 00 01 00 ; 0: the preamble
+05 2D 03 ; 8: three instances
+00 07 06 ; 11: of component 7, with six arguments
+01 61 00 00 01 ; 14: core function 1
+01 62 01 02 ; 19: function 2
+01 63 03 03 ; 23: type 3
+01 64 04 04 ; 27: component 4
+01 65 05 05 ; 31: instance 5
+00 00 11 06 ; 35: core module 6 under the empty name
+01 00 ; 39: without exports
+01 02 ; 41: of two exports
+00 01 66 01 00 ; 43: function 0
+01 01 67 00 12 80 01 ; 48: core instance 128
+is
+11 instance of component 7, a is Core(Func) 1, b is Func 2, c is Type 3, d is Component 4, e is Instance 5,  is Core(Module) 6
+39 instance
+41 instance, f is Func 0, g is Core(Instance) 128
+
+aliases of every target
+00 61 73 6D 0D 00 01 00 ; 0: the preamble
+06 20 06 ; 8: six aliases
+01 00 00 01 66 ; 11: function `f` of instance 0
+00 01 01 02 01 74 ; 16: core table `t` of core instance 2
+05 00 81 00 00 ; 22: an instance with an empty name, of instance 1
+03 02 00 05 ; 27: type 5 of where the alias stands
+04 02 01 80 01 ; 31: component 128 of one level further out
+00 11 00 03 01 6D ; 36: core module `m` of instance 3
+is
+11 alias of Func f of instance 0
+16 alias of Core(Table) t of core instance 2
+22 alias of Instance  of instance 1
+27 alias of Type 5, 0 levels up
+31 alias of Component 128, 1 levels up
+36 alias of Core(Module) m of instance 3
+
+aliases whose sort and target do not go together
+00 61 73 6D 0D 00 01 00 ; 0: the preamble
+06 0D 02 ; 8: two aliases
+00 00 00 00 01 61 ; 11: core function `a` of instance 0
+04 01 81 00 01 62 ; 17: component `b` of core instance 1
+is
+11 alias of Core(Func) a of instance 0
+17 alias of Component b of core instance 1
+
+imports and exports
+00 61 73 6D 0D 00 01 00 ; 0: the preamble
+0A 11 03 ; 8: three imports
+00 01 61 01 04 ; 11: a function of type 4
+01 00 03 00 05 ; 16: type 5, under the empty name
+00 01 69 05 80 01 ; 21: an instance of type 128
+0B 2D 06 ; 27: six exports
+00 01 66 01 00 00 ; 30: function 0
+01 01 67 01 01 01 01 02 ; 36: function 1, as one of type 2
+00 01 74 03 02 01 03 00 07 ; 44: type 2, as one that equals type 7
+00 01 69 05 03 01 05 08 ; 53: instance 3, as one of type 8
+00 01 6D 00 11 04 00 ; 61: core module 4
+00 01 63 04 05 00 ; 68: component 5
+is
+11 import a: Func(4)
+16 import : TypeEq(5)
+21 import i: Instance(128)
+30 export f of Func 0
+36 export g of Func 1, Func(2)
+44 export t of Type 2, TypeEq(7)
+53 export i of Instance 3, Instance(8)
+61 export m of Core(Module) 4
+68 export c of Component 5
+
+instance types
+00 61 73 6D 0D 00 01 00 ; 0: the preamble
+07 28 03 ; 8: three types
+42 00 ; 11: of nothing
+42 04 ; 13: of four declarations
+01 79 ; 15: u32
+01 40 00 01 00 ; 17: a function type from nothing to nothing
+02 03 02 01 00 ; 22: type 0 of one level further out
+04 00 01 66 01 01 ; 27: `f`, a function of type 1
+42 02 ; 33: of two declarations
+01 42 01 ; 35: an instance type of one declaration
+04 01 01 67 05 02 ; 38: `g`, an instance of type 2
+02 01 00 00 01 68 ; 44: function `h` of instance 0
+is
+11 instance type of end
+13 instance type of value type U32; function type from to nothing; alias of Type 0, 1 levels up; export f: Func(1); end
+33 instance type of instance type of export g: Instance(2); end; alias of Func h of instance 0; end
+
+sections without instances and imports
+00 61 73 6D 0D 00 01 00 ; 0: the preamble
+05 01 00 ; 8: no instances
+0A 01 00 ; 11: no imports
+05 02 80 00 ; 14: no instances
+0A 02 80 00 ; 18: no imports
+is
+";
+
+/// A line a component: what it is, its bytes behind the preamble, and the place and the reason. The first section begins at 8,
+/// its payload at 10, and its first item at 11.
+const REFUSED: &str = "
+no core instance where there is one | sections | 02 01 01 | 11 SectionSize
+a core instance without a module | sections | 02 02 01 00 | 12 SectionSize
+an argument of a core module without a sort | sections | 02 06 01 00 00 01 01 61 | 16 SectionSize
+an argument of a core module that is a core function | sections | 02 08 01 00 00 01 01 61 00 00 | 16 Unsupported(0)
+an argument of a core module that is a core module | sections | 02 08 01 00 00 01 01 61 11 00 | 16 Unsupported(17)
+an argument of a core module without an index | sections | 02 07 01 00 00 01 01 61 12 | 17 SectionSize
+the index of an argument whose fifth byte is too large | sections | 02 0C 01 00 00 01 01 61 12 80 80 80 80 10 | 21 Leb
+an argument of a core module that is not UTF-8 | sections | 02 08 01 00 00 01 01 FF 12 00 | 15 Utf8
+a second argument that is a core memory | sections | 02 0B 01 00 00 02 01 61 12 00 00 02 00 | 19 Unsupported(2)
+exports of a core instance without a count | sections | 02 02 01 01 | 12 SectionSize
+an export of a core instance without a sort | sections | 02 05 01 01 01 01 66 | 15 SectionSize
+an export of a core instance of sort 04 | sections | 02 07 01 01 01 01 66 04 00 | 15 Unsupported(4)
+an export of a core instance that is a core type | sections | 02 07 01 01 01 01 66 10 00 | 15 Unsupported(16)
+an export of a core instance of sort 13 | sections | 02 07 01 01 01 01 66 13 00 | 15 Unsupported(19)
+an export of a core instance without an index | sections | 02 06 01 01 01 01 66 00 | 16 SectionSize
+2^32 - 1 exports of a core instance | sections | 02 07 01 01 FF FF FF FF 0F | 17 SectionSize
+a byte behind a core instance of no exports | sections | 02 04 01 01 00 00 | 13 SectionSize
+no instance where there is one | sections | 05 01 01 | 11 SectionSize
+an instance that is neither made of a component nor of exports | sections | 05 02 01 02 | 11 Unsupported(2)
+an instance without a component | sections | 05 02 01 00 | 12 SectionSize
+an argument that is a value | sections | 05 08 01 00 00 01 01 61 02 00 | 16 Unsupported(2)
+an argument of sort 06 | sections | 05 08 01 00 00 01 01 61 06 00 | 16 Unsupported(6)
+an argument of sort 12 | sections | 05 08 01 00 00 01 01 61 12 00 | 16 Unsupported(18)
+an argument of core sort 04 | sections | 05 09 01 00 00 01 01 61 00 04 00 | 17 Unsupported(4)
+an argument of a core sort that is cut off | sections | 05 07 01 00 00 01 01 61 00 | 17 SectionSize
+an argument without an index | sections | 05 07 01 00 00 01 01 61 01 | 17 SectionSize
+an argument whose name begins as that of an export | sections | 05 09 01 00 00 01 00 01 61 01 00 | 17 SectionSize
+2^32 - 1 arguments of a component | sections | 05 08 01 00 00 FF FF FF FF 0F | 18 SectionSize
+an inline export whose name begins with 02 | sections | 05 07 01 01 01 02 01 66 01 | 13 Unsupported(2)
+an inline export whose name has no byte before it | sections | 05 06 01 01 01 01 66 01 | 16 SectionSize
+an inline export that is a value | sections | 05 08 01 01 01 00 01 66 02 00 | 16 Unsupported(2)
+the index of an inline export whose fifth byte is too large | sections | 05 0C 01 01 01 00 01 66 01 80 80 80 80 10 | 21 Leb
+an inline export that is not UTF-8 | sections | 05 08 01 01 01 01 01 80 01 00 | 15 Utf8
+2^32 - 1 instances | sections | 05 05 FF FF FF FF 0F | 15 SectionSize
+a byte behind the last instance | sections | 05 04 01 01 00 01 | 13 SectionSize
+no alias where there is one | sections | 06 01 01 | 11 SectionSize
+an alias of a value | sections | 06 02 01 02 | 11 Unsupported(2)
+an alias of core sort 05 | sections | 06 03 01 00 05 | 12 Unsupported(5)
+an alias of a core type | sections | 06 06 01 00 10 02 00 00 | 12 Unsupported(16)
+an alias without a target | sections | 06 02 01 01 | 12 SectionSize
+an alias of target 03 | sections | 06 03 01 03 03 | 12 Unsupported(3)
+an outer alias of a function | sections | 06 05 01 01 02 00 00 | 12 Unsupported(2)
+an outer alias of an instance | sections | 06 05 01 05 02 00 00 | 12 Unsupported(2)
+an outer alias of a core function | sections | 06 06 01 00 00 02 00 00 | 13 Unsupported(2)
+an outer alias of a core module | sections | 06 06 01 00 11 02 00 00 | 13 Unsupported(2)
+an outer alias without a level | sections | 06 03 01 03 02 | 13 SectionSize
+an outer alias without an index | sections | 06 04 01 03 02 00 | 14 SectionSize
+the level of an outer alias whose fifth byte is too large | sections | 06 08 01 03 02 80 80 80 80 10 | 17 Leb
+the index of an outer alias whose fifth byte is too large | sections | 06 09 01 04 02 00 80 80 80 80 10 | 18 Leb
+the index of an instance whose fifth byte is too large | sections | 06 08 01 01 00 80 80 80 80 10 | 17 Leb
+an alias of an export without a name | sections | 06 04 01 01 00 00 | 14 SectionSize
+an alias of an export of an instance that is not UTF-8 | sections | 06 06 01 01 00 00 01 FF | 15 Utf8
+an instance type without a count | sections | 07 02 01 42 | 12 SectionSize
+an instance type without its declaration | sections | 07 03 01 42 01 | 13 SectionSize
+a declaration of a core type | sections | 07 04 01 42 01 00 | 13 Unsupported(0)
+a declaration of an import | sections | 07 04 01 42 01 03 | 13 Unsupported(3)
+a declaration of an instance | sections | 07 04 01 42 01 05 | 13 Unsupported(5)
+a declaration of a type that is cut off | sections | 07 04 01 42 01 01 | 14 SectionSize
+a declaration of a type of floats | sections | 07 05 01 42 01 01 76 | 14 Float
+a parameter of floats in an instance type | sections | 07 0B 01 42 01 01 40 01 01 61 75 01 00 | 18 Float
+a type of floats in an instance type in an instance type | sections | 07 08 01 42 01 01 42 01 01 75 | 17 Float
+a type of components | sections | 07 02 01 41 | 11 Unsupported(65)
+a type of resources | sections | 07 02 01 3F | 11 Unsupported(63)
+a declaration of a type of components | sections | 07 05 01 42 01 01 41 | 14 Unsupported(65)
+an alias of a value in an instance type | sections | 07 05 01 42 01 02 02 | 14 Unsupported(2)
+an outer alias of a function in an instance type | sections | 07 08 01 42 01 02 01 02 00 00 | 15 Unsupported(2)
+an export of an instance type whose name begins with 02 | sections | 07 05 01 42 01 04 02 | 14 Unsupported(2)
+an export of an instance type whose name has no byte before it | sections | 07 08 01 42 01 04 01 66 01 00 | 18 SectionSize
+an export of an instance type that is a core module | sections | 07 09 01 42 01 04 00 01 66 00 00 | 17 Unsupported(0)
+an export of an instance type that is a component | sections | 07 09 01 42 01 04 00 01 66 04 00 | 17 Unsupported(4)
+an export of an instance type that is a resource | sections | 07 09 01 42 01 04 00 01 66 03 01 | 18 Unsupported(1)
+an export of an instance type without the index of its type | sections | 07 08 01 42 01 04 00 01 66 01 | 18 SectionSize
+one declaration of two | sections | 07 05 01 42 02 01 79 | 15 SectionSize
+2^32 - 1 declarations | sections | 07 07 01 42 FF FF FF FF 0F | 17 SectionSize
+a number of declarations whose fifth byte is too large | sections | 07 07 01 42 80 80 80 80 10 | 16 Leb
+a byte behind an instance type | sections | 07 04 01 42 00 00 | 13 SectionSize
+no import where there is one | sections | 0A 01 01 | 11 SectionSize
+an import whose name begins with 02 | sections | 0A 02 01 02 | 11 Unsupported(2)
+an import that is to be nothing | sections | 0A 04 01 00 01 61 | 14 SectionSize
+an import of a core module | sections | 0A 06 01 00 01 61 00 11 | 14 Unsupported(0)
+an import of a value | sections | 0A 06 01 00 01 61 02 00 | 14 Unsupported(2)
+an import of a component | sections | 0A 06 01 00 01 61 04 00 | 14 Unsupported(4)
+an import of a resource | sections | 0A 06 01 00 01 61 03 01 | 15 Unsupported(1)
+an import of a type whose bound is cut off | sections | 0A 05 01 00 01 61 03 | 15 SectionSize
+an import of a type without an index | sections | 0A 06 01 00 01 61 03 00 | 16 SectionSize
+an import of an instance without the index of its type | sections | 0A 05 01 00 01 61 05 | 15 SectionSize
+the index of the type of an import whose fifth byte is too large | sections | 0A 0A 01 00 01 61 01 80 80 80 80 10 | 19 Leb
+an import that is not UTF-8 | sections | 0A 06 01 01 01 C3 01 00 | 13 Utf8
+2^32 - 1 imports | sections | 0A 05 FF FF FF FF 0F | 15 SectionSize
+a byte behind the last import | sections | 0A 07 01 00 01 61 01 00 00 | 16 SectionSize
+an export of a value | sections | 0B 07 01 00 01 66 02 00 00 | 14 Unsupported(2)
+an export of core sort 06 | sections | 0B 08 01 00 01 66 00 06 00 00 | 15 Unsupported(6)
+an export without an index | sections | 0B 05 01 00 01 66 01 | 15 SectionSize
+an export that is to be 02 | sections | 0B 07 01 00 01 66 01 00 02 | 16 Unsupported(2)
+an export that is to be a value | sections | 0B 08 01 00 01 66 01 00 01 02 | 17 Unsupported(2)
+an export that is to be a function without a type | sections | 0B 08 01 00 01 66 01 00 01 01 | 18 SectionSize
+an export that is to be a resource | sections | 0B 09 01 00 01 74 03 00 01 03 01 | 18 Unsupported(1)
+a section of values | sections | 0C 01 00 | 8 Unsupported(12)
+an instance that the file cuts off | sections | 05 02 01 | 11 Truncated
+an import that the file cuts off | sections | 0A 06 01 00 01 61 01 | 15 Truncated
+";
+
+#[test]
+fn items_are_read(rt: HostRuntime) -> Result<(), Fail> {
+    assert_eq!(rt; differing_paragraphs(rt.alloc(), READ)?.as_str(), "");
+    assert_eq!(rt; READ.trim().split("\n\n").count(), 7);
+    Ok(())
+}
+
+#[test]
+fn items_are_refused(rt: HostRuntime) -> Result<(), Fail> {
+    assert_eq!(rt; differing_lines(rt.alloc(), REFUSED)?.as_str(), "");
+    assert_eq!(rt; REFUSED.trim().lines().count(), 100);
+    Ok(())
+}
