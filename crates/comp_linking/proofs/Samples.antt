@@ -1,0 +1,105 @@
+-- Small components, item by item: items are taken by their outer layers, and types by their folds.
+use Rattle.std.proofs.Common.{◌≡◌, ◌∙◌, sym, ap, refl, ℕ, true, map, List, [], ◌∷◌, Some}
+use Rattle.std.specs.Prelude.{Ok, Result, codes}
+use Rattle.ca_types.specs.declared.types.ValType.TheVariants as val_type
+use Rattle.ca_types.specs.declared.types.ValType.TheViews.{outs-U32}
+use Rattle.comp_reader.specs.declared.component.FuncType.{FuncType}
+use Rattle.comp_reader.specs.declared.component.PrimValType.TheVariants.{U32}
+use Rattle.comp_reader.specs.declared.component.Item.TheVariants as plain
+use Rattle.comp_reader.specs.declared.component.Item.TheViews.{outs-CoreModule, outs-CoreInstance, outs-Canon, outs-Import, outs-Alias, outs-Export, outs-Type, outs-Instance, outs-Component}
+use Rattle.comp_reader.specs.declared.component.DefType.TheOpen.{DefType-F, InstanceDecl-F}
+use Rattle.comp_reader.specs.declared.component.DefType.TheViews.{rolls-Func, rolls-Export, rolls-Instance, rolls-Type, rolls-Value}
+use Rattle.comp_reader.specs.declared.component.DefType.TheFolds.{fold-InstanceDecl, fold-roll-DefType, fold-roll-InstanceDecl}
+use Rattle.comp_reader.specs.declared.component.DefType.{DefType}
+use Rattle.comp_reader.specs.declared.component.DefType.TheViews as def_type
+use Rattle.comp_reader.specs.declared.component.DefType.TheVariants as plain_type
+use Rattle.comp_reader.specs.declared.component.InstanceDecl.{InstanceDecl}
+use Rattle.comp_reader.specs.declared.component.ExternDesc.{ExternDesc}
+use Rattle.comp_reader.specs.declared.component.ExternDesc.TheVariants as desc
+use Rattle.comp_reader.specs.declared.component.Sort.TheVariants as sorts
+use Rattle.comp_reader.specs.declared.component.Component.{Component}
+use Rattle.comp_linking.specs.declared.fault.LinkFault.{LinkFault}
+use Rattle.comp_linking.specs.declared.fault.LinkWhy.TheVariants as why
+use Rattle.comp_linking.specs.Closed.{Value, Instance, OfType, EmptyType, WithExtern}
+use Rattle.comp_linking.specs.Spaces.{Level}
+use Rattle.comp_linking.specs.Types.{meant, InLevels, Declared, nothing_declared, declared_by, instance_meaning, own_level, with_type, with_export, func_meaning, types_around, type_step, decl_step, meaning_of}
+use Rattle.comp_linking.specs.Linked.{root_begun, LinkedGraph}
+use Rattle.comp_linking.specs.Computed.{Run, run, run_within, answer_of, linked}
+use Rattle.comp_linking.specs.Same.{same_val}
+use Rattle.comp_linking.proofs.SameValues.{val_told}
+use Rattle.comp_linking.specs.Examples.{root, fault, u32, of_types, import, outer, export_type, wanting, instantiate, giving_both, begins, of_one, make_with_absent, lifting, lifted_one}
+
+u32_rolled : (levels : List Level) → meaning_of u32 levels ≡ meant (Some (Value val_type.U32))
+u32_rolled levels = ap (λ t. meaning_of t levels) (sym (rolls-Value U32)) ∙ ap (λ (f : InLevels). f levels) (fold-roll-DefType InLevels (List Level → Declared → Declared) type_step decl_step (DefType-F.Value U32))
+
+abbrev folded_decl : InstanceDecl → List Level → Declared → Declared
+folded_decl = fold-InstanceDecl InLevels (List Level → Declared → Declared) type_step decl_step
+
+instance_rolled : (decls : List InstanceDecl) (levels : List Level) → meaning_of (def_type.Instance decls) levels ≡ instance_meaning (declared_by levels nothing_declared (map folded_decl decls))
+instance_rolled decls levels =
+    ap (λ t. meaning_of t levels) (sym (rolls-Instance decls))
+    ∙ ap (λ (f : InLevels). f levels) (fold-roll-DefType InLevels (List Level → Declared → Declared) type_step decl_step (DefType-F.Instance decls))
+
+type_rolled : (type : DefType) (around : List Level) (d : Declared) → folded_decl (plain_type.Type type) around d ≡ with_type d (meaning_of type (own_level d ∷ around))
+type_rolled type around d =
+    ap (λ (f : List Level → Declared → Declared). f around d)
+    (ap folded_decl (sym (rolls-Type type)) ∙ fold-roll-InstanceDecl InLevels (List Level → Declared → Declared) type_step decl_step (InstanceDecl-F.Type type))
+
+export_rolled : (name : List ℕ) (asked : ExternDesc) (around : List Level) (d : Declared) → folded_decl (plain_type.Export name asked) around d ≡ with_export d name asked
+export_rolled name asked around d =
+    ap (λ (f : List Level → Declared → Declared). f around d)
+    (ap folded_decl (sym (rolls-Export name asked)) ∙ fold-roll-InstanceDecl InLevels (List Level → Declared → Declared) type_step decl_step (InstanceDecl-F.Export name asked))
+
+-- an instance type without exports, and one with one export
+no_exports : (levels : List Level) → meaning_of (of_types []) levels ≡ meant (Some (Instance EmptyType))
+no_exports levels = instance_rolled (plain_type.Type u32 ∷ []) levels ∙ simp (type_rolled, u32_rolled) refl
+
+one_export : (levels : List Level) → meaning_of (of_types (codes "a" ∷ [])) levels ≡ meant (Some (Instance (WithExtern EmptyType (codes "a") (OfType (Value val_type.U32)))))
+one_export levels = instance_rolled (plain_type.Type u32 ∷ plain_type.Export (codes "a") (desc.TypeEq 0) ∷ []) levels ∙ simp (type_rolled, export_rolled, u32_rolled) refl
+
+u32_same : same_val val_type.U32 val_type.U32 ≡ true
+u32_same = (val_told val_type.U32 val_type.U32).1 refl
+
+func_rolled : (type : FuncType) (levels : List Level) → meaning_of (plain_type.Func type) levels ≡ func_meaning (types_around levels) type
+func_rolled type levels =
+    ap (λ t. meaning_of t levels) (sym (rolls-Func type)) ∙ ap (λ (f : InLevels). f levels) (fold-roll-DefType InLevels (List Level → Declared → Declared) type_step decl_step (DefType-F.Func type))
+
+ruleset layers = (outs-CoreModule, outs-CoreInstance, outs-Canon, outs-U32, func_rolled, outs-Import, outs-Alias, outs-Export, outs-Type, outs-Instance, outs-Component, u32_rolled, no_exports, one_export, u32_same)
+
+-- what is computed, whatever is computed of the components that begin, or of those that begin inside these
+pub linked_by : (c : Component) (r : Result LinkedGraph LinkFault) → ((inside : Run) → answer_of (run inside root_begun 0 c.items) ≡ r) → linked c ≡ r
+linked_by c r h = h (run_within 255)
+
+pub linked_inside : (c : Component) (r : Result LinkedGraph LinkFault) → ((inside : Run) → answer_of (run (run inside) root_begun 0 c.items) ≡ r) → linked c ≡ r
+linked_inside c r h = h (run_within 254)
+
+-- faults of one item
+pub function_imported : (inside : Run) → answer_of (run inside root_begun 0 (root (import (desc.Func 0) ∷ [])).items) ≡ fault 0 why.RootImport
+function_imported inside = simp layers refl
+
+pub too_far : (inside : Run) → answer_of (run inside root_begun 0 (root (outer sorts.Type 1 0 ∷ [])).items) ≡ fault 0 why.Index
+too_far inside = simp layers refl
+
+pub twice : (inside : Run) → answer_of (run inside root_begun 0 (root (plain.Type u32 ∷ export_type (codes "a") ∷ export_type (codes "a") ∷ [])).items) ≡ fault 2 why.Typing
+twice inside = simp layers refl
+
+-- instances of components
+pub wanting_missing : (inside : Run) → answer_of (run (run inside) root_begun 0 (root (wanting ∷ instantiate ∷ [])).items) ≡ fault 11 (why.Missing (codes "in"))
+wanting_missing inside = simp layers refl
+
+pub not_asked : (inside : Run) → answer_of (run (run inside) root_begun 0 (giving_both (codes "b")).items) ≡ fault 12 (why.Missing (codes "b"))
+not_asked inside = simp layers refl
+
+-- what is linked
+pub never_begun : (inside : Run) → answer_of (run inside root_begun 0 (root (wanting ∷ [])).items) ≡ begins (0 ∷ [])
+never_begun inside = simp layers refl
+
+pub asked : (inside : Run) → answer_of (run (run inside) root_begun 0 (giving_both (codes "a")).items) ≡ begins (0 ∷ 1 ∷ [])
+asked inside = simp layers refl
+
+-- core instances
+pub lifts_one : (inside : Run) → answer_of (run inside root_begun 0 (root lifting).items) ≡ Ok lifted_one
+lifts_one inside = simp layers refl
+
+pub absent_argument : (inside : Run) → answer_of (run inside root_begun 0 (root (plain.CoreModule of_one ∷ make_with_absent ∷ [])).items) ≡ fault 1 why.Index
+absent_argument inside = simp layers refl

@@ -1,0 +1,151 @@
+-- Small components, whose graphs and faults the laws `examples` have. Items stand at the places 0, 1 and so on, and those of a
+-- component inside at 10, 11 and so on.
+use Rattle.std.specs.Prelude.{ℕ, ◌+◌, List, [], ◌∷◌, length, map, None, Some, Result, Ok, Err, pos, codes}
+use Rattle.ca_base.specs.declared.placed.Placed.{Placed}
+use Rattle.ca_types.specs.declared.types.ValType.TheVariants as val_type
+use Rattle.wasm_module.specs.declared.types.ValType.TheVariants.{I32}
+use Rattle.wasm_module.specs.declared.instr.Instr.TheVariants.{I32Const}
+use Rattle.wasm_module.specs.declared.module.ExportDesc.TheVariants as offered
+use Rattle.wasm_module.specs.declared.module.ModuleTree.{ModuleTree}
+use Rattle.wasm_module.specs.Expr.{Plain, End}
+use Rattle.comp_reader.specs.declared.component.CoreSort.TheVariants as core_sort
+use Rattle.comp_reader.specs.declared.component.CoreInstance.TheVariants as made_core
+use Rattle.comp_reader.specs.declared.component.Canon.TheVariants.{Lift}
+use Rattle.comp_reader.specs.declared.component.ValTypeRef.TheVariants as type_ref
+use Rattle.comp_reader.specs.declared.component.PrimValType.TheVariants.{U32}
+use Rattle.comp_reader.specs.declared.component.Sort.{Sort}
+use Rattle.comp_reader.specs.declared.component.Sort.TheVariants as sorts
+use Rattle.comp_reader.specs.declared.component.AliasTarget.TheVariants as target
+use Rattle.comp_reader.specs.declared.component.ExternDesc.{ExternDesc}
+use Rattle.comp_reader.specs.declared.component.ExternDesc.TheVariants as desc
+use Rattle.comp_reader.specs.declared.component.NamedDefinition.{NamedDefinition}
+use Rattle.comp_reader.specs.declared.component.Instance.TheVariants as made
+use Rattle.comp_reader.specs.declared.component.DefType.TheViews as def_type
+use Rattle.comp_reader.specs.declared.component.DefType.TheVariants as plain_type
+use Rattle.comp_reader.specs.declared.component.DefType.{DefType}
+use Rattle.comp_reader.specs.declared.component.InstanceDecl.{InstanceDecl}
+use Rattle.comp_reader.specs.declared.component.Item.{Item}
+use Rattle.comp_reader.specs.declared.component.Item.TheVariants as plain
+use Rattle.comp_reader.specs.declared.component.Item.TheViews as item
+use Rattle.comp_reader.specs.declared.component.Component.{Component}
+use Rattle.comp_linking.specs.declared.fault.LinkWhy.{LinkWhy}
+use Rattle.comp_linking.specs.declared.fault.LinkFault.{LinkFault}
+use Rattle.comp_linking.specs.Spaces.{Begin, Make}
+use Rattle.comp_linking.specs.Linked.{LinkedGraph}
+
+abbrev placed_from : ℕ → List Item → List (Placed Item)
+placed_from at [] = []
+placed_from at (item ∷ items) = record { place = at; item = item } ∷ placed_from (at + 1) items
+
+abbrev pub root : List Item → Component
+root items = record { items = placed_from 0 items }
+
+-- a component that stands in another one
+abbrev pub inside : List Item → Item
+inside items = item.Component (record { items = placed_from 10 items })
+
+abbrev pub fault : ℕ → LinkWhy → Result LinkedGraph LinkFault
+fault place w = Err (record { place = place; why = w })
+
+-- Types: of u32, and of instances whose exports of these names are the type u32.
+abbrev pub u32 : DefType
+u32 = plain_type.Value U32
+
+abbrev pub exports_u32 : List (List ℕ) → List InstanceDecl
+exports_u32 [] = []
+exports_u32 (name ∷ names) = plain_type.Export name (desc.TypeEq 0) ∷ exports_u32 names
+
+abbrev pub of_types : List (List ℕ) → DefType
+of_types names = def_type.Instance (plain_type.Type u32 ∷ exports_u32 names)
+
+-- Items.
+
+abbrev pub import : ExternDesc → Item
+import asked = plain.Import (record { name = codes "in"; desc = asked })
+
+abbrev pub outer : Sort → ℕ → ℕ → Item
+outer sort up index = plain.Alias (record { sort = sort; target = target.Outer up index })
+
+-- the type of a name that an instance exports
+abbrev pub type_named : ℕ → List ℕ → Item
+type_named instance name = plain.Alias (record { sort = sorts.Type; target = target.InstanceExport instance name })
+
+-- the first type, exported
+abbrev pub export_type : List ℕ → Item
+export_type name = plain.Export (record { name = name; sort = sorts.Type; index = 0; desc = None })
+
+-- the first type, under these names, as an instance
+abbrev named : List (List ℕ) → List NamedDefinition
+named [] = []
+named (name ∷ names) = record { name = name; sort = sorts.Type; index = 0 } ∷ named names
+
+abbrev pub types_named : List (List ℕ) → Item
+types_named names = plain.Instance (made.Inline (named names))
+
+-- an instance of the first component, without arguments, and with the first instance as its argument
+abbrev pub instantiate : Item
+instantiate = plain.Instance (made.Instantiate 0 [])
+
+abbrev pub instantiate_with : Item
+instantiate_with = plain.Instance (made.Instantiate 0 (record { name = codes "in"; sort = sorts.Instance; index = 0 } ∷ []))
+
+-- a component that imports what nothing gives, and one that takes a type of what it imports
+abbrev pub wanting : Item
+wanting = inside (plain.Type (of_types []) ∷ import (desc.Instance 0) ∷ [])
+
+abbrev pub taking : List ℕ → Item
+taking name = inside (plain.Type (of_types (codes "a" ∷ [])) ∷ import (desc.Instance 0) ∷ type_named 0 name ∷ [])
+
+-- the instantiation of such a component with an instance that exports a and b
+abbrev pub giving_both : List ℕ → Component
+giving_both name = root (plain.Type u32 ∷ types_named (codes "a" ∷ codes "b" ∷ []) ∷ taking name ∷ instantiate_with ∷ [])
+
+-- a graph without core instances and exports, of so many component instances
+abbrev pub begins : List ℕ → Result LinkedGraph LinkFault
+begins numbers = Ok (record { plan = map (λ n. Begin n) numbers; instance_count = length numbers; cores = []; exports = [] })
+
+-- A component that instantiates itself: it takes itself from the root, and the root instantiates it.
+abbrev pub nesting : Item
+nesting = inside (outer sorts.Component 1 0 ∷ instantiate ∷ [])
+
+-- Core modules: one of nothing, and one that exports its function, which gives an i32.
+abbrev of_nothing : ModuleTree
+of_nothing = record { types = []; imports = []; funcs = []; tables = []; memories = []; globals = []; exports = []; start = None; element_segments = []; data_segments = [] }
+
+abbrev pub of_one : ModuleTree
+of_one = record of_nothing {
+  types = record { params = []; results = I32 ∷ [] } ∷ [];
+  funcs = record { type_index = 0; locals = []; body = Plain (I32Const (pos 1)) End } ∷ [];
+  exports = record { name = codes "one"; desc = offered.Func 0 } ∷ [];
+}
+
+-- the instantiation of the first module, without arguments, and with an argument that is not there, of which no import is
+abbrev pub make : Item
+make = plain.CoreInstance (made_core.Instantiate 0 [])
+
+abbrev pub make_with_absent : Item
+make_with_absent = plain.CoreInstance (made_core.Instantiate 0 (record { name = codes "in"; instance = 0 } ∷ []))
+
+-- the function of that module, lifted to a function that gives a u32, and exported
+abbrev pub lifting : List Item
+lifting =
+    plain.CoreModule of_one
+    ∷ make
+    ∷ plain.Alias (record { sort = sorts.Core core_sort.Func; target = target.CoreInstanceExport 0 (codes "one") })
+    ∷ plain.Type (plain_type.Func (record { params = []; result = Some (type_ref.Primitive U32) }))
+    ∷ plain.Canon (Lift 0 0)
+    ∷ plain.Export (record { name = codes "run"; sort = sorts.Func; index = 0; desc = None })
+    ∷ []
+
+abbrev pub lifted_one : LinkedGraph
+lifted_one = record {
+  plan = Begin 0 ∷ Make 0 ∷ [];
+  instance_count = 1;
+  cores = record { of_module = of_one; imports = []; owner = 0 } ∷ [];
+  exports =
+      record {
+        name = codes "run";
+        func = record { instance = 0; core = record { instance = 0; index = 0 }; func_type = record { params = []; result = Some val_type.U32 } };
+      }
+      ∷ [];
+}

@@ -1,0 +1,117 @@
+-- What holds of all linkings: an item makes one thing or has a reason, and not both; items lead to one linking, or one of them
+-- is refused, for one reason; and instances stay few.
+use Rattle.std.specs.Prelude.{◌≡◌, ◌≤◌, ◌↔◌, ◌⊎◌, ℕ, true, List, length, Ok, Err}
+use Rattle.ca_base.specs.declared.placed.Placed.{Placed}
+use Rattle.ca_types.specs.declared.types.FuncType.{FuncType}
+use Rattle.comp_reader.specs.declared.component.Item.{Item}
+use Rattle.comp_reader.specs.declared.component.Component.{Component}
+use Rattle.comp_linking.specs.declared.fault.LinkWhy.{LinkWhy}
+use Rattle.comp_linking.specs.declared.fault.LinkWhy.TheVariants.{Missing}
+use Rattle.comp_linking.specs.declared.fault.LinkFault.{LinkFault}
+use Rattle.comp_linking.specs.Closed.{Closed, Extern}
+use Rattle.comp_linking.specs.Definitions.{Closure, Definition, Exports, Fits}
+use Rattle.comp_linking.specs.Spaces.{Spaces, Linking}
+use Rattle.comp_linking.specs.Items.{instance_limit, item_has, item_makes}
+use Rattle.comp_linking.specs.Linked.{IsFirst, Begins, Links, IsRefusedAt, LinkedGraph, IsLinked, IsLinkRefused}
+use Rattle.comp_linking.specs.Same.{same_func, same_closed}
+use Rattle.comp_linking.specs.Tests.{fits}
+use Rattle.comp_linking.specs.Computed.{Outcome, Makes, Starts, item_outcome, linked}
+
+-- An item that makes something has no reason against it, and does not begin an instance; nor has one that begins an instance.
+abbrev pub MakesExcludesReasons : Type 0
+MakesExcludesReasons =
+    (l : Linking) (n : ℕ) (s : Spaces) (item : Item) (new : Linking) (w : LinkWhy) → item_makes l n s item new → item_has l n s item w → ⊥
+
+abbrev pub BeginsExcludesReasons : Type 0
+BeginsExcludesReasons =
+    (l : Linking) (n : ℕ) (s : Spaces) (item : Item) (c : Closure) (arguments : Exports) (w : LinkWhy)
+    → Begins l n s item c arguments → item_has l n s item w → ⊥
+
+abbrev pub MakesExcludesBegins : Type 0
+MakesExcludesBegins =
+    (l : Linking) (n : ℕ) (s : Spaces) (item : Item) (new : Linking) (c : Closure) (arguments : Exports)
+    → item_makes l n s item new → Begins l n s item c arguments → ⊥
+
+-- An item makes one thing, or begins one instance with one list of arguments.
+abbrev pub MakesOnce : Type 0
+MakesOnce =
+    (l : Linking) (n : ℕ) (s : Spaces) (item : Item) (a b : Linking) → item_makes l n s item a → item_makes l n s item b → a ≡ b
+
+abbrev pub BeginsOnce : Type 0
+BeginsOnce =
+    (l : Linking) (n : ℕ) (s : Spaces) (item : Item) (c d : Closure) (given passed : Exports)
+    → Begins l n s item c given → Begins l n s item d passed → (c ≡ d) × (given ≡ passed)
+
+-- An item misses one name, and has one first reason.
+abbrev pub OneName : Type 0
+OneName =
+    (l : Linking) (n : ℕ) (s : Spaces) (item : Item) (a b : List ℕ)
+    → item_has l n s item (Missing a) → item_has l n s item (Missing b) → a ≡ b
+
+abbrev pub OneFirst : Type 0
+OneFirst = (l : Linking) (n : ℕ) (s : Spaces) (item : Item) (v w : LinkWhy) → IsFirst l n s item v → IsFirst l n s item w → v ≡ w
+
+-- Items lead to one linking, or to one fault, and not to both.
+abbrev pub OneLinking : Type 0
+OneLinking = (l : Linking) (n : ℕ) (items : List (Placed Item)) (a b : Linking) → Links l n items a → Links l n items b → a ≡ b
+
+abbrev pub LinksExcludesFaults : Type 0
+LinksExcludesFaults =
+    (l : Linking) (n : ℕ) (items : List (Placed Item)) (last : Linking) (fault : LinkFault) → Links l n items last → IsRefusedAt l n items fault → ⊥
+
+abbrev pub OneFault : Type 0
+OneFault = (l : Linking) (n : ℕ) (items : List (Placed Item)) (a b : LinkFault) → IsRefusedAt l n items a → IsRefusedAt l n items b → a ≡ b
+
+-- A component has one graph, or one fault, and not both.
+abbrev pub OneGraph : Type 0
+OneGraph = (c : Component) (g h : LinkedGraph) → IsLinked c g → IsLinked c h → g ≡ h
+
+abbrev pub LinkedIsNotRefused : Type 0
+LinkedIsNotRefused = (c : Component) (g : LinkedGraph) (fault : LinkFault) → IsLinked c g → IsLinkRefused c fault → ⊥
+
+abbrev pub OneRefusal : Type 0
+OneRefusal = (c : Component) (a b : LinkFault) → IsLinkRefused c a → IsLinkRefused c b → a ≡ b
+
+-- there are at most as many component instances as there may be, and as many core instances
+abbrev pub IsFew : Linking → Type 0
+IsFew l = (length l.scopes ≤ instance_limit) × (length l.cores ≤ instance_limit)
+
+abbrev pub FewInstances : Type 0
+FewInstances = (l : Linking) (n : ℕ) (items : List (Placed Item)) (last : Linking) → IsFew l → Links l n items last → IsFew last
+
+-- the graph of a component
+abbrev pub GraphsAreFew : Type 0
+GraphsAreFew = (c : Component) (g : LinkedGraph) → IsLinked c g → (g.instance_count ≤ instance_limit) × (length g.cores ≤ instance_limit)
+
+-- What is computed of an item is what it makes or begins, or its first reason.
+abbrev pub IsOutcome : Linking → ℕ → Spaces → Item → Outcome → Type 0
+IsOutcome l n s item (Makes new) = item_makes l n s item new
+IsOutcome l n s item (Starts c arguments) = Begins l n s item c arguments
+
+abbrev pub OutcomeComputed : Type 0
+OutcomeComputed =
+    (l : Linking) (n : ℕ) (s : Spaces) (item : Item) (outcome : Outcome) → (item_outcome l n s item ≡ Ok outcome) ↔ IsOutcome l n s item outcome
+
+abbrev pub ReasonComputed : Type 0
+ReasonComputed =
+    (l : Linking) (n : ℕ) (s : Spaces) (item : Item) (w : LinkWhy) → (item_outcome l n s item ≡ Err w) ↔ IsFirst l n s item w
+
+-- What is computed of a component is its graph, or its fault. So each component has exactly one graph or exactly one fault.
+abbrev pub GraphComputed : Type 0
+GraphComputed = (c : Component) (g : LinkedGraph) → (linked c ≡ Ok g) ↔ IsLinked c g
+
+abbrev pub FaultComputed : Type 0
+FaultComputed = (c : Component) (fault : LinkFault) → (linked c ≡ Err fault) ↔ IsLinkRefused c fault
+
+abbrev pub LinkedOrRefused : Type 0
+LinkedOrRefused = (c : Component) → ((g : LinkedGraph) × IsLinked c g) ⊎ ((fault : LinkFault) × IsLinkRefused c fault)
+
+-- The tests say whether types are the same, and whether a definition is what is asked for.
+abbrev pub FuncsCompared : Type 0
+FuncsCompared = (type other : FuncType) → (same_func type other ≡ true) ↔ (type ≡ other)
+
+abbrev pub ClosedCompared : Type 0
+ClosedCompared = (type other : Closed) → (same_closed type other ≡ true) ↔ (type ≡ other)
+
+abbrev pub FitsTested : Type 0
+FitsTested = (d : Definition) (extern : Extern) → (fits d extern ≡ true) ↔ Fits d extern

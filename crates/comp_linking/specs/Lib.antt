@@ -1,0 +1,11 @@
+pub mod Closed
+pub mod Computed
+pub mod Definitions
+pub mod Examples
+pub mod Items
+pub mod Laws
+pub mod Linked
+pub mod Same
+pub mod Spaces
+pub mod Tests
+pub mod Types

@@ -1,0 +1,241 @@
+-- What a type means (Component Model, Explainer.md, "Type Definitions"): the closed type, where all its indices are there, all
+-- names that it looks up are found, and all that it names is of the wanted sort. What keeps it from a meaning is told by
+-- its reason: an index that is not there, the first name that is missing, or the rest. A declaration of an instance type adds
+-- an index also where it has no meaning, so that each reason is looked for over the whole type.
+use Rattle.std.specs.Prelude.{ℕ, Bool, true, false, ◌&&◌, nat_lt, is_none, cond, List, [], ◌∷◌, ◌++◌, length, map, Option, Some, None}
+use Rattle.std.specs.Option.{option_map, option_and_then}
+use Rattle.std.specs.List.{slice_get, list_all}
+use Rattle.ca_base.specs.Names.{first_twice, is_among}
+use Rattle.ca_types.specs.declared.types.ValType.{ValType}
+use Rattle.ca_types.specs.declared.types.ValType.TheVariants as val_type
+use Rattle.ca_types.specs.declared.types.Param.{Param}
+use Rattle.ca_types.specs.declared.types.FuncType.{FuncType}
+use Rattle.comp_reader.specs.declared.component.PrimValType.{PrimValType}
+use Rattle.comp_reader.specs.declared.component.PrimValType.TheVariants as prim
+use Rattle.comp_reader.specs.declared.component.ValTypeRef.{ValTypeRef}
+use Rattle.comp_reader.specs.declared.component.ValTypeRef.TheVariants as type_ref
+use Rattle.comp_reader.specs.declared.component.Param as read_param
+use Rattle.comp_reader.specs.declared.component.FuncType as read_func
+use Rattle.comp_reader.specs.declared.component.Sort.{Sort}
+use Rattle.comp_reader.specs.declared.component.Sort.TheVariants as sorts
+use Rattle.comp_reader.specs.declared.component.AliasTarget.{AliasTarget}
+use Rattle.comp_reader.specs.declared.component.AliasTarget.TheVariants as target
+use Rattle.comp_reader.specs.declared.component.ExternDesc.{ExternDesc}
+use Rattle.comp_reader.specs.declared.component.ExternDesc.TheVariants as desc
+use Rattle.comp_reader.specs.declared.component.DefType.{DefType, fold-DefType}
+use Rattle.comp_reader.specs.declared.component.DefType.TheOpen.{DefType-F, InstanceDecl-F}
+use Rattle.comp_linking.specs.Closed.{Closed, Value, Func, Instance, Extern, OfFunc, OfType, OfInstance, Externs, EmptyType, WithExtern, extern_named, first_of, externs_of, func_of, value_of}
+use Rattle.comp_linking.specs.Definitions.{Closure}
+use Rattle.comp_linking.specs.Spaces.{Level}
+
+-- what a part of a type comes to: whether all its indices are there, the first name that is missing, and its meaning
+pub record Meaning (A : Type 0) : Type 0 where
+  pub is_there : Bool
+  pub missing : Option (List ℕ)
+  pub means : Option A
+
+-- one that is not there, and one that stands for this or has no meaning
+abbrev pub absent : {A : Type 0} → Meaning A
+absent = record { is_there = false; missing = None; means = None }
+
+abbrev pub meant : {A : Type 0} → Option A → Meaning A
+meant means = record { is_there = true; missing = None; means = means }
+
+-- what is made of one that is there
+abbrev pub found : {A B : Type 0} → (A → Option B) → Option (Option A) → Meaning B
+found f None = absent
+found f (Some a) = meant (option_and_then f a)
+
+-- the closed type of a value type over these types
+abbrev pub primitive : PrimValType → ValType
+primitive prim.U32 = val_type.U32
+
+abbrev pub is_within : ℕ → ValTypeRef → Bool
+is_within count (type_ref.Primitive type) = true
+is_within count (type_ref.Index index) = nat_lt index count
+
+abbrev pub result_within : ℕ → Option ValTypeRef → Bool
+result_within count None = true
+result_within count (Some type) = is_within count type
+
+abbrev pub all_within : ℕ → read_func.FuncType → Bool
+all_within count type = list_all (λ p. is_within count p.val_type) type.params && result_within count type.result
+
+abbrev pub close_val : List (Option Closed) → ValTypeRef → Option ValType
+close_val types (type_ref.Primitive type) = Some (primitive type)
+close_val types (type_ref.Index index) = option_and_then (option_and_then value_of) (slice_get types index)
+
+abbrev pub close_param : List (Option Closed) → read_param.Param → Option Param
+close_param types p = option_map (λ type. record { label = p.label; val_type = type }) (close_val types p.val_type)
+
+abbrev pub close_params : List (Option Closed) → List read_param.Param → Option (List Param)
+close_params types [] = Some []
+close_params types (p ∷ params) =
+    option_and_then (λ closed. option_map (λ others. closed ∷ others) (close_params types params)) (close_param types p)
+
+abbrev pub close_result : List (Option Closed) → Option ValTypeRef → Option (Option ValType)
+close_result types None = Some None
+close_result types (Some type) = option_map (λ t. Some t) (close_val types type)
+
+-- A function type has its labels distinct.
+abbrev pub close_func : List (Option Closed) → read_func.FuncType → Option FuncType
+close_func types type =
+    cond (is_none (first_twice (map (λ p. p.label) type.params)))
+    (option_and_then (λ params. option_map (λ returned. record { params = params; result = returned }) (close_result types type.result))
+    (close_params types type.params))
+    None
+
+abbrev pub func_meaning : List (Option Closed) → read_func.FuncType → Meaning Closed
+func_meaning types type = cond (all_within (length types) type) (meant (option_map Func (close_func types type))) absent
+
+-- what an import or an export is to be, over these types
+abbrev pub desc_meaning : List (Option Closed) → ExternDesc → Meaning Extern
+desc_meaning types (desc.Func index) = found (λ type. option_map OfFunc (func_of type)) (slice_get types index)
+desc_meaning types (desc.TypeEq index) = found (λ type. Some (OfType type)) (slice_get types index)
+desc_meaning types (desc.Instance index) = found (λ type. option_map OfInstance (externs_of type)) (slice_get types index)
+
+-- The index spaces of an instance type that a declaration can name, what of it is told so far, and its exports so far, where all of it has a meaning.
+pub record Declared : Type 0 where
+  pub types : List (Option Closed)
+  pub components : List (Option Closure)
+  pub instances : List (Option Externs)
+  pub names : List (List ℕ)
+  pub so_far : Meaning Externs
+
+abbrev pub nothing_declared : Declared
+nothing_declared = record { types = []; components = []; instances = []; names = []; so_far = meant (Some EmptyType) }
+
+abbrev pub own_level : Declared → Level
+own_level d = record { types = d.types; components = d.components }
+
+-- one index more in the space of a sort, which stands for this or has no meaning
+abbrev pub type_in : Option Extern → Option Closed
+type_in (Some (OfType type)) = Some type
+type_in other = None
+
+abbrev pub instance_in : Option Extern → Option Externs
+instance_in (Some (OfInstance externs)) = Some externs
+instance_in other = None
+
+abbrev pub with_declared : Declared → Sort → Option Extern → Declared
+with_declared d sorts.Func e = d
+with_declared d sorts.Type e = record d { types = d.types ++ type_in e ∷ [] }
+with_declared d sorts.Instance e = record d { instances = d.instances ++ instance_in e ∷ [] }
+with_declared d sorts.Component e = record d { components = d.components ++ None ∷ [] }
+with_declared d (sorts.Core sort) e = d
+
+-- A declaration behind others: what it tells comes behind what was told, and without a meaning the whole has none.
+abbrev pub kept_if : {A B : Type 0} → Option B → Option A → Option A
+kept_if None a = None
+kept_if (Some b) a = a
+
+abbrev pub and_told : {A B : Type 0} → Meaning A → Meaning B → Meaning A
+and_told before now = record {
+  is_there = before.is_there && now.is_there;
+  missing = first_of before.missing now.missing;
+  means = kept_if now.means before.means;
+}
+
+abbrev pub told : {B : Type 0} → Declared → Meaning B → Declared
+told d now = record d { so_far = and_told d.so_far now }
+
+-- an extern of a sort
+abbrev pub of_sort : Sort → Extern → Option Extern
+of_sort sorts.Func (OfFunc type) = Some (OfFunc type)
+of_sort sorts.Type (OfType type) = Some (OfType type)
+of_sort sorts.Instance (OfInstance externs) = Some (OfInstance externs)
+of_sort sort extern = None
+
+-- An alias of an instance's export in an instance type. An instance without a meaning has no export that is known to be missing.
+abbrev pub of_export : Sort → List ℕ → Option Extern → Meaning Extern
+of_export sort name None = record { is_there = true; missing = Some name; means = None }
+of_export sort name (Some extern) = meant (of_sort sort extern)
+
+abbrev pub exported : Sort → List ℕ → Option Externs → Meaning Extern
+exported sort name None = meant None
+exported sort name (Some all) = of_export sort name (extern_named name all)
+
+abbrev pub from_instance : Sort → List ℕ → Option (Option Externs) → Meaning Extern
+from_instance sort name None = absent
+from_instance sort name (Some known) = exported sort name known
+
+-- an outer type of a level
+abbrev pub outer_type : ℕ → Option Level → Meaning Closed
+outer_type index None = absent
+outer_type index (Some level) = found (λ type. Some type) (slice_get level.types index)
+
+abbrev pub outer_component : ℕ → Option Level → Meaning Closure
+outer_component index None = absent
+outer_component index (Some level) = found (λ c. Some c) (slice_get level.components index)
+
+abbrev pub with_component : Declared → Meaning Closure → Declared
+with_component d c = told (record d { components = d.components ++ c.means ∷ [] }) c
+
+-- a type, which has this meaning
+abbrev pub with_type : Declared → Meaning Closed → Declared
+with_type d type = told (with_declared d sorts.Type (option_map OfType type.means)) type
+
+-- a declaration of a sort, which has this meaning
+abbrev pub declared_as : Declared → Sort → Meaning Extern → Declared
+declared_as d sort extern = told (with_declared d sort extern.means) extern
+
+-- an outer alias, which is of a component or a type
+abbrev pub with_outer : Declared → List Level → Sort → ℕ → ℕ → Declared
+with_outer d levels sorts.Component up index = with_component d (outer_component index (slice_get levels up))
+with_outer d levels sorts.Type up index = with_type d (outer_type index (slice_get levels up))
+with_outer d levels sort up index = declared_as d sort absent
+
+-- An alias. An instance type has no core instances.
+abbrev pub with_alias : List Level → Declared → Sort → AliasTarget → Declared
+with_alias around d sort (target.InstanceExport instance name) = declared_as d sort (from_instance sort name (slice_get d.instances instance))
+with_alias around d sort (target.CoreInstanceExport instance name) = declared_as d sort absent
+with_alias around d sort (target.Outer up index) = with_outer d (own_level d ∷ around) sort up index
+
+-- An export: one index more of what it is, and a name, which no export before it has.
+abbrev pub sort_of : ExternDesc → Sort
+sort_of (desc.Func index) = sorts.Func
+sort_of (desc.TypeEq index) = sorts.Type
+sort_of (desc.Instance index) = sorts.Instance
+
+abbrev pub extended : List ℕ → Option Extern → Option Externs → Option Externs
+extended name (Some extern) (Some others) = Some (WithExtern others name extern)
+extended name extern others = None
+
+abbrev pub under_name : Declared → Option Externs → List ℕ → Option Extern → Declared
+under_name d before name extern = record d {
+  names = d.names ++ name ∷ [];
+  so_far = record d.so_far { means = cond (is_among name d.names) None (extended name extern before) };
+}
+
+abbrev pub with_export : Declared → List ℕ → ExternDesc → Declared
+with_export d name asked =
+    under_name (declared_as d (sort_of asked) (desc_meaning d.types asked)) d.so_far.means name (desc_meaning d.types asked).means
+
+-- An instance type: its declarations, each behind those before it.
+abbrev pub declared_by : List Level → Declared → List (List Level → Declared → Declared) → Declared
+declared_by around d [] = d
+declared_by around d (decl ∷ decls) = declared_by around (decl around d) decls
+
+abbrev pub instance_meaning : Declared → Meaning Closed
+instance_meaning d = record { is_there = d.so_far.is_there; missing = d.so_far.missing; means = option_map Instance d.so_far.means }
+
+-- what a type means in these levels, of which the first is where it stands
+abbrev pub InLevels : Type 0
+InLevels = List Level → Meaning Closed
+
+abbrev pub types_around : List Level → List (Option Closed)
+types_around [] = []
+types_around (level ∷ around) = level.types
+
+abbrev pub type_step : DefType-F InLevels (List Level → Declared → Declared) → InLevels
+type_step (DefType-F.Value type) levels = meant (Some (Value (primitive type)))
+type_step (DefType-F.Func type) levels = func_meaning (types_around levels) type
+type_step (DefType-F.Instance decls) levels = instance_meaning (declared_by levels nothing_declared decls)
+
+abbrev pub decl_step : InstanceDecl-F InLevels (List Level → Declared → Declared) → List Level → Declared → Declared
+decl_step (InstanceDecl-F.Type type) around d = with_type d (type (own_level d ∷ around))
+decl_step (InstanceDecl-F.Alias alias) around d = with_alias around d alias.sort alias.target
+decl_step (InstanceDecl-F.Export name asked) around d = with_export d name asked
+
+abbrev pub meaning_of : DefType → InLevels
+meaning_of = fold-DefType InLevels (List Level → Declared → Declared) type_step decl_step

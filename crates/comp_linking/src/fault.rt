@@ -1,0 +1,30 @@
+//! Why components are not linked.
+
+use ca_base::Name;
+
+/// Why an item of a component has no meaning. At one item the first in this order is told.
+#[derive(Debug, Drop)]
+pub enum LinkWhy {
+    /// The root imports something other than an instance whose exports are all types.
+    RootImport,
+    /// An index is past its index space, or an outer alias past the outermost level.
+    Index,
+    /// No export or argument has this name, which is looked up: an export of an instance or a core instance, an argument of
+    /// a component, a module that a core module imports from, or an export that is asked for of what is passed.
+    Missing(Name),
+    /// A name or a label stands twice where it may not, or what is there is of another sort or type than what is asked for.
+    Typing,
+    /// The core function of a lift does not have the flat type of the function (Component Model, CanonicalABI.md).
+    Canon,
+    /// There are more than 256 component instances, or more than 256 core instances.
+    Limit,
+}
+
+/// The first item of a component that is refused.
+#[derive(Debug, Drop)]
+pub struct LinkFault {
+    /// The byte place of the item in the component file.
+    pub place: usize,
+    /// The reason.
+    pub why: LinkWhy,
+}

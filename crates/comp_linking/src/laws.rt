@@ -1,0 +1,63 @@
+//! What holds of every linking.
+
+ghost use Rattle.comp_linking.specs.Laws.{MakesExcludesReasons, BeginsExcludesReasons, MakesExcludesBegins, MakesOnce, BeginsOnce, OneName, OneFirst, OneLinking, LinksExcludesFaults, OneFault, OneGraph, LinkedIsNotRefused, OneRefusal, FewInstances, GraphsAreFew, OutcomeComputed, ReasonComputed, GraphComputed, FaultComputed, LinkedOrRefused, FuncsCompared, ClosedCompared, FitsTested};
+
+/// An item that makes something, or begins an instance of a component, has no reason against it, and none does both.
+pub fn items_make_or_are_refused()
+    ensures makes { MakesExcludesReasons }
+    ensures begins { BeginsExcludesReasons }
+    ensures not_both { MakesExcludesBegins }
+{}
+
+/// An item makes one thing, or begins an instance of one component with one list of arguments.
+pub fn items_make_one_thing()
+    ensures makes { MakesOnce }
+    ensures begins { BeginsOnce }
+{}
+
+/// An item misses one name, and one of its reasons is the first.
+pub fn items_have_one_reason()
+    ensures name { OneName }
+    ensures first { OneFirst }
+{}
+
+/// Items lead to one linking, or one of them is refused, for one reason, and not both.
+pub fn items_lead_to_one_linking()
+    ensures linking { OneLinking }
+    ensures not_both { LinksExcludesFaults }
+    ensures fault { OneFault }
+{}
+
+/// A component has one graph, or one fault, and not both.
+pub fn components_have_one_graph()
+    ensures graph { OneGraph }
+    ensures not_both { LinkedIsNotRefused }
+    ensures fault { OneRefusal }
+{}
+
+/// Where there are at most 256 component instances and 256 core instances, items lead to a linking that has at most so many.
+/// So a component's graph has.
+pub fn instances_stay_few()
+    ensures items { FewInstances }
+    ensures graph { GraphsAreFew }
+{}
+
+/// What is computed of an item is what it makes or begins, or its first reason. So each item has exactly one of them.
+pub fn outcomes_are_computed()
+    ensures outcome { OutcomeComputed }
+    ensures reason { ReasonComputed }
+{}
+
+/// What is computed of a component is its graph, or its fault. So each component has exactly one graph or exactly one fault.
+pub fn graphs_are_computed()
+    ensures graph { GraphComputed }
+    ensures fault { FaultComputed }
+    ensures one { LinkedOrRefused }
+{}
+
+/// The tests say whether types of functions and closed types are the same, and whether a definition is what is asked for.
+pub fn types_are_compared()
+    ensures funcs { FuncsCompared }
+    ensures closed { ClosedCompared }
+    ensures fits { FitsTested }
+{}
