@@ -7,14 +7,14 @@ use Rattle.std.specs.Option.{option_and_then, option_map, option_map_or}
 use Rattle.wasm_module.specs.declared.types.FuncType as core
 use Rattle.wasm_module.specs.declared.module.ModuleTree.{ModuleTree}
 use Rattle.ca_types.specs.declared.types.FuncType.{FuncType}
-use Rattle.comp_reader.specs.declared.component.CoreInstance.TheVariants.{Instantiate}
-use Rattle.comp_reader.specs.declared.component.Alias.TheVariants as alias
+use Rattle.comp_reader.specs.declared.component.CoreInstance.{CoreInstance}
+use Rattle.comp_reader.specs.declared.component.CoreInstance.TheVariants as made
 use Rattle.comp_reader.specs.declared.component.Canon.TheVariants.{Lift}
-use Rattle.comp_reader.specs.declared.component.DefType.{DefType}
-use Rattle.comp_reader.specs.declared.component.DefType.TheVariants as def_type
+use Rattle.comp_reader.specs.declared.component.DefType.{out-DefType}
+use Rattle.comp_reader.specs.declared.component.DefType.TheOpen.{DefType-F}
 use Rattle.comp_reader.specs.declared.component.FuncType as read_func
-use Rattle.comp_reader.specs.declared.component.Item.{Item}
-use Rattle.comp_reader.specs.declared.component.Item.TheVariants as item
+use Rattle.comp_reader.specs.declared.component.Item.{Item, out-Item}
+use Rattle.comp_reader.specs.declared.component.Item.TheOpen.{Item-F}
 use Rattle.comp_reader.specs.declared.component.Component.{Component}
 use Rattle.comp_graph.specs.declared.graph.CoreFunc.{CoreFunc}
 use Rattle.comp_graph.specs.Graph.{Graph, is_flat, core_type, type_at, names, LiftsCore, IsCallable, HasNoImports}
@@ -28,9 +28,10 @@ use Rattle.comp_link.specs.declared.link_fault.LinkFault.{LinkFault}
 use Rattle.comp_link.specs.declared.link_fault.LinkWhy.{LinkWhy}
 use Rattle.ca_base.specs.Faults.{and_on, folded}
 use Rattle.ca_base.specs.Names.{first_twice, is_among, AreDistinct}
-use Rattle.comp_link.specs.Linking.{Spaces, no_spaces, with_core_module, with_core_instance, with_type, with_func, with_export, first_import, link_made, link_core_instance, link_exported, link_alias, with_closed, link_type, lift_to, link_lift, link_export, link_item, link_items, link_placed, linked_at, linked_or, linked, exported, all_within, labels, close_func, HasDistinctLabels, HaveDistinctLabels, primitive}
+use Rattle.comp_link.specs.Linking.{Spaces, no_spaces, with_core_module, with_core_instance, with_type, with_func, with_export, first_import, link_made, link_instantiation, link_core_instance, link_exported, link_core_alias, with_closed, link_func_type, link_type_case, lift_to, link_lift, link_export, link_case, link_item, link_items, link_placed, linked_at, linked_or, linked, exported, all_within, labels, close_func, HasDistinctLabels, HaveDistinctLabels, primitive}
 use Rattle.ca_base.proofs.Distinct.{distinct_law}
 use Rattle.comp_link.proofs.Distinction.{distinct_export}
+use Rattle.comp_link.proofs.Ways.{alias_holds, export_holds}
 use Rattle.comp_link.proofs.Labelled.{IsLabelled, found, labels_kept}
 
 -- An instance stays where it is when others come behind it.
@@ -117,15 +118,15 @@ made_keeps : (s : Spaces) (m : ModuleTree) (o : Option (List ℕ)) → first_imp
 made_keeps s m None e k = instance_tested s m _ _ (none_imported m.imports e) k
 made_keeps s m (Some name) e k = tt
 
-instance_keeps : (s : Spaces) (o : Option ModuleTree) → Kept s → Keeps (link_core_instance s o)
-instance_keeps s None k = tt
-instance_keeps s (Some m) k = made_keeps s m (first_import m) refl k
+instantiation_keeps : (s : Spaces) (o : Option ModuleTree) → Kept s → Keeps (link_instantiation s o)
+instantiation_keeps s None k = tt
+instantiation_keeps s (Some m) k = made_keeps s m (first_import m) refl k
 
 exported_keeps : (s : Spaces) (index : ℕ) (name : List ℕ) (o : Option ℕ) → Kept s → Keeps (link_exported s index name o)
 exported_keeps s index name None k = tt
 exported_keeps s index name (Some func) k = record { funcs = k.funcs; exports = k.exports; names = k.names; labels = record { types = k.labels.types; funcs = k.labels.funcs; exports = k.labels.exports }; imports = k.imports }
 
-alias_keeps : (s : Spaces) (index : ℕ) (name : List ℕ) (o : Option ModuleTree) → Kept s → Keeps (link_alias s index name o)
+alias_keeps : (s : Spaces) (index : ℕ) (name : List ℕ) (o : Option ModuleTree) → Kept s → Keeps (link_core_alias s index name o)
 alias_keeps s index name None k = tt
 alias_keeps s index name (Some m) k = exported_keeps s index name (exported m name) k
 
@@ -140,13 +141,21 @@ either_keeps : (b : Bool) (r : Result Spaces LinkWhy) (reason : LinkWhy) → Kee
 either_keeps true r reason k = k
 either_keeps false r reason k = tt
 
+instance_keeps : (s : Spaces) (i : CoreInstance) → Kept s → Keeps (link_core_instance s i)
+instance_keeps s (made.Instantiate index arguments) k = either_keeps (length arguments == 0) _ _ (instantiation_keeps s (slice_get s.core_modules index) k)
+instance_keeps s (made.Inline exports) k = tt
+
 labels_tested : (s : Spaces) (type : read_func.FuncType) (o : Option ℕ) (why : LinkWhy) → first_twice (labels type.params) ≡ o → Kept s → Keeps (cond (is_none o) (with_closed s (close_func s.types type)) (Err why))
 labels_tested s type None why e k = closed_keeps s type _ refl ((distinct_law (labels type.params)).0 e) k
 labels_tested s type (Some n) why e k = tt
 
-type_keeps : (s : Spaces) (t : DefType) → Kept s → Keeps (link_type s t)
-type_keeps s (def_type.Value type) k = with_type_keeps s (Value (primitive type)) tt k
-type_keeps s (def_type.Func type) k = either_keeps (all_within (length s.types) type) _ _ (labels_tested s type _ _ refl k)
+func_type_keeps : (s : Spaces) (type : read_func.FuncType) → Kept s → Keeps (link_func_type s type)
+func_type_keeps s type k = either_keeps (all_within (length s.types) type) _ _ (labels_tested s type _ _ refl k)
+
+type_keeps : {A B : Type 0} (s : Spaces) (t : DefType-F A B) → Kept s → Keeps (link_type_case s t)
+type_keeps s (DefType-F.Value type) k = with_type_keeps s (Value (primitive type)) tt k
+type_keeps s (DefType-F.Func type) k = func_type_keeps s type k
+type_keeps s (DefType-F.Instance decls) k = tt
 
 lifted_type : (o : Option core.FuncType) (type : FuncType) → option_map_or (is_flat type) o false ≡ true → (t : core.FuncType) × (o ≡ Some t) × (is_flat type t ≡ true)
 lifted_type None type h = cc
@@ -176,13 +185,21 @@ export_keeps : (s : Spaces) (name : List ℕ) (index : ℕ) (o : Option Lifted) 
 export_keeps s name index None e k = tt
 export_keeps s name index (Some f) e k = export_tested s name f _ _ refl (all_at (λ f. LiftsCore s.core_instances f.func_type f.core) s.funcs index f k.funcs e) (all_at (λ f. HasDistinctLabels f.func_type) s.funcs index f k.labels.funcs e) k
 
+case_keeps : {A B : Type 0} (s : Spaces) (i : Item-F A B) → Kept s → Keeps (link_case s i)
+case_keeps s (Item-F.CoreModule m) k = module_keeps s m k
+case_keeps s (Item-F.CoreInstance instance) k = instance_keeps s instance k
+case_keeps s (Item-F.Component component) k = k
+case_keeps s (Item-F.Instance instance) k = tt
+case_keeps s (Item-F.Alias alias) k =
+    alias_holds Keeps s alias.sort alias.target (λ index name. alias_keeps s index name (slice_get s.core_instances index) k) tt
+case_keeps s (Item-F.Type type) k = type_keeps s (out-DefType type) k
+case_keeps s (Item-F.Canon (Lift f type)) k = lift_keeps s (slice_get s.core_funcs f) type (slice_get s.types type) refl k
+case_keeps s (Item-F.Import import) k = tt
+case_keeps s (Item-F.Export export) k =
+    export_holds Keeps s export.name export.sort export.index export.desc (export_keeps s export.name export.index (slice_get s.funcs export.index) refl k) tt
+
 item_keeps : (s : Spaces) (i : Item) → Kept s → Keeps (link_item s i)
-item_keeps s (item.CoreModule m) k = module_keeps s m k
-item_keeps s (item.CoreInstance (Instantiate index)) k = instance_keeps s (slice_get s.core_modules index) k
-item_keeps s (item.Alias (alias.CoreFunc index name)) k = alias_keeps s index name (slice_get s.core_instances index) k
-item_keeps s (item.Type type) k = type_keeps s type k
-item_keeps s (item.Canon (Lift f type)) k = lift_keeps s (slice_get s.core_funcs f) type (slice_get s.types type) refl k
-item_keeps s (item.Export export) k = export_keeps s export.name export.func (slice_get s.funcs export.func) refl k
+item_keeps s i k = case_keeps s (out-Item i) k
 
 abbrev AllKeep : Result Spaces LinkFault → Type 0
 AllKeep (Ok t) = Kept t

@@ -1,17 +1,20 @@
 -- Distinct labels and distinct names are what linking wants.
-use Rattle.std.proofs.Common.{◌≡◌, ◌≢◌, ℕ, Bool, true, false, cond, List, [], ◌∷◌, ◌++◌, refl, sym, ◌∙◌, subst, Some, None, Option, Result, Ok, Err}
+use Rattle.std.proofs.Common.{◌≡◌, ◌≢◌, ℕ, Bool, true, false, cond, List, [], ◌∷◌, ◌++◌, refl, sym, ◌∙◌, subst, Some, None, Option, Result, Ok, Err, rules}
 use Rattle.std.specs.List.{AllByRecursion}
 use Rattle.std.specs.Str.{bytes_eq}
 use Rattle.std.specs.Prelude.{◌↔◌, ◌||◌, is_none}
 use Rattle.std.proofs.lemmas.List.{map-append}
 use Rattle.std.proofs.lemmas.Slice.Eq.{bytes_eq-Decides}
+use Rattle.comp_reader.specs.declared.component.DefType.TheVariants as def_type
+use Rattle.comp_reader.specs.declared.component.DefType.TheViews.{the_lemmas}
+use Rattle.comp_reader.specs.declared.component.FuncType as read_func
 use Rattle.comp_link.specs.declared.link_fault.LinkWhy.TheVariants as why
 use Rattle.comp_link.specs.declared.link_fault.LinkWhy.{LinkWhy}
 use Rattle.ca_base.specs.Names.{AreDistinct, is_among, first_twice}
 use Rattle.ca_types.specs.declared.exports.Export.{Export}
 use Rattle.comp_graph.specs.Graph.{names}
 use Rattle.comp_link.specs.declared.closed.Lifted.{Lifted}
-use Rattle.comp_link.specs.Linking.{Spaces, labels, with_export}
+use Rattle.comp_link.specs.Linking.{Spaces, labels, link_func_type, link_type, with_export}
 use Rattle.comp_link.specs.Laws.{DistinctLabelsAreWanted, DistinctNamesAreWanted}
 use Rattle.ca_base.proofs.Distinct.{distinct_law}
 
@@ -59,9 +62,12 @@ none_wanted : {S : Type 0} (o : Option ℕ) (A : Type 0) (s : S) (why : LinkWhy)
 none_wanted None A s why h = (λ e. h.0 refl, λ a. refl)
 none_wanted (Some k) A s why h = (λ e. cc, λ a. (let e = h.1 a in cc))
 
+func_out : (s : Spaces) (type : read_func.FuncType) → link_type s (def_type.Func type) ≡ link_func_type s type
+func_out s type = search (rules, the_lemmas)
+
 pub labels_wanted : DistinctLabelsAreWanted
 labels_wanted s type closed w c =
-    rw (w, c) (none_wanted (first_twice (labels type.params)) (AreDistinct (labels type.params)) _ why.Typing (distinct_law (labels type.params)))
+    rw (func_out s type, w, c) (none_wanted (first_twice (labels type.params)) (AreDistinct (labels type.params)) _ why.Typing (distinct_law (labels type.params)))
 
 false_wanted : {S : Type 0} (b : Bool) (A : Type 0) (s : S) (why : LinkWhy) → (b ≡ false → A) → (A → b ≡ false) → ◌≡◌ {A = Result S LinkWhy} (cond b (Err why) (Ok s)) (Ok s) ↔ A
 false_wanted false A s why f g = (λ e. f refl, λ a. refl)

@@ -4,3 +4,4 @@ pub mod Distinction
 pub mod Labelled
 pub mod Linked
 pub mod Made
+pub mod Ways

@@ -1,7 +1,10 @@
--- Linking (Component Model, Explainer.md, "Index Spaces" and "Instance Definitions"; CanonicalABI.md, `canon lift`). The
--- items of a component are linked in file order. Each one looks its indices up in the index spaces of the items before
--- it, and adds one index to the space of its sort. The first item that has no meaning is refused.
-use Rattle.std.specs.Prelude.{◌≡◌, ℕ, Bool, true, false, is_none, ◌&&◌, nat_lt, List, [], ◌∷◌, ◌++◌, length, map, find, if◌then◌else◌, Option, Some, None, Result, Ok, Err}
+-- Linking (Component Model, Explainer.md, "Index Spaces", "Instance Definitions" and "Import and Export Definitions";
+-- CanonicalABI.md, `canon lift`). The items of a component are linked in file order. Each one looks its indices up in the
+-- index spaces of the items before it, and adds one index to the space of its sort. The first item that has no meaning is
+-- refused. What is not linked yet is refused as `Limit`: instances, core instances with arguments or of inline exports,
+-- aliases other than of functions of core instances, instance types, imports of instances, and exports other than of
+-- functions without a description. A component that stands in another one is never instantiated, so nothing is made of it.
+use Rattle.std.specs.Prelude.{◌≡◌, ◌==◌, ℕ, Bool, true, false, is_none, ◌&&◌, nat_lt, List, [], ◌∷◌, ◌++◌, length, map, find, if◌then◌else◌, Option, Some, None, Result, Ok, Err}
 use Rattle.std.specs.List.{slice_get, list_all, AllByRecursion}
 use Rattle.std.specs.Option.{option_and_then, option_map, option_map_or}
 use Rattle.std.specs.Str.{bytes_eq}
@@ -14,10 +17,17 @@ use Rattle.wasm_module.specs.declared.module.ExportDesc.{ExportDesc}
 use Rattle.wasm_module.specs.declared.module.ExportDesc.TheVariants as offered
 use Rattle.wasm_module.specs.declared.module.ModuleTree.{ModuleTree}
 use Rattle.ca_base.specs.declared.placed.Placed.{Placed}
-use Rattle.comp_reader.specs.declared.component.CoreInstance.TheVariants.{Instantiate}
-use Rattle.comp_reader.specs.declared.component.Alias.TheVariants as alias
-use Rattle.comp_reader.specs.declared.component.DefType.{DefType}
-use Rattle.comp_reader.specs.declared.component.DefType.TheVariants as def_type
+use Rattle.comp_reader.specs.declared.component.CoreSort.TheVariants as core_sorts
+use Rattle.comp_reader.specs.declared.component.Sort.{Sort}
+use Rattle.comp_reader.specs.declared.component.Sort.TheVariants as sorts
+use Rattle.comp_reader.specs.declared.component.CoreInstance.{CoreInstance}
+use Rattle.comp_reader.specs.declared.component.CoreInstance.TheVariants as made
+use Rattle.comp_reader.specs.declared.component.AliasTarget.{AliasTarget}
+use Rattle.comp_reader.specs.declared.component.AliasTarget.TheVariants as target
+use Rattle.comp_reader.specs.declared.component.ExternDesc.{ExternDesc}
+use Rattle.comp_reader.specs.declared.component.ExternDesc.TheVariants as desc
+use Rattle.comp_reader.specs.declared.component.DefType.{DefType, out-DefType}
+use Rattle.comp_reader.specs.declared.component.DefType.TheOpen.{DefType-F}
 use Rattle.comp_reader.specs.declared.component.PrimValType.{PrimValType}
 use Rattle.comp_reader.specs.declared.component.PrimValType.TheVariants as prim
 use Rattle.comp_reader.specs.declared.component.ValTypeRef.{ValTypeRef}
@@ -26,8 +36,8 @@ use Rattle.comp_reader.specs.declared.component.ValTypeRef.TheVariants as type_r
 use Rattle.comp_reader.specs.declared.component.Param as read_param
 use Rattle.comp_reader.specs.declared.component.FuncType as read_func
 use Rattle.comp_reader.specs.declared.component.Canon.TheVariants.{Lift}
-use Rattle.comp_reader.specs.declared.component.Item.{Item}
-use Rattle.comp_reader.specs.declared.component.Item.TheVariants as item
+use Rattle.comp_reader.specs.declared.component.Item.{Item, out-Item}
+use Rattle.comp_reader.specs.declared.component.Item.TheOpen.{Item-F}
 use Rattle.comp_reader.specs.declared.component.Component.{Component}
 use Rattle.ca_base.specs.Faults.{folded}
 use Rattle.ca_base.specs.Names.{AreDistinct, first_twice, is_among}
@@ -84,15 +94,21 @@ first_import m = option_map (λ i. i.module) (slice_get m.imports 0)
 abbrev pub link_core_module : Spaces → ModuleTree → Result Spaces LinkWhy
 link_core_module s m = Ok (with_core_module s m)
 
--- A core instance, which has no arguments: `Index` where the module is not there, `Missing` of the module that its first
--- import comes from, where it has imports, `Limit` where there are as many instances as there may be.
+-- A core instance of a module without arguments: `Index` where the module is not there, `Missing` of the module that its
+-- first import comes from, where it has imports, `Limit` where there are as many instances as there may be. Others are not
+-- linked yet.
 abbrev pub link_made : Spaces → ModuleTree → Option (List ℕ) → Result Spaces LinkWhy
 link_made s m (Some name) = Err (why.Missing name)
 link_made s m None = if nat_lt (length s.core_instances) core_instance_limit then Ok (with_core_instance s m) else Err why.Limit
 
-abbrev pub link_core_instance : Spaces → Option ModuleTree → Result Spaces LinkWhy
-link_core_instance s None = Err why.Index
-link_core_instance s (Some m) = link_made s m (first_import m)
+abbrev pub link_instantiation : Spaces → Option ModuleTree → Result Spaces LinkWhy
+link_instantiation s None = Err why.Index
+link_instantiation s (Some m) = link_made s m (first_import m)
+
+abbrev pub link_core_instance : Spaces → CoreInstance → Result Spaces LinkWhy
+link_core_instance s (made.Instantiate index arguments) =
+    if length arguments == 0 then link_instantiation s (slice_get s.core_modules index) else Err why.Limit
+link_core_instance s (made.Inline exports) = Err why.Limit
 
 -- the index of the function that an export offers, where it offers one
 abbrev pub offered_func : ExportDesc → Option ℕ
@@ -106,14 +122,19 @@ abbrev pub exported : ModuleTree → List ℕ → Option ℕ
 exported m name = option_and_then (λ e. offered_func e.desc) (find (λ e. bytes_eq e.name name) m.exports)
 
 -- An alias of a function that a core instance exports: `Index` where the instance is not there, `Missing` where it exports no
--- function under this name.
+-- function under this name. Others are not linked yet.
 abbrev pub link_exported : Spaces → ℕ → List ℕ → Option ℕ → Result Spaces LinkWhy
 link_exported s instance name None = Err (why.Missing name)
 link_exported s instance name (Some func) = Ok (with_core_func s (record { instance = instance; func = func }))
 
-abbrev pub link_alias : Spaces → ℕ → List ℕ → Option ModuleTree → Result Spaces LinkWhy
-link_alias s instance name None = Err why.Index
-link_alias s instance name (Some m) = link_exported s instance name (exported m name)
+abbrev pub link_core_alias : Spaces → ℕ → List ℕ → Option ModuleTree → Result Spaces LinkWhy
+link_core_alias s instance name None = Err why.Index
+link_core_alias s instance name (Some m) = link_exported s instance name (exported m name)
+
+abbrev pub link_alias : Spaces → Sort → AliasTarget → Result Spaces LinkWhy
+link_alias s (sorts.Core core_sorts.Func) (target.CoreInstanceExport instance name) =
+    link_core_alias s instance name (slice_get s.core_instances instance)
+link_alias s sort target = Err why.Limit
 
 -- the labels of parameters
 abbrev pub labels : List read_param.Param → List (List ℕ)
@@ -164,17 +185,24 @@ close_func types type =
     (close_params types type.params)
 
 -- A type: `Index` where a type that it names is not there, `Typing` where a label of a function's parameters stands
--- twice or a type that it names is none of a value.
+-- twice or a type that it names is none of a value. The type of an instance is not linked yet.
 abbrev pub with_closed : Spaces → Option FuncType → Result Spaces LinkWhy
 with_closed s None = Err why.Typing
 with_closed s (Some type) = Ok (with_type s (Func type))
 
-abbrev pub link_type : Spaces → DefType → Result Spaces LinkWhy
-link_type s (def_type.Value type) = Ok (with_type s (Value (primitive type)))
-link_type s (def_type.Func type) =
+abbrev pub link_func_type : Spaces → read_func.FuncType → Result Spaces LinkWhy
+link_func_type s type =
     if all_within (length s.types) type then
     (if is_none (first_twice (labels type.params)) then with_closed s (close_func s.types type) else Err why.Typing)
     else Err why.Index
+
+abbrev pub link_type_case : {A B : Type 0} → Spaces → DefType-F A B → Result Spaces LinkWhy
+link_type_case s (DefType-F.Value type) = Ok (with_type s (Value (primitive type)))
+link_type_case s (DefType-F.Func type) = link_func_type s type
+link_type_case s (DefType-F.Instance decls) = Err why.Limit
+
+abbrev pub link_type : Spaces → DefType → Result Spaces LinkWhy
+link_type s type = link_type_case s (out-DefType type)
 
 -- A lift: `Index` where the core function or the type is not there, `Typing` where the type is none of a function,
 -- `Canon` where the core function has another type than the flat one.
@@ -187,19 +215,36 @@ link_lift s None type = Err why.Index
 link_lift s (Some f) None = Err why.Index
 link_lift s (Some f) (Some type) = lift_to s f type
 
--- An export: `Index` where the function is not there, `Typing` where an earlier export has the name.
+-- An import, which is one of the root: `RootImport` of a function or a type. An instance is not linked yet.
+abbrev pub import_why : ExternDesc → LinkWhy
+import_why (desc.Func type) = why.RootImport
+import_why (desc.TypeEq type) = why.RootImport
+import_why (desc.Instance type) = why.Limit
+
+-- An export of a function, without a description: `Index` where the function is not there, `Typing` where an earlier export
+-- has the name. Others are not linked yet.
 abbrev pub link_export : Spaces → List ℕ → Option Lifted → Result Spaces LinkWhy
 link_export s name None = Err why.Index
 link_export s name (Some f) = if is_among name (graph.names s.exports) then Err why.Typing else Ok (with_export s name f)
 
+abbrev pub link_export_of : Spaces → List ℕ → Sort → ℕ → Option ExternDesc → Result Spaces LinkWhy
+link_export_of s name sorts.Func index None = link_export s name (slice_get s.funcs index)
+link_export_of s name sort index desc = Err why.Limit
+
 -- an item, behind others that have these index spaces
+abbrev pub link_case : {A B : Type 0} → Spaces → Item-F A B → Result Spaces LinkWhy
+link_case s (Item-F.CoreModule m) = link_core_module s m
+link_case s (Item-F.CoreInstance instance) = link_core_instance s instance
+link_case s (Item-F.Component component) = Ok s
+link_case s (Item-F.Instance instance) = Err why.Limit
+link_case s (Item-F.Alias alias) = link_alias s alias.sort alias.target
+link_case s (Item-F.Type type) = link_type s type
+link_case s (Item-F.Canon (Lift f type)) = link_lift s (slice_get s.core_funcs f) (slice_get s.types type)
+link_case s (Item-F.Import import) = Err (import_why import.desc)
+link_case s (Item-F.Export export) = link_export_of s export.name export.sort export.index export.desc
+
 abbrev pub link_item : Spaces → Item → Result Spaces LinkWhy
-link_item s (item.CoreModule m) = link_core_module s m
-link_item s (item.CoreInstance (Instantiate index)) = link_core_instance s (slice_get s.core_modules index)
-link_item s (item.Alias (alias.CoreFunc index name)) = link_alias s index name (slice_get s.core_instances index)
-link_item s (item.Type type) = link_type s type
-link_item s (item.Canon (Lift f type)) = link_lift s (slice_get s.core_funcs f) (slice_get s.types type)
-link_item s (item.Export export) = link_export s export.name (slice_get s.funcs export.func)
+link_item s item = link_case s (out-Item item)
 
 -- An item that is refused is told by the place that stands beside it, and why.
 abbrev pub linked_at : ℕ → Result Spaces LinkWhy → Result Spaces LinkFault

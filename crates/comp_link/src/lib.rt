@@ -2,7 +2,9 @@
 //!
 //! The layer above takes a component's graph: its core instances, in order of making, and the functions that it exports,
 //! each with its core function and its type. `link` answers the one graph of a component, or its first item that has no
-//! meaning, with the place and the reason. Only want of memory keeps it from either.
+//! meaning or is not linked yet, with the place and the reason. Only want of memory keeps it from either. Not linked yet
+//! are instances, core instances with arguments or of inline exports, aliases but those of functions of core instances,
+//! instance types, imports of instances, and exports with descriptions or of other sorts than function.
 //!
 //! - `linking`: from a component to its graph, item by item
 //! - `spaces`: the index spaces of the items so far, with `core_module` and `named_exports` for look-ups by name

@@ -7,6 +7,8 @@ use ca_base::{MemoryOr, Name};
 /// Why an item of a component has no meaning. At one item the first in this order is told.
 #[derive(Debug, Drop)]
 pub enum LinkWhy {
+    /// The root imports something other than an instance whose exports are all types.
+    RootImport,
     /// An index is past its index space.
     Index,
     /// A core instance exports no function under this name, or its module has imports, for which it has no arguments: this
@@ -16,7 +18,8 @@ pub enum LinkWhy {
     Typing,
     /// The core function of a lift does not have the flat type of the function (Component Model, CanonicalABI.md).
     Canon,
-    /// There are more than 256 core instances.
+    /// There are more than 256 core instances, or the item is of a kind that is not linked yet, which is told whatever else is
+    /// wrong with it.
     Limit,
 }
 

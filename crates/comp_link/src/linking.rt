@@ -18,7 +18,8 @@ use ca_base::{MemoryOr, Name, Placed, Step, first_twice, step_all};
 use ca_types::Shared;
 use comp_graph::{CoreFunc, Graph};
 use comp_reader::{
-    Alias, Canon, Component, CoreInstance, DefType, Export, FuncType, Item, Param, ValTypeRef,
+    Alias, AliasTarget, Canon, Component, CoreInstance, CoreSort, DefType, Export, ExternDesc,
+    FuncType, Item, Param, Sort, ValTypeRef,
 };
 use std::alloc::{AllocError, Global};
 use wasm_valid::Valid;
@@ -38,13 +39,13 @@ fn link_core_module<'a>(
     Ok(())
 }
 
-/// Links a core instance of the core module of this index.
-fn link_core_instance<'a>(
+/// Links the instantiation of the core module of this index without arguments.
+fn link_instantiation<'a>(
     alloc: Global,
     index: u32,
     spaces: &mut Spaces<'a>,
 ) -> Result<(), ItemError>
-    ensures { MatchResult result (λ _. linking.link_core_instance spaces.old (slice_get spaces.old.core_modules index) ≡ Ok spaces.new) (λ e. IfFault e (λ why. linking.link_core_instance spaces.old (slice_get spaces.old.core_modules index) ≡ Err why)) }
+    ensures { MatchResult result (λ _. linking.link_instantiation spaces.old (slice_get spaces.old.core_modules index) ≡ Ok spaces.new) (λ e. IfFault e (λ why. linking.link_instantiation spaces.old (slice_get spaces.old.core_modules index) ≡ Err why)) }
 {
     let valid = spaces.core_module(index).ok_or(LinkWhy::Index)?.valid();
     if let Some(name) = first_import(valid.tree()) {
@@ -58,9 +59,32 @@ fn link_core_instance<'a>(
     Ok(())
 }
 
+/// Links a core instance.
+fn link_core_instance<'a>(
+    alloc: Global,
+    made: &CoreInstance,
+    spaces: &mut Spaces<'a>,
+) -> Result<(), ItemError>
+    ensures { MatchResult result (λ _. linking.link_core_instance spaces.old made.now ≡ Ok spaces.new) (λ e. IfFault e (λ why. linking.link_core_instance spaces.old made.now ≡ Err why)) }
+{
+    let CoreInstance::Instantiate { module, arguments } = made else {
+        return Err(MemoryOr::Fault(LinkWhy::Limit));
+    };
+    if !arguments.is_empty() {
+        return Err(MemoryOr::Fault(LinkWhy::Limit));
+    }
+    link_instantiation(alloc, *module, spaces)?;
+    Ok(())
+}
+
 /// Links an alias of a function that the core instance of this index exports.
-fn link_alias(alloc: Global, index: u32, name: &Name, spaces: &mut Spaces) -> Result<(), ItemError>
-    ensures { MatchResult result (λ _. linking.link_alias spaces.old index name.now (slice_get spaces.old.core_instances index) ≡ Ok spaces.new) (λ e. IfFault e (λ why. linking.link_alias spaces.old index name.now (slice_get spaces.old.core_instances index) ≡ Err why)) }
+fn link_core_alias(
+    alloc: Global,
+    index: u32,
+    name: &Name,
+    spaces: &mut Spaces,
+) -> Result<(), ItemError>
+    ensures { MatchResult result (λ _. linking.link_core_alias spaces.old index name.now (slice_get spaces.old.core_instances index) ≡ Ok spaces.new) (λ e. IfFault e (λ why. linking.link_core_alias spaces.old index name.now (slice_get spaces.old.core_instances index) ≡ Err why)) }
 {
     let instance = index as usize;
     let module = spaces.core_instance(instance).ok_or(LinkWhy::Index)?;
@@ -69,6 +93,20 @@ fn link_alias(alloc: Global, index: u32, name: &Name, spaces: &mut Spaces) -> Re
         return Err(MemoryOr::Fault(LinkWhy::Missing(name)));
     };
     spaces.add_core_func(CoreFunc { instance, func })?;
+    Ok(())
+}
+
+/// Links an alias.
+fn link_alias(alloc: Global, alias: &Alias, spaces: &mut Spaces) -> Result<(), ItemError>
+    ensures { MatchResult result (λ _. linking.link_alias spaces.old alias.now.sort alias.now.target ≡ Ok spaces.new) (λ e. IfFault e (λ why. linking.link_alias spaces.old alias.now.sort alias.now.target ≡ Err why)) }
+{
+    let Sort::Core(CoreSort::Func) = alias.sort else {
+        return Err(MemoryOr::Fault(LinkWhy::Limit));
+    };
+    let AliasTarget::CoreInstanceExport { instance, name } = &alias.target else {
+        return Err(MemoryOr::Fault(LinkWhy::Limit));
+    };
+    link_core_alias(alloc, *instance, name, spaces)?;
     Ok(())
 }
 
@@ -119,7 +157,7 @@ fn close_checked(
     spaces: &Spaces,
     func_type: &FuncType,
 ) -> Result<ca_types::FuncType, ItemError>
-    ensures { MatchResult result (λ closed. linking.link_type spaces.now (DefType.Func func_type.now) ≡ Ok (with_type spaces.now (ClosedType.Func closed))) (λ e. IfFault e (λ why. linking.link_type spaces.now (DefType.Func func_type.now) ≡ Err why)) }
+    ensures { MatchResult result (λ closed. linking.link_func_type spaces.now func_type.now ≡ Ok (with_type spaces.now (ClosedType.Func closed))) (λ e. IfFault e (λ why. linking.link_func_type spaces.now func_type.now ≡ Err why)) }
 {
     if !all_within(spaces.type_count(), func_type) {
         return Err(MemoryOr::Fault(LinkWhy::Index));
@@ -143,6 +181,7 @@ fn close_type(alloc: Global, spaces: &Spaces, def_type: &DefType) -> Result<Clos
             let closed = close_checked(alloc, spaces, func_type)?;
             Ok(ClosedType::Func(Shared::new(alloc, closed)?))
         }
+        DefType::Instance(_) => Err(MemoryOr::Fault(LinkWhy::Limit)),
     }
 }
 
@@ -171,34 +210,59 @@ fn link_lift(core_func: u32, func_type: u32, spaces: &mut Spaces) -> Result<(), 
     Ok(())
 }
 
+/// Why an import of the root that is to be so is refused.
+fn import_why(desc: ExternDesc) -> LinkWhy
+    ensures { result ≡ linking.import_why desc }
+{
+    match desc {
+        ExternDesc::Func(_) | ExternDesc::TypeEq(_) => LinkWhy::RootImport,
+        ExternDesc::Instance(_) => LinkWhy::Limit,
+    }
+}
+
+/// Links an export of the function of this index.
+fn link_func_export<'a>(
+    alloc: Global,
+    name: &'a Name,
+    index: u32,
+    spaces: &mut Spaces<'a>,
+) -> Result<(), ItemError>
+    ensures { MatchResult result (λ _. linking.link_export spaces.old name.now (slice_get spaces.old.funcs index) ≡ Ok spaces.new) (λ e. IfFault e (λ why. linking.link_export spaces.old name.now (slice_get spaces.old.funcs index) ≡ Err why)) }
+{
+    let func = spaces.func(index).ok_or(LinkWhy::Index)?.share()?;
+    if spaces.has_export(name) {
+        return Err(MemoryOr::Fault(LinkWhy::Typing));
+    }
+    spaces.add_export(alloc, name, func)?;
+    Ok(())
+}
+
 /// Links an export.
 fn link_export<'a>(
     alloc: Global,
     export: &'a Export,
     spaces: &mut Spaces<'a>,
 ) -> Result<(), ItemError>
-    ensures { MatchResult result (λ _. linking.link_export spaces.old export.now.name (slice_get spaces.old.funcs export.now.func) ≡ Ok spaces.new) (λ e. IfFault e (λ why. linking.link_export spaces.old export.now.name (slice_get spaces.old.funcs export.now.func) ≡ Err why)) }
+    ensures { MatchResult result (λ _. linking.link_export_of spaces.old export.now.name export.now.sort export.now.index export.now.desc ≡ Ok spaces.new) (λ e. IfFault e (λ why. linking.link_export_of spaces.old export.now.name export.now.sort export.now.index export.now.desc ≡ Err why)) }
 {
-    let func = spaces.func(export.func).ok_or(LinkWhy::Index)?.share()?;
-    if spaces.has_export(&export.name) {
-        return Err(MemoryOr::Fault(LinkWhy::Typing));
-    }
-    spaces.add_export(alloc, &export.name, func)?;
+    let (Sort::Func, None) = (export.sort, export.desc) else {
+        return Err(MemoryOr::Fault(LinkWhy::Limit));
+    };
+    link_func_export(alloc, &export.name, export.index, spaces)?;
     Ok(())
 }
 
-/// Links an item, behind others that have these index spaces.
+/// Links an item, behind others that have these index spaces. Nothing is made of a component in it, which is never
+/// instantiated.
 fn link_item<'a>(alloc: Global, item: &'a Item, spaces: &mut Spaces<'a>) -> Result<(), ItemError>
     ensures { MatchResult result (λ _. linking.link_item spaces.old item.now ≡ Ok spaces.new) (λ e. IfFault e (λ why. linking.link_item spaces.old item.now ≡ Err why)) }
 {
     match item {
         Item::CoreModule(valid) => link_core_module(alloc, valid, spaces)?,
-        Item::CoreInstance(CoreInstance::Instantiate(index)) => {
-            link_core_instance(alloc, *index, spaces)?
-        }
-        Item::Alias(Alias::CoreFunc { instance, name }) => {
-            link_alias(alloc, *instance, name, spaces)?
-        }
+        Item::CoreInstance(made) => link_core_instance(alloc, made, spaces)?,
+        Item::Component(_) => {}
+        Item::Instance(_) => return Err(MemoryOr::Fault(LinkWhy::Limit)),
+        Item::Alias(alias) => link_alias(alloc, alias, spaces)?,
         Item::Type(def_type) => link_type(alloc, def_type, spaces)?,
         Item::Canon(
             Canon::Lift {
@@ -206,6 +270,7 @@ fn link_item<'a>(alloc: Global, item: &'a Item, spaces: &mut Spaces<'a>) -> Resu
                 func_type,
             },
         ) => link_lift(*core_func, *func_type, spaces)?,
+        Item::Import(import) => return Err(MemoryOr::Fault(import_why(import.desc))),
         Item::Export(export) => link_export(alloc, export, spaces)?,
     }
     Ok(())
