@@ -1,5 +1,5 @@
 -- What calls come to, one after the other.
-use Rattle.std.proofs.Common.{◌≡◌, ◌<◌, ◌≤◌, ◌+◌, ℕ, zero, suc, List, [], ◌∷◌, ◌++◌, map, length, drop, get_or, refl, sym, ap, ◌∙◌, subst, arith, Option, Some, None, Result, Ok, Err, append_assoc, append-nil, ◌⊎◌, inl, inr, nat_eq, IsTrue}
+use Rattle.std.proofs.Common.{◌≡◌, ◌<◌, ◌≤◌, ◌+◌, ℕ, zero, suc, List, [], ◌∷◌, ◌++◌, map, length, drop, get_or, refl, sym, ap, ◌∙◌, subst, arith, Option, Some, None, Result, Ok, append_assoc, append-nil, inl, inr}
 use Rattle.core_machine.specs.Store.{Store, Function}
 use Rattle.core_machine.specs.Stack.{Stack}
 use Rattle.core_machine.specs.Step.{Ends, start}
@@ -14,14 +14,13 @@ use Rattle.trace_show.specs.declared.label.Label.TheVariants.{Take, Enter, Retur
 use Rattle.abi_machine.specs.declared.run_end.RunEnd.{RunEnd}
 use Rattle.abi_machine.specs.declared.run_end.RunEnd.TheVariants.{Done, Fuel}
 use Rattle.abi_machine.specs.World.{World, Starting, Running, Returned, first_world}
-use Rattle.abi_machine.specs.Machine.{taken, typed, param_types, lowered, lifted, core_func, entered, resolved, turn}
-use Rattle.abi_machine.specs.Machine as machine
+use Rattle.abi_machine.specs.Machine.{taken, typed, param_types, lowered, lifted, core_func, entered, resolved}
 use Rattle.abi_machine.specs.Run.{Runs}
 use Rattle.abi_machine.specs.Laws.{Sound, SoundCall}
 use Rattle.abi_machine.specs.Kept.{Kept}
 use Rattle.abi_machine.specs.KeptLaws.{FirstKept, StaysKept}
 use Rattle.std.specs.Prelude.{MatchResult}
-use Rattle.std.specs.List.{slice_get, list_all, AllByRecursion}
+use Rattle.std.specs.List.{slice_get, AllByRecursion}
 use Rattle.std.proofs.lemmas.Option.{slice_get_within}
 use Rattle.ca_types.specs.declared.types.FuncType.{FuncType}
 use Rattle.ca_types.specs.declared.exports.Export.{Export}
@@ -32,10 +31,9 @@ use Rattle.comp_graph.specs.Graph.{IsCallable}
 use Rattle.script_reader.specs.Script.{CallsExport}
 use Rattle.abi_machine.specs.Run.{Reaches}
 use Rattle.abi_machine.specs.EndLaws.{StepsUseOneOrNone}
-use Rattle.abi_machine.specs.Laws.{SoundItem}
-use Rattle.wcm.specs.Calling.{Leads, GoesOrEnds, idle, at_task, CoreStops, CoreGives, AreBelow, FitsFunction, FitsItem, FunctionGives, InstancesGive, types_of, ItemGives}
-use Rattle.wcm.proofs.Fitting.{At, function_at, call_fits}
-use Rattle.wcm.proofs.Leads.{leads_step, leads_then, runs_end, runs_behind, either_behind, kept_behind}
+use Rattle.wcm.specs.Calling.{Leads, idle, at_task, CoreStops, CoreGives, AreBelow, FitsFunction, FitsItem, FunctionGives, InstancesGive, ItemGives}
+use Rattle.wcm.proofs.Fitting.{function_at, call_fits}
+use Rattle.wcm.proofs.Leads.{leads_step, leads_then, runs_end, runs_behind, kept_behind}
 use Rattle.wcm.proofs.CoreRuns.{end_leads, stop_runs}
 
 -- Before a call without fuel the run ends.

@@ -1,12 +1,10 @@
 -- The functions of a graph that calls name, and that their core functions can run with the values of the calls.
-use Rattle.std.proofs.Common.{◌≡◌, ◌<◌, ◌^◌, ◌+◌, ℕ, zero, suc, Bool, true, false, ◌&&◌, nat_eq, nat_le, List, [], ◌∷◌, ◌++◌, map, length, refl, sym, ap, ◌∙◌, subst, arith, Option, Some, None, IsTrue}
+use Rattle.std.proofs.Common.{◌≡◌, ◌<◌, ◌^◌, ℕ, zero, suc, Bool, true, false, ◌&&◌, nat_eq, nat_le, List, [], ◌∷◌, ◌++◌, map, length, refl, sym, ap, ◌∙◌, subst, arith, Option, Some, None}
 use Rattle.std.proofs.lemmas.List.{length-map}
-use Rattle.std.specs.List.{slice_get, find, list_all, AllByRecursion, AllZip}
-use Rattle.std.specs.Option.{option_and_then, option_map, option_map_or, MatchOption, IsSomeAnd}
-use Rattle.std.specs.Str.{bytes_eq}
-use Rattle.std.proofs.lemmas.Option.{slice_get-map, slice_get_within}
+use Rattle.std.specs.List.{slice_get, list_all, AllByRecursion, AllZip}
+use Rattle.std.specs.Option.{option_and_then, option_map, option_map_or}
+use Rattle.std.proofs.lemmas.Option.{slice_get-map}
 use Rattle.std.proofs.lemmas.Bool.{eqb-true}
-use Rattle.std.proofs.lemmas.Slice.Zip.{AllZip-left}
 use Rattle.ca_base.specs.Names.{first_named}
 use Rattle.ca_base.proofs.FirstNamed.{found_by_name}
 use Rattle.wasm_module.specs.declared.types.ValType as core_val
@@ -19,9 +17,9 @@ use Rattle.wasm_module.specs.Spaces.{imported_funcs, func_space}
 use Rattle.wasm_valid.specs.Instrs.{func_type}
 use Rattle.wasm_numbers.specs.Types.{AreWords}
 use Rattle.core_machine.specs.Store.{Store, Instance, Function, type_of, func_at}
-use Rattle.core_machine.specs.Typed.{HasContext, module_context}
+use Rattle.core_machine.specs.Typed.{module_context}
 use Rattle.core_machine.proofs.Lists.{all_at}
-use Rattle.ca_types.specs.declared.types.ValType.{ValType, out-ValType}
+use Rattle.ca_types.specs.declared.types.ValType.{out-ValType}
 use Rattle.ca_types.specs.declared.types.ValType.TheOpen.{ValType-F}
 use Rattle.ca_types.specs.declared.types.Param.{Param}
 use Rattle.ca_types.specs.declared.types.FuncType.{FuncType}
@@ -36,11 +34,11 @@ use Rattle.comp_graph.specs.Graph as graph
 use Rattle.comp_graph.specs.Graph.{Graph, Lifted, lifted_as, func_named, names, type_at, core_type, is_i32, is_u32, is_u32_case, result_count, flat_limit, is_flat, LiftsCore, IsCallable}
 use Rattle.script_reader.specs.declared.script.Call.{Call}
 use Rattle.script_reader.specs.declared.script.Item.TheVariants as item
-use Rattle.script_reader.specs.Script.{export_named, param_types, CallsExport}
+use Rattle.script_reader.specs.Script.{export_named, CallsExport}
 use Rattle.abi_machine.specs.Machine.{lowered, core_func}
 use Rattle.abi_machine.specs.Laws.{SoundCall}
 use Rattle.abi_machine.specs.Kept.{AreMade}
-use Rattle.wcm.specs.Calling.{u32_of, AreBelow, CanRun, FitsFunction, Fits}
+use Rattle.wcm.specs.Calling.{u32_of, AreBelow, FitsFunction, Fits}
 
 some_inj : {A : Type 0} {x y : A} → ◌≡◌ {A = Option A} (Some x) (Some y) → x ≡ y
 some_inj h = cc

@@ -1,13 +1,11 @@
 -- What the instantiation of modules comes to.
-use Rattle.std.proofs.Common.{◌≡◌, ◌<◌, ◌≤◌, ◌+◌, ℕ, zero, suc, true, false, nat_eq, List, [], ◌∷◌, ◌++◌, map, length, drop, get_or, refl, sym, ap, ◌∙◌, subst, arith, Option, Some, None, Result, Ok, Err}
-use Rattle.std.specs.List.{slice_get, list_all, AllByRecursion}
+use Rattle.std.proofs.Common.{◌≡◌, ◌<◌, ◌≤◌, ◌+◌, ℕ, zero, suc, true, false, List, [], ◌∷◌, map, length, drop, get_or, refl, sym, ap, ◌∙◌, subst, arith, Option, Some, None}
+use Rattle.std.specs.List.{slice_get, AllByRecursion}
 use Rattle.std.specs.Option.{option_and_then, option_map, IfSome}
-use Rattle.std.proofs.lemmas.Option.{slice_get_within}
 use Rattle.wasm_module.specs.declared.types.ValType.{ValType}
 use Rattle.wasm_module.specs.declared.types.FuncType as core
 use Rattle.wasm_module.specs.declared.module.ModuleTree.{ModuleTree}
-use Rattle.wasm_valid.specs.Modules.{Typed, StartTyped, type_of_func}
-use Rattle.wasm_valid.specs.Instrs.{func_type}
+use Rattle.wasm_valid.specs.Modules.{Typed, StartTyped}
 use Rattle.wasm_numbers.specs.Types.{AreWords}
 use Rattle.core_machine.specs.Store.{Store, Instance, Function, type_of, func_at, found_at}
 use Rattle.core_machine.specs.Stack.{Stack}
@@ -29,13 +27,12 @@ use Rattle.script_reader.specs.declared.script.Item.{Item}
 use Rattle.trace_show.specs.declared.trap.TrapName.TheVariants as trap
 use Rattle.abi_machine.specs.declared.run_end.RunEnd.{RunEnd}
 use Rattle.abi_machine.specs.declared.run_end.RunEnd.TheVariants.{Trapped}
-use Rattle.abi_machine.specs.World.{World, TaskState, Instantiating, StartsUp, Doomed, Task, with_task}
-use Rattle.abi_machine.specs.Machine.{silent, made, started_up, turn}
+use Rattle.abi_machine.specs.World.{World, Instantiating, StartsUp, Doomed, with_task}
+use Rattle.abi_machine.specs.Machine.{silent, made, started_up}
 use Rattle.abi_machine.specs.Run.{Runs}
-use Rattle.wcm.specs.Calling.{Leads, GoesOrEnds, idle, at_task, CoreStops, CoreGives, StartGives, AddGives, InstancesGive}
+use Rattle.wcm.specs.Calling.{Leads, GoesOrEnds, idle, at_task, CoreStops, StartGives, AddGives}
 use Rattle.wcm.proofs.Leads.{leads_none, silent_step, leads_then, runs_end, runs_behind, either_behind}
 use Rattle.wcm.proofs.CoreRuns.{end_leads, stop_runs}
-use Rattle.wcm.proofs.Fitting.{then_some}
 
 -- Start functions.
 

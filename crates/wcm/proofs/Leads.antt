@@ -1,5 +1,5 @@
 -- Parts of runs, one behind the other.
-use Rattle.std.proofs.Common.{◌≡◌, ◌≢◌, ℕ, List, [], ◌∷◌, ◌++◌, refl, sym, ap, ◌∙◌, subst, append_assoc, Option, Some, None}
+use Rattle.std.proofs.Common.{◌≡◌, List, [], ◌∷◌, ◌++◌, refl, sym, ap, ◌∙◌, subst, append_assoc, Option, Some, None}
 use Rattle.std.specs.List.{flat_map}
 use Rattle.trace_show.specs.declared.label.Label.{Label}
 use Rattle.comp_graph.specs.Graph.{Graph}

@@ -1,10 +1,11 @@
--- The core modules of a component that is read are typed, and no memory of theirs begins with more pages than any may have.
-use Rattle.std.proofs.Common.{◌≡◌, ℕ, zero, suc, Bool, true, false, List, [], ◌∷◌, ◌++◌, Option, Some, None, refl, sym, subst}
+-- The core modules among the items of a component that is read are typed, and no memory of theirs begins with more pages
+-- than any may have.
+use Rattle.std.proofs.Common.{◌≡◌, ℕ, zero, suc, Bool, true, false, List, [], ◌∷◌, ◌++◌, Option, Some, None, refl, sym, subst, rules}
 use Rattle.std.specs.Prelude.{◌==◌}
 use Rattle.std.specs.List.{AllByRecursion}
 use Rattle.ca_base.specs.Span.{Span, window}
-use Rattle.ca_base.specs.Grammar.{Grammar, Give, Refuse, Choose, Byte, ◌>>=◌, times, Matches}
-use Rattle.ca_base.specs.Items.{NumberReasons, Reasons, placed, vec, placed_vec, many, sized, section, is_byte, joined}
+use Rattle.ca_base.specs.Grammar.{Grammar, Give, Refuse, Choose, ◌>>=◌, Matches}
+use Rattle.ca_base.specs.Items.{u32, placed, vec, placed_vec, many, sized, joined}
 use Rattle.ca_base.specs.declared.placed.Placed.{Placed}
 use Rattle.ca_base.proofs.Laws.{matches_reads}
 use Rattle.wasm_module.specs.declared.module.ModuleTree.{ModuleTree}
@@ -20,12 +21,24 @@ use Rattle.wasm_valid.specs.declared.fault.ValidFault.{ValidFault}
 use Rattle.wasm_valid.specs.Finding.{untyped}
 use Rattle.wasm_valid.specs.Modules.{Typed}
 use Rattle.wasm_valid.proofs.Placing.{told_or_typed}
-use Rattle.comp_reader.specs.declared.component.Item.{Item}
+use Rattle.comp_reader.specs.declared.component.Item.{Item, out-Item}
+use Rattle.comp_reader.specs.declared.component.Item.TheOpen.{Item-F}
 use Rattle.comp_reader.specs.declared.component.Item.TheVariants as item
+use Rattle.comp_reader.specs.declared.component.Item.TheViews.{the_lemmas}
 use Rattle.comp_reader.specs.declared.component.Component.{Component}
+use Rattle.comp_reader.specs.declared.component.Canon.{Canon}
+use Rattle.comp_reader.specs.declared.component.Canon.TheVariants.{Lift}
+use Rattle.comp_reader.specs.declared.component.CoreInstance.{CoreInstance}
+use Rattle.comp_reader.specs.declared.component.CoreInstance.TheVariants as made_core
+use Rattle.comp_reader.specs.declared.component.Instance as made_of
+use Rattle.comp_reader.specs.declared.component.Instance.TheVariants as made
+use Rattle.comp_reader.specs.declared.component.Alias as aliased
+use Rattle.comp_reader.specs.declared.component.DefType.{DefType}
+use Rattle.comp_reader.specs.declared.component.Import as imported
+use Rattle.comp_reader.specs.declared.component.Export as exported
 use Rattle.comp_reader.specs.declared.fault.ComponentWhy.{ComponentWhy}
 use Rattle.comp_reader.specs.declared.fault.ComponentWhy.TheVariants.{Unsupported}
-use Rattle.comp_reader.specs.Binary.{numbers, reasons, validated, module_file, core_module, core_instance, alias, type_item, canon, export, custom_items, module_items, payload, is_section, component, IsComponent}
+use Rattle.comp_reader.specs.Binary.{numbers, reasons, validated, unsupported, module_file, core_module, core_argument, core_inline_export, core_instance, argument, inline_export, instance, alias_item, type_item, canon, import, export, custom_items, module_items, component_items, plain_payload, payload, is_section, component_of, component_within, depth_limit, IsComponent}
 use Rattle.comp_reader.specs.Binary as file
 
 -- a module that is typed, and whose memories are in range
@@ -33,14 +46,50 @@ pub record IsFit (m : ModuleTree) : Type 0 where
   pub typed : Typed m
   pub range : InRange m
 
--- an item that is fit, if it is a core module
+-- An item that is fit, if it is a core module. The modules of a component in it are not asked.
+abbrev pub CaseTyped : {A B : Type 0} → Item-F A B → Type 0
+CaseTyped (Item-F.CoreModule m) = IsFit m
+CaseTyped (Item-F.CoreInstance i) = Unit {0}
+CaseTyped (Item-F.Component c) = Unit {0}
+CaseTyped (Item-F.Instance i) = Unit {0}
+CaseTyped (Item-F.Alias a) = Unit {0}
+CaseTyped (Item-F.Type t) = Unit {0}
+CaseTyped (Item-F.Canon c) = Unit {0}
+CaseTyped (Item-F.Import i) = Unit {0}
+CaseTyped (Item-F.Export e) = Unit {0}
+
 abbrev pub ItemTyped : Item → Type 0
-ItemTyped (item.CoreModule m) = IsFit m
-ItemTyped (item.CoreInstance i) = Unit {0}
-ItemTyped (item.Alias a) = Unit {0}
-ItemTyped (item.Type t) = Unit {0}
-ItemTyped (item.Canon c) = Unit {0}
-ItemTyped (item.Export e) = Unit {0}
+ItemTyped i = CaseTyped (out-Item i)
+
+as_case : (i : Item) (c : Item-F Item Component) → out-Item i ≡ c → CaseTyped c → ItemTyped i
+as_case i c e h = subst (λ (c : Item-F Item Component). CaseTyped c) (sym e) h
+
+module_typed : (m : ModuleTree) → IsFit m → ItemTyped (item.CoreModule m)
+module_typed m h = as_case (item.CoreModule m) (Item-F.CoreModule m) (search (rules, the_lemmas)) h
+
+core_instance_typed : (i : CoreInstance) → ItemTyped (item.CoreInstance i)
+core_instance_typed i = as_case (item.CoreInstance i) (Item-F.CoreInstance i) (search (rules, the_lemmas)) tt
+
+nested_typed : (c : Component) → ItemTyped (item.Component c)
+nested_typed c = as_case (item.Component c) (Item-F.Component c) (search (rules, the_lemmas)) tt
+
+instance_typed : (i : made_of.Instance) → ItemTyped (item.Instance i)
+instance_typed i = as_case (item.Instance i) (Item-F.Instance i) (search (rules, the_lemmas)) tt
+
+alias_typed : (a : aliased.Alias) → ItemTyped (item.Alias a)
+alias_typed a = as_case (item.Alias a) (Item-F.Alias a) (search (rules, the_lemmas)) tt
+
+type_typed : (t : DefType) → ItemTyped (item.Type t)
+type_typed t = as_case (item.Type t) (Item-F.Type t) (search (rules, the_lemmas)) tt
+
+canon_typed : (c : Canon) → ItemTyped (item.Canon c)
+canon_typed c = as_case (item.Canon c) (Item-F.Canon c) (search (rules, the_lemmas)) tt
+
+import_typed : (i : imported.Import) → ItemTyped (item.Import i)
+import_typed i = as_case (item.Import i) (Item-F.Import i) (search (rules, the_lemmas)) tt
+
+export_typed : (e : exported.Export) → ItemTyped (item.Export e)
+export_typed e = as_case (item.Export e) (Item-F.Export e) (search (rules, the_lemmas)) tt
 
 -- placed items that are typed
 abbrev pub PlacedTyped : List (Placed Item) → Type 0
@@ -83,28 +132,74 @@ module_gives s x t m =
     let fits = module_fits (window m.2.0 module_why.Truncated m.2.1) read m.2.3.2.0 m.2.3.2.1 in
     let range = memories_in_range (window m.2.0 module_why.Truncated m.2.1) read m.2.3.2.0 m.2.3.2.1 in
     let typed = valid_typed read.tree (untyped read.tree read.places) m.1 m.3.0 m.3.1 range (told_or_typed read.tree read.places fits).0 m.3.2 in
-    subst ItemTyped (sym m.3.3.0) typed
+    subst ItemTyped (sym m.3.3.0) (module_typed m.3.0 typed)
+
+nothing_gives : {W A : Type 0} (P : A → Type 0) (place : ℕ) (why : W) → Gives P (Refuse place why)
+nothing_gives P place why s x t m = absurd m
 
 -- The other items are no core modules.
-instance_gives : Gives ItemTyped core_instance
+abbrev core_instantiated : Grammar ComponentWhy Item
+core_instantiated = do
+  index ← u32 numbers
+  arguments ← vec numbers core_argument
+  Give (item.CoreInstance (made_core.Instantiate index arguments))
+
+abbrev core_inlined : Grammar ComponentWhy Item
+core_inlined = do
+  exports ← vec numbers core_inline_export
+  Give (item.CoreInstance (made_core.Inline exports))
+
+core_instance_gives : Gives ItemTyped core_instance
 unfolding core_instance
-instance_gives s x t m = subst ItemTyped (sym m.3.3.3.0) tt
+core_instance_gives s x t m =
+    let b = m.3.0 in
+    choice_gives ItemTyped core_instantiated (Choose (b == 1) core_inlined (unsupported m.0 b))
+    (λ u y v n. subst ItemTyped (sym n.3.3.0) (core_instance_typed (made_core.Instantiate n.0 n.3.0)))
+    (choice_gives ItemTyped core_inlined (unsupported m.0 b)
+    (λ u y v n. subst ItemTyped (sym n.3.0) (core_instance_typed (made_core.Inline n.0)))
+    (nothing_gives ItemTyped m.0 (Unsupported b)) (b == 1)) (b == 0) m.3.1 x t m.3.3
 
-alias_gives : Gives ItemTyped alias
-unfolding alias
-alias_gives s x t m = subst ItemTyped (sym m.3.3.3.3.3.0) tt
+abbrev instantiated : Grammar ComponentWhy Item
+instantiated = do
+  index ← u32 numbers
+  arguments ← vec numbers argument
+  Give (item.Instance (made.Instantiate index arguments))
 
-type_gives : Gives ItemTyped type_item
+abbrev inlined : Grammar ComponentWhy Item
+inlined = do
+  exports ← vec numbers inline_export
+  Give (item.Instance (made.Inline exports))
+
+instance_gives : Gives ItemTyped instance
+unfolding instance
+instance_gives s x t m =
+    let b = m.3.0 in
+    choice_gives ItemTyped instantiated (Choose (b == 1) inlined (unsupported m.0 b))
+    (λ u y v n. subst ItemTyped (sym n.3.3.0) (instance_typed (made.Instantiate n.0 n.3.0)))
+    (choice_gives ItemTyped inlined (unsupported m.0 b)
+    (λ u y v n. subst ItemTyped (sym n.3.0) (instance_typed (made.Inline n.0)))
+    (nothing_gives ItemTyped m.0 (Unsupported b)) (b == 1)) (b == 0) m.3.1 x t m.3.3
+
+alias_gives : Gives ItemTyped alias_item
+unfolding alias_item
+alias_gives s x t m = subst ItemTyped (sym m.3.0) (alias_typed m.0)
+
+type_gives : (more : ℕ) → Gives ItemTyped (type_item more)
 unfolding type_item
-type_gives s x t m = subst ItemTyped (sym m.3.0) tt
+type_gives more s x t m = subst ItemTyped (sym m.3.0) (type_typed m.0)
 
 canon_gives : Gives ItemTyped canon
 unfolding canon
-canon_gives s x t m = subst ItemTyped (sym m.3.3.3.3.3.0) tt
+canon_gives s x t m = subst ItemTyped (sym m.3.3.3.3.3.0) (canon_typed (Lift m.3.3.0 m.3.3.3.3.0))
+
+import_gives : Gives ItemTyped import
+unfolding import
+import_gives s x t m = subst ItemTyped (sym m.3.3.0) (import_typed (record { name = m.0; desc = m.3.0 }))
 
 export_gives : Gives ItemTyped export
 unfolding export
-export_gives s x t m = subst ItemTyped (sym m.3.3.3.3.0) tt
+export_gives s x t m =
+    subst ItemTyped (sym m.3.3.3.3.0) (export_typed (record { name = m.0; sort = m.3.0; index = m.3.3.0; desc = m.3.3.3.0 }))
 
 -- Sections.
 custom_gives : Gives PlacedTyped custom_items
@@ -115,43 +210,59 @@ of_module : Gives PlacedTyped module_items
 unfolding module_items
 of_module s x t m = subst PlacedTyped (sym m.3.0) (placed_gives ItemTyped core_module module_gives s m.0 m.1 m.2, tt)
 
+of_component : (inner : Grammar ComponentWhy Component) → Gives PlacedTyped (component_items inner)
+unfolding component_items
+of_component inner s x t m = subst PlacedTyped (sym m.3.3.0) (nested_typed m.3.0, tt)
+
 vec_gives : (g : Grammar ComponentWhy Item) → Gives ItemTyped g → Gives PlacedTyped (placed_vec numbers g)
 vec_gives g h s x t m = times_give (λ (p : Placed Item). ItemTyped p.item) (placed g) (placed_gives ItemTyped g h) m.0 m.1 x t m.3
 
+abbrev without_canons : ℕ → Grammar ComponentWhy (List (Placed Item))
+without_canons id = Choose (id == 10) (placed_vec numbers import) (placed_vec numbers export)
+
 abbrev without_types : ℕ → Grammar ComponentWhy (List (Placed Item))
-without_types id = Choose (id == 8) (placed_vec numbers canon) (placed_vec numbers export)
+without_types id = Choose (id == 8) (placed_vec numbers canon) (without_canons id)
 
-abbrev without_aliases : ℕ → Grammar ComponentWhy (List (Placed Item))
-without_aliases id = Choose (id == 7) (placed_vec numbers type_item) (without_types id)
+abbrev without_aliases : ℕ → ℕ → Grammar ComponentWhy (List (Placed Item))
+without_aliases more id = Choose (id == 7) (placed_vec numbers (type_item more)) (without_types id)
 
-abbrev without_instances : ℕ → Grammar ComponentWhy (List (Placed Item))
-without_instances id = Choose (id == 6) (placed_vec numbers alias) (without_aliases id)
+abbrev without_instances : ℕ → ℕ → Grammar ComponentWhy (List (Placed Item))
+without_instances more id = Choose (id == 6) (placed_vec numbers alias_item) (without_aliases more id)
 
-abbrev without_modules : ℕ → Grammar ComponentWhy (List (Placed Item))
-without_modules id = Choose (id == 2) (placed_vec numbers core_instance) (without_instances id)
+abbrev without_core_instances : ℕ → ℕ → Grammar ComponentWhy (List (Placed Item))
+without_core_instances more id = Choose (id == 5) (placed_vec numbers instance) (without_instances more id)
 
-abbrev without_customs : ℕ → Grammar ComponentWhy (List (Placed Item))
-without_customs id = Choose (id == 1) module_items (without_modules id)
+abbrev without_modules : ℕ → ℕ → Grammar ComponentWhy (List (Placed Item))
+without_modules more id = Choose (id == 2) (placed_vec numbers core_instance) (without_core_instances more id)
 
-payload_gives : (id : ℕ) → Gives PlacedTyped (payload id)
+abbrev without_customs : ℕ → ℕ → Grammar ComponentWhy (List (Placed Item))
+without_customs more id = Choose (id == 1) module_items (without_modules more id)
+
+plain_payload_gives : (more id : ℕ) → Gives PlacedTyped (plain_payload more id)
+unfolding plain_payload
+plain_payload_gives more id =
+    choice_gives PlacedTyped custom_items (without_customs more id) custom_gives
+    (choice_gives PlacedTyped module_items (without_modules more id) of_module
+    (choice_gives PlacedTyped (placed_vec numbers core_instance) (without_core_instances more id) (vec_gives core_instance core_instance_gives)
+    (choice_gives PlacedTyped (placed_vec numbers instance) (without_instances more id) (vec_gives instance instance_gives)
+    (choice_gives PlacedTyped (placed_vec numbers alias_item) (without_aliases more id) (vec_gives alias_item alias_gives)
+    (choice_gives PlacedTyped (placed_vec numbers (type_item more)) (without_types id) (vec_gives (type_item more) (type_gives more))
+    (choice_gives PlacedTyped (placed_vec numbers canon) (without_canons id) (vec_gives canon canon_gives)
+    (choice_gives PlacedTyped (placed_vec numbers import) (placed_vec numbers export) (vec_gives import import_gives) (vec_gives export export_gives) (id == 10))
+    (id == 8)) (id == 7)) (id == 6)) (id == 5)) (id == 2)) (id == 1)) (id == 0)
+
+payload_gives : (more : ℕ) (inner : Grammar ComponentWhy Component) (id : ℕ) → Gives PlacedTyped (payload more inner id)
 unfolding payload
-payload_gives id =
-    choice_gives PlacedTyped custom_items (without_customs id) custom_gives
-    (choice_gives PlacedTyped module_items (without_modules id) of_module
-    (choice_gives PlacedTyped (placed_vec numbers core_instance) (without_instances id) (vec_gives core_instance instance_gives)
-    (choice_gives PlacedTyped (placed_vec numbers alias) (without_aliases id) (vec_gives alias alias_gives)
-    (choice_gives PlacedTyped (placed_vec numbers type_item) (without_types id) (vec_gives type_item type_gives)
-    (choice_gives PlacedTyped (placed_vec numbers canon) (placed_vec numbers export) (vec_gives canon canon_gives) (vec_gives export export_gives) (id == 8))
-    (id == 7)) (id == 6)) (id == 2)) (id == 1)) (id == 0)
+payload_gives more inner id =
+    choice_gives PlacedTyped (component_items inner) (plain_payload more id) (of_component inner) (plain_payload_gives more id) (id == 4)
 
-nothing_gives : {W A : Type 0} (P : A → Type 0) (place : ℕ) (why : W) → Gives P (Refuse place why)
-nothing_gives P place why s x t m = absurd m
-
-section_gives : Gives PlacedTyped file.section
+section_gives : (more : ℕ) (inner : Grammar ComponentWhy Component) → Gives PlacedTyped (file.section more inner)
 unfolding file.section
-section_gives s x t m =
+section_gives more inner s x t m =
     let id = m.3.0 in
-    choice_gives PlacedTyped (sized numbers reasons (payload id)) (Refuse m.0 (Unsupported id)) (sized_gives PlacedTyped numbers reasons (payload id) (payload_gives id)) (nothing_gives PlacedTyped m.0 (Unsupported id)) (is_section id) m.3.1 x t m.3.3
+    choice_gives PlacedTyped (sized numbers reasons (payload more inner id)) (unsupported m.0 id)
+    (sized_gives PlacedTyped numbers reasons (payload more inner id) (payload_gives more inner id)) (nothing_gives PlacedTyped m.0 (Unsupported id))
+    (is_section id) m.3.1 x t m.3.3
 
 pub all_append : {A : Type 0} (P : A → Type 0) (xs ys : List A) → AllByRecursion P xs → AllByRecursion P ys → AllByRecursion P (xs ++ ys)
 all_append P [] ys h k = k
@@ -161,9 +272,17 @@ joined_typed : (parts : List (List (Placed Item))) → AllByRecursion PlacedType
 joined_typed [] h = tt
 joined_typed (part ∷ parts) h = all_append (λ (p : Placed Item). ItemTyped p.item) part (joined parts) h.0 (joined_typed parts h.1)
 
-pub component_typed : (bytes : List ℕ) (c : Component) → IsComponent bytes c → PlacedTyped c.items
-unfolding component
-component_typed bytes c m =
+component_of_gives : (more : ℕ) (inner : Grammar ComponentWhy Component) → Gives (λ c. PlacedTyped c.items) (component_of more inner)
+unfolding component_of
+component_of_gives more inner s c t m =
     let sections = m.3.0 in
-    let all = many_give PlacedTyped file.section section_gives m.3.2.0 m.3.2.1 sections m.3.1 m.3.2.3 in
+    let all = many_give PlacedTyped (file.section more inner) (section_gives more inner) m.3.2.0 m.3.2.1 sections m.3.1 m.3.2.3 in
     subst (λ (c : Component). PlacedTyped c.items) (sym m.3.3.3.0) (joined_typed sections all)
+
+within_gives : (n : ℕ) → Gives (λ c. PlacedTyped c.items) (component_within n)
+unfolding component_within
+within_gives zero s c t m = absurd m.3
+within_gives (suc more) s c t m = component_of_gives more (component_within more) s c t m
+
+pub component_typed : (bytes : List ℕ) (c : Component) → IsComponent bytes c → PlacedTyped c.items
+component_typed bytes c m = within_gives depth_limit (file.file bytes) c (file.file_end bytes) m

@@ -1,5 +1,5 @@
 -- Words whose files are told have exactly one outcome.
-use Rattle.std.proofs.Common.{◌≡◌, ◌⊎◌, ℕ, List, length, Option, Some, None, Result, Ok, Err, inl, inr, refl}
+use Rattle.std.proofs.Common.{◌≡◌, ◌⊎◌, ℕ, List, [], length, Option, Some, None, Result, Ok, Err, inl, inr, refl}
 use Rattle.std.specs.Option.{IsSome, MatchOption}
 use Rattle.std.proofs.lemmas.Bool.{cases_lt}
 use Rattle.comp_reader.specs.declared.component.Component.{Component}
@@ -13,9 +13,10 @@ use Rattle.comp_graph.specs.Graph.{Graph}
 use Rattle.comp_link.specs.Linking.{linked, IsLinked}
 use Rattle.wcm.specs.Laws.{ScriptsAreSound, OneOutcome}
 use Rattle.abi_machine.specs.Laws.{EachRunEnds}
-use Rattle.wcm.specs.Words.{Command, Run, command_of}
-use Rattle.wcm.specs.Outcome.{component_limit, too_long, usage_answer, refused_answer, link_refused_answer, script_refused_answer, run_answer, ScriptAnswers, LinkAnswers, FileAnswers, HeldScriptAnswers, HeldAnswers, CommandAnswers, DecidesAlone, IsCommandTold}
-use Rattle.wcm.proofs.Rows.{one_answer}
+use Rattle.wcm.specs.Words.{Command, Run, Check, Show, command_of, component_file}
+use Rattle.wcm.specs.Outcome.{component_limit, too_long, refused_answer, link_refused_answer, script_refused_answer, accepted_answer, shown_answer, run_answer, IsUsage, ScriptAnswers, LinkAnswers, FileAnswers, HeldScriptAnswers, GraphAnswers, HeldAnswers, CommandAnswers, DecidesAlone, IsScriptTold, IsCommandTold}
+use Rattle.wcm.proofs.Rows.{usage_answer}
+use Rattle.wcm.proofs.Rows as only
 
 module _ (reading : OneReading) (sound : ScriptsAreSound) (ends : EachRunEnds) where
   by_script : (bytes text : List ℕ) (c : Component) (g : Graph) (r : Result Script ScriptFault) → IsComponent bytes c → IsLinked c g → script g.exports text ≡ r → (a : Answer) × ScriptAnswers g text a
@@ -24,45 +25,51 @@ module _ (reading : OneReading) (sound : ScriptsAreSound) (ends : EachRunEnds) w
       let run = ends g s (sound bytes text c g s i l h) in
       (run_answer run.0 run.1, inr (s, h, (run.0, run.1, run.2, refl)))
 
-  by_link : (bytes text : List ℕ) (c : Component) (r : Result Graph LinkFault) → IsComponent bytes c → linked c ≡ r → (a : Answer) × LinkAnswers c a (λ g. HeldScriptAnswers g (Some text) a)
-  by_link bytes text c (Err fault) i h = (link_refused_answer fault, inl (fault, h, refl))
-  by_link bytes text c (Ok g) i h =
-      let a = by_script bytes text c g (script g.exports text) i h refl in
+  by_held_script : (bytes : List ℕ) (c : Component) (g : Graph) (o : Option (List ℕ)) → IsComponent bytes c → IsLinked c g → IsSome o → (a : Answer) × HeldScriptAnswers g o a
+  by_held_script bytes c g None i l told = cc
+  by_held_script bytes c g (Some text) i l told = by_script bytes text c g (script g.exports text) i l refl
+
+  -- the answer of a command behind a graph
+  by_command : (bytes : List ℕ) (command : Command) (held : List ℕ → Option (List ℕ)) (c : Component) (g : Graph) → IsComponent bytes c → IsLinked c g → IsScriptTold command held → (a : Answer) × GraphAnswers command held g a
+  by_command bytes (Run f s) held c g i l told = by_held_script bytes c g (held s) i l told
+  by_command bytes (Check f) held c g i l told = (accepted_answer, refl)
+  by_command bytes (Show f) held c g i l told = (shown_answer g, refl)
+
+  by_link : (bytes : List ℕ) (command : Command) (held : List ℕ → Option (List ℕ)) (c : Component) (r : Result Graph LinkFault) → IsComponent bytes c → linked c ≡ r → IsScriptTold command held → (a : Answer) × LinkAnswers c a (λ g. GraphAnswers command held g a)
+  by_link bytes command held c (Err fault) i h told = (link_refused_answer fault, inl (fault, h, refl))
+  by_link bytes command held c (Ok g) i h told =
+      let a = by_command bytes command held c g i h told in
       (a.0, inr (g, h, a.1))
 
-  by_file : (bytes text : List ℕ) → (a : Answer) × FileAnswers bytes a (λ g. HeldScriptAnswers g (Some text) a)
-  by_file bytes text =
+  by_file : (bytes : List ℕ) (command : Command) (held : List ℕ → Option (List ℕ)) → IsScriptTold command held → (a : Answer) × FileAnswers bytes a (λ g. GraphAnswers command held g a)
+  by_file bytes command held told =
       elim (cases_lt component_limit (length bytes)) [
         | inl long ↦ (refused_answer too_long, inl (too_long, inl (long, refl), refl))
         | inr short ↦ elim (reading bytes) [
           | inl good ↦
-              let a = by_link bytes text good.0 (linked good.0) good.1 refl in
+              let a = by_link bytes command held good.0 (linked good.0) good.1 refl told in
               (a.0, inr (good.0, (short, good.1), a.1))
           | inr bad ↦ (refused_answer bad.0, inl (bad.0, inr (short, bad.1), refl))
         ]
       ]
 
-  by_told : (bytes : List ℕ) (held_script : Option (List ℕ)) → IsSome held_script → (a : Answer) × FileAnswers bytes a (λ g. HeldScriptAnswers g held_script a)
-  by_told bytes (Some text) i = by_file bytes text
-  by_told bytes None i = cc
-
-  by_held : (held_file held_script : Option (List ℕ)) → MatchOption held_file ⊥ (λ bytes. DecidesAlone bytes ⊎ IsSome held_script) → (a : Answer) × HeldAnswers held_file held_script a
-  by_held None held_script told = absurd told
-  by_held (Some bytes) held_script told =
+  by_held : (held_file : Option (List ℕ)) (command : Command) (held : List ℕ → Option (List ℕ)) → MatchOption held_file ⊥ (λ bytes. DecidesAlone bytes ⊎ IsScriptTold command held) → (a : Answer) × HeldAnswers held_file a (λ g. GraphAnswers command held g a)
+  by_held None command held told = absurd told
+  by_held (Some bytes) command held told =
       elim told [
         | inl alone ↦ elim alone [
           | inl bad ↦ (refused_answer bad.0, inl (bad.0, bad.1, refl))
           | inr bad ↦ (link_refused_answer bad.1, inr (bad.0, bad.2, inl (bad.1, bad.3, refl)))
         ]
-        | inr script ↦ by_told bytes held_script script
+        | inr script ↦ by_file bytes command held script
       ]
 
   by_words : (held : List ℕ → Option (List ℕ)) (o : Option Command) → MatchOption o (Unit {0}) (λ command. IsCommandTold command held)
-      → (a : Answer) × MatchOption o (a ≡ usage_answer) (λ command. CommandAnswers command held a)
-  by_words held None told = (usage_answer, refl)
-  by_words held (Some (Run file script)) told = by_held (held file) (held script) told
+      → (a : Answer) × MatchOption o (IsUsage a) (λ command. CommandAnswers command held a)
+  by_words held None told = (usage_answer [], record { status = refl; out = refl })
+  by_words held (Some command) told = by_held (held (component_file command)) command held told
 
   pub one_outcome : OneOutcome
   one_outcome words held told =
       let a = by_words held (command_of words) told in
-      (a.0, a.1, λ other h. one_answer words held other a.0 h a.1)
+      (a.0, a.1, λ other h. only.one_outcome words held a.0 other a.1 h)

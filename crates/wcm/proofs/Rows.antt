@@ -1,5 +1,5 @@
 -- What each answer tells of the files: words have one outcome, so its status tells which of the cases the files are.
-use Rattle.std.proofs.Common.{◌≡◌, ◌↔◌, ◌⊎◌, inl, inr, ℕ, List, refl, ap, sym, ◌∙◌, subst, arith, Option, Some, None, Result, Ok, Err}
+use Rattle.std.proofs.Common.{◌≡◌, ◌↔◌, ◌⊎◌, inl, inr, ℕ, true, List, [], refl, ap, sym, ◌∙◌, subst, arith, Option, Some, None, Result, Ok, Err}
 use Rattle.std.specs.Option.{IfSome, IsSome, MatchOption}
 use Rattle.ca_base.specs.Span.{Span}
 use Rattle.ca_base.specs.declared.refusal.Refusal.{Refusal}
@@ -14,7 +14,7 @@ use Rattle.script_reader.specs.Script.{Script, IsScript, IsScriptRefused}
 use Rattle.comp_link.specs.declared.link_fault.LinkFault.{LinkFault}
 use Rattle.wcm.specs.declared.answer.Answer.{Answer}
 use Rattle.wcm.specs.declared.status.Status.{Status}
-use Rattle.wcm.specs.declared.status.Status.TheVariants.{Done, Trap, Refused, LinkRefused, ScriptRefused, Fuel}
+use Rattle.wcm.specs.declared.status.Status.TheVariants.{Done, Trap, Usage, Refused, LinkRefused, ScriptRefused, Fuel}
 use Rattle.trace_show.specs.declared.label.Label.{Label}
 use Rattle.abi_machine.specs.declared.run_end.RunEnd.{RunEnd}
 use Rattle.abi_machine.specs.declared.run_end.RunEnd.TheVariants as ends
@@ -22,9 +22,10 @@ use Rattle.comp_graph.specs.Graph.{Graph}
 use Rattle.comp_link.specs.Linking.{IsLinked, IsLinkRefused}
 use Rattle.abi_machine.specs.World.{first_world}
 use Rattle.wcm.specs.Status.{status_of, IsBehindGraph}
-use Rattle.wcm.specs.Words.{Command, Run, command_of}
-use Rattle.wcm.specs.Gives.{GraphGives, CommandGives}
-use Rattle.wcm.specs.Outcome.{Outcome, DecidesAlone, IsCommandTold, IsTold, IsComponentTold, component_file, IsComponentFile, IsRefusedFile, RunAnswers, ScriptAnswers, LinkAnswers, FileAnswers, HeldScriptAnswers, HeldAnswers, CommandAnswers, run_answer, usage_answer, refused_answer, link_refused_answer, script_refused_answer, NamesRefused, NamesLinkRefused, NamesGraph, NamesScriptRefused, NamesRun, NamesTrap}
+use Rattle.wcm.specs.Laws.{IsSameOutcome}
+use Rattle.wcm.specs.Words.{Command, Run, Check, Show, command_of, component_file}
+use Rattle.wcm.specs.Gives.{ScriptGives, GraphGives, CommandGives}
+use Rattle.wcm.specs.Outcome.{Outcome, IsUsage, DecidesAlone, IsScriptTold, IsCommandTold, IsTold, IsComponentTold, IsComponentFile, IsRefusedFile, RunAnswers, ScriptAnswers, LinkAnswers, FileAnswers, HeldScriptAnswers, GraphAnswers, HeldAnswers, CommandAnswers, run_answer, refused_answer, link_refused_answer, script_refused_answer, accepted_answer, shown_answer, asks_of_graph, NamesRefused, NamesLinkRefused, NamesLinked, NamesAccepted, NamesGraph, NamesScriptRefused, NamesRun, NamesTrap, NamesDone}
 use Rattle.comp_link.proofs.Linked.{one_graph, one_fault, linked_or_not}
 use Rattle.abi_machine.proofs.Worlds.{one_run}
 
@@ -106,8 +107,14 @@ one_of_held_script : (g : Graph) (o : Option (List ℕ)) (a b : Answer) → Held
 one_of_held_script g None a b h k = absurd h
 one_of_held_script g (Some t) a b h k = one_of_script g t a b h k
 
-one_of_link : (c : Component) (o : Option (List ℕ)) (a b : Answer) → LinkAnswers c a (λ g. HeldScriptAnswers g o a) → LinkAnswers c b (λ g. HeldScriptAnswers g o b) → a ≡ b
-one_of_link c o a b h k =
+-- what a command answers behind a graph
+one_of_graph : (command : Command) (held : List ℕ → Option (List ℕ)) (g : Graph) (a b : Answer) → GraphAnswers command held g a → GraphAnswers command held g b → a ≡ b
+one_of_graph (Run file script) held g a b h k = one_of_held_script g (held script) a b h k
+one_of_graph (Check file) held g a b h k = h ∙ sym k
+one_of_graph (Show file) held g a b h k = h ∙ sym k
+
+one_of_link : (c : Component) (command : Command) (held : List ℕ → Option (List ℕ)) (a b : Answer) → LinkAnswers c a (λ g. GraphAnswers command held g a) → LinkAnswers c b (λ g. GraphAnswers command held g b) → a ≡ b
+one_of_link c command held a b h k =
     elim h [
       | inl bad ↦ elim k [
         | inl worse ↦ bad.2 ∙ (ap (λ (f : LinkFault). link_refused_answer f) (one_fault c worse.0 bad.0 worse.1 bad.1) ∙ sym worse.2)
@@ -117,12 +124,12 @@ one_of_link c o a b h k =
         | inl bad ↦ absurd (linked_or_not c good.0 bad.0 good.1 bad.1)
         | inr better ↦
             let same : better.0 ≡ good.0 = one_graph c good.0 better.0 good.1 better.1 in
-            one_of_held_script good.0 o a b good.2 (subst (λ (g : Graph). HeldScriptAnswers g o b) same better.2)
+            one_of_graph command held good.0 a b good.2 (subst (λ (g : Graph). GraphAnswers command held g b) same better.2)
       ]
     ]
 
-one_of_file : (bytes : List ℕ) (o : Option (List ℕ)) (a b : Answer) → FileAnswers bytes a (λ g. HeldScriptAnswers g o a) → FileAnswers bytes b (λ g. HeldScriptAnswers g o b) → a ≡ b
-one_of_file bytes o a b h k =
+one_of_file : (bytes : List ℕ) (command : Command) (held : List ℕ → Option (List ℕ)) (a b : Answer) → FileAnswers bytes a (λ g. GraphAnswers command held g a) → FileAnswers bytes b (λ g. GraphAnswers command held g b) → a ≡ b
+one_of_file bytes command held a b h k =
     elim h [
       | inl bad ↦ elim k [
         | inl worse ↦ bad.2 ∙ (ap (λ (e : Refusal ComponentWhy). refused_answer e) (one_refusal bytes bad.0 worse.0 bad.1 worse.1) ∙ sym worse.2)
@@ -132,21 +139,27 @@ one_of_file bytes o a b h k =
         | inl bad ↦ absurd (component_or_not bytes good.0 bad.0 good.1 bad.1)
         | inr better ↦
             let same : better.0 ≡ good.0 = one_component bytes better.0 good.0 better.1 good.1 in
-            one_of_link good.0 o a b good.2 (subst (λ (c : Component). LinkAnswers c b (λ g. HeldScriptAnswers g o b)) same better.2)
+            one_of_link good.0 command held a b good.2 (subst (λ (c : Component). LinkAnswers c b (λ g. GraphAnswers command held g b)) same better.2)
       ]
     ]
 
-one_of_held : (held_file held_script : Option (List ℕ)) (a b : Answer) → HeldAnswers held_file held_script a → HeldAnswers held_file held_script b → a ≡ b
-one_of_held None held_script a b h k = absurd h
-one_of_held (Some bytes) held_script a b h k = one_of_file bytes held_script a b h k
+one_of_held : (held_file : Option (List ℕ)) (command : Command) (held : List ℕ → Option (List ℕ)) (a b : Answer) → HeldAnswers held_file a (λ g. GraphAnswers command held g a) → HeldAnswers held_file b (λ g. GraphAnswers command held g b) → a ≡ b
+one_of_held None command held a b h k = absurd h
+one_of_held (Some bytes) command held a b h k = one_of_file bytes command held a b h k
 
-one_of_words : (o : Option Command) (held : List ℕ → Option (List ℕ)) (a b : Answer) → MatchOption o (a ≡ usage_answer) (λ command. CommandAnswers command held a) → MatchOption o (b ≡ usage_answer) (λ command. CommandAnswers command held b) → a ≡ b
-one_of_words None held a b h k = h ∙ sym k
-one_of_words (Some (Run file script)) held a b h k = one_of_held (held file) (held script) a b h k
+-- Words that are a command have one outcome, and others have one but for the text for the error output.
+one_of_words : (o : Option Command) (held : List ℕ → Option (List ℕ)) (a b : Answer) → MatchOption o (IsUsage a) (λ command. CommandAnswers command held a) → MatchOption o (IsUsage b) (λ command. CommandAnswers command held b)
+    → MatchOption o ((b.status ≡ a.status) × (b.out ≡ a.out)) (λ command. b ≡ a)
+one_of_words None held a b h k = (k.status ∙ sym h.status, k.out ∙ sym h.out)
+one_of_words (Some command) held a b h k = one_of_held (held (component_file command)) command held b a k h
 
--- Words have one outcome.
-pub one_answer : (words : List (List ℕ)) (held : List ℕ → Option (List ℕ)) (a b : Answer) → Outcome words held a → Outcome words held b → a ≡ b
-one_answer words held a b h k = one_of_words (command_of words) held a b h k
+pub one_outcome : (words : List (List ℕ)) (held : List ℕ → Option (List ℕ)) (a b : Answer) → Outcome words held a → Outcome words held b → IsSameOutcome words a b
+one_outcome words held a b h k = one_of_words (command_of words) held a b h k
+
+-- the answer for words that are a command
+pub one_answer : (words : List (List ℕ)) (held : List ℕ → Option (List ℕ)) (command : Command) (a b : Answer) → command_of words ≡ Some command → Outcome words held a → Outcome words held b → b ≡ a
+one_answer words held command a b e h k =
+    subst (λ (o : Option Command). MatchOption o ((b.status ≡ a.status) × (b.out ≡ a.out)) (λ command. b ≡ a)) e (one_outcome words held a b h k)
 
 -- A file that decides alone is of no component that is linked.
 decided : (bytes : List ℕ) (c : Component) (g : Graph) → IsComponentFile bytes c → IsLinked c g → DecidesAlone bytes → ⊥
@@ -158,98 +171,101 @@ decided bytes c g i l d =
           linked_or_not c g bad.1 l (subst (λ (d : Component). IsLinkRefused d bad.1) same bad.3)
     ]
 
--- what is given behind a graph, where the script is told
-given_script : (g : Graph) (o : Option (List ℕ)) (a : Answer) → GraphGives g o a → IsSome o → HeldScriptAnswers g o a
+-- what is given behind a graph, where what the command asks for is told
+given_script : (g : Graph) (o : Option (List ℕ)) (a : Answer) → ScriptGives g o a → IsSome o → HeldScriptAnswers g o a
 given_script g None a h i = cc
 given_script g (Some t) a h i = h.1
 
--- what a component file gives is its answer, where the files that it asks for are told
-given_file : (bytes : List ℕ) (o : Option (List ℕ)) (a : Answer) → FileAnswers bytes a (λ g. GraphGives g o a) → DecidesAlone bytes ⊎ IsSome o → FileAnswers bytes a (λ g. HeldScriptAnswers g o a)
-given_file bytes o a h told =
+given_graph : (command : Command) (held : List ℕ → Option (List ℕ)) (g : Graph) (a : Answer) → GraphGives command held g a → IsScriptTold command held → GraphAnswers command held g a
+given_graph (Run file script) held g a h i = given_script g (held script) a h i
+given_graph (Check file) held g a h i = h
+given_graph (Show file) held g a h i = h
+
+-- what a component file gives is its answer, where the files that the command asks for are told
+given_file : (bytes : List ℕ) (command : Command) (held : List ℕ → Option (List ℕ)) (a : Answer) → FileAnswers bytes a (λ g. GraphGives command held g a) → DecidesAlone bytes ⊎ IsScriptTold command held → FileAnswers bytes a (λ g. GraphAnswers command held g a)
+given_file bytes command held a h told =
     elim h [
       | inl bad ↦ inl bad
       | inr good ↦ elim good.2 [
         | inl bad ↦ inr (good.0, good.1, inl bad)
         | inr linked ↦ elim told [
           | inl alone ↦ absurd (decided bytes good.0 linked.0 good.1 linked.1 alone)
-          | inr script ↦ inr (good.0, good.1, inr (linked.0, linked.1, given_script linked.0 o a linked.2 script))
+          | inr script ↦ inr (good.0, good.1, inr (linked.0, linked.1, given_graph command held linked.0 a linked.2 script))
         ]
       ]
     ]
 
-given_held : (held_file held_script : Option (List ℕ)) (a : Answer) → IfSome held_file (λ bytes. FileAnswers bytes a (λ g. GraphGives g held_script a)) → MatchOption held_file ⊥ (λ bytes. DecidesAlone bytes ⊎ IsSome held_script) → HeldAnswers held_file held_script a
-given_held None held_script a h told = absurd told
-given_held (Some bytes) held_script a h told = given_file bytes held_script a h told
+given_held : (held_file : Option (List ℕ)) (command : Command) (held : List ℕ → Option (List ℕ)) (a : Answer) → IfSome held_file (λ bytes. FileAnswers bytes a (λ g. GraphGives command held g a)) → MatchOption held_file ⊥ (λ bytes. DecidesAlone bytes ⊎ IsScriptTold command held) → HeldAnswers held_file a (λ g. GraphAnswers command held g a)
+given_held None command held a h told = absurd told
+given_held (Some bytes) command held a h told = given_file bytes command held a h told
 
-given_words : (o : Option Command) (held : List ℕ → Option (List ℕ)) (command : Command) (a : Answer) → o ≡ Some command → CommandGives command held a → MatchOption o (Unit {0}) (λ command. IsCommandTold command held) → MatchOption o (a ≡ usage_answer) (λ command. CommandAnswers command held a)
+given_words : (o : Option Command) (held : List ℕ → Option (List ℕ)) (command : Command) (a : Answer) → o ≡ Some command → CommandGives command held a → MatchOption o (Unit {0}) (λ command. IsCommandTold command held) → MatchOption o (IsUsage a) (λ command. CommandAnswers command held a)
 given_words None held command a e h told = cc
-given_words (Some (Run file script)) held command a e h told =
-    let same : command ≡ Run file script = cc in
-    given_held (held file) (held script) a (subst (λ (c : Command). CommandGives c held a) same h) told
+given_words (Some other) held command a e h told =
+    let same : command ≡ other = cc in
+    given_held (held (component_file other)) other held a (subst (λ (c : Command). CommandGives c held a) same h) told
 
 -- What a command gives is the outcome of its words, where their files are told.
 pub outcome_of : (words : List (List ℕ)) (held : List ℕ → Option (List ℕ)) (command : Command) (a : Answer) → command_of words ≡ Some command → CommandGives command held a → IsTold words held → Outcome words held a
 outcome_of words held command a e h told = given_words (command_of words) held command a e h told
 
--- the outcome of words that are no command
-pub usage_of : (words : List (List ℕ)) (held : List ℕ → Option (List ℕ)) → command_of words ≡ None → Outcome words held usage_answer
-usage_of words held e = subst (λ (o : Option Command). MatchOption o (◌≡◌ {A = Answer} usage_answer usage_answer) (λ command. CommandAnswers command held usage_answer)) (sym e) refl
+-- the answer for words that are no command, with this text for the error output
+abbrev pub usage_answer : List ℕ → Answer
+usage_answer text = record { status = Usage; out = []; err = text }
 
--- the words name a component that is linked
-record NamesLinked (words : List (List ℕ)) (held : List ℕ → Option (List ℕ)) : Type 0 where
-  pub file : List ℕ
-  pub script : List ℕ
-  pub bytes : List ℕ
-  pub component : Component
-  pub graph : Graph
-  pub words_name : command_of words ≡ Some (Run file script)
-  pub holds : held file ≡ Some bytes
-  pub read : IsComponentFile bytes component
-  pub linked : IsLinked component graph
+-- the outcome of such words
+pub usage_of : (words : List (List ℕ)) (held : List ℕ → Option (List ℕ)) (text : List ℕ) → command_of words ≡ None → Outcome words held (usage_answer text)
+usage_of words held text e =
+    subst (λ (o : Option Command). MatchOption o (IsUsage (usage_answer text)) (λ command. CommandAnswers command held (usage_answer text))) (sym e) (record { status = refl; out = refl })
 
--- what is held under a name that words give in two ways
-same_bytes : (words : List (List ℕ)) (held : List ℕ → Option (List ℕ)) (f s g t : List ℕ) (bytes other : List ℕ) → command_of words ≡ Some (Run f s) → command_of words ≡ Some (Run g t) → held f ≡ Some bytes → held g ≡ Some other → bytes ≡ other
-same_bytes words held f s g t bytes other e d h k =
-    let both : ◌≡◌ {A = Option Command} (Some (Run f s)) (Some (Run g t)) = sym e ∙ d in
-    let name : f ≡ g = cc in
-    let same : ◌≡◌ {A = Option (List ℕ)} (Some bytes) (Some other) = sym h ∙ (ap held name ∙ k) in
+-- what is held as the component file that words name in two ways
+same_bytes : (words : List (List ℕ)) (held : List ℕ → Option (List ℕ)) (c d : Command) (bytes other : List ℕ) → command_of words ≡ Some c → command_of words ≡ Some d → held (component_file c) ≡ Some bytes → held (component_file d) ≡ Some other → bytes ≡ other
+same_bytes words held c d bytes other e f h k =
+    let both : ◌≡◌ {A = Option Command} (Some c) (Some d) = sym e ∙ f in
+    let name : c ≡ d = cc in
+    let same : ◌≡◌ {A = Option (List ℕ)} (Some bytes) (Some other) = sym h ∙ (ap (λ (command : Command). held (component_file command)) name ∙ k) in
     cc
 
 -- A component file is one of three: refused, of a component that is not linked, of one that is.
 refused_or_link : (words : List (List ℕ)) (held : List ℕ → Option (List ℕ)) → NamesRefused words held → NamesLinkRefused words held → ⊥
 refused_or_link words held n m =
-    let same : n.bytes ≡ m.bytes = same_bytes words held n.file n.script m.file m.script n.bytes m.bytes n.words_name m.words_name n.holds m.holds in
+    let same : n.bytes ≡ m.bytes = same_bytes words held n.command m.command n.bytes m.bytes n.words_name m.words_name n.holds m.holds in
     component_or_not m.bytes m.component n.refusal m.read (subst (λ (x : List ℕ). IsRefusedFile x n.refusal) same n.refused)
 
-refused_or_linked : (words : List (List ℕ)) (held : List ℕ → Option (List ℕ)) → NamesRefused words held → NamesLinked words held → ⊥
-refused_or_linked words held n m =
-    let same : n.bytes ≡ m.bytes = same_bytes words held n.file n.script m.file m.script n.bytes m.bytes n.words_name m.words_name n.holds m.holds in
+refused_or_linked : (words : List (List ℕ)) (held : List ℕ → Option (List ℕ)) (command : Command) (g : Graph) → NamesRefused words held → NamesLinked words held command g → ⊥
+refused_or_linked words held command g n m =
+    let same : n.bytes ≡ m.bytes = same_bytes words held n.command command n.bytes m.bytes n.words_name m.words_name n.holds m.holds in
     component_or_not m.bytes m.component n.refusal m.read (subst (λ (x : List ℕ). IsRefusedFile x n.refusal) same n.refused)
 
-link_or_linked : (words : List (List ℕ)) (held : List ℕ → Option (List ℕ)) → NamesLinkRefused words held → NamesLinked words held → ⊥
-link_or_linked words held n m =
-    let same : n.bytes ≡ m.bytes = same_bytes words held n.file n.script m.file m.script n.bytes m.bytes n.words_name m.words_name n.holds m.holds in
-    decided m.bytes m.component m.graph m.read m.linked (inr (n.component, n.fault, subst (λ (x : List ℕ). IsComponentFile x n.component) same n.read, n.refused))
+link_or_linked : (words : List (List ℕ)) (held : List ℕ → Option (List ℕ)) (command : Command) (g : Graph) → NamesLinkRefused words held → NamesLinked words held command g → ⊥
+link_or_linked words held command g n m =
+    let same : n.bytes ≡ m.bytes = same_bytes words held n.command command n.bytes m.bytes n.words_name m.words_name n.holds m.holds in
+    decided m.bytes m.component g m.read m.linked (inr (n.component, n.fault, subst (λ (x : List ℕ). IsComponentFile x n.component) same n.read, n.refused))
 
 -- what came of the component file
 data CameOfFile (words : List (List ℕ)) (held : List ℕ → Option (List ℕ)) (s : Status) : Type 0 where
   IsFile : s ≡ Refused → NamesRefused words held → CameOfFile words held s
   IsLink : s ≡ LinkRefused → NamesLinkRefused words held → CameOfFile words held s
-  IsBehind : IsBehindGraph s → NamesLinked words held → CameOfFile words held s
+  IsBehind : IsBehindGraph s → (command : Command) (g : Graph) → NamesLinked words held command g → CameOfFile words held s
 
-came_of_file : (words : List (List ℕ)) (held : List ℕ → Option (List ℕ)) (f s : List ℕ) (o : Option (List ℕ)) (a : Answer) → command_of words ≡ Some (Run f s) → held f ≡ o → IsSome o → IfSome o (λ bytes. FileAnswers bytes a (λ g. GraphGives g (held s) a)) → CameOfFile words held a.status
-came_of_file words held f s None a e h told gives = cc
-came_of_file words held f s (Some bytes) a e h told gives =
+behind_graph : (command : Command) (held : List ℕ → Option (List ℕ)) (g : Graph) (a : Answer) → GraphGives command held g a → IsBehindGraph a.status
+behind_graph (Run file script) held g a h = h.0
+behind_graph (Check file) held g a h = subst (λ (b : Answer). IsBehindGraph b.status) (sym h) tt
+behind_graph (Show file) held g a h = subst (λ (b : Answer). IsBehindGraph b.status) (sym h) tt
+
+came_of_file : (words : List (List ℕ)) (held : List ℕ → Option (List ℕ)) (command : Command) (o : Option (List ℕ)) (a : Answer) → command_of words ≡ Some command → held (component_file command) ≡ o → IsSome o → IfSome o (λ bytes. FileAnswers bytes a (λ g. GraphGives command held g a)) → CameOfFile words held a.status
+came_of_file words held command None a e h told gives = cc
+came_of_file words held command (Some bytes) a e h told gives =
     elim gives [
-      | inl bad ↦ IsFile (ap (λ (b : Answer). b.status) bad.2) (record { file = f; script = s; bytes = bytes; refusal = bad.0; words_name = e; holds = h; refused = bad.1 })
+      | inl bad ↦ IsFile (ap (λ (b : Answer). b.status) bad.2) (record { command = command; bytes = bytes; refusal = bad.0; words_name = e; holds = h; refused = bad.1 })
       | inr good ↦ elim good.2 [
-        | inl bad ↦ IsLink (ap (λ (b : Answer). b.status) bad.2) (record { file = f; script = s; bytes = bytes; component = good.0; fault = bad.0; words_name = e; holds = h; read = good.1; refused = bad.1 })
-        | inr linked ↦ IsBehind linked.2.0 (record { file = f; script = s; bytes = bytes; component = good.0; graph = linked.0; words_name = e; holds = h; read = good.1; linked = linked.1 })
+        | inl bad ↦ IsLink (ap (λ (b : Answer). b.status) bad.2) (record { command = command; bytes = bytes; component = good.0; fault = bad.0; words_name = e; holds = h; read = good.1; refused = bad.1 })
+        | inr linked ↦ IsBehind (behind_graph command held linked.0 a linked.2) command linked.0 (record { bytes = bytes; component = good.0; words_name = e; holds = h; read = good.1; linked = linked.1 })
       ]
     ]
 
 came_of_command : (words : List (List ℕ)) (held : List ℕ → Option (List ℕ)) (command : Command) (a : Answer) → command_of words ≡ Some command → CommandGives command held a → IsSome (held (component_file command)) → CameOfFile words held a.status
-came_of_command words held (Run f s) a e gives told = came_of_file words held f s (held f) a e refl told gives
+came_of_command words held command a e gives told = came_of_file words held command (held (component_file command)) a e refl told gives
 
 -- the component file that a command's words name is told
 told_of : (words : List (List ℕ)) (held : List ℕ → Option (List ℕ)) (command : Command) → command_of words ≡ Some command → IsComponentTold words held → IsSome (held (component_file command))
@@ -258,12 +274,12 @@ told_of words held command e h = subst (λ (o : Option Command). MatchOption o (
 when_refused : (words : List (List ℕ)) (held : List ℕ → Option (List ℕ)) (s : Status) → CameOfFile words held s → (s ≡ Refused) ↔ NamesRefused words held
 when_refused words held s (IsFile e n) = (λ k. n, λ m. e)
 when_refused words held s (IsLink e n) = (λ k. cc, λ m. absurd (refused_or_link words held m n))
-when_refused words held s (IsBehind b n) = (λ k. absurd (subst IsBehindGraph k b), λ m. absurd (refused_or_linked words held m n))
+when_refused words held s (IsBehind b command g n) = (λ k. absurd (subst IsBehindGraph k b), λ m. absurd (refused_or_linked words held command g m n))
 
 when_link_refused : (words : List (List ℕ)) (held : List ℕ → Option (List ℕ)) (s : Status) → CameOfFile words held s → (s ≡ LinkRefused) ↔ NamesLinkRefused words held
 when_link_refused words held s (IsFile e n) = (λ k. cc, λ m. absurd (refused_or_link words held n m))
 when_link_refused words held s (IsLink e n) = (λ k. n, λ m. e)
-when_link_refused words held s (IsBehind b n) = (λ k. absurd (subst IsBehindGraph k b), λ m. absurd (link_or_linked words held m n))
+when_link_refused words held s (IsBehind b command g n) = (λ k. absurd (subst IsBehindGraph k b), λ m. absurd (link_or_linked words held command g m n))
 
 pub row_refused : (words : List (List ℕ)) (held : List ℕ → Option (List ℕ)) (command : Command) (a : Answer) → command_of words ≡ Some command → CommandGives command held a → IsComponentTold words held → (a.status ≡ Refused) ↔ NamesRefused words held
 row_refused words held command a e gives told =
@@ -273,10 +289,11 @@ pub row_link_refused : (words : List (List ℕ)) (held : List ℕ → Option (Li
 row_link_refused words held command a e gives told =
     when_link_refused words held a.status (came_of_command words held command a e gives (told_of words held command e told))
 
--- what came of both files
+-- what came of all files
 data Came (words : List (List ℕ)) (held : List ℕ → Option (List ℕ)) (s : Status) : Type 0 where
   OfFile : s ≡ Refused → Came words held s
   OfLink : s ≡ LinkRefused → Came words held s
+  OfGraph : s ≡ Done → NamesAccepted words held → Came words held s
   OfScript : s ≡ ScriptRefused → NamesScriptRefused words held → Came words held s
   OfRun : (end : RunEnd) → s ≡ status_of end → NamesRun words held end → Came words held s
 
@@ -289,49 +306,60 @@ came_script words held a g t n h =
           OfRun r.1 (ap (λ (b : Answer). b.status) r.3) (record { graph = g; text = t; said = run.0; labels = r.0; named = n; read_script = run.1; runs = r.2 })
     ]
 
-came_held_script : (words : List (List ℕ)) (held : List ℕ → Option (List ℕ)) (f s bytes : List ℕ) (c : Component) (g : Graph) (o : Option (List ℕ)) (a : Answer) → command_of words ≡ Some (Run f s) → held f ≡ Some bytes → IsComponentFile bytes c → IsLinked c g → held s ≡ o → HeldScriptAnswers g o a → Came words held a.status
-came_held_script words held f s bytes c g None a e h i l k answers = absurd answers
-came_held_script words held f s bytes c g (Some t) a e h i l k answers =
-    came_script words held a g t (record { file = f; script = s; bytes = bytes; component = c; words_name = e; holds = h; read = i; linked = l; holds_script = k }) answers
+came_held_script : (words : List (List ℕ)) (held : List ℕ → Option (List ℕ)) (f s : List ℕ) (g : Graph) (o : Option (List ℕ)) (a : Answer) → NamesLinked words held (Run f s) g → held s ≡ o → HeldScriptAnswers g o a → Came words held a.status
+came_held_script words held f s g None a n k answers = absurd answers
+came_held_script words held f s g (Some t) a n k answers =
+    came_script words held a g t (record { file = f; script = s; named = n; holds_script = k }) answers
 
-came_held : (words : List (List ℕ)) (held : List ℕ → Option (List ℕ)) (f s : List ℕ) (o : Option (List ℕ)) (a : Answer) → command_of words ≡ Some (Run f s) → held f ≡ o → HeldAnswers o (held s) a → Came words held a.status
-came_held words held f s None a e h answers = absurd answers
-came_held words held f s (Some bytes) a e h answers =
+came_graph : (words : List (List ℕ)) (held : List ℕ → Option (List ℕ)) (command : Command) (g : Graph) (a : Answer) → NamesLinked words held command g → GraphAnswers command held g a → Came words held a.status
+came_graph words held (Run f s) g a n answers = came_held_script words held f s g (held s) a n refl answers
+came_graph words held (Check f) g a n answers = OfGraph (ap (λ (b : Answer). b.status) answers) (record { command = Check f; graph = g; named = n; asks = refl })
+came_graph words held (Show f) g a n answers = OfGraph (ap (λ (b : Answer). b.status) answers) (record { command = Show f; graph = g; named = n; asks = refl })
+
+came_held : (words : List (List ℕ)) (held : List ℕ → Option (List ℕ)) (command : Command) (o : Option (List ℕ)) (a : Answer) → command_of words ≡ Some command → held (component_file command) ≡ o → HeldAnswers o a (λ g. GraphAnswers command held g a) → Came words held a.status
+came_held words held command None a e h answers = absurd answers
+came_held words held command (Some bytes) a e h answers =
     elim answers [
       | inl bad ↦ OfFile (ap (λ (b : Answer). b.status) bad.2)
       | inr good ↦ elim good.2 [
         | inl bad ↦ OfLink (ap (λ (b : Answer). b.status) bad.2)
-        | inr linked ↦ came_held_script words held f s bytes good.0 linked.0 (held s) a e h good.1 linked.1 refl linked.2
+        | inr linked ↦ came_graph words held command linked.0 a (record { bytes = bytes; component = good.0; words_name = e; holds = h; read = good.1; linked = linked.1 }) linked.2
       ]
     ]
 
-came_answers : (words : List (List ℕ)) (held : List ℕ → Option (List ℕ)) (command : Command) (a : Answer) → command_of words ≡ Some command → CommandAnswers command held a → Came words held a.status
-came_answers words held (Run f s) a e h = came_held words held f s (held f) a e refl h
+-- the answer of a command whose words have an outcome, and back
+answers_of : (words : List (List ℕ)) (held : List ℕ → Option (List ℕ)) (command : Command) (a : Answer) → command_of words ≡ Some command → Outcome words held a → CommandAnswers command held a
+answers_of words held command a e h = subst (λ (o : Option Command). MatchOption o (IsUsage a) (λ command. CommandAnswers command held a)) e h
+
+of_answers : (words : List (List ℕ)) (held : List ℕ → Option (List ℕ)) (command : Command) (a : Answer) → command_of words ≡ Some command → CommandAnswers command held a → Outcome words held a
+of_answers words held command a e h = subst (λ (o : Option Command). MatchOption o (IsUsage a) (λ command. CommandAnswers command held a)) (sym e) h
 
 came : (words : List (List ℕ)) (held : List ℕ → Option (List ℕ)) (command : Command) (a : Answer) → command_of words ≡ Some command → Outcome words held a → Came words held a.status
-came words held command a e h =
-    came_answers words held command a e (subst (λ (o : Option Command). MatchOption o (a ≡ usage_answer) (λ command. CommandAnswers command held a)) e h)
+came words held command a e h = came_held words held command (held (component_file command)) a e refl (answers_of words held command a e h)
 
 -- Each status comes with its own case.
 of_script : (words : List (List ℕ)) (held : List ℕ → Option (List ℕ)) (s : Status) → s ≡ ScriptRefused → Came words held s → NamesScriptRefused words held
 of_script words held s k (OfFile e) = cc
 of_script words held s k (OfLink e) = cc
+of_script words held s k (OfGraph e n) = cc
 of_script words held s k (OfScript e n) = n
 of_script words held s k (OfRun ends.Done e n) = cc
 of_script words held s k (OfRun (ends.Trapped task why) e n) = cc
 of_script words held s k (OfRun ends.Fuel e n) = cc
 
-of_done : (words : List (List ℕ)) (held : List ℕ → Option (List ℕ)) (s : Status) → s ≡ Done → Came words held s → NamesRun words held ends.Done
+of_done : (words : List (List ℕ)) (held : List ℕ → Option (List ℕ)) (s : Status) → s ≡ Done → Came words held s → NamesDone words held
 of_done words held s k (OfFile e) = cc
 of_done words held s k (OfLink e) = cc
+of_done words held s k (OfGraph e n) = inl n
 of_done words held s k (OfScript e n) = cc
-of_done words held s k (OfRun ends.Done e n) = n
+of_done words held s k (OfRun ends.Done e n) = inr n
 of_done words held s k (OfRun (ends.Trapped task why) e n) = cc
 of_done words held s k (OfRun ends.Fuel e n) = cc
 
 of_fuel : (words : List (List ℕ)) (held : List ℕ → Option (List ℕ)) (s : Status) → s ≡ Fuel → Came words held s → NamesRun words held ends.Fuel
 of_fuel words held s k (OfFile e) = cc
 of_fuel words held s k (OfLink e) = cc
+of_fuel words held s k (OfGraph e n) = cc
 of_fuel words held s k (OfScript e n) = cc
 of_fuel words held s k (OfRun ends.Done e n) = cc
 of_fuel words held s k (OfRun (ends.Trapped task why) e n) = cc
@@ -340,30 +368,48 @@ of_fuel words held s k (OfRun ends.Fuel e n) = n
 of_trap : (words : List (List ℕ)) (held : List ℕ → Option (List ℕ)) (s : Status) → s ≡ Trap → Came words held s → NamesTrap words held
 of_trap words held s k (OfFile e) = cc
 of_trap words held s k (OfLink e) = cc
+of_trap words held s k (OfGraph e n) = cc
 of_trap words held s k (OfScript e n) = cc
 of_trap words held s k (OfRun ends.Done e n) = cc
 of_trap words held s k (OfRun (ends.Trapped task why) e n) = (task, why, n)
 of_trap words held s k (OfRun ends.Fuel e n) = cc
 
--- the outcome of words that name a graph and a script file
-graph_outcome : (words : List (List ℕ)) (held : List ℕ → Option (List ℕ)) (g : Graph) (t : List ℕ) (a : Answer) → NamesGraph words held g t → ScriptAnswers g t a → Outcome words held a
-graph_outcome words held g t a n h =
-    let script : HeldScriptAnswers g (held n.script) a = subst (λ (o : Option (List ℕ)). HeldScriptAnswers g o a) (sym n.holds_script) h in
-    let file : FileAnswers n.bytes a (λ g. HeldScriptAnswers g (held n.script) a) = inr (n.component, n.read, inr (g, n.linked, script)) in
-    let both : HeldAnswers (held n.file) (held n.script) a = subst (λ (o : Option (List ℕ)). HeldAnswers o (held n.script) a) (sym n.holds) file in
-    subst (λ (o : Option Command). MatchOption o (a ≡ usage_answer) (λ command. CommandAnswers command held a)) (sym n.words_name) both
+-- the outcome of words that name a component that is linked
+linked_outcome : (words : List (List ℕ)) (held : List ℕ → Option (List ℕ)) (command : Command) (g : Graph) (a : Answer) → NamesLinked words held command g → GraphAnswers command held g a → Outcome words held a
+linked_outcome words held command g a n h =
+    let file : FileAnswers n.bytes a (λ g. GraphAnswers command held g a) = inr (n.component, n.read, inr (g, n.linked, h)) in
+    of_answers words held command a n.words_name (subst (λ (o : Option (List ℕ)). HeldAnswers o a (λ g. GraphAnswers command held g a)) (sym n.holds) file)
+
+-- such an outcome is the answer
+linked_answer : (words : List (List ℕ)) (held : List ℕ → Option (List ℕ)) (command : Command) (g : Graph) (a b : Answer) → NamesLinked words held command g → GraphAnswers command held g b → Outcome words held a → a ≡ b
+linked_answer words held command g a b n h outcome = one_answer words held command b a n.words_name (linked_outcome words held command g b n h) outcome
+
+-- the answer of words that name a graph and a script file
+script_answer : (words : List (List ℕ)) (held : List ℕ → Option (List ℕ)) (g : Graph) (t : List ℕ) (a b : Answer) → NamesGraph words held g t → ScriptAnswers g t b → Outcome words held a → a ≡ b
+script_answer words held g t a b n h outcome =
+    linked_answer words held (Run n.file n.script) g a b n.named (subst (λ (o : Option (List ℕ)). HeldScriptAnswers g o b) (sym n.holds_script) h) outcome
 
 pub row_script_refused : (words : List (List ℕ)) (held : List ℕ → Option (List ℕ)) (command : Command) (a : Answer) → command_of words ≡ Some command → Outcome words held a → (a.status ≡ ScriptRefused) ↔ NamesScriptRefused words held
 row_script_refused words held command a e h =
-    (λ k. of_script words held a.status k (came words held command a e h), λ n. ap (λ (b : Answer). b.status) (one_answer words held a (script_refused_answer n.fault) h (graph_outcome words held n.graph n.text (script_refused_answer n.fault) n.named (inl (n.fault, n.refused, refl)))))
+    (λ k. of_script words held a.status k (came words held command a e h), λ n. ap (λ (b : Answer). b.status) (script_answer words held n.graph n.text a (script_refused_answer n.fault) n.named (inl (n.fault, n.refused, refl)) h))
 
 -- the status of a run
 run_status : (words : List (List ℕ)) (held : List ℕ → Option (List ℕ)) (a : Answer) (end : RunEnd) → Outcome words held a → NamesRun words held end → a.status ≡ status_of end
 run_status words held a end h n =
-    ap (λ (b : Answer). b.status) (one_answer words held a (run_answer n.labels end) h (graph_outcome words held n.graph n.text (run_answer n.labels end) n.named (inr (n.said, n.read_script, (n.labels, end, n.runs, refl)))))
+    ap (λ (b : Answer). b.status) (script_answer words held n.graph n.text a (run_answer n.labels end) n.named (inr (n.said, n.read_script, (n.labels, end, n.runs, refl))) h)
 
-pub row_done : (words : List (List ℕ)) (held : List ℕ → Option (List ℕ)) (command : Command) (a : Answer) → command_of words ≡ Some command → Outcome words held a → (a.status ≡ Done) ↔ NamesRun words held ends.Done
-row_done words held command a e h = (λ k. of_done words held a.status k (came words held command a e h), λ n. run_status words held a ends.Done h n)
+-- the status of a graph that is checked or shown
+graph_status : (words : List (List ℕ)) (held : List ℕ → Option (List ℕ)) (a : Answer) (command : Command) (g : Graph) → Outcome words held a → NamesLinked words held command g → asks_of_graph command ≡ true → a.status ≡ Done
+graph_status words held a (Run f s) g h n asks = cc
+graph_status words held a (Check f) g h n asks = ap (λ (b : Answer). b.status) (linked_answer words held (Check f) g a accepted_answer n refl h)
+graph_status words held a (Show f) g h n asks = ap (λ (b : Answer). b.status) (linked_answer words held (Show f) g a (shown_answer g) n refl h)
+
+done_status : (words : List (List ℕ)) (held : List ℕ → Option (List ℕ)) (a : Answer) → Outcome words held a → NamesDone words held → a.status ≡ Done
+done_status words held a h n =
+    elim n [ inl m ↦ graph_status words held a m.command m.graph h m.named m.asks | inr m ↦ run_status words held a ends.Done h m ]
+
+pub row_done : (words : List (List ℕ)) (held : List ℕ → Option (List ℕ)) (command : Command) (a : Answer) → command_of words ≡ Some command → Outcome words held a → (a.status ≡ Done) ↔ NamesDone words held
+row_done words held command a e h = (λ k. of_done words held a.status k (came words held command a e h), λ n. done_status words held a h n)
 
 pub row_fuel : (words : List (List ℕ)) (held : List ℕ → Option (List ℕ)) (command : Command) (a : Answer) → command_of words ≡ Some command → Outcome words held a → (a.status ≡ Fuel) ↔ NamesRun words held ends.Fuel
 row_fuel words held command a e h = (λ k. of_fuel words held a.status k (came words held command a e h), λ n. run_status words held a ends.Fuel h n)

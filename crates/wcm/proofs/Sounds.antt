@@ -1,19 +1,19 @@
 -- A script that is read for a component that is read and linked is sound.
-use Rattle.std.proofs.Common.{◌≡◌, ◌<◌, ◌^◌, ℕ, zero, suc, Bool, true, false, cond, List, [], ◌∷◌, ◌++◌, length, Option, Some, None, Result, Ok, Err, refl, subst}
-use Rattle.std.specs.Prelude.{is_none}
+use Rattle.std.proofs.Common.{◌≡◌, ℕ, zero, suc, Bool, true, false, cond, List, [], ◌∷◌, ◌++◌, length, Option, Some, None, Result, Ok, Err, refl, subst}
+use Rattle.std.specs.Prelude.{is_none, ◌==◌}
 use Rattle.std.specs.List.{slice_get, AllByRecursion}
 use Rattle.std.specs.Option.{option_map_or}
 use Rattle.wasm_module.specs.declared.module.ModuleTree.{ModuleTree}
 use Rattle.wasm_valid.specs.Modules.{Typed}
 use Rattle.core_machine.specs.Instantiation.{InRange}
 use Rattle.ca_types.specs.declared.types.FuncType.{FuncType}
-use Rattle.comp_reader.specs.declared.component.CoreInstance.TheVariants.{Instantiate}
-use Rattle.comp_reader.specs.declared.component.Alias.TheVariants as alias
+use Rattle.comp_reader.specs.declared.component.CoreInstance.{CoreInstance}
+use Rattle.comp_reader.specs.declared.component.CoreInstance.TheVariants as made
 use Rattle.comp_reader.specs.declared.component.Canon.TheVariants.{Lift}
-use Rattle.comp_reader.specs.declared.component.DefType.{DefType}
-use Rattle.comp_reader.specs.declared.component.DefType.TheVariants as def_type
-use Rattle.comp_reader.specs.declared.component.Item.{Item}
-use Rattle.comp_reader.specs.declared.component.Item.TheVariants as item
+use Rattle.comp_reader.specs.declared.component.DefType.{out-DefType}
+use Rattle.comp_reader.specs.declared.component.DefType.TheOpen.{DefType-F}
+use Rattle.comp_reader.specs.declared.component.Item.{Item, out-Item}
+use Rattle.comp_reader.specs.declared.component.Item.TheOpen.{Item-F}
 use Rattle.comp_reader.specs.declared.component.Component.{Component}
 use Rattle.script_reader.specs.declared.script.Item as said
 use Rattle.script_reader.specs.declared.script.Item.TheVariants as says
@@ -26,7 +26,7 @@ use Rattle.comp_link.specs.Linking.{IsLinked}
 use Rattle.wcm.specs.Outcome.{IsRead, IsOfScript}
 use Rattle.std.specs.Prelude.{IfOk}
 use Rattle.comp_graph.specs.declared.graph.CoreFunc.{CoreFunc}
-use Rattle.comp_graph.specs.Graph.{Graph, names, core_type, is_flat, HasNoImports, IsCallable}
+use Rattle.comp_graph.specs.Graph.{Graph, names, core_type, is_flat, IsCallable}
 use Rattle.comp_link.specs.declared.closed.ClosedType.{ClosedType}
 use Rattle.comp_link.specs.declared.closed.ClosedType.TheVariants.{Value, Func}
 use Rattle.comp_link.specs.declared.closed.Lifted.{Lifted}
@@ -37,12 +37,13 @@ use Rattle.comp_link.specs.declared.link_fault.LinkWhy.{LinkWhy}
 use Rattle.comp_link.specs.declared.link_fault.LinkWhy.TheVariants as why
 use Rattle.ca_base.specs.Faults.{and_on, folded}
 use Rattle.ca_base.specs.Names.{first_twice, is_among}
-use Rattle.comp_link.specs.Linking.{Spaces, no_spaces, with_core_module, with_core_instance, with_func, with_export, first_import, link_made, link_core_instance, link_exported, link_alias, with_closed, link_type, lift_to, link_lift, link_export, link_item, link_items, link_placed, linked_at, linked_or, linked, exported, all_within, labels, close_func}
+use Rattle.comp_link.specs.Linking.{Spaces, no_spaces, with_core_instance, with_func, with_export, first_import, link_made, link_instantiation, link_core_instance, link_exported, link_core_alias, with_closed, link_type_case, lift_to, link_lift, link_export, link_case, link_item, link_items, link_placed, linked_at, linked_or, linked, exported, all_within, labels, close_func}
 use Rattle.abi_machine.specs.Laws.{Sound, SoundItem}
 use Rattle.wcm.specs.Laws.{ScriptsAreSound}
 use Rattle.comp_link.proofs.Callable.{linked_callable, linked_imports}
 use Rattle.wcm.proofs.Fitting.{call_sound}
-use Rattle.wcm.proofs.Modules.{IsFit, ItemTyped, PlacedTyped, component_typed}
+use Rattle.comp_link.proofs.Ways.{alias_holds, export_holds}
+use Rattle.wcm.proofs.Modules.{IsFit, CaseTyped, ItemTyped, PlacedTyped, component_typed}
 
 -- one more at the end
 all_push : {A : Type 0} (P : A → Type 0) (xs : List A) (x : A) → AllByRecursion P xs → P x → AllByRecursion P (xs ++ x ∷ [])
@@ -73,15 +74,20 @@ made_keeps s m (Some name) t k = tt
 made_keeps s m None t k =
     either_keeps _ (Ok (with_core_instance s m)) (Err _) (record { modules = k.modules; instances = all_push IsFit s.core_instances m k.instances t }) tt
 
-instance_keeps : (s : Spaces) (index : ℕ) (o : Option ModuleTree) → slice_get s.core_modules index ≡ o → Kept s → Keeps (link_core_instance s o)
-instance_keeps s index None e k = tt
-instance_keeps s index (Some m) e k = made_keeps s m (first_import m) (all_at IsFit s.core_modules index m k.modules e) k
+instantiation_keeps : (s : Spaces) (index : ℕ) (o : Option ModuleTree) → slice_get s.core_modules index ≡ o → Kept s → Keeps (link_instantiation s o)
+instantiation_keeps s index None e k = tt
+instantiation_keeps s index (Some m) e k = made_keeps s m (first_import m) (all_at IsFit s.core_modules index m k.modules e) k
+
+instance_keeps : (s : Spaces) (i : CoreInstance) → Kept s → Keeps (link_core_instance s i)
+instance_keeps s (made.Instantiate index arguments) k =
+    either_keeps (length arguments == 0) _ _ (instantiation_keeps s index (slice_get s.core_modules index) refl k) tt
+instance_keeps s (made.Inline exports) k = tt
 
 exported_keeps : (s : Spaces) (index : ℕ) (name : List ℕ) (o : Option ℕ) → Kept s → Keeps (link_exported s index name o)
 exported_keeps s index name None k = tt
 exported_keeps s index name (Some func) k = record { modules = k.modules; instances = k.instances }
 
-alias_keeps : (s : Spaces) (index : ℕ) (name : List ℕ) (o : Option ModuleTree) → Kept s → Keeps (link_alias s index name o)
+alias_keeps : (s : Spaces) (index : ℕ) (name : List ℕ) (o : Option ModuleTree) → Kept s → Keeps (link_core_alias s index name o)
 alias_keeps s index name None k = tt
 alias_keeps s index name (Some m) k = exported_keeps s index name (exported m name) k
 
@@ -89,10 +95,11 @@ closed_keeps : (s : Spaces) (o : Option FuncType) → Kept s → Keeps (with_clo
 closed_keeps s None k = tt
 closed_keeps s (Some type) k = record { modules = k.modules; instances = k.instances }
 
-type_keeps : (s : Spaces) (t : DefType) → Kept s → Keeps (link_type s t)
-type_keeps s (def_type.Value type) k = record { modules = k.modules; instances = k.instances }
-type_keeps s (def_type.Func type) k =
+type_keeps : {A B : Type 0} (s : Spaces) (t : DefType-F A B) → Kept s → Keeps (link_type_case s t)
+type_keeps s (DefType-F.Value type) k = record { modules = k.modules; instances = k.instances }
+type_keeps s (DefType-F.Func type) k =
     either_keeps (all_within (length s.types) type) _ _ (either_keeps (is_none (first_twice (labels type.params))) _ _ (closed_keeps s (close_func s.types type) k) tt) tt
+type_keeps s (DefType-F.Instance decls) k = tt
 
 to_keeps : (s : Spaces) (f : CoreFunc) (t : ClosedType) → Kept s → Keeps (lift_to s f t)
 to_keeps s f (Value type) k = tt
@@ -107,14 +114,22 @@ export_keeps : (s : Spaces) (name : List ℕ) (o : Option Lifted) → Kept s →
 export_keeps s name None k = tt
 export_keeps s name (Some f) k = either_keeps (is_among name (names s.exports)) (Err why.Typing) (Ok (with_export s name f)) tt (record { modules = k.modules; instances = k.instances })
 
-item_keeps : (s : Spaces) (i : Item) → ItemTyped i → Kept s → Keeps (link_item s i)
-item_keeps s (item.CoreModule m) t k =
+case_keeps : {A B : Type 0} (s : Spaces) (i : Item-F A B) → CaseTyped i → Kept s → Keeps (link_case s i)
+case_keeps s (Item-F.CoreModule m) t k =
     record { modules = all_push IsFit s.core_modules m k.modules t; instances = k.instances }
-item_keeps s (item.CoreInstance (Instantiate index)) t k = instance_keeps s index (slice_get s.core_modules index) refl k
-item_keeps s (item.Alias (alias.CoreFunc index name)) t k = alias_keeps s index name (slice_get s.core_instances index) k
-item_keeps s (item.Type type) t k = type_keeps s type k
-item_keeps s (item.Canon (Lift f type)) t k = lift_keeps s (slice_get s.core_funcs f) (slice_get s.types type) k
-item_keeps s (item.Export export) t k = export_keeps s export.name (slice_get s.funcs export.func) k
+case_keeps s (Item-F.CoreInstance instance) t k = instance_keeps s instance k
+case_keeps s (Item-F.Component component) t k = k
+case_keeps s (Item-F.Instance instance) t k = tt
+case_keeps s (Item-F.Alias alias) t k =
+    alias_holds Keeps s alias.sort alias.target (λ index name. alias_keeps s index name (slice_get s.core_instances index) k) tt
+case_keeps s (Item-F.Type type) t k = type_keeps s (out-DefType type) k
+case_keeps s (Item-F.Canon (Lift f type)) t k = lift_keeps s (slice_get s.core_funcs f) (slice_get s.types type) k
+case_keeps s (Item-F.Import import) t k = tt
+case_keeps s (Item-F.Export export) t k =
+    export_holds Keeps s export.name export.sort export.index export.desc (export_keeps s export.name (slice_get s.funcs export.index) k) tt
+
+item_keeps : (s : Spaces) (i : Item) → ItemTyped i → Kept s → Keeps (link_item s i)
+item_keeps s i t k = case_keeps s (out-Item i) t k
 
 abbrev AllKeep : Result Spaces LinkFault → Type 0
 AllKeep (Ok t) = Kept t

@@ -1,17 +1,23 @@
 -- What an answer tells, whichever files are told: the component file that is told decides its part of it, and the script file
 -- that is told the part behind a graph.
-use Rattle.std.specs.Prelude.{ℕ, List, Option}
+use Rattle.std.specs.Prelude.{◌≡◌, ℕ, List, Option}
 use Rattle.std.specs.Option.{IfSome}
 use Rattle.wcm.specs.declared.answer.Answer.{Answer}
 use Rattle.comp_graph.specs.Graph.{Graph}
-use Rattle.wcm.specs.Outcome.{ScriptAnswers, FileAnswers}
+use Rattle.wcm.specs.Outcome.{ScriptAnswers, FileAnswers, accepted_answer, shown_answer}
 use Rattle.wcm.specs.Status.{IsBehindGraph}
-use Rattle.wcm.specs.Words.{Command, Run}
+use Rattle.wcm.specs.Words.{Command, Run, Check, Show, component_file}
 
--- an answer behind a graph, by what is held as the script file
-abbrev pub GraphGives : Graph → Option (List ℕ) → Answer → Type 0
-GraphGives g held_script a = IsBehindGraph a.status × IfSome held_script (λ text. ScriptAnswers g text a)
+-- an answer of a run for a graph, by what is held as the script file
+abbrev pub ScriptGives : Graph → Option (List ℕ) → Answer → Type 0
+ScriptGives g held_script a = IsBehindGraph a.status × IfSome held_script (λ text. ScriptAnswers g text a)
+
+-- an answer of a command for the graph of its component
+abbrev pub GraphGives : Command → (List ℕ → Option (List ℕ)) → Graph → Answer → Type 0
+GraphGives (Run file script) held g a = ScriptGives g (held script) a
+GraphGives (Check file) held g a = a ≡ accepted_answer
+GraphGives (Show file) held g a = a ≡ shown_answer g
 
 -- an answer for a command, by what is held
 abbrev pub CommandGives : Command → (List ℕ → Option (List ℕ)) → Answer → Type 0
-CommandGives (Run file script) held a = IfSome (held file) (λ bytes. FileAnswers bytes a (λ g. GraphGives g (held script) a))
+CommandGives command held a = IfSome (held (component_file command)) (λ bytes. FileAnswers bytes a (λ g. GraphGives command held g a))

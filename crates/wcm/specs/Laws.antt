@@ -1,5 +1,6 @@
 -- What holds of the definitions alone.
-use Rattle.std.specs.Prelude.{◌≡◌, ℕ, List, Option}
+use Rattle.std.specs.Prelude.{◌≡◌, ◌↔◌, ℕ, true, false, List, Option, Some, None}
+use Rattle.std.specs.Option.{MatchOption}
 use Rattle.comp_reader.specs.declared.component.Component.{Component}
 use Rattle.comp_reader.specs.Binary.{IsComponent}
 use Rattle.script_reader.specs.Script.{Script, IsScript}
@@ -8,6 +9,7 @@ use Rattle.comp_graph.specs.Graph.{Graph}
 use Rattle.comp_link.specs.Linking.{IsLinked}
 use Rattle.wcm.specs.Outcome.{IsTold, Outcome}
 use Rattle.abi_machine.specs.Laws.{Sound}
+use Rattle.wcm.specs.Words.{Command, command_of, is_taken, plain_command}
 
 -- A script that is read for a component that is read and linked is sound: so it has exactly one run (`specs/Laws` of abi_machine).
 abbrev pub ScriptsAreSound : Type 0
@@ -15,8 +17,22 @@ ScriptsAreSound =
     (bytes text : List ℕ) (c : Component) (g : Graph) (script : Script)
     → IsComponent bytes c → IsLinked c g → IsScript g.exports text script → Sound g script.items
 
--- Words whose files are told have exactly one outcome.
+-- two answers are the same, but for the text for the error output where the words are no command
+abbrev pub IsSameOutcome : List (List ℕ) → Answer → Answer → Type 0
+IsSameOutcome words a b = MatchOption (command_of words) ((b.status ≡ a.status) × (b.out ≡ a.out)) (λ command. b ≡ a)
+
+-- Words whose files are told have an outcome, and no other one.
 abbrev pub OneOutcome : Type 0
 OneOutcome =
     (words : List (List ℕ)) (held : List ℕ → Option (List ℕ)) → IsTold words held
-    → (a : Answer) × Outcome words held a × ((other : Answer) → Outcome words held other → other ≡ a)
+    → (a : Answer) × Outcome words held a × ((other : Answer) → Outcome words held other → IsSameOutcome words a other)
+
+-- Words that clap's command takes are those that lead to a command.
+abbrev pub TakenWordsAreRead : Type 0
+TakenWordsAreRead = (words : List (List ℕ)) → (command_of words ≡ None) ↔ (is_taken words ≡ false)
+
+-- Plain words are never refused, and lead to the command that they name.
+abbrev pub PlainWordsAreTaken : Type 0
+PlainWordsAreTaken =
+    (words : List (List ℕ)) (command : Command) → plain_command words ≡ Some command
+    → (command_of words ≡ Some command) × (is_taken words ≡ true)

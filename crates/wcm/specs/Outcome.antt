@@ -1,7 +1,8 @@
 -- The outcome of a call of the program, from its words and the files that are held. The words lead to a command, and each
--- command has its own steps: for `run` the component file, its linking, the script file and the run decide it, in this
--- order. The script is asked for behind a linked graph alone.
-use Rattle.std.specs.Prelude.{◌≡◌, ◌<◌, ◌≤◌, ◌⊎◌, ℕ, List, [], length, Option, Some, IsSome}
+-- command has its own case: for all of them the component file and its linking decide it first, in this order; behind a graph
+-- `check` and `show` tell of it, and for `run` the script file and the run decide. The script is asked for behind a linked
+-- graph alone.
+use Rattle.std.specs.Prelude.{◌≡◌, ◌<◌, ◌≤◌, ◌⊎◌, ℕ, Bool, true, false, List, [], length, Option, Some, IsSome}
 use Rattle.std.specs.Option.{MatchOption}
 use Rattle.ca_base.specs.declared.refusal.Refusal.{Refusal}
 use Rattle.ca_types.specs.declared.exports.Export.{Export}
@@ -17,15 +18,17 @@ use Rattle.trace_show.specs.declared.label.Label.{Label}
 use Rattle.trace_show.specs.LabelText.{trace_text}
 use Rattle.abi_machine.specs.declared.run_end.RunEnd.{RunEnd}
 use Rattle.abi_machine.specs.declared.run_end.RunEnd.TheVariants.{Trapped}
+use Rattle.abi_machine.specs.declared.run_end.RunEnd.TheVariants as ends
 use Rattle.abi_machine.specs.World.{first_world}
 use Rattle.abi_machine.specs.Run.{Runs, lines_of}
 use Rattle.trace_show.specs.declared.trap.TrapName.{TrapName}
 use Rattle.wcm.specs.declared.answer.Answer.{Answer}
-use Rattle.wcm.specs.declared.status.Status.TheVariants.{Usage, Refused, ScriptRefused, LinkRefused}
+use Rattle.wcm.specs.declared.status.Status.TheVariants.{Done, Usage, Refused, ScriptRefused, LinkRefused}
 use Rattle.comp_link.specs.Linking.{IsLinked, IsLinkRefused}
 use Rattle.wcm.specs.Refusals.{refused_line, link_refused_line, script_refused_line}
+use Rattle.wcm.specs.Shown.{accepted_text, graph_text}
 use Rattle.wcm.specs.Status.{status_of}
-use Rattle.wcm.specs.Words.{Command, Run, command_of}
+use Rattle.wcm.specs.Words.{Command, Run, Check, Show, command_of, component_file}
 
 -- what is read of some bytes, and of some text for a component with these exports
 abbrev pub IsRead : Component → Type 0
@@ -52,10 +55,12 @@ IsRefusedFile bytes refusal =
     ((component_limit < length bytes) × (refusal ≡ too_long))
     ⊎ ((length bytes ≤ component_limit) × IsRefused bytes refusal)
 
--- the answers without a run
-abbrev pub usage_answer : Answer
-usage_answer = record { status = Usage; out = []; err = [] }
+-- an answer where the words are no command: nothing for the output; of the text for the error output nothing is said
+pub record IsUsage (a : Answer) : Type 0 where
+  pub status : a.status ≡ Usage
+  pub out : a.out ≡ []
 
+-- the answers without a run
 abbrev pub refused_answer : Refusal ComponentWhy → Answer
 refused_answer refusal = record { status = Refused; out = []; err = refused_line refusal }
 
@@ -64,6 +69,12 @@ link_refused_answer fault = record { status = LinkRefused; out = []; err = link_
 
 abbrev pub script_refused_answer : ScriptFault → Answer
 script_refused_answer fault = record { status = ScriptRefused; out = []; err = script_refused_line fault }
+
+abbrev pub accepted_answer : Answer
+accepted_answer = record { status = Done; out = accepted_text; err = [] }
+
+abbrev pub shown_answer : Graph → Answer
+shown_answer g = record { status = Done; out = graph_text g; err = [] }
 
 -- the answer of a run
 abbrev pub run_answer : List Label → RunEnd → Answer
@@ -95,17 +106,23 @@ FileAnswers bytes a behind =
 abbrev pub HeldScriptAnswers : Graph → Option (List ℕ) → Answer → Type 0
 HeldScriptAnswers g held_script a = MatchOption held_script ⊥ (λ text. ScriptAnswers g text a)
 
--- the answer for what is held as the component file and as the script file
-abbrev pub HeldAnswers : Option (List ℕ) → Option (List ℕ) → Answer → Type 0
-HeldAnswers held_file held_script a = MatchOption held_file ⊥ (λ bytes. FileAnswers bytes a (λ g. HeldScriptAnswers g held_script a))
+-- the answer of a command for the graph of its component, where these files are held
+abbrev pub GraphAnswers : Command → (List ℕ → Option (List ℕ)) → Graph → Answer → Type 0
+GraphAnswers (Run file script) held g a = HeldScriptAnswers g (held script) a
+GraphAnswers (Check file) held g a = a ≡ accepted_answer
+GraphAnswers (Show file) held g a = a ≡ shown_answer g
+
+-- the answer for what is held as the component file
+abbrev pub HeldAnswers : Option (List ℕ) → Answer → (Graph → Type 0) → Type 0
+HeldAnswers held_file a behind = MatchOption held_file ⊥ (λ bytes. FileAnswers bytes a behind)
 
 -- the answer for a command, where these files are held
 abbrev pub CommandAnswers : Command → (List ℕ → Option (List ℕ)) → Answer → Type 0
-CommandAnswers (Run file script) held a = HeldAnswers (held file) (held script) a
+CommandAnswers command held a = HeldAnswers (held (component_file command)) a (λ g. GraphAnswers command held g a)
 
 -- the outcome of words, where these files are held
 abbrev pub Outcome : List (List ℕ) → (List ℕ → Option (List ℕ)) → Answer → Type 0
-Outcome words held a = MatchOption (command_of words) (a ≡ usage_answer) (λ command. CommandAnswers command held a)
+Outcome words held a = MatchOption (command_of words) (IsUsage a) (λ command. CommandAnswers command held a)
 
 -- the bytes of a component file decide the answer: they are refused, or their component is not linked
 abbrev pub DecidesAlone : List ℕ → Type 0
@@ -113,17 +130,19 @@ DecidesAlone bytes =
     ((refusal : Refusal ComponentWhy) × IsRefusedFile bytes refusal)
     ⊎ ((c : Component) × (fault : LinkFault) × IsComponentFile bytes c × IsLinkRefused c fault)
 
+-- what a command asks for behind a graph is told: `run` asks for the script file, `check` and `show` for nothing
+abbrev pub IsScriptTold : Command → (List ℕ → Option (List ℕ)) → Type 0
+IsScriptTold (Run file script) held = IsSome (held script)
+IsScriptTold (Check file) held = Unit {0}
+IsScriptTold (Show file) held = Unit {0}
+
 -- the files that a command asks for are told: the component file, and the script file unless that one decides the answer
 abbrev pub IsCommandTold : Command → (List ℕ → Option (List ℕ)) → Type 0
-IsCommandTold (Run file script) held = MatchOption (held file) ⊥ (λ bytes. DecidesAlone bytes ⊎ IsSome (held script))
+IsCommandTold command held = MatchOption (held (component_file command)) ⊥ (λ bytes. DecidesAlone bytes ⊎ IsScriptTold command held)
 
 -- the files that the words ask for are told
 abbrev pub IsTold : List (List ℕ) → (List ℕ → Option (List ℕ)) → Type 0
 IsTold words held = MatchOption (command_of words) (Unit {0}) (λ command. IsCommandTold command held)
-
--- the component file that a command names
-abbrev pub component_file : Command → List ℕ
-component_file (Run file script) = file
 
 -- the component file that the words name is told
 abbrev pub IsComponentTold : List (List ℕ) → (List ℕ → Option (List ℕ)) → Type 0
@@ -131,36 +150,50 @@ IsComponentTold words held = MatchOption (command_of words) (Unit {0}) (λ comma
 
 -- the words name a component file that is refused
 pub record NamesRefused (words : List (List ℕ)) (held : List ℕ → Option (List ℕ)) : Type 0 where
-  pub file : List ℕ
-  pub script : List ℕ
+  pub command : Command
   pub bytes : List ℕ
   pub refusal : Refusal ComponentWhy
-  pub words_name : command_of words ≡ Some (Run file script)
-  pub holds : held file ≡ Some bytes
+  pub words_name : command_of words ≡ Some command
+  pub holds : held (component_file command) ≡ Some bytes
   pub refused : IsRefusedFile bytes refusal
 
 -- the words name a component file whose component is not linked
 pub record NamesLinkRefused (words : List (List ℕ)) (held : List ℕ → Option (List ℕ)) : Type 0 where
-  pub file : List ℕ
-  pub script : List ℕ
+  pub command : Command
   pub bytes : List ℕ
   pub component : Component
   pub fault : LinkFault
-  pub words_name : command_of words ≡ Some (Run file script)
-  pub holds : held file ≡ Some bytes
+  pub words_name : command_of words ≡ Some command
+  pub holds : held (component_file command) ≡ Some bytes
   pub read : IsComponentFile bytes component
   pub refused : IsLinkRefused component fault
+
+-- the words name a component file that is linked to this graph, and this command for it
+pub record NamesLinked (words : List (List ℕ)) (held : List ℕ → Option (List ℕ)) (command : Command) (g : Graph) : Type 0 where
+  pub bytes : List ℕ
+  pub component : Component
+  pub words_name : command_of words ≡ Some command
+  pub holds : held (component_file command) ≡ Some bytes
+  pub read : IsComponentFile bytes component
+  pub linked : IsLinked component g
+
+-- the words name a component that is linked, which they ask to check or to show
+abbrev pub asks_of_graph : Command → Bool
+asks_of_graph (Run file script) = false
+asks_of_graph (Check file) = true
+asks_of_graph (Show file) = true
+
+pub record NamesAccepted (words : List (List ℕ)) (held : List ℕ → Option (List ℕ)) : Type 0 where
+  pub command : Command
+  pub graph : Graph
+  pub named : NamesLinked words held command graph
+  pub asks : asks_of_graph command ≡ true
 
 -- the words name a component file that is linked to this graph, and a script file with these bytes
 pub record NamesGraph (words : List (List ℕ)) (held : List ℕ → Option (List ℕ)) (g : Graph) (text : List ℕ) : Type 0 where
   pub file : List ℕ
   pub script : List ℕ
-  pub bytes : List ℕ
-  pub component : Component
-  pub words_name : command_of words ≡ Some (Run file script)
-  pub holds : held file ≡ Some bytes
-  pub read : IsComponentFile bytes component
-  pub linked : IsLinked component g
+  pub named : NamesLinked words held (Run file script) g
   pub holds_script : held script ≡ Some text
 
 -- the words name a component that is linked, and a file that is refused as a script for it
@@ -184,3 +217,8 @@ pub record NamesRun (words : List (List ℕ)) (held : List ℕ → Option (List 
 -- the words name a component that is linked, and a script for it whose run ends in a trap
 abbrev pub NamesTrap : List (List ℕ) → (List ℕ → Option (List ℕ)) → Type 0
 NamesTrap words held = (task : ℕ) × (why : TrapName) × NamesRun words held (Trapped task why)
+
+-- The words name a component that is linked, and they ask to check or to show it, or the run of the script that they name is
+-- done.
+abbrev pub NamesDone : List (List ℕ) → (List ℕ → Option (List ℕ)) → Type 0
+NamesDone words held = NamesAccepted words held ⊎ NamesRun words held ends.Done

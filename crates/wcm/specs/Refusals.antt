@@ -65,6 +65,7 @@ component_why_text (Invalid why) = with_argument (codes "Invalid") (valid_why_te
 
 -- why a component is not linked
 abbrev pub link_why_text : LinkWhy → List ℕ
+link_why_text link.RootImport = codes "RootImport"
 link_why_text link.Index = codes "Index"
 link_why_text (link.Missing name) = with_argument (codes "Missing") (name_text name)
 link_why_text link.Typing = codes "Typing"

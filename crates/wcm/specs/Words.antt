@@ -1,6 +1,12 @@
--- The words of the command line, and the commands that they lead to: `run FILE SCRIPT` behind the program's name.
-use Rattle.std.specs.Prelude.{ℕ, Bool, false, not, ◌&&◌, ◌==◌, List, [], ◌∷◌, Option, Some, None, if◌then◌else◌, codes}
+-- The words of the command line: `run FILE SCRIPT`, `check FILE` or `show FILE` behind the program's name. Which words are
+-- read, and as what, is said by what `clap` defines of its commands (`specs/Takes` and `specs/Simple` of clap), for the
+-- command below.
+use Rattle.std.specs.Prelude.{◌≡◌, ℕ, Bool, true, false, not, ◌&&◌, ◌==◌, List, [], ◌∷◌, Option, Some, None, if◌then◌else◌, codes, unwrap_or, option_and_then}
 use Rattle.std.specs.Str.{bytes_eq}
+use Rattle.clap.specs.Words.{App, Row, Rule, app_of, first_of, new_app, new_rule, subcommand_of, takes, with_rule, with_subcommand}
+use Rattle.clap.specs.Simple.{on_top}
+use Rattle.clap.specs.declared.builder.command.Command as clap
+use Rattle.clap.specs.declared.builder.command.Command.TheViews.{out-Command}
 use Rattle.wcm.specs.declared.words.Command as of_source
 use Rattle.wcm.specs.declared.words.Command.TheVariants as source
 
@@ -8,18 +14,80 @@ use Rattle.wcm.specs.declared.words.Command.TheVariants as source
 pub data Command : Type 0 where
   -- run the component of the first file under the script of the second
   Run : List ℕ → List ℕ → Command
+  -- read and link the component of a file
+  Check : List ℕ → Command
+  -- read and link the component of a file, and tell what can be called
+  Show : List ℕ → Command
 
 -- the command of the program's own type, with the names that it borrows
 abbrev pub said : of_source.Command → Command
 said (source.Run file script) = Run file.now script.now
+said (source.Check file) = Check file.now
+said (source.Show file) = Show file.now
 
--- a file's name is not empty, and does not begin with a minus
-abbrev pub is_file_name : List ℕ → Bool
-is_file_name [] = false
-is_file_name (first ∷ more) = not (first == 45)
+-- the component file that a command names
+abbrev pub component_file : Command → List ℕ
+component_file (Run file script) = file
+component_file (Check file) = file
+component_file (Show file) = file
 
--- the command that the words lead to, if they are plain
-abbrev pub command_of : List (List ℕ) → Option Command
-command_of (program ∷ command ∷ file ∷ script ∷ []) =
-    if bytes_eq command (codes "run") && is_file_name file && is_file_name script then Some (Run file script) else None
-command_of words = None
+-- a file's name, which is required
+abbrev pub file_rule : List ℕ → Rule
+file_rule id = record (new_rule id) { required = true }
+
+-- a subcommand of this name over a component file
+abbrev pub file_app : List ℕ → App
+file_app name = with_rule (new_app name) (file_rule (codes "FILE"))
+
+-- the subcommands
+abbrev pub run_app : App
+run_app = with_rule (file_app (codes "run")) (file_rule (codes "SCRIPT"))
+
+-- the program alone: it wants a subcommand, and `help` is none
+abbrev pub bare_app : App
+bare_app = on_top (λ s. record s { subcommand_required = true; disable_help_subcommand = true }) (new_app (codes "wcm"))
+
+-- the program with its subcommands
+abbrev pub program_app : App
+program_app = with_subcommand (with_subcommand (with_subcommand bare_app run_app.top) (file_app (codes "check")).top) (file_app (codes "show")).top
+
+-- a command of clap's that is read so, and whose arguments are its own
+abbrev pub IsOf : App → clap.Command → Type 0
+IsOf a c = (app_of c ≡ a) × ((out-Command c).has_globals ≡ false)
+
+-- the name of a file in an entry, and the empty one where there is none
+abbrev pub name_in : List ℕ → List Row → List ℕ
+name_in id rows = unwrap_or (first_of id rows) []
+
+-- the command of a subcommand's name and its entries
+abbrev pub command_by : List ℕ → List Row → Option Command
+command_by name rows =
+    if bytes_eq name (codes "run") then Some (Run (name_in (codes "FILE") rows) (name_in (codes "SCRIPT") rows))
+    else (if bytes_eq name (codes "check") then Some (Check (name_in (codes "FILE") rows))
+    else (if bytes_eq name (codes "show") then Some (Show (name_in (codes "FILE") rows)) else None))
+
+abbrev pub command_of_rows : Option (List ℕ × List Row) → Option Command
+command_of_rows = option_and_then (λ p. command_by p.0 p.1)
+
+-- clap's command takes the words: reading them fails for want of memory alone
+unfoldable pub is_taken : List (List ℕ) → Bool
+is_taken words = takes program_app words
+
+-- the command that the words lead to, if clap's command takes them
+unfoldable pub command_of : List (List ℕ) → Option Command
+command_of words = if is_taken words then command_of_rows (subcommand_of program_app words) else None
+
+-- a file's name that is plain: it is not empty, and does not begin with a minus
+abbrev pub is_plain_name : List ℕ → Bool
+is_plain_name [] = false
+is_plain_name (first ∷ more) = not (first == 45)
+
+-- the command that plain words name
+abbrev pub plain_command : List (List ℕ) → Option Command
+plain_command (name ∷ command ∷ file ∷ []) =
+    if is_plain_name file then
+    (if bytes_eq command (codes "check") then Some (Check file) else (if bytes_eq command (codes "show") then Some (Show file) else None))
+    else None
+plain_command (name ∷ command ∷ file ∷ script ∷ []) =
+    if bytes_eq command (codes "run") && is_plain_name file && is_plain_name script then Some (Run file script) else None
+plain_command words = None

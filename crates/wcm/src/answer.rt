@@ -6,8 +6,8 @@ ghost use Rattle.script_reader.specs.Script.{IsScript, IsScriptRefused, CallsExp
 ghost use Rattle.comp_link.specs.Linking.{IsLinked};
 ghost use Rattle.comp_graph.specs.Graph.{IsCallable};
 ghost use Rattle.abi_machine.specs.Laws.{Sound};
-ghost use Rattle.wcm.specs.Gives.{CommandGives, GraphGives};
-ghost use Rattle.wcm.specs.Outcome.{IsRead, IsOfScript, FileAnswers, LinkAnswers, RunAnswers, IsComponentFile, IsRefusedFile};
+ghost use Rattle.wcm.specs.Gives.{CommandGives, GraphGives, ScriptGives};
+ghost use Rattle.wcm.specs.Outcome.{IsRead, IsOfScript, LinkAnswers, RunAnswers, IsComponentFile, IsRefusedFile, accepted_answer, shown_answer};
 ghost use Rattle.wcm.specs.Stops.{StopsFor};
 ghost use Rattle.wcm.specs.Status.{IsAnswered, IsBehindGraph};
 ghost use Rattle.wcm.specs.Words.{said};
@@ -15,6 +15,7 @@ ghost use Rattle.wcm.specs.Words.{said};
 use crate::laws::scripts_are_sound;
 use crate::refusals::{link_refused_line, refused_line, script_refused_line};
 use crate::running::run_script;
+use crate::shown::graph_text;
 use crate::status::{Status, status_of_end};
 use crate::trace_text::trace_text;
 use crate::words::Command;
@@ -75,6 +76,9 @@ const TOO_LONG: Refusal<ComponentWhy> = Refusal {
     place: 16 * 1024 * 1024,
     why: ComponentWhy::Limit,
 };
+
+/// The text for a component that is linked.
+const ACCEPTED: &[u8] = b"accepted\n";
 
 /// How many bytes a script file may have.
 const SCRIPT_LIMIT: u64 = 1024 * 1024;
@@ -163,6 +167,30 @@ fn run_answer(alloc: Global, graph: &Graph, script: &Script) -> Result<Answer, M
     })
 }
 
+/// The answer that a component is linked.
+fn accepted_answer(alloc: Global) -> Result<Answer, Memory>
+    ensures { IfOk result (λ a. a ≡ accepted_answer) }
+{
+    let mut out = Vec::new(alloc);
+    out.extend_from_slice(ACCEPTED)?;
+    Ok(Answer {
+        status: Status::Done,
+        out: Seq::from_vec(out),
+        err: Seq::new(alloc),
+    })
+}
+
+/// The answer that tells of a graph.
+fn shown_answer(alloc: Global, graph: &Graph) -> Result<Answer, Memory>
+    ensures { IfOk result (λ a. a ≡ shown_answer graph.now) }
+{
+    Ok(Answer {
+        status: Status::Done,
+        out: graph_text(alloc, graph)?,
+        err: Seq::new(alloc),
+    })
+}
+
 /// The answer for a graph and the script file of this name.
 fn script_answer<F: Files>(
     alloc: Global,
@@ -172,7 +200,7 @@ fn script_answer<F: Files>(
 ) -> Result<Answer, Stop>
     requires linked { (c : Component) × IsRead c × IsLinked c graph.now }
     requires callable { IsCallable graph.now }
-    ensures file { IfOk result (λ a. GraphGives graph.now (F.held files.old script.now) a) }
+    ensures file { IfOk result (λ a. ScriptGives graph.now (F.held files.old script.now) a) }
     ensures same { (other : List ℕ) → F.held files.new other ≡ F.held files.old other }
     ensures cause { StopsFor (F.faults files.old) (F.faults files.new) result }
 {
@@ -186,21 +214,42 @@ fn script_answer<F: Files>(
     }
 }
 
-/// The answer for a component and the script file of this name.
+/// The answer of a command for the graph of its component.
+fn graph_answer<F: Files>(
+    alloc: Global,
+    command: Command,
+    graph: &Graph,
+    files: &mut F,
+) -> Result<Answer, Stop>
+    requires linked { (c : Component) × IsRead c × IsLinked c graph.now }
+    requires callable { IsCallable graph.now }
+    ensures file { IfOk result (λ a. GraphGives (said command.entry) (F.held files.old) graph.now a) }
+    ensures status { IfOk result (λ a. IsBehindGraph a.status) }
+    ensures same { (other : List ℕ) → F.held files.new other ≡ F.held files.old other }
+    ensures cause { StopsFor (F.faults files.old) (F.faults files.new) result }
+{
+    match command {
+        Command::Run { script, .. } => script_answer(alloc, graph, script, files),
+        Command::Check { .. } => Ok(accepted_answer(alloc)?),
+        Command::Show { .. } => Ok(shown_answer(alloc, graph)?),
+    }
+}
+
+/// The answer of a command for its component.
 fn link_answer<F: Files>(
     alloc: Global,
+    command: Command,
     component: &Component,
-    script: &str,
     files: &mut F,
 ) -> Result<Answer, Stop>
     requires read { IsRead component.now }
-    ensures file { IfOk result (λ a. LinkAnswers component.now a (λ g. GraphGives g (F.held files.old script.now) a)) }
+    ensures file { IfOk result (λ a. LinkAnswers component.now a (λ g. GraphGives (said command.entry) (F.held files.old) g a)) }
     ensures status { IfOk result (λ a. IsAnswered a.status) }
     ensures same { (other : List ℕ) → F.held files.new other ≡ F.held files.old other }
     ensures cause { StopsFor (F.faults files.old) (F.faults files.new) result }
 {
     match link(alloc, component) {
-        Ok(graph) => script_answer(alloc, &graph, script, files),
+        Ok(graph) => graph_answer(alloc, command, &graph, files),
         Err(MemoryOr::Memory) => Err(Stop::Memory),
         Err(MemoryOr::Fault(fault)) => {
             let line = link_refused_line(alloc, &fault)?;
@@ -209,35 +258,19 @@ fn link_answer<F: Files>(
     }
 }
 
-/// The answer of `run`: the component file is read first, and the script file where that is a component that is linked.
-fn file_answer<F: Files>(
-    alloc: Global,
-    file: &str,
-    script: &str,
-    files: &mut F,
-) -> Result<Answer, Stop>
-    ensures file { IfSome (F.held files.old file.now) (λ bytes. IfOk result (λ a. FileAnswers bytes a (λ g. GraphGives g (F.held files.old script.now) a))) }
-    ensures status { IfOk result (λ a. IsAnswered a.status) }
-    ensures same { (other : List ℕ) → F.held files.new other ≡ F.held files.old other }
-    ensures cause { StopsFor (F.faults files.old) (F.faults files.new) result }
-{
-    match component_of(alloc, file, files)? {
-        Ok(component) => link_answer(alloc, &component, script, files),
-        Err(refused) => {
-            let line = refused_line(alloc, refused)?;
-            Ok(refusal(alloc, Status::Refused, line))
-        }
-    }
-}
-
-/// The answer for a command.
+/// The answer of a command: the component file is read first, and what the command asks for behind it where that is a
+/// component that is linked.
 pub fn answer_of<F: Files>(alloc: Global, command: Command, files: &mut F) -> Result<Answer, Stop>
     ensures files { IfOk result (λ a. CommandGives (said command.entry) (F.held files.old) a) }
     ensures status { IfOk result (λ a. IsAnswered a.status) }
     ensures same { (other : List ℕ) → F.held files.new other ≡ F.held files.old other }
     ensures cause { StopsFor (F.faults files.old) (F.faults files.new) result }
 {
-    match command {
-        Command::Run { file, script } => file_answer(alloc, file, script, files),
+    match component_of(alloc, command.file(), files)? {
+        Ok(component) => link_answer(alloc, command, &component, files),
+        Err(refused) => {
+            let line = refused_line(alloc, refused)?;
+            Ok(refusal(alloc, Status::Refused, line))
+        }
     }
 }

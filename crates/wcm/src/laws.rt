@@ -1,6 +1,6 @@
 //! What holds of the definitions alone.
 
-ghost use Rattle.wcm.specs.Laws.{ScriptsAreSound, OneOutcome};
+ghost use Rattle.wcm.specs.Laws.{ScriptsAreSound, OneOutcome, PlainWordsAreTaken, TakenWordsAreRead};
 
 use abi_machine::{each_run_ends, one_run};
 use comp_reader::one_reading;
@@ -15,7 +15,8 @@ pub fn scripts_are_sound()
     sound_values_are_small();
 }
 
-/// Words whose files are told have exactly one outcome.
+/// Words whose files are told have an outcome, and no other one, but for the text for the error output where they are no
+/// command.
 pub fn one_outcome()
     ensures { OneOutcome }
 {
@@ -24,3 +25,15 @@ pub fn one_outcome()
     scripts_are_sound();
     each_run_ends();
 }
+
+/// Plain words are never refused, and lead to the command that they name.
+#[tactic(auto, using(crate::proofs::Plain::plain_words))]
+pub fn plain_words_are_taken()
+    ensures { PlainWordsAreTaken }
+{}
+
+/// Words that clap's command takes are those that lead to a command.
+#[tactic(auto, using(crate::proofs::Readings::taken_words))]
+pub fn taken_words_are_read()
+    ensures { TakenWordsAreRead }
+{}

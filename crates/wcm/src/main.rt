@@ -15,6 +15,7 @@ mod refusals_tests;
 #[cfg(test)]
 mod run_tests_cases;
 mod running;
+mod shown;
 mod status;
 #[cfg(test)]
 mod tests_cases;
@@ -25,6 +26,8 @@ mod top_tests;
 mod top_tests_cases;
 mod trace_text;
 mod words;
+#[cfg(test)]
+mod words_tests_cases;
 
 use adapters::{Stream, SystemFiles};
 use status::{Status, exit_code};

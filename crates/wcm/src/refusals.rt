@@ -122,6 +122,7 @@ fn push_link_why(alloc: Global, why: &LinkWhy, text: &mut Vec<u8>) -> Result<(),
     ensures { OnOk result (text.new.items ≡ text.old.items ++ link_why_text why.now) }
 {
     match why {
+        LinkWhy::RootImport => text.extend_from_slice(b"RootImport")?,
         LinkWhy::Index => text.extend_from_slice(b"Index")?,
         LinkWhy::Missing(name) => push_missing(alloc, name, text)?,
         LinkWhy::Typing => text.extend_from_slice(b"Typing")?,

@@ -39,6 +39,7 @@ invalid 49 Stack = refused at 49: Invalid(Stack)
 invalid 49 Typing = refused at 49: Invalid(Typing)
 invalid 49 Name = refused at 49: Invalid(Name)
 invalid 49 Limit = refused at 49: Invalid(Limit)
+link 94 RootImport = link refused at 94: RootImport
 link 94 Index = link refused at 94: Index
 link 94 Missing nope = link refused at 94: Missing(nope)
 link 94 Missing a b = link refused at 94: Missing(a\\u{20}b)
@@ -54,7 +55,7 @@ script 1048577 Value = script refused at line 1048577: Value
 ";
 
 /// How many cases there are.
-const COUNT: u32 = 38;
+const COUNT: u32 = 39;
 
 fn module_why(name: &str, argument: &str) -> Result<ModuleWhy, Fail> {
     Ok(match name {
@@ -101,6 +102,7 @@ fn component_why(name: &str, argument: &str) -> Result<ComponentWhy, Fail> {
 
 fn link_why(alloc: Global, name: &str, argument: &str) -> Result<LinkWhy, Fail> {
     Ok(match name {
+        "RootImport" => LinkWhy::RootImport,
         "Index" => LinkWhy::Index,
         "Missing" => LinkWhy::Missing(Name::new(alloc, argument)?),
         "Typing" => LinkWhy::Typing,

@@ -1,18 +1,19 @@
 //! The top call.
 
-ghost use Rattle.std.specs.Prelude.{◌≡◌, ◌≢◌, ◌<◌, ◌⊎◌, ◌↔◌, ◌∷◌, ◌++◌, ℕ, List, [], None, OnOk, OnErr, map, string_bytes, codes};
+ghost use Rattle.std.specs.Prelude.{false, Some, ◌≡◌, ◌≢◌, ◌<◌, ◌⊎◌, ◌↔◌, ◌∷◌, ◌++◌, ℕ, List, [], None, OnOk, OnErr, map, string_bytes, codes};
 ghost use Rattle.ca_io.specs.Causes.{Rose};
 ghost use Rattle.ca_io.specs.Bytes.{grown, TookFront};
 ghost use Rattle.wcm.specs.declared.answer.Answer.{Answer};
 ghost use Rattle.abi_machine.specs.declared.run_end.RunEnd.TheVariants as end;
-ghost use Rattle.wcm.specs.Outcome.{Outcome, IsTold, IsComponentTold, NamesRefused, NamesLinkRefused, NamesScriptRefused, NamesRun, NamesTrap};
+ghost use Rattle.wcm.specs.Outcome.{Outcome, IsTold, IsComponentTold, NamesRefused, NamesLinkRefused, NamesScriptRefused, NamesRun, NamesTrap, NamesDone};
 ghost use Rattle.wcm.specs.Status.{IsGiven, IsFinal};
-ghost use Rattle.wcm.specs.Words.{command_of};
+ghost use Rattle.wcm.specs.Words.{Command, command_of, is_taken, plain_command};
 ghost use Rattle.wcm.specs.Written.{WroteAll, WroteFront, WroteFrontOrLine};
 
 use crate::answer::{Answer, Stop, answer_of};
 use crate::status::Status;
 use crate::words::command_of;
+use ca_base::MemoryOr;
 use ca_io::{Failed, Files, Sink, write_all};
 use std::alloc::Global;
 
@@ -37,12 +38,14 @@ fn write_answer<K: Sink>(answer: &Answer, out: &mut K, err: &mut K) -> Result<()
 }
 
 /// Runs the command that the words say, over the files, the output and the error output that are handed in, and
-/// answers how it ends. `words[0]` is the program's name. The one command is `run FILE SCRIPT`: it reads and links the
-/// component file, reads the script file, makes the core instances and then the script's calls, and writes the trace to the
-/// output.
+/// answers how it ends. `words[0]` is the program's name. Every command reads and links the component file FILE. Then
+/// `check FILE` tells that it is linked, `show FILE` what can be called of it, and `run FILE SCRIPT` reads the script file,
+/// makes the core instances and then the script's calls, and writes the trace to the output. For words that are none of
+/// these a text for the user goes to the error output.
 ///
-/// The files are told where the component file is, and either that one decides the answer or the script file is told too.
-#[tactic(auto, using(crate::proofs::Taken::grown_nil, crate::proofs::Taken::took))]
+/// The files are told where the component file is, and either that one decides the answer, or the command is not `run`, or
+/// the script file is told too.
+#[tactic(auto, using(crate::proofs::Taken::grown_nil, crate::proofs::Taken::took, crate::proofs::Plain::plain_is))]
 pub fn run_words<F: Files, K: Sink>(
     alloc: Global,
     words: &[String],
@@ -65,9 +68,14 @@ pub fn run_words<F: Files, K: Sink>(
         → (a : Answer) × Outcome (map string_bytes words.now) (F.held files.old) a × (result ≡ a.status)
         × WroteAll a (K.taken out.old) (K.taken out.new) (K.taken err.old) (K.taken err.new) }
 
-    // Usage, exactly where the words are no command. Files and outputs are left alone with it.
-    ensures usage { (result ≡ Status.Usage) ↔ (command_of (map string_bytes words.now) ≡ None) }
-    ensures usage_is_silent { result ≡ Status.Usage → (files.new ≡ files.old) × (out.new ≡ out.old) × (err.new ≡ err.old) }
+    // Usage only where clap's command does not take the words; wherever it does not, unless a write fault or want of memory
+    // took its place. The files and the output are left alone then. Plain words lead to the command that they name.
+    ensures usage { result ≡ Status.Usage → is_taken (map string_bytes words.now) ≡ false }
+    ensures usage_is_told { is_taken (map string_bytes words.now) ≡ false
+        → (result ≡ Status.Usage) ⊎ (result ≡ Status.WriteFault) ⊎ (result ≡ Status.Memory) }
+    ensures usage_is_silent { is_taken (map string_bytes words.now) ≡ false → (files.new ≡ files.old) × (out.new ≡ out.old) }
+    ensures plain { (command : Command) → plain_command (map string_bytes words.now) ≡ Some command
+        → (command_of (map string_bytes words.now) ≡ Some command) × (result ≢ Status.Usage) }
 
     // Where no fault and no want of memory ended the call: what each answer tells of the files. The component file alone is to
     // be told for the refusals of the component.
@@ -78,7 +86,7 @@ pub fn run_words<F: Files, K: Sink>(
     ensures script_refused { IsTold (map string_bytes words.now) (F.held files.old) → IsFinal result
         → ((result ≡ Status.ScriptRefused) ↔ NamesScriptRefused (map string_bytes words.now) (F.held files.old)) }
     ensures done { IsTold (map string_bytes words.now) (F.held files.old) → IsFinal result
-        → ((result ≡ Status.Done) ↔ NamesRun (map string_bytes words.now) (F.held files.old) end.Done) }
+        → ((result ≡ Status.Done) ↔ NamesDone (map string_bytes words.now) (F.held files.old)) }
     ensures trap { IsTold (map string_bytes words.now) (F.held files.old) → IsFinal result
         → ((result ≡ Status.Trap) ↔ NamesTrap (map string_bytes words.now) (F.held files.old)) }
     ensures fuel { IsTold (map string_bytes words.now) (F.held files.old) → IsFinal result
@@ -119,19 +127,26 @@ pub fn run_words<F: Files, K: Sink>(
     // What the files hold stays.
     ensures held { (name : List ℕ) → F.held files.new name ≡ F.held files.old name }
 {
-    let Some(command) = command_of(words) else {
-        return Status::Usage;
-    };
-    match answer_of(alloc, command, files) {
-        Ok(answer) => match write_answer(&answer, out, err) {
-            Ok(()) => answer.status,
+    match command_of(alloc, words) {
+        Ok(command) => match answer_of(alloc, command, files) {
+            Ok(answer) => match write_answer(&answer, out, err) {
+                Ok(()) => answer.status,
+                Err(Failed) => Status::WriteFault,
+            },
+            Err(Stop::Fault) => match write_all(err, READ_FAULT) {
+                Ok(()) => Status::ReadFault,
+                Err(Failed) => Status::WriteFault,
+            },
+            Err(Stop::Memory) => {
+                let _ = write_all(err, WANT_OF_MEMORY);
+                Status::Memory
+            }
+        },
+        Err(MemoryOr::Fault(text)) => match write_all(err, text.as_slice()) {
+            Ok(()) => Status::Usage,
             Err(Failed) => Status::WriteFault,
         },
-        Err(Stop::Fault) => match write_all(err, READ_FAULT) {
-            Ok(()) => Status::ReadFault,
-            Err(Failed) => Status::WriteFault,
-        },
-        Err(Stop::Memory) => {
+        Err(MemoryOr::Memory) => {
             let _ = write_all(err, WANT_OF_MEMORY);
             Status::Memory
         }

@@ -1,10 +1,12 @@
-//! Calls of the program over files and outputs in memory, by the tables of `top_tests_cases`.
+//! Calls of the program over files and outputs in memory, by the tables of `top_tests_cases`, `run_tests_cases` and
+//! `words_tests_cases`.
 
 use crate::laws;
 use crate::run_tests_cases::{RUN_CASES, RUN_COUNT};
 use crate::tests_cases::{bytes_of, number_of, push_bytes, push_line};
 use crate::top::run_words;
 use crate::top_tests_cases::{ADD, CASES, COUNT, LONG_CASES, LONG_COUNT, MANY_CASES, MANY_COUNT};
+use crate::words_tests_cases::{WORDS_CASES, WORDS_COUNT};
 use ca_io::{MemFiles, MemSink};
 use comp_link::one_linking;
 use std::alloc::Global;
@@ -115,7 +117,11 @@ impl Case {
         let status = format!(in alloc; "{status:?}")?;
         assert_eq!(rt; status.as_str(), self.status.as_str(), "case {number}");
         assert_eq!(rt; out.taken(), self.out.as_bytes(), "case {number}");
-        assert_eq!(rt; err.taken(), self.err.as_bytes(), "case {number}");
+        if self.status.as_str() == "Usage" {
+            assert!(rt; !err.taken().is_empty(), "case {number}");
+        } else {
+            assert_eq!(rt; err.taken(), self.err.as_bytes(), "case {number}");
+        }
         Ok(())
     }
 }
@@ -162,8 +168,15 @@ fn calls_of_whole_modules(rt: HostRuntime) -> Result<(), Fail> {
 }
 
 #[test]
+fn calls_by_their_words(rt: HostRuntime) -> Result<(), Fail> {
+    check_all(&rt, rt.alloc(), WORDS_CASES, WORDS_COUNT)
+}
+
+#[test]
 fn laws_hold() {
     one_linking();
     laws::scripts_are_sound();
     laws::one_outcome();
+    laws::plain_words_are_taken();
+    laws::taken_words_are_read();
 }

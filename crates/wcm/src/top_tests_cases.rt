@@ -8,7 +8,7 @@
 //! - `words WORDS`: the words, where they are not `wcm run add.wasm add.txt`
 //! - `reads N`, `writes N`, `errors N`: this read, write to the output, write to the error output fails, counted from 1
 //! - `most N`: the outputs take at most so many bytes at once
-//! - `status STATUS`: how the call ends
+//! - `status STATUS`: how the call ends; with `Usage` the error output takes some text, which is not compared
 //! - `out LINE`, `err LINE`: a line of the output, of the error output; `part TEXT`, `err-part TEXT`: one without line feed
 
 /// The component whose one function adds two numbers.
@@ -20,7 +20,7 @@ pub const ADD: &str = "
 ";
 
 /// How many cases there are.
-pub const COUNT: u32 = 71;
+pub const COUNT: u32 = 78;
 
 /// The cases.
 pub const CASES: &str = "
@@ -134,6 +134,81 @@ component 00 61 73 6D 0D 00 01 00 08 02 01 1C
 last calls
 status Refused
 err refused at 11: Unsupported(1c)
+
+# items that are read and not linked yet, imports of the root, and components that are never instantiated
+component 00 61 73 6D 0D 00 01 00 07 05 01 40 00 01 00
+bytes 0A 06 01 00 01 66 01 00
+status LinkRefused
+err link refused at 18: RootImport
+
+component 00 61 73 6D 0D 00 01 00 07 02 01 79 0A 07 01 00 01 74 03 00 00
+last calls
+status LinkRefused
+err link refused at 15: RootImport
+
+component 00 61 73 6D 0D 00 01 00 0A 06 01 00 01 66 01 05
+status LinkRefused
+err link refused at 11: RootImport
+
+component 00 61 73 6D 0D 00 01 00 0A 06 01 00 01 69 05 00
+status LinkRefused
+err link refused at 11: Limit
+
+component 00 61 73 6D 0D 00 01 00 07 03 01 42 00
+status LinkRefused
+err link refused at 11: Limit
+
+component 00 61 73 6D 0D 00 01 00 04 08 00 61 73 6D 0D 00 01 00
+status Done
+out done
+
+component 00 61 73 6D 0D 00 01 00 04 10 00 61 73 6D 0D 00 01 00 0A 06 01 00 01 66 01 05
+status Done
+out done
+
+bytes 04 08 00 61 73 6D 0D 00 01 00
+script call add (2, 3)
+status Done
+out take 1 T1 add (2, 3)
+out enter T1
+out return T1 (5)
+out exit T1
+out done
+
+bytes 04 08 00 61 73 6D 0D 00 01 00 05 04 01 00 00 00
+script call add (2, 3)
+status LinkRefused
+err link refused at 113: Limit
+
+component 00 61 73 6D 0D 00 01 00 05 03 01 01 00
+status LinkRefused
+err link refused at 11: Limit
+
+bytes 02 08 01 00 00 01 01 6D 12 00
+status LinkRefused
+err link refused at 103: Limit
+
+bytes 02 03 01 01 00
+status LinkRefused
+err link refused at 103: Limit
+
+bytes 06 09 01 00 02 01 00 03 6D 65 6D
+status LinkRefused
+err link refused at 103: Limit
+
+component 00 61 73 6D 0D 00 01 00 06 05 01 03 02 00 00
+status LinkRefused
+err link refused at 11: Limit
+
+front 89
+bytes 0B 0B 01 00 03 61 64 64 01 00 01 01 00
+status LinkRefused
+err link refused at 92: Limit
+
+front 89
+bytes 0B 09 01 00 03 61 64 64 03 00 00
+status LinkRefused
+err link refused at 92: Limit
 
 # core modules that are not valid, that subtract, and that import from a module that is not there
 change 49 7C
@@ -306,43 +381,6 @@ out enter T1
 out return T1 (5)
 out exit T1
 out fuel
-
-# words that are no command; a file's name may be empty in them, behind two spaces
-words
-script call add (2, 3)
-status Usage
-
-words wcm
-script call add (2, 3)
-status Usage
-
-words wcm run
-script call add (2, 3)
-status Usage
-
-words wcm run add.wasm
-script call add (2, 3)
-status Usage
-
-words wcm run add.wasm add.txt more
-script call add (2, 3)
-status Usage
-
-words wcm go add.wasm add.txt
-script call add (2, 3)
-status Usage
-
-words wcm run  add.txt
-script call add (2, 3)
-status Usage
-
-words wcm run add.wasm -x
-script call add (2, 3)
-status Usage
-
-words wcm --help
-script call add (2, 3)
-status Usage
 
 # outputs that take a few bytes at once, or no more
 most 1

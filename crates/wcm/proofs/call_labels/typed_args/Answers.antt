@@ -1,4 +1,4 @@
-use Rattle.std.proofs.Common.{arith, min, get_or, refl}
+use Rattle.std.proofs.Common.{arith, get_or, refl}
 use Rattle.wcm.proofs.Arguments.{typed_step, typed_end}
 use Rattle.wcm.proofs.call_labels.typed_args.Goals as goal
 

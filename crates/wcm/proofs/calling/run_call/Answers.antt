@@ -1,6 +1,5 @@
 use Rattle.std.proofs.Common.{◌≡◌, ◌∙◌, ◌++◌, [], ◌∷◌, ℕ, List, map, suc, arith, refl, sym, ap, subst}
 use Rattle.ca_types.specs.declared.types.FuncType.{FuncType}
-use Rattle.trace_show.specs.declared.label.Label.{Label}
 use Rattle.trace_show.specs.declared.label.Label.TheVariants.{Take, Enter, Return, Exit}
 use Rattle.abi_machine.specs.Machine.{lowered, lifted, typed}
 use Rattle.wcm.specs.Calling.{u32_of, types_of, AreBelow}

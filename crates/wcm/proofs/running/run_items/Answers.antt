@@ -1,4 +1,4 @@
-use Rattle.std.proofs.Common.{◌≡◌, ◌<◌, ◌≤◌, ◌+◌, ◌∙◌, ap, arith, drop, get_or, length, refl, sym, subst, Some, None, Option, List}
+use Rattle.std.proofs.Common.{◌≡◌, ◌<◌, ◌+◌, ◌∙◌, ap, arith, drop, get_or, length, refl, sym, subst, Option, List}
 use Rattle.comp_graph.specs.Graph.{Graph}
 use Rattle.trace_show.specs.declared.label.Label.{Label}
 use Rattle.abi_machine.specs.declared.run_end.RunEnd.{RunEnd}

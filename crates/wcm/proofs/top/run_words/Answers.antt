@@ -1,38 +1,58 @@
-use Rattle.std.proofs.Common.{refl, sym, map, string_bytes, inl}
-use Rattle.wcm.specs.Outcome.{usage_answer}
-use Rattle.wcm.proofs.Taken.{grown_nil}
-use Rattle.wcm.proofs.Rows.{outcome_of, usage_of, row_refused, row_link_refused, row_script_refused, row_done, row_trap, row_fuel}
+use Rattle.std.proofs.Common.{◌≡◌, [], Option, Some, None, false, refl, sym, subst, map, string_bytes, inl}
+use Rattle.ca_base.specs.Faults.{IfFault}
+use Rattle.ca_base.specs.declared.memory.MemoryOr.{MemoryOr}
+use Rattle.ca_base.specs.declared.memory.MemoryOr.TheVariants.{Fault}
+use Rattle.wcm.specs.Words.{Command, command_of, is_taken}
+use Rattle.wcm.proofs.Plain.{plain_is}
+use Rattle.wcm.proofs.Taken.{grown_nil, took, took_none}
+use Rattle.wcm.proofs.Rows.{usage_answer, outcome_of, usage_of, row_refused, row_link_refused, row_script_refused, row_done, row_trap, row_fuel}
 use Rattle.wcm.proofs.top.run_words.Goals as goal
 
-pub returns-in_default-clause-headline : goal.returns-in_default-clause-headline
-returns-in_default-clause-headline g c = λ told files out err memory. (usage_answer, usage_of (map string_bytes c.args.words.now) (g.F.Files.held c.args.files.now) c.in_default.ensures, refl, record { out = sym (grown_nil _); err = sym (grown_nil _) })
+-- what is said of a fault, where this is the error
+of_fault : {F : Type 0} (P : Type 0) (e : MemoryOr F) (f : F) → e ≡ Fault f → IfFault e (λ f. P) → P
+of_fault P e f is h = subst (λ x. IfFault x (λ f. P)) is h
 
-pub returns-in_default-clause-written : goal.returns-in_default-clause-written
-returns-in_default-clause-written g c = λ told final. (usage_answer, usage_of (map string_bytes c.args.words.now) (g.F.Files.held c.args.files.now) c.in_default.ensures, refl, record { out = sym (grown_nil _); err = sym (grown_nil _) })
+some_or_none : (command : Command) (o : Option Command) → o ≡ Some command → o ≡ None → ⊥
+some_or_none command o e f = cc
 
 pub returns-in-Ok-write_answer-clause-headline : goal.returns-in-Ok-write_answer-clause-headline
-returns-in-Ok-write_answer-clause-headline g c = λ told files out err memory. (c.in-Ok.answer, outcome_of (map string_bytes c.args.words.now) (g.F.Files.held c.args.files.now) _ c.in-Ok.answer c.in-Some.ensures c.in-Ok.ensures.files told, refl, c.in-Ok-write_answer.ensures.ok)
+returns-in-Ok-write_answer-clause-headline g c = λ told files out err memory. (c.in-Ok-answer_of.answer, outcome_of (map string_bytes c.args.words.now) (g.F.Files.held c.args.files.now) _ c.in-Ok-answer_of.answer c.in-Ok.ensures.ok.0 c.in-Ok-answer_of.ensures.files told, refl, c.in-Ok-write_answer.ensures.ok)
 
 pub returns-in-Ok-write_answer-clause-written : goal.returns-in-Ok-write_answer-clause-written
-returns-in-Ok-write_answer-clause-written g c = λ told final. (c.in-Ok.answer, outcome_of (map string_bytes c.args.words.now) (g.F.Files.held c.args.files.now) _ c.in-Ok.answer c.in-Some.ensures c.in-Ok.ensures.files told, refl, c.in-Ok-write_answer.ensures.ok)
+returns-in-Ok-write_answer-clause-written g c = λ told final. (c.in-Ok-answer_of.answer, outcome_of (map string_bytes c.args.words.now) (g.F.Files.held c.args.files.now) _ c.in-Ok-answer_of.answer c.in-Ok.ensures.ok.0 c.in-Ok-answer_of.ensures.files told, refl, c.in-Ok-write_answer.ensures.ok)
 
 pub returns-in-Ok-write_answer-clause-refused : goal.returns-in-Ok-write_answer-clause-refused
-returns-in-Ok-write_answer-clause-refused g c = λ told final. row_refused (map string_bytes c.args.words.now) (g.F.Files.held c.args.files.now) _ c.in-Ok.answer c.in-Some.ensures c.in-Ok.ensures.files told
+returns-in-Ok-write_answer-clause-refused g c = λ told final. row_refused (map string_bytes c.args.words.now) (g.F.Files.held c.args.files.now) _ c.in-Ok-answer_of.answer c.in-Ok.ensures.ok.0 c.in-Ok-answer_of.ensures.files told
 
 pub returns-in-Ok-write_answer-clause-link_refused : goal.returns-in-Ok-write_answer-clause-link_refused
-returns-in-Ok-write_answer-clause-link_refused g c = λ told final. row_link_refused (map string_bytes c.args.words.now) (g.F.Files.held c.args.files.now) _ c.in-Ok.answer c.in-Some.ensures c.in-Ok.ensures.files told
+returns-in-Ok-write_answer-clause-link_refused g c = λ told final. row_link_refused (map string_bytes c.args.words.now) (g.F.Files.held c.args.files.now) _ c.in-Ok-answer_of.answer c.in-Ok.ensures.ok.0 c.in-Ok-answer_of.ensures.files told
 
 pub returns-in-Ok-write_answer-clause-script_refused : goal.returns-in-Ok-write_answer-clause-script_refused
-returns-in-Ok-write_answer-clause-script_refused g c = λ told final. row_script_refused (map string_bytes c.args.words.now) (g.F.Files.held c.args.files.now) _ c.in-Ok.answer c.in-Some.ensures (outcome_of (map string_bytes c.args.words.now) (g.F.Files.held c.args.files.now) _ c.in-Ok.answer c.in-Some.ensures c.in-Ok.ensures.files told)
+returns-in-Ok-write_answer-clause-script_refused g c = λ told final. row_script_refused (map string_bytes c.args.words.now) (g.F.Files.held c.args.files.now) _ c.in-Ok-answer_of.answer c.in-Ok.ensures.ok.0 (outcome_of (map string_bytes c.args.words.now) (g.F.Files.held c.args.files.now) _ c.in-Ok-answer_of.answer c.in-Ok.ensures.ok.0 c.in-Ok-answer_of.ensures.files told)
 
 pub returns-in-Ok-write_answer-clause-done : goal.returns-in-Ok-write_answer-clause-done
-returns-in-Ok-write_answer-clause-done g c = λ told final. row_done (map string_bytes c.args.words.now) (g.F.Files.held c.args.files.now) _ c.in-Ok.answer c.in-Some.ensures (outcome_of (map string_bytes c.args.words.now) (g.F.Files.held c.args.files.now) _ c.in-Ok.answer c.in-Some.ensures c.in-Ok.ensures.files told)
+returns-in-Ok-write_answer-clause-done g c = λ told final. row_done (map string_bytes c.args.words.now) (g.F.Files.held c.args.files.now) _ c.in-Ok-answer_of.answer c.in-Ok.ensures.ok.0 (outcome_of (map string_bytes c.args.words.now) (g.F.Files.held c.args.files.now) _ c.in-Ok-answer_of.answer c.in-Ok.ensures.ok.0 c.in-Ok-answer_of.ensures.files told)
 
 pub returns-in-Ok-write_answer-clause-trap : goal.returns-in-Ok-write_answer-clause-trap
-returns-in-Ok-write_answer-clause-trap g c = λ told final. row_trap (map string_bytes c.args.words.now) (g.F.Files.held c.args.files.now) _ c.in-Ok.answer c.in-Some.ensures (outcome_of (map string_bytes c.args.words.now) (g.F.Files.held c.args.files.now) _ c.in-Ok.answer c.in-Some.ensures c.in-Ok.ensures.files told)
+returns-in-Ok-write_answer-clause-trap g c = λ told final. row_trap (map string_bytes c.args.words.now) (g.F.Files.held c.args.files.now) _ c.in-Ok-answer_of.answer c.in-Ok.ensures.ok.0 (outcome_of (map string_bytes c.args.words.now) (g.F.Files.held c.args.files.now) _ c.in-Ok-answer_of.answer c.in-Ok.ensures.ok.0 c.in-Ok-answer_of.ensures.files told)
 
 pub returns-in-Ok-write_answer-clause-fuel : goal.returns-in-Ok-write_answer-clause-fuel
-returns-in-Ok-write_answer-clause-fuel g c = λ told final. row_fuel (map string_bytes c.args.words.now) (g.F.Files.held c.args.files.now) _ c.in-Ok.answer c.in-Some.ensures (outcome_of (map string_bytes c.args.words.now) (g.F.Files.held c.args.files.now) _ c.in-Ok.answer c.in-Some.ensures c.in-Ok.ensures.files told)
+returns-in-Ok-write_answer-clause-fuel g c = λ told final. row_fuel (map string_bytes c.args.words.now) (g.F.Files.held c.args.files.now) _ c.in-Ok-answer_of.answer c.in-Ok.ensures.ok.0 (outcome_of (map string_bytes c.args.words.now) (g.F.Files.held c.args.files.now) _ c.in-Ok-answer_of.answer c.in-Ok.ensures.ok.0 c.in-Ok-answer_of.ensures.files told)
 
-pub returns-in-Ok-clause-write_fault_front : goal.returns-in-Ok-clause-write_fault_front
-returns-in-Ok-clause-write_fault_front g c = λ told fault. inl (c.in-Ok.answer, outcome_of (map string_bytes c.args.words.now) (g.F.Files.held c.args.files.now) _ c.in-Ok.answer c.in-Some.ensures c.in-Ok.ensures.files told, c.in-Err.ensures.failed)
+pub returns-in-Ok-answer_of-clause-write_fault_front : goal.returns-in-Ok-answer_of-clause-write_fault_front
+returns-in-Ok-answer_of-clause-write_fault_front g c = λ told fault. inl (c.in-Ok-answer_of.answer, outcome_of (map string_bytes c.args.words.now) (g.F.Files.held c.args.files.now) _ c.in-Ok-answer_of.answer c.in-Ok.ensures.ok.0 c.in-Ok-answer_of.ensures.files told, c.in-Err.ensures.failed)
+
+pub returns-in-Ok-write_all-2-clause-headline : goal.returns-in-Ok-write_all-2-clause-headline
+returns-in-Ok-write_all-2-clause-headline g c = λ told files out err memory. (usage_answer c.as_slice.result.now, usage_of (map string_bytes c.args.words.now) (g.F.Files.held c.args.files.now) c.as_slice.result.now (of_fault ((command_of (map string_bytes c.args.words.now) ≡ None) × (is_taken (map string_bytes c.args.words.now) ≡ false)) c.in-Err-Fault.field-0 _ c.in-Err-Fault.field-0-is c.in-Err-Fault.ensures.refused).0, refl, record { out = sym (grown_nil _); err = c.in-Ok-write_all-2.ensures.ok })
+
+pub returns-in-Ok-write_all-2-clause-written : goal.returns-in-Ok-write_all-2-clause-written
+returns-in-Ok-write_all-2-clause-written g c = λ told final. (usage_answer c.as_slice.result.now, usage_of (map string_bytes c.args.words.now) (g.F.Files.held c.args.files.now) c.as_slice.result.now (of_fault ((command_of (map string_bytes c.args.words.now) ≡ None) × (is_taken (map string_bytes c.args.words.now) ≡ false)) c.in-Err-Fault.field-0 _ c.in-Err-Fault.field-0-is c.in-Err-Fault.ensures.refused).0, refl, record { out = sym (grown_nil _); err = c.in-Ok-write_all-2.ensures.ok })
+
+pub returns-in-Ok-write_all-2-clause-plain : goal.returns-in-Ok-write_all-2-clause-plain
+returns-in-Ok-write_all-2-clause-plain g c = λ command h. let named = plain_is (map string_bytes c.args.words.now) command h in (named, λ usage. some_or_none command (command_of (map string_bytes c.args.words.now)) named (of_fault ((command_of (map string_bytes c.args.words.now) ≡ None) × (is_taken (map string_bytes c.args.words.now) ≡ false)) c.in-Err-Fault.field-0 _ c.in-Err-Fault.field-0-is c.in-Err-Fault.ensures.refused).0)
+
+pub returns-in-Err-Fault-clause-write_fault_front : goal.returns-in-Err-Fault-clause-write_fault_front
+returns-in-Err-Fault-clause-write_fault_front g c = λ told fault. inl (usage_answer c.as_slice.result.now, usage_of (map string_bytes c.args.words.now) (g.F.Files.held c.args.files.now) c.as_slice.result.now (of_fault ((command_of (map string_bytes c.args.words.now) ≡ None) × (is_taken (map string_bytes c.args.words.now) ≡ false)) c.in-Err-Fault.field-0 _ c.in-Err-Fault.field-0-is c.in-Err-Fault.ensures.refused).0, record { out = took_none _ _ [] refl; err = took c.write_all-in-Err-Fault.result (g.K.Sink.taken c.args.err.now) (g.K.Sink.taken c.write_all-in-Err-Fault.new.sink) c.as_slice.result.now c.write_all-in-Err-Fault.ensures.ok c.write_all-in-Err-Fault.ensures.failed })
+
+pub returns-clause-plain : goal.returns-clause-plain
+returns-clause-plain g c = λ command h. (plain_is (map string_bytes c.args.words.now) command h, λ usage. cc)

@@ -1,0 +1,26 @@
+use Rattle.std.proofs.Common.{◌∙◌, map, string_bytes}
+use Rattle.clap.specs.Words.{app_of, subcommand_rows_of}
+use Rattle.wcm.specs.Words.{command_of_rows}
+use Rattle.wcm.proofs.Entries.{is_found, is_said}
+use Rattle.wcm.proofs.Readings.{some_command, read_command, is_read, refused_words, not_taken}
+use Rattle.wcm.proofs.words.command_of.Goals as goal
+
+pub unwrap-requires : goal.unwrap-requires
+unwrap-requires c =
+    is_found c.command_in.result (command_of_rows (subcommand_rows_of c.in-Ok.matches)) c.command_in.ensures
+    (some_command (app_of c.in_ok-program.field-0) (map string_bytes c.args.words.now) _ _ c.in_ok-program.ensures c.in-Ok.ensures.matches c.in-Ok.ensures.kinds)
+
+pub returns-in-Ok-clause-ok : goal.returns-in-Ok-clause-ok
+returns-in-Ok-clause-ok c =
+    let words = map string_bytes c.args.words.now in (
+      read_command (app_of c.in_ok-program.field-0) words (subcommand_rows_of c.in-Ok.matches) _ c.in_ok-program.ensures c.in-Ok.ensures.matches c.in-Ok.ensures.kinds
+          ∙ is_said c.command_in.result (command_of_rows (subcommand_rows_of c.in-Ok.matches)) c.unwrap.result c.unwrap.ensures c.command_in.ensures,
+      is_read (app_of c.in_ok-program.field-0) words (subcommand_rows_of c.in-Ok.matches) _ c.in_ok-program.ensures c.in-Ok.ensures.matches c.in-Ok.ensures.kinds,
+    )
+
+pub returns-clause-refused : goal.returns-clause-refused
+returns-clause-refused c =
+    let words = map string_bytes c.args.words.now in
+    let none = not_taken (app_of c.in_ok-program.field-0) words c.in-Err.error c.in_ok-program.ensures
+    (λ e. c.in_default.not-OutOfMemory (c.kind.ensures ∙ e)) c.in-Err.ensures.passes in
+    (refused_words words none, none)
