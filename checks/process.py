@@ -169,6 +169,10 @@ def statuses(add):
         Case("a name that begins with a minus", 2, component=add, words=("run", "-f", "script.txt")),
         Case("another command", 2, component=add, words=("walk", "file.wasm", "script.txt")),
         Case("a word too many", 2, component=add, words=("run", "file.wasm", "script.txt", "x")),
+        Case("help", 2, component=add, words=("--help",)),
+        Case("a component that is checked", 0, out="accepted\n", component=add, script=None, words=("check", "file.wasm")),
+        Case("a component that is shown", 0, out="instances 1\nfunc add (u32, u32) -> u32\n", component=add, script=None, words=("show", "file.wasm")),
+        Case("names behind --", 0, out=SUM, component=add, words=("run", "--", "file.wasm", "script.txt")),
         Case("a refused component", 3, err="refused at 11: Float\n", component=float_type),
         Case("a refused component without a script", 3, err="refused at 11: Float\n", component=float_type, script=None),
         Case("an empty component file", 3, err="refused at 0: Truncated\n", component=b""),
@@ -182,13 +186,17 @@ def statuses(add):
         Case("a folder in the place of a component file", 7, err="read fault\n", words=("run", ".", "script.txt")),
         Case("an output that is full", 8, component=add, out_to="/dev/full"),
         Case("an error output that is full", 8, component=float_type, err_to="/dev/full"),
+        Case("an error output that is full, for words that are refused", 8, words=("run",), err_to="/dev/full"),
         Case("an item that is not linked", 10, err="link refused at 11: Index\n", component=no_function),
     ]
 
 
 def failures(case, found):
-    """What differs from what is wanted."""
-    wanted = Found(case.status, case.out.encode(), case.err.encode())
+    """What differs from what is wanted. With the status 2 the error output has some text, which is not compared."""
+    if case.status == 2 and not found.err:
+        return ["no text on the error output"]
+    err = found.err if case.status == 2 else case.err.encode()
+    wanted = Found(case.status, case.out.encode(), err)
     return [
         f"{part}: {got!r}, wanted {want!r}"
         for part, got, want in zip(Found._fields, found, wanted)
