@@ -1,8 +1,8 @@
 -- Graphs: what a component is linked to (Component Model, Explainer.md, "Instance Definitions"; CanonicalABI.md, `canon lift`).
--- Core instances are made of core modules, in order, and the exports can be called: each lifts a core function of an instance.
--- So far each value type is u32, and no lift has options.
-use Rattle.std.specs.Prelude.{◌≡◌, ℕ, Bool, true, false, ◌&&◌, ◌==◌, nat_le, List, length, map, Option, None, Some}
-use Rattle.std.specs.List.{slice_get, list_all, AllZip}
+-- Component instances begin and core instances are made of core modules, in file order, and the exports can be called: each
+-- lifts a core function of an instance. So far each value type is u32, and no lift has options.
+use Rattle.std.specs.Prelude.{◌≡◌, ℕ, Bool, true, false, ◌&&◌, ◌==◌, nat_le, List, [], ◌∷◌, ◌++◌, length, map, Option, None, Some}
+use Rattle.std.specs.List.{slice_get, list_all, AllByRecursion, AllZip}
 use Rattle.std.specs.Option.{option_and_then, option_map, option_map_or}
 use Rattle.ca_base.specs.Names.{first_named}
 use Rattle.ca_types.specs.declared.types.ValType.{ValType, out-ValType}
@@ -12,22 +12,41 @@ use Rattle.ca_types.specs.declared.exports.Export.{Export}
 use Rattle.wasm_module.specs.declared.types.ValType as core_val
 use Rattle.wasm_module.specs.declared.types.ValType.TheVariants.{I32, I64}
 use Rattle.wasm_module.specs.declared.types.FuncType as core
+use Rattle.wasm_module.specs.declared.module.Import.{Import}
 use Rattle.wasm_module.specs.declared.module.ModuleTree.{ModuleTree}
-use Rattle.comp_graph.specs.declared.graph.CoreFunc.{CoreFunc}
+use Rattle.wasm_module.specs.Spaces.{global_space, type_of_func}
+use Rattle.comp_graph.specs.declared.graph.CoreRef.{CoreRef}
+use Rattle.comp_graph.specs.declared.graph.CoreExtern.{CoreExtern}
+use Rattle.comp_graph.specs.declared.graph.Action.{Action}
+use Rattle.comp_graph.specs.declared.graph.Lift.{Lift}
+use Rattle.comp_graph.specs.CoreItems.{CoreItem, Func, Table, Memory, Global, extern_of, table_space, memory_space, CoreFits}
 
--- the modules of the core instances, in order of making; the exports, in order; and of each export the core function
+-- a core instance: its module, what its module's imports are, in order, and the component instance that makes it
+pub record CoreMake : Type 0 where
+  pub of_module : ModuleTree
+  pub imports : List CoreExtern
+  pub owner : ℕ
+
+-- What is made, in file order; how many component instances begin; the core instances, in order of making; the functions that
+-- can be called, in order, and of each the core function that it lifts.
 pub record Graph : Type 0 where
-  pub instances : List ModuleTree
+  pub plan : List Action
+  pub instance_count : ℕ
+  pub cores : List CoreMake
   pub exports : List Export
-  pub cores : List CoreFunc
+  pub lifts : List Lift
 
--- how many core instances a component may make
+-- how many component instances a component may make, and how many core instances
+abbrev pub instance_limit : ℕ
+instance_limit = 256
+
 abbrev pub core_instance_limit : ℕ
 core_instance_limit = 256
 
--- a function: the core function that it lifts, and its type
+-- a function: the component instance that lifts it, the core function that it lifts, and its type
 pub record Lifted : Type 0 where
-  pub core : CoreFunc
+  pub instance : ℕ
+  pub core : CoreRef
   pub func_type : FuncType
 
 -- the names of exports
@@ -35,24 +54,20 @@ abbrev pub names : List Export → List (List ℕ)
 names exports = map (λ e. e.name) exports
 
 -- the function of the export of a number
-abbrev pub lifted_as : Option Export → Option CoreFunc → Option Lifted
-lifted_as (Some e) (Some core) = Some (record { core = core; func_type = e.func_type })
-lifted_as e core = None
+abbrev pub lifted_as : Option Export → Option Lift → Option Lifted
+lifted_as (Some e) (Some lift) = Some (record { instance = lift.instance; core = lift.core; func_type = e.func_type })
+lifted_as e lift = None
 
 abbrev pub func_at : Graph → ℕ → Option Lifted
-func_at g number = lifted_as (slice_get g.exports number) (slice_get g.cores number)
+func_at g number = lifted_as (slice_get g.exports number) (slice_get g.lifts number)
 
 -- the function that is exported under a name
 abbrev pub func_named : Graph → List ℕ → Option Lifted
 func_named g name = option_and_then (func_at g) (first_named name (names g.exports))
 
--- The type of a core function, where it is there. The module of an instance has no imports, so its functions are those that
--- it defines.
-abbrev pub type_at : ModuleTree → ℕ → Option core.FuncType
-type_at m func = option_and_then (λ f. slice_get m.types f.type_index) (slice_get m.funcs func)
-
-abbrev pub core_type : List ModuleTree → CoreFunc → Option core.FuncType
-core_type instances f = option_and_then (λ m. type_at m f.func) (slice_get instances f.instance)
+-- the type of a core function, where it is there: that which its module gives it
+abbrev pub core_type : List CoreMake → CoreRef → Option core.FuncType
+core_type cores f = option_and_then (λ c. type_of_func c.of_module f.index) (slice_get cores f.instance)
 
 abbrev pub is_i32 : core_val.ValType → Bool
 is_i32 I32 = true
@@ -84,15 +99,35 @@ is_flat type of_core =
     && length of_core.results == result_count type.result && list_all is_i32 of_core.results
 
 -- the core function of a lift is there and has the flat type
-pub record LiftsCore (instances : List ModuleTree) (func_type : FuncType) (f : CoreFunc) : Type 0 where
+pub record LiftsCore (cores : List CoreMake) (func_type : FuncType) (lift : Lift) : Type 0 where
   pub type : core.FuncType
-  pub there : core_type instances f ≡ Some type
+  pub there : core_type cores lift.core ≡ Some type
   pub flat : is_flat func_type type ≡ true
 
 -- what a graph needs so that its exports can be called
 abbrev pub IsCallable : Graph → Type 0
-IsCallable g = AllZip (λ e f. LiftsCore g.instances e.func_type f) g.exports g.cores
+IsCallable g = AllZip (λ e lift. LiftsCore g.cores e.func_type lift) g.exports g.lifts
 
--- No module of a core instance has imports.
-abbrev pub HasNoImports : Graph → Type 0
-HasNoImports g = list_all (λ m. length m.imports == 0) g.instances ≡ true
+-- A core item is there, among these core instances, with the type that its module gives it.
+pub record IsIn (cores : List CoreMake) (f : CoreRef) (P : ModuleTree → Type 0) : Type 0 where
+  pub core : CoreMake
+  pub there : slice_get cores f.instance ≡ Some core
+  pub holds : P core.of_module
+
+abbrev pub IsItem : List CoreMake → CoreItem → Type 0
+IsItem cores (Func f type) = IsIn cores f (λ m. type_of_func m f.index ≡ Some type)
+IsItem cores (Table t limits) = IsIn cores t (λ m. slice_get (table_space m) t.index ≡ Some limits)
+IsItem cores (Memory memory limits) = IsIn cores memory (λ m. slice_get (memory_space m) memory.index ≡ Some limits)
+IsItem cores (Global g type) = IsIn cores g (λ m. slice_get (global_space m) g.index ≡ Some type)
+
+-- The imports of a core instance are items of core instances before it, each of which is what is asked for.
+pub record HasImports (before : List CoreMake) (core : CoreMake) : Type 0 where
+  pub items : List CoreItem
+  pub are : core.imports ≡ map extern_of items
+  pub there : AllByRecursion (IsItem before) items
+  pub fit : AllZip (λ (i : Import) (item : CoreItem). CoreFits core.of_module item i.desc) core.of_module.imports items
+
+-- So it is for each core instance behind some others.
+abbrev pub AreImported : List CoreMake → List CoreMake → Type 0
+AreImported before [] = Unit {0}
+AreImported before (core ∷ cores) = HasImports before core × AreImported (before ++ core ∷ []) cores

@@ -1,1 +1,2 @@
+pub mod CoreItems
 pub mod Graph

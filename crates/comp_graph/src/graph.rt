@@ -2,68 +2,186 @@
 
 ghost use Rattle.std.specs.Prelude.{◌≡◌, ◌≤◌, ◌<◌, Some, length, map};
 ghost use Rattle.std.specs.List.{slice_get};
-ghost use Rattle.comp_graph.specs.Graph.{core_instance_limit};
+ghost use Rattle.comp_graph.specs.Graph as graphs;
+ghost use Rattle.comp_graph.specs.Graph.{core_instance_limit, instance_limit};
 
 use ca_base::Seq;
 use ca_types::Exports;
 use std::marker::Model;
 use wasm_valid::Valid;
 
-/// A core function of a core instance.
+/// A definition of a core instance.
 #[derive(Clone, Copy, Debug, PartialEq, Eq)]
-pub struct CoreFunc {
+pub struct CoreRef {
     /// The number of the core instance, in order of making.
     pub instance: usize,
-    /// The index of the function in the instance's module.
-    pub func: u32,
+    /// The index of the definition, in the space of its sort of the instance's module.
+    pub index: u32,
 }
 
-/// A component that is linked (Component Model, Explainer.md, "Instance Definitions"): the modules of its core instances,
-/// at most 256, the functions that it exports, and of each one the core function that it lifts.
+/// What an import of a core module is: a definition of a core instance (Core 2.0, section 4.5.4).
+#[derive(Clone, Copy, Debug, PartialEq, Eq)]
+pub enum CoreExtern {
+    /// A function.
+    Func(CoreRef),
+    /// A table.
+    Table(CoreRef),
+    /// A memory.
+    Memory(CoreRef),
+    /// A global.
+    Global(CoreRef),
+}
+
+/// What is made when a component is instantiated.
+#[derive(Clone, Copy, Debug, PartialEq, Eq)]
+pub enum Action {
+    /// The component instance of this number begins.
+    Begin(usize),
+    /// The core instance of this number is made.
+    Make(usize),
+}
+
+/// The core function that a function lifts (Component Model, CanonicalABI.md, `canon lift`).
+#[derive(Clone, Copy, Debug, PartialEq, Eq)]
+pub struct Lift {
+    /// The number of the component instance that lifts it, in order of beginning.
+    pub instance: usize,
+    /// The core function.
+    pub core: CoreRef,
+}
+
+/// A core instance that is made of a module. Contracts see the module in place of what is valid.
+#[derive(Drop)]
+pub struct CoreMake<'a> {
+    valid: &'a Valid,
+    imports: Seq<CoreExtern>,
+    owner: usize,
+}
+
+impl<'a> Model for CoreMake<'a> {
+    ghost use Rattle.std.specs.Coded.{codes};
+    ghost use Rattle.wasm_module.specs.contracts.module.ModuleTree as tree;
+    ghost use Rattle.comp_graph.specs.contracts.graph.CoreExtern as core_extern;
+    ghost use Rattle.comp_graph.specs.Graph as graph;
+
+    ghost Value = { graph.CoreMake };
+
+    ghost coded = { Prim.hlevel (codes, tree.the_row.coded, core_extern.the_row.coded) };
+
+    ghost view = { λ c. record { of_module = c.valid.now; imports = c.imports; owner = c.owner } };
+}
+
+impl<'a> CoreMake<'a> {
+    /// A core instance of this module, whose imports are these, in order, and which the component instance of this number
+    /// makes.
+    pub fn new(valid: &'a Valid, imports: Seq<CoreExtern>, owner: usize) -> CoreMake<'a>
+        ensures { result ≡ record { of_module = valid.now; imports = imports; owner = owner } }
+    {
+        CoreMake {
+            valid,
+            imports,
+            owner,
+        }
+    }
+
+    /// The module.
+    pub fn valid(&self) -> &'a Valid
+        ensures { result.now ≡ self.now.of_module }
+    {
+        self.valid
+    }
+
+    /// What the module's imports are, in order.
+    pub fn imports(&self) -> &[CoreExtern]
+        ensures { result.now ≡ self.now.imports }
+    {
+        self.imports.as_slice()
+    }
+
+    /// The number of the component instance that makes it.
+    pub fn owner(&self) -> usize
+        ensures { result ≡ self.now.owner }
+    {
+        self.owner
+    }
+}
+
+/// A component that is linked (Component Model, Explainer.md, "Instance Definitions"): what is made, in file order; the core
+/// instances, at most 256; the functions that can be called, and of each one the core function that it lifts. At most 256
+/// component instances begin.
 #[derive(Drop)]
 pub struct Graph<'a> {
-    instances: Vec<&'a Valid>,
+    plan: Seq<Action>,
+    instance_count: usize,
+    cores: Vec<CoreMake<'a>>,
     exports: Exports,
-    cores: Seq<CoreFunc>,
+    lifts: Seq<Lift>,
 }
 
 impl<'a> Model for Graph<'a> {
-    ghost use Rattle.std.specs.Prelude.{◌≡◌, ◌≤◌, length, map};
+    ghost use Rattle.std.specs.Prelude.{◌≡◌, ◌≤◌, length};
     ghost use Rattle.std.specs.Coded.{codes};
     ghost use Rattle.wasm_module.specs.contracts.module.ModuleTree as tree;
     ghost use Rattle.ca_types.specs.contracts.exports.Export as export;
-    ghost use Rattle.comp_graph.specs.contracts.graph.CoreFunc as core_func;
+    ghost use Rattle.comp_graph.specs.contracts.graph.Action as action;
+    ghost use Rattle.comp_graph.specs.contracts.graph.CoreExtern as core_extern;
+    ghost use Rattle.comp_graph.specs.contracts.graph.Lift as lift;
     ghost use Rattle.comp_graph.specs.Graph as graph;
 
     ghost Value = { graph.Graph };
 
-    ghost coded = { Prim.hlevel (codes, tree.the_row.coded, export.the_row.coded, core_func.the_row.coded) };
+    ghost coded = { Prim.hlevel (codes, tree.the_row.coded, core_extern.the_row.coded, export.the_row.coded, action.the_row.coded, lift.the_row.coded) };
 
-    ghost view = { λ g. record { instances = map (λ r. r.now) g.instances.items; exports = g.exports; cores = g.cores } };
+    ghost view = { λ g. record { plan = g.plan; instance_count = g.instance_count; cores = g.cores.items; exports = g.exports; lifts = g.lifts } };
 
-    ghost invariant = { λ g. (length (map (λ r. r.now) g.instances.items) ≤ graph.core_instance_limit) × (length g.cores ≡ length g.exports) };
+    ghost invariant = { λ g. (g.instance_count ≤ graph.instance_limit) × (length g.cores.items ≤ graph.core_instance_limit) × (length g.lifts ≡ length g.exports) };
 }
 
 impl<'a> Graph<'a> {
-    /// The graph of the core instances of these modules, and of these exports with the core function of each.
-    pub fn new(instances: Vec<&'a Valid>, exports: Exports, cores: Seq<CoreFunc>) -> Graph<'a>
-        requires few { length (map (λ r. r.now) instances.items) ≤ core_instance_limit }
-        requires lifted { length cores ≡ length exports }
-        ensures { result ≡ record { instances = map (λ r. r.now) instances.entry.items; exports = exports; cores = cores } }
+    /// The graph of so many component instances, these core instances in order of making, and these exports with the core
+    /// function of each.
+    pub fn new(
+        plan: Seq<Action>,
+        instance_count: usize,
+        cores: Vec<CoreMake<'a>>,
+        exports: Exports,
+        lifts: Seq<Lift>,
+    ) -> Graph<'a>
+        requires few_instances { instance_count ≤ instance_limit }
+        requires few { length cores.items ≤ core_instance_limit }
+        requires lifted { length lifts ≡ length exports }
+        ensures { result ≡ record { plan = plan; instance_count = instance_count; cores = cores.entry.items; exports = exports; lifts = lifts } }
     {
         Graph {
-            instances,
-            exports,
+            plan,
+            instance_count,
             cores,
+            exports,
+            lifts,
         }
     }
 
-    /// The module of each core instance, in order of making: at most 256.
-    pub fn instances(&self) -> &[&'a Valid]
-        ensures value { map (λ r. r.now) result.now ≡ self.now.instances }
-        ensures few { length self.now.instances ≤ core_instance_limit }
+    /// What is made, in file order.
+    pub fn plan(&self) -> &[Action]
+        ensures { result.now ≡ self.now.plan }
     {
-        &self.instances
+        self.plan.as_slice()
+    }
+
+    /// How many component instances begin: at most 256.
+    pub fn instance_count(&self) -> usize
+        ensures value { result ≡ self.now.instance_count }
+        ensures few { self.now.instance_count ≤ instance_limit }
+    {
+        self.instance_count
+    }
+
+    /// The core instances, in order of making: at most 256.
+    pub fn cores(&self) -> &[CoreMake<'a>]
+        ensures value { result.now ≡ self.now.cores }
+        ensures few { length self.now.cores ≤ core_instance_limit }
+    {
+        &self.cores
     }
 
     /// The functions that can be called, in order.
@@ -73,11 +191,11 @@ impl<'a> Graph<'a> {
         &self.exports
     }
 
-    /// The core function of the export of this number.
-    pub fn core(&self, number: usize) -> CoreFunc
+    /// What the export of this number lifts.
+    pub fn lift(&self, number: usize) -> Lift
         requires { number < length self.now.exports }
-        ensures { slice_get self.now.cores number ≡ Some result }
+        ensures { slice_get self.now.lifts number ≡ Some result }
     {
-        self.cores.as_slice()[number]
+        self.lifts.as_slice()[number]
     }
 }

@@ -1,11 +1,12 @@
 //! Graphs: what a component is linked to, as data.
 //!
-//! Linking makes a graph, and what runs a component reads it: which core modules are instantiated, in which order, and
-//! which functions can be called. `specs/Graph` says what a graph is and when its functions can be called.
+//! Linking makes a graph, and what runs a component reads it: which component instances begin and which core modules are
+//! instantiated, in which order, what their imports are, and which functions can be called. `specs/Graph` says what a graph is
+//! and when its functions can be called, and `specs/CoreItems` what core instances have.
 //!
 //! - `graph`: the graph
 #![tactic(auto)]
 
 mod graph;
 
-pub use graph::{CoreFunc, Graph};
+pub use graph::{Action, CoreExtern, CoreMake, CoreRef, Graph, Lift};

@@ -1,6 +1,7 @@
 -- Instances stay few.
-use Rattle.std.proofs.Common.{◌≡◌, ◌<◌, ◌≤◌, ℕ, [], ◌∷◌, length, set, sym, subst, arith, length-append, Some}
+use Rattle.std.proofs.Common.{◌≡◌, ◌<◌, ◌≤◌, ℕ, [], ◌∷◌, length, set, sym, subst, arith, length-append, Some, map}
 use Rattle.std.proofs.Math.ListN.{length-set}
+use Rattle.comp_graph.specs.Graph.{Graph}
 use Rattle.comp_reader.specs.declared.component.CoreInstance.{CoreInstance}
 use Rattle.comp_reader.specs.declared.component.CoreInstance.TheVariants as made_core
 use Rattle.comp_reader.specs.declared.component.Instance as made_of
@@ -12,10 +13,10 @@ use Rattle.comp_reader.specs.declared.component.Canon.TheVariants.{Lift}
 use Rattle.comp_reader.specs.declared.component.Item.{Item, out-Item}
 use Rattle.comp_reader.specs.declared.component.Item.TheOpen.{Item-F}
 use Rattle.comp_reader.specs.declared.component.Component.{Component}
-use Rattle.comp_linking.specs.Definitions.{Closure, Exports, exports_of}
+use Rattle.comp_linking.specs.Definitions.{extern_of, Closure, Exports, exports_of}
 use Rattle.comp_linking.specs.Spaces.{Spaces, Linking, new_spaces, with_spaces, with_core_instance}
 use Rattle.comp_linking.specs.Items.{instance_limit, core_made, core_instance_makes, instance_makes, alias_makes, makes_case}
-use Rattle.comp_linking.specs.Linked.{begun, with_instance, no_items, item_links, instance_links, root_begun, LinkedGraph}
+use Rattle.comp_linking.specs.Linked.{begun, with_instance, no_items, item_links, instance_links, root_begun}
 use Rattle.comp_linking.specs.Laws.{IsFew, FewInstances, GraphsAreFew}
 
 few_with : (l : Linking) (n : ℕ) (s : Spaces) → IsFew l → IsFew (with_spaces l n s)
@@ -32,7 +33,7 @@ core_instance_few l n s (made_core.Instantiate index arguments) new (m, imports,
     few_set = let same = length-set l.scopes n (with_core_instance s (exports_of m (length l.cores))) in omega (arith, h.0, same)
 
     few_cores : length (core_made l n s m imports).cores ≤ instance_limit
-    few_cores = let longer = length-append l.cores (record { of_module = m; imports = imports; owner = n } ∷ []) in omega (arith, longer, few)
+    few_cores = let longer = length-append l.cores (record { of_module = m; imports = map extern_of imports; owner = n } ∷ []) in omega (arith, longer, few)
 core_instance_few l n s (made_core.Inline read) new (exports, are, distinct, made) h = few_made l n _ new made h
 
 instance_few : (l : Linking) (n : ℕ) (s : Spaces) (i : made_of.Instance) (new : Linking) → instance_makes l n s i new → IsFew l → IsFew new
@@ -69,4 +70,4 @@ few_instances l n items last h (instance_links m inner end k s c arguments place
     few_instances (with_instance inner k s (length m.scopes)) k others end (few_with inner k _ (few_instances (begun m c arguments) (length m.scopes) c.items inner (few_begun m c arguments begins.few h) inside)) behind
 
 pub graphs_are_few : GraphsAreFew
-graphs_are_few c g (l, links, is) = subst (λ (g : LinkedGraph). (g.instance_count ≤ instance_limit) × (length g.cores ≤ instance_limit)) (sym is) (few_instances root_begun 0 c.items l (omega arith, omega arith) links)
+graphs_are_few c g (l, links, is) = subst (λ (g : Graph). (g.instance_count ≤ instance_limit) × (length g.cores ≤ instance_limit)) (sym is) (few_instances root_begun 0 c.items l (omega arith, omega arith) links)

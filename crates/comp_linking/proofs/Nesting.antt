@@ -16,6 +16,7 @@ use Rattle.comp_linking.specs.Items.{instance_limit}
 use Rattle.comp_linking.specs.Linked.{begun, IsRefusedAt, refused_here, refused_behind, refused_inside, root_begun}
 use Rattle.comp_linking.specs.Computed.{Makes, Starts, only_if, item_outcome, linked}
 use Rattle.comp_linking.specs.Examples.{root, fault, outer, instantiate, nesting}
+use Rattle.comp_linking.proofs.Holding.{last_there}
 use Rattle.comp_linking.proofs.Lengths.{begun_length}
 use Rattle.comp_linking.proofs.Outcomes.{outcome_computed, reason_computed}
 use Rattle.comp_linking.proofs.Running.{fault_computed}
@@ -33,10 +34,6 @@ first_kept (z ∷ xs) (suc n) x y less h = h
 first_before : {A : Type 0} (xs : List A) (x y : A) → slice_get xs 0 ≡ Some y → slice_get (xs ++ x ∷ []) 0 ≡ Some y
 first_before [] x y h = cc
 first_before (z ∷ xs) x y h = h
-
-last_there : {A : Type 0} (xs : List A) (x : A) → slice_get (xs ++ x ∷ []) (length xs) ≡ Some x
-last_there [] x = refl
-last_there (y ∷ xs) x = last_there xs x
 
 -- the items of the component, and it as it stands in the root
 abbrev items : List (Placed Item)

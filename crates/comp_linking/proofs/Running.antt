@@ -3,6 +3,7 @@ use Rattle.std.proofs.Common.{◌≡◌, ◌⊎◌, inl, inr, ◌<◌, ◌≤◌
 use Rattle.std.specs.Prelude.{Result, Ok, Err}
 use Rattle.std.specs.List.{slice_get}
 use Rattle.ca_base.specs.declared.placed.Placed.{Placed}
+use Rattle.comp_graph.specs.Graph.{Graph}
 use Rattle.comp_reader.specs.declared.component.Item.{Item}
 use Rattle.comp_reader.specs.declared.component.Component.{Component}
 use Rattle.comp_linking.specs.declared.fault.LinkWhy.{LinkWhy}
@@ -10,7 +11,7 @@ use Rattle.comp_linking.specs.declared.fault.LinkFault.{LinkFault}
 use Rattle.comp_linking.specs.Definitions.{Closure, Exports}
 use Rattle.comp_linking.specs.Spaces.{Spaces, Linking}
 use Rattle.comp_linking.specs.Items.{instance_limit, item_has}
-use Rattle.comp_linking.specs.Linked.{Begins, begun, with_instance, Links, no_items, item_links, instance_links, IsRefusedAt, refused_here, refused_behind, refused_inside, refused_behind_instance, root_begun, LinkedGraph, IsLinked, IsLinkRefused}
+use Rattle.comp_linking.specs.Linked.{Begins, begun, with_instance, Links, no_items, item_links, instance_links, IsRefusedAt, refused_here, refused_behind, refused_inside, refused_behind_instance, root_begun, IsLinked, IsLinkRefused}
 use Rattle.comp_linking.specs.Computed.{after, Outcome, Makes, Starts, item_outcome, Run, behind, placed_at, step, run, run_within, answer_of, linked}
 use Rattle.comp_linking.specs.Laws.{IsOutcome, GraphComputed, FaultComputed, LinkedOrRefused}
 use Rattle.comp_linking.proofs.Sounding.{Sound}
@@ -90,7 +91,7 @@ within_told (suc budget) items n l here enough =
 
 -- Components.
 
-abbrev Answers : Component → Result LinkedGraph LinkFault → Type 0
+abbrev Answers : Component → Result Graph LinkFault → Type 0
 Answers c (Ok g) = IsLinked c g
 Answers c (Err fault) = IsLinkRefused c fault
 
@@ -104,26 +105,26 @@ answers_within budget c enough = answer_is c (run_within budget root_begun 0 c.i
 answers : (c : Component) → Answers c (linked c)
 answers c = answers_within instance_limit c (omega arith)
 
-told : (c : Component) (r : Result LinkedGraph LinkFault) → linked c ≡ r → Answers c r
-told c r e = subst (λ (r : Result LinkedGraph LinkFault). Answers c r) e (answers c)
+told : (c : Component) (r : Result Graph LinkFault) → linked c ≡ r → Answers c r
+told c r e = subst (λ (r : Result Graph LinkFault). Answers c r) e (answers c)
 
 pub graph_computed : GraphComputed
 graph_computed c g = (λ e. told c (Ok g) e, back (linked c) (answers c))
   where
-    back : (r : Result LinkedGraph LinkFault) → Answers c r → IsLinked c g → r ≡ Ok g
+    back : (r : Result Graph LinkFault) → Answers c r → IsLinked c g → r ≡ Ok g
     back (Ok h) is k = ap Ok (one_graph c h g is k)
     back (Err fault) is k = absurd (linked_is_not_refused c g fault k is)
 
 pub fault_computed : FaultComputed
 fault_computed c fault = (λ e. told c (Err fault) e, back (linked c) (answers c))
   where
-    back : (r : Result LinkedGraph LinkFault) → Answers c r → IsLinkRefused c fault → r ≡ Err fault
+    back : (r : Result Graph LinkFault) → Answers c r → IsLinkRefused c fault → r ≡ Err fault
     back (Ok g) is k = absurd (linked_is_not_refused c g fault is k)
     back (Err other) is k = ap Err (one_refusal c other fault is k)
 
 pub linked_or_refused : LinkedOrRefused
 linked_or_refused c = by (linked c) (answers c)
   where
-    by : (r : Result LinkedGraph LinkFault) → Answers c r → ((g : LinkedGraph) × IsLinked c g) ⊎ ((fault : LinkFault) × IsLinkRefused c fault)
+    by : (r : Result Graph LinkFault) → Answers c r → ((g : Graph) × IsLinked c g) ⊎ ((fault : LinkFault) × IsLinkRefused c fault)
     by (Ok g) h = inl (g, h)
     by (Err fault) h = inr (fault, h)

@@ -3,6 +3,7 @@ use Rattle.std.proofs.Common.{◌≡◌, ◌∙◌, sym, ap, refl, ℕ, true, ma
 use Rattle.std.specs.Prelude.{Ok, Result, codes}
 use Rattle.ca_types.specs.declared.types.ValType.TheVariants as val_type
 use Rattle.ca_types.specs.declared.types.ValType.TheViews.{outs-U32}
+use Rattle.comp_graph.specs.Graph.{Graph}
 use Rattle.comp_reader.specs.declared.component.FuncType.{FuncType}
 use Rattle.comp_reader.specs.declared.component.PrimValType.TheVariants.{U32}
 use Rattle.comp_reader.specs.declared.component.Item.TheVariants as plain
@@ -23,11 +24,11 @@ use Rattle.comp_linking.specs.declared.fault.LinkWhy.TheVariants as why
 use Rattle.comp_linking.specs.Closed.{Value, Instance, OfType, EmptyType, WithExtern}
 use Rattle.comp_linking.specs.Spaces.{Level}
 use Rattle.comp_linking.specs.Types.{meant, InLevels, Declared, nothing_declared, declared_by, instance_meaning, own_level, with_type, with_export, func_meaning, types_around, type_step, decl_step, meaning_of}
-use Rattle.comp_linking.specs.Linked.{root_begun, LinkedGraph}
+use Rattle.comp_linking.specs.Linked.{root_begun}
 use Rattle.comp_linking.specs.Computed.{Run, run, run_within, answer_of, linked}
 use Rattle.comp_linking.specs.Same.{same_val}
 use Rattle.comp_linking.proofs.SameValues.{val_told}
-use Rattle.comp_linking.specs.Examples.{root, fault, u32, of_types, import, outer, export_type, wanting, instantiate, giving_both, begins, of_one, make_with_absent, lifting, lifted_one}
+use Rattle.comp_linking.specs.Examples.{root, fault, u32, of_types, import, outer, export_type, wanting, instantiate, giving_both, begins, of_one, make_with_absent, lifting, lifting_twice, callable_as}
 
 u32_rolled : (levels : List Level) → meaning_of u32 levels ≡ meant (Some (Value val_type.U32))
 u32_rolled levels = ap (λ t. meaning_of t levels) (sym (rolls-Value U32)) ∙ ap (λ (f : InLevels). f levels) (fold-roll-DefType InLevels (List Level → Declared → Declared) type_step decl_step (DefType-F.Value U32))
@@ -67,10 +68,10 @@ func_rolled type levels =
 ruleset layers = (outs-CoreModule, outs-CoreInstance, outs-Canon, outs-U32, func_rolled, outs-Import, outs-Alias, outs-Export, outs-Type, outs-Instance, outs-Component, u32_rolled, no_exports, one_export, u32_same)
 
 -- what is computed, whatever is computed of the components that begin, or of those that begin inside these
-pub linked_by : (c : Component) (r : Result LinkedGraph LinkFault) → ((inside : Run) → answer_of (run inside root_begun 0 c.items) ≡ r) → linked c ≡ r
+pub linked_by : (c : Component) (r : Result Graph LinkFault) → ((inside : Run) → answer_of (run inside root_begun 0 c.items) ≡ r) → linked c ≡ r
 linked_by c r h = h (run_within 255)
 
-pub linked_inside : (c : Component) (r : Result LinkedGraph LinkFault) → ((inside : Run) → answer_of (run (run inside) root_begun 0 c.items) ≡ r) → linked c ≡ r
+pub linked_inside : (c : Component) (r : Result Graph LinkFault) → ((inside : Run) → answer_of (run (run inside) root_begun 0 c.items) ≡ r) → linked c ≡ r
 linked_inside c r h = h (run_within 254)
 
 -- faults of one item
@@ -98,8 +99,11 @@ pub asked : (inside : Run) → answer_of (run (run inside) root_begun 0 (giving_
 asked inside = simp layers refl
 
 -- core instances
-pub lifts_one : (inside : Run) → answer_of (run inside root_begun 0 (root lifting).items) ≡ Ok lifted_one
+pub lifts_one : (inside : Run) → answer_of (run inside root_begun 0 (root lifting).items) ≡ Ok (callable_as (codes "run" ∷ []))
 lifts_one inside = simp layers refl
+
+pub lifts_twice : (inside : Run) → answer_of (run inside root_begun 0 (root lifting_twice).items) ≡ Ok (callable_as (codes "a#run" ∷ codes "a#run" ∷ []))
+lifts_twice inside = simp layers refl
 
 pub absent_argument : (inside : Run) → answer_of (run inside root_begun 0 (root (plain.CoreModule of_one ∷ make_with_absent ∷ [])).items) ≡ fault 1 why.Index
 absent_argument inside = simp layers refl

@@ -7,6 +7,7 @@ use Rattle.ca_base.specs.Names.{is_among}
 use Rattle.ca_base.specs.declared.placed.Placed.{Placed}
 use Rattle.ca_types.specs.declared.types.FuncType.{FuncType}
 use Rattle.wasm_module.specs.declared.module.Import.{Import}
+use Rattle.comp_graph.specs.Graph.{Graph}
 use Rattle.comp_reader.specs.declared.component.CoreArgument.{CoreArgument}
 use Rattle.comp_reader.specs.declared.component.CoreInlineExport.{CoreInlineExport}
 use Rattle.comp_reader.specs.declared.component.CoreInstance.{CoreInstance}
@@ -32,7 +33,7 @@ use Rattle.comp_graph.specs.Graph.{is_flat}
 use Rattle.comp_linking.specs.Types.{Meaning, meaning_of}
 use Rattle.comp_linking.specs.Spaces.{Spaces, Linking, core_size, size_of, core_item_at, definition_at, with_core_item, with_core_instance, with_definition, with_spaces, levels_at, outer_at}
 use Rattle.comp_linking.specs.Items.{instance_limit, argument_named, core_made, wanted, lacking, with_import, said, with_export}
-use Rattle.comp_linking.specs.Linked.{begun, with_instance, root_begun, LinkedGraph, graph_of}
+use Rattle.comp_linking.specs.Linked.{begun, with_instance, root_begun, graph_of}
 use Rattle.comp_linking.specs.Tests.{are_distinct, all_fit, is_core_of, is_of_sort, fits, root_may_import}
 
 -- what comes behind what has no reason against it
@@ -248,9 +249,9 @@ run_within zero = run (λ l n items. Ok l)
 run_within (suc budget) = run (run_within budget)
 
 -- What a component is linked to, or its fault.
-abbrev pub answer_of : Result Linking LinkFault → Result LinkedGraph LinkFault
+abbrev pub answer_of : Result Linking LinkFault → Result Graph LinkFault
 answer_of (Ok l) = Ok (graph_of l)
 answer_of (Err fault) = Err fault
 
-abbrev pub linked : Component → Result LinkedGraph LinkFault
+abbrev pub linked : Component → Result Graph LinkFault
 linked c = answer_of (run_within instance_limit root_begun 0 c.items)

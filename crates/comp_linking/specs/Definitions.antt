@@ -1,37 +1,20 @@
 -- What index spaces hold (Component Model, Explainer.md, "Index Spaces"): definitions, by their sorts, and the exports of
 -- instances. A function is the lift of a core function; a component is kept as it stands in the file, with the components
 -- that stand around it; what core instances have is told by the core instance that made it.
-use Rattle.std.specs.Prelude.{◌≡◌, ◌≤◌, ℕ, List, [], ◌∷◌, ◌++◌, cond, Option, Some, None}
+use Rattle.std.specs.Prelude.{◌≡◌, ℕ, List, [], ◌∷◌, ◌++◌, cond, Option, Some, None}
 use Rattle.std.specs.Option.{option_map}
-use Rattle.std.specs.List.{slice_get, flat_map}
+use Rattle.std.specs.List.{flat_map}
 use Rattle.std.specs.Str.{bytes_eq}
 use Rattle.ca_base.specs.declared.placed.Placed.{Placed}
-use Rattle.ca_types.specs.declared.types.FuncType.{FuncType}
-use Rattle.wasm_module.specs.declared.types.FuncType as core
-use Rattle.wasm_module.specs.declared.types.Limits.{Limits}
-use Rattle.wasm_module.specs.declared.types.GlobalType.{GlobalType}
 use Rattle.wasm_module.specs.declared.module.Export.{Export}
-use Rattle.wasm_module.specs.declared.module.ExportDesc.{ExportDesc}
-use Rattle.wasm_module.specs.declared.module.ExportDesc.TheVariants as offered
-use Rattle.wasm_module.specs.declared.module.ImportDesc.{ImportDesc}
-use Rattle.wasm_module.specs.declared.module.ImportDesc.TheVariants as wanted
 use Rattle.wasm_module.specs.declared.module.ModuleTree.{ModuleTree}
-use Rattle.wasm_module.specs.Spaces.{imported_tables, imported_memories, global_space, type_of_func}
+pub use Rattle.comp_graph.specs.declared.graph.CoreRef.{CoreRef}
+pub use Rattle.comp_graph.specs.CoreItems.{CoreItem, Func, Table, Memory, Global, extern_of, item_of, MaxIsWithin, IsWithin, CoreFits}
+pub use Rattle.comp_graph.specs.Graph.{Lifted}
 use Rattle.comp_reader.specs.declared.component.Item.{Item}
 use Rattle.comp_linking.specs.Closed.{Closed, Extern, OfFunc, OfType, OfInstance, Externs, EmptyType, WithExtern, first_of}
 
--- a definition of a core instance: the number of the instance, in order of making, and the index in the space of its sort
-pub record CoreRef : Type 0 where
-  pub instance : ℕ
-  pub index : ℕ
-
--- what a core instance exports, with its type
-pub data CoreItem : Type 0 where
-  Func : CoreRef → core.FuncType → CoreItem
-  Table : CoreRef → Limits → CoreItem
-  Memory : CoreRef → Limits → CoreItem
-  Global : CoreRef → GlobalType → CoreItem
-
+-- what a core instance exports
 pub record CoreExport : Type 0 where
   pub name : List ℕ
   pub item : CoreItem
@@ -41,20 +24,6 @@ abbrev pub core_named : List ℕ → List CoreExport → Option CoreItem
 core_named q [] = None
 core_named q (e ∷ exports) = cond (bytes_eq e.name q) (Some e.item) (core_named q exports)
 
--- The index spaces of tables and memories of a module: their limits.
-abbrev pub table_space : ModuleTree → List Limits
-table_space m = imported_tables m.imports ++ m.tables
-
-abbrev pub memory_space : ModuleTree → List Limits
-memory_space m = imported_memories m.imports ++ m.memories
-
--- What a module's export is in the core instance of this number. Its type is that which the module gives it.
-abbrev pub item_of : ModuleTree → ℕ → ExportDesc → Option CoreItem
-item_of m number (offered.Func index) = option_map (λ type. Func (record { instance = number; index = index }) type) (type_of_func m index)
-item_of m number (offered.Table index) = option_map (λ limits. Table (record { instance = number; index = index }) limits) (slice_get (table_space m) index)
-item_of m number (offered.Memory index) = option_map (λ limits. Memory (record { instance = number; index = index }) limits) (slice_get (memory_space m) index)
-item_of m number (offered.Global index) = option_map (λ type. Global (record { instance = number; index = index }) type) (slice_get (global_space m) index)
-
 abbrev pub listed : Option CoreExport → List CoreExport
 listed None = []
 listed (Some e) = e ∷ []
@@ -62,29 +31,6 @@ listed (Some e) = e ∷ []
 -- the exports of the core instance of this number, which is made of this module; in a module that is valid all are there
 abbrev pub exports_of : ModuleTree → ℕ → List CoreExport
 exports_of m number = flat_map (λ (e : Export). listed (option_map (λ item. record { name = e.name; item = item }) (item_of m number e.desc))) m.exports
-
--- Limits that are within others (Core 2.0, section 3.2.8.1): at least as much from the start, and no greater a maximum.
-abbrev pub MaxIsWithin : Option ℕ → Option ℕ → Type 0
-MaxIsWithin max None = Unit {0}
-MaxIsWithin None (Some most) = ⊥
-MaxIsWithin (Some max) (Some most) = max ≤ most
-
-abbrev pub IsWithin : Limits → Limits → Type 0
-IsWithin limits asked = (asked.min ≤ limits.min) × MaxIsWithin limits.max asked.max
-
--- A core item is what an import of a module asks for (Core 2.0, section 3.2.8).
-abbrev pub CoreFits : ModuleTree → CoreItem → ImportDesc → Type 0
-CoreFits m (Func f type) (wanted.Func index) = slice_get m.types index ≡ Some type
-CoreFits m (Table t limits) (wanted.Table asked) = IsWithin limits asked
-CoreFits m (Memory memory limits) (wanted.Memory asked) = IsWithin limits asked
-CoreFits m (Global g type) (wanted.Global asked) = type ≡ asked
-CoreFits m item other = ⊥
-
--- a function: the core function that it lifts, its type, and the component instance that lifts it
-pub record Lifted : Type 0 where
-  pub instance : ℕ
-  pub core : CoreRef
-  pub func_type : FuncType
 
 -- a component: its items, and the component instances whose definitions it sees, from the inside out
 pub record Closure : Type 0 where

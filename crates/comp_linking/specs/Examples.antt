@@ -8,6 +8,8 @@ use Rattle.wasm_module.specs.declared.instr.Instr.TheVariants.{I32Const}
 use Rattle.wasm_module.specs.declared.module.ExportDesc.TheVariants as offered
 use Rattle.wasm_module.specs.declared.module.ModuleTree.{ModuleTree}
 use Rattle.wasm_module.specs.Expr.{Plain, End}
+use Rattle.comp_graph.specs.declared.graph.Lift as graph
+use Rattle.comp_graph.specs.Graph.{Graph}
 use Rattle.comp_reader.specs.declared.component.CoreSort.TheVariants as core_sort
 use Rattle.comp_reader.specs.declared.component.CoreInstance.TheVariants as made_core
 use Rattle.comp_reader.specs.declared.component.Canon.TheVariants.{Lift}
@@ -31,7 +33,6 @@ use Rattle.comp_reader.specs.declared.component.Component.{Component}
 use Rattle.comp_linking.specs.declared.fault.LinkWhy.{LinkWhy}
 use Rattle.comp_linking.specs.declared.fault.LinkFault.{LinkFault}
 use Rattle.comp_linking.specs.Spaces.{Begin, Make}
-use Rattle.comp_linking.specs.Linked.{LinkedGraph}
 
 abbrev placed_from : ℕ → List Item → List (Placed Item)
 placed_from at [] = []
@@ -44,7 +45,7 @@ root items = record { items = placed_from 0 items }
 abbrev pub inside : List Item → Item
 inside items = item.Component (record { items = placed_from 10 items })
 
-abbrev pub fault : ℕ → LinkWhy → Result LinkedGraph LinkFault
+abbrev pub fault : ℕ → LinkWhy → Result Graph LinkFault
 fault place w = Err (record { place = place; why = w })
 
 -- Types: of u32, and of instances whose exports of these names are the type u32.
@@ -101,8 +102,8 @@ abbrev pub giving_both : List ℕ → Component
 giving_both name = root (plain.Type u32 ∷ types_named (codes "a" ∷ codes "b" ∷ []) ∷ taking name ∷ instantiate_with ∷ [])
 
 -- a graph without core instances and exports, of so many component instances
-abbrev pub begins : List ℕ → Result LinkedGraph LinkFault
-begins numbers = Ok (record { plan = map (λ n. Begin n) numbers; instance_count = length numbers; cores = []; exports = [] })
+abbrev pub begins : List ℕ → Result Graph LinkFault
+begins numbers = Ok (record { plan = map (λ n. Begin n) numbers; instance_count = length numbers; cores = []; exports = []; lifts = [] })
 
 -- A component that instantiates itself: it takes itself from the root, and the root instantiates it.
 abbrev pub nesting : Item
@@ -126,26 +127,37 @@ make = plain.CoreInstance (made_core.Instantiate 0 [])
 abbrev pub make_with_absent : Item
 make_with_absent = plain.CoreInstance (made_core.Instantiate 0 (record { name = codes "in"; instance = 0 } ∷ []))
 
--- the function of that module, lifted to a function that gives a u32, and exported
-abbrev pub lifting : List Item
-lifting =
+-- the function of that module, lifted to a function that gives a u32
+abbrev lifting_before : List Item → List Item
+lifting_before items =
     plain.CoreModule of_one
     ∷ make
     ∷ plain.Alias (record { sort = sorts.Core core_sort.Func; target = target.CoreInstanceExport 0 (codes "one") })
     ∷ plain.Type (plain_type.Func (record { params = []; result = Some (type_ref.Primitive U32) }))
     ∷ plain.Canon (Lift 0 0)
-    ∷ plain.Export (record { name = codes "run"; sort = sorts.Func; index = 0; desc = None })
-    ∷ []
+    ∷ items
 
-abbrev pub lifted_one : LinkedGraph
-lifted_one = record {
+-- and exported; or exported as `a#run`, and as `run` of an instance that is exported as `a`
+abbrev pub lifting : List Item
+lifting = lifting_before (plain.Export (record { name = codes "run"; sort = sorts.Func; index = 0; desc = None }) ∷ [])
+
+abbrev pub lifting_twice : List Item
+lifting_twice =
+    lifting_before
+    (plain.Instance (made.Inline (record { name = codes "run"; sort = sorts.Func; index = 0 } ∷ []))
+    ∷ plain.Export (record { name = codes "a#run"; sort = sorts.Func; index = 0; desc = None })
+    ∷ plain.Export (record { name = codes "a"; sort = sorts.Instance; index = 0; desc = None })
+    ∷ [])
+
+-- the graph of that core instance, whose function can be called under these names
+abbrev lifts_for : List (List ℕ) → List graph.Lift
+lifts_for names = map (λ (name : List ℕ). record { instance = 0; core = record { instance = 0; index = 0 } }) names
+
+abbrev pub callable_as : List (List ℕ) → Graph
+callable_as names = record {
   plan = Begin 0 ∷ Make 0 ∷ [];
   instance_count = 1;
   cores = record { of_module = of_one; imports = []; owner = 0 } ∷ [];
-  exports =
-      record {
-        name = codes "run";
-        func = record { instance = 0; core = record { instance = 0; index = 0 }; func_type = record { params = []; result = Some val_type.U32 } };
-      }
-      ∷ [];
+  exports = map (λ name. record { name = name; func_type = record { params = []; result = Some val_type.U32 } }) names;
+  lifts = lifts_for names;
 }

@@ -32,14 +32,11 @@ use Rattle.comp_reader.specs.declared.component.Component.{Component}
 use Rattle.comp_linking.specs.declared.fault.LinkWhy.{LinkWhy}
 use Rattle.comp_linking.specs.declared.fault.LinkWhy.TheVariants as why
 use Rattle.comp_linking.specs.Closed.{Closed, first_of, Extern, OfInstance, func_of, AreTypes}
-use Rattle.comp_linking.specs.Definitions.{CoreRef, CoreItem, Func, CoreExport, core_named, exports_of, CoreFits, Definition, AFunc, AType, AComponent, AnInstance, AModule, Exports, EmptyInstance, WithExport, export_names, export_named, Fits, lacks, seen_as, types_of}
+use Rattle.comp_linking.specs.Definitions.{CoreRef, CoreItem, Func, extern_of, CoreExport, core_named, exports_of, CoreFits, Definition, AFunc, AType, AComponent, AnInstance, AModule, Exports, EmptyInstance, WithExport, export_names, export_named, Fits, lacks, seen_as, types_of}
 use Rattle.comp_graph.specs.Graph.{is_flat}
+pub use Rattle.comp_graph.specs.Graph.{instance_limit}
 use Rattle.comp_linking.specs.Types.{Meaning, meaning_of, desc_meaning}
 use Rattle.comp_linking.specs.Spaces.{Spaces, Make, Linking, core_size, size_of, core_item_at, definition_at, IsOfCoreSort, IsOfSort, with_core_item, with_core_instance, with_definition, with_spaces, levels_at, outer_at}
-
--- how many component instances there may be, and how many core instances
-abbrev pub instance_limit : ℕ
-instance_limit = 256
 
 -- an item for which something holds
 abbrev pub AnyByRecursion : {A : Type 0} → (A → Type 0) → List A → Type 0
@@ -110,7 +107,7 @@ IsInline s read e = (e.name ≡ read.name) × (core_item_at s read.sort read.ind
 abbrev pub core_made : Linking → ℕ → Spaces → ModuleTree → List CoreItem → Linking
 core_made l n s m imports = record {
   scopes = set l.scopes n (with_core_instance s (exports_of m (length l.cores)));
-  cores = l.cores ++ record { of_module = m; imports = imports; owner = n } ∷ [];
+  cores = l.cores ++ record { of_module = m; imports = map extern_of imports; owner = n } ∷ [];
   plan = l.plan ++ Make (length l.cores) ∷ [];
 }
 

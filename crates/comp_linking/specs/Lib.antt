@@ -1,11 +1,13 @@
 pub mod Closed
 pub mod Computed
 pub mod Definitions
+pub mod Distinct
 pub mod Examples
 pub mod Items
 pub mod Laws
 pub mod Linked
 pub mod Same
 pub mod Spaces
+pub mod Standing
 pub mod Tests
 pub mod Types

@@ -5,6 +5,9 @@ use Rattle.std.specs.Prelude.{◌≡◌, ◌<◌, ℕ, List, [], ◌∷◌, ◌+
 use Rattle.std.specs.List.{slice_get}
 use Rattle.ca_base.specs.Names.{AreDistinct}
 use Rattle.ca_base.specs.declared.placed.Placed.{Placed}
+use Rattle.ca_types.specs.declared.exports.Export.{Export}
+use Rattle.comp_graph.specs.declared.graph.Lift.{Lift}
+use Rattle.comp_graph.specs.Graph.{Graph}
 use Rattle.comp_reader.specs.declared.component.NamedDefinition.{NamedDefinition}
 use Rattle.comp_reader.specs.declared.component.Instance.TheVariants.{Instantiate}
 use Rattle.comp_reader.specs.declared.component.Item.{Item, out-Item}
@@ -14,7 +17,7 @@ use Rattle.comp_linking.specs.declared.fault.LinkWhy.{LinkWhy}
 use Rattle.comp_linking.specs.declared.fault.LinkWhy.TheVariants as why
 use Rattle.comp_linking.specs.declared.fault.LinkFault.{LinkFault}
 use Rattle.comp_linking.specs.Definitions.{Lifted, Closure, AFunc, AnInstance, Exports, EmptyInstance, WithExport}
-use Rattle.comp_linking.specs.Spaces.{Spaces, new_spaces, CoreMake, Action, Begin, Linking, with_definition, with_spaces}
+use Rattle.comp_linking.specs.Spaces.{Spaces, new_spaces, Begin, Linking, with_definition, with_spaces}
 use Rattle.comp_linking.specs.Items.{instance_limit, AreNamed, item_has, item_makes}
 
 -- The order of the reasons at one item.
@@ -112,19 +115,24 @@ callables (WithExport others name (AFunc f)) = callables others ++ record { name
 callables (WithExport others name (AnInstance inner)) = callables others ++ funcs_behind (name ++ codes "#") inner
 callables (WithExport others name d) = callables others
 
--- What a component is linked to: what is made, in file order, how many component instances there are, the core instances
--- with their modules and imports, and the functions that can be called.
-pub record LinkedGraph : Type 0 where
-  pub plan : List Action
-  pub instance_count : ℕ
-  pub cores : List CoreMake
-  pub exports : List Callable
+-- What a component is linked to: what is made, in file order, and the functions that can be called.
+abbrev pub export_of : Callable → Export
+export_of c = record { name = c.name; func_type = c.func.func_type }
 
-abbrev pub graph_of : Linking → LinkedGraph
-graph_of l = record { plan = l.plan; instance_count = length l.scopes; cores = l.cores; exports = callables (exports_at l 0) }
+abbrev pub lift_of : Callable → Lift
+lift_of c = record { instance = c.func.instance; core = c.func.core }
+
+abbrev pub graph_of : Linking → Graph
+graph_of l = record {
+  plan = l.plan;
+  instance_count = length l.scopes;
+  cores = l.cores;
+  exports = map export_of (callables (exports_at l 0));
+  lifts = map lift_of (callables (exports_at l 0));
+}
 
 -- the component is linked to the graph; it is refused at this place, for this reason
-abbrev pub IsLinked : Component → LinkedGraph → Type 0
+abbrev pub IsLinked : Component → Graph → Type 0
 IsLinked c g = (l : Linking) × Links root_begun 0 c.items l × (g ≡ graph_of l)
 
 abbrev pub IsLinkRefused : Component → LinkFault → Type 0

@@ -10,6 +10,9 @@ use Rattle.comp_reader.specs.declared.component.CoreSort.{CoreSort}
 use Rattle.comp_reader.specs.declared.component.CoreSort.TheVariants as core_sort
 use Rattle.comp_reader.specs.declared.component.Sort.{Sort}
 use Rattle.comp_reader.specs.declared.component.Sort.TheVariants as sorts
+pub use Rattle.comp_graph.specs.declared.graph.Action.{Action}
+pub use Rattle.comp_graph.specs.declared.graph.Action.TheVariants.{Begin, Make}
+pub use Rattle.comp_graph.specs.Graph.{CoreMake}
 use Rattle.comp_linking.specs.Closed.{Closed}
 use Rattle.comp_linking.specs.Definitions.{CoreItem, Func, Table, Memory, Global, CoreExport, Lifted, Closure, Definition, AFunc, AType, AComponent, AnInstance, AModule, Exports, EmptyInstance}
 
@@ -51,17 +54,6 @@ new_spaces arguments around = record {
   arguments = arguments;
   around = around;
 }
-
--- a core instance: its module, what its module's imports are, in order, and the component instance that makes it
-pub record CoreMake : Type 0 where
-  pub of_module : ModuleTree
-  pub imports : List CoreItem
-  pub owner : ℕ
-
--- what is made, in file order: a component instance begins, or a core instance is made
-pub data Action : Type 0 where
-  Begin : ℕ → Action
-  Make : ℕ → Action
 
 -- the component instances and the core instances so far, by their numbers, and what was made so far
 pub record Linking : Type 0 where

@@ -6,7 +6,7 @@ ghost use Rattle.comp_reader.specs.declared.component.Sort.TheVariants as sorts;
 ghost use Rattle.comp_reader.specs.declared.component.Item.TheVariants as plain;
 ghost use Rattle.comp_linking.specs.declared.fault.LinkWhy.TheVariants as why;
 ghost use Rattle.comp_linking.specs.Computed.{linked};
-ghost use Rattle.comp_linking.specs.Examples.{root, fault, u32, import, outer, export_type, instantiate, wanting, giving_both, nesting, begins, of_one, make, make_with_absent, lifting, lifted_one};
+ghost use Rattle.comp_linking.specs.Examples.{root, fault, u32, import, outer, export_type, instantiate, wanting, giving_both, nesting, begins, of_one, make, make_with_absent, lifting, lifting_twice, callable_as};
 
 /// Faults of one item: an import of the root that is a function, also where its index is not there; an outer alias that goes
 /// past the root; and an export of a name that was exported.
@@ -37,6 +37,12 @@ pub fn too_many()
 /// A function of a core instance that is lifted and exported can be called. An argument of a core instance is to be there, also
 /// where no import is of it.
 pub fn core_instances()
-    ensures lifted { linked (root lifting) ≡ Ok lifted_one }
+    ensures lifted { linked (root lifting) ≡ Ok (callable_as (codes "run" ∷ [])) }
     ensures absent { linked (root (plain.CoreModule of_one ∷ make_with_absent ∷ [])) ≡ fault 1 why.Index }
+{}
+
+/// A function that is exported as `a#run`, and a function `run` of an instance that is exported as `a`, can be called under one
+/// name.
+pub fn one_name()
+    ensures { linked (root lifting_twice) ≡ Ok (callable_as (codes "a#run" ∷ codes "a#run" ∷ [])) }
 {}

@@ -1,6 +1,6 @@
 //! What holds of every linking.
 
-ghost use Rattle.comp_linking.specs.Laws.{MakesExcludesReasons, BeginsExcludesReasons, MakesExcludesBegins, MakesOnce, BeginsOnce, OneName, OneFirst, OneLinking, LinksExcludesFaults, OneFault, OneGraph, LinkedIsNotRefused, OneRefusal, FewInstances, GraphsAreFew, OutcomeComputed, ReasonComputed, GraphComputed, FaultComputed, LinkedOrRefused, FuncsCompared, ClosedCompared, FitsTested};
+ghost use Rattle.comp_linking.specs.Laws.{MakesExcludesReasons, BeginsExcludesReasons, MakesExcludesBegins, MakesOnce, BeginsOnce, OneName, OneFirst, OneLinking, LinksExcludesFaults, OneFault, OneGraph, LinkedIsNotRefused, OneRefusal, FewInstances, GraphsAreFew, GraphsAreImported, GraphsAreCallable, LabelsAreDistinct, RootNamesAreDistinct, NamesAreDistinct, ModulesStand, OutcomeComputed, ReasonComputed, GraphComputed, FaultComputed, LinkedOrRefused, FuncsCompared, ClosedCompared, FitsTested};
 
 /// An item that makes something, or begins an instance of a component, has no reason against it, and none does both.
 pub fn items_make_or_are_refused()
@@ -40,6 +40,22 @@ pub fn components_have_one_graph()
 pub fn instances_stay_few()
     ensures items { FewInstances }
     ensures graph { GraphsAreFew }
+{}
+
+/// The core instances of a graph have the imports that their modules ask for, of core instances before them. Its exports can
+/// be called, and no two parameters of one have one label. Each core instance is of a module that stands in the component.
+pub fn graphs_are_sound()
+    ensures imported { GraphsAreImported }
+    ensures callable { GraphsAreCallable }
+    ensures labels { LabelsAreDistinct }
+    ensures modules { ModulesStand }
+{}
+
+/// The names of a component's exports are distinct, and so are the names of the functions that can be called, where no name of
+/// an export of the component has a `#`.
+pub fn names_are_distinct()
+    ensures root { RootNamesAreDistinct }
+    ensures all { NamesAreDistinct }
 {}
 
 /// What is computed of an item is what it makes or begins, or its first reason. So each item has exactly one of them.
