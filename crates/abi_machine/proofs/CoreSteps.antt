@@ -59,6 +59,6 @@ calls_run f =
     ap (λ (move : Move). core_turn move (Running f) (λ words. resolved f words number below w) number below w) e)
 
 pub starts_run : StartsRun
-starts_run modules =
-    core_made (λ k. StartsUp k modules) (λ w number below costs u k m e.
-    ap (λ (move : Move). core_turn move (λ l. StartsUp l modules) (λ words. silent (with_task number (Instantiating modules) below w)) number below w) e)
+starts_run cores =
+    core_made (λ k. StartsUp k cores) (λ w number below costs u k m e.
+    ap (λ (move : Move). core_turn move (λ l. StartsUp l cores) (λ words. silent (with_task number (Instantiating cores) below w)) number below w) e)

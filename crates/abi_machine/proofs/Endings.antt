@@ -7,9 +7,9 @@ use Rattle.core_machine.specs.Stack.{Stack}
 use Rattle.core_machine.specs.Stack as stack
 use Rattle.core_machine.specs.Step.{Move, Goes, Calls, Traps, next, cost}
 use Rattle.core_machine.specs.Step as core
-use Rattle.core_machine.specs.Instantiation.{Instantiation, Makes, SegmentBounds, instantiated}
+use Rattle.core_machine.specs.Instantiation.{External, Instantiation, Makes, SegmentBounds, instantiated}
 use Rattle.ca_types.specs.declared.value.Value.{Value}
-use Rattle.comp_graph.specs.Graph.{Graph, Lifted, func_named}
+use Rattle.comp_graph.specs.Graph.{CoreMake, Graph, Lifted, func_named}
 use Rattle.script_reader.specs.declared.script.Call.{Call}
 use Rattle.script_reader.specs.declared.script.Item.{Item}
 use Rattle.script_reader.specs.declared.script.Item.TheVariants as item
@@ -18,7 +18,7 @@ use Rattle.trace_show.specs.declared.trap.TrapName.TheVariants as trap
 use Rattle.abi_machine.specs.declared.run_end.RunEnd.{RunEnd}
 use Rattle.abi_machine.specs.declared.run_end.RunEnd.TheVariants.{Done, Trapped, Fuel}
 use Rattle.abi_machine.specs.World.{TaskState, Instantiating, StartsUp, Starting, Running, Returned, Doomed, Task, World, with_task, with_store}
-use Rattle.abi_machine.specs.Machine.{Turn, Steps, Ends, Stuck, charged, silent, silent_for, trap_name, core_turn, made, instantiating_turn, core_func, entered, resolved, task_turn, taken, idle_turn, chain_turn, turn}
+use Rattle.abi_machine.specs.Machine.{Turn, Steps, Ends, Stuck, charged, silent, silent_for, trap_name, core_turn, externals, made, supplied, instantiating_turn, core_func, entered, resolved, task_turn, taken, idle_turn, chain_turn, turn}
 use Rattle.abi_machine.specs.Run.{Reaches}
 use Rattle.abi_machine.specs.EndLaws.{OneLast, HasLast, IsRun, DoneIsAll, TrapIsMet, FuelIsWanting, task_cost, next_cost, StepsUseTheirCost, StepsUseOneOrNone, SegmentsStay}
 
@@ -52,22 +52,26 @@ core_says chain items k (core.Ends words) state behind other number below w h = 
 core_says chain items k (Traps why) state behind other number below w h = silent_says chain items true (with_task number (Doomed (trap_name why)) below w)
 core_says chain items k core.Stuck state behind other number below w h = tt
 
-made_says : (chain : List Task) (items : List Item) (one : Turn) (r : Instantiation) (m : ModuleTree) (modules : List ModuleTree) (number : ℕ) (below : List Task) (w : World) → Says chain items w.units 0 one (made r m modules number below w)
-made_says chain items one (SegmentBounds s) m modules number below w = omega arith
-made_says chain items one (Makes s) m modules number below w = omega arith
+made_says : (chain : List Task) (items : List Item) (one : Turn) (r : Instantiation) (m : ModuleTree) (imports : List External) (cores : List CoreMake) (number : ℕ) (below : List Task) (w : World) → Says chain items w.units 0 one (made r m imports cores number below w)
+made_says chain items one (SegmentBounds s) m imports cores number below w = omega arith
+made_says chain items one (Makes s) m imports cores number below w = omega arith
 
-instantiating_says : (chain : List Task) (items : List Item) (one : Turn) (modules : List ModuleTree) (number : ℕ) (below : List Task) (w : World) → Says chain items w.units 0 one (instantiating_turn modules number below w)
+supplied_says : (chain : List Task) (items : List Item) (one : Turn) (o : Option (List External)) (m : ModuleTree) (cores : List CoreMake) (number : ℕ) (below : List Task) (w : World) → Says chain items w.units 0 one (supplied o m cores number below w)
+supplied_says chain items one None m cores number below w = tt
+supplied_says chain items one (Some imports) m cores number below w = made_says chain items one (instantiated m imports w.store) m imports cores number below w
+
+instantiating_says : (chain : List Task) (items : List Item) (one : Turn) (cores : List CoreMake) (number : ℕ) (below : List Task) (w : World) → Says chain items w.units 0 one (instantiating_turn cores number below w)
 instantiating_says chain items one [] number below w = omega arith
-instantiating_says chain items one (m ∷ modules) number below w = made_says chain items one (instantiated m [] w.store) m modules number below w
+instantiating_says chain items one (c ∷ cores) number below w = supplied_says chain items one (externals w.store c.imports) c.of_module cores number below w
 
 entered_says : (chain : List Task) (items : List Item) (one : Turn) (o : Option (ℕ × Function)) (f : Lifted) (values : List Value) (number : ℕ) (below : List Task) (w : World) → Says chain items w.units 0 one (entered o f values number below w)
 entered_says chain items one None f values number below w = tt
 entered_says chain items one (Some function) f values number below w = omega arith
 
 state_says : (items : List Item) (state : TaskState) (number : ℕ) (below : List Task) (w : World) → Says (record { number = number; state = state } ∷ below) items w.units (task_cost state w.store) (task_turn state number below (record w { units = 1 })) (task_turn state number below w)
-state_says items (Instantiating modules) number below w = instantiating_says _ items _ modules number below w
-state_says items (StartsUp k modules) number below w =
-    core_says _ items k (next w.store k) (λ l. StartsUp l modules) (λ words. silent (with_task number (Instantiating modules) below w)) (λ words. silent (with_task number (Instantiating modules) below (record w { units = 1 }))) number below w (λ words. omega arith)
+state_says items (Instantiating cores) number below w = instantiating_says _ items _ cores number below w
+state_says items (StartsUp k cores) number below w =
+    core_says _ items k (next w.store k) (λ l. StartsUp l cores) (λ words. silent (with_task number (Instantiating cores) below w)) (λ words. silent (with_task number (Instantiating cores) below (record w { units = 1 }))) number below w (λ words. omega arith)
 state_says items (Starting f values) number below w = entered_says _ items _ (core_func w.store f.core) f values number below w
 state_says items (Running f k) number below w =
     core_says _ items k (next w.store k) (Running f) (λ words. resolved f words number below w) (λ words. resolved f words number below (record w { units = 1 })) number below w (λ words. omega arith)
@@ -120,8 +124,8 @@ core_one_or_none k (Traps why) = inr refl
 core_one_or_none k core.Stuck = inl refl
 
 task_one_or_none : (s : Store) (state : TaskState) → OneOrNone (task_cost state s)
-task_one_or_none s (Instantiating modules) = inl refl
-task_one_or_none s (StartsUp k modules) = core_one_or_none k (next s k)
+task_one_or_none s (Instantiating cores) = inl refl
+task_one_or_none s (StartsUp k cores) = core_one_or_none k (next s k)
 task_one_or_none s (Starting f values) = inl refl
 task_one_or_none s (Running f k) = core_one_or_none k (next s k)
 task_one_or_none s Returned = inl refl
@@ -141,13 +145,14 @@ steps_use_one_or_none g w later labels e =
 
 -- Segments.
 
-at_bounds : (g : Graph) (w : World) (number : ℕ) (below : List Task) (m : ModuleTree) (modules : List ModuleTree) (s : Store) (r : Instantiation) → r ≡ SegmentBounds s → made r m modules number below w ≡ Steps [] (with_store s (with_task number (Doomed trap.SegmentBounds) below w))
-at_bounds g w number below m modules s r e = ap (λ (r : Instantiation). made r m modules number below w) e
-
 pub segments_stay : SegmentsStay
-segments_stay g w number below m modules s chain e =
-    let first : turn g w ≡ made (instantiated m [] w.store) m modules number below w = ap (λ (chain : List Task). chain_turn g chain w) chain in
-    (with_store s (with_task number (Doomed trap.SegmentBounds) below w), first ∙ at_bounds g w number below m modules s (instantiated m [] w.store) e, refl, refl, refl)
+segments_stay g w number below c cores imports s chain there e =
+    let first : turn g w ≡ supplied (externals w.store c.imports) c.of_module cores number below w = ap (λ (chain : List Task). chain_turn g chain w) chain in
+    let with_imports : supplied (externals w.store c.imports) c.of_module cores number below w ≡ made (instantiated c.of_module imports w.store) c.of_module imports cores number below w =
+    ap (λ (o : Option (List External)). supplied o c.of_module cores number below w) there in
+    let bounds : made (instantiated c.of_module imports w.store) c.of_module imports cores number below w ≡ Steps [] (with_store s (with_task number (Doomed trap.SegmentBounds) below w)) =
+    ap (λ (r : Instantiation). made r c.of_module imports cores number below w) e in
+    (with_store s (with_task number (Doomed trap.SegmentBounds) below w), first ∙ (with_imports ∙ bounds), refl, refl, refl)
 
 -- Last worlds.
 

@@ -8,7 +8,6 @@ use Rattle.wasm_module.specs.declared.types.ValType as core_val
 use Rattle.wasm_module.specs.declared.types.ValType.TheVariants.{I32, I64}
 use Rattle.wasm_module.specs.declared.types.FuncType as core
 use Rattle.wasm_numbers.specs.Types.{AreWords}
-use Rattle.core_machine.specs.Store.{Store}
 use Rattle.core_machine.specs.Step.{Move}
 use Rattle.core_machine.specs.Step as step
 use Rattle.core_machine.specs.Laws.{MoveTyped}
@@ -18,13 +17,14 @@ use Rattle.ca_types.specs.declared.types.ValType.{ValType}
 use Rattle.ca_types.specs.declared.types.Param.{Param}
 use Rattle.ca_types.specs.declared.types.FuncType.{FuncType}
 use Rattle.ca_types.specs.declared.exports.Export.{Export}
-use Rattle.comp_graph.specs.declared.graph.CoreFunc.{CoreFunc}
+use Rattle.comp_graph.specs.declared.graph.Lift.{Lift}
 use Rattle.comp_graph.specs.Graph.{Lifted, Graph, lifted_as, func_at, func_named, is_i32, is_u32, result_count, flat_limit, is_flat, LiftsCore, IsCallable}
-use Rattle.abi_machine.specs.World.{Starting, Running, Task}
+use Rattle.abi_machine.specs.World.{Starting, Running}
 use Rattle.abi_machine.specs.Machine.{lowered}
-use Rattle.abi_machine.specs.Kept.{IsOfGraph, StateKept, ChainKept}
+use Rattle.abi_machine.specs.Kept.{IsOfGraph, StateKept}
 use Rattle.abi_machine.specs.FlatLaws.{AreResult, ArgumentsAreWhole, ResultsAreWhole}
-use Rattle.abi_machine.proofs.Worlds.{then_some}
+use Rattle.abi_machine.proofs.Imports.{then_some}
+use Rattle.abi_machine.proofs.Worlds.{acting}
 
 -- what a flat type is
 record IsFlat (type : FuncType) (of_core : core.FuncType) : Type 0 where
@@ -52,6 +52,9 @@ flat type of_core h =
     }
 
 -- A function of a callable graph lifts a core function of the flat type.
+abbrev lift_of : Lifted → Lift
+lift_of f = record { instance = f.instance; core = f.core }
+
 zip_both : {A B : Type 0} (R : A → B → Type 0) (xs : List A) (ys : List B) (n : ℕ) (x : A) (y : B) → AllZip R xs ys → slice_get xs n ≡ Some x → slice_get ys n ≡ Some y → R x y
 zip_both R [] [] n x y h a b = cc
 zip_both R [] (w ∷ ys) n x y h a b = absurd h
@@ -62,17 +65,17 @@ zip_both R (v ∷ xs) (w ∷ ys) zero x y h a b =
     subst (λ x. R x y) first (subst (R v) second h.0)
 zip_both R (v ∷ xs) (w ∷ ys) (suc n) x y h a b = zip_both R xs ys n x y h.1 a b
 
-lifts_at : (g : Graph) (number : ℕ) (e : Option Export) (c : Option CoreFunc) (f : Lifted) → IsCallable g → slice_get g.exports number ≡ e → slice_get g.cores number ≡ c → lifted_as e c ≡ Some f → LiftsCore g.instances f.func_type f.core
-lifts_at g number None c f callable a b h = cc
+lifts_at : (g : Graph) (number : ℕ) (e : Option Export) (lift : Option Lift) (f : Lifted) → IsCallable g → slice_get g.exports number ≡ e → slice_get g.lifts number ≡ lift → lifted_as e lift ≡ Some f → LiftsCore g.cores f.func_type (lift_of f)
+lifts_at g number None lift f callable a b h = cc
 lifts_at g number (Some e) None f callable a b h = cc
-lifts_at g number (Some e) (Some c) f callable a b h =
-    let same : (let l : Lifted = record { core = c; func_type = e.func_type } in l) ≡ f = cc in
-    subst (λ (f : Lifted). LiftsCore g.instances f.func_type f.core) same (zip_both (λ e f. LiftsCore g.instances e.func_type f) g.exports g.cores number e c callable a b)
+lifts_at g number (Some e) (Some lift) f callable a b h =
+    let same : (let l : Lifted = record { instance = lift.instance; core = lift.core; func_type = e.func_type } in l) ≡ f = cc in
+    subst (λ (f : Lifted). LiftsCore g.cores f.func_type (lift_of f)) same (zip_both (λ e lift. LiftsCore g.cores e.func_type lift) g.exports g.lifts number e lift callable a b)
 
-named_lifts : (g : Graph) (name : List ℕ) (f : Lifted) → IsCallable g → func_named g name ≡ Some f → LiftsCore g.instances f.func_type f.core
+named_lifts : (g : Graph) (name : List ℕ) (f : Lifted) → IsCallable g → func_named g name ≡ Some f → LiftsCore g.cores f.func_type (lift_of f)
 named_lifts g name f callable h =
     let n = then_some (func_at g) _ f h in
-    lifts_at g n.0 (slice_get g.exports n.0) (slice_get g.cores n.0) f callable refl refl n.2
+    lifts_at g n.0 (slice_get g.exports n.0) (slice_get g.lifts n.0) f callable refl refl n.2
 
 of_graph_flat : (g : Graph) (f : Lifted) (type : core.FuncType) → IsCallable g → IsOfGraph g f type → IsFlat f.func_type type
 of_graph_flat g f type callable h =
@@ -80,11 +83,6 @@ of_graph_flat g f type callable h =
     let both : Some l.type ≡ Some type = sym l.there ∙ h.there in
     let same : l.type ≡ type = cc in
     subst (IsFlat f.func_type) same (flat f.func_type l.type l.flat)
-
--- what is kept of the acting task
-acting : (g : Graph) (s : Store) (chain below : List Task) (task : Task) → chain ≡ task ∷ below → ChainKept g s chain → StateKept g s task.state
-acting g s chain [] task e h = (let k : ChainKept g s (task ∷ []) = subst (ChainKept g s) e h in k)
-acting g s chain (other ∷ below) task e h = absurd (let k : ChainKept g s (task ∷ other ∷ below) = subst (ChainKept g s) e h in k)
 
 as_many : (types : List core_val.ValType) (words : List ℕ) → AreWords types words → length words ≡ length types
 as_many [] [] h = refl

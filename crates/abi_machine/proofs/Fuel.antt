@@ -7,9 +7,9 @@ use Rattle.core_machine.specs.Store.{Function}
 use Rattle.core_machine.specs.Stack.{Stack}
 use Rattle.core_machine.specs.Step.{Move, Goes, Calls, Traps, next}
 use Rattle.core_machine.specs.Step as core
-use Rattle.core_machine.specs.Instantiation.{Instantiation, Makes, SegmentBounds, instantiated}
+use Rattle.core_machine.specs.Instantiation.{External, Instantiation, Makes, SegmentBounds, instantiated}
 use Rattle.ca_types.specs.declared.value.Value.{Value}
-use Rattle.comp_graph.specs.Graph.{Graph, Lifted, func_named}
+use Rattle.comp_graph.specs.Graph.{CoreMake, Graph, Lifted, func_named}
 use Rattle.script_reader.specs.declared.script.Call.{Call}
 use Rattle.script_reader.specs.declared.script.Item.{Item}
 use Rattle.script_reader.specs.declared.script.Item.TheVariants as item
@@ -17,7 +17,7 @@ use Rattle.trace_show.specs.declared.label.Label.{Label}
 use Rattle.abi_machine.specs.declared.run_end.RunEnd.{RunEnd}
 use Rattle.abi_machine.specs.declared.run_end.RunEnd.TheVariants.{Fuel}
 use Rattle.abi_machine.specs.World.{TaskState, Instantiating, StartsUp, Starting, Running, Returned, Doomed, Task, World, first_world, with_task, with_store}
-use Rattle.abi_machine.specs.Machine.{Turn, Steps, Ends, Stuck, charged, silent, silent_for, trap_name, core_turn, made, instantiating_turn, core_func, entered, resolved, task_turn, taken, idle_turn, chain_turn, turn}
+use Rattle.abi_machine.specs.Machine.{Turn, Steps, Ends, Stuck, charged, silent, silent_for, trap_name, core_turn, externals, made, supplied, instantiating_turn, core_func, entered, resolved, task_turn, taken, idle_turn, chain_turn, turn}
 use Rattle.abi_machine.specs.Run.{Reaches}
 use Rattle.abi_machine.specs.Laws.{with_more, EndsTheSame, GoesOnBehind}
 
@@ -48,22 +48,26 @@ core_more more (core.Ends words) state behind other number below w h = h words
 core_more more (Traps why) state behind other number below w h = silent_more more true (with_task number (Doomed (trap_name why)) below w)
 core_more more core.Stuck state behind other number below w h = tt
 
-made_more : (more : ℕ) (r : Instantiation) (m : ModuleTree) (modules : List ModuleTree) (number : ℕ) (below : List Task) (w : World) → More more (made r m modules number below w) (made r m modules number below (plus more w))
-made_more more (SegmentBounds s) m modules number below w = refl
-made_more more (Makes s) m modules number below w = refl
+made_more : (more : ℕ) (r : Instantiation) (m : ModuleTree) (imports : List External) (cores : List CoreMake) (number : ℕ) (below : List Task) (w : World) → More more (made r m imports cores number below w) (made r m imports cores number below (plus more w))
+made_more more (SegmentBounds s) m imports cores number below w = refl
+made_more more (Makes s) m imports cores number below w = refl
 
-instantiating_more : (more : ℕ) (modules : List ModuleTree) (number : ℕ) (below : List Task) (w : World) → More more (instantiating_turn modules number below w) (instantiating_turn modules number below (plus more w))
+supplied_more : (more : ℕ) (o : Option (List External)) (m : ModuleTree) (cores : List CoreMake) (number : ℕ) (below : List Task) (w : World) → More more (supplied o m cores number below w) (supplied o m cores number below (plus more w))
+supplied_more more None m cores number below w = tt
+supplied_more more (Some imports) m cores number below w = made_more more (instantiated m imports w.store) m imports cores number below w
+
+instantiating_more : (more : ℕ) (cores : List CoreMake) (number : ℕ) (below : List Task) (w : World) → More more (instantiating_turn cores number below w) (instantiating_turn cores number below (plus more w))
 instantiating_more more [] number below w = refl
-instantiating_more more (m ∷ modules) number below w = made_more more (instantiated m [] w.store) m modules number below w
+instantiating_more more (c ∷ cores) number below w = supplied_more more (externals w.store c.imports) c.of_module cores number below w
 
 entered_more : (more : ℕ) (o : Option (ℕ × Function)) (f : Lifted) (values : List Value) (number : ℕ) (below : List Task) (w : World) → More more (entered o f values number below w) (entered o f values number below (plus more w))
 entered_more more None f values number below w = tt
 entered_more more (Some function) f values number below w = refl
 
 state_more : (more : ℕ) (state : TaskState) (number : ℕ) (below : List Task) (w : World) → More more (task_turn state number below w) (task_turn state number below (plus more w))
-state_more more (Instantiating modules) number below w = instantiating_more more modules number below w
-state_more more (StartsUp k modules) number below w =
-    core_more more (next w.store k) (λ l. StartsUp l modules) (λ words. silent (with_task number (Instantiating modules) below w)) (λ words. silent (with_task number (Instantiating modules) below (plus more w))) number below w (λ words. refl)
+state_more more (Instantiating cores) number below w = instantiating_more more cores number below w
+state_more more (StartsUp k cores) number below w =
+    core_more more (next w.store k) (λ l. StartsUp l cores) (λ words. silent (with_task number (Instantiating cores) below w)) (λ words. silent (with_task number (Instantiating cores) below (plus more w))) number below w (λ words. refl)
 state_more more (Starting f values) number below w = entered_more more (core_func w.store f.core) f values number below w
 state_more more (Running f k) number below w =
     core_more more (next w.store k) (Running f) (λ words. resolved f words number below w) (λ words. resolved f words number below (plus more w)) number below w (λ words. refl)

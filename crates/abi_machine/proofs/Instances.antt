@@ -1,5 +1,5 @@
--- Steps leave the instances of a store as they are, and a module that is instantiated brings one.
-use Rattle.std.proofs.Common.{◌≡◌, ℕ, zero, suc, ◌+◌, ◌%◌, Bool, true, false, if◌then◌else◌, ◌&&◌, nat_le, List, [], ◌∷◌, ◌++◌, map, length, refl, ◌∙◌, subst, Option, Some, None, Result, Ok, Err}
+-- Steps leave the instances of a store as they are.
+use Rattle.std.proofs.Common.{◌≡◌, ℕ, zero, suc, ◌+◌, ◌%◌, Bool, true, false, ◌&&◌, nat_le, List, [], ◌∷◌, length, refl, ap, ◌∙◌, subst, Option, Some, None, Result, Ok, Err}
 use Rattle.std.specs.List.{slice_get}
 use Rattle.std.specs.Option.{option_map}
 use Rattle.wasm_module.specs.declared.types.FuncType.{FuncType}
@@ -8,9 +8,6 @@ use Rattle.wasm_module.specs.declared.instr.Instr.{Instr}
 use Rattle.wasm_module.specs.declared.instr.Instr.TheVariants as instr
 use Rattle.wasm_module.specs.declared.instr.LoadOp.{LoadOp}
 use Rattle.wasm_module.specs.declared.instr.StoreOp.{StoreOp}
-use Rattle.wasm_module.specs.declared.module.ElementSegment.{ElementSegment}
-use Rattle.wasm_module.specs.declared.module.DataSegment.{DataSegment}
-use Rattle.wasm_module.specs.declared.module.ModuleTree.{ModuleTree}
 use Rattle.wasm_module.specs.Expr.{Expr, End, Plain, Block, Loop, If, IfElse}
 use Rattle.wasm_numbers.specs.declared.trap.NumberTrap.{NumberTrap}
 use Rattle.wasm_numbers.specs.Stack.{applied}
@@ -21,8 +18,7 @@ use Rattle.wasm_memory.specs.Memories.{MemoryState, growth, grown}
 use Rattle.core_machine.specs.Store.{Function, Own, Host, type_of, Table, Global, Instance, Store, found_at, func_at, table_at, memory_at, global_at}
 use Rattle.core_machine.specs.Stack.{Label, Frame, Stack, Running, AtHost, Given}
 use Rattle.core_machine.specs.Effects.{Effect, Leaves, Fails, NoRule, by_number, dropped, selected, local_get, local_set, local_tee, global_get, global_set, by_load, by_bounds, by_growth, as_word, load, store, memory_size, memory_grow, memory_fill, memory_copy, effect}
-use Rattle.core_machine.specs.Step.{Move, Goes, Calls, Ends, Traps, Stuck, ended, branched_to, branched_if, branched_by, table_label, frame_limit, invoked, called, same_signature, called_as, called_entry, called_through, by_effect, moved, chosen, move_at, move_in, next}
-use Rattle.core_machine.specs.Instantiation.{External, allocated, into_table, into_memory, element_written, data_written, init_value, Instantiation, Makes, SegmentBounds, written_then, all_written, instance_of, instantiated}
+use Rattle.core_machine.specs.Step.{Move, Goes, Calls, Ends, Traps, Stuck, Moves, ended, branched_to, branched_if, branched_by, table_label, frame_limit, invoked, called, same_signature, called_as, called_entry, called_through, by_effect, moved, chosen, move_at, move_in, next}
 use Rattle.core_machine.proofs.Lists.{if_both}
 
 -- what an instruction leaves has the instances of a store, and so has what a move leaves
@@ -227,44 +223,8 @@ next_keeps s (Running f fs) = in_keeps (slice_get s.instances f.instance) s f fs
 next_keeps s (AtHost address words) = tt
 next_keeps s (Given words) = tt
 
--- modules
-
--- what is left of a module's instantiation has these instances
-abbrev pub LeavesWith : List Instance → Instantiation → Type 0
-LeavesWith is (Makes t) = t.instances ≡ is
-LeavesWith is (SegmentBounds t) = t.instances ≡ is
-
-table_keeps : (at : ℕ) (entries : List (Option ℕ)) (o : Option (ℕ × Table)) (u v : Store) → into_table at entries o u ≡ Some v → v.instances ≡ u.instances
-table_keeps at entries None u v h = cc
-table_keeps at entries (Some t) u v h = by (nat_le (at + length entries) (length t.1.entries)) _ h refl
-  where
-    by : (b : Bool) (w : Store) → (if b then Some w else None) ≡ Some v → w.instances ≡ u.instances → v.instances ≡ u.instances
-    by true w h k = let same : w ≡ v = cc in subst (λ (w : Store). w.instances ≡ u.instances) same k
-    by false w h k = cc
-
-bytes_keep : (at : ℕ) (bytes : List ℕ) (o : Option (ℕ × MemoryState)) (u v : Store) → into_memory at bytes o u ≡ Some v → v.instances ≡ u.instances
-bytes_keep at bytes None u v h = cc
-bytes_keep at bytes (Some m) u v h = by (is_inside at (length bytes) m.1.bytes) _ h refl
-  where
-    by : (b : Bool) (w : Store) → (if b then Some w else None) ≡ Some v → w.instances ≡ u.instances → v.instances ≡ u.instances
-    by true w h k = let same : w ≡ v = cc in subst (λ (w : Store). w.instances ≡ u.instances) same k
-    by false w h k = cc
-
-written_keeps : {A : Type 0} (is : List Instance) (f : Store → A → Option Store) → ((u v : Store) (x : A) → f u x ≡ Some v → v.instances ≡ u.instances) → (more : Store → Instantiation) → ((u : Store) → u.instances ≡ is → LeavesWith is (more u)) → (xs : List A) (u : Store) → u.instances ≡ is → LeavesWith is (all_written f xs u more)
-written_keeps is f keeps more last [] u h = last u h
-written_keeps {A} is f keeps more last (x ∷ xs) u h = by (f u x) refl (λ v k. written_keeps is f keeps more last xs v k)
-  where
-    by : (o : Option Store) → f u x ≡ o → ((v : Store) → v.instances ≡ is → LeavesWith is (all_written f xs v more)) → LeavesWith is (written_then o u (λ t. all_written f xs t more))
-    by None e others = h
-    by (Some v) e others = others v (keeps u v x e ∙ h)
-
-pub brings_one : (s : Store) (m : ModuleTree) (imports : List External) → LeavesWith (s.instances ++ instance_of m imports s ∷ []) (instantiated m imports s)
-brings_one s m imports =
-    let i : Instance = instance_of m imports s in
-    let is : List Instance = s.instances ++ i ∷ [] in
-    let element : (u v : Store) (d : ElementSegment) → element_written i u d ≡ Some v → v.instances ≡ u.instances =
-    λ u v d e. table_keeps (init_value u i.globals d.offset) (map (λ index. slice_get i.funcs index) d.funcs) (table_at d.table i u) u v e in
-    let bytes : (u v : Store) (d : DataSegment) → data_written i u d ≡ Some v → v.instances ≡ u.instances =
-    λ u v d e. bytes_keep (init_value u i.globals d.offset) d.bytes (memory_at d.memory i u) u v e in
-    written_keeps is (element_written i) element (λ u. all_written (data_written i) m.data_segments u Makes)
-    (λ u h. written_keeps is (data_written i) bytes Makes (λ v k. k) m.data_segments u h) m.element_segments (allocated m imports s) refl
+pub moves_keep : (count fuel : ℕ) (s t : Store) (k l : Stack) → Moves count fuel s k t l → t.instances ≡ s.instances
+moves_keep zero fuel s t k l (none, store, stack) = ap (λ (s : Store). s.instances) store
+moves_keep (suc count) fuel s t k l (costs, left, u, m, goes, fuel_is, more) =
+    let first : MoveKeeps s (Goes costs u m) = subst (MoveKeeps s) goes (next_keeps s k) in
+    moves_keep count left u t m l more ∙ first

@@ -1,4 +1,7 @@
 pub mod Instances
+pub mod Limits
+pub mod Made
+pub mod Imports
 pub mod Worlds
 pub mod Runs
 pub mod Fuel

@@ -1,15 +1,14 @@
 -- Each world that is kept has a run. By induction on the units of fuel: each step that costs lowers them. Between two such
--- steps come the free moves of a stack, which end, the modules that are left to be made, and the end of a task.
+-- steps come the free moves of a stack, which end, the core instances that are left to be made, and the end of a task.
 use Rattle.std.proofs.Common.{◌≡◌, ◌≢◌, ℕ, zero, suc, ◌+◌, true, false, List, [], ◌∷◌, ◌++◌, map, refl, sym, ap, ◌∙◌, subst, arith, Option, Some, None}
-use Rattle.wasm_module.specs.declared.module.ModuleTree.{ModuleTree}
 use Rattle.core_machine.specs.Store.{Function, Store}
 use Rattle.core_machine.specs.Stack.{Stack}
 use Rattle.core_machine.specs.Step.{Move, Goes, Calls, Traps, next, start, units, Moves}
 use Rattle.core_machine.specs.Step as core
-use Rattle.core_machine.specs.Instantiation.{Instantiation, Makes, SegmentBounds, instance_of, instantiated, start_call}
+use Rattle.core_machine.specs.Instantiation.{External, Instantiation, Makes, SegmentBounds, instance_of, instantiated, start_call}
 use Rattle.core_machine.proofs.Settling.{free_moves_end}
 use Rattle.ca_types.specs.declared.value.Value.{Value}
-use Rattle.comp_graph.specs.Graph.{Graph, Lifted, func_named}
+use Rattle.comp_graph.specs.Graph.{CoreMake, Graph, Lifted, func_named}
 use Rattle.script_reader.specs.declared.script.Call.{Call}
 use Rattle.script_reader.specs.declared.script.Item.{Item}
 use Rattle.script_reader.specs.declared.script.Item.TheVariants as item
@@ -20,7 +19,7 @@ use Rattle.trace_show.specs.declared.trap.TrapName.TheVariants as trap
 use Rattle.abi_machine.specs.declared.run_end.RunEnd.{RunEnd}
 use Rattle.abi_machine.specs.declared.run_end.RunEnd.TheVariants.{Done, Trapped, Fuel}
 use Rattle.abi_machine.specs.World.{TaskState, Instantiating, StartsUp, Starting, Running, Returned, Doomed, Task, World, first_world, with_task, with_store}
-use Rattle.abi_machine.specs.Machine.{Turn, Steps, Ends, charged, silent, core_turn, started_up, made, lowered, core_func, entered, resolved, taken, idle_turn, chain_turn, turn}
+use Rattle.abi_machine.specs.Machine.{Turn, Steps, Ends, charged, silent, core_turn, externals, started_up, made, supplied, lowered, core_func, entered, resolved, taken, idle_turn, chain_turn, turn}
 use Rattle.abi_machine.specs.Run.{Runs}
 use Rattle.abi_machine.specs.Laws.{EachRunEnds}
 use Rattle.abi_machine.specs.Kept.{ChainKept, Kept}
@@ -122,27 +121,35 @@ running_runs g w number f lower =
     stack_runs g w number (Running f) (λ v words. resolved f words number [] v) (λ s k. refl) lower
     (λ s k words kept e. goes_on g (at w number s (Running f k)) (at w number s Returned) _ kept e (returned_runs g w number s lower))
 
-starts_up_runs : (g : Graph) (w : World) (number : ℕ) (modules : List ModuleTree) → Lower g w.units → ((s : Store) → Kept g (at w number s (Instantiating modules)) → RunsOn g (at w number s (Instantiating modules))) → (s : Store) (k : Stack) → Kept g (at w number s (StartsUp k modules)) → RunsOn g (at w number s (StartsUp k modules))
-starts_up_runs g w number modules lower more =
-    stack_runs g w number (λ k. StartsUp k modules) (λ v words. silent (with_task number (Instantiating modules) [] v)) (λ s k. refl) lower
-    (λ s k words kept e. goes_on g (at w number s (StartsUp k modules)) (at w number s (Instantiating modules)) [] kept e (more s))
+-- Core instances: all that are left are made, where the worlds behind this one have runs.
+abbrev MoreMade : Graph → World → ℕ → List CoreMake → Type 0
+MoreMade g w number cores = (s : Store) → Kept g (at w number s (Instantiating cores)) → RunsOn g (at w number s (Instantiating cores))
 
-begun_runs : (g : Graph) (w : World) (number : ℕ) (modules : List ModuleTree) → Lower g w.units → ((s : Store) → Kept g (at w number s (Instantiating modules)) → RunsOn g (at w number s (Instantiating modules))) → (s : Store) (o : Option Stack) → Kept g (at w number s (started_up o modules)) → RunsOn g (at w number s (started_up o modules))
-begun_runs g w number modules lower more s None = more s
-begun_runs g w number modules lower more s (Some l) = starts_up_runs g w number modules lower more s l
+starts_up_runs : (g : Graph) (w : World) (number : ℕ) (cores : List CoreMake) → Lower g w.units → MoreMade g w number cores → (s : Store) (k : Stack) → Kept g (at w number s (StartsUp k cores)) → RunsOn g (at w number s (StartsUp k cores))
+starts_up_runs g w number cores lower more =
+    stack_runs g w number (λ k. StartsUp k cores) (λ v words. silent (with_task number (Instantiating cores) [] v)) (λ s k. refl) lower
+    (λ s k words kept e. goes_on g (at w number s (StartsUp k cores)) (at w number s (Instantiating cores)) [] kept e (more s))
 
-made_runs : (g : Graph) (w : World) (number : ℕ) (m : ModuleTree) (modules : List ModuleTree) → Lower g w.units → ((s : Store) → Kept g (at w number s (Instantiating modules)) → RunsOn g (at w number s (Instantiating modules))) → (s : Store) (r : Instantiation) → Kept g (at w number s (Instantiating (m ∷ modules))) → turn g (at w number s (Instantiating (m ∷ modules))) ≡ made r m modules number [] (at w number s (Instantiating (m ∷ modules))) → RunsOn g (at w number s (Instantiating (m ∷ modules)))
-made_runs g w number m modules lower more s (SegmentBounds t) k e =
-    goes_on g (at w number s (Instantiating (m ∷ modules))) (at w number t (Doomed trap.SegmentBounds)) [] k e (doomed_runs g w number t trap.SegmentBounds)
-made_runs g w number m modules lower more s (Makes t) k e =
-    let o : Option Stack = start_call m (instance_of m [] s) t in
-    goes_on g (at w number s (Instantiating (m ∷ modules))) (at w number t (started_up o modules)) [] k e (begun_runs g w number modules lower more t o)
+begun_runs : (g : Graph) (w : World) (number : ℕ) (cores : List CoreMake) → Lower g w.units → MoreMade g w number cores → (s : Store) (o : Option Stack) → Kept g (at w number s (started_up o cores)) → RunsOn g (at w number s (started_up o cores))
+begun_runs g w number cores lower more s None = more s
+begun_runs g w number cores lower more s (Some l) = starts_up_runs g w number cores lower more s l
 
-instantiating_runs : (g : Graph) (w : World) (number : ℕ) → Lower g w.units → (modules : List ModuleTree) (s : Store) → Kept g (at w number s (Instantiating modules)) → RunsOn g (at w number s (Instantiating modules))
+made_runs : (g : Graph) (w : World) (number : ℕ) (c : CoreMake) (imports : List External) (cores : List CoreMake) → Lower g w.units → MoreMade g w number cores → (s : Store) (r : Instantiation) → Kept g (at w number s (Instantiating (c ∷ cores))) → turn g (at w number s (Instantiating (c ∷ cores))) ≡ made r c.of_module imports cores number [] (at w number s (Instantiating (c ∷ cores))) → RunsOn g (at w number s (Instantiating (c ∷ cores)))
+made_runs g w number c imports cores lower more s (SegmentBounds t) k e =
+    goes_on g (at w number s (Instantiating (c ∷ cores))) (at w number t (Doomed trap.SegmentBounds)) [] k e (doomed_runs g w number t trap.SegmentBounds)
+made_runs g w number c imports cores lower more s (Makes t) k e =
+    let o : Option Stack = start_call c.of_module (instance_of c.of_module imports s) t in
+    goes_on g (at w number s (Instantiating (c ∷ cores))) (at w number t (started_up o cores)) [] k e (begun_runs g w number cores lower more t o)
+
+supplied_runs : (g : Graph) (w : World) (number : ℕ) (c : CoreMake) (cores : List CoreMake) → Lower g w.units → MoreMade g w number cores → (s : Store) (o : Option (List External)) → Kept g (at w number s (Instantiating (c ∷ cores))) → turn g (at w number s (Instantiating (c ∷ cores))) ≡ supplied o c.of_module cores number [] (at w number s (Instantiating (c ∷ cores))) → RunsOn g (at w number s (Instantiating (c ∷ cores)))
+supplied_runs g w number c cores lower more s None k e = absurd (is_never_stuck g (at w number s (Instantiating (c ∷ cores))) k e)
+supplied_runs g w number c cores lower more s (Some imports) k e = made_runs g w number c imports cores lower more s (instantiated c.of_module imports s) k e
+
+instantiating_runs : (g : Graph) (w : World) (number : ℕ) → Lower g w.units → (cores : List CoreMake) → MoreMade g w number cores
 instantiating_runs g w number lower [] s k =
     let idle : World = record (at w number s (Instantiating [])) { chain = [] } in
     goes_on g (at w number s (Instantiating [])) idle [] k refl (idle_runs g idle refl lower)
-instantiating_runs g w number lower (m ∷ modules) s k = made_runs g w number m modules lower (instantiating_runs g w number lower modules) s (instantiated m [] s) k refl
+instantiating_runs g w number lower (c ∷ cores) s k = supplied_runs g w number c cores lower (instantiating_runs g w number lower cores) s (externals s c.imports) k refl
 
 entered_runs : (g : Graph) (w : World) (number : ℕ) (f : Lifted) (values : List Value) → Lower g w.units → (s : Store) (o : Option (ℕ × Function)) → Kept g (at w number s (Starting f values)) → turn g (at w number s (Starting f values)) ≡ entered o f values number [] (at w number s (Starting f values)) → RunsOn g (at w number s (Starting f values))
 entered_runs g w number f values lower s None k e = absurd (is_never_stuck g (at w number s (Starting f values)) k e)
@@ -151,8 +158,8 @@ entered_runs g w number f values lower s (Some function) k e =
     goes_on g (at w number s (Starting f values)) (at w number s (Running f l)) (line.Enter number ∷ []) k e (running_runs g w number f lower s l)
 
 state_runs : (g : Graph) (w : World) (number : ℕ) → Lower g w.units → (state : TaskState) (s : Store) → Kept g (at w number s state) → RunsOn g (at w number s state)
-state_runs g w number lower (Instantiating modules) s k = instantiating_runs g w number lower modules s k
-state_runs g w number lower (StartsUp l modules) s k = starts_up_runs g w number modules lower (instantiating_runs g w number lower modules) s l k
+state_runs g w number lower (Instantiating cores) s k = instantiating_runs g w number lower cores s k
+state_runs g w number lower (StartsUp l cores) s k = starts_up_runs g w number cores lower (instantiating_runs g w number lower cores) s l k
 state_runs g w number lower (Starting f values) s k = entered_runs g w number f values lower s (core_func s f.core) k refl
 state_runs g w number lower (Running f l) s k = running_runs g w number f lower s l k
 state_runs g w number lower Returned s k = returned_runs g w number s lower k

@@ -1,33 +1,24 @@
 -- What a run of a sound script keeps of its worlds, and that a world's next move is one.
-use Rattle.std.proofs.Common.{◌≡◌, ◌⊎◌, inl, inr, ℕ, zero, suc, ◌+◌, nat_eq, Bool, true, false, List, [], ◌∷◌, ◌++◌, length, map, refl, sym, ap, ◌∙◌, subst, arith, Option, Some, None, append-nil, append_assoc, length-append}
-use Rattle.std.specs.List.{slice_get, list_all, flat_map, AllByRecursion, AllZip}
-use Rattle.std.specs.Option.{option_map, option_and_then}
-use Rattle.std.proofs.lemmas.Option.{slice_get-map}
-use Rattle.std.proofs.lemmas.Bool.{eqb-true}
+use Rattle.std.proofs.Common.{◌≡◌, ◌⊎◌, inl, inr, ℕ, zero, suc, ◌+◌, Bool, true, false, List, [], ◌∷◌, ◌++◌, length, map, refl, sym, ap, ◌∙◌, subst, Option, Some, None, append-nil, append_assoc}
+use Rattle.std.specs.List.{slice_get, flat_map, AllByRecursion}
 use Rattle.wasm_module.specs.declared.types.ValType.{ValType}
 use Rattle.wasm_module.specs.declared.types.FuncType as core_type_of
-use Rattle.wasm_module.specs.declared.module.Func.{Func}
-use Rattle.wasm_module.specs.declared.module.Import.{Import}
-use Rattle.wasm_module.specs.declared.module.ModuleTree.{ModuleTree}
-use Rattle.wasm_module.specs.Spaces.{imported_funcs, func_space}
 use Rattle.wasm_numbers.specs.Types.{AreWords}
 use Rattle.wasm_valid.specs.Modules.{Typed}
-use Rattle.wasm_valid.specs.Instrs.{func_type}
-use Rattle.core_machine.specs.Store.{Function, Host, type_of, Instance, Store, func_at}
+use Rattle.core_machine.specs.Store.{Function, Host, type_of, Store}
 use Rattle.core_machine.specs.Stack.{Stack}
 use Rattle.core_machine.specs.Step.{Move, Goes, Calls, Traps, next, start, units}
 use Rattle.core_machine.specs.Step as core
-use Rattle.core_machine.specs.Instantiation.{External, Instantiation, Makes, SegmentBounds, instance_of, instantiated, start_call, ImportMatches, ImportsMatch, InRange}
-use Rattle.core_machine.specs.Typed.{StoreTyped, Extends, HasContext, module_context, StackTyped}
-use Rattle.core_machine.specs.Laws.{MoveTyped, IsThere, AddedTyped, IsOwn, HasNoHosts, AddedWithoutHosts}
-use Rattle.core_machine.proofs.Lists.{both_true, all_at, found_there}
-use Rattle.core_machine.proofs.Stores.{still, has_later}
+use Rattle.core_machine.specs.Instantiation.{External, Instantiation, Makes, SegmentBounds, instance_of, instantiated, start_call, InRange}
+use Rattle.core_machine.specs.Typed.{StoreTyped, Extends, StackTyped}
+use Rattle.core_machine.specs.Laws.{MoveTyped, AddedTyped, IsOwn, HasNoHosts, AddedWithoutHosts}
+use Rattle.core_machine.proofs.Lists.{all_at}
+use Rattle.core_machine.proofs.Zips.{get_behind}
 use Rattle.core_machine.proofs.Moving.{moves_typed, starts_typed}
 use Rattle.core_machine.proofs.Adding.{adds_typed}
 use Rattle.core_machine.proofs.Changing.{empty_typed}
 use Rattle.core_machine.proofs.Keeping.{steps_keep, empty_has_none, adds_none}
-use Rattle.comp_graph.specs.declared.graph.CoreFunc.{CoreFunc}
-use Rattle.comp_graph.specs.Graph.{Graph, Lifted, func_named, type_at, core_type}
+use Rattle.comp_graph.specs.Graph.{CoreMake, Graph, Lifted, AreImported, func_named, core_type}
 use Rattle.script_reader.specs.declared.script.Call.{Call}
 use Rattle.script_reader.specs.declared.script.Item.{Item}
 use Rattle.script_reader.specs.declared.script.Item.TheVariants as item
@@ -35,84 +26,15 @@ use Rattle.trace_show.specs.declared.label.Label.{Label}
 use Rattle.trace_show.specs.declared.trap.TrapName.TheVariants as trap
 use Rattle.abi_machine.specs.declared.run_end.RunEnd.{RunEnd}
 use Rattle.abi_machine.specs.World.{TaskState, Instantiating, StartsUp, Starting, Running, Returned, Doomed, Task, World, first_world, with_task, with_store}
-use Rattle.abi_machine.specs.Machine.{Turn, Steps, Ends, Stuck, charged, silent_for, trap_name, core_turn, started_up, made, instantiating_turn, lowered, core_func, entered, task_turn, taken, idle_turn, chain_turn, turn}
+use Rattle.abi_machine.specs.Machine.{Turn, Steps, Ends, Stuck, charged, silent_for, trap_name, core_turn, started_up, made, supplied, instantiating_turn, lowered, entered, task_turn, taken, idle_turn, chain_turn, turn}
 use Rattle.abi_machine.specs.Run.{Reaches}
 use Rattle.abi_machine.specs.Laws.{SoundGraph, SoundCall, SoundItem, StepsOnce, EndsOnce, OneNext, OneRun}
 use Rattle.abi_machine.specs.Kept.{AreMade, AreMadeBut, StateKept, ChainKept, Kept}
 use Rattle.abi_machine.specs.KeptLaws.{FirstKept, StaysKept, IsNeverStuck}
-use Rattle.abi_machine.proofs.Instances.{MoveKeeps, next_keeps, LeavesWith, brings_one}
-
--- Modules of a sound graph have no imports.
-no_items : {A : Type 0} (xs : List A) → nat_eq (length xs) 0 ≡ true → xs ≡ []
-no_items [] h = refl
-no_items (x ∷ xs) h = let e : suc (length xs) ≡ 0 = eqb-true (suc (length xs)) 0 h in absurd (omega arith)
-
-no_imports : (ms : List ModuleTree) → list_all (λ m. nat_eq (length m.imports) 0) ms ≡ true → AllByRecursion (λ m. m.imports ≡ []) ms
-no_imports [] h = tt
-no_imports (m ∷ ms) h =
-    let both = both_true (nat_eq (length m.imports) 0) (list_all (λ m. nat_eq (length m.imports) 0) ms) h in
-    (no_items m.imports both.0, no_imports ms both.1)
-
-none_match : (s : Store) (m : ModuleTree) → m.imports ≡ [] → ImportsMatch s m []
-none_match s m h = subst (λ (is : List Import). AllZip (λ i (e : External). ImportMatches s m.types i.desc e) is []) (sym h) tt
-
--- Core instances that were made stay so, and one more is made.
-made_still : (s t : Store) (modules : List ModuleTree) → Extends s t → t.instances ≡ s.instances → AreMade s modules → AreMade t modules
-made_still s t modules x e h = record {
-  count = ap length e ∙ h.count;
-  each = λ n m k. (let i = h.each n m k in (i.0, still s.instances t.instances n i.0 x.instances i.1, has_later s t i.0 (module_context m) x i.2));
-}
-
-get_last : {A : Type 0} (xs : List A) (y : A) (n : ℕ) (x : A) → slice_get (xs ++ y ∷ []) n ≡ Some x → (slice_get xs n ≡ Some x) ⊎ ((n ≡ length xs) × (y ≡ x))
-get_last [] y zero x h = inr (refl, cc)
-get_last [] y (suc n) x h = cc
-get_last (z ∷ xs) y zero x h = inl h
-get_last (z ∷ xs) y (suc n) x h = elim (get_last xs y n x h) [
-  | inl k ↦ inl k
-  | inr k ↦ inr (ap (λ (n : ℕ). suc n) k.0, k.1)
-]
-
-made_more : (s t : Store) (m : ModuleTree) (modules : List ModuleTree) → Extends s t → t.instances ≡ s.instances ++ instance_of m [] s ∷ [] → IsThere s m [] t → AreMade s modules → AreMade t (modules ++ m ∷ [])
-made_more s t m modules x e (there, has) h = record {
-  count = ap length e ∙ (length-append s.instances (instance_of m [] s ∷ []) ∙ (ap (λ (n : ℕ). n + 1) h.count ∙ sym (length-append modules (m ∷ []))));
-  each = λ n k found. elim (get_last modules m n k found) [
-    | inl old ↦ (let i = h.each n k old in (i.0, still s.instances t.instances n i.0 x.instances i.1, has_later s t i.0 (module_context k) x i.2))
-    | inr new ↦ (instance_of m [] s, subst (λ (n : ℕ). slice_get t.instances n ≡ Some (instance_of m [] s)) (h.count ∙ sym new.0) there, subst (λ (k : ModuleTree). HasContext t (instance_of m [] s) (module_context k)) new.1 has)
-  ];
-}
-
--- The core function of a lift is there, with its type.
-pub then_some : {A B : Type 0} (f : A → Option B) (o : Option A) (y : B) → option_and_then f o ≡ Some y → (x : A) × (o ≡ Some x) × (f x ≡ Some y)
-then_some f None y h = cc
-then_some f (Some x) y h = (x, refl, h)
-
-own_type : (m : ModuleTree) (func : ℕ) (type : core_type_of.FuncType) → m.imports ≡ [] → type_at m func ≡ Some type → func_type (module_context m) func ≡ Some type
-own_type m func type none h =
-    let f = then_some (λ (f : Func). slice_get m.types f.type_index) (slice_get m.funcs func) type h in
-    let space : func_space m ≡ map (λ f. f.type_index) m.funcs = ap (λ (is : List Import). imported_funcs is ++ map (λ f. f.type_index) m.funcs) none in
-    let at : slice_get (func_space m) func ≡ Some f.0.type_index =
-    ap (λ (xs : List ℕ). slice_get xs func) space ∙ (slice_get-map (λ f. f.type_index) m.funcs func ∙ ap (option_map (λ f. f.type_index)) f.1) in
-    ap (option_and_then (λ type. slice_get m.types type)) at ∙ f.2
-
-pub record CoreThere (s : Store) (f : CoreFunc) (type : core_type_of.FuncType) : Type 0 where
-  pub function : ℕ × Function
-  pub found : core_func s f ≡ Some function
-  pub there : slice_get s.funcs function.0 ≡ Some function.1
-  pub of_type : type_of function.1 ≡ type
-
-pub core_there : (g : Graph) (s : Store) (f : CoreFunc) (type : core_type_of.FuncType) → SoundGraph g → AreMade s g.instances → core_type g.instances f ≡ Some type → CoreThere s f type
-core_there g s f type sound all h =
-    let m = then_some (λ (m : ModuleTree). type_at m f.func) (slice_get g.instances f.instance) type h in
-    let i = all.each f.instance m.0 m.1 in
-    let none : m.0.imports ≡ [] = all_at (λ m. m.imports ≡ []) g.instances f.instance m.0 (no_imports g.instances sound.no_imports) m.1 in
-    let p = i.2.funcs f.func type (own_type m.0 f.func type none m.2) in
-    let there = found_there s.funcs (slice_get i.0.funcs f.func) p.0 p.1 in
-    record {
-      function = p.0;
-      found = ap (option_and_then (λ (i : Instance). func_at f.func i s)) i.1 ∙ p.1;
-      there = there.1;
-      of_type = p.2;
-    }
+use Rattle.abi_machine.specs.MadeLaws.{ImportsAreThere, ImportsMatchNext}
+use Rattle.abi_machine.proofs.Instances.{MoveKeeps, next_keeps}
+use Rattle.abi_machine.proofs.Made.{LeavesWith, leaves_one_more, made_still, none_made}
+use Rattle.abi_machine.proofs.Imports.{imports_match, imported_behind, core_there}
 
 -- what is kept of all but the chain
 record Ground (g : Graph) (s : Store) (items : List Item) (calls tasks : ℕ) : Type 0 where
@@ -160,46 +82,50 @@ core_moves g w number state behind results (Traps why) h n typed same goes ends 
     silent_moves g true (with_task number (Doomed (trap_name why)) [] w) (λ units. kept g (record (with_task number (Doomed (trap_name why)) [] w) { units = units }) h (n, tt) tt)
 core_moves g w number state behind results core.Stuck h n typed same goes ends = absurd typed
 
--- A module's core instance is made, and its start function is called, where it has one.
-started_kept : (g : Graph) (t : Store) (modules : List ModuleTree) (o : Option Stack) → AreMadeBut g t modules → ((k : Stack) → o ≡ Some k → StackTyped t [] k) → StateKept g t (started_up o modules)
-started_kept g t modules None h typed = h
-started_kept g t modules (Some k) h typed = (h, typed k refl)
+-- A core instance is made, and its start function is called, where it has one.
+started_kept : (g : Graph) (t : Store) (cores : List CoreMake) (o : Option Stack) → AreMadeBut g t cores → ((k : Stack) → o ≡ Some k → StackTyped t [] k) → StateKept g t (started_up o cores)
+started_kept g t cores None h typed = h
+started_kept g t cores (Some k) h typed = (h, typed k refl)
 
-made_moves : (g : Graph) (w : World) (number : ℕ) (m : ModuleTree) (modules : List ModuleTree) (r : Instantiation) → Ground g w.store w.items w.calls w.tasks → number ≡ w.tasks → AreMadeBut g w.store (m ∷ modules) → AddedTyped w.store m [] r → AddedWithoutHosts r → LeavesWith (w.store.instances ++ instance_of m [] w.store ∷ []) r → Moves g (made r m modules number [] w)
-made_moves g w number m modules (SegmentBounds t) h n but (x, typed, there) none one =
+made_moves : (g : Graph) (w : World) (number : ℕ) (c : CoreMake) (imports : List External) (cores : List CoreMake) (r : Instantiation) → Ground g w.store w.items w.calls w.tasks → number ≡ w.tasks → (but : AreMadeBut g w.store (c ∷ cores)) → AddedTyped w.store c.of_module imports r → AddedWithoutHosts r → LeavesWith (λ t. AreMade t (but.before ++ c ∷ [])) r → Moves g (made r c.of_module imports cores number [] w)
+made_moves g w number c imports cores (SegmentBounds t) h n but (x, typed, there) none one =
     kept g (with_store t (with_task number (Doomed trap.SegmentBounds) [] w)) (record { sound = h.sound; called = h.called; typed = typed; hostless = none; numbered = h.numbered }) (n, tt) tt
-made_moves g w number m modules (Makes t) h n but (x, typed, there, calls) none one =
-    let later : AreMadeBut g t modules = record {
-      before = but.before ++ m ∷ [];
-      split = but.split ∙ sym (append_assoc but.before (m ∷ []) modules);
-      made = made_more w.store t m but.before x one there but.made;
+made_moves g w number c imports cores (Makes t) h n but (x, typed, there, calls) none one =
+    let o : Option Stack = start_call c.of_module (instance_of c.of_module imports w.store) t in
+    let later : AreMadeBut g t cores = record {
+      before = but.before ++ c ∷ [];
+      split = but.split ∙ sym (append_assoc but.before (c ∷ []) cores);
+      made = one;
     } in
-    let state : StateKept g t (started_up (start_call m (instance_of m [] w.store) t) modules) = started_kept g t modules (start_call m (instance_of m [] w.store) t) later calls in
-    kept g (with_store t (with_task number (started_up (start_call m (instance_of m [] w.store) t) modules) [] w)) (record { sound = h.sound; called = h.called; typed = typed; hostless = none; numbered = h.numbered }) (n, tt) state
+    let state : StateKept g t (started_up o cores) = started_kept g t cores o later calls in
+    kept g (with_store t (with_task number (started_up o cores) [] w)) (record { sound = h.sound; called = h.called; typed = typed; hostless = none; numbered = h.numbered }) (n, tt) state
 
-get_middle : {A : Type 0} (xs ys : List A) (y : A) → slice_get (xs ++ y ∷ ys) (length xs) ≡ Some y
-get_middle [] ys y = refl
-get_middle (x ∷ xs) ys y = get_middle xs ys y
+-- What the next core instance imports is there.
+but_imported : (g : Graph) (s : Store) (c : CoreMake) (cores : List CoreMake) → SoundGraph g → AreMadeBut g s (c ∷ cores) → ImportsAreThere s c
+but_imported g s c cores sound but =
+    imports_match s but.before c (imported_behind [] but.before cores c (subst (AreImported []) but.split sound.imported)) but.made
 
-instantiating_moves : (g : Graph) (w : World) (number : ℕ) (modules : List ModuleTree) → Ground g w.store w.items w.calls w.tasks → number ≡ w.tasks → AreMadeBut g w.store modules → Moves g (instantiating_turn modules number [] w)
+instantiating_moves : (g : Graph) (w : World) (number : ℕ) (cores : List CoreMake) → Ground g w.store w.items w.calls w.tasks → number ≡ w.tasks → AreMadeBut g w.store cores → Moves g (instantiating_turn cores number [] w)
 instantiating_moves g w number [] h n but =
     kept g (record w { chain = [] }) h tt (subst (AreMade w.store) (sym (but.split ∙ append-nil but.before)) but.made)
-instantiating_moves g w number (m ∷ modules) h n but =
-    let at : slice_get g.instances (length but.before) ≡ Some m = ap (λ (ms : List ModuleTree). slice_get ms (length but.before)) but.split ∙ get_middle but.before modules m in
-    let typed : Typed m = all_at Typed g.instances (length but.before) m h.sound.valid at in
-    let range : InRange m = all_at InRange g.instances (length but.before) m h.sound.in_range at in
-    let none : m.imports ≡ [] = all_at (λ m. m.imports ≡ []) g.instances (length but.before) m (no_imports g.instances h.sound.no_imports) at in
-    made_moves g w number m modules (instantiated m [] w.store) h n but (adds_typed w.store m [] h.typed typed range (none_match w.store m none)) (adds_none w.store m [] h.hostless) (brings_one w.store m [])
+instantiating_moves g w number (c ∷ cores) h n but =
+    let at : slice_get g.cores (length but.before) ≡ Some c = ap (λ (cs : List CoreMake). slice_get cs (length but.before)) but.split ∙ get_behind but.before c cores in
+    let typed : Typed c.of_module = all_at (λ c. Typed c.of_module) g.cores (length but.before) c h.sound.valid at in
+    let range : InRange c.of_module = all_at (λ c. InRange c.of_module) g.cores (length but.before) c h.sound.in_range at in
+    let there = but_imported g w.store c cores h.sound but in
+    let leaves = leaves_one_more w.store but.before c there.0 h.typed typed range there.2 but.made in
+    subst (λ (o : Option (List External)). Moves g (supplied o c.of_module cores number [] w)) (sym there.1)
+    (made_moves g w number c there.0 cores (instantiated c.of_module there.0 w.store) h n but (adds_typed w.store c.of_module there.0 h.typed typed range there.2) (adds_none w.store c.of_module there.0 h.hostless) leaves)
 
 -- by where the acting task is
 state_moves : (g : Graph) (w : World) (number : ℕ) (state : TaskState) → Ground g w.store w.items w.calls w.tasks → number ≡ w.tasks → StateKept g w.store state → Moves g (task_turn state number [] w)
-state_moves g w number (Instantiating modules) h n but = instantiating_moves g w number modules h n but
-state_moves g w number (StartsUp k modules) h n (but, typed) =
-    core_moves g w number (λ l. StartsUp l modules) _ [] (next w.store k) h n (moves_typed w.store [] k h.typed typed) (λ costs t l e. goes_keep w.store t k l costs e)
+state_moves g w number (Instantiating cores) h n but = instantiating_moves g w number cores h n but
+state_moves g w number (StartsUp k cores) h n (but, typed) =
+    core_moves g w number (λ l. StartsUp l cores) _ [] (next w.store k) h n (moves_typed w.store [] k h.typed typed) (λ costs t l e. goes_keep w.store t k l costs e)
     (λ t l x e stack. (record { before = but.before; split = but.split; made = made_still w.store t but.before x e but.made }, stack))
-    (λ words. kept g (with_task number (Instantiating modules) [] w) h (n, tt) but)
+    (λ words. kept g (with_task number (Instantiating cores) [] w) h (n, tt) but)
 state_moves g w number (Starting f values) h n (all, (type, there, words)) =
-    let c = core_there g w.store f.core type h.sound all there.there in
+    let c = core_there w.store g.cores f.core type all there.there in
     let args : AreWords (type_of c.function.1).params (map lowered values) = subst (λ (type : core_type_of.FuncType). AreWords type.params (map lowered values)) (sym c.of_type) words in
     let stack = starts_typed w.store c.function.0 c.function.1 (map lowered values) h.typed c.there args in
     let state : StateKept g w.store (Running f (start c.function.1 c.function.0 (map lowered values))) = (all, (type, there, subst (λ (type : core_type_of.FuncType). StackTyped w.store type.results (start c.function.1 c.function.0 (map lowered values))) c.of_type stack)) in
@@ -207,20 +133,20 @@ state_moves g w number (Starting f values) h n (all, (type, there, words)) =
     (kept g (with_task number (Running f (start c.function.1 c.function.0 (map lowered values))) [] w) h (n, tt) state)
 state_moves g w number (Running f k) h n (all, (type, there, typed)) =
     core_moves g w number (Running f) _ type.results (next w.store k) h n (moves_typed w.store type.results k h.typed typed) (λ costs t l e. goes_keep w.store t k l costs e)
-    (λ t l x e stack. (made_still w.store t g.instances x e all, (type, there, stack)))
+    (λ t l x e stack. (made_still w.store t g.cores x e all, (type, there, stack)))
     (λ words. kept g (with_task number Returned [] w) h (n, tt) all)
 state_moves g w number Returned h n all = kept g (record w { chain = [] }) h tt all
 state_moves g w number (Doomed why) h n any = tt
 
 -- A call of a sound script names a function.
-taken_moves : (g : Graph) (w : World) (call : Call) (others : List Item) (o : Option Lifted) → func_named g call.name ≡ o → SoundCall g call → Ground g w.store others w.calls w.tasks → AreMade w.store g.instances → Moves g (taken o call others w)
+taken_moves : (g : Graph) (w : World) (call : Call) (others : List Item) (o : Option Lifted) → func_named g call.name ≡ o → SoundCall g call → Ground g w.store others w.calls w.tasks → AreMade w.store g.cores → Moves g (taken o call others w)
 taken_moves g w call others None e s h all = cc (e, s.named)
 taken_moves g w call others (Some f) e s h all =
     let same : s.lifted ≡ f = cc (e, s.named) in
-    let there : core_type g.instances f.core ≡ Some s.type = subst (λ (l : Lifted). core_type g.instances l.core ≡ Some s.type) same s.there in
+    let there : core_type g.cores f.core ≡ Some s.type = subst (λ (l : Lifted). core_type g.cores l.core ≡ Some s.type) same s.there in
     charged_moves g w.units _ (λ units. record { graph = h.sound; items = h.called; store = h.typed; no_hosts = h.hostless; chain = (all, (s.type, record { name = call.name; named = e; there = there }, s.values)); numbers = (refl, tt); calls = ap (λ (n : ℕ). n + 1) h.numbered })
 
-idle_moves : (g : Graph) (w : World) (items : List Item) → Ground g w.store items w.calls w.tasks → AreMade w.store g.instances → Moves g (idle_turn g items w)
+idle_moves : (g : Graph) (w : World) (items : List Item) → Ground g w.store items w.calls w.tasks → AreMade w.store g.cores → Moves g (idle_turn g items w)
 idle_moves g w [] h all = tt
 idle_moves g w (item.Call call ∷ others) h all =
     taken_moves g w call others (func_named g call.name) refl h.called.0 (record { sound = h.sound; called = h.called.1; typed = h.typed; hostless = h.hostless; numbered = h.numbered }) all
@@ -238,13 +164,22 @@ moves g w k = chain_moves g w w.chain (ground g w k) k.numbers k.chain
 pub first_kept : FirstKept
 first_kept g script (graph, items) =
     kept g (first_world g script) (record { sound = graph; called = items; typed = empty_typed; hostless = empty_has_none; numbered = refl }) (refl, tt)
-    (record { before = []; split = refl; made = record { count = refl; each = λ n m h. cc } })
+    (record { before = []; split = refl; made = none_made })
 
 pub stays_kept : StaysKept
 stays_kept g w later labels k e = subst (Moves g) e (moves g w k)
 
 pub is_never_stuck : IsNeverStuck
 is_never_stuck g w k e = (let none : Moves g Stuck = subst (Moves g) e (moves g w k) in none)
+
+-- what is kept of the acting task
+pub acting : (g : Graph) (s : Store) (chain below : List Task) (task : Task) → chain ≡ task ∷ below → ChainKept g s chain → StateKept g s task.state
+acting g s chain [] task e h = (let k : ChainKept g s (task ∷ []) = subst (ChainKept g s) e h in k)
+acting g s chain (other ∷ below) task e h = absurd (let k : ChainKept g s (task ∷ other ∷ below) = subst (ChainKept g s) e h in k)
+
+pub next_imports_match : ImportsMatchNext
+next_imports_match g w number below c cores k e =
+    but_imported g w.store c cores k.graph (acting g w.store w.chain below (record { number = number; state = Instantiating (c ∷ cores) }) e k.chain)
 
 kept_reaches : (g : Graph) (steps : List (List Label)) (w v : World) → Kept g w → Reaches g w steps v → Kept g v
 kept_reaches g [] w v k r = subst (λ (u : World). Kept g u) (sym r) k

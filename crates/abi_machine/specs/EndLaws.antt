@@ -1,21 +1,20 @@
 -- What the ends of runs mean, and what steps come to (Component Model, Concurrency.md; Core 2.0, sections 4.4, for the steps of
 -- core functions, and 4.5.4, for instantiation): a run has one last world, an end tells what this world is, and a step uses
 -- the units that it costs.
-use Rattle.std.specs.Prelude.{◌≡◌, ◌⊎◌, ◌+◌, ℕ, suc, List, [], ◌∷◌}
+use Rattle.std.specs.Prelude.{◌≡◌, ◌⊎◌, ◌+◌, ℕ, suc, List, [], ◌∷◌, Some}
 use Rattle.std.specs.List.{flat_map}
-use Rattle.wasm_module.specs.declared.module.ModuleTree.{ModuleTree}
 use Rattle.core_machine.specs.Store.{Store}
 use Rattle.core_machine.specs.Stack.{Stack}
 use Rattle.core_machine.specs.Step as core
 use Rattle.core_machine.specs.Instantiation as core_instance
-use Rattle.comp_graph.specs.Graph.{Graph, Lifted}
+use Rattle.comp_graph.specs.Graph.{CoreMake, Graph, Lifted}
 use Rattle.trace_show.specs.declared.label.Label.{Label}
 use Rattle.trace_show.specs.declared.trap.TrapName.{TrapName}
 use Rattle.trace_show.specs.declared.trap.TrapName.TheVariants as trap
 use Rattle.abi_machine.specs.declared.run_end.RunEnd.{RunEnd}
 use Rattle.abi_machine.specs.declared.run_end.RunEnd.TheVariants.{Done, Trapped, Fuel}
 use Rattle.abi_machine.specs.World.{TaskState, Instantiating, StartsUp, Running, Doomed, Task, World, with_task, with_store}
-use Rattle.abi_machine.specs.Machine.{Steps, Ends, turn}
+use Rattle.abi_machine.specs.Machine.{Steps, Ends, externals, turn}
 use Rattle.abi_machine.specs.Run.{Reaches, Runs, RunsTo}
 
 -- Last worlds.
@@ -56,7 +55,7 @@ FuelIsWanting =
 
 -- the units that the acting task's next step costs: those of its core function's move, and otherwise none
 abbrev pub task_cost : TaskState → Store → ℕ
-task_cost (StartsUp k modules) s = core.cost k (core.next s k)
+task_cost (StartsUp k cores) s = core.cost k (core.next s k)
 task_cost (Running f k) s = core.cost k (core.next s k)
 task_cost state s = 0
 
@@ -91,14 +90,15 @@ abbrev pub CallsRun : Type 0
 CallsRun = (f : Lifted) → CoreStepsAreMade (Running f)
 
 abbrev pub StartsRun : Type 0
-StartsRun = (modules : List ModuleTree) → CoreStepsAreMade (λ k. StartsUp k modules)
+StartsRun = (cores : List CoreMake) → CoreStepsAreMade (λ k. StartsUp k cores)
 
 -- Where a module's segment does not fit, the world keeps the store as it is up to that segment, and the run ends by the trap of
 -- the task that instantiates. Neither costs a unit.
 abbrev pub SegmentsStay : Type 0
 SegmentsStay =
-    (g : Graph) (w : World) (number : ℕ) (below : List Task) (m : ModuleTree) (modules : List ModuleTree) (s : Store)
-    → w.chain ≡ record { number = number; state = Instantiating (m ∷ modules) } ∷ below
-    → core_instance.instantiated m [] w.store ≡ core_instance.SegmentBounds s
+    (g : Graph) (w : World) (number : ℕ) (below : List Task) (c : CoreMake) (cores : List CoreMake)
+    (imports : List core_instance.External) (s : Store)
+    → w.chain ≡ record { number = number; state = Instantiating (c ∷ cores) } ∷ below → externals w.store c.imports ≡ Some imports
+    → core_instance.instantiated c.of_module imports w.store ≡ core_instance.SegmentBounds s
     → (later : World) × (turn g w ≡ Steps [] later) × (later.store ≡ s) × (later.units ≡ w.units)
     × (turn g later ≡ Ends (Trapped number trap.SegmentBounds))

@@ -1,6 +1,7 @@
 -- Small graphs and scripts, whose runs the laws `examples` have (Core 2.0, sections 4.4 and 4.5.4; Component Model,
 -- CanonicalABI.md, `canon lift`).
-use Rattle.std.specs.Prelude.{ℕ, zero, suc, pos, codes, List, [], ◌∷◌, ◌++◌, map, Option, Some, None}
+use Rattle.std.specs.Prelude.{ℕ, zero, suc, pos, codes, List, [], ◌∷◌, ◌++◌, length, map, Option, Some, None}
+use Rattle.std.specs.List.{range_with_len}
 use Rattle.wasm_module.specs.declared.types.ValType.TheVariants.{I32}
 use Rattle.wasm_module.specs.declared.types.FuncType as core
 use Rattle.wasm_module.specs.declared.instr.BlockType.TheVariants.{Empty}
@@ -12,14 +13,23 @@ use Rattle.wasm_module.specs.declared.instr.BinaryOp.{BinaryOp}
 use Rattle.wasm_module.specs.declared.instr.BinaryOp.TheVariants.{Add, Sub, DivU}
 use Rattle.wasm_module.specs.declared.instr.ConstInstr.{ConstInstr}
 use Rattle.wasm_module.specs.declared.instr.ConstInstr.TheVariants as const
+use Rattle.wasm_module.specs.declared.module.Import.{Import}
+use Rattle.wasm_module.specs.declared.module.ImportDesc.{ImportDesc}
+use Rattle.wasm_module.specs.declared.module.ImportDesc.TheVariants as wanted
+use Rattle.wasm_module.specs.declared.module.ElementSegment.{ElementSegment}
 use Rattle.wasm_module.specs.declared.module.DataSegment.{DataSegment}
 use Rattle.wasm_module.specs.declared.module.ModuleTree.{ModuleTree}
 use Rattle.wasm_module.specs.Expr.{Expr, End, Plain, Loop}
 use Rattle.wasm_valid.specs.Context.{arrow}
 use Rattle.ca_types.specs.declared.types.ValType.TheVariants as type
 use Rattle.ca_types.specs.declared.types.FuncType.{FuncType}
+use Rattle.ca_types.specs.declared.exports.Export.{Export}
 use Rattle.ca_types.specs.declared.value.Value.TheVariants as value
-use Rattle.comp_graph.specs.Graph.{Graph}
+use Rattle.comp_graph.specs.declared.graph.CoreExtern.{CoreExtern}
+use Rattle.comp_graph.specs.declared.graph.CoreExtern.TheVariants as extern
+use Rattle.comp_graph.specs.declared.graph.Action.TheVariants.{Begin, Make}
+use Rattle.comp_graph.specs.declared.graph.Lift.{Lift}
+use Rattle.comp_graph.specs.Graph.{CoreMake, Graph}
 use Rattle.script_reader.specs.declared.script.Item.{Item}
 use Rattle.script_reader.specs.declared.script.Item.TheVariants as item
 use Rattle.trace_show.specs.declared.label.Label.{Label}
@@ -114,7 +124,43 @@ starting body = module_of body (Some 5) []
 abbrev pub too_small : Option ℕ → ModuleTree
 too_small start = module_of stops start (segment (7 ∷ []) ∷ [])
 
--- Graphs: instances of these modules, and the functions of the first one.
+-- Modules with imports: a function of two numbers, which its own function of two numbers calls; and the same with a table, in
+-- whose second place its own function is put.
+abbrev pub asks : ImportDesc → Import
+asks desc = record { «module» = codes "m"; name = codes "n"; desc = desc }
+
+abbrev pub importing : List Import → List ElementSegment → ModuleTree
+importing others segments = record {
+  types = numbers ∷ [];
+  imports = asks (wanted.Func 0) ∷ others;
+  funcs = record { type_index = 0; locals = []; body = Plain (LocalGet 0) (Plain (LocalGet 1) (Plain (instr.Call 0) End)) } ∷ [];
+  tables = [];
+  memories = [];
+  globals = [];
+  exports = [];
+  start = None;
+  element_segments = segments;
+  data_segments = [];
+}
+
+abbrev pub calls_import : ModuleTree
+calls_import = importing [] []
+
+abbrev pub fills_import : ModuleTree
+fills_import =
+    importing (asks (wanted.Table (record { min = 2; max = None })) ∷ []) (record { table = 0; offset = at_place 1; funcs = 1 ∷ [] } ∷ [])
+
+-- Core instances: one of a module, with these imports, and imports of the first one.
+abbrev pub core_of : List CoreExtern → ModuleTree → CoreMake
+core_of imports m = record { of_module = m; imports = imports; owner = 0 }
+
+abbrev pub first_func : ℕ → CoreExtern
+first_func index = extern.Func (record { instance = 0; index = index })
+
+abbrev pub first_table : CoreExtern
+first_table = extern.Table (record { instance = 0; index = 0 })
+
+-- Graphs: these core instances, with these functions of them.
 abbrev pub u32s : FuncType
 u32s = record {
   params = record { label = codes "a"; val_type = type.U32 } ∷ record { label = codes "b"; val_type = type.U32 } ∷ [];
@@ -124,20 +170,35 @@ u32s = record {
 abbrev pub nothing : FuncType
 nothing = record { params = []; result = None }
 
-abbrev pub graph_of : List ModuleTree → Graph
-graph_of modules = record {
-  instances = modules;
-  exports =
-      record { name = codes "add"; func_type = u32s }
-      ∷ record { name = codes "subtract"; func_type = u32s }
-      ∷ record { name = codes "loop"; func_type = nothing }
-      ∷ record { name = codes "nest"; func_type = nothing }
-      ∷ record { name = codes "divide"; func_type = nothing }
-      ∷ record { name = codes "go"; func_type = nothing } ∷ [];
-  cores =
-      record { instance = 0; func = 0 } ∷ record { instance = 0; func = 1 } ∷ record { instance = 0; func = 2 }
-      ∷ record { instance = 0; func = 3 } ∷ record { instance = 0; func = 4 } ∷ record { instance = 0; func = 5 } ∷ [];
+abbrev pub graph_of : List CoreMake → List Export → List Lift → Graph
+graph_of cores exports lifts = record {
+  plan = Begin 0 ∷ map Make (range_with_len 0 (length cores));
+  instance_count = 1;
+  cores = cores;
+  exports = exports;
+  lifts = lifts;
 }
+
+abbrev pub lifts : ℕ → ℕ → Lift
+lifts instance index = record { instance = 0; core = record { instance = instance; index = index } }
+
+-- core instances of modules without imports, and the functions of the first one
+abbrev pub plain_graph : List ModuleTree → Graph
+plain_graph modules = graph_of (map (core_of []) modules)
+    (
+    record { name = codes "add"; func_type = u32s }
+    ∷ record { name = codes "subtract"; func_type = u32s }
+    ∷ record { name = codes "loop"; func_type = nothing }
+    ∷ record { name = codes "nest"; func_type = nothing }
+    ∷ record { name = codes "divide"; func_type = nothing }
+    ∷ record { name = codes "go"; func_type = nothing } ∷ []
+    )
+    (lifts 0 0 ∷ lifts 0 1 ∷ lifts 0 2 ∷ lifts 0 3 ∷ lifts 0 4 ∷ lifts 0 5 ∷ [])
+
+-- a core instance without imports, one of this module with these imports, and the function of the second one
+abbrev pub joined_graph : List CoreExtern → ModuleTree → Graph
+joined_graph imports m =
+    graph_of (core_of [] quiet ∷ core_of imports m ∷ []) (record { name = codes "through"; func_type = u32s } ∷ []) (lifts 1 1 ∷ [])
 
 -- Scripts: calls of two numbers, and of none.
 abbrev pub of_two : List ℕ → ℕ → ℕ → Item
@@ -153,8 +214,18 @@ abbrev pub subtracting : Item
 subtracting = of_two (codes "subtract") 7 2
 
 -- what such a script's run on a graph comes to, with so many units
+abbrev pub run_on : Graph → ℕ → List Item → Outcome
+run_on g fuel items = outcome 100 g (first_world g (record { fuel = fuel; items = items }))
+
 abbrev pub run : List ModuleTree → ℕ → List Item → Outcome
-run modules fuel items = outcome 100 (graph_of modules) (first_world (graph_of modules) (record { fuel = fuel; items = items }))
+run modules fuel items = run_on (plain_graph modules) fuel items
+
+-- on a graph whose second core instance imports of the first one; its function is called with 7 and 2
+abbrev pub run_joined : List CoreExtern → ModuleTree → ℕ → List Item → Outcome
+run_joined imports m fuel items = run_on (joined_graph imports m) fuel items
+
+abbrev pub going_through : Item
+going_through = of_two (codes "through") 7 2
 
 -- Lines: how a call begins, by its number, and how it goes on to its end.
 abbrev pub u32 : ℕ → TypedValue
@@ -174,3 +245,9 @@ added number = begins_adding number ++ returns number (Some (u32 5))
 
 abbrev pub subtracted : ℕ → List Label
 subtracted number = begins number (codes "subtract") (u32 7 ∷ u32 2 ∷ []) ++ returns number (Some (u32 5))
+
+abbrev pub begins_through : List Label
+begins_through = begins 1 (codes "through") (u32 7 ∷ u32 2 ∷ [])
+
+abbrev pub gone_through : ℕ → List Label
+gone_through n = begins_through ++ returns 1 (Some (u32 n))

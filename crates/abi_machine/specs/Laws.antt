@@ -1,12 +1,12 @@
 -- What holds of all runs of a sound script (Component Model, Concurrency.md): at each world one move comes next, and there
 -- is exactly one run.
-use Rattle.std.specs.Prelude.{◌≡◌, ◌≢◌, ◌⊎◌, ◌+◌, ◌++◌, ℕ, List, map, Some}
+use Rattle.std.specs.Prelude.{◌≡◌, ◌≢◌, ◌⊎◌, ◌+◌, ◌++◌, ℕ, List, [], map, Some}
 use Rattle.std.specs.List.{AllByRecursion}
 use Rattle.wasm_module.specs.declared.types.FuncType as core
 use Rattle.wasm_numbers.specs.Types.{AreWords}
 use Rattle.wasm_valid.specs.Modules.{Typed}
 use Rattle.core_machine.specs.Instantiation.{InRange}
-use Rattle.comp_graph.specs.Graph.{Lifted, Graph, HasNoImports, func_named, core_type}
+use Rattle.comp_graph.specs.Graph.{Lifted, Graph, AreImported, func_named, core_type}
 use Rattle.script_reader.specs.declared.script.Call.{Call}
 use Rattle.script_reader.specs.declared.script.Item.{Item}
 use Rattle.script_reader.specs.declared.script.Item.TheVariants as item
@@ -18,11 +18,12 @@ use Rattle.abi_machine.specs.World.{World, first_world}
 use Rattle.abi_machine.specs.Machine.{Steps, Ends, lowered, turn}
 use Rattle.abi_machine.specs.Run.{Reaches, Runs}
 
--- A graph of valid modules without imports: no memory begins with more pages than any may have.
+-- A graph of valid modules, no memory of which begins with more pages than any may have. What each core instance imports is
+-- an item of core instances before it, and is what its module asks for.
 pub record SoundGraph (g : Graph) : Type 0 where
-  pub valid : AllByRecursion Typed g.instances
-  pub in_range : AllByRecursion InRange g.instances
-  pub no_imports : HasNoImports g
+  pub valid : AllByRecursion (λ c. Typed c.of_module) g.cores
+  pub in_range : AllByRecursion (λ c. InRange c.of_module) g.cores
+  pub imported : AreImported [] g.cores
 
 -- A call of a graph's function: an export has the name, its core function is there, and the values lower to words of its
 -- parameters.
@@ -30,7 +31,7 @@ pub record SoundCall (g : Graph) (call : Call) : Type 0 where
   pub lifted : Lifted
   pub named : func_named g call.name ≡ Some lifted
   pub type : core.FuncType
-  pub there : core_type g.instances lifted.core ≡ Some type
+  pub there : core_type g.cores lifted.core ≡ Some type
   pub values : AreWords type.params (map lowered call.values)
 
 -- items that call a graph's functions

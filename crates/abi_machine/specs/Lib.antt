@@ -4,6 +4,7 @@ pub mod Run
 pub mod Laws
 pub mod Kept
 pub mod KeptLaws
+pub mod MadeLaws
 pub mod FlatLaws
 pub mod EndLaws
 pub mod Examples

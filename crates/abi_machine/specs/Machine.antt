@@ -3,21 +3,23 @@
 -- which enters, runs its core function, returns the result and exits.
 use Rattle.std.specs.Prelude.{ℕ, zero, suc, ◌+◌, Bool, true, false, List, [], ◌∷◌, map, Option, Some, None}
 use Rattle.std.specs.List.{slice_get}
-use Rattle.std.specs.Option.{option_and_then}
+use Rattle.std.specs.Option.{option_and_then, option_map}
 use Rattle.wasm_module.specs.declared.module.ModuleTree.{ModuleTree}
 use Rattle.core_machine.specs.declared.trap.Trap.{Trap}
 use Rattle.core_machine.specs.declared.trap.Trap.TheVariants as core_trap
-use Rattle.core_machine.specs.Store.{Store, Function, func_at}
+use Rattle.core_machine.specs.Store.{Store, Function, Instance, func_at}
 use Rattle.core_machine.specs.Stack.{Stack}
 use Rattle.core_machine.specs.Step.{Move, Goes, Calls, Traps, next, start}
 use Rattle.core_machine.specs.Step as core
-use Rattle.core_machine.specs.Instantiation.{Instantiation, Makes, SegmentBounds, instance_of, instantiated, start_call}
+use Rattle.core_machine.specs.Instantiation.{External, FuncAddress, TableAddress, MemoryAddress, GlobalAddress, Instantiation, Makes, SegmentBounds, instance_of, instantiated, start_call}
 use Rattle.ca_types.specs.declared.types.ValType.{ValType}
 use Rattle.ca_types.specs.declared.value.Value.{Value, out-Value}
 use Rattle.ca_types.specs.declared.value.Value.TheOpen.{Value-F}
 use Rattle.ca_types.specs.declared.value.Value.TheVariants.{U32}
-use Rattle.comp_graph.specs.declared.graph.CoreFunc.{CoreFunc}
-use Rattle.comp_graph.specs.Graph.{Graph, Lifted, func_named}
+use Rattle.comp_graph.specs.declared.graph.CoreRef.{CoreRef}
+use Rattle.comp_graph.specs.declared.graph.CoreExtern.{CoreExtern}
+use Rattle.comp_graph.specs.declared.graph.CoreExtern.TheVariants as extern
+use Rattle.comp_graph.specs.Graph.{CoreMake, Graph, Lifted, func_named}
 use Rattle.script_reader.specs.declared.script.Call.{Call}
 use Rattle.script_reader.specs.declared.script.Item.{Item}
 use Rattle.script_reader.specs.declared.script.Item.TheVariants as item
@@ -73,22 +75,43 @@ core_turn (core.Ends words) state behind number below w = behind words
 core_turn (Traps why) state behind number below w = silent_for true (with_task number (Doomed (trap_name why)) below w)
 core_turn core.Stuck state behind number below w = Stuck
 
--- Instantiation: of each module a core instance, whose segments are written in order and whose start function runs. The
--- instance of number k has address k. No module has imports so far.
+-- Instantiation: the core instances are made in order. The segments of each are written, and then its start function runs.
+-- The core instance of number k has address k.
 
--- behind a module's segments: its start function, or the next module
-abbrev pub started_up : Option Stack → List ModuleTree → TaskState
-started_up None modules = Instantiating modules
-started_up (Some k) modules = StartsUp k modules
+-- the address of a definition of a core instance, which stands in an index space of that instance
+abbrev pub address_in : (Instance → List ℕ) → Store → CoreRef → Option ℕ
+address_in space s f = option_and_then (λ i. slice_get (space i) f.index) (slice_get s.instances f.instance)
 
-abbrev pub made : Instantiation → ModuleTree → List ModuleTree → ℕ → List Task → World → Turn
-made (SegmentBounds s) m modules number below w = silent (with_store s (with_task number (Doomed trap.SegmentBounds) below w))
-made (Makes s) m modules number below w =
-    silent (with_store s (with_task number (started_up (start_call m (instance_of m [] w.store) s) modules) below w))
+-- what an import is, by its address
+abbrev pub external_of : Store → CoreExtern → Option External
+external_of s (extern.Func f) = option_map FuncAddress (address_in (λ i. i.funcs) s f)
+external_of s (extern.Table t) = option_map TableAddress (address_in (λ i. i.tables) s t)
+external_of s (extern.Memory m) = option_map MemoryAddress (address_in (λ i. i.memories) s m)
+external_of s (extern.Global g) = option_map GlobalAddress (address_in (λ i. i.globals) s g)
 
-abbrev pub instantiating_turn : List ModuleTree → ℕ → List Task → World → Turn
+-- what all imports are, where each has an address
+abbrev pub externals : Store → List CoreExtern → Option (List External)
+externals s [] = Some []
+externals s (e ∷ others) = option_and_then (λ first. option_map (λ more. first ∷ more) (externals s others)) (external_of s e)
+
+-- behind the segments of a core instance: its start function, or the next core instance
+abbrev pub started_up : Option Stack → List CoreMake → TaskState
+started_up None cores = Instantiating cores
+started_up (Some k) cores = StartsUp k cores
+
+abbrev pub made : Instantiation → ModuleTree → List External → List CoreMake → ℕ → List Task → World → Turn
+made (SegmentBounds s) m imports cores number below w = silent (with_store s (with_task number (Doomed trap.SegmentBounds) below w))
+made (Makes s) m imports cores number below w =
+    silent (with_store s (with_task number (started_up (start_call m (instance_of m imports w.store) s) cores) below w))
+
+-- A core instance is made with what its imports are. In a sound graph each of them is there.
+abbrev pub supplied : Option (List External) → ModuleTree → List CoreMake → ℕ → List Task → World → Turn
+supplied None m cores number below w = Stuck
+supplied (Some imports) m cores number below w = made (instantiated m imports w.store) m imports cores number below w
+
+abbrev pub instantiating_turn : List CoreMake → ℕ → List Task → World → Turn
 instantiating_turn [] number below w = silent (record w { chain = below })
-instantiating_turn (m ∷ modules) number below w = made (instantiated m [] w.store) m modules number below w
+instantiating_turn (c ∷ cores) number below w = supplied (externals w.store c.imports) c.of_module cores number below w
 
 -- Calls of functions (CanonicalABI.md, `canon lift`, and the lowering and lifting of flat values).
 
@@ -116,8 +139,8 @@ abbrev pub param_types : Lifted → List ValType
 param_types f = map (λ p. p.val_type) f.func_type.params
 
 -- the core function of a function, with its address
-abbrev pub core_func : Store → CoreFunc → Option (ℕ × Function)
-core_func s f = option_and_then (λ i. func_at f.func i s) (slice_get s.instances f.instance)
+abbrev pub core_func : Store → CoreRef → Option (ℕ × Function)
+core_func s f = option_and_then (λ i. func_at f.index i s) (slice_get s.instances f.instance)
 
 -- the task enters, and its core function begins
 abbrev pub entered : Option (ℕ × Function) → Lifted → List Value → ℕ → List Task → World → Turn
@@ -131,9 +154,9 @@ resolved f words number below w = Steps (line.Return number (lifted f.func_type.
 
 -- the next move of the acting task, by where it is
 abbrev pub task_turn : TaskState → ℕ → List Task → World → Turn
-task_turn (Instantiating modules) number below w = instantiating_turn modules number below w
-task_turn (StartsUp k modules) number below w =
-    core_turn (next w.store k) (λ l. StartsUp l modules) (λ words. silent (with_task number (Instantiating modules) below w)) number below w
+task_turn (Instantiating cores) number below w = instantiating_turn cores number below w
+task_turn (StartsUp k cores) number below w =
+    core_turn (next w.store k) (λ l. StartsUp l cores) (λ words. silent (with_task number (Instantiating cores) below w)) number below w
 task_turn (Starting f values) number below w = entered (core_func w.store f.core) f values number below w
 task_turn (Running f k) number below w = core_turn (next w.store k) (Running f) (λ words. resolved f words number below w) number below w
 task_turn Returned number below w = Steps (line.Exit number ∷ []) (record w { chain = below })

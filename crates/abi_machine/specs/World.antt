@@ -1,22 +1,21 @@
 -- Worlds (Component Model, CanonicalABI.md, "Component Instance State" and "Task"; Concurrency.md): what a run has so far, and
 -- what it is about to do. The tasks are numbered from 1 in the order in which calls of the script make them; task 0 instantiates.
 use Rattle.std.specs.Prelude.{ℕ, List, [], ◌∷◌}
-use Rattle.wasm_module.specs.declared.module.ModuleTree.{ModuleTree}
 use Rattle.core_machine.specs.Store.{Store}
 use Rattle.core_machine.specs.Stack.{Stack}
 use Rattle.core_machine.specs.Instantiation.{empty}
 use Rattle.ca_types.specs.declared.value.Value.{Value}
-use Rattle.comp_graph.specs.Graph.{Graph, Lifted}
+use Rattle.comp_graph.specs.Graph.{CoreMake, Graph, Lifted}
 use Rattle.script_reader.specs.declared.script.Item.{Item}
 use Rattle.script_reader.specs.Script.{Script}
 use Rattle.trace_show.specs.declared.trap.TrapName.{TrapName}
 
 -- where a task is
 pub data TaskState : Type 0 where
-  -- of the task that instantiates: core instances of these modules are still to be made
-  Instantiating : List ModuleTree → TaskState
-  -- of that task: a start function runs, and behind it core instances of these modules are made
-  StartsUp : Stack → List ModuleTree → TaskState
+  -- of the task that instantiates: these core instances are still to be made
+  Instantiating : List CoreMake → TaskState
+  -- of that task: a start function runs, and behind it these core instances are made
+  StartsUp : Stack → List CoreMake → TaskState
   -- it was made, for a call of this function with these arguments, and has not entered
   Starting : Lifted → List Value → TaskState
   -- the core function of this function runs
@@ -47,7 +46,7 @@ first_world g script = record {
   items = script.items;
   calls = 0;
   tasks = 0;
-  chain = record { number = 0; state = Instantiating g.instances } ∷ [];
+  chain = record { number = 0; state = Instantiating g.cores } ∷ [];
   units = script.fuel;
 }
 

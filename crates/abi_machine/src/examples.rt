@@ -3,7 +3,7 @@
 ghost use Rattle.std.specs.Prelude.{◌≡◌, [], ◌∷◌, ◌++◌, codes, Some, None};
 ghost use Rattle.trace_show.specs.declared.trap.TrapName.TheVariants.{SegmentBounds, Unreachable, DivideByZero};
 ghost use Rattle.abi_machine.specs.declared.run_end.RunEnd.TheVariants.{Done, Trapped, Fuel};
-ghost use Rattle.abi_machine.specs.Examples.{told, left, stops, two_steps, module_of, segment, quiet, starting, too_small, of_two, of_none, adding, subtracting, run, u32, begins, returns, begins_adding, added, subtracted};
+ghost use Rattle.abi_machine.specs.Examples.{told, left, stops, two_steps, module_of, segment, quiet, starting, too_small, of_two, of_none, adding, subtracting, run, run_joined, calls_import, fills_import, first_func, first_table, going_through, begins_through, gone_through, u32, begins, returns, begins_adding, added, subtracted};
 
 /// Calls with two arguments: their lines, the end and the units that are left.
 #[tactic(auto, using(ca_types::specs::declared::value::Value::TheViews::the_lemmas))]
@@ -61,4 +61,19 @@ pub fn left_behind()
     ensures second_traps { left (run (quiet ∷ too_small None ∷ quiet ∷ []) 1 []) ≡ ([] ∷ [] ∷ [], (Some 5 ∷ None ∷ []) ∷ (Some 11 ∷ None ∷ []) ∷ []) }
     ensures start_traps { left (run (starting stops ∷ quiet ∷ []) 1 []) ≡ ([] ∷ [], (Some 5 ∷ None ∷ []) ∷ []) }
     ensures start_wants { left (run (starting two_steps ∷ quiet ∷ []) 1 []) ≡ ([] ∷ [], (Some 5 ∷ None ∷ []) ∷ []) }
+{}
+
+/// A core instance that imports a function of the one before it, by its index: its own function calls it, for the units of both.
+/// Where no address is there, there is no next move.
+#[tactic(auto, using(ca_types::specs::declared::value::Value::TheViews::the_lemmas))]
+pub fn imports()
+    ensures sum { told (run_joined (first_func 0 ∷ []) calls_import 10 (going_through ∷ [])) ≡ (gone_through 9, Some Done, 3) }
+    ensures difference { told (run_joined (first_func 1 ∷ []) calls_import 7 (going_through ∷ [])) ≡ (gone_through 5, Some Done, 0) }
+    ensures wants { told (run_joined (first_func 1 ∷ []) calls_import 6 (going_through ∷ [])) ≡ (begins_through, Some Fuel, 0) }
+    ensures no_address { told (run_joined (first_func 6 ∷ []) calls_import 7 (going_through ∷ [])) ≡ ([], None, 7) }
+{}
+
+/// A core instance that imports the table of the one before it: its segment writes there.
+pub fn imported_tables()
+    ensures { left (run_joined (first_func 0 ∷ first_table ∷ []) fills_import 1 []) ≡ ([] ∷ [], (Some 5 ∷ Some 6 ∷ []) ∷ []) }
 {}

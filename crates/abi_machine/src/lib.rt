@@ -18,6 +18,7 @@ pub use ends::{
     core_steps_are_made, ends_mean, one_last_world, segments_stay, steps_use_their_cost,
 };
 pub use laws::{
-    each_run_ends, flat_values_are_whole, more_fuel_goes_on, one_next, one_run, worlds_are_kept,
+    core_instances_are_made, each_run_ends, flat_values_are_whole, imports_match,
+    more_fuel_goes_on, one_next, one_run, worlds_are_kept,
 };
 pub use run_end::RunEnd;
