@@ -1,7 +1,8 @@
 pub mod Behind
-pub mod Callable
-pub mod Distinction
-pub mod Labelled
+pub mod Distinct
+pub mod Fit
+pub mod Graph
 pub mod Linked
-pub mod Made
-pub mod Ways
+pub mod Named
+pub mod SoFar
+pub mod Spaces

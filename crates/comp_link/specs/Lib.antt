@@ -1,3 +1,4 @@
+pub mod Exported
 pub mod Laws
-pub mod Linking
-pub mod Made
+pub mod Root
+pub mod SoFar

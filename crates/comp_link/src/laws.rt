@@ -1,19 +1,16 @@
-//! What holds of the definitions alone.
+//! What holds of all that is linked so far.
 
-ghost use Rattle.comp_link.specs.Laws.{OneLinking, DistinctLabelsAreWanted, DistinctNamesAreWanted};
+ghost use Rattle.comp_link.specs.Laws.{OneGraphSoFar, OneFaultSoFar, LinkedSoFarIsNotRefused, LinkedSoFarOrRefused, RefusedSoFarIsRefused};
 
 /// A component is linked to exactly one graph, or is refused at exactly one place for exactly one reason.
 pub fn one_linking()
-    ensures { OneLinking }
+    ensures graph { OneGraphSoFar }
+    ensures fault { OneFaultSoFar }
+    ensures not_both { LinkedSoFarIsNotRefused }
+    ensures one { LinkedSoFarOrRefused }
 {}
 
-/// A function type whose indices are those of value types is linked exactly where no two of its labels are equal.
-pub fn distinct_labels_are_wanted()
-    ensures { DistinctLabelsAreWanted }
-{}
-
-/// Behind exports of distinct names, an export of a function that is there is linked exactly where all names are
-/// distinct with it.
-pub fn distinct_names_are_wanted()
-    ensures { DistinctNamesAreWanted }
+/// A component that is refused at an item that is linked so far is refused there whatever is linked.
+pub fn refusals_stay()
+    ensures { RefusedSoFarIsRefused }
 {}

@@ -1,321 +1,142 @@
 //! Linking: from a component to its graph, or to the first item that has no meaning.
 
-ghost use Rattle.std.specs.Prelude.{◌≡◌, is_none, Some, None, Ok, Err, MatchResult, IfOk, IfErr};
-ghost use Rattle.std.specs.List.{slice_get, list_all};
+ghost use Rattle.std.specs.Prelude.{◌≡◌, ◌≤◌, true, length, Ok, Err, MatchResult, IfOk, IfErr};
 ghost use Rattle.ca_base.specs.Faults.{IfFault};
-ghost use Rattle.comp_link.specs.Linking as linking;
-ghost use Rattle.comp_graph.specs.Graph.{names, IsCallable, HasNoImports};
-ghost use Rattle.comp_link.specs.Linking.{labels, with_type, IsLinked, IsLinkRefused, HaveDistinctLabels};
-ghost use Rattle.ca_base.specs.Names.{first_twice, AreDistinct};
+ghost use Rattle.ca_base.specs.Names.{AreDistinct};
+ghost use Rattle.comp_graph.specs.Graph.{core_instance_limit, instance_limit, names};
+ghost use Rattle.comp_linking.specs.Spaces.{Linking};
+ghost use Rattle.comp_linking.specs.Items.{item_makes};
+ghost use Rattle.comp_linking.specs.Linked.{graph_of};
+ghost use Rattle.comp_linking.specs.Computed.{Makes, item_outcome};
+ghost use Rattle.comp_link.specs.SoFar.{IsLinkedSoFar, IsRefusedSoFar, IsStopped, is_plain, is_linked_so_far};
+ghost use Rattle.comp_link.specs.Root.{spaces_of, linking_of};
 
-use crate::closed::{ClosedType, Lifted};
-use crate::closing::{close_func, primitive};
-use crate::core_module::first_import;
-use crate::flat::lifts;
-use crate::link_fault::{ItemError, LinkError, LinkFault, LinkWhy};
-use crate::spaces::Spaces;
-use ca_base::{MemoryOr, Name, Placed, Step, first_twice, step_all};
+use crate::core_instances::link_core_instance;
+use crate::definition::Nested;
+use crate::items::{import_why, link_alias, link_export, link_lift, link_type};
+use crate::link_fault::{ItemError, LinkError};
+use crate::root::Root;
+use ca_base::{MemoryOr, Placed, Seq};
 use ca_types::Shared;
-use comp_graph::{CoreFunc, Graph};
-use comp_reader::{
-    Alias, AliasTarget, Canon, Component, CoreInstance, CoreSort, DefType, Export, ExternDesc,
-    FuncType, Item, Param, Sort, ValTypeRef,
-};
+use comp_graph::Graph;
+use comp_linking::{LinkFault, LinkWhy};
+use comp_reader::{Canon, Component, DefType, Item};
+use core_exports::CoreModule;
 use std::alloc::{AllocError, Global};
-use wasm_valid::Valid;
 
-/// How many core instances a component may make.
-const CORE_INSTANCE_LIMIT: usize = 256;
-
-/// Links a core module, which is valid.
-fn link_core_module<'a>(
-    alloc: Global,
-    valid: &'a Valid,
-    spaces: &mut Spaces<'a>,
-) -> Result<(), ItemError>
-    ensures { MatchResult result (λ _. linking.link_core_module spaces.old valid.now ≡ Ok spaces.new) (λ e. IfFault e (λ why. linking.link_core_module spaces.old valid.now ≡ Err why)) }
-{
-    spaces.add_core_module(alloc, valid)?;
-    Ok(())
-}
-
-/// Links the instantiation of the core module of this index without arguments.
-fn link_instantiation<'a>(
-    alloc: Global,
-    index: u32,
-    spaces: &mut Spaces<'a>,
-) -> Result<(), ItemError>
-    ensures { MatchResult result (λ _. linking.link_instantiation spaces.old (slice_get spaces.old.core_modules index) ≡ Ok spaces.new) (λ e. IfFault e (λ why. linking.link_instantiation spaces.old (slice_get spaces.old.core_modules index) ≡ Err why)) }
-{
-    let valid = spaces.core_module(index).ok_or(LinkWhy::Index)?.valid();
-    if let Some(name) = first_import(valid.tree()) {
-        let name = Name::new(alloc, name.as_str())?;
-        return Err(MemoryOr::Fault(LinkWhy::Missing(name)));
-    }
-    if spaces.core_instance_count() >= CORE_INSTANCE_LIMIT {
-        return Err(MemoryOr::Fault(LinkWhy::Limit));
-    }
-    spaces.add_core_instance(index, valid)?;
-    Ok(())
-}
-
-/// Links a core instance.
-fn link_core_instance<'a>(
-    alloc: Global,
-    made: &CoreInstance,
-    spaces: &mut Spaces<'a>,
-) -> Result<(), ItemError>
-    ensures { MatchResult result (λ _. linking.link_core_instance spaces.old made.now ≡ Ok spaces.new) (λ e. IfFault e (λ why. linking.link_core_instance spaces.old made.now ≡ Err why)) }
-{
-    let CoreInstance::Instantiate { module, arguments } = made else {
-        return Err(MemoryOr::Fault(LinkWhy::Limit));
-    };
-    if !arguments.is_empty() {
-        return Err(MemoryOr::Fault(LinkWhy::Limit));
-    }
-    link_instantiation(alloc, *module, spaces)?;
-    Ok(())
-}
-
-/// Links an alias of a function that the core instance of this index exports.
-fn link_core_alias(
-    alloc: Global,
-    index: u32,
-    name: &Name,
-    spaces: &mut Spaces,
-) -> Result<(), ItemError>
-    ensures { MatchResult result (λ _. linking.link_core_alias spaces.old index name.now (slice_get spaces.old.core_instances index) ≡ Ok spaces.new) (λ e. IfFault e (λ why. linking.link_core_alias spaces.old index name.now (slice_get spaces.old.core_instances index) ≡ Err why)) }
-{
-    let instance = index as usize;
-    let module = spaces.core_instance(instance).ok_or(LinkWhy::Index)?;
-    let Some(func) = module.exported_func(name.as_str()) else {
-        let name = Name::new(alloc, name.as_str())?;
-        return Err(MemoryOr::Fault(LinkWhy::Missing(name)));
-    };
-    spaces.add_core_func(CoreFunc { instance, func })?;
-    Ok(())
-}
-
-/// Links an alias.
-fn link_alias(alloc: Global, alias: &Alias, spaces: &mut Spaces) -> Result<(), ItemError>
-    ensures { MatchResult result (λ _. linking.link_alias spaces.old alias.now.sort alias.now.target ≡ Ok spaces.new) (λ e. IfFault e (λ why. linking.link_alias spaces.old alias.now.sort alias.now.target ≡ Err why)) }
-{
-    let Sort::Core(CoreSort::Func) = alias.sort else {
-        return Err(MemoryOr::Fault(LinkWhy::Limit));
-    };
-    let AliasTarget::CoreInstanceExport { instance, name } = &alias.target else {
-        return Err(MemoryOr::Fault(LinkWhy::Limit));
-    };
-    link_core_alias(alloc, *instance, name, spaces)?;
-    Ok(())
-}
-
-/// Whether no label stands twice. It fails for want of memory alone.
-fn labels_are_distinct(alloc: Global, params: &[Param]) -> Result<bool, AllocError>
-    ensures { IfOk result (λ distinct. distinct ≡ is_none (first_twice (labels params.now))) }
-{
-    Ok(first_twice(alloc, params)?.is_none())
-}
-
-/// Whether an index in a value type is below a count.
-fn is_within(count: usize, val_type: ValTypeRef) -> bool
-    ensures { result ≡ linking.is_within count val_type }
-{
-    match val_type {
-        ValTypeRef::Primitive(_) => true,
-        ValTypeRef::Index(index) => (index as usize) < count,
-    }
-}
-
-/// Whether an index in a result is below a count.
-fn result_within(count: usize, returned: Option<ValTypeRef>) -> bool
-    ensures { result ≡ linking.result_within count returned }
-{
-    match returned {
-        Some(val_type) => is_within(count, val_type),
-        None => true,
-    }
-}
-
-/// Whether the indices in the parameters are below a count.
-fn params_within(count: usize, params: &[Param]) -> bool
-    ensures { result ≡ list_all (λ p. linking.is_within count p.val_type) params.now }
-{
-    params.iter().all(|param| is_within(count, param.val_type))
-}
-
-/// Whether all indices in a function type are below a count.
-fn all_within(count: usize, func_type: &FuncType) -> bool
-    ensures { result ≡ linking.all_within count func_type.now }
-{
-    params_within(count, func_type.params.as_slice()) && result_within(count, func_type.result)
-}
-
-/// The closed type of a function type.
-fn close_checked(
-    alloc: Global,
-    spaces: &Spaces,
-    func_type: &FuncType,
-) -> Result<ca_types::FuncType, ItemError>
-    ensures { MatchResult result (λ closed. linking.link_func_type spaces.now func_type.now ≡ Ok (with_type spaces.now (ClosedType.Func closed))) (λ e. IfFault e (λ why. linking.link_func_type spaces.now func_type.now ≡ Err why)) }
-{
-    if !all_within(spaces.type_count(), func_type) {
-        return Err(MemoryOr::Fault(LinkWhy::Index));
-    }
-    if !labels_are_distinct(alloc, func_type.params.as_slice())? {
-        return Err(MemoryOr::Fault(LinkWhy::Typing));
-    }
-    match close_func(alloc, spaces, func_type)? {
-        Some(closed) => Ok(closed),
-        None => Err(MemoryOr::Fault(LinkWhy::Typing)),
-    }
-}
-
-/// The closed type of a type.
-fn close_type(alloc: Global, spaces: &Spaces, def_type: &DefType) -> Result<ClosedType, ItemError>
-    ensures { MatchResult result (λ closed. linking.link_type spaces.now def_type.now ≡ Ok (with_type spaces.now closed)) (λ e. IfFault e (λ why. linking.link_type spaces.now def_type.now ≡ Err why)) }
+/// Whether a type is linked so far: one of values or functions.
+fn is_plain(def_type: &DefType) -> bool
+    ensures { result ≡ is_plain def_type.now }
 {
     match def_type {
-        DefType::Value(val_type) => Ok(ClosedType::Value(primitive(alloc, *val_type)?)),
-        DefType::Func(func_type) => {
-            let closed = close_checked(alloc, spaces, func_type)?;
-            Ok(ClosedType::Func(Shared::new(alloc, closed)?))
-        }
-        DefType::Instance(_) => Err(MemoryOr::Fault(LinkWhy::Limit)),
+        DefType::Value(_) | DefType::Func(_) => true,
+        DefType::Instance(_) => false,
     }
 }
 
-/// Links a type.
-fn link_type(alloc: Global, def_type: &DefType, spaces: &mut Spaces) -> Result<(), ItemError>
-    ensures { MatchResult result (λ _. linking.link_type spaces.old def_type.now ≡ Ok spaces.new) (λ e. IfFault e (λ why. linking.link_type spaces.old def_type.now ≡ Err why)) }
-{
-    let closed = close_type(alloc, spaces, def_type)?;
-    spaces.add_type(closed)?;
-    Ok(())
-}
-
-/// Links the lift of a core function to a type, both told by their indices.
-fn link_lift(core_func: u32, func_type: u32, spaces: &mut Spaces) -> Result<(), ItemError>
-    ensures { MatchResult result (λ _. linking.link_lift spaces.old (slice_get spaces.old.core_funcs core_func) (slice_get spaces.old.types func_type) ≡ Ok spaces.new) (λ e. IfFault e (λ why. linking.link_lift spaces.old (slice_get spaces.old.core_funcs core_func) (slice_get spaces.old.types func_type) ≡ Err why)) }
-{
-    let core = spaces.core_func(core_func).ok_or(LinkWhy::Index)?;
-    let func_type = match spaces.closed_type(func_type).ok_or(LinkWhy::Index)? {
-        ClosedType::Value(_) => return Err(MemoryOr::Fault(LinkWhy::Typing)),
-        ClosedType::Func(func_type) => func_type.share()?,
-    };
-    if !lifts(spaces, core, func_type.get()) {
-        return Err(MemoryOr::Fault(LinkWhy::Canon));
-    }
-    spaces.add_func(Lifted { core, func_type })?;
-    Ok(())
-}
-
-/// Why an import of the root that is to be so is refused.
-fn import_why(desc: ExternDesc) -> LinkWhy
-    ensures { result ≡ linking.import_why desc }
-{
-    match desc {
-        ExternDesc::Func(_) | ExternDesc::TypeEq(_) => LinkWhy::RootImport,
-        ExternDesc::Instance(_) => LinkWhy::Limit,
-    }
-}
-
-/// Links an export of the function of this index.
-fn link_func_export<'a>(
-    alloc: Global,
-    name: &'a Name,
-    index: u32,
-    spaces: &mut Spaces<'a>,
-) -> Result<(), ItemError>
-    ensures { MatchResult result (λ _. linking.link_export spaces.old name.now (slice_get spaces.old.funcs index) ≡ Ok spaces.new) (λ e. IfFault e (λ why. linking.link_export spaces.old name.now (slice_get spaces.old.funcs index) ≡ Err why)) }
-{
-    let func = spaces.func(index).ok_or(LinkWhy::Index)?.share()?;
-    if spaces.has_export(name) {
-        return Err(MemoryOr::Fault(LinkWhy::Typing));
-    }
-    spaces.add_export(alloc, name, func)?;
-    Ok(())
-}
-
-/// Links an export.
-fn link_export<'a>(
-    alloc: Global,
-    export: &'a Export,
-    spaces: &mut Spaces<'a>,
-) -> Result<(), ItemError>
-    ensures { MatchResult result (λ _. linking.link_export_of spaces.old export.now.name export.now.sort export.now.index export.now.desc ≡ Ok spaces.new) (λ e. IfFault e (λ why. linking.link_export_of spaces.old export.now.name export.now.sort export.now.index export.now.desc ≡ Err why)) }
-{
-    let (Sort::Func, None) = (export.sort, export.desc) else {
-        return Err(MemoryOr::Fault(LinkWhy::Limit));
-    };
-    link_func_export(alloc, &export.name, export.index, spaces)?;
-    Ok(())
-}
-
-/// Links an item, behind others that have these index spaces. Nothing is made of a component in it, which is never
-/// instantiated.
-fn link_item<'a>(alloc: Global, item: &'a Item, spaces: &mut Spaces<'a>) -> Result<(), ItemError>
-    ensures { MatchResult result (λ _. linking.link_item spaces.old item.now ≡ Ok spaces.new) (λ e. IfFault e (λ why. linking.link_item spaces.old item.now ≡ Err why)) }
+/// Whether an item is linked so far.
+fn is_linked_so_far(item: &Item) -> bool
+    ensures { result ≡ is_linked_so_far item.now }
 {
     match item {
-        Item::CoreModule(valid) => link_core_module(alloc, valid, spaces)?,
-        Item::CoreInstance(made) => link_core_instance(alloc, made, spaces)?,
-        Item::Component(_) => {}
-        Item::Instance(_) => return Err(MemoryOr::Fault(LinkWhy::Limit)),
-        Item::Alias(alias) => link_alias(alloc, alias, spaces)?,
-        Item::Type(def_type) => link_type(alloc, def_type, spaces)?,
+        Item::Instance(_) => false,
+        Item::Type(def_type) => is_plain(def_type),
+        Item::Export(export) => export.desc.is_none(),
+        Item::CoreModule(_) => true,
+        Item::CoreInstance(_) => true,
+        Item::Component(_) => true,
+        Item::Alias(_) => true,
+        Item::Canon(_) => true,
+        Item::Import(_) => true,
+    }
+}
+
+/// Links an item that is linked so far. Nothing is made of a component in the root, which is not instantiated yet.
+fn link_item<'a>(alloc: Global, item: &'a Item, root: &mut Root<'a>) -> Result<(), ItemError>
+    requires { is_linked_so_far item.now ≡ true }
+    ensures { MatchResult result (λ _. item_outcome (linking_of root.old) 0 (spaces_of root.old) item.now ≡ Ok (Makes (linking_of root.new))) (λ e. IfFault e (λ w. item_outcome (linking_of root.old) 0 (spaces_of root.old) item.now ≡ Err w)) }
+{
+    match item {
+        Item::CoreModule(valid) => {
+            root.add_core_module(Shared::new(alloc, CoreModule::new(alloc, valid)?)?)?
+        }
+        Item::CoreInstance(made) => link_core_instance(alloc, made, root)?,
+        Item::Component(component) => root.add_component(Nested::new(component))?,
+        Item::Instance(_) => unreachable!(),
+        Item::Alias(alias) => link_alias(alloc, alias, root)?,
+        Item::Type(def_type) => link_type(alloc, def_type, root)?,
         Item::Canon(
             Canon::Lift {
                 core_func,
                 func_type,
             },
-        ) => link_lift(*core_func, *func_type, spaces)?,
-        Item::Import(import) => return Err(MemoryOr::Fault(import_why(import.desc))),
-        Item::Export(export) => link_export(alloc, export, spaces)?,
+        ) => link_lift(*core_func, *func_type, root)?,
+        Item::Import(import) => return Err(MemoryOr::Fault(import_why(import, root))),
+        Item::Export(export) => link_export(export, root)?,
     }
     Ok(())
 }
 
-impl<'a> Step<'a> for Spaces<'a> {
-    ghost use Rattle.comp_link.specs.Linking.{link_placed};
-
-    type Item = Placed<Item>;
-
-    type Fault = LinkFault;
-
-    ghost stepped = { link_placed };
-
-    fn step(&mut self, alloc: Global, placed: &'a Placed<Item>) -> Result<(), LinkError> {
-        match link_item(alloc, &placed.item, self) {
-            Ok(()) => Ok(()),
-            Err(MemoryOr::Memory) => Err(MemoryOr::Memory),
-            Err(MemoryOr::Fault(why)) => {
-                let place = placed.place;
-                Err(MemoryOr::Fault(LinkFault { place, why }))
-            }
-        }
+/// Links an item, or tells where it is refused.
+#[tactic(auto, using(crate::proofs::Linked::made_next, crate::proofs::Linked::stopped_by, crate::proofs::Linked::stopped_not_yet))]
+fn link_placed<'a>(
+    alloc: Global,
+    placed: &'a Placed<Item>,
+    root: &mut Root<'a>,
+) -> Result<(), LinkError>
+    ensures { MatchResult result (λ _. (is_linked_so_far placed.now.item ≡ true) × item_makes (linking_of root.old) 0 (spaces_of root.old) placed.now.item (linking_of root.new)) (λ e. IfFault e (λ fault. IsStopped (linking_of root.old) (spaces_of root.old) placed.now fault)) }
+{
+    let place = placed.place;
+    if !is_linked_so_far(&placed.item) {
+        let why = LinkWhy::Limit;
+        return Err(MemoryOr::Fault(LinkFault { place, why }));
     }
+    match link_item(alloc, &placed.item, root) {
+        Ok(()) => Ok(()),
+        Err(MemoryOr::Memory) => Err(MemoryOr::Memory),
+        Err(MemoryOr::Fault(why)) => Err(MemoryOr::Fault(LinkFault { place, why })),
+    }
+}
+
+/// The graph of what is linked. It fails for want of memory alone.
+#[tactic(auto, using(crate::proofs::Graph::funcs_are, crate::proofs::Graph::lifts_are, crate::proofs::Graph::as_many))]
+fn graph_of<'a>(alloc: Global, root: Root<'a>) -> Result<Graph<'a>, AllocError>
+    requires { length (linking_of root).cores ≤ core_instance_limit }
+    ensures { IfOk result (λ g. g ≡ graph_of (linking_of root.entry)) }
+{
+    let funcs = root.exports.funcs(alloc)?;
+    let lifts = root.exports.lifts(alloc)?;
+    Ok(Graph::new(
+        Seq::from_vec(root.plan),
+        1,
+        root.cores,
+        Seq::from_vec(funcs),
+        Seq::from_vec(lifts),
+    ))
 }
 
 /// Links a component (Component Model, Explainer.md and CanonicalABI.md).
 ///
-/// It answers the graph that the component is linked to, or the first item that has no meaning, with its place and the
-/// reason. `Memory` is want of memory.
+/// It answers the graph that the component is linked to, or the first item that has no meaning or is not linked yet, with its
+/// place and the reason. `Memory` is want of memory.
+#[tactic(auto, using(crate::proofs::Linked::none_so_far, crate::proofs::Linked::one_so_far, crate::proofs::Linked::stops_at, crate::proofs::Linked::all_so_far))]
 pub fn link<'a>(alloc: Global, component: &'a Component) -> Result<Graph<'a>, LinkError>
-    // What is answered is the component's graph.
-    ensures ok { IfOk result (λ g. IsLinked component.now g) }
-    // What is refused has none, and this is the first item that is refused.
-    ensures refused { IfErr result (λ e. IfFault e (λ fault. IsLinkRefused component.now fault)) }
-    // The core function of each export is there and has the flat type.
-    ensures callable { IfOk result (λ g. IsCallable g) }
-    // No module of a core instance has imports.
-    ensures without_imports { IfOk result (λ g. HasNoImports g) }
+    // What is answered is the component's graph, and all its items are linked so far.
+    ensures ok { IfOk result (λ g. IsLinkedSoFar component.now g) }
+    // What is refused is the first item that has a reason against it or is not linked yet.
+    ensures refused { IfErr result (λ e. IfFault e (λ fault. IsRefusedSoFar component.now fault)) }
     // No two exports have one name.
     ensures distinct { IfOk result (λ g. AreDistinct (names g.exports)) }
-    // No two parameters of an export have one label.
-    ensures labels { IfOk result (λ g. HaveDistinctLabels g) }
+    // One component instance begins, the root.
+    ensures one_instance { IfOk result (λ g. g.instance_count ≡ 1) }
+    // There are at most 256 component instances, and at most 256 core instances.
+    ensures few { IfOk result (λ g. (g.instance_count ≤ instance_limit) × (length g.cores ≤ core_instance_limit)) }
 {
-    let mut spaces = Spaces::new(alloc);
-    step_all(alloc, &mut spaces, component.items.as_slice())?;
-    Ok(spaces.into_graph())
+    let mut root = Root::new(alloc)?;
+    for placed in component.items.as_slice() {
+        if let Err(error) = link_placed(alloc, placed, &mut root) {
+            return Err(error);
+        }
+    }
+    Ok(graph_of(alloc, root)?)
 }

@@ -1,0 +1,27 @@
+-- The argument of a name.
+use Rattle.std.proofs.Common.{◌≡◌, ℕ, Bool, true, false, cond, List, [], ◌∷◌, refl, Option, Some, None}
+use Rattle.std.specs.List.{slice_get, find}
+use Rattle.std.specs.Option.{option_map}
+use Rattle.std.specs.Str.{bytes_eq}
+use Rattle.comp_reader.specs.declared.component.CoreArgument.{CoreArgument}
+use Rattle.comp_linking.specs.Definitions.{CoreExport}
+use Rattle.comp_linking.specs.Spaces.{Spaces}
+use Rattle.comp_linking.specs.Items.{argument_named}
+
+found_none : (b : Bool) (a : CoreArgument) (o : Option CoreArgument) (r at : Option (List CoreExport)) → option_map (λ (a : CoreArgument). a.instance) (cond b (Some a) o) ≡ None → (option_map (λ (a : CoreArgument). a.instance) o ≡ None → r ≡ None) → cond b at r ≡ None
+found_none true a o r at h f = cc
+found_none false a o r at h f = f h
+
+pub named_none : (s : Spaces) (q : List ℕ) (arguments : List CoreArgument) → option_map (λ (a : CoreArgument). a.instance) (find (λ (a : CoreArgument). bytes_eq a.name q) arguments) ≡ None → argument_named s q arguments ≡ None
+named_none s q [] h = refl
+named_none s q (a ∷ arguments) h = found_none (bytes_eq a.name q) a (find (λ (a : CoreArgument). bytes_eq a.name q) arguments) (argument_named s q arguments) (slice_get s.core_instances a.instance) h (named_none s q arguments)
+
+found_some : (s : Spaces) (b : Bool) (a : CoreArgument) (o : Option CoreArgument) (i : ℕ) (r : Option (List CoreExport)) → option_map (λ (a : CoreArgument). a.instance) (cond b (Some a) o) ≡ Some i
+    → (option_map (λ (a : CoreArgument). a.instance) o ≡ Some i → r ≡ slice_get s.core_instances i) → cond b (slice_get s.core_instances a.instance) r ≡ slice_get s.core_instances i
+found_some s true a o i r h f = let same : a.instance ≡ i = cc in rw same refl
+found_some s false a o i r h f = f h
+
+pub named_some : (s : Spaces) (q : List ℕ) (arguments : List CoreArgument) (i : ℕ) → option_map (λ (a : CoreArgument). a.instance) (find (λ (a : CoreArgument). bytes_eq a.name q) arguments) ≡ Some i
+    → argument_named s q arguments ≡ slice_get s.core_instances i
+named_some s q [] i h = cc
+named_some s q (a ∷ arguments) i h = found_some s (bytes_eq a.name q) a (find (λ (a : CoreArgument). bytes_eq a.name q) arguments) i (argument_named s q arguments) h (named_some s q arguments i)

@@ -1,0 +1,49 @@
+//! The components of cases.
+
+use std::alloc::Global;
+use std::test::Fail;
+
+/// The section of a core module that exports a function `f` from two i32 to one, a function `g` from nothing to nothing, a
+/// table `t` of 2 to 5 entries, a memory `m` of 1 to 3 pages, a global `c` of i32, and a global `v` of i64 that may be set.
+const PROVIDER: &str = "
+01 5C
+00 61 73 6D 01 00 00 00 01 0A 02 60 02 7F 7F 01 7F 60 00 00 03 03 02 00
+01 04 05 01 70 01 02 05 05 04 01 01 01 03 06 0B 02 7F 00 41 07 0B 7E 01
+42 09 0B 07 19 06 01 66 00 00 01 67 00 01 01 74 01 00 01 6D 02 00 01 63
+03 00 01 76 03 01 0A 0C 02 07 00 20 00 20 01 6A 0B 02 00 0B
+";
+
+/// Adds the bytes of a line, so many times.
+fn add_times(alloc: Global, line: &str, bytes: &mut Vec<u8>) -> Result<(), Fail> {
+    let (count, code) = line.split_once(' ').ok_or("no bytes")?;
+    let count: u32 = count.parse()?;
+    let part = cases::bytes_of(alloc, code)?;
+    for _time in 0..count {
+        bytes.extend_from_slice(&part)?;
+    }
+    Ok(())
+}
+
+/// Adds the bytes of a line.
+fn add_line(alloc: Global, line: &str, bytes: &mut Vec<u8>) -> Result<(), Fail> {
+    let code = match line.split_once(';') {
+        Some((code, _remark)) => code.trim(),
+        None => line.trim(),
+    };
+    if let Some(times) = code.strip_prefix("times ") {
+        return add_times(alloc, times, bytes);
+    }
+    let code = if code == "provider" { PROVIDER } else { code };
+    let part = cases::bytes_of(alloc, code)?;
+    bytes.extend_from_slice(&part)?;
+    Ok(())
+}
+
+/// The bytes of lines.
+pub(crate) fn bytes_of_lines(alloc: Global, lines: &str) -> Result<Vec<u8>, Fail> {
+    let mut bytes = Vec::new(alloc);
+    for line in lines.lines() {
+        add_line(alloc, line, &mut bytes)?;
+    }
+    Ok(bytes)
+}
