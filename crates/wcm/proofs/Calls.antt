@@ -25,7 +25,8 @@ use Rattle.std.proofs.lemmas.Option.{slice_get_within}
 use Rattle.ca_types.specs.declared.types.FuncType.{FuncType}
 use Rattle.ca_types.specs.declared.exports.Export.{Export}
 use Rattle.value_reader.specs.Laws.{SoundValuesAreSmall}
-use Rattle.comp_graph.specs.declared.graph.CoreFunc.{CoreFunc}
+use Rattle.comp_graph.specs.declared.graph.CoreRef.{CoreRef}
+use Rattle.comp_graph.specs.declared.graph.Lift.{Lift}
 use Rattle.comp_graph.specs.Graph as graph
 use Rattle.comp_graph.specs.Graph.{IsCallable}
 use Rattle.script_reader.specs.Script.{CallsExport}
@@ -33,6 +34,7 @@ use Rattle.abi_machine.specs.Run.{Reaches}
 use Rattle.abi_machine.specs.EndLaws.{StepsUseOneOrNone}
 use Rattle.wcm.specs.Calling.{Leads, idle, at_task, CoreStops, CoreGives, AreBelow, FitsFunction, FitsItem, FunctionGives, InstancesGive, ItemGives}
 use Rattle.wcm.proofs.Fitting.{function_at, call_fits}
+use Rattle.wcm.proofs.Behind.{next_of, all_gone}
 use Rattle.wcm.proofs.Leads.{leads_step, leads_then, runs_end, runs_behind, kept_behind}
 use Rattle.wcm.proofs.CoreRuns.{end_leads, stop_runs}
 
@@ -105,22 +107,9 @@ module _ (g : Graph) (call : Call) (f : Lifted) (p : ℕ × Function) (s : Store
 
 -- Items, one after the other.
 
-item_next : (items : List Item) (at : ℕ) (i : Item) → at < length items → i ≡ get_or items at i → drop at items ≡ i ∷ drop (at + 1) items
-item_next [] at i l e = absurd (omega arith)
-item_next (x ∷ items) zero i l e = ap (λ (y : Item). y ∷ items) (sym e)
-item_next (x ∷ items) (suc at) i l e =
-    let more : suc (at + 1) ≡ suc at + 1 = omega arith in
-    item_next items at i (omega arith) e ∙ ap (λ (k : ℕ). i ∷ drop k (x ∷ items)) more
-
-all_gone : (items : List Item) (at : ℕ) → length items ≤ at → drop at items ≡ []
-all_gone [] zero l = refl
-all_gone [] (suc at) l = refl
-all_gone (x ∷ items) zero l = absurd (omega arith)
-all_gone (x ∷ items) (suc at) l = all_gone items at (omega arith)
-
 before_item : (g : Graph) (w : World) (items : List Item) (at number : ℕ) (i : Item) (s : Store) (left : ℕ) (labels : List Label) → at < length items → i ≡ get_or items at i
     → Leads g w labels (idle (drop at items) number s left) → Leads g w labels (idle (i ∷ drop (at + 1) items) number s left)
-before_item g w items at number i s left labels l e r = subst (λ (xs : List Item). Leads g w labels (idle xs number s left)) (item_next items at i l e) r
+before_item g w items at number i s left labels l e r = subst (λ (xs : List Item). Leads g w labels (idle xs number s left)) (next_of items at i l e) r
 
 pub item_more : (g : Graph) (w : World) (items : List Item) (at number later : ℕ) (i : Item) (s t : Store) (left after : ℕ) (labels new : List Label) → at < length items → i ≡ get_or items at i → later ≡ number + 1
     → Leads g w labels (idle (drop at items) number s left) → ItemGives g i later s left labels None t after new → Leads g w new (idle (drop (at + 1) items) later t after)
@@ -147,12 +136,12 @@ kept_at_item first stays g script at number i s left labels sound l e r =
     kept_behind first stays g script labels (idle (i ∷ drop (at + 1) script.items) number s left) sound (before_item g (first_world g script) script.items at number i s left labels l e r)
 
 -- What a core function that a call's function lifts comes to, with the call's words.
-pub ran : (s t : Store) (call : Call) (f : Lifted) (core : CoreFunc) (words : List ℕ) (task left after : ℕ) (ended : Result (List ℕ) RunEnd) (fits : FitsFunction s call f) → core ≡ f.core → words ≡ map lowered call.values
+pub ran : (s t : Store) (call : Call) (f : Lifted) (core : CoreRef) (words : List ℕ) (task left after : ℕ) (ended : Result (List ℕ) RunEnd) (fits : FitsFunction s call f) → core ≡ f.core → words ≡ map lowered call.values
     → FunctionGives core words task s left ended t after
     → CoreGives task s (start fits.can.function.1 fits.can.function.0 (map lowered call.values)) left ended t after × MatchResult ended AreBelow (λ end. Unit {0})
 ran s t call f core words task left after ended fits e h gives =
     let here : FunctionGives f.core (map lowered call.values) task s left ended t after =
-    subst (λ (c : CoreFunc). FunctionGives c (map lowered call.values) task s left ended t after) e (subst (λ (ws : List ℕ). FunctionGives core ws task s left ended t after) h gives) in
+    subst (λ (c : CoreRef). FunctionGives c (map lowered call.values) task s left ended t after) e (subst (λ (ws : List ℕ). FunctionGives core ws task s left ended t after) h gives) in
     here fits.can.function fits.can.there
 
 pub below_ok : (ended : Result (List ℕ) RunEnd) (words : List ℕ) → ended ≡ Ok words → MatchResult ended AreBelow (λ end. Unit {0}) → AreBelow words
@@ -165,8 +154,10 @@ some_same o x y e h = let both : ◌≡◌ {A = Option _} (Some x) (Some y) = sy
 pub export_within : (g : Graph) (number : ℕ) (f : Lifted) → graph.func_at g number ≡ Some f → number < length g.exports
 export_within g number f h = let at = function_at g number f h in slice_get_within g.exports number at.export at.there
 
-pub same_core : (g : Graph) (number : ℕ) (f : Lifted) (core : CoreFunc) → graph.func_at g number ≡ Some f → slice_get g.cores number ≡ Some core → core ≡ f.core
-same_core g number f core h k = some_same (slice_get g.cores number) core f.core k (function_at g number f h).core_there
+pub same_core : (g : Graph) (number : ℕ) (f : Lifted) (lift : Lift) → graph.func_at g number ≡ Some f → slice_get g.lifts number ≡ Some lift → lift.core ≡ f.core
+same_core g number f lift h k =
+    let at = function_at g number f h in
+    ap (λ (l : Lift). l.core) (some_same (slice_get g.lifts number) lift at.lift k at.lift_there) ∙ sym at.core
 
 pub same_type : (g : Graph) (number : ℕ) (f : Lifted) (type : FuncType) → graph.func_at g number ≡ Some f → ((e : Export) × (slice_get g.exports number ≡ Some e) × (type ≡ e.func_type)) → type ≡ f.func_type
 same_type g number f type h k =
@@ -180,7 +171,7 @@ all_or P (y ∷ xs) zero x all l e = subst P (sym e) all.0
 all_or P (y ∷ xs) (suc n) x all l e = all_or P xs n x all.1 (omega arith) e
 
 pub item_fits : SoundValuesAreSmall → (g : Graph) (i : Item) (others : List Item) (number : ℕ) (s : Store) (left : ℕ) → IsCallable g → CallsExport g.exports i → Kept g (idle (i ∷ others) number s left) → FitsItem g s i
-item_fits small g (item.Call call) others number s left callable calls k = call_fits small g s call callable k.graph.no_imports k.chain calls
+item_fits small g (item.Call call) others number s left callable calls k = call_fits small g s call callable k.chain calls
 
 -- Units never rise.
 fewer : StepsUseOneOrNone → (g : Graph) (steps : List (List Label)) (w v : World) → Reaches g w steps v → v.units ≤ w.units

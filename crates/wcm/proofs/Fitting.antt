@@ -1,24 +1,17 @@
 -- The functions of a graph that calls name, and that their core functions can run with the values of the calls.
-use Rattle.std.proofs.Common.{◌≡◌, ◌<◌, ◌^◌, ℕ, zero, suc, Bool, true, false, ◌&&◌, nat_eq, nat_le, List, [], ◌∷◌, ◌++◌, map, length, refl, sym, ap, ◌∙◌, subst, arith, Option, Some, None}
+use Rattle.std.proofs.Common.{◌≡◌, ◌<◌, ◌^◌, ℕ, zero, suc, Bool, true, false, ◌&&◌, nat_eq, nat_le, List, [], ◌∷◌, map, length, refl, sym, ap, ◌∙◌, subst, arith, Option, Some, None}
 use Rattle.std.proofs.lemmas.List.{length-map}
-use Rattle.std.specs.List.{slice_get, list_all, AllByRecursion, AllZip}
-use Rattle.std.specs.Option.{option_and_then, option_map, option_map_or}
-use Rattle.std.proofs.lemmas.Option.{slice_get-map}
+use Rattle.std.specs.List.{slice_get, list_all, AllZip}
+use Rattle.std.specs.Option.{option_and_then, option_map_or}
 use Rattle.std.proofs.lemmas.Bool.{eqb-true}
 use Rattle.ca_base.specs.Names.{first_named}
 use Rattle.ca_base.proofs.FirstNamed.{found_by_name}
 use Rattle.wasm_module.specs.declared.types.ValType as core_val
 use Rattle.wasm_module.specs.declared.types.ValType.TheVariants.{I32, I64}
 use Rattle.wasm_module.specs.declared.types.FuncType as core
-use Rattle.wasm_module.specs.declared.module.Func.{Func}
-use Rattle.wasm_module.specs.declared.module.Import.{Import}
-use Rattle.wasm_module.specs.declared.module.ModuleTree.{ModuleTree}
-use Rattle.wasm_module.specs.Spaces.{imported_funcs, func_space}
-use Rattle.wasm_valid.specs.Instrs.{func_type}
+use Rattle.wasm_module.specs.Spaces.{type_of_func}
 use Rattle.wasm_numbers.specs.Types.{AreWords}
 use Rattle.core_machine.specs.Store.{Store, Instance, Function, type_of, func_at}
-use Rattle.core_machine.specs.Typed.{module_context}
-use Rattle.core_machine.proofs.Lists.{all_at}
 use Rattle.ca_types.specs.declared.types.ValType.{out-ValType}
 use Rattle.ca_types.specs.declared.types.ValType.TheOpen.{ValType-F}
 use Rattle.ca_types.specs.declared.types.Param.{Param}
@@ -29,9 +22,10 @@ use Rattle.ca_types.specs.declared.value.Value.TheVariants.{U32}
 use Rattle.ca_types.specs.declared.exports.Export.{Export}
 use Rattle.value_reader.specs.Typed.{AreOfTypes}
 use Rattle.value_reader.specs.Laws.{SoundValuesAreSmall}
-use Rattle.comp_graph.specs.declared.graph.CoreFunc.{CoreFunc}
+use Rattle.comp_graph.specs.declared.graph.CoreRef.{CoreRef}
+use Rattle.comp_graph.specs.declared.graph.Lift.{Lift}
 use Rattle.comp_graph.specs.Graph as graph
-use Rattle.comp_graph.specs.Graph.{Graph, Lifted, lifted_as, func_named, names, type_at, core_type, is_i32, is_u32, is_u32_case, result_count, flat_limit, is_flat, LiftsCore, IsCallable}
+use Rattle.comp_graph.specs.Graph.{CoreMake, Graph, Lifted, lifted_as, func_named, names, core_type, is_i32, is_u32, is_u32_case, result_count, flat_limit, is_flat, LiftsCore, IsCallable}
 use Rattle.script_reader.specs.declared.script.Call.{Call}
 use Rattle.script_reader.specs.declared.script.Item.TheVariants as item
 use Rattle.script_reader.specs.Script.{export_named, CallsExport}
@@ -48,24 +42,26 @@ pub then_some : {A B : Type 0} (f : A → Option B) (o : Option A) (y : B) → o
 then_some f None y h = cc
 then_some f (Some x) y h = (x, refl, h)
 
--- The function of the export of a number: the export and its core function.
+-- The function of the export of a number: the export and what it lifts.
 pub record At (g : Graph) (number : ℕ) (f : Lifted) : Type 0 where
   pub export : Export
+  pub lift : Lift
   pub there : slice_get g.exports number ≡ Some export
-  pub core_there : slice_get g.cores number ≡ Some f.core
+  pub lift_there : slice_get g.lifts number ≡ Some lift
+  pub core : f.core ≡ lift.core
   pub func_type : f.func_type ≡ export.func_type
 
-at_of : (o : Option Export) (c : Option CoreFunc) (f : Lifted) → lifted_as o c ≡ Some f → (e : Export) × (o ≡ Some e) × (c ≡ Some f.core) × (f.func_type ≡ e.func_type)
-at_of (Some e) (Some core) f h =
-    let same : record { core = core; func_type = e.func_type } ≡ f = some_inj h in
-    (e, refl, ap (λ (f : Lifted). let o : Option CoreFunc = Some f.core in o) same, ap (λ (f : Lifted). f.func_type) (sym same))
+at_of : (o : Option Export) (l : Option Lift) (f : Lifted) → lifted_as o l ≡ Some f → (e : Export) × (lift : Lift) × (o ≡ Some e) × (l ≡ Some lift) × (f.core ≡ lift.core) × (f.func_type ≡ e.func_type)
+at_of (Some e) (Some lift) f h =
+    let same : record { instance = lift.instance; core = lift.core; func_type = e.func_type } ≡ f = some_inj h in
+    (e, lift, refl, refl, ap (λ (f : Lifted). f.core) (sym same), ap (λ (f : Lifted). f.func_type) (sym same))
 at_of (Some e) None f h = cc
-at_of None c f h = cc
+at_of None l f h = cc
 
 pub function_at : (g : Graph) (number : ℕ) (f : Lifted) → graph.func_at g number ≡ Some f → At g number f
 function_at g number f h =
-    let a = at_of (slice_get g.exports number) (slice_get g.cores number) f h in
-    record { export = a.0; there = a.1; core_there = a.2; func_type = a.3 }
+    let a = at_of (slice_get g.exports number) (slice_get g.lifts number) f h in
+    record { export = a.0; lift = a.1; there = a.2; lift_there = a.3; core = a.4; func_type = a.5 }
 
 -- what two lists have at one place
 both_at : {A B : Type 0} (R : A → B → Type 0) (xs : List A) (ys : List B) (n : ℕ) (x : A) (y : B) → AllZip R xs ys → slice_get xs n ≡ Some x → slice_get ys n ≡ Some y → R x y
@@ -77,12 +73,15 @@ both_at R (a ∷ xs) (b ∷ ys) zero x y all h k =
     subst (λ (x : _). R x y) first (subst (λ (y : _). R a y) second all.0)
 both_at R (a ∷ xs) (b ∷ ys) (suc n) x y all h k = both_at R xs ys n x y all.1 h k
 
--- An export that scripts call by its name is that of the function of this name, and the core function has the flat type.
+-- An export that scripts call by its name is that of the function of this name, and the core function is there and has the
+-- flat type.
 pub record Named (g : Graph) (name : List ℕ) (f : Lifted) : Type 0 where
   pub export : Export
   pub named : export_named g.exports name ≡ Some export
   pub func_type : f.func_type ≡ export.func_type
-  pub lifts : LiftsCore g.instances f.func_type f.core
+  pub type : core.FuncType
+  pub there : core_type g.cores f.core ≡ Some type
+  pub flat : is_flat f.func_type type ≡ true
 
 pub named_function : (g : Graph) (name : List ℕ) (f : Lifted) → IsCallable g → func_named g name ≡ Some f → Named g name f
 named_function g name f callable h =
@@ -90,17 +89,19 @@ named_function g name f callable h =
     let at = function_at g number.0 f number.2 in
     let found : export_named g.exports name ≡ Some at.export =
     sym (found_by_name (λ (e : Export). e.name) g.exports name) ∙ (ap (option_and_then (λ k. slice_get g.exports k)) number.1 ∙ at.there) in
-    let lifts : LiftsCore g.instances at.export.func_type f.core =
-    both_at (λ (e : Export) (c : CoreFunc). LiftsCore g.instances e.func_type c) g.exports g.cores number.0 at.export f.core callable at.there at.core_there in
+    let lifts : LiftsCore g.cores at.export.func_type at.lift =
+    both_at (λ (e : Export) (l : Lift). LiftsCore g.cores e.func_type l) g.exports g.lifts number.0 at.export at.lift callable at.there at.lift_there in
     record {
       export = at.export;
       named = found;
       func_type = at.func_type;
-      lifts = subst (λ (t : FuncType). LiftsCore g.instances t f.core) (sym at.func_type) lifts;
+      type = lifts.type;
+      there = ap (core_type g.cores) at.core ∙ lifts.there;
+      flat = ap (λ (t : FuncType). is_flat t lifts.type) at.func_type ∙ lifts.flat;
     }
 
 -- Each export that is named has a function.
-lifted_there : (xs : List Export) (cs : List CoreFunc) (n : ℕ) (e : Export) → length cs ≡ length xs → slice_get xs n ≡ Some e → (c : CoreFunc) × (slice_get cs n ≡ Some c)
+lifted_there : (xs : List Export) (cs : List Lift) (n : ℕ) (e : Export) → length cs ≡ length xs → slice_get xs n ≡ Some e → (c : Lift) × (slice_get cs n ≡ Some c)
 lifted_there [] cs n e l h = cc
 lifted_there (x ∷ xs) [] n e l h = absurd (omega arith)
 lifted_there (x ∷ xs) (c ∷ cs) zero e l h = (c, refl)
@@ -116,9 +117,9 @@ pub has_function : (g : Graph) (name : List ℕ) (e : Export) → IsCallable g �
 has_function g name e callable h =
     let found = found_by_name (λ (e : Export). e.name) g.exports name ∙ h in
     let number = then_some (λ (k : ℕ). slice_get g.exports k) (first_named name (names g.exports)) e found in
-    let c = lifted_there g.exports g.cores number.0 e (zip_lengths _ g.exports g.cores callable) number.2 in
-    let f : Lifted = record { core = c.0; func_type = e.func_type } in
-    (f, ap (option_and_then (graph.func_at g)) number.1 ∙ (ap (λ (o : Option Export). lifted_as o (slice_get g.cores number.0)) number.2 ∙ ap (λ (o : Option CoreFunc). lifted_as (Some e) o) c.1), refl)
+    let c = lifted_there g.exports g.lifts number.0 e (zip_lengths _ g.exports g.lifts callable) number.2 in
+    let f : Lifted = record { instance = c.0.instance; core = c.0.core; func_type = e.func_type } in
+    (f, ap (option_and_then (graph.func_at g)) number.1 ∙ (ap (λ (o : Option Export). lifted_as o (slice_get g.lifts number.0)) number.2 ∙ ap (λ (o : Option Lift). lifted_as (Some e) o) c.1), refl)
 
 -- the parts of a test of several
 first_of : (a b : Bool) → (a && b) ≡ true → a ≡ true
@@ -200,56 +201,36 @@ pub call_sound : SoundValuesAreSmall → (g : Graph) (call : Call) → IsCallabl
 call_sound small g call callable c =
     let f = has_function g call.name c.0 callable c.1 in
     let n = named_function g call.name f.0 callable f.1 in
-    let t = flat f.0.func_type n.lifts.type n.lifts.flat in
+    let t = flat f.0.func_type n.type n.flat in
     let of : AreOfTypes (map (λ p. p.val_type) f.0.func_type.params) call.values = subst (λ (t : FuncType). AreOfTypes (map (λ p. p.val_type) t.params) call.values) (sym f.2) c.2 in
     let us = are_u32 small f.0.func_type.params call.values t.types of in
     record {
       lifted = f.0;
       named = f.1;
-      type = n.lifts.type;
-      there = n.lifts.there;
-      values = words_below n.lifts.type.params (map lowered call.values) t.params (t.count ∙ (sym us.2 ∙ sym (length-map call.values lowered))) us.1;
+      type = n.type;
+      there = n.there;
+      values = words_below n.type.params (map lowered call.values) t.params (t.count ∙ (sym us.2 ∙ sym (length-map call.values lowered))) us.1;
     }
 
 -- The core function is there, with its type.
-no_items : {A : Type 0} (xs : List A) → nat_eq (length xs) 0 ≡ true → xs ≡ []
-no_items [] h = refl
-no_items (x ∷ xs) h = let e : suc (length xs) ≡ 0 = eqb-true (suc (length xs)) 0 h in absurd (omega arith)
-
-pub no_imports : (ms : List ModuleTree) → list_all (λ m. nat_eq (length m.imports) 0) ms ≡ true → AllByRecursion (λ m. m.imports ≡ []) ms
-no_imports [] h = tt
-no_imports (m ∷ ms) h =
-    let first = nat_eq (length m.imports) 0 in
-    let others = list_all (λ (m : ModuleTree). nat_eq (length m.imports) 0) ms in
-    (no_items m.imports (first_of first others h), no_imports ms (second_of first others h))
-
-own_type : (m : ModuleTree) (func : ℕ) (type : core.FuncType) → m.imports ≡ [] → type_at m func ≡ Some type → func_type (module_context m) func ≡ Some type
-own_type m func type none h =
-    let f = then_some (λ (f : Func). slice_get m.types f.type_index) (slice_get m.funcs func) type h in
-    let space : func_space m ≡ map (λ f. f.type_index) m.funcs = ap (λ (is : List Import). imported_funcs is ++ map (λ f. f.type_index) m.funcs) none in
-    let at : slice_get (func_space m) func ≡ Some f.0.type_index =
-    ap (λ (xs : List ℕ). slice_get xs func) space ∙ (slice_get-map (λ f. f.type_index) m.funcs func ∙ ap (option_map (λ f. f.type_index)) f.1) in
-    ap (option_and_then (λ type. slice_get m.types type)) at ∙ f.2
-
-core_there : (g : Graph) (s : Store) (f : CoreFunc) (type : core.FuncType) → list_all (λ m. nat_eq (length m.imports) 0) g.instances ≡ true → AreMade s g.instances → core_type g.instances f ≡ Some type → (p : ℕ × Function) × (core_func s f ≡ Some p) × (type_of p.1 ≡ type)
-core_there g s f type none all h =
-    let m = then_some (λ (m : ModuleTree). type_at m f.func) (slice_get g.instances f.instance) type h in
-    let i = all.each f.instance m.0 m.1 in
-    let bare : m.0.imports ≡ [] = all_at (λ m. m.imports ≡ []) g.instances f.instance m.0 (no_imports g.instances none) m.1 in
-    let p = i.2.funcs f.func type (own_type m.0 f.func type bare m.2) in
-    (p.0, ap (option_and_then (λ (i : Instance). func_at f.func i s)) i.1 ∙ p.1, p.2)
+core_there : (g : Graph) (s : Store) (f : CoreRef) (type : core.FuncType) → AreMade s g.cores → core_type g.cores f ≡ Some type → (p : ℕ × Function) × (core_func s f ≡ Some p) × (type_of p.1 ≡ type)
+core_there g s f type all h =
+    let c = then_some (λ (c : CoreMake). type_of_func c.of_module f.index) (slice_get g.cores f.instance) type h in
+    let i = all.each f.instance c.0 c.1 in
+    let p = i.2.has.funcs f.index type c.2 in
+    (p.0, ap (option_and_then (λ (i : Instance). func_at f.index i s)) i.1 ∙ p.1, p.2)
 
 -- The function that a call names can run.
-function_fits : SoundValuesAreSmall → (g : Graph) (s : Store) (call : Call) → IsCallable g → list_all (λ m. nat_eq (length m.imports) 0) g.instances ≡ true → AreMade s g.instances → CallsExport g.exports (item.Call call) → (f : Lifted) → func_named g call.name ≡ Some f → FitsFunction s call f
-function_fits small g s call callable none made c f named =
+function_fits : SoundValuesAreSmall → (g : Graph) (s : Store) (call : Call) → IsCallable g → AreMade s g.cores → CallsExport g.exports (item.Call call) → (f : Lifted) → func_named g call.name ≡ Some f → FitsFunction s call f
+function_fits small g s call callable made c f named =
     let n = named_function g call.name f callable named in
-    let t = flat f.func_type n.lifts.type n.lifts.flat in
+    let t = flat f.func_type n.type n.flat in
     let same : n.export ≡ c.0 = some_inj (sym n.named ∙ c.1) in
     let type : f.func_type ≡ c.0.func_type = n.func_type ∙ ap (λ (e : Export). e.func_type) same in
     let of : AreOfTypes (map (λ p. p.val_type) f.func_type.params) call.values = subst (λ (t : FuncType). AreOfTypes (map (λ p. p.val_type) t.params) call.values) (sym type) c.2 in
     let us = are_u32 small f.func_type.params call.values t.types of in
-    let p = core_there g s f.core n.lifts.type none made n.lifts.there in
-    let words = words_below n.lifts.type.params (map lowered call.values) t.params (t.count ∙ (sym us.2 ∙ sym (length-map call.values lowered))) us.1 in
+    let p = core_there g s f.core n.type made n.there in
+    let words = words_below n.type.params (map lowered call.values) t.params (t.count ∙ (sym us.2 ∙ sym (length-map call.values lowered))) us.1 in
     record {
       can = record {
         function = p.0;
@@ -261,5 +242,5 @@ function_fits small g s call callable none made c f named =
       values = us.0;
     }
 
-pub call_fits : SoundValuesAreSmall → (g : Graph) (s : Store) (call : Call) → IsCallable g → list_all (λ m. nat_eq (length m.imports) 0) g.instances ≡ true → AreMade s g.instances → CallsExport g.exports (item.Call call) → Fits g s call
-call_fits small g s call callable none made c = record { each = function_fits small g s call callable none made c }
+pub call_fits : SoundValuesAreSmall → (g : Graph) (s : Store) (call : Call) → IsCallable g → AreMade s g.cores → CallsExport g.exports (item.Call call) → Fits g s call
+call_fits small g s call callable made c = record { each = function_fits small g s call callable made c }

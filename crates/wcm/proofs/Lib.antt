@@ -1,4 +1,5 @@
 pub mod Arguments
+pub mod Behind
 pub mod Calls
 pub mod CoreRuns
 pub mod Entries
@@ -12,4 +13,5 @@ pub mod Plain
 pub mod Readings
 pub mod Rows
 pub mod Sounds
+pub mod Supplied
 pub mod Taken

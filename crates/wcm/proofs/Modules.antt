@@ -1,5 +1,5 @@
--- The core modules among the items of a component that is read are typed, and no memory of theirs begins with more pages
--- than any may have.
+-- The core modules that stand in a component that is read, at any depth, are typed, and no memory of theirs begins with more
+-- pages than any may have.
 use Rattle.std.proofs.Common.{◌≡◌, ℕ, zero, suc, Bool, true, false, List, [], ◌∷◌, ◌++◌, Option, Some, None, refl, sym, subst, rules}
 use Rattle.std.specs.Prelude.{◌==◌}
 use Rattle.std.specs.List.{AllByRecursion}
@@ -40,17 +40,22 @@ use Rattle.comp_reader.specs.declared.fault.ComponentWhy.{ComponentWhy}
 use Rattle.comp_reader.specs.declared.fault.ComponentWhy.TheVariants.{Unsupported}
 use Rattle.comp_reader.specs.Binary.{numbers, reasons, validated, unsupported, module_file, core_module, core_argument, core_inline_export, core_instance, argument, inline_export, instance, alias_item, type_item, canon, import, export, custom_items, module_items, component_items, plain_payload, payload, is_section, component_of, component_within, depth_limit, IsComponent}
 use Rattle.comp_reader.specs.Binary as file
+use Rattle.comp_linking.specs.Standing.{StandsIn, stands_first, stands_inside, stands_behind}
 
 -- a module that is typed, and whose memories are in range
 pub record IsFit (m : ModuleTree) : Type 0 where
   pub typed : Typed m
   pub range : InRange m
 
--- An item that is fit, if it is a core module. The modules of a component in it are not asked.
-abbrev pub CaseTyped : {A B : Type 0} → Item-F A B → Type 0
+-- all that stand in a component
+abbrev pub AllFit : Component → Type 0
+AllFit c = (m : ModuleTree) → StandsIn m c.items → IsFit m
+
+-- An item that is fit, if it is a core module, or a component whose modules are fit.
+abbrev pub CaseTyped : Item-F Item Component → Type 0
 CaseTyped (Item-F.CoreModule m) = IsFit m
 CaseTyped (Item-F.CoreInstance i) = Unit {0}
-CaseTyped (Item-F.Component c) = Unit {0}
+CaseTyped (Item-F.Component c) = AllFit c
 CaseTyped (Item-F.Instance i) = Unit {0}
 CaseTyped (Item-F.Alias a) = Unit {0}
 CaseTyped (Item-F.Type t) = Unit {0}
@@ -70,8 +75,8 @@ module_typed m h = as_case (item.CoreModule m) (Item-F.CoreModule m) (search (ru
 core_instance_typed : (i : CoreInstance) → ItemTyped (item.CoreInstance i)
 core_instance_typed i = as_case (item.CoreInstance i) (Item-F.CoreInstance i) (search (rules, the_lemmas)) tt
 
-nested_typed : (c : Component) → ItemTyped (item.Component c)
-nested_typed c = as_case (item.Component c) (Item-F.Component c) (search (rules, the_lemmas)) tt
+nested_typed : (c : Component) → AllFit c → ItemTyped (item.Component c)
+nested_typed c h = as_case (item.Component c) (Item-F.Component c) (search (rules, the_lemmas)) h
 
 instance_typed : (i : made_of.Instance) → ItemTyped (item.Instance i)
 instance_typed i = as_case (item.Instance i) (Item-F.Instance i) (search (rules, the_lemmas)) tt
@@ -94,6 +99,11 @@ export_typed e = as_case (item.Export e) (Item-F.Export e) (search (rules, the_l
 -- placed items that are typed
 abbrev pub PlacedTyped : List (Placed Item) → Type 0
 PlacedTyped ps = AllByRecursion (λ p. ItemTyped p.item) ps
+
+stands_fit : (m : ModuleTree) (items : List (Placed Item)) → StandsIn m items → PlacedTyped items → IsFit m
+stands_fit m items (stands_first placed others e) h = subst CaseTyped e h.0
+stands_fit m items (stands_inside placed others c e inside) h = (subst CaseTyped e h.0) m inside
+stands_fit m items (stands_behind placed others behind) h = stands_fit m others behind h.1
 
 many_tested : {W A : Type 0} (P : A → Type 0) (g : Grammar W A) (others : Grammar W (List A)) → Gives P g → Gives (AllByRecursion P) others → (b : Bool) (s : Span W) (x : List A) (t : Span W) → Matches (Choose b (Give []) (g >>= (λ first. others >>= (λ more. Give (first ∷ more))))) s x t → AllByRecursion P x
 many_tested P g others h r true s x t m = subst (AllByRecursion P) (sym m.0) tt
@@ -210,9 +220,9 @@ of_module : Gives PlacedTyped module_items
 unfolding module_items
 of_module s x t m = subst PlacedTyped (sym m.3.0) (placed_gives ItemTyped core_module module_gives s m.0 m.1 m.2, tt)
 
-of_component : (inner : Grammar ComponentWhy Component) → Gives PlacedTyped (component_items inner)
+of_component : (inner : Grammar ComponentWhy Component) → Gives AllFit inner → Gives PlacedTyped (component_items inner)
 unfolding component_items
-of_component inner s x t m = subst PlacedTyped (sym m.3.3.0) (nested_typed m.3.0, tt)
+of_component inner h s x t m = subst PlacedTyped (sym m.3.3.0) (nested_typed m.3.0 (h m.1 m.3.0 m.3.1 m.3.2), tt)
 
 vec_gives : (g : Grammar ComponentWhy Item) → Gives ItemTyped g → Gives PlacedTyped (placed_vec numbers g)
 vec_gives g h s x t m = times_give (λ (p : Placed Item). ItemTyped p.item) (placed g) (placed_gives ItemTyped g h) m.0 m.1 x t m.3
@@ -251,17 +261,17 @@ plain_payload_gives more id =
     (choice_gives PlacedTyped (placed_vec numbers import) (placed_vec numbers export) (vec_gives import import_gives) (vec_gives export export_gives) (id == 10))
     (id == 8)) (id == 7)) (id == 6)) (id == 5)) (id == 2)) (id == 1)) (id == 0)
 
-payload_gives : (more : ℕ) (inner : Grammar ComponentWhy Component) (id : ℕ) → Gives PlacedTyped (payload more inner id)
+payload_gives : (more : ℕ) (inner : Grammar ComponentWhy Component) (id : ℕ) → Gives AllFit inner → Gives PlacedTyped (payload more inner id)
 unfolding payload
-payload_gives more inner id =
-    choice_gives PlacedTyped (component_items inner) (plain_payload more id) (of_component inner) (plain_payload_gives more id) (id == 4)
+payload_gives more inner id h =
+    choice_gives PlacedTyped (component_items inner) (plain_payload more id) (of_component inner h) (plain_payload_gives more id) (id == 4)
 
-section_gives : (more : ℕ) (inner : Grammar ComponentWhy Component) → Gives PlacedTyped (file.section more inner)
+section_gives : (more : ℕ) (inner : Grammar ComponentWhy Component) → Gives AllFit inner → Gives PlacedTyped (file.section more inner)
 unfolding file.section
-section_gives more inner s x t m =
+section_gives more inner h s x t m =
     let id = m.3.0 in
     choice_gives PlacedTyped (sized numbers reasons (payload more inner id)) (unsupported m.0 id)
-    (sized_gives PlacedTyped numbers reasons (payload more inner id) (payload_gives more inner id)) (nothing_gives PlacedTyped m.0 (Unsupported id))
+    (sized_gives PlacedTyped numbers reasons (payload more inner id) (payload_gives more inner id h)) (nothing_gives PlacedTyped m.0 (Unsupported id))
     (is_section id) m.3.1 x t m.3.3
 
 pub all_append : {A : Type 0} (P : A → Type 0) (xs ys : List A) → AllByRecursion P xs → AllByRecursion P ys → AllByRecursion P (xs ++ ys)
@@ -272,17 +282,17 @@ joined_typed : (parts : List (List (Placed Item))) → AllByRecursion PlacedType
 joined_typed [] h = tt
 joined_typed (part ∷ parts) h = all_append (λ (p : Placed Item). ItemTyped p.item) part (joined parts) h.0 (joined_typed parts h.1)
 
-component_of_gives : (more : ℕ) (inner : Grammar ComponentWhy Component) → Gives (λ c. PlacedTyped c.items) (component_of more inner)
+component_of_gives : (more : ℕ) (inner : Grammar ComponentWhy Component) → Gives AllFit inner → Gives AllFit (component_of more inner)
 unfolding component_of
-component_of_gives more inner s c t m =
+component_of_gives more inner h s c t m =
     let sections = m.3.0 in
-    let all = many_give PlacedTyped (file.section more inner) (section_gives more inner) m.3.2.0 m.3.2.1 sections m.3.1 m.3.2.3 in
-    subst (λ (c : Component). PlacedTyped c.items) (sym m.3.3.3.0) (joined_typed sections all)
+    let all = many_give PlacedTyped (file.section more inner) (section_gives more inner h) m.3.2.0 m.3.2.1 sections m.3.1 m.3.2.3 in
+    subst AllFit (sym m.3.3.3.0) (λ module_is stands. stands_fit module_is (joined sections) stands (joined_typed sections all))
 
-within_gives : (n : ℕ) → Gives (λ c. PlacedTyped c.items) (component_within n)
+within_gives : (n : ℕ) → Gives AllFit (component_within n)
 unfolding component_within
 within_gives zero s c t m = absurd m.3
-within_gives (suc more) s c t m = component_of_gives more (component_within more) s c t m
+within_gives (suc more) s c t m = component_of_gives more (component_within more) (within_gives more) s c t m
 
-pub component_typed : (bytes : List ℕ) (c : Component) → IsComponent bytes c → PlacedTyped c.items
+pub component_typed : (bytes : List ℕ) (c : Component) → IsComponent bytes c → AllFit c
 component_typed bytes c m = within_gives depth_limit (file.file bytes) c (file.file_end bytes) m

@@ -13,8 +13,8 @@ use Rattle.ca_types.specs.declared.types.ValType.{ValType}
 use Rattle.ca_types.specs.declared.types.FuncType.{FuncType}
 use Rattle.ca_types.specs.declared.value.Value.{Value}
 use Rattle.ca_types.specs.declared.value.Value.TheVariants.{U32}
-use Rattle.comp_graph.specs.declared.graph.CoreFunc.{CoreFunc}
-use Rattle.comp_graph.specs.Graph.{Graph, Lifted, func_named, is_i32}
+use Rattle.comp_graph.specs.declared.graph.CoreRef.{CoreRef}
+use Rattle.comp_graph.specs.Graph.{CoreMake, Graph, Lifted, func_named, is_i32}
 use Rattle.script_reader.specs.declared.script.Call.{Call}
 use Rattle.script_reader.specs.declared.script.Item.{Item}
 use Rattle.script_reader.specs.declared.script.Item.TheVariants as item
@@ -59,23 +59,23 @@ abbrev pub CoreGives : ℕ → Store → Stack → ℕ → Result (List ℕ) Run
 CoreGives task s k before ended t after =
     MatchResult ended (λ words. Comes s k before t after (Ends words)) (λ end. CoreStops task s k before end t after)
 
--- what the start function of an instance comes to, if its module has one
+-- what the start function of an instance comes to, if its module has one, with any core instances behind it
 abbrev pub StartGives : ModuleTree → ℕ → Store → ℕ → Option RunEnd → Store → ℕ → Type 0
 StartGives m instance s before ended t after =
     (i : Instance) → slice_get s.instances instance ≡ Some i
-    → (g : Graph) (items : List Item) (modules : List ModuleTree)
-    → GoesOrEnds g (at_task items 0 (started_up (start_call m i s) modules) s before) [] ended (at_task items 0 (Instantiating modules) t after)
+    → (g : Graph) (items : List Item) (cores : List CoreMake)
+    → GoesOrEnds g (at_task items 0 (started_up (start_call m i s) cores) s before) [] ended (at_task items 0 (Instantiating cores) t after)
 
--- what the instantiation of a module comes to, with any modules behind it
-abbrev pub AddGives : ModuleTree → Store → ℕ → Option RunEnd → Store → ℕ → Type 0
-AddGives m s before ended t after =
-    (g : Graph) (items : List Item) (modules : List ModuleTree)
-    → GoesOrEnds g (at_task items 0 (Instantiating (m ∷ modules)) s before) [] ended (at_task items 0 (Instantiating modules) t after)
+-- what a core instance comes to when it is made, with any others behind it
+abbrev pub AddGives : CoreMake → Store → ℕ → Option RunEnd → Store → ℕ → Type 0
+AddGives core s before ended t after =
+    (g : Graph) (items : List Item) (cores : List CoreMake)
+    → GoesOrEnds g (at_task items 0 (Instantiating (core ∷ cores)) s before) [] ended (at_task items 0 (Instantiating cores) t after)
 
 -- what the instantiation of a graph comes to, with any items behind it
 abbrev pub InstancesGive : Graph → ℕ → Option RunEnd → Store → ℕ → Type 0
 InstancesGive g before ended t after =
-    (items : List Item) → GoesOrEnds g (at_task items 0 (Instantiating g.instances) empty before) [] ended (idle items 0 t after)
+    (items : List Item) → GoesOrEnds g (at_task items 0 (Instantiating g.cores) empty before) [] ended (idle items 0 t after)
 
 -- words that are u32
 abbrev pub AreBelow : List ℕ → Type 0
@@ -88,14 +88,14 @@ abbrev pub types_of : FuncType → List ValType
 types_of type = map (λ p. p.val_type) type.params
 
 -- A core function is there, the words are its arguments, and its results are i32.
-pub record CanRun (s : Store) (core : CoreFunc) (words : List ℕ) : Type 0 where
+pub record CanRun (s : Store) (core : CoreRef) (words : List ℕ) : Type 0 where
   pub function : ℕ × Function
   pub there : core_func s core ≡ Some function
   pub params : AreWords (type_of function.1).params words
   pub results : list_all is_i32 (type_of function.1).results ≡ true
 
 -- what it comes to, as the core function of a task
-abbrev pub FunctionGives : CoreFunc → List ℕ → ℕ → Store → ℕ → Result (List ℕ) RunEnd → Store → ℕ → Type 0
+abbrev pub FunctionGives : CoreRef → List ℕ → ℕ → Store → ℕ → Result (List ℕ) RunEnd → Store → ℕ → Type 0
 FunctionGives core words task s before ended t after =
     (function : ℕ × Function) → core_func s core ≡ Some function
     → CoreGives task s (start function.1 function.0 words) before ended t after × MatchResult ended AreBelow (λ end. Unit {0})

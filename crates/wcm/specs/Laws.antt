@@ -6,7 +6,7 @@ use Rattle.comp_reader.specs.Binary.{IsComponent}
 use Rattle.script_reader.specs.Script.{Script, IsScript}
 use Rattle.wcm.specs.declared.answer.Answer.{Answer}
 use Rattle.comp_graph.specs.Graph.{Graph}
-use Rattle.comp_link.specs.Linking.{IsLinked}
+use Rattle.comp_linking.specs.Linked.{IsLinked}
 use Rattle.wcm.specs.Outcome.{IsTold, Outcome}
 use Rattle.abi_machine.specs.Laws.{Sound}
 use Rattle.wcm.specs.Words.{Command, command_of, is_taken, plain_command}

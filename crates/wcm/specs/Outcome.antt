@@ -12,7 +12,7 @@ use Rattle.comp_reader.specs.declared.fault.ComponentWhy.TheVariants.{Limit}
 use Rattle.comp_reader.specs.Binary.{IsComponent, IsRefused}
 use Rattle.script_reader.specs.declared.fault.ScriptFault.{ScriptFault}
 use Rattle.script_reader.specs.Script.{Script, IsScript, IsScriptRefused}
-use Rattle.comp_link.specs.declared.link_fault.LinkFault.{LinkFault}
+use Rattle.comp_linking.specs.declared.fault.LinkFault.{LinkFault}
 use Rattle.comp_graph.specs.Graph.{Graph}
 use Rattle.trace_show.specs.declared.label.Label.{Label}
 use Rattle.trace_show.specs.LabelText.{trace_text}
@@ -24,7 +24,7 @@ use Rattle.abi_machine.specs.Run.{Runs, lines_of}
 use Rattle.trace_show.specs.declared.trap.TrapName.{TrapName}
 use Rattle.wcm.specs.declared.answer.Answer.{Answer}
 use Rattle.wcm.specs.declared.status.Status.TheVariants.{Done, Usage, Refused, ScriptRefused, LinkRefused}
-use Rattle.comp_link.specs.Linking.{IsLinked, IsLinkRefused}
+use Rattle.comp_link.specs.SoFar.{IsLinkedSoFar, IsRefusedSoFar}
 use Rattle.wcm.specs.Refusals.{refused_line, link_refused_line, script_refused_line}
 use Rattle.wcm.specs.Shown.{accepted_text, graph_text}
 use Rattle.wcm.specs.Status.{status_of}
@@ -93,8 +93,8 @@ ScriptAnswers g text a =
 -- the answer for a component: it is not linked, or the answer is what is said behind its graph
 abbrev pub LinkAnswers : Component → Answer → (Graph → Type 0) → Type 0
 LinkAnswers c a behind =
-    ((fault : LinkFault) × IsLinkRefused c fault × (a ≡ link_refused_answer fault))
-    ⊎ ((g : Graph) × IsLinked c g × behind g)
+    ((fault : LinkFault) × IsRefusedSoFar c fault × (a ≡ link_refused_answer fault))
+    ⊎ ((g : Graph) × IsLinkedSoFar c g × behind g)
 
 -- the answer for the bytes of a component file: they are refused, or the answer is that for their component
 abbrev pub FileAnswers : List ℕ → Answer → (Graph → Type 0) → Type 0
@@ -128,7 +128,7 @@ Outcome words held a = MatchOption (command_of words) (IsUsage a) (λ command. C
 abbrev pub DecidesAlone : List ℕ → Type 0
 DecidesAlone bytes =
     ((refusal : Refusal ComponentWhy) × IsRefusedFile bytes refusal)
-    ⊎ ((c : Component) × (fault : LinkFault) × IsComponentFile bytes c × IsLinkRefused c fault)
+    ⊎ ((c : Component) × (fault : LinkFault) × IsComponentFile bytes c × IsRefusedSoFar c fault)
 
 -- what a command asks for behind a graph is told: `run` asks for the script file, `check` and `show` for nothing
 abbrev pub IsScriptTold : Command → (List ℕ → Option (List ℕ)) → Type 0
@@ -166,7 +166,7 @@ pub record NamesLinkRefused (words : List (List ℕ)) (held : List ℕ → Optio
   pub words_name : command_of words ≡ Some command
   pub holds : held (component_file command) ≡ Some bytes
   pub read : IsComponentFile bytes component
-  pub refused : IsLinkRefused component fault
+  pub refused : IsRefusedSoFar component fault
 
 -- the words name a component file that is linked to this graph, and this command for it
 pub record NamesLinked (words : List (List ℕ)) (held : List ℕ → Option (List ℕ)) (command : Command) (g : Graph) : Type 0 where
@@ -175,7 +175,7 @@ pub record NamesLinked (words : List (List ℕ)) (held : List ℕ → Option (Li
   pub words_name : command_of words ≡ Some command
   pub holds : held (component_file command) ≡ Some bytes
   pub read : IsComponentFile bytes component
-  pub linked : IsLinked component g
+  pub linked : IsLinkedSoFar component g
 
 -- the words name a component that is linked, which they ask to check or to show
 abbrev pub asks_of_graph : Command → Bool

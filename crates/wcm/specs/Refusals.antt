@@ -14,9 +14,9 @@ use Rattle.comp_reader.specs.declared.fault.ComponentWhy.TheVariants.{Truncated,
 use Rattle.script_reader.specs.declared.fault.ScriptWhy.{ScriptWhy}
 use Rattle.script_reader.specs.declared.fault.ScriptWhy.TheVariants as script
 use Rattle.script_reader.specs.declared.fault.ScriptFault.{ScriptFault}
-use Rattle.comp_link.specs.declared.link_fault.LinkWhy.{LinkWhy}
-use Rattle.comp_link.specs.declared.link_fault.LinkWhy.TheVariants as link
-use Rattle.comp_link.specs.declared.link_fault.LinkFault.{LinkFault}
+use Rattle.comp_linking.specs.declared.fault.LinkWhy.{LinkWhy}
+use Rattle.comp_linking.specs.declared.fault.LinkWhy.TheVariants as link
+use Rattle.comp_linking.specs.declared.fault.LinkFault.{LinkFault}
 use Rattle.trace_show.specs.LabelText.{line}
 use Rattle.trace_show.specs.NameText.{name_text}
 

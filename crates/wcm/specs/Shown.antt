@@ -1,5 +1,5 @@
--- What `check` and `show` tell of a component that is linked. `check` tells that it is; `show` how many component instances it
--- makes, and then each function that can be called, in order: its name as in a trace, and its type after the text format of
+-- What `check` and `show` tell of a component that is linked. `check` tells that it is; `show` how many component instances
+-- begin in it, and then each function that can be called, in order: its name as in a trace, and its type after the text format of
 -- interfaces (Component Model, WIT.md, "Types"), but without the names of parameters.
 use Rattle.std.specs.Prelude.{ℕ, List, [], ◌++◌, Option, Some, None, codes}
 use Rattle.std.specs.List.{flat_map}
@@ -16,10 +16,6 @@ use Rattle.trace_show.specs.NameText.{name_text}
 abbrev pub accepted_text : List ℕ
 accepted_text = line (codes "accepted")
 
--- how many component instances a graph makes: the root alone, since no component that is linked has others
-abbrev pub component_instances : Graph → ℕ
-component_instances g = 1
-
 abbrev pub param_text : Param → List ℕ
 param_text p = type_text p.val_type
 
@@ -35,4 +31,4 @@ export_line e =
 
 -- the lines of a graph
 abbrev pub graph_text : Graph → List ℕ
-graph_text g = line (codes "instances " ++ decimal (component_instances g)) ++ flat_map export_line g.exports
+graph_text g = line (codes "instances " ++ decimal g.instance_count) ++ flat_map export_line g.exports

@@ -3,7 +3,7 @@
 ghost use Rattle.std.specs.Prelude.{◌≡◌, ℕ, List, [], IfOk, IfSome, MatchResult};
 ghost use Rattle.std.specs.List.{AllByRecursion};
 ghost use Rattle.script_reader.specs.Script.{IsScript, IsScriptRefused, CallsExport};
-ghost use Rattle.comp_link.specs.Linking.{IsLinked};
+ghost use Rattle.comp_link.specs.SoFar.{IsLinkedSoFar};
 ghost use Rattle.comp_graph.specs.Graph.{IsCallable};
 ghost use Rattle.abi_machine.specs.Laws.{Sound};
 ghost use Rattle.wcm.specs.Gives.{CommandGives, GraphGives, ScriptGives};
@@ -24,6 +24,7 @@ use ca_io::{FileError, Files, read_all};
 use ca_types::Exports;
 use comp_graph::Graph;
 use comp_link::link;
+use comp_linking::laws::graphs_are_sound;
 use comp_reader::{Component, ComponentWhy, read_component};
 use script_reader::{Script, ScriptFault, ScriptWhy, read_script};
 use std::alloc::{AllocError, Global};
@@ -198,13 +199,13 @@ fn script_answer<F: Files>(
     script: &str,
     files: &mut F,
 ) -> Result<Answer, Stop>
-    requires linked { (c : Component) × IsRead c × IsLinked c graph.now }
-    requires callable { IsCallable graph.now }
+    requires linked { (c : Component) × IsRead c × IsLinkedSoFar c graph.now }
     ensures file { IfOk result (λ a. ScriptGives graph.now (F.held files.old script.now) a) }
     ensures same { (other : List ℕ) → F.held files.new other ≡ F.held files.old other }
     ensures cause { StopsFor (F.faults files.old) (F.faults files.new) result }
 {
     scripts_are_sound();
+    graphs_are_sound();
     match script_of(alloc, script, files, graph.exports())? {
         Ok(script) => Ok(run_answer(alloc, graph, &script)?),
         Err(fault) => {
@@ -221,8 +222,7 @@ fn graph_answer<F: Files>(
     graph: &Graph,
     files: &mut F,
 ) -> Result<Answer, Stop>
-    requires linked { (c : Component) × IsRead c × IsLinked c graph.now }
-    requires callable { IsCallable graph.now }
+    requires linked { (c : Component) × IsRead c × IsLinkedSoFar c graph.now }
     ensures file { IfOk result (λ a. GraphGives (said command.entry) (F.held files.old) graph.now a) }
     ensures status { IfOk result (λ a. IsBehindGraph a.status) }
     ensures same { (other : List ℕ) → F.held files.new other ≡ F.held files.old other }

@@ -1,4 +1,4 @@
-//! Core instances of a graph's modules.
+//! Core instances of a graph, by what their imports are.
 
 ghost use Rattle.std.specs.Prelude.{◌≡◌, [], Some, IfOk};
 ghost use Rattle.std.specs.List.{slice_get};
@@ -6,13 +6,15 @@ ghost use Rattle.core_machine.specs.Store.{Instance};
 ghost use Rattle.core_machine.specs.Typed.{HasContext, module_context};
 ghost use Rattle.core_machine.specs.Instantiation.{empty};
 ghost use Rattle.core_machine.specs.Laws.{HasNoHosts};
-ghost use Rattle.comp_graph.specs.Graph.{HasNoImports};
+ghost use Rattle.abi_machine.specs.Laws.{SoundGraph};
+ghost use Rattle.abi_machine.specs.MadeLaws.{ImportsAreThere};
 ghost use Rattle.wcm.specs.Calling.{AddGives, StartGives, InstancesGive};
 
 use crate::core_runs::run_core;
-use abi_machine::RunEnd;
+use crate::externals::externals_of;
+use abi_machine::{RunEnd, imports_match, worlds_are_kept};
 use ca_base::{Fuel, Memory};
-use comp_graph::Graph;
+use comp_graph::{CoreMake, Graph};
 use core_machine::laws::{
     added_modules_are_typed, changed_stores_are_typed, stores_without_hosts,
     typed_stacks_never_get_stuck,
@@ -31,13 +33,15 @@ pub fn instantiate(
     store: &mut Store,
     left: &mut Fuel,
 ) -> Result<Option<RunEnd>, Memory>
-    requires no_imports { HasNoImports graph.now }
+    requires sound { SoundGraph graph.now }
     requires empty { store.old ≡ empty }
     ensures gives { IfOk result (λ ended. InstancesGive graph.now left.old ended store.new left.new) }
 {
     stores_without_hosts();
-    for valid in graph.instances() {
-        let ended = add_instance(alloc, valid, store, left)?;
+    worlds_are_kept();
+    imports_match();
+    for core in graph.cores() {
+        let ended = add_instance(alloc, core, store, left)?;
         if ended.is_some() {
             return Ok(ended);
         }
@@ -45,25 +49,27 @@ pub fn instantiate(
     Ok(None)
 }
 
-/// Makes an instance of a module without imports, and runs its start function. It answers how the run ends, if it does so
+/// Makes a core instance with what its imports are, and runs its start function. It answers how the run ends, if it does so
 /// there: by a segment that does not fit, or with the start function.
 fn add_instance(
     alloc: Global,
-    valid: &Valid,
+    core: &CoreMake,
     store: &mut Store,
     left: &mut Fuel,
 ) -> Result<Option<RunEnd>, Memory>
-    requires imports { valid.now.imports ≡ [] }
+    requires imports { ImportsAreThere store.old core.now }
     requires no_hosts { HasNoHosts store.old }
     ensures no_hosts { IfOk result (λ ended. HasNoHosts store.new) }
-    ensures gives { IfOk result (λ ended. AddGives valid.now store.old left.old ended store.new left.new) }
+    ensures gives { IfOk result (λ ended. AddGives core.now store.old left.old ended store.new left.new) }
 {
     stores_without_hosts();
     added_modules_are_typed();
+    let valid = core.valid();
     // Their clauses say that the store and the module are typed.
     let _count = store.function_count();
     let _tree = valid.tree();
-    match store.add(alloc, valid, &[]) {
+    let externals = externals_of(alloc, store, core.imports())?;
+    match store.add(alloc, valid, externals.as_slice()) {
         Ok(instance) => start_up(alloc, valid, instance, store, left),
         Err(AddFault::SegmentBounds) => Ok(Some(RunEnd::Trapped {
             task: 0,

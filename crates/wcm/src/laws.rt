@@ -3,6 +3,8 @@
 ghost use Rattle.wcm.specs.Laws.{ScriptsAreSound, OneOutcome, PlainWordsAreTaken, TakenWordsAreRead};
 
 use abi_machine::{each_run_ends, one_run};
+use comp_link::one_linking;
+use comp_linking::laws::graphs_are_sound;
 use comp_reader::one_reading;
 use script_reader::scripts_call_exports;
 use value_reader::sound_values_are_small;
@@ -11,6 +13,7 @@ use value_reader::sound_values_are_small;
 pub fn scripts_are_sound()
     ensures { ScriptsAreSound }
 {
+    graphs_are_sound();
     scripts_call_exports();
     sound_values_are_small();
 }
@@ -21,6 +24,7 @@ pub fn one_outcome()
     ensures { OneOutcome }
 {
     one_reading();
+    one_linking();
     one_run();
     scripts_are_sound();
     each_run_ends();

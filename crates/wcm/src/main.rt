@@ -6,6 +6,9 @@ mod answer;
 mod call_labels;
 mod calling;
 mod core_runs;
+mod externals;
+#[cfg(test)]
+mod import_tests_cases;
 mod instantiating;
 mod laws;
 mod named_graph;

@@ -8,7 +8,7 @@ ghost use Rattle.comp_graph.specs.Graph.{names};
 
 use ca_base::{by_name, find};
 use ca_types::FuncType;
-use comp_graph::{CoreFunc, Graph};
+use comp_graph::{Graph, Lift};
 use std::alloc::{AllocError, Global};
 use std::collections::BTreeMap;
 use std::marker::Model;
@@ -25,13 +25,15 @@ impl<'g, 'a> Model for NamedGraph<'g, 'a> {
     ghost use Rattle.std.specs.Coded.{codes};
     ghost use Rattle.wasm_module.specs.contracts.module.ModuleTree as tree;
     ghost use Rattle.ca_types.specs.contracts.exports.Export as export;
-    ghost use Rattle.comp_graph.specs.contracts.graph.CoreFunc as core_func;
+    ghost use Rattle.comp_graph.specs.contracts.graph.Action as action;
+    ghost use Rattle.comp_graph.specs.contracts.graph.CoreExtern as core_extern;
+    ghost use Rattle.comp_graph.specs.contracts.graph.Lift as lift;
     ghost use Rattle.comp_graph.specs.Graph as graphs;
     ghost use Rattle.ca_base.specs.Names.{at_name, first_named};
 
     ghost Value = { graphs.Graph };
 
-    ghost coded = { Prim.hlevel (codes, tree.the_row.coded, export.the_row.coded, core_func.the_row.coded) };
+    ghost coded = { Prim.hlevel (codes, tree.the_row.coded, core_extern.the_row.coded, export.the_row.coded, action.the_row.coded, lift.the_row.coded) };
 
     ghost view = { λ n. n.graph.now };
 
@@ -63,12 +65,12 @@ impl<'g, 'a> NamedGraph<'g, 'a> {
         &graph.exports().as_slice()[number].func_type
     }
 
-    /// The core function of the export of a number.
-    pub fn core(&self, number: usize) -> CoreFunc
+    /// What the export of a number lifts.
+    pub fn lift(&self, number: usize) -> Lift
         requires { number < length self.now.exports }
-        ensures { slice_get self.now.cores number ≡ Some result }
+        ensures { slice_get self.now.lifts number ≡ Some result }
     {
         let graph = self.graph;
-        graph.core(number)
+        graph.lift(number)
     }
 }

@@ -4,7 +4,7 @@ ghost use Rattle.std.specs.Prelude.{◌≡◌, ◌++◌, OnOk, IfOk, codes};
 ghost use Rattle.std.specs.Fmt.{decimal};
 ghost use Rattle.ca_types.specs.TypeText.{type_text};
 ghost use Rattle.trace_show.specs.LabelText.{line, listed};
-ghost use Rattle.wcm.specs.Shown.{arrow_text, component_instances, export_line, graph_text, param_text};
+ghost use Rattle.wcm.specs.Shown.{arrow_text, export_line, graph_text, param_text};
 
 use ca_base::{Bytes, Memory, Seq, Text, push_all, push_separated};
 use ca_types::{Export, Param, Shared, ValType, type_text};
@@ -81,19 +81,12 @@ impl Text for ExportLines {
     }
 }
 
-/// How many component instances a graph makes: the root alone.
-fn component_instances(_graph: &Graph) -> usize
-    ensures { result ≡ component_instances _graph.now }
-{
-    1
-}
-
 /// The text of a component that is linked: the number of its component instances, and a line for each function that can be
 /// called.
 pub fn graph_text(alloc: Global, graph: &Graph) -> Result<Bytes, Memory>
     ensures { IfOk result (λ text. text ≡ graph_text graph.now) }
 {
-    let count = component_instances(graph).to_string(alloc)?;
+    let count = graph.instance_count().to_string(alloc)?;
     let mut text = Vec::new(alloc);
     text.extend_from_slice(b"instances ")?;
     text.extend_from_slice(count.as_bytes())?;

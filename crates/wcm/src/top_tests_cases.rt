@@ -152,7 +152,7 @@ err link refused at 11: RootImport
 
 component 00 61 73 6D 0D 00 01 00 0A 06 01 00 01 69 05 00
 status LinkRefused
-err link refused at 11: Limit
+err link refused at 11: Index
 
 component 00 61 73 6D 0D 00 01 00 07 03 01 42 00
 status LinkRefused
@@ -184,29 +184,42 @@ component 00 61 73 6D 0D 00 01 00 05 03 01 01 00
 status LinkRefused
 err link refused at 11: Limit
 
+# a core instance with an argument that nothing asks for, an inline one, aliases of what is not there, and a type that is
+# exported
 bytes 02 08 01 00 00 01 01 6D 12 00
-status LinkRefused
-err link refused at 103: Limit
+script call add (2, 3)
+status Done
+out take 1 T1 add (2, 3)
+out enter T1
+out return T1 (5)
+out exit T1
+out done
 
 bytes 02 03 01 01 00
-status LinkRefused
-err link refused at 103: Limit
+script call add (2, 3)
+status Done
+out take 1 T1 add (2, 3)
+out enter T1
+out return T1 (5)
+out exit T1
+out done
 
 bytes 06 09 01 00 02 01 00 03 6D 65 6D
 status LinkRefused
-err link refused at 103: Limit
+err link refused at 103: Missing(mem)
 
 component 00 61 73 6D 0D 00 01 00 06 05 01 03 02 00 00
 status LinkRefused
-err link refused at 11: Limit
-
-front 89
-bytes 0B 0B 01 00 03 61 64 64 01 00 01 01 00
-status LinkRefused
-err link refused at 92: Limit
+err link refused at 11: Index
 
 front 89
 bytes 0B 09 01 00 03 61 64 64 03 00 00
+status Done
+out done
+
+# an export that says what it is, which is not linked yet
+front 89
+bytes 0B 0B 01 00 03 61 64 64 01 00 01 01 00
 status LinkRefused
 err link refused at 92: Limit
 

@@ -6,3 +6,6 @@ run_answer-requires-clause-sound g c = sound_of c.scripts_are_sound.ensures c.ar
 
 pub run_answer-requires-clause-calls : goal.run_answer-requires-clause-calls
 run_answer-requires-clause-calls g c = calls_of c.args.graph.now c.exports.result.now c.in_ok-script.field-0 c.in-Ok.script c.exports.ensures c.in-Ok.is c.in_ok-script.ensures.calls
+
+pub run_answer-requires-clause-callable : goal.run_answer-requires-clause-callable
+run_answer-requires-clause-callable g c = c.graphs_are_sound.ensures.callable c.requires.linked.0 c.args.graph.now c.requires.linked.2.1

@@ -19,15 +19,15 @@ push_before-requires-clause-values c =
     let words = c.as_slice-2.ensures ∙ c.in_ok-words.ensures ∙ ap (map lowered) c.as_slice.ensures in
     (c.requires.fits.each f.0 f.1).values ∙ ap (map u32_of) (sym words)
 
-pub core-requires : goal.core-requires
-core-requires c = let f = c.called-export.ensures in export_within c.args.graph.now c.called-export.result f.0 f.2
+pub lift-requires : goal.lift-requires
+lift-requires c = let f = c.called-export.ensures in export_within c.args.graph.now c.called-export.result f.0 f.2
 
 pub push_after-requires : goal.push_after-requires
 push_after-requires c =
     let f = c.called-export.ensures in
     let words = c.as_slice-3.ensures ∙ c.in_ok-words.ensures ∙ ap (map lowered) c.as_slice.ensures in
-    let core = same_core c.args.graph.now c.called-export.result f.0 c.core.result f.2 c.core.ensures in
-    let r = ran c.args.store.now c.run_function.new.store c.args.call.now f.0 c.core.result c.as_slice-3.result.now c.args.number c.spend.new.self c.run_function.new.left c.in_ok-words-2.field-0 (c.requires.fits.each f.0 f.1) core words c.in_ok-words-2.ensures in
+    let core = same_core c.args.graph.now c.called-export.result f.0 c.lift.result f.2 c.lift.ensures in
+    let r = ran c.args.store.now c.run_function.new.store c.args.call.now f.0 c.lift.result.core c.as_slice-3.result.now c.args.number c.spend.new.self c.run_function.new.left c.in_ok-words-2.field-0 (c.requires.fits.each f.0 f.1) core words c.in_ok-words-2.ensures in
     subst AreBelow (sym c.as_slice-in-Ok.ensures) (below_ok c.in_ok-words-2.field-0 c.in-Ok.words c.in-Ok.is r.1)
 
 pub returns-in-Ok : goal.returns-in-Ok
@@ -35,9 +35,9 @@ returns-in-Ok c =
     let f = c.called-export.ensures in
     let fits = c.requires.fits.each f.0 f.1 in
     let words = c.as_slice-3.ensures ∙ c.in_ok-words.ensures ∙ ap (map lowered) c.as_slice.ensures in
-    let core = same_core c.args.graph.now c.called-export.result f.0 c.core.result f.2 c.core.ensures in
+    let core = same_core c.args.graph.now c.called-export.result f.0 c.lift.result f.2 c.lift.ensures in
     let type = same_type c.args.graph.now c.called-export.result f.0 c.func_type-func_type.result.now f.2 c.func_type-func_type.ensures in
-    let r = ran c.args.store.now c.run_function.new.store c.args.call.now f.0 c.core.result c.as_slice-3.result.now c.args.number c.spend.new.self c.run_function.new.left c.in_ok-words-2.field-0 fits core words c.in_ok-words-2.ensures in
+    let r = ran c.args.store.now c.run_function.new.store c.args.call.now f.0 c.lift.result.core c.as_slice-3.result.now c.args.number c.spend.new.self c.run_function.new.left c.in_ok-words-2.field-0 fits core words c.in_ok-words-2.ensures in
     let units : c.args.left.now ≡ suc c.spend.new.self = (let left = c.spend.ensures.left in omega (arith, c.if-not-spend.ensures.spent.0 refl)) in
     let taking = c.in_ok-push_before.ensures ∙ ap (λ (t : FuncType). c.args.labels.now ++ Take c.args.number c.args.number c.args.call.now.name (typed (types_of t) c.args.call.now.values) ∷ Enter c.args.number ∷ []) type in
     let telling = c.in_ok-push_after-in-Ok.ensures
@@ -51,9 +51,9 @@ returns c =
     let f = c.called-export.ensures in
     let fits = c.requires.fits.each f.0 f.1 in
     let words = c.as_slice-3.ensures ∙ c.in_ok-words.ensures ∙ ap (map lowered) c.as_slice.ensures in
-    let core = same_core c.args.graph.now c.called-export.result f.0 c.core.result f.2 c.core.ensures in
+    let core = same_core c.args.graph.now c.called-export.result f.0 c.lift.result f.2 c.lift.ensures in
     let type = same_type c.args.graph.now c.called-export.result f.0 c.func_type-func_type.result.now f.2 c.func_type-func_type.ensures in
-    let r = ran c.args.store.now c.run_function.new.store c.args.call.now f.0 c.core.result c.as_slice-3.result.now c.args.number c.spend.new.self c.run_function.new.left c.in_ok-words-2.field-0 fits core words c.in_ok-words-2.ensures in
+    let r = ran c.args.store.now c.run_function.new.store c.args.call.now f.0 c.lift.result.core c.as_slice-3.result.now c.args.number c.spend.new.self c.run_function.new.left c.in_ok-words-2.field-0 fits core words c.in_ok-words-2.ensures in
     let units : c.args.left.now ≡ suc c.spend.new.self = (let left = c.spend.ensures.left in omega (arith, c.if-not-spend.ensures.spent.0 refl)) in
     let taking = c.in_ok-push_before.ensures ∙ ap (λ (t : FuncType). c.args.labels.now ++ Take c.args.number c.args.number c.args.call.now.name (typed (types_of t) c.args.call.now.values) ∷ Enter c.args.number ∷ []) type in
     call_stops c.args.graph.now c.args.call.now f.0 fits.can.function c.args.store.now f.1 fits.can.there c.args.number c.args.left.now c.spend.new.self c.run_function.new.left c.run_function.new.store c.in-Err.end c.args.labels.now c.push_before.new.labels units

@@ -1,33 +1,33 @@
-use Rattle.std.proofs.Common.{sym, ◌∙◌, arith, [], ◌+◌, drop}
-use Rattle.core_machine.specs.Instantiation.{empty}
-use Rattle.abi_machine.specs.World.{Instantiating}
-use Rattle.wcm.specs.Calling.{at_task, idle}
-use Rattle.wcm.proofs.Fitting.{no_imports}
-use Rattle.wcm.proofs.Instancing.{bare_at, one_added, all_added, ended_there, goes_there}
+use Rattle.std.proofs.Common.{◌≡◌, ◌<◌, ◌≤◌, sym, ap, ◌∙◌, arith, rules, List, get_or, length}
+use Rattle.comp_graph.specs.Graph.{CoreMake}
+use Rattle.wcm.proofs.Instancing.{imports_before, making_first, making_ends, making_goes_on, making_done}
 use Rattle.wcm.proofs.instantiating.instantiate.Goals as goal
+
+pub loop-core-init : goal.loop-core-init
+loop-core-init c = record { no_hosts = search rules; made = making_first c.args.graph.now c.args.left.now c.args.store.now c.requires.empty }
 
 pub add_instance-requires-clause-imports : goal.add_instance-requires-clause-imports
 add_instance-requires-clause-imports c =
-    bare_at (λ r. r.now) c.instances-valid-items.result.now c.args.graph.now.instances c.loop-valid.valid-index c.valid-item.result c.instances-valid-items.ensures.value (no_imports c.args.graph.now.instances c.requires.no_imports) (let t = c.loop-valid-test.true in omega (arith, t)) c.valid-item.is
+    let within : c.loop-core.core-index < length c.args.graph.now.cores = (let t = c.loop-core-test.true in omega (arith, t, ap length c.cores-core-items.ensures.value)) in
+    let at : c.core-item.result ≡ get_or c.args.graph.now.cores c.loop-core.core-index c.core-item.result = c.core-item.is ∙ ap (λ (cores : List CoreMake). get_or cores c.loop-core.core-index c.core-item.result) c.cores-core-items.ensures.value in
+    imports_before c.worlds_are_kept.ensures.first c.worlds_are_kept.ensures.stays c.imports_match.ensures.next c.args.graph.now c.loop-core.core-index c.core-item.result c.loop-core.store c.args.left.now c.loop-core.left c.requires.sound within at c.loop-core.invariant.made
 
 pub returns-then-is_some : goal.returns-then-is_some
-returns-then-is_some c = record {
-  gives = λ items.
-      let g = c.args.graph.now in
-      let one = one_added (λ r. r.now) c.instances-valid-items.result.now g items c.loop-valid.valid-index c.valid-item.result c.loop-valid.store c.add_instance.new.store c.args.left.now c.loop-valid.left c.add_instance.new.left c.in_ok-ended.ended c.instances-valid-items.ensures.value (let t = c.loop-valid-test.true in omega (arith, t)) c.valid-item.is (c.loop-valid.invariant.made items) c.in_ok-ended.ensures.gives in
-      ended_there g (at_task items 0 (Instantiating g.instances) empty c.args.left.now) (at_task items 0 (Instantiating (drop (c.loop-valid.valid-index + 1) g.instances)) c.add_instance.new.store c.add_instance.new.left) (idle items 0 c.add_instance.new.store c.add_instance.new.left) [] c.in_ok-ended.ended (sym c.is_some.ensures ∙ c.if-is_some.true) one;
-}
+returns-then-is_some c =
+    let within : c.loop-core.core-index < length c.args.graph.now.cores = (let t = c.loop-core-test.true in omega (arith, t, ap length c.cores-core-items.ensures.value)) in
+    let at : c.core-item.result ≡ get_or c.args.graph.now.cores c.loop-core.core-index c.core-item.result = c.core-item.is ∙ ap (λ (cores : List CoreMake). get_or cores c.loop-core.core-index c.core-item.result) c.cores-core-items.ensures.value in
+    record { gives = making_ends c.args.graph.now c.loop-core.core-index c.core-item.result c.loop-core.store c.add_instance.new.store c.args.left.now c.loop-core.left c.add_instance.new.left c.in_ok-ended.ended within at c.loop-core.invariant.made c.in_ok-ended.ensures.gives (sym c.is_some.ensures ∙ c.if-is_some.true) }
 
-pub loop-valid-preserved : goal.loop-valid-preserved
-loop-valid-preserved c = record {
-  no_hosts = c.in_ok-ended.ensures.no_hosts;
-  made = λ items.
-      let g = c.args.graph.now in
-      let one = one_added (λ r. r.now) c.instances-valid-items.result.now g items c.loop-valid.valid-index c.valid-item.result c.loop-valid.store c.add_instance.new.store c.args.left.now c.loop-valid.left c.add_instance.new.left c.in_ok-ended.ended c.instances-valid-items.ensures.value (let t = c.loop-valid-test.true in omega (arith, t)) c.valid-item.is (c.loop-valid.invariant.made items) c.in_ok-ended.ensures.gives in
-      goes_there g (at_task items 0 (Instantiating g.instances) empty c.args.left.now) (at_task items 0 (Instantiating (drop (c.loop-valid.valid-index + 1) g.instances)) c.add_instance.new.store c.add_instance.new.left) [] c.in_ok-ended.ended (sym c.is_some.ensures ∙ c.if-is_some.false) one;
-}
+pub loop-core-preserved : goal.loop-core-preserved
+loop-core-preserved c =
+    let within : c.loop-core.core-index < length c.args.graph.now.cores = (let t = c.loop-core-test.true in omega (arith, t, ap length c.cores-core-items.ensures.value)) in
+    let at : c.core-item.result ≡ get_or c.args.graph.now.cores c.loop-core.core-index c.core-item.result = c.core-item.is ∙ ap (λ (cores : List CoreMake). get_or cores c.loop-core.core-index c.core-item.result) c.cores-core-items.ensures.value in
+    record {
+      no_hosts = c.in_ok-ended.ensures.no_hosts;
+      made = making_goes_on c.args.graph.now c.loop-core.core-index c.core-item.result c.loop-core.store c.add_instance.new.store c.args.left.now c.loop-core.left c.add_instance.new.left c.in_ok-ended.ended within at c.loop-core.invariant.made c.in_ok-ended.ensures.gives (sym c.is_some.ensures ∙ c.if-is_some.false);
+    }
 
 pub returns : goal.returns
-returns c = record {
-  gives = λ items. all_added (λ r. r.now) c.instances-valid-items.result.now c.args.graph.now items c.loop-valid.valid-index c.loop-valid.store c.args.left.now c.loop-valid.left c.instances-valid-items.ensures.value (let t = c.loop-valid-test.false in omega (arith, t)) (c.loop-valid.invariant.made items);
-}
+returns c =
+    let beyond : length c.args.graph.now.cores ≤ c.loop-core.core-index = (let t = c.loop-core-test.false in omega (arith, t, ap length c.cores-core-items.ensures.value)) in
+    record { gives = making_done c.args.graph.now c.loop-core.core-index c.loop-core.store c.args.left.now c.loop-core.left beyond c.loop-core.invariant.made }

@@ -1,0 +1,472 @@
+//! Cases of runs over core instances with imports, in the form of `top_tests_cases`.
+
+/// How many cases there are.
+pub const IMPORT_COUNT: u32 = 33;
+
+/// The cases.
+pub const IMPORT_CASES: &str = "
+# a function of another instance is called: seven instructions in all
+component 00 61 73 6D 0D 00 01 00 01 2B 00 61 73 6D 01 00 00 00 01 06 01 60 01 7F 01 7F 03 02 01 00 07 0A
+bytes 01 06 64 6F 75 62 6C 65 00 00 0A 09 01 07 00 20 00 41 02 6C 0B 01 39 00 61 73 6D 01 00 00 00 01
+bytes 06 01 60 01 7F 01 7F 02 0F 01 04 6D 61 74 68 06 64 6F 75 62 6C 65 00 00 03 02 01 00 07 05 01 01
+bytes 66 00 01 0A 0B 01 09 00 20 00 10 00 41 01 6A 0B 02 04 01 00 00 00 02 0B 01 00 01 01 04 6D 61 74
+bytes 68 12 00 06 07 01 00 00 01 01 01 66 07 08 01 40 01 01 61 79 00 79 08 06 01 00 00 00 00 00 0B 07
+bytes 01 00 01 66 01 00 00
+script fuel 8
+script call f (20)
+status Done
+out take 1 T1 f (20)
+out enter T1
+out return T1 (41)
+out exit T1
+out done
+
+component 00 61 73 6D 0D 00 01 00 01 2B 00 61 73 6D 01 00 00 00 01 06 01 60 01 7F 01 7F 03 02 01 00 07 0A
+bytes 01 06 64 6F 75 62 6C 65 00 00 0A 09 01 07 00 20 00 41 02 6C 0B 01 39 00 61 73 6D 01 00 00 00 01
+bytes 06 01 60 01 7F 01 7F 02 0F 01 04 6D 61 74 68 06 64 6F 75 62 6C 65 00 00 03 02 01 00 07 05 01 01
+bytes 66 00 01 0A 0B 01 09 00 20 00 10 00 41 01 6A 0B 02 04 01 00 00 00 02 0B 01 00 01 01 04 6D 61 74
+bytes 68 12 00 06 07 01 00 00 01 01 01 66 07 08 01 40 01 01 61 79 00 79 08 06 01 00 00 00 00 00 0B 07
+bytes 01 00 01 66 01 00 00
+script fuel 7
+script call f (20)
+status Fuel
+out take 1 T1 f (20)
+out enter T1
+out fuel
+
+# core instances are no component instances
+component 00 61 73 6D 0D 00 01 00 01 2B 00 61 73 6D 01 00 00 00 01 06 01 60 01 7F 01 7F 03 02 01 00 07 0A
+bytes 01 06 64 6F 75 62 6C 65 00 00 0A 09 01 07 00 20 00 41 02 6C 0B 01 39 00 61 73 6D 01 00 00 00 01
+bytes 06 01 60 01 7F 01 7F 02 0F 01 04 6D 61 74 68 06 64 6F 75 62 6C 65 00 00 03 02 01 00 07 05 01 01
+bytes 66 00 01 0A 0B 01 09 00 20 00 10 00 41 01 6A 0B 02 04 01 00 00 00 02 0B 01 00 01 01 04 6D 61 74
+bytes 68 12 00 06 07 01 00 00 01 01 01 66 07 08 01 40 01 01 61 79 00 79 08 06 01 00 00 00 00 00 0B 07
+bytes 01 00 01 66 01 00 00
+words wcm show add.wasm
+status Done
+out instances 1
+out func f (u32) -> u32
+
+# two instances of one module, each with a global of its own, by the names of the arguments and not by their places
+component 00 61 73 6D 0D 00 01 00 01 34 00 61 73 6D 01 00 00 00 01 05 01 60 00 01 7F 03 02 01 00 06 06 01
+bytes 7F 01 41 00 0B 07 08 01 04 6E 65 78 74 00 00 0A 0D 01 0B 00 23 00 41 01 6A 24 00 23 00 0B 01 40
+bytes 00 61 73 6D 01 00 00 00 01 05 01 60 00 01 7F 02 13 02 01 61 04 6E 65 78 74 00 00 01 62 04 6E 65
+bytes 78 74 00 00 03 02 01 00 07 05 01 01 66 00 02 0A 0F 01 0D 00 10 00 1A 10 00 41 0A 6C 10 01 6A 0B
+bytes 02 04 01 00 00 00 02 04 01 00 00 00 02 0C 01 00 01 02 01 62 12 01 01 61 12 00 06 07 01 00 00 01
+bytes 02 01 66 07 05 01 40 00 00 79 08 06 01 00 00 00 00 00 0B 07 01 00 01 66 01 00 00
+script call f ()
+script call f ()
+status Done
+out take 1 T1 f ()
+out enter T1
+out return T1 (21)
+out exit T1
+out take 2 T2 f ()
+out enter T2
+out return T2 (42)
+out exit T2
+out done
+
+# two instances share a memory
+component 00 61 73 6D 0D 00 01 00 01 34 00 61 73 6D 01 00 00 00 01 06 01 60 01 7F 01 7F 03 02 01 00 05 03
+bytes 01 00 01 07 0E 02 03 6D 65 6D 02 00 04 70 65 65 6B 00 00 0A 09 01 07 00 20 00 28 02 00 0B 01 3E
+bytes 00 61 73 6D 01 00 00 00 01 06 01 60 01 7F 01 7F 02 0C 01 03 65 6E 76 03 6D 65 6D 02 00 01 03 02
+bytes 01 00 07 08 01 04 70 6F 6B 65 00 00 0A 10 01 0E 00 41 08 20 00 36 02 00 41 08 28 02 00 0B 02 04
+bytes 01 00 00 00 02 0A 01 00 01 01 03 65 6E 76 12 00 06 0A 01 00 00 01 00 04 70 65 65 6B 07 08 01 40
+bytes 01 01 61 79 00 79 08 06 01 00 00 00 00 00 0B 0A 01 00 04 70 65 65 6B 01 00 00 06 0A 01 00 00 01
+bytes 01 04 70 6F 6B 65 07 08 01 40 01 01 76 79 00 79 08 06 01 00 00 01 00 01 0B 0A 01 00 04 70 6F 6B
+bytes 65 01 02 00
+script call peek (8)
+script call poke (77)
+script call peek (8)
+status Done
+out take 1 T1 peek (8)
+out enter T1
+out return T1 (0)
+out exit T1
+out take 2 T2 poke (77)
+out enter T2
+out return T2 (77)
+out exit T2
+out take 3 T3 peek (8)
+out enter T3
+out return T3 (77)
+out exit T3
+out done
+
+# a shared memory grows up to its own maximum
+component 00 61 73 6D 0D 00 01 00 01 31 00 61 73 6D 01 00 00 00 01 05 01 60 00 01 7F 03 02 01 00 05 04 01
+bytes 01 01 02 07 0E 02 03 6D 65 6D 02 00 04 73 69 7A 65 00 00 0A 06 01 04 00 3F 00 0B 01 36 00 61 73
+bytes 6D 01 00 00 00 01 06 01 60 01 7F 01 7F 02 0C 01 03 65 6E 76 03 6D 65 6D 02 00 01 03 02 01 00 07
+bytes 08 01 04 67 72 6F 77 00 00 0A 08 01 06 00 20 00 40 00 0B 02 04 01 00 00 00 02 0A 01 00 01 01 03
+bytes 65 6E 76 12 00 06 0A 01 00 00 01 00 04 73 69 7A 65 07 05 01 40 00 00 79 08 06 01 00 00 00 00 00
+bytes 0B 0A 01 00 04 73 69 7A 65 01 00 00 06 0A 01 00 00 01 01 04 67 72 6F 77 07 08 01 40 01 01 6E 79
+bytes 00 79 08 06 01 00 00 01 00 01 0B 0A 01 00 04 67 72 6F 77 01 02 00
+script call grow (1)
+script call size ()
+script call grow (1)
+status Done
+out take 1 T1 grow (1)
+out enter T1
+out return T1 (1)
+out exit T1
+out take 2 T2 size ()
+out enter T2
+out return T2 (2)
+out exit T2
+out take 3 T3 grow (1)
+out enter T3
+out return T3 (4294967295)
+out exit T3
+out done
+
+# the start function of the second instance is one of the first, and traps
+component 00 61 73 6D 0D 00 01 00 01 23 00 61 73 6D 01 00 00 00 01 04 01 60 00 00 03 02 01 00 07 08 01 04
+bytes 66 61 69 6C 00 00 0A 05 01 03 00 00 0B 01 1D 00 61 73 6D 01 00 00 00 01 04 01 60 00 00 02 0A 01
+bytes 01 6D 04 66 61 69 6C 00 00 08 01 00 02 04 01 00 00 00 02 08 01 00 01 01 01 6D 12 00
+status Trap
+out trap T0 Unreachable
+
+component 00 61 73 6D 0D 00 01 00 01 23 00 61 73 6D 01 00 00 00 01 04 01 60 00 00 03 02 01 00 07 08 01 04
+bytes 66 61 69 6C 00 00 0A 05 01 03 00 00 0B 01 1D 00 61 73 6D 01 00 00 00 01 04 01 60 00 00 02 0A 01
+bytes 01 6D 04 66 61 69 6C 00 00 08 01 00 02 04 01 00 00 00 02 08 01 00 01 01 01 6D 12 00
+script fuel 1
+status Trap
+out trap T0 Unreachable
+
+# a start function sets a global of another instance: four instructions, and then the call and one more
+component 00 61 73 6D 0D 00 01 00 01 30 00 61 73 6D 01 00 00 00 01 05 01 60 00 01 7F 03 02 01 00 06 06 01
+bytes 7F 01 41 05 0B 07 0B 02 01 67 03 00 03 67 65 74 00 00 0A 06 01 04 00 23 00 0B 01 2E 00 61 73 6D
+bytes 01 00 00 00 01 04 01 60 00 00 02 0A 01 03 65 6E 76 01 67 03 7F 01 03 02 01 00 08 01 00 0A 0B 01
+bytes 09 00 23 00 41 01 6A 24 00 0B 02 04 01 00 00 00 02 0A 01 00 01 01 03 65 6E 76 12 00 06 09 01 00
+bytes 00 01 00 03 67 65 74 07 05 01 40 00 00 79 08 06 01 00 00 00 00 00 0B 09 01 00 03 67 65 74 01 00
+bytes 00
+script fuel 6
+script call get ()
+status Done
+out take 1 T1 get ()
+out enter T1
+out return T1 (6)
+out exit T1
+out done
+
+component 00 61 73 6D 0D 00 01 00 01 30 00 61 73 6D 01 00 00 00 01 05 01 60 00 01 7F 03 02 01 00 06 06 01
+bytes 7F 01 41 05 0B 07 0B 02 01 67 03 00 03 67 65 74 00 00 0A 06 01 04 00 23 00 0B 01 2E 00 61 73 6D
+bytes 01 00 00 00 01 04 01 60 00 00 02 0A 01 03 65 6E 76 01 67 03 7F 01 03 02 01 00 08 01 00 0A 0B 01
+bytes 09 00 23 00 41 01 6A 24 00 0B 02 04 01 00 00 00 02 0A 01 00 01 01 03 65 6E 76 12 00 06 09 01 00
+bytes 00 01 00 03 67 65 74 07 05 01 40 00 00 79 08 06 01 00 00 00 00 00 0B 09 01 00 03 67 65 74 01 00
+bytes 00
+script fuel 5
+script call get ()
+status Fuel
+out take 1 T1 get ()
+out enter T1
+out fuel
+
+component 00 61 73 6D 0D 00 01 00 01 30 00 61 73 6D 01 00 00 00 01 05 01 60 00 01 7F 03 02 01 00 06 06 01
+bytes 7F 01 41 05 0B 07 0B 02 01 67 03 00 03 67 65 74 00 00 0A 06 01 04 00 23 00 0B 01 2E 00 61 73 6D
+bytes 01 00 00 00 01 04 01 60 00 00 02 0A 01 03 65 6E 76 01 67 03 7F 01 03 02 01 00 08 01 00 0A 0B 01
+bytes 09 00 23 00 41 01 6A 24 00 0B 02 04 01 00 00 00 02 0A 01 00 01 01 03 65 6E 76 12 00 06 09 01 00
+bytes 00 01 00 03 67 65 74 07 05 01 40 00 00 79 08 06 01 00 00 00 00 00 0B 09 01 00 03 67 65 74 01 00
+bytes 00
+script fuel 4
+script call get ()
+status Fuel
+out fuel
+
+component 00 61 73 6D 0D 00 01 00 01 30 00 61 73 6D 01 00 00 00 01 05 01 60 00 01 7F 03 02 01 00 06 06 01
+bytes 7F 01 41 05 0B 07 0B 02 01 67 03 00 03 67 65 74 00 00 0A 06 01 04 00 23 00 0B 01 2E 00 61 73 6D
+bytes 01 00 00 00 01 04 01 60 00 00 02 0A 01 03 65 6E 76 01 67 03 7F 01 03 02 01 00 08 01 00 0A 0B 01
+bytes 09 00 23 00 41 01 6A 24 00 0B 02 04 01 00 00 00 02 0A 01 00 01 01 03 65 6E 76 12 00 06 09 01 00
+bytes 00 01 00 03 67 65 74 07 05 01 40 00 00 79 08 06 01 00 00 00 00 00 0B 09 01 00 03 67 65 74 01 00
+bytes 00
+script fuel 3
+script call get ()
+status Fuel
+out fuel
+
+component 00 61 73 6D 0D 00 01 00 01 30 00 61 73 6D 01 00 00 00 01 05 01 60 00 01 7F 03 02 01 00 06 06 01
+bytes 7F 01 41 05 0B 07 0B 02 01 67 03 00 03 67 65 74 00 00 0A 06 01 04 00 23 00 0B 01 2E 00 61 73 6D
+bytes 01 00 00 00 01 04 01 60 00 00 02 0A 01 03 65 6E 76 01 67 03 7F 01 03 02 01 00 08 01 00 0A 0B 01
+bytes 09 00 23 00 41 01 6A 24 00 0B 02 04 01 00 00 00 02 0A 01 00 01 01 03 65 6E 76 12 00 06 09 01 00
+bytes 00 01 00 03 67 65 74 07 05 01 40 00 00 79 08 06 01 00 00 00 00 00 0B 09 01 00 03 67 65 74 01 00
+bytes 00
+script fuel 4
+status Done
+out done
+
+component 00 61 73 6D 0D 00 01 00 01 30 00 61 73 6D 01 00 00 00 01 05 01 60 00 01 7F 03 02 01 00 06 06 01
+bytes 7F 01 41 05 0B 07 0B 02 01 67 03 00 03 67 65 74 00 00 0A 06 01 04 00 23 00 0B 01 2E 00 61 73 6D
+bytes 01 00 00 00 01 04 01 60 00 00 02 0A 01 03 65 6E 76 01 67 03 7F 01 03 02 01 00 08 01 00 0A 0B 01
+bytes 09 00 23 00 41 01 6A 24 00 0B 02 04 01 00 00 00 02 0A 01 00 01 01 03 65 6E 76 12 00 06 09 01 00
+bytes 00 01 00 03 67 65 74 07 05 01 40 00 00 79 08 06 01 00 00 00 00 00 0B 09 01 00 03 67 65 74 01 00
+bytes 00
+script fuel 3
+status Fuel
+out fuel
+
+# start functions run in the order of the instances; the fuel ends in the second one
+component 00 61 73 6D 0D 00 01 00 01 41 00 61 73 6D 01 00 00 00 01 08 02 60 00 01 7F 60 00 00 03 03 02 00
+bytes 01 06 06 01 7F 01 41 01 0B 07 0B 02 01 67 03 00 03 67 65 74 00 00 08 01 01 0A 10 02 04 00 23 00
+bytes 0B 09 00 23 00 41 04 6A 24 00 0B 01 2E 00 61 73 6D 01 00 00 00 01 04 01 60 00 00 02 0A 01 03 65
+bytes 6E 76 01 67 03 7F 01 03 02 01 00 08 01 00 0A 0B 01 09 00 23 00 41 03 6C 24 00 0B 02 04 01 00 00
+bytes 00 02 0A 01 00 01 01 03 65 6E 76 12 00 06 09 01 00 00 01 00 03 67 65 74 07 05 01 40 00 00 79 08
+bytes 06 01 00 00 00 00 00 0B 09 01 00 03 67 65 74 01 00 00
+script fuel 10
+script call get ()
+status Done
+out take 1 T1 get ()
+out enter T1
+out return T1 (15)
+out exit T1
+out done
+
+component 00 61 73 6D 0D 00 01 00 01 41 00 61 73 6D 01 00 00 00 01 08 02 60 00 01 7F 60 00 00 03 03 02 00
+bytes 01 06 06 01 7F 01 41 01 0B 07 0B 02 01 67 03 00 03 67 65 74 00 00 08 01 01 0A 10 02 04 00 23 00
+bytes 0B 09 00 23 00 41 04 6A 24 00 0B 01 2E 00 61 73 6D 01 00 00 00 01 04 01 60 00 00 02 0A 01 03 65
+bytes 6E 76 01 67 03 7F 01 03 02 01 00 08 01 00 0A 0B 01 09 00 23 00 41 03 6C 24 00 0B 02 04 01 00 00
+bytes 00 02 0A 01 00 01 01 03 65 6E 76 12 00 06 09 01 00 00 01 00 03 67 65 74 07 05 01 40 00 00 79 08
+bytes 06 01 00 00 00 00 00 0B 09 01 00 03 67 65 74 01 00 00
+script fuel 7
+status Fuel
+out fuel
+
+# an imported global tells the value of another one and the place of a segment
+component 00 61 73 6D 0D 00 01 00 01 1A 00 61 73 6D 01 00 00 00 06 06 01 7F 00 41 2A 0B 07 08 01 04 62 61
+bytes 73 65 03 00 01 58 00 61 73 6D 01 00 00 00 01 05 01 60 00 01 7F 02 0D 01 03 65 6E 76 04 62 61 73
+bytes 65 03 7F 00 03 03 02 00 00 05 03 01 00 01 06 06 01 7F 00 23 00 0B 07 0A 02 01 66 00 00 02 61 74
+bytes 00 01 0A 0E 02 04 00 23 01 0B 07 00 41 2A 28 02 00 0B 0B 0A 01 00 23 00 0B 04 07 00 00 00 02 04
+bytes 01 00 00 00 02 0A 01 00 01 01 03 65 6E 76 12 00 06 07 01 00 00 01 01 01 66 07 05 01 40 00 00 79
+bytes 08 06 01 00 00 00 00 00 0B 07 01 00 01 66 01 00 00 06 08 01 00 00 01 01 02 61 74 07 05 01 40 00
+bytes 00 79 08 06 01 00 00 01 00 01 0B 08 01 00 02 61 74 01 02 00
+script call f ()
+script call at ()
+status Done
+out take 1 T1 f ()
+out enter T1
+out return T1 (42)
+out exit T1
+out take 2 T2 at ()
+out enter T2
+out return T2 (7)
+out exit T2
+out done
+
+# an imported table has functions of both instances
+component 00 61 73 6D 0D 00 01 00 01 33 00 61 73 6D 01 00 00 00 01 05 01 60 00 01 7F 03 02 01 00 04 04 01
+bytes 70 00 03 07 07 01 03 74 61 62 01 00 09 07 01 00 41 00 0B 01 00 0A 06 01 04 00 41 07 0B 01 48 00
+bytes 61 73 6D 01 00 00 00 01 0A 02 60 00 01 7F 60 01 7F 01 7F 02 0D 01 03 65 6E 76 03 74 61 62 01 70
+bytes 00 02 03 03 02 00 01 07 05 01 01 66 00 01 09 07 01 00 41 01 0B 01 00 0A 0E 02 04 00 41 09 0B 07
+bytes 00 20 00 11 00 00 0B 02 04 01 00 00 00 02 0A 01 00 01 01 03 65 6E 76 12 00 06 07 01 00 00 01 01
+bytes 01 66 07 08 01 40 01 01 6E 79 00 79 08 06 01 00 00 00 00 00 0B 07 01 00 01 66 01 00 00
+script call f (0)
+script call f (1)
+script call f (2)
+status Trap
+out take 1 T1 f (0)
+out enter T1
+out return T1 (7)
+out exit T1
+out take 2 T2 f (1)
+out enter T2
+out return T2 (9)
+out exit T2
+out take 3 T3 f (2)
+out enter T3
+out trap T3 NullElement
+
+component 00 61 73 6D 0D 00 01 00 01 33 00 61 73 6D 01 00 00 00 01 05 01 60 00 01 7F 03 02 01 00 04 04 01
+bytes 70 00 03 07 07 01 03 74 61 62 01 00 09 07 01 00 41 00 0B 01 00 0A 06 01 04 00 41 07 0B 01 48 00
+bytes 61 73 6D 01 00 00 00 01 0A 02 60 00 01 7F 60 01 7F 01 7F 02 0D 01 03 65 6E 76 03 74 61 62 01 70
+bytes 00 02 03 03 02 00 01 07 05 01 01 66 00 01 09 07 01 00 41 01 0B 01 00 0A 0E 02 04 00 41 09 0B 07
+bytes 00 20 00 11 00 00 0B 02 04 01 00 00 00 02 0A 01 00 01 01 03 65 6E 76 12 00 06 07 01 00 00 01 01
+bytes 01 66 07 08 01 40 01 01 6E 79 00 79 08 06 01 00 00 00 00 00 0B 07 01 00 01 66 01 00 00
+script call f (3)
+status Trap
+out take 1 T1 f (3)
+out enter T1
+out trap T1 TableBounds
+
+# a segment that does not fit into an imported memory, and one that does not fit into an imported table
+component 00 61 73 6D 0D 00 01 00 01 16 00 61 73 6D 01 00 00 00 05 03 01 00 01 07 07 01 03 6D 65 6D 02 00
+bytes 01 28 00 61 73 6D 01 00 00 00 02 0C 01 03 65 6E 76 03 6D 65 6D 02 00 01 0B 10 02 00 41 00 0B 01
+bytes 01 00 41 FF FF 03 0B 02 01 02 02 04 01 00 00 00 02 0A 01 00 01 01 03 65 6E 76 12 00
+status Trap
+out trap T0 SegmentBounds
+
+component 00 61 73 6D 0D 00 01 00 01 17 00 61 73 6D 01 00 00 00 04 04 01 70 00 02 07 07 01 03 74 61 62 01
+bytes 00 01 34 00 61 73 6D 01 00 00 00 01 05 01 60 00 01 7F 02 0D 01 03 65 6E 76 03 74 61 62 01 70 00
+bytes 01 03 02 01 00 09 08 01 00 41 01 0B 02 00 00 0A 06 01 04 00 41 01 0B 02 04 01 00 00 00 02 0A 01
+bytes 00 01 01 03 65 6E 76 12 00
+status Trap
+out trap T0 SegmentBounds
+
+# a segment of the second instance stands in the memory of the first
+component 00 61 73 6D 0D 00 01 00 01 34 00 61 73 6D 01 00 00 00 01 06 01 60 01 7F 01 7F 03 02 01 00 05 03
+bytes 01 00 01 07 0E 02 03 6D 65 6D 02 00 04 70 65 65 6B 00 00 0A 09 01 07 00 20 00 28 02 00 0B 01 22
+bytes 00 61 73 6D 01 00 00 00 02 0C 01 03 65 6E 76 03 6D 65 6D 02 00 01 0B 0A 01 00 41 04 0B 04 2A 00
+bytes 00 00 02 04 01 00 00 00 02 0A 01 00 01 01 03 65 6E 76 12 00 06 0A 01 00 00 01 00 04 70 65 65 6B
+bytes 07 08 01 40 01 01 61 79 00 79 08 06 01 00 00 00 00 00 0B 0A 01 00 04 70 65 65 6B 01 00 00
+script call peek (4)
+status Done
+out take 1 T1 peek (4)
+out enter T1
+out return T1 (42)
+out exit T1
+out done
+
+# an inline instance is the argument, under another name
+component 00 61 73 6D 0D 00 01 00 01 2B 00 61 73 6D 01 00 00 00 01 06 01 60 01 7F 01 7F 03 02 01 00 07 0A
+bytes 01 06 64 6F 75 62 6C 65 00 00 0A 09 01 07 00 20 00 41 02 6C 0B 01 34 00 61 73 6D 01 00 00 00 01
+bytes 06 01 60 01 7F 01 7F 02 0D 01 03 65 6E 76 05 74 77 69 63 65 00 00 03 02 01 00 07 05 01 01 66 00
+bytes 01 0A 08 01 06 00 20 00 10 00 0B 02 04 01 00 00 00 06 0C 01 00 00 01 00 06 64 6F 75 62 6C 65 02
+bytes 0B 01 01 01 05 74 77 69 63 65 00 00 02 0A 01 00 01 01 03 65 6E 76 12 01 06 07 01 00 00 01 02 01
+bytes 66 07 08 01 40 01 01 61 79 00 79 08 06 01 00 00 01 00 00 0B 07 01 00 01 66 01 00 00
+script call f (21)
+status Done
+out take 1 T1 f (21)
+out enter T1
+out return T1 (42)
+out exit T1
+out done
+
+# an inline instance with an item of each sort
+component 00 61 73 6D 0D 00 01 00 01 57 00 61 73 6D 01 00 00 00 01 05 01 60 00 01 7F 03 02 01 00 04 04 01
+bytes 70 00 01 05 03 01 00 01 06 06 01 7F 01 41 03 0B 07 11 04 01 74 01 00 01 6D 02 00 01 67 03 00 01
+bytes 66 00 00 09 07 01 00 41 00 0B 01 00 0A 07 01 05 00 41 E4 00 0B 0B 0A 01 00 41 00 0B 04 14 00 00
+bytes 00 01 58 00 61 73 6D 01 00 00 00 01 05 01 60 00 01 7F 02 25 04 01 65 02 66 6E 00 00 01 65 04 67
+bytes 6C 6F 62 03 7F 01 01 65 03 6D 65 6D 02 00 01 01 65 03 74 61 62 01 70 00 01 03 02 01 00 07 05 01
+bytes 01 66 00 01 0A 15 01 13 00 41 00 11 00 00 41 00 28 02 00 6A 23 00 6A 10 00 6A 0B 02 04 01 00 00
+bytes 00 06 07 01 00 01 01 00 01 74 06 07 01 00 02 01 00 01 6D 06 07 01 00 03 01 00 01 67 06 07 01 00
+bytes 00 01 00 01 66 02 1B 01 01 04 03 6D 65 6D 02 00 03 74 61 62 01 00 02 66 6E 00 00 04 67 6C 6F 62
+bytes 03 00 02 08 01 00 01 01 01 65 12 01 06 07 01 00 00 01 02 01 66 07 05 01 40 00 00 79 08 06 01 00
+bytes 00 01 00 00 0B 07 01 00 01 66 01 00 00
+script call f ()
+status Done
+out take 1 T1 f ()
+out enter T1
+out return T1 (223)
+out exit T1
+out done
+
+# an import that is exported again is lifted, and is the import of a third instance
+component 00 61 73 6D 0D 00 01 00 01 2B 00 61 73 6D 01 00 00 00 01 06 01 60 01 7F 01 7F 03 02 01 00 07 0A
+bytes 01 06 64 6F 75 62 6C 65 00 00 0A 09 01 07 00 20 00 41 02 6C 0B 01 31 00 61 73 6D 01 00 00 00 01
+bytes 06 01 60 01 7F 01 7F 02 0C 01 01 6D 06 64 6F 75 62 6C 65 00 00 03 02 01 00 07 05 01 01 67 00 00
+bytes 0A 06 01 04 00 20 00 0B 01 30 00 61 73 6D 01 00 00 00 01 06 01 60 01 7F 01 7F 02 07 01 01 70 01
+bytes 67 00 00 03 02 01 00 07 05 01 01 66 00 01 0A 0A 01 08 00 20 00 10 00 10 00 0B 02 04 01 00 00 00
+bytes 02 08 01 00 01 01 01 6D 12 00 02 08 01 00 02 01 01 70 12 01 06 07 01 00 00 01 01 01 67 07 08 01
+bytes 40 01 01 61 79 00 79 08 06 01 00 00 00 00 00 0B 07 01 00 01 67 01 00 00 06 07 01 00 00 01 02 01
+bytes 66 07 08 01 40 01 01 61 79 00 79 08 06 01 00 00 01 00 01 0B 07 01 00 01 66 01 02 00
+script call g (5)
+script call f (5)
+status Done
+out take 1 T1 g (5)
+out enter T1
+out return T1 (10)
+out exit T1
+out take 2 T2 f (5)
+out enter T2
+out return T2 (20)
+out exit T2
+out done
+
+# a memory that is exported again is that of the first instance; the last four bytes of its page are there, and no more
+component 00 61 73 6D 0D 00 01 00 01 16 00 61 73 6D 01 00 00 00 05 03 01 00 01 07 07 01 03 6D 65 6D 02 00
+bytes 01 2B 00 61 73 6D 01 00 00 00 02 0A 01 01 61 03 6D 65 6D 02 00 01 07 09 01 05 61 67 61 69 6E 02
+bytes 00 0B 0A 01 00 41 00 0B 04 09 00 00 00 01 37 00 61 73 6D 01 00 00 00 01 06 01 60 01 7F 01 7F 02
+bytes 0C 01 01 62 05 61 67 61 69 6E 02 00 01 03 02 01 00 07 08 01 04 70 65 65 6B 00 00 0A 09 01 07 00
+bytes 20 00 28 02 00 0B 02 04 01 00 00 00 02 08 01 00 01 01 01 61 12 00 02 08 01 00 02 01 01 62 12 01
+bytes 06 0A 01 00 00 01 02 04 70 65 65 6B 07 08 01 40 01 01 61 79 00 79 08 06 01 00 00 00 00 00 0B 0A
+bytes 01 00 04 70 65 65 6B 01 00 00
+script call peek (0)
+script call peek (65532)
+script call peek (65533)
+status Trap
+out take 1 T1 peek (0)
+out enter T1
+out return T1 (9)
+out exit T1
+out take 2 T2 peek (65532)
+out enter T2
+out return T2 (0)
+out exit T2
+out take 3 T3 peek (65533)
+out enter T3
+out trap T3 MemoryBounds
+
+# a trap in a function of another instance names the task of the call
+component 00 61 73 6D 0D 00 01 00 01 29 00 61 73 6D 01 00 00 00 01 06 01 60 01 7F 01 7F 03 02 01 00 07 07
+bytes 01 03 64 69 76 00 00 0A 0A 01 08 00 41 E4 00 20 00 6D 0B 01 30 00 61 73 6D 01 00 00 00 01 06 01
+bytes 60 01 7F 01 7F 02 09 01 01 6D 03 64 69 76 00 00 03 02 01 00 07 05 01 01 66 00 01 0A 08 01 06 00
+bytes 20 00 10 00 0B 02 04 01 00 00 00 02 08 01 00 01 01 01 6D 12 00 06 07 01 00 00 01 01 01 66 07 08
+bytes 01 40 01 01 61 79 00 79 08 06 01 00 00 00 00 00 0B 07 01 00 01 66 01 00 00
+script call f (7)
+script call f (0)
+status Trap
+out take 1 T1 f (7)
+out enter T1
+out return T1 (14)
+out exit T1
+out take 2 T2 f (0)
+out enter T2
+out trap T2 DivideByZero
+
+# two instances of one module with other arguments
+component 00 61 73 6D 0D 00 01 00 01 22 00 61 73 6D 01 00 00 00 01 05 01 60 00 01 7F 03 02 01 00 07 05 01
+bytes 01 6B 00 00 0A 06 01 04 00 41 01 0B 01 22 00 61 73 6D 01 00 00 00 01 05 01 60 00 01 7F 03 02 01
+bytes 00 07 05 01 01 6B 00 00 0A 06 01 04 00 41 02 0B 01 30 00 61 73 6D 01 00 00 00 01 05 01 60 00 01
+bytes 7F 02 09 01 03 65 6E 76 01 6B 00 00 03 02 01 00 07 05 01 01 66 00 01 0A 09 01 07 00 10 00 41 0A
+bytes 6C 0B 02 04 01 00 00 00 02 04 01 00 01 00 02 0A 01 00 02 01 03 65 6E 76 12 00 02 0A 01 00 02 01
+bytes 03 65 6E 76 12 01 06 07 01 00 00 01 02 01 66 07 05 01 40 00 00 79 08 06 01 00 00 00 00 00 0B 0B
+bytes 01 00 05 66 69 72 73 74 01 00 00 06 07 01 00 00 01 03 01 66 07 05 01 40 00 00 79 08 06 01 00 00
+bytes 01 00 01 0B 0C 01 00 06 73 65 63 6F 6E 64 01 02 00
+script call second ()
+script call first ()
+status Done
+out take 1 T1 second ()
+out enter T1
+out return T1 (20)
+out exit T1
+out take 2 T2 first ()
+out enter T2
+out return T2 (10)
+out exit T2
+out done
+
+# core instances that are not linked: an argument that is missing, an export of it that is missing, one of another type, an argument twice, and a memory that is smaller than the one asked for
+component 00 61 73 6D 0D 00 01 00 01 2B 00 61 73 6D 01 00 00 00 01 06 01 60 01 7F 01 7F 03 02 01 00 07 0A
+bytes 01 06 64 6F 75 62 6C 65 00 00 0A 09 01 07 00 20 00 41 02 6C 0B 01 39 00 61 73 6D 01 00 00 00 01
+bytes 06 01 60 01 7F 01 7F 02 0F 01 04 6D 61 74 68 06 64 6F 75 62 6C 65 00 00 03 02 01 00 07 05 01 01
+bytes 66 00 01 0A 0B 01 09 00 20 00 10 00 41 01 6A 0B 02 04 01 00 00 00 02 04 01 00 01 00
+status LinkRefused
+err link refused at 121: Missing(math)
+
+component 00 61 73 6D 0D 00 01 00 01 22 00 61 73 6D 01 00 00 00 01 05 01 60 00 01 7F 03 02 01 00 07 05 01
+bytes 01 6B 00 00 0A 06 01 04 00 41 01 0B 01 39 00 61 73 6D 01 00 00 00 01 06 01 60 01 7F 01 7F 02 0F
+bytes 01 04 6D 61 74 68 06 64 6F 75 62 6C 65 00 00 03 02 01 00 07 05 01 01 66 00 01 0A 0B 01 09 00 20
+bytes 00 10 00 41 01 6A 0B 02 04 01 00 00 00 02 0B 01 00 01 01 04 6D 61 74 68 12 00
+status LinkRefused
+err link refused at 112: Missing(double)
+
+component 00 61 73 6D 0D 00 01 00 01 27 00 61 73 6D 01 00 00 00 01 05 01 60 00 01 7F 03 02 01 00 07 0A 01
+bytes 06 64 6F 75 62 6C 65 00 00 0A 06 01 04 00 41 01 0B 01 39 00 61 73 6D 01 00 00 00 01 06 01 60 01
+bytes 7F 01 7F 02 0F 01 04 6D 61 74 68 06 64 6F 75 62 6C 65 00 00 03 02 01 00 07 05 01 01 66 00 01 0A
+bytes 0B 01 09 00 20 00 10 00 41 01 6A 0B 02 04 01 00 00 00 02 0B 01 00 01 01 04 6D 61 74 68 12 00
+status LinkRefused
+err link refused at 117: Typing
+
+component 00 61 73 6D 0D 00 01 00 01 2B 00 61 73 6D 01 00 00 00 01 06 01 60 01 7F 01 7F 03 02 01 00 07 0A
+bytes 01 06 64 6F 75 62 6C 65 00 00 0A 09 01 07 00 20 00 41 02 6C 0B 01 39 00 61 73 6D 01 00 00 00 01
+bytes 06 01 60 01 7F 01 7F 02 0F 01 04 6D 61 74 68 06 64 6F 75 62 6C 65 00 00 03 02 01 00 07 05 01 01
+bytes 66 00 01 0A 0B 01 09 00 20 00 10 00 41 01 6A 0B 02 04 01 00 00 00 02 12 01 00 01 02 04 6D 61 74
+bytes 68 12 00 04 6D 61 74 68 12 00
+status LinkRefused
+err link refused at 121: Typing
+
+component 00 61 73 6D 0D 00 01 00 01 16 00 61 73 6D 01 00 00 00 05 03 01 00 01 07 07 01 03 6D 65 6D 02 00
+bytes 01 16 00 61 73 6D 01 00 00 00 02 0C 01 03 65 6E 76 03 6D 65 6D 02 00 02 02 04 01 00 00 00 02 0A
+bytes 01 00 01 01 03 65 6E 76 12 00
+status LinkRefused
+err link refused at 65: Typing
+
+";
