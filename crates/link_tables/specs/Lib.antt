@@ -1,0 +1,17 @@
+pub mod Begun
+pub mod Comparing
+pub mod Fit
+pub mod Fitting
+pub mod Instances
+pub mod Labels
+pub mod Laws
+pub mod Layered
+pub mod Layering
+pub mod Listed
+pub mod Numbering
+pub mod Order
+pub mod Pairs
+pub mod References
+pub mod Table
+pub mod Views
+pub mod Walks

@@ -1,0 +1,92 @@
+//! References into a table of types.
+
+ghost use Rattle.std.specs.Prelude.{◌≡◌};
+ghost use Rattle.link_tables.specs.Layering.{value_layer, returned_layer, type_layer, extern_layer};
+
+use crate::layers::{ExternLayer, TypeLayer, ValueLayer};
+use comp_reader::PrimValType;
+
+/// A function type of a table.
+#[derive(Clone, Copy, Debug)]
+pub struct FuncTypeRef {
+    /// The number of its layer, which tells it from other types.
+    pub(crate) layer: usize,
+    /// Its number among the function types.
+    pub(crate) number: usize,
+}
+
+/// A type of instances of a table.
+#[derive(Clone, Copy, Debug, PartialEq, Eq, PartialOrd, Ord)]
+pub struct InstanceTypeRef {
+    /// The number of its layer, which tells it from other types.
+    pub(crate) layer: usize,
+    /// Its number among the types of instances.
+    pub(crate) number: usize,
+}
+
+/// A closed type.
+#[derive(Clone, Copy, Debug)]
+pub enum TypeRef {
+    /// A value type.
+    Value(PrimValType),
+    /// A function type.
+    Func(FuncTypeRef),
+    /// A type of instances.
+    Instance(InstanceTypeRef),
+}
+
+/// What an import or an export is.
+#[derive(Clone, Copy, Debug)]
+pub enum ExternRef {
+    /// A function of a type.
+    Func(FuncTypeRef),
+    /// A type.
+    Type(TypeRef),
+    /// An instance of a type.
+    Instance(InstanceTypeRef),
+}
+
+/// The layer of a value type.
+pub(crate) fn value_layer(val_type: PrimValType) -> ValueLayer
+    ensures { result ≡ value_layer val_type }
+{
+    match val_type {
+        PrimValType::U32 => ValueLayer::U32,
+    }
+}
+
+/// The layer of a result.
+pub(crate) fn returned_layer(returned: Option<PrimValType>) -> Option<ValueLayer>
+    ensures { result ≡ returned_layer returned }
+{
+    match returned {
+        Some(val_type) => Some(value_layer(val_type)),
+        None => None,
+    }
+}
+
+impl TypeRef {
+    /// The outer layer.
+    pub(crate) fn layer(self) -> TypeLayer
+        ensures { result ≡ type_layer self }
+    {
+        match self {
+            TypeRef::Value(val_type) => TypeLayer::Value(value_layer(val_type)),
+            TypeRef::Func(func_type) => TypeLayer::Func(func_type.layer),
+            TypeRef::Instance(instance_type) => TypeLayer::Instance(instance_type.layer),
+        }
+    }
+}
+
+impl ExternRef {
+    /// The outer layer.
+    pub(crate) fn layer(self) -> ExternLayer
+        ensures { result ≡ extern_layer self }
+    {
+        match self {
+            ExternRef::Func(func_type) => ExternLayer::Func(func_type.layer),
+            ExternRef::Type(closed) => ExternLayer::Type(closed.layer()),
+            ExternRef::Instance(instance_type) => ExternLayer::Instance(instance_type.layer),
+        }
+    }
+}
