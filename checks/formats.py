@@ -59,9 +59,23 @@ def module(names):
     )
 
 
-def instance():
-    """An instance of core module 0."""
-    return section(2, vec([b"\x00" + u32(0) + b"\x00"]))
+def importing(names):
+    """A core module that imports so many functions, from nothing to nothing, under these names."""
+    return (
+        MODULE
+        + section(1, vec([b"\x60\x00\x00"]))
+        + section(2, vec(name("m") + name(text) + b"\x00" + u32(0) for text in names))
+    )
+
+
+def instance(module=0, arguments=()):
+    """An instance of a core module, with core instance 0 as each of the arguments."""
+    return section(2, vec([b"\x00" + u32(module) + vec(name(text) + b"\x12" + u32(0) for text in arguments)]))
+
+
+def inline_instance(names):
+    """A core instance that exports core function 0 under these names."""
+    return section(2, vec([b"\x01" + vec(name(text) + b"\x00" + u32(0) for text in names)]))
 
 
 def aliases(names):

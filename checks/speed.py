@@ -69,6 +69,27 @@ def many_exports(count):
     return aliases_of(count, count)
 
 
+def imports(count):
+    """So many imports of a core module, from one that exports as many."""
+    names = formats.short_names(count, 4)
+    modules = formats.section(1, formats.module(names)) + formats.section(1, formats.importing(reversed(names)))
+    return formats.component(modules, formats.instance(), formats.instance(1, ["m"])), b"", 1
+
+
+def arguments(count):
+    """So many arguments of a core module that imports nothing."""
+    module = formats.section(1, formats.module(["f"]))
+    return formats.component(module, formats.instance(), formats.instance(0, formats.short_names(count, 4))), b"", 1
+
+
+def inline_exports(count):
+    """A core instance of so many inline exports, and as many aliases of them."""
+    names = formats.short_names(count, 4)
+    module = formats.section(1, formats.module(["f"]))
+    asked = formats.section(6, formats.vec(b"\x00\x00\x01" + formats.u32(1) + formats.name(text) for text in reversed(names)))
+    return formats.component(module, formats.instance(), formats.aliases(["f"]), formats.inline_instance(names), asked), b"", 1
+
+
 def component_exports(count):
     """A component with so many exports."""
     names = formats.short_names(count, 4)
@@ -103,6 +124,9 @@ CASES = [
     Case("labels of a function type", 400_000, labels),
     Case("aliases of a core instance with 1,000 exports", 400_000, few_exports),
     Case("aliases of a core instance with as many exports", 400_000, many_exports),
+    Case("imports of a core module", 400_000, imports),
+    Case("arguments of a core module", 400_000, arguments),
+    Case("inline exports of a core instance, and aliases of them", 300_000, inline_exports),
     Case("exports of a component", 400_000, component_exports),
     Case("calls of a script, for a component with 1,000 exports", 60_000, calls, doubles=False),
 ]
