@@ -9,6 +9,8 @@ mod core_runs;
 mod externals;
 #[cfg(test)]
 mod import_tests_cases;
+#[cfg(test)]
+mod instance_tests_cases;
 mod instantiating;
 mod laws;
 mod named_graph;

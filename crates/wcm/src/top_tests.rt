@@ -1,7 +1,8 @@
 //! Calls of the program over files and outputs in memory, by the tables of `top_tests_cases`, `run_tests_cases`,
-//! `import_tests_cases` and `words_tests_cases`.
+//! `import_tests_cases`, `instance_tests_cases` and `words_tests_cases`.
 
 use crate::import_tests_cases::{IMPORT_CASES, IMPORT_COUNT};
+use crate::instance_tests_cases::{INSTANCE_CASES, INSTANCE_COUNT};
 use crate::laws;
 use crate::run_tests_cases::{RUN_CASES, RUN_COUNT};
 use crate::tests_cases::{bytes_of, number_of, push_bytes, push_line};
@@ -170,7 +171,8 @@ fn calls_of_whole_modules(rt: HostRuntime) -> Result<(), Fail> {
 
 #[test]
 fn calls_over_core_instances(rt: HostRuntime) -> Result<(), Fail> {
-    check_all(&rt, rt.alloc(), IMPORT_CASES, IMPORT_COUNT)
+    check_all(&rt, rt.alloc(), IMPORT_CASES, IMPORT_COUNT)?;
+    check_all(&rt, rt.alloc(), INSTANCE_CASES, INSTANCE_COUNT)
 }
 
 #[test]
