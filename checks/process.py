@@ -102,7 +102,7 @@ def counts():
     most = "ffffffff0f"
     return [
         refused("core instances", f"0205{most}", "15: SectionSize"),
-        refused("arguments of a core instance", f"0208010000{most}", "13: Unsupported(ff)"),
+        refused("arguments of a core instance", f"0208010000{most}", "18: SectionSize"),
         refused("aliases", f"0605{most}", "15: SectionSize"),
         refused("types", f"0705{most}", "15: SectionSize"),
         refused("parameters of a function type", f"07070140{most}", "17: SectionSize"),
