@@ -12,7 +12,7 @@ use Rattle.comp_reader.specs.declared.component.Param as read_param
 use Rattle.comp_reader.specs.declared.component.FuncType as read_func
 use Rattle.comp_reader.specs.declared.component.ExternDesc.{ExternDesc}
 use Rattle.comp_reader.specs.declared.component.ExternDesc.TheVariants as desc
-use Rattle.comp_linking.specs.Closed.{Closed, Value, Func, Instance, Extern, OfFunc, OfType, OfInstance, Externs, EmptyType, WithExtern, extern_names, extern_named, first_of, externs_of, func_of}
+use Rattle.comp_graph.specs.Closed.{Closed, Value, Func, Instance, Extern, OfFunc, OfType, OfInstance, Externs, EmptyType, WithExtern, extern_names, extern_named, first_of, externs_of, func_of}
 use Rattle.comp_linking.specs.Distinct.{HasDistinctLabels}
 use Rattle.comp_linking.specs.Types.{absent, meant, found, close_val, close_param, close_params, close_result, close_func, all_within, func_meaning, desc_meaning}
 use Rattle.comp_linking.proofs.Holding.{all_at, if_weaker, if_mapped, if_found, if_cond}

@@ -15,7 +15,7 @@ use Rattle.comp_reader.specs.declared.component.InstanceDecl.{InstanceDecl}
 use Rattle.comp_reader.specs.declared.component.DefType.TheViews.{roll-InstanceDecl}
 use Rattle.comp_reader.specs.declared.component.DefType.TheOpen.{DefType-F, InstanceDecl-F}
 use Rattle.comp_reader.specs.declared.component.DefType.TheFolds.{fold-DefType, fold-InstanceDecl, fold-roll-DefType, fold-roll-InstanceDecl, ind-DefType, map-DefType, map-InstanceDecl}
-use Rattle.comp_linking.specs.Closed.{Closed, Instance, Extern, OfFunc, OfType, OfInstance, Externs, extern_names, extern_named}
+use Rattle.comp_graph.specs.Closed.{Closed, Instance, Extern, OfFunc, OfType, OfInstance, Externs, extern_names, extern_named}
 use Rattle.comp_linking.specs.Definitions.{Closure}
 use Rattle.comp_linking.specs.Spaces.{Level}
 use Rattle.comp_linking.specs.Types.{Meaning, absent, desc_meaning, Declared, nothing_declared, own_level, type_in, instance_in, with_declared, kept_if, told, of_sort, of_export, from_instance, outer_type, outer_component, with_component, with_type, with_outer, declared_as, with_alias, extended, under_name, with_export, declared_by, instance_meaning, InLevels, types_around, type_step, decl_step, meaning_of}

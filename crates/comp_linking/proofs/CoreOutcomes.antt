@@ -15,7 +15,7 @@ use Rattle.comp_reader.specs.declared.component.Instance as made_of
 use Rattle.comp_reader.specs.declared.component.Instance.TheVariants as made
 use Rattle.comp_linking.specs.declared.fault.LinkWhy.{LinkWhy}
 use Rattle.comp_linking.specs.declared.fault.LinkWhy.TheVariants as why
-use Rattle.comp_linking.specs.Closed.{first_of}
+use Rattle.comp_graph.specs.Closed.{first_of}
 use Rattle.comp_linking.specs.Definitions.{CoreItem, CoreExport, core_named, CoreFits, Closure, Definition, Exports, EmptyInstance, WithExport}
 use Rattle.comp_linking.specs.Spaces.{Spaces, Linking, core_size, size_of, core_item_at, definition_at}
 use Rattle.comp_linking.specs.Items.{instance_limit, AnyByRecursion, first_told, argument_named, argument_lacking, import_found, import_lacks, FindsOther, IsThere, FindsItem, core_instance_has, IsInline, core_made, core_instance_makes, AreNamed, named_have, instance_has, instance_makes}

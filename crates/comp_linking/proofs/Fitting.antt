@@ -1,6 +1,6 @@
 -- A definition that fits lacks no name.
 use Rattle.std.proofs.Common.{◌≡◌, ℕ, List, refl, Some, None}
-use Rattle.comp_linking.specs.Closed.{Extern, OfFunc, OfType, OfInstance, Externs, EmptyType, WithExtern}
+use Rattle.comp_graph.specs.Closed.{Extern, OfFunc, OfType, OfInstance, Externs, EmptyType, WithExtern}
 use Rattle.comp_linking.specs.Definitions.{Definition, AFunc, AType, AComponent, AnInstance, AModule, Exports, Fits, FitAll, lacks, first_lacking}
 
 mutual

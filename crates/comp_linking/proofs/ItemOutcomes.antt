@@ -11,7 +11,7 @@ use Rattle.comp_reader.specs.declared.component.AliasTarget.TheVariants as targe
 use Rattle.comp_reader.specs.declared.component.ExternDesc.{ExternDesc}
 use Rattle.comp_reader.specs.declared.component.Export as read
 use Rattle.comp_linking.specs.declared.fault.LinkWhy.TheVariants as why
-use Rattle.comp_linking.specs.Closed.{Closed, Extern, OfFunc, OfType, OfInstance, func_of}
+use Rattle.comp_graph.specs.Closed.{Closed, Extern, OfFunc, OfType, OfInstance, func_of}
 use Rattle.comp_linking.specs.Definitions.{CoreItem, Func, Table, Memory, Global, core_named, Definition, AType, AnInstance, Exports, export_names, export_named, lacks, seen_as, types_of}
 use Rattle.comp_graph.specs.Graph.{is_flat}
 use Rattle.comp_linking.specs.Types.{Meaning}

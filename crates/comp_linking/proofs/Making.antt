@@ -20,7 +20,7 @@ use Rattle.comp_reader.specs.declared.component.Export as read
 use Rattle.comp_reader.specs.declared.component.Item.{Item, out-Item}
 use Rattle.comp_reader.specs.declared.component.Item.TheOpen.{Item-F}
 use Rattle.comp_reader.specs.declared.component.Component.{Component}
-use Rattle.comp_linking.specs.Closed.{Extern, OfFunc, OfType, OfInstance}
+use Rattle.comp_graph.specs.Closed.{Extern, OfFunc, OfType, OfInstance}
 use Rattle.comp_linking.specs.Definitions.{CoreRef, CoreItem, CoreExport, Definition, AFunc, AType, AnInstance, Exports, EmptyInstance, WithExport, seen_as}
 use Rattle.comp_linking.specs.Types.{Meaning}
 use Rattle.comp_linking.specs.Spaces.{Spaces, Linking, definition_at, with_spaces, with_core_item, with_core_instance, with_definition}

@@ -17,7 +17,7 @@ use Rattle.comp_reader.specs.declared.component.Item.TheOpen.{Item-F}
 use Rattle.comp_reader.specs.declared.component.Component.{Component}
 use Rattle.comp_linking.specs.declared.fault.LinkWhy.{LinkWhy}
 use Rattle.comp_linking.specs.declared.fault.LinkWhy.TheVariants as why
-use Rattle.comp_linking.specs.Closed.{Extern}
+use Rattle.comp_graph.specs.Closed.{Extern}
 use Rattle.comp_linking.specs.Definitions.{Definition, Exports, export_named, lacks}
 use Rattle.comp_linking.specs.Types.{Meaning}
 use Rattle.comp_linking.specs.Spaces.{Spaces, Linking, definition_at}

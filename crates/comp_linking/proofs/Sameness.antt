@@ -5,7 +5,7 @@ use Rattle.std.proofs.lemmas.Slice.Eq.{bytes_eq-Decides}
 use Rattle.ca_types.specs.declared.types.ValType.{ValType}
 use Rattle.ca_types.specs.declared.types.Param.{Param}
 use Rattle.ca_types.specs.declared.types.FuncType.{FuncType}
-use Rattle.comp_linking.specs.Closed.{Closed, Value, Func, Instance, Extern, OfFunc, OfType, OfInstance, Externs, EmptyType, WithExtern}
+use Rattle.comp_graph.specs.Closed.{Closed, Value, Func, Instance, Extern, OfFunc, OfType, OfInstance, Externs, EmptyType, WithExtern}
 use Rattle.comp_linking.specs.Same.{all_pass, same_val, same_param, same_result, same_func, same_closed, same_extern, same_externs}
 use Rattle.comp_linking.proofs.SameValues.{Tells, never, and, both, name_told, every, none_told, some_told, list_told, both_told, both_self, val_told}
 

@@ -21,7 +21,7 @@ use Rattle.comp_reader.specs.declared.component.Sort.TheVariants as sorts
 use Rattle.comp_reader.specs.declared.component.Component.{Component}
 use Rattle.comp_linking.specs.declared.fault.LinkFault.{LinkFault}
 use Rattle.comp_linking.specs.declared.fault.LinkWhy.TheVariants as why
-use Rattle.comp_linking.specs.Closed.{Value, Instance, OfType, EmptyType, WithExtern}
+use Rattle.comp_graph.specs.Closed.{Value, Instance, OfType, EmptyType, WithExtern}
 use Rattle.comp_linking.specs.Spaces.{Level}
 use Rattle.comp_linking.specs.Types.{meant, InLevels, Declared, nothing_declared, declared_by, instance_meaning, own_level, with_type, with_export, func_meaning, types_around, type_step, decl_step, meaning_of}
 use Rattle.comp_linking.specs.Linked.{root_begun}

@@ -27,7 +27,7 @@ use Rattle.comp_reader.specs.declared.component.Export as read
 use Rattle.comp_reader.specs.declared.component.Item.{Item}
 use Rattle.comp_reader.specs.declared.component.Item.TheOpen.{Item-F}
 use Rattle.comp_reader.specs.declared.component.Component.{Component}
-use Rattle.comp_linking.specs.Closed.{Extern, OfFunc, OfType, OfInstance, func_of}
+use Rattle.comp_graph.specs.Closed.{Extern, OfFunc, OfType, OfInstance, func_of}
 use Rattle.comp_linking.specs.Definitions.{CoreItem, Func, Table, Memory, Global, extern_of, item_of, CoreFits, CoreExport, core_named, listed, exports_of, Definition, AFunc, AType, AComponent, AnInstance, AModule, Exports, WithExport, export_named}
 use Rattle.comp_linking.specs.Spaces.{CoreMake, Spaces, Linking, Level, level_of, listed_level, levels_at, core_item_at, definition_at, with_core_item, with_core_instance, with_definition, with_spaces, outer_definition, outer_at}
 use Rattle.comp_linking.specs.Types.{meaning_of}

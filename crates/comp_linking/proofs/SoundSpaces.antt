@@ -9,7 +9,7 @@ use Rattle.comp_reader.specs.declared.component.CoreSort.{CoreSort}
 use Rattle.comp_reader.specs.declared.component.CoreSort.TheVariants as core_sort
 use Rattle.comp_reader.specs.declared.component.Sort.{Sort}
 use Rattle.comp_reader.specs.declared.component.Sort.TheVariants as sorts
-use Rattle.comp_linking.specs.Closed.{first_of}
+use Rattle.comp_graph.specs.Closed.{first_of}
 use Rattle.comp_linking.specs.Definitions.{CoreItem, Func, Table, Memory, Global, CoreExport, core_named, Lifted, Closure, Definition, AFunc, AType, AComponent, AnInstance, AModule, Exports, EmptyInstance, WithExport, export_named}
 use Rattle.comp_linking.specs.Spaces.{CoreMake, Spaces, new_spaces, core_item_at, core_definition_at, definition_at, with_core_item, with_core_instance, with_definition, outer_definition}
 use Rattle.comp_linking.proofs.Holding.{all_push, all_weaker, all_at, if_weaker, if_mapped, if_cond}

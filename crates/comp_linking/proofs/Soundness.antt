@@ -7,7 +7,7 @@ use Rattle.ca_base.specs.Names.{is_among}
 use Rattle.wasm_module.specs.declared.module.ModuleTree.{ModuleTree}
 use Rattle.comp_graph.specs.declared.graph.Lift.{Lift}
 use Rattle.comp_graph.specs.Graph.{LiftsCore, IsItem, AreImported}
-use Rattle.comp_linking.specs.Closed.{Closed}
+use Rattle.comp_graph.specs.Closed.{Closed}
 use Rattle.comp_linking.specs.Definitions.{CoreItem, CoreExport, Lifted, Closure, Definition, AFunc, AType, AComponent, AnInstance, AModule, Exports, EmptyInstance, WithExport, export_names}
 use Rattle.comp_linking.specs.Spaces.{CoreMake, Spaces, Linking}
 use Rattle.comp_linking.specs.Distinct.{HasDistinctLabels}

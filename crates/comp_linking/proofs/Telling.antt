@@ -26,7 +26,7 @@ use Rattle.comp_reader.specs.declared.component.Sort.{Sort}
 use Rattle.comp_reader.specs.declared.component.Sort.TheVariants as sorts
 use Rattle.comp_reader.specs.declared.component.ExternDesc.{ExternDesc}
 use Rattle.comp_reader.specs.declared.component.ExternDesc.TheVariants as desc
-use Rattle.comp_linking.specs.Closed.{Extern, OfFunc, OfType, OfInstance, Externs, EmptyType, WithExtern, AreTypes}
+use Rattle.comp_graph.specs.Closed.{Extern, OfFunc, OfType, OfInstance, Externs, EmptyType, WithExtern, AreTypes}
 use Rattle.comp_linking.specs.Definitions.{CoreItem, Func, Table, Memory, Global, MaxIsWithin, IsWithin, CoreFits, Definition, AFunc, AType, AComponent, AnInstance, AModule, Exports, export_named, Fits, FitAll}
 use Rattle.comp_linking.specs.Types.{Meaning}
 use Rattle.comp_linking.specs.Spaces.{Spaces, IsOfCoreSort, IsOfSort}

@@ -27,7 +27,7 @@ use Rattle.comp_reader.specs.declared.component.Component.{Component}
 use Rattle.comp_linking.specs.declared.fault.LinkWhy.{LinkWhy}
 use Rattle.comp_linking.specs.declared.fault.LinkWhy.TheVariants as why
 use Rattle.comp_linking.specs.declared.fault.LinkFault.{LinkFault}
-use Rattle.comp_linking.specs.Closed.{Closed, Extern, OfInstance, func_of}
+use Rattle.comp_graph.specs.Closed.{Closed, Extern, OfInstance, func_of}
 use Rattle.comp_linking.specs.Definitions.{CoreItem, Func, CoreExport, core_named, Closure, Definition, AFunc, AType, AComponent, AnInstance, AModule, Exports, EmptyInstance, WithExport, export_names, export_named, lacks, seen_as, types_of}
 use Rattle.comp_graph.specs.Graph.{is_flat}
 use Rattle.comp_linking.specs.Types.{Meaning, meaning_of}

@@ -31,7 +31,7 @@ use Rattle.comp_reader.specs.declared.component.Item.TheOpen.{Item-F}
 use Rattle.comp_reader.specs.declared.component.Component.{Component}
 use Rattle.comp_linking.specs.declared.fault.LinkWhy.{LinkWhy}
 use Rattle.comp_linking.specs.declared.fault.LinkWhy.TheVariants as why
-use Rattle.comp_linking.specs.Closed.{Closed, first_of, Extern, OfInstance, func_of, AreTypes}
+use Rattle.comp_graph.specs.Closed.{Closed, first_of, Extern, OfInstance, func_of, AreTypes}
 use Rattle.comp_linking.specs.Definitions.{CoreRef, CoreItem, Func, extern_of, CoreExport, core_named, exports_of, CoreFits, Definition, AFunc, AType, AComponent, AnInstance, AModule, Exports, EmptyInstance, WithExport, export_names, export_named, Fits, lacks, seen_as, types_of}
 use Rattle.comp_graph.specs.Graph.{is_flat}
 pub use Rattle.comp_graph.specs.Graph.{instance_limit}

@@ -12,7 +12,7 @@ use Rattle.comp_reader.specs.declared.component.Component.{Component}
 use Rattle.comp_linking.specs.declared.fault.LinkWhy.{LinkWhy}
 use Rattle.comp_linking.specs.declared.fault.LinkWhy.TheVariants.{Missing}
 use Rattle.comp_linking.specs.declared.fault.LinkFault.{LinkFault}
-use Rattle.comp_linking.specs.Closed.{Closed, Extern}
+use Rattle.comp_graph.specs.Closed.{Closed, Extern}
 use Rattle.comp_linking.specs.Definitions.{Closure, Definition, Exports, export_names, Fits}
 use Rattle.comp_linking.specs.Spaces.{Spaces, Linking}
 use Rattle.comp_linking.specs.Items.{instance_limit, item_has, item_makes}

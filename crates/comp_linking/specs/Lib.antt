@@ -1,4 +1,3 @@
-pub mod Closed
 pub mod Computed
 pub mod Definitions
 pub mod Distinct

@@ -7,7 +7,7 @@ use Rattle.ca_types.specs.declared.types.Case.{Case}
 use Rattle.ca_types.specs.declared.types.Field.{Field}
 use Rattle.ca_types.specs.declared.types.Param.{Param}
 use Rattle.ca_types.specs.declared.types.FuncType.{FuncType}
-use Rattle.comp_linking.specs.Closed.{Closed, Value, Func, Instance, Extern, OfFunc, OfType, OfInstance, Externs, EmptyType, WithExtern}
+use Rattle.comp_graph.specs.Closed.{Closed, Value, Func, Instance, Extern, OfFunc, OfType, OfInstance, Externs, EmptyType, WithExtern}
 
 -- as many items as tests, each of which passes its own
 abbrev pub all_pass : {A : Type 0} → List (A → Bool) → List A → Bool

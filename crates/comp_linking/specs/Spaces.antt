@@ -13,7 +13,7 @@ use Rattle.comp_reader.specs.declared.component.Sort.TheVariants as sorts
 pub use Rattle.comp_graph.specs.declared.graph.Action.{Action}
 pub use Rattle.comp_graph.specs.declared.graph.Action.TheVariants.{Begin, Make}
 pub use Rattle.comp_graph.specs.Graph.{CoreMake}
-use Rattle.comp_linking.specs.Closed.{Closed}
+use Rattle.comp_graph.specs.Closed.{Closed}
 use Rattle.comp_linking.specs.Definitions.{CoreItem, Func, Table, Memory, Global, CoreExport, Lifted, Closure, Definition, AFunc, AType, AComponent, AnInstance, AModule, Exports, EmptyInstance}
 
 -- the index spaces of a component instance, and what is known of it besides

@@ -19,7 +19,7 @@ use Rattle.comp_reader.specs.declared.component.Sort.{Sort}
 use Rattle.comp_reader.specs.declared.component.Sort.TheVariants as sorts
 use Rattle.comp_reader.specs.declared.component.ExternDesc.{ExternDesc}
 use Rattle.comp_reader.specs.declared.component.ExternDesc.TheVariants as desc
-use Rattle.comp_linking.specs.Closed.{Extern, OfFunc, OfType, OfInstance, Externs, EmptyType, WithExtern}
+use Rattle.comp_graph.specs.Closed.{Extern, OfFunc, OfType, OfInstance, Externs, EmptyType, WithExtern}
 use Rattle.comp_linking.specs.Definitions.{CoreItem, Func, Table, Memory, Global, Definition, AFunc, AType, AComponent, AnInstance, AModule, Exports, export_named}
 use Rattle.comp_linking.specs.Same.{same_func, same_closed}
 

@@ -24,7 +24,7 @@ use Rattle.comp_reader.specs.declared.component.ExternDesc.{ExternDesc}
 use Rattle.comp_reader.specs.declared.component.ExternDesc.TheVariants as desc
 use Rattle.comp_reader.specs.declared.component.DefType.{DefType, fold-DefType}
 use Rattle.comp_reader.specs.declared.component.DefType.TheOpen.{DefType-F, InstanceDecl-F}
-use Rattle.comp_linking.specs.Closed.{Closed, Value, Func, Instance, Extern, OfFunc, OfType, OfInstance, Externs, EmptyType, WithExtern, extern_named, first_of, externs_of, func_of, value_of}
+use Rattle.comp_graph.specs.Closed.{Closed, Value, Func, Instance, Extern, OfFunc, OfType, OfInstance, Externs, EmptyType, WithExtern, extern_named, first_of, externs_of, func_of, value_of}
 use Rattle.comp_linking.specs.Definitions.{Closure}
 use Rattle.comp_linking.specs.Spaces.{Level}
 

@@ -1,0 +1,40 @@
+-- What a table of instances finds under the number of a name.
+use Rattle.std.proofs.Common.{◌≡◌, ◌≤◌, ℕ, List, length, sym, subst, arith, Option, Some, None}
+use Rattle.std.specs.List.{slice_get}
+use Rattle.std.proofs.lemmas.Option.{slice_get_within, slice_get_past}
+use Rattle.comp_graph.specs.Closed.{Externs, extern_named}
+use Rattle.comp_linking.specs.Definitions.{Exports, export_named}
+use Rattle.type_tables.specs.declared.refs.InstanceTypeRef.{InstanceTypeRef}
+use Rattle.type_tables.specs.declared.refs.ExternRef.{ExternRef}
+use Rattle.instance_tables.specs.declared.references.InstanceRef.{InstanceRef}
+use Rattle.instance_tables.specs.declared.references.DefinitionRef.{DefinitionRef}
+use Rattle.type_tables.specs.Numbering.{AreApart}
+use Rattle.type_tables.specs.Table.{Table, IsInstanceType, MayBeExtern, MayBeEntry, in_order}
+use Rattle.instance_tables.specs.References.{World, IsInstance, IsFound, AreBases, seen_found, found_at}
+use Rattle.instance_tables.proofs.Asking.{is_asked}
+use Rattle.instance_tables.proofs.Named.{base_lacks, base_has, view_has}
+use Rattle.instance_tables.proofs.Growing.{base_found}
+
+module _ (t : Table) (w : World) (listings : List (List (ℕ × DefinitionRef))) (are : AreBases t w listings) (apart : AreApart t.texts)
+    (i : InstanceRef) (exports : Exports) (h : IsInstance t w i exports) (n : ℕ) (q : List ℕ) (text : slice_get t.texts n ≡ Some q)
+    (o : Option DefinitionRef) (found : o ≡ found_at listings i.base n) where
+  in_base : IsFound t w o (export_named q h.base)
+  in_base = subst (λ (o : Option DefinitionRef). IsFound t w o (export_named q h.base)) (sym found) (base_found t w listings are apart i exports h n q text)
+
+  pub lacks : o ≡ None → export_named q exports ≡ None
+  lacks none = base_lacks t w q i exports h (subst (λ (o : Option DefinitionRef). IsFound t w o (export_named q h.base)) none in_base)
+
+  pub has : (d : DefinitionRef) → o ≡ Some d → i.seen_as ≡ None → IsFound t w (Some d) (export_named q exports)
+  has d is plain = base_has t w q i exports (Some d) h plain (subst (λ (o : Option DefinitionRef). IsFound t w o (export_named q h.base)) is in_base)
+
+  pub sees : (d : DefinitionRef) (r : InstanceTypeRef) (x : Option ExternRef) → o ≡ Some d → i.seen_as ≡ Some r
+      → ((asked : Externs) → IsInstanceType t r asked → MayBeExtern t x (extern_named q asked)) → IsFound t w (seen_found (Some d) x) (export_named q exports)
+  sees d r x is seen asked =
+      view_has t w q i exports (Some d) x h r seen (subst (λ (o : Option DefinitionRef). IsFound t w o (export_named q h.base)) is in_base) (λ wanted type. is_asked t x (extern_named q wanted) (asked wanted type))
+
+-- A type of instances that was made has a number below their count.
+pub not_made : (t : Table) (r : InstanceTypeRef) (asked : Externs) → length t.instances ≤ r.number → IsInstanceType t r asked → ⊥
+not_made t r asked past h = let within = slice_get_within t.instances r.number h.1.0 h.1.1 in omega (arith, past)
+
+pub none_behind : (t : Table) (asked : Externs) (at count : ℕ) → count ≡ length (in_order asked) → count ≤ at → MayBeEntry t None (slice_get (in_order asked) at)
+none_behind t asked at count is past = let long : length (in_order asked) ≤ at = omega (arith, is, past) in rw (slice_get_past (in_order asked) at long) tt

@@ -1,0 +1,12 @@
+pub mod Asking
+pub mod Compares
+pub mod Finding
+pub mod Going
+pub mod Growing
+pub mod Named
+pub mod InOrder
+pub mod PairOrder
+pub mod Standing
+pub mod Turns
+pub mod Views
+pub mod Walking

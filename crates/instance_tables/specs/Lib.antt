@@ -1,0 +1,9 @@
+pub mod Comparing
+pub mod Fit
+pub mod Fitting
+pub mod Instances
+pub mod Laws
+pub mod Pairs
+pub mod References
+pub mod Views
+pub mod Walks

@@ -1,5 +1,0 @@
-use Rattle.link_tables.proofs.LayersTold.{type_one, type_told}
-use Rattle.link_tables.proofs.laws.numbers_say_equal.Goals as goal
-
-pub returns : goal.returns
-returns c = record { layer = λ texts layers d. type_one texts layers d.names d.parts; closed = type_told }

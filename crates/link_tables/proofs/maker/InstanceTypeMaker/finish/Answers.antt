@@ -1,5 +1,0 @@
-use Rattle.link_tables.proofs.TypesMade.{finished}
-use Rattle.link_tables.proofs.maker.InstanceTypeMaker.finish.Goals as goal
-
-pub returns-clause-ok : goal.returns-clause-ok
-returns-clause-ok c = finished c.args.types.now c.add_instance.new.self c.args.self c.in_ok-number.number c.add_instance.ensures.grows c.in_ok-number.ensures.ok

@@ -1,9 +1,0 @@
--- Types of instances that are being made.
-use Rattle.comp_linking.specs.Closed.{Externs}
-use Rattle.link_tables.specs.declared.maker.InstanceTypeMaker.{InstanceTypeMaker}
-use Rattle.link_tables.specs.Layered.{IsExternsLayer}
-use Rattle.link_tables.specs.Table.{Table, AreListed}
-
--- The exports so far.
-abbrev pub IsBegun : Table → InstanceTypeMaker → Externs → Type 0
-IsBegun t maker externs = IsExternsLayer t.texts t.layers maker.layer externs × AreListed t maker.externs externs

@@ -1,0 +1,9 @@
+-- Types of instances that are being made.
+use Rattle.comp_graph.specs.Closed.{Externs}
+use Rattle.type_tables.specs.declared.maker.InstanceTypeMaker.{InstanceTypeMaker}
+use Rattle.type_tables.specs.Layered.{IsExternsLayer}
+use Rattle.type_tables.specs.Table.{Table, AreListed}
+
+-- The exports so far.
+abbrev pub IsBegun : Table → InstanceTypeMaker → Externs → Type 0
+IsBegun t maker externs = IsExternsLayer t.texts t.layers maker.layer externs × AreListed t maker.externs externs

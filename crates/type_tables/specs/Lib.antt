@@ -1,0 +1,9 @@
+pub mod Begun
+pub mod Labels
+pub mod Laws
+pub mod Layered
+pub mod Layering
+pub mod Listed
+pub mod Numbering
+pub mod Order
+pub mod Table

@@ -1,0 +1,32 @@
+//! Numbers in place of trees: types of functions and of instances, in tables, where a type is told by numbers, and two types
+//! are the same exactly where their numbers are. The trees are the closed types of `comp_graph`.
+//!
+//! - `names`: the texts of names, each once, by number
+//! - `listing`: what stands under names, in order
+//! - `layers`: the layers of types, each once, by number
+//! - `refs`: references into a table of types
+//! - `labels`: labels with value types, which function types are made of
+//! - `types`: the table of types
+//! - `maker`: types of instances, made export by export
+//! - `asked`: what a type of instances asks for
+//! - `laws`: what holds of tables of types
+#![tactic(auto)]
+
+mod asked;
+mod labels;
+pub mod laws;
+mod layers;
+mod listing;
+mod maker;
+mod names;
+mod refs;
+mod types;
+
+pub use asked::{asked_at, asked_count, asked_named};
+pub use labels::LabelledType;
+pub use layers::{ExternLayer, Layer, Layers, TypeLayer, ValueLayer};
+pub use listing::Listing;
+pub use maker::InstanceTypeMaker;
+pub use names::Names;
+pub use refs::{ExternRef, FuncTypeRef, InstanceTypeRef, TypeRef};
+pub use types::Types;

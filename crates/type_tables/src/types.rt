@@ -1,0 +1,249 @@
+//! The table of types.
+
+ghost use Rattle.std.specs.Prelude.{◌≡◌, ◌<◌, ◌+◌, ◌∷◌, ◌↔◌, ℕ, List, map, length, Some, None, IfOk, IsTrue};
+ghost use Rattle.std.specs.List.{slice_get};
+ghost use Rattle.std.specs.Option.{MatchOption};
+ghost use Rattle.ca_types.specs.declared.types.FuncType.{FuncType};
+ghost use Rattle.ca_types.specs.declared.types.Param.{Param};
+ghost use Rattle.comp_graph.specs.Closed.{Closed, Externs, extern_named};
+ghost use Rattle.type_tables.specs.Numbering.{IsNumberOf};
+ghost use Rattle.type_tables.specs.Layered.{IsParams};
+ghost use Rattle.type_tables.specs.Labels.{closed_param, closed_func};
+ghost use Rattle.type_tables.specs.Table.{no_types, IsName, IsFunc, IsType, IsInstanceType, MayBeExtern, MayBeEntry, in_order, Grows, AreDistinct};
+
+use crate::labels::{LabelledType, closed_func};
+use crate::layers::{Layer, Layers, ValueLayer};
+use crate::listing::Listing;
+use crate::names::Names;
+use crate::refs::{ExternRef, FuncTypeRef, InstanceTypeRef, TypeRef};
+use ca_types::{FuncType, Shared};
+use std::alloc::{AllocError, Global};
+use std::marker::Model;
+
+/// Types, each layer of them once: two types are the same exactly where the numbers of their layers are. A type that is in
+/// another one stands there by its number, so nothing here nests. Contracts see the texts of names, the layers, and of the
+/// types that were made the function types and the listings of exports.
+#[derive(Drop)]
+pub struct Types<'a> {
+    names: Names<'a>,
+    layers: Layers,
+    funcs: Vec<Shared<FuncType>>,
+    instances: Vec<Listing<ExternRef>>,
+}
+
+impl<'a> Model for Types<'a> {
+    ghost use Rattle.std.specs.Coded.{codes};
+    ghost use Rattle.ca_types.specs.contracts.types.FuncType as func_type;
+    ghost use Rattle.type_tables.specs.contracts.layers.Layer as layer;
+    ghost use Rattle.type_tables.specs.contracts.refs.ExternRef as extern_ref;
+    ghost use Rattle.type_tables.specs.Table.{Table, AreDistinct};
+
+    ghost Value = { Table };
+
+    ghost coded = { Prim.hlevel (codes, func_type.the_row.coded, layer.the_row.coded, extern_ref.the_row.coded) };
+
+    ghost view = { λ t. record { texts = t.names; layers = t.layers; funcs = t.funcs.items; instances = t.instances.items } };
+
+    ghost invariant = { λ t. AreDistinct t.names t.layers };
+}
+
+impl<'a> Types<'a> {
+    /// No types. They take no memory.
+    pub fn new(alloc: Global) -> Types<'a>
+        ensures { result ≡ no_types }
+    {
+        Types {
+            names: Names::new(alloc),
+            layers: Layers::new(alloc),
+            funcs: Vec::new(alloc),
+            instances: Vec::new(alloc),
+        }
+    }
+
+    /// The number of a name, which is added where its text is not there. It fails for want of memory alone, as do all calls
+    /// here that fail. Whatever a call answers, what stood in the table stands there still.
+    pub fn name(&mut self, text: &'a str) -> Result<usize, AllocError>
+        ensures ok { IfOk result (λ number. IsName self.new number text.now) }
+        ensures grows { Grows self.old self.new }
+    {
+        Ok(self.names.number_of(text)?)
+    }
+
+    /// The number of a name, where its text is there.
+    pub fn find_name(&self, text: &str) -> Option<usize>
+        ensures { IsNumberOf self.now.texts text.now result }
+    {
+        self.names.find(text)
+    }
+
+    /// The text of a name.
+    pub fn text(&self, number: usize) -> Option<&'a str>
+        ensures { MatchOption result (slice_get self.now.texts number ≡ None) (λ text. IsName self.now number text.now) }
+    {
+        self.names.text(number)
+    }
+
+    /// Makes a function type, with its parameters in order and its result.
+    pub fn func_type(
+        &mut self,
+        alloc: Global,
+        params: &[LabelledType<'a>],
+        returned: Option<ValueLayer>,
+    ) -> Result<FuncTypeRef, AllocError>
+        ensures ok { IfOk result (λ ref. IsFunc self.new ref (closed_func params.now returned)) }
+        ensures grows { Grows self.old self.new }
+    {
+        let func_type = closed_func(alloc, params, returned)?;
+        let params = self.params(params)?;
+        let layer = self.layer(Layer::Func { params, returned })?;
+        let number = self.add_func(alloc, func_type)?;
+        Ok(FuncTypeRef { layer, number })
+    }
+
+    /// The number of the layer of some parameters.
+    fn params(&mut self, params: &[LabelledType<'a>]) -> Result<usize, AllocError>
+        ensures ok { IfOk result (λ number. IsParams self.new.texts self.new.layers number (map closed_param params.now)) }
+        ensures grows { Grows self.old self.new }
+    {
+        let mut others = self.layer(Layer::NoParams)?;
+        let mut at = params.len();
+        while at > 0 {
+            at -= 1;
+            others = self.param(&params[at], others)?;
+        }
+        Ok(others)
+    }
+
+    /// The number of the layer of a parameter before others.
+    fn param(&mut self, param: &LabelledType<'a>, others: usize) -> Result<usize, AllocError>
+        ensures ok { IfOk result (λ number. (params : List Param) → IsParams self.old.texts self.old.layers others params → IsParams self.new.texts self.new.layers number (closed_param param.now ∷ params)) }
+        ensures grows { Grows self.old self.new }
+    {
+        let label = self.name(param.label)?;
+        let number = self.layer(Layer::Param {
+            label,
+            val_type: param.val_type,
+            others,
+        })?;
+        Ok(number)
+    }
+
+    /// The number of a layer.
+    pub(crate) fn layer(&mut self, layer: Layer) -> Result<usize, AllocError>
+        ensures ok { IfOk result (λ number. slice_get self.new.layers number ≡ Some layer) }
+        ensures grows { Grows self.old self.new }
+    {
+        Ok(self.layers.number_of(layer)?)
+    }
+
+    /// Adds a function type, and answers its number.
+    fn add_func(&mut self, alloc: Global, func_type: FuncType) -> Result<usize, AllocError>
+        ensures ok { IfOk result (λ number. slice_get self.new.funcs number ≡ Some func_type) }
+        ensures grows { Grows self.old self.new }
+    {
+        let number = self.funcs.len();
+        let func_type = Shared::new(alloc, func_type)?;
+        self.funcs.push(func_type)?;
+        Ok(number)
+    }
+
+    /// Adds a listing of exports, and answers its number.
+    pub(crate) fn add_instance(&mut self, externs: Listing<ExternRef>) -> Result<usize, AllocError>
+        ensures ok { IfOk result (λ number. slice_get self.new.instances number ≡ Some externs) }
+        ensures grows { Grows self.old self.new }
+    {
+        let number = self.instances.len();
+        self.instances.push(externs)?;
+        Ok(number)
+    }
+
+    /// No text and no layer stands twice.
+    pub fn are_distinct(&self)
+        ensures { AreDistinct self.now.texts self.now.layers }
+    {
+        let _ = &self.layers;
+    }
+
+    /// How many types of instances were made.
+    pub fn instance_count(&self) -> usize
+        ensures { result ≡ length self.now.instances }
+    {
+        self.instances.len()
+    }
+
+    /// Whether two function types are the same.
+    pub fn same_func(&self, a: FuncTypeRef, b: FuncTypeRef) -> bool
+        ensures { (f g : FuncType) → IsFunc self.now a f → IsFunc self.now b g → (IsTrue result ↔ (f ≡ g)) }
+    {
+        // No layer stands twice.
+        let _ = &self.layers;
+        a.layer == b.layer
+    }
+
+    /// Whether two types of instances are the same.
+    pub fn same_instance(&self, a: InstanceTypeRef, b: InstanceTypeRef) -> bool
+        ensures { (f g : Externs) → IsInstanceType self.now a f → IsInstanceType self.now b g → (IsTrue result ↔ (f ≡ g)) }
+    {
+        // No layer stands twice.
+        let _ = &self.layers;
+        a.layer == b.layer
+    }
+
+    /// Whether two types are the same.
+    pub fn same_type(&self, a: TypeRef, b: TypeRef) -> bool
+        ensures { (f g : Closed) → IsType self.now a f → IsType self.now b g → (IsTrue result ↔ (f ≡ g)) }
+    {
+        // No layer stands twice.
+        let _ = &self.layers;
+        a.layer() == b.layer()
+    }
+
+    /// A function type.
+    pub fn func(&self, func_type: FuncTypeRef) -> &Shared<FuncType>
+        requires { func_type.number < length self.now.funcs }
+        ensures { (f : FuncType) → IsFunc self.now func_type f → result.now ≡ f }
+    {
+        &self.funcs[func_type.number]
+    }
+
+    /// A function type, where its number is there.
+    pub fn func_at(&self, func_type: FuncTypeRef) -> Option<&Shared<FuncType>>
+        ensures { (f : FuncType) → IsFunc self.now func_type f → MatchOption result ⊥ (λ t. t.now ≡ f) }
+    {
+        self.funcs.get(func_type.number)
+    }
+
+    /// The export of a name: of equal names the first.
+    pub fn extern_named(&self, instance_type: InstanceTypeRef, name: usize) -> Option<ExternRef>
+        requires { instance_type.number < length self.now.instances }
+        ensures { (externs : Externs) (text : List ℕ) → IsInstanceType self.now instance_type externs → IsName self.now name text → MayBeExtern self.now result (extern_named text externs) }
+    {
+        // No text stands twice.
+        let _ = &self.names;
+        self.listing(instance_type).find(name)
+    }
+
+    /// The number of the name and the export at a place.
+    pub fn extern_at(&self, instance_type: InstanceTypeRef, at: usize) -> Option<(usize, ExternRef)>
+        requires { instance_type.number < length self.now.instances }
+        ensures { (externs : Externs) → IsInstanceType self.now instance_type externs → MayBeEntry self.now result (slice_get (in_order externs) at) }
+    {
+        self.listing(instance_type).get(at)
+    }
+
+    /// How many exports there are.
+    pub fn extern_count(&self, instance_type: InstanceTypeRef) -> usize
+        requires { instance_type.number < length self.now.instances }
+        ensures { (externs : Externs) → IsInstanceType self.now instance_type externs → result ≡ length (in_order externs) }
+    {
+        self.listing(instance_type).len()
+    }
+
+    /// The listing of exports.
+    fn listing(&self, instance_type: InstanceTypeRef) -> &Listing<ExternRef>
+        requires { instance_type.number < length self.now.instances }
+        ensures { slice_get self.now.instances instance_type.number ≡ Some result.now }
+    {
+        &self.instances[instance_type.number]
+    }
+}
