@@ -1,0 +1,50 @@
+-- An instance type whose declarations are read (Component Model, Explainer.md, "Type Definitions"), beside its definition: the index
+-- spaces so far, the names of its exports so far, and what its declarations tell.
+use Rattle.std.specs.Prelude.{◌≡◌, ℕ, Bool, ◌&&◌, cond, List, Option, None}
+use Rattle.std.specs.Option.{option_map}
+use Rattle.std.specs.List.{AllZip}
+use denote.Ref.{Bor}
+use Rattle.ca_base.specs.Names.{has, is_among}
+use Rattle.comp_reader.specs.declared.component.InstanceDecl.{InstanceDecl}
+use Rattle.comp_reader.specs.declared.component.DefType.TheFolds.{fold-InstanceDecl}
+use Rattle.comp_graph.specs.Closed.{Closed, Instance, Externs, first_of}
+use Rattle.comp_linking.specs.Definitions.{Closure}
+use Rattle.comp_linking.specs.Spaces as spaces
+use Rattle.comp_linking.specs.Types as types_read
+use Rattle.comp_linking.specs.Types.{Meaning, InLevels, type_step, decl_step}
+use Rattle.type_tables.specs.Table.{Table, IsInstanceType}
+use Rattle.type_tables.specs.Begun.{IsBegun}
+use Rattle.type_meanings.specs.declared.so_far.SoFar.{SoFar}
+use Rattle.type_meanings.specs.declared.declaring.Declared.{Declared}
+use Rattle.type_meanings.specs.Meant.{IsFoundAs, text_of}
+use Rattle.type_meanings.specs.Levels.{IsClosure, AreTypes}
+
+-- What is told so far.
+pub record IsSoFar (t : Table) (s : SoFar) (meaning : Meaning Externs) : Type 0 where
+  pub is_there : s.is_there ≡ meaning.is_there
+  pub missing : option_map text_of s.missing ≡ meaning.missing
+  pub means : IsFoundAs (IsBegun t) s.means meaning.means
+
+-- what one more declaration tells behind it
+abbrev pub told_more : SoFar → Bool → Option (Bor (List ℕ)) → Bool → SoFar
+told_more s is_there missing has_meaning = record {
+  is_there = s.is_there && is_there;
+  missing = first_of s.missing missing;
+  means = cond has_meaning s.means None;
+}
+
+-- what an instance type means whose declarations have told this
+abbrev pub as_instance : Meaning Externs → Meaning Closed
+as_instance m = record { is_there = m.is_there; missing = m.missing; means = option_map Instance m.means }
+
+-- The instance type so far.
+pub record IsDeclared (t : Table) (closures : List Closure) (d : Declared) (defined : types_read.Declared) : Type 0 where
+  pub types : AreTypes t d.types.items defined.types
+  pub components : AllZip (IsFoundAs (IsClosure closures)) d.components.items defined.components
+  pub instances : AllZip (IsFoundAs (IsInstanceType t)) d.instances.items defined.instances
+  pub names : (q : List ℕ) → has d.names q ≡ is_among q defined.names
+  pub so_far : IsSoFar t d.so_far defined.so_far
+
+-- what a declaration makes of an instance type, in these levels
+abbrev pub decl_makes : InstanceDecl → List spaces.Level → types_read.Declared → types_read.Declared
+decl_makes = fold-InstanceDecl InLevels (List spaces.Level → types_read.Declared → types_read.Declared) type_step decl_step

@@ -1,0 +1,4 @@
+pub mod Declaring
+pub mod Levels
+pub mod Meant
+pub mod References

@@ -1,0 +1,45 @@
+-- What references are (Component Model, Explainer.md, "Type Definitions"): values, types and instances among types and exports.
+use Rattle.std.specs.Prelude.{ℕ, Option, Some, None}
+use Rattle.comp_reader.specs.declared.component.Sort.{Sort}
+use Rattle.comp_reader.specs.declared.component.Sort.TheVariants as sorts
+use Rattle.comp_reader.specs.declared.component.ExternDesc.{ExternDesc}
+use Rattle.comp_reader.specs.declared.component.ExternDesc.TheVariants as desc
+use Rattle.type_tables.specs.declared.layers.ValueLayer.{ValueLayer}
+use Rattle.type_tables.specs.declared.refs.InstanceTypeRef.{InstanceTypeRef}
+use Rattle.type_tables.specs.declared.refs.TypeRef.{TypeRef}
+use Rattle.type_tables.specs.declared.refs.TypeRef.TheVariants as type_ref
+use Rattle.type_tables.specs.declared.refs.ExternRef.{ExternRef}
+use Rattle.type_tables.specs.declared.refs.ExternRef.TheVariants as extern_ref
+
+-- the type of values, if it is one
+abbrev pub value_ref : TypeRef → Option ValueLayer
+value_ref (type_ref.Value type) = Some type
+value_ref ref = None
+
+-- the type that an export is, and the type of the instance
+abbrev pub type_ref_in : Option ExternRef → Option TypeRef
+type_ref_in (Some (extern_ref.Type ref)) = Some ref
+type_ref_in item = None
+
+abbrev pub instance_ref_in : Option ExternRef → Option InstanceTypeRef
+instance_ref_in (Some (extern_ref.Instance ref)) = Some ref
+instance_ref_in item = None
+
+-- an export of a sort
+abbrev pub ref_of_sort : Sort → ExternRef → Option ExternRef
+ref_of_sort sorts.Func (extern_ref.Func ref) = Some (extern_ref.Func ref)
+ref_of_sort sorts.Type (extern_ref.Type ref) = Some (extern_ref.Type ref)
+ref_of_sort sorts.Instance (extern_ref.Instance ref) = Some (extern_ref.Instance ref)
+ref_of_sort sort item = None
+
+-- what an import or an export is to be: the index of its type, and what it is, where its type is this one
+abbrev pub desc_index : ExternDesc → ℕ
+desc_index (desc.Func index) = index
+desc_index (desc.TypeEq index) = index
+desc_index (desc.Instance index) = index
+
+abbrev pub described_ref : ExternDesc → TypeRef → Option ExternRef
+described_ref (desc.Func index) (type_ref.Func ref) = Some (extern_ref.Func ref)
+described_ref (desc.TypeEq index) ref = Some (extern_ref.Type ref)
+described_ref (desc.Instance index) (type_ref.Instance ref) = Some (extern_ref.Instance ref)
+described_ref asked ref = None

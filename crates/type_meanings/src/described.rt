@@ -1,0 +1,74 @@
+//! What imports and exports are to be.
+
+ghost use Rattle.std.specs.Prelude.{◌≡◌, ℕ, List, map, Some, Option};
+ghost use Rattle.std.specs.List.{slice_get, AllZip};
+ghost use Rattle.comp_graph.specs.Closed.{Closed};
+ghost use Rattle.comp_linking.specs.Types as types_read;
+ghost use Rattle.comp_linking.specs.Types.{desc_meaning};
+ghost use Rattle.type_tables.specs.Table.{Table, IsType, IsExtern};
+ghost use Rattle.type_meanings.specs.Meant.{IsMeaning};
+ghost use Rattle.type_meanings.specs.Levels.{AreTypes, enclosed_types};
+ghost use Rattle.type_meanings.specs.References.{desc_index, described_ref};
+
+use crate::levels::{Enclosing, Level};
+use crate::meant::Meant;
+use comp_reader::{ExternDesc, Sort};
+use type_tables::{ExternRef, TypeRef};
+
+/// The sort of what an export is to be.
+pub(crate) fn sort_of(desc: ExternDesc) -> Sort
+    ensures { result ≡ types_read.sort_of desc }
+{
+    match desc {
+        ExternDesc::Func(_) => Sort::Func,
+        ExternDesc::TypeEq(_) => Sort::Type,
+        ExternDesc::Instance(_) => Sort::Instance,
+    }
+}
+
+/// The index of its type.
+fn index_of(desc: ExternDesc) -> u32
+    ensures { result ≡ desc_index desc }
+{
+    match desc {
+        ExternDesc::Func(index) => index,
+        ExternDesc::TypeEq(index) => index,
+        ExternDesc::Instance(index) => index,
+    }
+}
+
+/// What it is to be, where its type is this one.
+fn extern_of(desc: ExternDesc, closed: TypeRef) -> Option<ExternRef>
+    ensures { result ≡ described_ref desc closed }
+{
+    match (desc, closed) {
+        (ExternDesc::Func(_), TypeRef::Func(func_type)) => Some(ExternRef::Func(func_type)),
+        (ExternDesc::TypeEq(_), _) => Some(ExternRef::Type(closed)),
+        (ExternDesc::Instance(_), TypeRef::Instance(instance_type)) => {
+            Some(ExternRef::Instance(instance_type))
+        }
+        (_, _) => None,
+    }
+}
+
+/// What an import or an export is to be, over the types of where it stands.
+pub(crate) fn described<'a>(scope: &Enclosing<'_>, desc: ExternDesc) -> Meant<'a, ExternRef>
+    ensures { (t : Table) (closed : List (Option Closed)) → AreTypes t (enclosed_types scope.now) closed → IsMeaning (IsExtern t) result (desc_meaning closed desc) }
+{
+    match scope.type_at(index_of(desc)) {
+        None => Meant::absent(),
+        Some(None) => Meant::there(None),
+        Some(Some(closed)) => Meant::there(extern_of(desc, closed)),
+    }
+}
+
+/// What an import or an export of a component instance with these types is to be.
+pub fn wanted<'a>(types: &[TypeRef], desc: ExternDesc) -> Meant<'a, ExternRef>
+    ensures { (t : Table) (closed : List Closed) → AllZip (IsType t) types.now closed → IsMeaning (IsExtern t) result (desc_meaning (map Some closed) desc) }
+{
+    let scope = Enclosing::Component(Level {
+        types,
+        components: &[],
+    });
+    described(&scope, desc)
+}
