@@ -1,8 +1,18 @@
-pub mod Behind
-pub mod Distinct
-pub mod Fit
-pub mod Graph
-pub mod Linked
-pub mod Named
-pub mod SoFar
-pub mod Spaces
+mod Calling
+pub mod CoreParts
+pub mod Growth
+mod Keeping
+pub mod LevelsSeen
+pub mod Loops
+pub mod NamedSteps
+mod Passing
+pub mod Scopes
+pub mod SeenTold
+pub mod SortsTold
+pub mod States
+pub mod Steps
+pub mod Told
+pub mod TypesAsked
+pub mod Wanting
+mod Whole
+pub mod Zips

@@ -1,4 +1,8 @@
-pub mod Exported
-pub mod Laws
-pub mod Root
-pub mod SoFar
+pub mod Called
+pub mod CoreParts
+pub mod Next
+pub mod Ready
+pub mod Running
+pub mod Sorts
+pub mod State
+pub mod Told

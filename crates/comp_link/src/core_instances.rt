@@ -1,115 +1,82 @@
 //! Linking of core instances.
 
-ghost use Rattle.std.specs.Prelude.{◌≡◌, ◌<◌, ◌&&◌, Some, None, Ok, Err, MatchResult, IfOk, nat_lt, length, map};
-ghost use Rattle.std.specs.List.{list_all, slice_get};
-ghost use Rattle.ca_base.specs.Faults.{IfFault};
+ghost use Rattle.std.specs.Prelude.{◌≡◌, ◌<◌, List, OnOk, IfOk, nat_lt, length, map};
+ghost use Rattle.std.specs.List.{list_all};
 ghost use Rattle.comp_reader.specs.declared.component.CoreInlineExport.{CoreInlineExport};
-ghost use Rattle.comp_reader.specs.declared.component.CoreArgument.{CoreArgument};
 ghost use Rattle.comp_reader.specs.declared.component.CoreInstance.TheVariants as made_core;
-ghost use Rattle.comp_linking.specs.Definitions.{extern_of};
-ghost use Rattle.comp_linking.specs.Spaces.{core_size};
-ghost use Rattle.comp_linking.specs.Tests as tests;
+ghost use Rattle.comp_linking.specs.Definitions.{Exports};
+ghost use Rattle.comp_linking.specs.Spaces.{Spaces, Linking, core_size};
 ghost use Rattle.comp_linking.specs.Computed as computed;
-ghost use Rattle.comp_linking.specs.Computed.{Makes, core_instance_outcome};
-ghost use Rattle.comp_link.specs.Root.{spaces_of, linking_of};
+ghost use Rattle.comp_linking.specs.Computed.{core_instance_outcome};
+ghost use Rattle.type_tables.specs.Table.{Table};
+ghost use Rattle.instance_tables.specs.References.{World};
+ghost use Rattle.comp_link.specs.State.{IsScope, IsAt, IsMade};
+ghost use Rattle.comp_link.specs.Told.{IsTold};
+ghost use Rattle.comp_link.specs.CoreParts.{inline_outcome};
 
-use crate::arguments::{all_found, are_there};
 use crate::link_fault::ItemError;
-use crate::root::Root;
-use ca_base::{MemoryOr, Named, Seq, first_twice};
-use comp_graph::CoreExtern;
+use crate::linker::Linker;
+use crate::scope::Scope;
+use ca_base::MemoryOr;
 use comp_linking::LinkWhy;
 use comp_reader::{CoreArgument, CoreInlineExport, CoreInstance};
-use core_exports::{CoreItem, InlineExport, InlineExports};
-use std::alloc::{AllocError, Global};
-use wasm_module::{Import, ModuleTree};
+use core_exports::{InlineExport, InlineExports, are_distinct, externs_of, imports_passed};
+use std::alloc::Global;
 
 /// How many core instances may be made of modules.
 const INSTANCE_LIMIT: usize = 256;
 
-/// Whether no name stands twice. It fails for want of memory alone.
-fn are_distinct<T: Named>(alloc: Global, items: &[T]) -> Result<bool, AllocError>
-    ensures { IfOk result (λ distinct. distinct ≡ tests.are_distinct (map T.name items.now)) }
+/// Links the instantiation of a core module.
+fn link_instantiation(
+    alloc: Global,
+    linker: &mut Linker<'_>,
+    n: usize,
+    index: u32,
+    arguments: &[CoreArgument],
+) -> Result<(), ItemError>
+    requires { n < length linker.old.scopes.items }
+    ensures made { (bases : List Exports) (l : Linking) (s : Spaces) → IsAt bases linker.old n l s → IsTold (λ _ outcome. IsMade linker.new outcome) result (core_instance_outcome l n s (made_core.Instantiate index arguments.now)) }
+    ensures scopes { OnOk result (length linker.new.scopes.items ≡ length linker.old.scopes.items) }
 {
-    Ok(first_twice(alloc, items)?.is_none())
+    let Some(made) = linker.module(n, index) else {
+        return Err(MemoryOr::Fault(LinkWhy::Index));
+    };
+    let made = made.share()?;
+    let instances = linker.scope(n).core_instances.as_slice();
+    let tree = made.get().valid().tree();
+    let items = imports_passed(alloc, instances, arguments, tree)?;
+    if linker.core_count() >= INSTANCE_LIMIT {
+        return Err(MemoryOr::Fault(LinkWhy::Limit));
+    }
+    let externs = externs_of(alloc, &items)?;
+    linker.add_core_instance(n, made, externs)?;
+    Ok(())
 }
 
-/// Whether each item is what its import asks for.
-#[tactic(auto, using(crate::proofs::Fit::none_fit, crate::proofs::Fit::one_fits, crate::proofs::Fit::one_less, crate::proofs::Fit::one_fits_not))]
-fn all_fit(tree: &ModuleTree, imports: &[Import], items: &[CoreItem]) -> bool
-    ensures { result ≡ tests.all_fit tree.now imports.now items.now }
+/// Whether what each inline export names is there.
+fn exports_are_there(scope: &Scope<'_>, read: &[CoreInlineExport]) -> bool
+    ensures { (t : Table) (w : World) (s : Spaces) → IsScope t w scope.now s → result ≡ list_all (λ (e : CoreInlineExport). nat_lt e.index (core_size s e.sort)) read.now }
 {
-    for at in 0..imports.len() {
-        let Some(item) = items.get(at) else {
-            return false;
-        };
-        if !item.fits(tree, imports[at].desc) {
+    for export in read {
+        if (export.index as usize) >= scope.core_size(export.sort) {
             return false;
         }
     }
     true
 }
 
-/// The items without their types.
-fn externs_of(alloc: Global, items: &[CoreItem]) -> Result<Seq<CoreExtern>, AllocError>
-    ensures { IfOk result (λ s. s ≡ map extern_of items.now) }
-{
-    let mut externs = Seq::new(alloc);
-    for item in items {
-        externs.push(item.core_extern())?;
-    }
-    Ok(externs)
-}
-
-/// Links the instantiation of a core module.
-fn link_instantiation<'a>(
-    alloc: Global,
-    index: u32,
-    arguments: &[CoreArgument],
-    root: &mut Root<'a>,
-) -> Result<(), ItemError>
-    ensures { MatchResult result (λ _. core_instance_outcome (linking_of root.old) 0 (spaces_of root.old) (made_core.Instantiate index arguments.now) ≡ Ok (Makes (linking_of root.new))) (λ e. IfFault e (λ w. core_instance_outcome (linking_of root.old) 0 (spaces_of root.old) (made_core.Instantiate index arguments.now) ≡ Err w)) }
-{
-    let Some(made) = root.core_module(index) else {
-        return Err(MemoryOr::Fault(LinkWhy::Index));
-    };
-    let made = made.share()?;
-    if !are_there(root, arguments) {
-        return Err(MemoryOr::Fault(LinkWhy::Index));
-    }
-    let tree = made.get().valid().tree();
-    let imports = tree.imports.as_slice();
-    let items = all_found(alloc, root, arguments, imports)?;
-    if !(are_distinct(alloc, arguments)? && all_fit(tree, imports, &items)) {
-        return Err(MemoryOr::Fault(LinkWhy::Typing));
-    }
-    if root.cores.len() >= INSTANCE_LIMIT {
-        return Err(MemoryOr::Fault(LinkWhy::Limit));
-    }
-    let externs = externs_of(alloc, &items)?;
-    root.add_core_instance(made, externs)?;
-    Ok(())
-}
-
-/// Whether what each inline export names is there.
-fn exports_are_there(root: &Root, read: &[CoreInlineExport]) -> bool
-    ensures { result ≡ list_all (λ (e : CoreInlineExport). nat_lt e.index (core_size (spaces_of root.now) e.sort)) read.now }
-{
-    read.iter().all(|export| (export.index as usize) < root.core_size(export.sort))
-}
-
 /// The inline exports, where each of them is a core item.
-#[tactic(auto, using(crate::proofs::Behind::behind_none, crate::proofs::Behind::one_inline, crate::proofs::Behind::not_inline, crate::proofs::Behind::all_inline))]
 fn inline_exports<'a>(
     alloc: Global,
-    root: &Root<'a>,
+    scope: &Scope<'a>,
     read: &'a [CoreInlineExport],
 ) -> Result<Vec<InlineExport<'a>>, ItemError>
-    ensures { MatchResult result (λ v. computed.inline_exports (spaces_of root.now) read.now ≡ Ok v.items) (λ e. IfFault e (λ w. computed.inline_exports (spaces_of root.now) read.now ≡ Err w)) }
+    ensures told { (t : Table) (w : World) (s : Spaces) → IsScope t w scope.now s → IsTold (λ v exports. v.items ≡ exports) result (computed.inline_exports s read.now) }
+    ensures names { IfOk result (λ v. map (λ e. e.name) v.items ≡ map (λ e. e.name) read.now) }
 {
     let mut exports = Vec::new(alloc);
     for export in read {
-        match root.core_item(export.sort, export.index) {
+        match scope.core_item(export.sort, export.index) {
             Some(item) => exports.push(InlineExport::new(&export.name, item))?,
             None => return Err(MemoryOr::Fault(LinkWhy::Typing)),
         }
@@ -117,40 +84,56 @@ fn inline_exports<'a>(
     Ok(exports)
 }
 
-/// Links a core instance of inline exports.
-#[tactic(auto, using(crate::proofs::Behind::inline_names))]
-fn link_inline<'a>(
+/// The core instance of some inline exports.
+fn inline<'a>(
     alloc: Global,
+    scope: &Scope<'a>,
     read: &'a [CoreInlineExport],
-    root: &mut Root<'a>,
-) -> Result<(), ItemError>
-    ensures { MatchResult result (λ _. core_instance_outcome (linking_of root.old) 0 (spaces_of root.old) (made_core.Inline read.now) ≡ Ok (Makes (linking_of root.new))) (λ e. IfFault e (λ w. core_instance_outcome (linking_of root.old) 0 (spaces_of root.old) (made_core.Inline read.now) ≡ Err w)) }
+) -> Result<InlineExports<'a>, ItemError>
+    ensures { (t : Table) (w : World) (s : Spaces) → IsScope t w scope.now s → IsTold (λ i exports. i ≡ exports) result (inline_outcome s read.now) }
 {
-    if !exports_are_there(root, read) {
+    if !exports_are_there(scope, read) {
         return Err(MemoryOr::Fault(LinkWhy::Index));
     }
     if !are_distinct(alloc, read)? {
         return Err(MemoryOr::Fault(LinkWhy::Typing));
     }
-    let exports = inline_exports(alloc, root, read)?;
+    let exports = inline_exports(alloc, scope, read)?;
     let exports = InlineExports::new(alloc, read, exports)?;
-    root.add_inline(exports)?;
+    Ok(exports)
+}
+
+/// Links a core instance of inline exports.
+fn link_inline<'a>(
+    alloc: Global,
+    linker: &mut Linker<'a>,
+    n: usize,
+    read: &'a [CoreInlineExport],
+) -> Result<(), ItemError>
+    requires { n < length linker.old.scopes.items }
+    ensures made { (bases : List Exports) (l : Linking) (s : Spaces) → IsAt bases linker.old n l s → IsTold (λ _ outcome. IsMade linker.new outcome) result (core_instance_outcome l n s (made_core.Inline read.now)) }
+    ensures scopes { OnOk result (length linker.new.scopes.items ≡ length linker.old.scopes.items) }
+{
+    let exports = inline(alloc, linker.scope(n), read)?;
+    linker.add_inline(n, exports)?;
     Ok(())
 }
 
 /// Links a core instance.
 pub fn link_core_instance<'a>(
     alloc: Global,
+    linker: &mut Linker<'a>,
+    n: usize,
     made: &'a CoreInstance,
-    root: &mut Root<'a>,
 ) -> Result<(), ItemError>
-    ensures { MatchResult result (λ _. core_instance_outcome (linking_of root.old) 0 (spaces_of root.old) made.now ≡ Ok (Makes (linking_of root.new))) (λ e. IfFault e (λ w. core_instance_outcome (linking_of root.old) 0 (spaces_of root.old) made.now ≡ Err w)) }
+    requires { n < length linker.old.scopes.items }
+    ensures made { (bases : List Exports) (l : Linking) (s : Spaces) → IsAt bases linker.old n l s → IsTold (λ _ outcome. IsMade linker.new outcome) result (core_instance_outcome l n s made.now) }
+    ensures scopes { OnOk result (length linker.new.scopes.items ≡ length linker.old.scopes.items) }
 {
     match made {
         CoreInstance::Instantiate { module, arguments } => {
-            link_instantiation(alloc, *module, arguments.as_slice(), root)?
+            link_instantiation(alloc, linker, n, *module, arguments.as_slice())
         }
-        CoreInstance::Inline(read) => link_inline(alloc, read.as_slice(), root)?,
+        CoreInstance::Inline(read) => link_inline(alloc, linker, n, read.as_slice()),
     }
-    Ok(())
 }

@@ -1,142 +1,223 @@
 //! Linking: from a component to its graph, or to the first item that has no meaning.
 
-ghost use Rattle.std.specs.Prelude.{◌≡◌, ◌≤◌, true, length, Ok, Err, MatchResult, IfOk, IfErr};
+ghost use Rattle.std.specs.Prelude.{◌≡◌, ◌<◌, ◌≤◌, ◌+◌, ◌∷◌, List, length, Some, Ok, IfOk, IfErr, OnOk};
 ghost use Rattle.ca_base.specs.Faults.{IfFault};
-ghost use Rattle.ca_base.specs.Names.{AreDistinct};
-ghost use Rattle.comp_graph.specs.Graph.{core_instance_limit, instance_limit, names};
-ghost use Rattle.comp_linking.specs.Spaces.{Linking};
-ghost use Rattle.comp_linking.specs.Items.{item_makes};
-ghost use Rattle.comp_linking.specs.Linked.{graph_of};
-ghost use Rattle.comp_linking.specs.Computed.{Makes, item_outcome};
-ghost use Rattle.comp_link.specs.SoFar.{IsLinkedSoFar, IsRefusedSoFar, IsStopped, is_plain, is_linked_so_far};
-ghost use Rattle.comp_link.specs.Root.{spaces_of, linking_of};
+ghost use Rattle.comp_graph.specs.Graph.{instance_limit, core_instance_limit};
+ghost use Rattle.comp_linking.specs.Definitions.{Exports, AComponent, AModule};
+ghost use Rattle.comp_linking.specs.Spaces.{Spaces, Linking};
+ghost use Rattle.comp_linking.specs.Linked.{begun, with_instance, IsLinked, IsLinkRefused};
+ghost use Rattle.comp_linking.specs.Computed.{Outcome, after, one_more, item_outcome, run_within, step};
+ghost use Rattle.instance_tables.specs.References.{IsInstance};
+ghost use Rattle.comp_link.specs.State.{world_of, IsState, IsAt, IsMade};
+ghost use Rattle.comp_link.specs.State as state;
+ghost use Rattle.comp_link.specs.Told.{IsTold};
+ghost use Rattle.comp_link.specs.Next.{IsNext};
+ghost use Rattle.comp_link.specs.Running.{inside, placed_error, next_of};
 
+use crate::aliases::link_alias;
 use crate::core_instances::link_core_instance;
-use crate::definition::Nested;
-use crate::items::{import_why, link_alias, link_export, link_lift, link_type};
+use crate::exports::link_export;
+use crate::graphs::graph_of;
+use crate::imports::link_import;
+use crate::instances::{Next, link_instance};
+use crate::lifts::link_lift;
 use crate::link_fault::{ItemError, LinkError};
-use crate::root::Root;
+use crate::linker::{Linker, ROOT};
+use crate::types::link_type;
 use ca_base::{MemoryOr, Placed, Seq};
 use ca_types::Shared;
 use comp_graph::Graph;
 use comp_linking::{LinkFault, LinkWhy};
-use comp_reader::{Canon, Component, DefType, Item};
+use comp_reader::{Canon, Component, Item};
 use core_exports::CoreModule;
-use std::alloc::{AllocError, Global};
+use instance_tables::InstanceRef;
+use std::alloc::Global;
+use wasm_valid::Valid;
 
-/// Whether a type is linked so far: one of values or functions.
-fn is_plain(def_type: &DefType) -> bool
-    ensures { result ≡ is_plain def_type.now }
+/// How many component instances may begin.
+const INSTANCE_LIMIT: usize = 256;
+
+/// Adds a core module.
+fn link_core_module<'a>(
+    alloc: Global,
+    linker: &mut Linker<'a>,
+    n: usize,
+    valid: &'a Valid,
+) -> Result<(), ItemError>
+    requires { n < length linker.old.scopes.items }
+    ensures made { (bases : List Exports) (l : Linking) (s : Spaces) → IsAt bases linker.old n l s → IsTold (λ _ outcome. IsMade linker.new outcome) result (Ok (one_more l n s (AModule valid.now))) }
+    ensures scopes { OnOk result (length linker.new.scopes.items ≡ length linker.old.scopes.items) }
 {
-    match def_type {
-        DefType::Value(_) | DefType::Func(_) => true,
-        DefType::Instance(_) => false,
+    let made = Shared::new(alloc, CoreModule::new(alloc, valid)?)?;
+    linker.add_module(n, made)?;
+    Ok(())
+}
+
+/// Adds a component.
+fn link_component<'a>(
+    alloc: Global,
+    linker: &mut Linker<'a>,
+    n: usize,
+    component: &'a Component,
+) -> Result<(), ItemError>
+    requires { n < length linker.old.scopes.items }
+    ensures made { (bases : List Exports) (l : Linking) (s : Spaces) → IsAt bases linker.old n l s → IsTold (λ _ outcome. IsMade linker.new outcome) result (Ok (one_more l n s (AComponent (record { items = component.now.items; around = n ∷ s.around })))) }
+    ensures scopes { OnOk result (length linker.new.scopes.items ≡ length linker.old.scopes.items) }
+{
+    linker.add_component(alloc, n, component)?;
+    Ok(())
+}
+
+/// What comes next where an item made what it makes.
+fn next<'a>(made: Result<(), ItemError>) -> Result<Next<'a>, ItemError>
+    ensures { result ≡ next_of made }
+{
+    match made {
+        Ok(()) => Ok(Next::Made),
+        Err(error) => Err(error),
     }
 }
 
-/// Whether an item is linked so far.
-fn is_linked_so_far(item: &Item) -> bool
-    ensures { result ≡ is_linked_so_far item.now }
+/// Links an item.
+fn link_item<'a>(
+    alloc: Global,
+    linker: &mut Linker<'a>,
+    n: usize,
+    item: &'a Item,
+) -> Result<Next<'a>, ItemError>
+    requires { n < length linker.old.scopes.items }
+    ensures made { (bases : List Exports) (l : Linking) (s : Spaces) → IsAt bases linker.old n l s → IsTold (IsNext linker.new l) result (item_outcome l n s item.now) }
+    ensures scopes { OnOk result (length linker.new.scopes.items ≡ length linker.old.scopes.items) }
 {
     match item {
-        Item::Instance(_) => false,
-        Item::Type(def_type) => is_plain(def_type),
-        Item::Export(export) => export.desc.is_none(),
-        Item::CoreModule(_) => true,
-        Item::CoreInstance(_) => true,
-        Item::Component(_) => true,
-        Item::Alias(_) => true,
-        Item::Canon(_) => true,
-        Item::Import(_) => true,
-    }
-}
-
-/// Links an item that is linked so far. Nothing is made of a component in the root, which is not instantiated yet.
-fn link_item<'a>(alloc: Global, item: &'a Item, root: &mut Root<'a>) -> Result<(), ItemError>
-    requires { is_linked_so_far item.now ≡ true }
-    ensures { MatchResult result (λ _. item_outcome (linking_of root.old) 0 (spaces_of root.old) item.now ≡ Ok (Makes (linking_of root.new))) (λ e. IfFault e (λ w. item_outcome (linking_of root.old) 0 (spaces_of root.old) item.now ≡ Err w)) }
-{
-    match item {
-        Item::CoreModule(valid) => {
-            root.add_core_module(Shared::new(alloc, CoreModule::new(alloc, valid)?)?)?
-        }
-        Item::CoreInstance(made) => link_core_instance(alloc, made, root)?,
-        Item::Component(component) => root.add_component(Nested::new(component))?,
-        Item::Instance(_) => unreachable!(),
-        Item::Alias(alias) => link_alias(alloc, alias, root)?,
-        Item::Type(def_type) => link_type(alloc, def_type, root)?,
+        Item::CoreModule(valid) => next(link_core_module(alloc, linker, n, valid)),
+        Item::CoreInstance(made) => next(link_core_instance(alloc, linker, n, made)),
+        Item::Component(component) => next(link_component(alloc, linker, n, component)),
+        Item::Instance(instance) => link_instance(alloc, linker, n, instance),
+        Item::Alias(alias) => next(link_alias(alloc, linker, n, alias)),
+        Item::Type(def_type) => next(link_type(alloc, linker, n, def_type)),
         Item::Canon(
             Canon::Lift {
                 core_func,
                 func_type,
             },
-        ) => link_lift(*core_func, *func_type, root)?,
-        Item::Import(import) => return Err(MemoryOr::Fault(import_why(import, root))),
-        Item::Export(export) => link_export(export, root)?,
+        ) => next(link_lift(linker, n, *core_func, *func_type)),
+        Item::Import(import) => next(link_import(alloc, linker, n, import)),
+        Item::Export(export) => next(link_export(alloc, linker, n, export)),
+    }
+}
+
+/// A reason at a place.
+fn at_place(place: usize, error: ItemError) -> LinkError
+    ensures { result ≡ placed_error place error }
+{
+    match error {
+        MemoryOr::Memory => MemoryOr::Memory,
+        MemoryOr::Fault(why) => MemoryOr::Fault(LinkFault { place, why }),
+    }
+}
+
+/// Links an item, and the items of the component that it instantiates, if it instantiates one. So many more component instances
+/// may begin in one another.
+#[cycle(items)]
+fn link_placed<'a>(
+    alloc: Global,
+    linker: &mut Linker<'a>,
+    n: usize,
+    placed: &'a Placed<Item>,
+    depth: usize,
+) -> Result<(), LinkError>
+    requires { n < length linker.old.scopes.items }
+    ensures told { (bases : List Exports) (l : Linking) (s : Spaces) → IsAt bases linker.old n l s → IsTold (λ _ next. state.Stands linker.new next) result (step (inside depth) l n placed.now (Some s)) }
+    ensures scopes { OnOk result (length linker.old.scopes.items ≤ length linker.new.scopes.items) }
+{
+    match link_item(alloc, linker, n, &placed.item) {
+        Ok(Next::Made) => Ok(()),
+        Ok(
+            Next::Begins {
+                component,
+                around,
+                arguments,
+            },
+        ) => link_nested(alloc, linker, n, component, around, arguments, depth),
+        Err(error) => Err(at_place(placed.place, error)),
+    }
+}
+
+/// Begins an instance of a component, links its items, and adds the instance.
+#[cycle(items)]
+fn link_nested<'a>(
+    alloc: Global,
+    linker: &mut Linker<'a>,
+    n: usize,
+    component: &'a Component,
+    around: Shared<Seq<usize>>,
+    arguments: InstanceRef,
+    depth: usize,
+) -> Result<(), LinkError>
+    requires { n < length linker.old.scopes.items }
+    ensures told { (bases : List Exports) (l : Linking) (s : Spaces) (given : Exports) → IsAt bases linker.old n l s → IsInstance linker.old.types (world_of bases linker.old) arguments given → IsTold (λ _ next. state.Stands linker.new next) result (after (inside depth (begun l (record { items = component.now.items; around = around }) given) (length l.scopes) component.now.items) (λ inner. Ok (with_instance inner n s (length l.scopes)))) }
+    ensures scopes { OnOk result (length linker.old.scopes.items ≤ length linker.new.scopes.items) }
+{
+    let instance = linker.scopes.len();
+    linker.begin(alloc, around, arguments)?;
+    link_inside(alloc, linker, instance, component.items.as_slice(), depth)?;
+    linker.end(alloc, n, instance)?;
+    Ok(())
+}
+
+/// Links the items of a component that begins: none, where no component instance may begin.
+#[cycle(items)]
+fn link_inside<'a>(
+    alloc: Global,
+    linker: &mut Linker<'a>,
+    n: usize,
+    items: &'a [Placed<Item>],
+    depth: usize,
+) -> Result<(), LinkError>
+    requires { n < length linker.old.scopes.items }
+    ensures told { (bases : List Exports) (l : Linking) → IsState bases linker.old l → IsTold (λ _ last. state.Stands linker.new last) result (inside depth l n items.now) }
+    ensures scopes { OnOk result (length linker.old.scopes.items ≤ length linker.new.scopes.items) }
+{
+    if depth == 0 {
+        return Ok(());
+    }
+    link_items(alloc, linker, n, items, depth - 1)
+}
+
+/// Links items in a component instance, one behind the other.
+#[cycle(items)]
+fn link_items<'a>(
+    alloc: Global,
+    linker: &mut Linker<'a>,
+    n: usize,
+    items: &'a [Placed<Item>],
+    depth: usize,
+) -> Result<(), LinkError>
+    requires { n < length linker.old.scopes.items }
+    ensures told { (bases : List Exports) (l : Linking) → IsState bases linker.old l → IsTold (λ _ last. state.Stands linker.new last) result (run_within depth l n items.now) }
+    ensures scopes { OnOk result (length linker.old.scopes.items ≤ length linker.new.scopes.items) }
+{
+    for placed in items {
+        link_placed(alloc, linker, n, placed, depth)?;
     }
     Ok(())
 }
 
-/// Links an item, or tells where it is refused.
-#[tactic(auto, using(crate::proofs::Linked::made_next, crate::proofs::Linked::stopped_by, crate::proofs::Linked::stopped_not_yet))]
-fn link_placed<'a>(
-    alloc: Global,
-    placed: &'a Placed<Item>,
-    root: &mut Root<'a>,
-) -> Result<(), LinkError>
-    ensures { MatchResult result (λ _. (is_linked_so_far placed.now.item ≡ true) × item_makes (linking_of root.old) 0 (spaces_of root.old) placed.now.item (linking_of root.new)) (λ e. IfFault e (λ fault. IsStopped (linking_of root.old) (spaces_of root.old) placed.now fault)) }
-{
-    let place = placed.place;
-    if !is_linked_so_far(&placed.item) {
-        let why = LinkWhy::Limit;
-        return Err(MemoryOr::Fault(LinkFault { place, why }));
-    }
-    match link_item(alloc, &placed.item, root) {
-        Ok(()) => Ok(()),
-        Err(MemoryOr::Memory) => Err(MemoryOr::Memory),
-        Err(MemoryOr::Fault(why)) => Err(MemoryOr::Fault(LinkFault { place, why })),
-    }
-}
-
-/// The graph of what is linked. It fails for want of memory alone.
-#[tactic(auto, using(crate::proofs::Graph::funcs_are, crate::proofs::Graph::lifts_are, crate::proofs::Graph::as_many))]
-fn graph_of<'a>(alloc: Global, root: Root<'a>) -> Result<Graph<'a>, AllocError>
-    requires { length (linking_of root).cores ≤ core_instance_limit }
-    ensures { IfOk result (λ g. g ≡ graph_of (linking_of root.entry)) }
-{
-    let funcs = root.exports.funcs(alloc)?;
-    let lifts = root.exports.lifts(alloc)?;
-    Ok(Graph::new(
-        Seq::from_vec(root.plan),
-        1,
-        root.cores,
-        Seq::from_vec(funcs),
-        Seq::from_vec(lifts),
-    ))
-}
-
 /// Links a component (Component Model, Explainer.md and CanonicalABI.md).
 ///
-/// It answers the graph that the component is linked to, or the first item that has no meaning or is not linked yet, with its
-/// place and the reason. `Memory` is want of memory.
-#[tactic(auto, using(crate::proofs::Linked::none_so_far, crate::proofs::Linked::one_so_far, crate::proofs::Linked::stops_at, crate::proofs::Linked::all_so_far))]
+/// It answers the graph that the component is linked to, or the first item that has no meaning, with its place and the reason.
+/// `Memory` is want of memory.
 pub fn link<'a>(alloc: Global, component: &'a Component) -> Result<Graph<'a>, LinkError>
-    // What is answered is the component's graph, and all its items are linked so far.
-    ensures ok { IfOk result (λ g. IsLinkedSoFar component.now g) }
-    // What is refused is the first item that has a reason against it or is not linked yet.
-    ensures refused { IfErr result (λ e. IfFault e (λ fault. IsRefusedSoFar component.now fault)) }
-    // No two exports have one name.
-    ensures distinct { IfOk result (λ g. AreDistinct (names g.exports)) }
-    // One component instance begins, the root.
-    ensures one_instance { IfOk result (λ g. g.instance_count ≡ 1) }
+    // What is answered is the component's graph.
+    ensures ok { IfOk result (λ g. IsLinked component.now g) }
+    // What is refused is the first item that has a reason against it, those of components that are instantiated among them.
+    ensures refused { IfErr result (λ e. IfFault e (λ fault. IsLinkRefused component.now fault)) }
     // There are at most 256 component instances, and at most 256 core instances.
     ensures few { IfOk result (λ g. (g.instance_count ≤ instance_limit) × (length g.cores ≤ core_instance_limit)) }
 {
-    let mut root = Root::new(alloc)?;
-    for placed in component.items.as_slice() {
-        if let Err(error) = link_placed(alloc, placed, &mut root) {
-            return Err(error);
-        }
-    }
-    Ok(graph_of(alloc, root)?)
+    let mut linker = Linker::new(alloc)?;
+    let items = component.items.as_slice();
+    link_items(alloc, &mut linker, ROOT, items, INSTANCE_LIMIT)?;
+    Ok(graph_of(alloc, linker)?)
 }

@@ -1,1 +1,4 @@
+pub mod Behind
+pub mod Fit
 pub mod Named
+pub mod Passed

@@ -7,14 +7,27 @@
 //! - `core_item`: definitions of core instances with their types, and what imports ask for
 //! - `core_module`: core modules, with their index spaces and their exports by name
 //! - `inline_exports` and `exports`: what core instances export
+//! - `arguments` and `imports`: what a core module that is instantiated is passed for its imports
+//! - `aliases`: what an alias of an export of a core instance stands for
+//! - `flat`: whether the core function of a lift has the flat type
+//! - `names`: names that stand twice, and names that are not there
 #![tactic(auto)]
 
+mod aliases;
+mod arguments;
 mod core_item;
 mod core_module;
 mod exports;
+mod flat;
+mod imports;
 mod inline_exports;
+mod names;
 
+pub use aliases::aliased;
 pub use core_item::CoreItem;
 pub use core_module::CoreModule;
 pub use exports::CoreExports;
+pub use flat::is_flat;
+pub use imports::{externs_of, imports_passed};
 pub use inline_exports::{InlineExport, InlineExports};
+pub use names::{are_distinct, missing};

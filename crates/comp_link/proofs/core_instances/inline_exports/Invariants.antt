@@ -1,9 +1,15 @@
--- What is left of the exports is there behind those that are.
-use Rattle.std.proofs.Common.{◌≡◌, drop}
+-- What is left of the exports is there behind those that are; these have the names that are read.
+use Rattle.std.proofs.Common.{◌≡◌, drop, take, map}
+use Rattle.comp_linking.specs.Spaces.{Spaces}
 use Rattle.comp_linking.specs.Computed.{inline_exports}
-use Rattle.comp_link.specs.Root.{spaces_of}
-use Rattle.comp_link.proofs.Behind.{behind}
+use Rattle.type_tables.specs.Table.{Table}
+use Rattle.instance_tables.specs.References.{World}
+use Rattle.core_exports.proofs.Behind.{behind}
+use Rattle.comp_link.specs.State.{IsScope}
 use Rattle.comp_link.proofs.core_instances.inline_exports.Given as goal
 
 abbrev pub invariant-loop-export : goal.invariant-loop-export
-invariant-loop-export l = inline_exports (spaces_of l.fn.root) l.read ≡ behind l.exports.items (inline_exports (spaces_of l.fn.root) (drop l.export-index l.read))
+invariant-loop-export l = record {
+  told : (t : Table) (w : World) (s : Spaces) → IsScope t w l.fn.scope s → inline_exports s l.read ≡ behind l.exports.items (inline_exports s (drop l.export-index l.read));
+  names : map (λ e. e.name) l.exports.items ≡ map (λ e. e.name) (take l.export-index l.read);
+}

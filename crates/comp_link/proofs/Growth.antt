@@ -1,0 +1,54 @@
+-- Index spaces stand for what they stood for, where the tables grow.
+use Rattle.std.proofs.Common.{◌≡◌, ℕ, Option, Some, None}
+use Rattle.wasm_module.specs.declared.module.ModuleTree.{ModuleTree}
+use Rattle.comp_graph.specs.Closed.{Closed}
+use Rattle.comp_linking.specs.Definitions.{Lifted, Closure, Exports}
+use Rattle.comp_linking.specs.Spaces.{Spaces}
+use Rattle.type_tables.specs.declared.refs.TypeRef.{TypeRef}
+use Rattle.type_tables.specs.Table.{Table, Grows, IsType}
+use Rattle.type_tables.proofs.TypesGrow.{func_stays, type_stays}
+use Rattle.instance_tables.specs.declared.references.InstanceRef.{InstanceRef}
+use Rattle.instance_tables.specs.declared.references.LiftedRef.{LiftedRef}
+use Rattle.instance_tables.specs.declared.pairs.Pair.{Pair}
+use Rattle.instance_tables.specs.declared.instances.Instances.{Instances}
+use Rattle.instance_tables.specs.References.{World, IsInstance, IsLifted, WorldStays}
+use Rattle.instance_tables.specs.Instances.{AreInstances}
+use Rattle.instance_tables.proofs.Growing.{instance_stays, listing_stays, bases_stay, known_stays}
+use Rattle.comp_link.specs.declared.scope.Scope.{Scope}
+use Rattle.comp_link.specs.State.{IsClosure, IsModule, AreGiven, IsScope}
+use Rattle.comp_link.proofs.Zips.{zips_weaker}
+
+module _ (t u : Table) (v w : World) (types : Grows t u) (world : WorldStays v w) where
+  lifted_stays : (ref : LiftedRef) (f : Lifted) → IsLifted t ref f → IsLifted u ref f
+  lifted_stays ref f h = record { instance = h.instance; core = h.core; func_type = func_stays t u types ref.func_type f.func_type h.func_type }
+
+  given_stays : (o : Option InstanceRef) (given : Option Exports) → AreGiven t v o given → AreGiven u w o given
+  given_stays None None h = tt
+  given_stays None (Some exports) h = absurd h
+  given_stays (Some i) None h = absurd h
+  given_stays (Some i) (Some exports) h = instance_stays t u v w types world i exports h
+
+  pub scope_stays : (scope : Scope) (s : Spaces) → IsScope t v scope s → IsScope u w scope s
+  scope_stays scope s h = record {
+    core_modules = zips_weaker (IsModule v) (IsModule w) (λ (n : ℕ) (m : ModuleTree). world.modules n m) scope.core_modules.items s.core_modules h.core_modules;
+    core_instances = h.core_instances;
+    core_funcs = h.core_funcs;
+    core_tables = h.core_tables;
+    core_memories = h.core_memories;
+    core_globals = h.core_globals;
+    components = zips_weaker (IsClosure v) (IsClosure w) (λ (n : ℕ) (c : Closure). world.components n c) scope.components.items s.components h.components;
+    instances = zips_weaker (IsInstance t v) (IsInstance u w) (λ (i : InstanceRef) (exports : Exports). instance_stays t u v w types world i exports) scope.instances.items s.instances h.instances;
+    funcs = zips_weaker (IsLifted t) (IsLifted u) lifted_stays scope.funcs.items s.funcs h.funcs;
+    types = zips_weaker (IsType t) (IsType u) (λ (ref : TypeRef) (type : Closed). type_stays t u types ref type) scope.types.items s.types h.types;
+    imports = h.imports;
+    exports = listing_stays t u v w types world scope.exports s.exports h.exports;
+    export_names = h.export_names;
+    arguments = given_stays scope.arguments s.arguments h.arguments;
+    around = h.around;
+  }
+
+  pub instances_stay : (i : Instances) → w.bases ≡ v.bases → AreInstances t v i → AreInstances u w i
+  instances_stay i same h = record {
+    bases = bases_stay t u v w types world i.bases.items same h.bases;
+    known = λ (p : Pair) has. known_stays t u v w types world p (h.known p has);
+  }

@@ -1,0 +1,166 @@
+-- What is told of items that are gone through.
+use Rattle.std.proofs.Common.{◌≡◌, ◌<◌, ◌≤◌, ◌+◌, ℕ, zero, suc, List, [], ◌∷◌, length, drop, get_or, Bor, refl, sym, ◌∙◌, ap, subst, arith, Option, Some}
+use Rattle.std.specs.Prelude.{Result, Ok, Err}
+use Rattle.std.specs.List.{slice_get}
+use Rattle.std.proofs.lemmas.List.{drop_more, drop_all}
+use Rattle.std.proofs.lemmas.Slice.Zip.{AllZip-long}
+use Rattle.ca_base.specs.declared.placed.Placed.{Placed}
+use Rattle.ca_base.specs.declared.memory.MemoryOr.{MemoryOr}
+use Rattle.ca_base.specs.declared.memory.MemoryOr.TheVariants.{Memory, Fault}
+use Rattle.comp_reader.specs.declared.component.Item.{Item, out-Item}
+use Rattle.comp_reader.specs.declared.component.Item.TheOpen.{Item-F}
+use Rattle.comp_reader.specs.declared.component.Component.{Component}
+use Rattle.comp_linking.specs.declared.fault.LinkWhy.{LinkWhy}
+use Rattle.comp_linking.specs.declared.fault.LinkFault.{LinkFault}
+use Rattle.comp_linking.specs.Definitions.{Closure, Exports}
+use Rattle.comp_linking.specs.Spaces.{Spaces, Linking}
+use Rattle.comp_linking.specs.Linked.{begun, with_instance}
+use Rattle.comp_linking.specs.Computed.{after, Outcome, Makes, Starts, outcome_case, item_outcome, Run, behind, placed_at, step, run, run_within}
+use Rattle.instance_tables.specs.References.{IsInstance}
+use Rattle.instance_tables.specs.declared.references.InstanceRef.{InstanceRef}
+use Rattle.comp_link.specs.declared.linker.Linker.{Linker}
+use Rattle.comp_link.specs.declared.instances.Next.{Next}
+use Rattle.comp_link.specs.declared.instances.Next.TheVariants as next
+use Rattle.comp_link.specs.State.{world_of, IsScope, IsState, Stands, IsAt, IsMade}
+use Rattle.comp_link.specs.Told.{IsReason, IsTold}
+use Rattle.comp_link.specs.Next.{IsNext}
+use Rattle.comp_link.specs.Running.{inside, placed_error, next_of}
+use Rattle.comp_link.proofs.Keeping.{maker_stays}
+
+-- what calls answer that go on
+abbrev pub done : Result (Unit {0}) (MemoryOr LinkFault)
+done = Ok tt
+
+abbrev pub comes : Next → Result Next (MemoryOr LinkWhy)
+comes x = Ok x
+
+-- What is refused stays refused behind it, and at its place.
+pub reason_after : {A B W : Type 0} (e : MemoryOr W) (r : Result A W) (f : A → Result B W) → IsReason e r → IsReason e (after r f)
+reason_after Memory r f h = tt
+reason_after (Fault w) (Ok a) f h = absurd h
+reason_after (Fault w) (Err v) f h = h
+
+pub reason_placed : {A : Type 0} (place : ℕ) (e : MemoryOr LinkWhy) (r : Result A LinkWhy) → IsReason e r → IsReason (placed_error place e) (placed_at place r)
+reason_placed place Memory r h = tt
+reason_placed place (Fault w) (Ok a) h = absurd h
+reason_placed place (Fault w) (Err v) h = ap (λ (w : LinkWhy). (let f : LinkFault = record { place = place; why = w } in f)) h
+
+-- An item that made what it makes.
+pub next_told : (k : Linker) (l : Linking) (made : Result (Unit {0}) (MemoryOr LinkWhy)) (r : Result Outcome LinkWhy) → IsTold (λ _ outcome. IsMade k outcome) made r → IsTold (IsNext k l) (next_of made) r
+next_told k l (Ok _) (Ok (Makes new)) h = h
+next_told k l (Ok _) (Ok (Starts c given)) h = absurd h
+next_told k l (Ok _) (Err w) h = absurd h
+next_told k l (Err e) r h = h
+
+pub item_told : (k : Linker) (l : Linking) (n : ℕ) (s : Spaces) (item : Item) (shape : Item-F Item Component) → out-Item item ≡ shape → (made : Result (Unit {0}) (MemoryOr LinkWhy)) (x : Result Next (MemoryOr LinkWhy)) → x ≡ next_of made
+    → IsTold (λ _ outcome. IsMade k outcome) made (outcome_case l n s shape) → IsTold (IsNext k l) x (item_outcome l n s item)
+item_told k l n s item shape is made x e h =
+    subst (λ (x : Result Next (MemoryOr LinkWhy)). IsTold (IsNext k l) x (item_outcome l n s item)) (sym e)
+    (subst (λ (f : Item-F Item Component). IsTold (IsNext k l) (next_of made) (outcome_case l n s f)) (sym is) (next_told k l made (outcome_case l n s shape) h))
+
+-- A component instance that has begun is there.
+there_at : {A : Type 0} (xs : List A) (n : ℕ) → n < length xs → (x : A) × (slice_get xs n ≡ Some x)
+there_at [] n h = absurd (omega arith)
+there_at (x ∷ xs) zero h = (x, refl)
+there_at (x ∷ xs) (suc n) h = there_at xs n (omega arith)
+
+pub as_many : (bases : List Exports) (k : Linker) (l : Linking) → IsState bases k l → length l.scopes ≡ length k.scopes.items
+as_many bases k l h = AllZip-long (IsScope k.types (world_of bases k)) k.scopes.items l.scopes h.scopes
+
+pub spaces_at : (bases : List Exports) (k : Linker) (l : Linking) (n : ℕ) → IsState bases k l → n < length k.scopes.items → (s : Spaces) × IsAt bases k n l s
+spaces_at bases k l n h within =
+    let same = as_many bases k l h in
+    let s = there_at l.scopes n (omega (arith, same, within)) in
+    (s.0, record { state = h; there = s.1 })
+
+-- One item.
+
+module _ (within : Run) (k : Linker) (l : Linking) (n : ℕ) (s : Spaces) (place : ℕ) where
+  pub placed_made : (r : Result Outcome LinkWhy) → IsTold (IsNext k l) (comes next.Made) r → IsTold (λ _ new. Stands k new) done (after (placed_at place r) (behind within l n s))
+  placed_made (Ok (Makes new)) h = h
+  placed_made (Ok (Starts c given)) h = absurd h
+  placed_made (Err w) h = absurd h
+
+  pub placed_begins : (new : Linker) (answer : Result (Unit {0}) (MemoryOr LinkFault)) (component : Bor Component) (around : List ℕ) (arguments : InstanceRef) → slice_get l.scopes n ≡ Some s
+      → ((bases : List Exports) (given : Exports) → IsAt bases k n l s → IsInstance k.types (world_of bases k) arguments given
+      → IsTold (λ _ next. Stands new next) answer (after (within (begun l (record { items = component.now.items; around = around }) given) (length l.scopes) component.now.items) (λ inner. Ok (with_instance inner n s (length l.scopes)))))
+      → (r : Result Outcome LinkWhy) → IsTold (IsNext k l) (comes (next.Begins component around arguments)) r → IsTold (λ _ next. Stands new next) answer (after (placed_at place r) (behind within l n s))
+  placed_begins new answer component around arguments there nested (Ok (Makes made)) h = absurd h
+  placed_begins new answer component around arguments there nested (Ok (Starts c given)) (same, (bases, state, instance)) =
+      subst (λ (c : Closure). IsTold (λ _ next. Stands new next) answer (behind within l n s (Starts c given))) (sym same) (nested bases given (record { state = state; there = there }) instance)
+  placed_begins new answer component around arguments there nested (Err w) h = absurd h
+
+pub placed_refused : (within : Run) (k : Linker) (l : Linking) (n : ℕ) (s : Spaces) (place : ℕ) (e : MemoryOr LinkWhy) (r : Result Outcome LinkWhy) → IsReason e r → IsReason (placed_error place e) (after (placed_at place r) (behind within l n s))
+placed_refused within k l n s place e r h = reason_after (placed_error place e) (placed_at place r) (behind within l n s) (reason_placed place e r h)
+
+-- The items of a component that begins, and its instance.
+
+module _ (depth : ℕ) (l : Linking) (n : ℕ) (s : Spaces) (c : Closure) (given : Exports) (mid new : Linker) where
+  pub nested_told : slice_get l.scopes n ≡ Some s → n < length l.scopes → (instance : ℕ) → instance ≡ length l.scopes
+      → IsTold (λ _ last. Stands mid last) done (inside depth (begun l c given) instance c.items)
+      → ((bases : List Exports) (last : Linking) → IsAt bases mid n last s → Stands new (with_instance last n s instance))
+      → IsTold (λ _ next. Stands new next) done (after (inside depth (begun l c given) (length l.scopes) c.items) (λ inner. Ok (with_instance inner n s (length l.scopes))))
+  nested_told there below instance is told ends =
+      by (inside depth (begun l c given) (length l.scopes) c.items) refl
+      (subst (λ (m : ℕ). IsTold (λ _ last. Stands mid last) done (inside depth (begun l c given) m c.items)) is told)
+    where
+      by : (r : Result Linking LinkFault) → inside depth (begun l c given) (length l.scopes) c.items ≡ r → IsTold (λ _ last. Stands mid last) done r
+          → IsTold (λ _ next. Stands new next) done (after r (λ inner. Ok (with_instance inner n s (length l.scopes))))
+      by (Ok inner) e (bases, state) =
+          subst (λ (m : ℕ). Stands new (with_instance inner n s m)) is
+          (ends bases inner (record { state = state; there = maker_stays depth l n s c given c.items inner there below e }))
+      by (Err fault) e h = absurd h
+
+  pub nested_refused : (instance : ℕ) → instance ≡ length l.scopes → (e : MemoryOr LinkFault) → IsReason e (inside depth (begun l c given) instance c.items)
+      → IsReason e (after (inside depth (begun l c given) (length l.scopes) c.items) (λ inner. Ok (with_instance inner n s (length l.scopes))))
+  nested_refused instance is e h =
+      reason_after e (inside depth (begun l c given) (length l.scopes) c.items) (λ inner. Ok (with_instance inner n s (length l.scopes)))
+      (subst (λ (m : ℕ). IsReason e (inside depth (begun l c given) m c.items)) is h)
+
+-- Items one behind the other.
+
+run_is : (depth : ℕ) (l : Linking) (n : ℕ) (items : List (Placed Item)) → run_within depth l n items ≡ run (inside depth) l n items
+run_is zero l n items = refl
+run_is (suc depth) l n items = refl
+
+-- What is behind some items is what is behind those that are left.
+abbrev pub Goes : ℕ → ℕ → Linking → List (Placed Item) → List (Placed Item) → Linker → Type 0
+Goes depth n first items rest k = (last : Linking) × Stands k last × (run_within depth first n items ≡ run_within depth last n rest)
+
+pub goes_first : (depth n : ℕ) (first : Linking) (items : List (Placed Item)) (bases : List Exports) (k : Linker) → IsState bases k first → Goes depth n first items (drop 0 items) k
+goes_first depth n first items bases k h = (first, (bases, h), refl)
+
+module _ (depth n : ℕ) (first : Linking) (items : List (Placed Item)) (at : ℕ) (placed : Placed Item) (within : at < length items) (is : placed ≡ get_or items at placed) (old : Linker) (here : n < length old.scopes.items) where
+  left : (last : Linking) (s : Spaces) → slice_get last.scopes n ≡ Some s → run_within depth first n items ≡ run_within depth last n (drop at items)
+      → run_within depth first n items ≡ after (step (inside depth) last n placed (Some s)) (λ next. run (inside depth) next n (drop (at + 1) items))
+  left last s there e =
+      e ∙ run_is depth last n (drop at items)
+      ∙ ap (run (inside depth) last n) (drop_more items at placed within ∙ ap (λ (p : Placed Item). p ∷ drop (at + 1) items) (sym is))
+      ∙ ap (λ (o : Option Spaces). after (step (inside depth) last n placed o) (λ next. run (inside depth) next n (drop (at + 1) items))) there
+
+  pub goes_on : (new : Linker) → Goes depth n first items (drop at items) old
+      → ((bases : List Exports) (l : Linking) (s : Spaces) → IsAt bases old n l s → IsTold (λ _ next. Stands new next) done (step (inside depth) l n placed (Some s)))
+      → Goes depth n first items (drop (at + 1) items) new
+  goes_on new (last, (bases, state), e) told =
+      let s = spaces_at bases old last n state here in
+      by s.0 s.1.there (step (inside depth) last n placed (Some s.0)) refl (told bases last s.0 s.1)
+    where
+      by : (s : Spaces) → slice_get last.scopes n ≡ Some s → (r : Result Linking LinkFault) → step (inside depth) last n placed (Some s) ≡ r
+          → IsTold (λ _ next. Stands new next) done r → Goes depth n first items (drop (at + 1) items) new
+      by s there (Ok next) does h =
+          (next, h, left last s there e ∙ ap (λ (r : Result Linking LinkFault). after r (λ next. run (inside depth) next n (drop (at + 1) items))) does ∙ sym (run_is depth next n (drop (at + 1) items)))
+      by s there (Err fault) does h = absurd h
+
+  pub goes_wrong : (e : MemoryOr LinkFault) → Goes depth n first items (drop at items) old
+      → ((bases : List Exports) (l : Linking) (s : Spaces) → IsAt bases old n l s → IsReason e (step (inside depth) l n placed (Some s)))
+      → IsReason e (run_within depth first n items)
+  goes_wrong error (last, (bases, state), e) told =
+      let s = spaces_at bases old last n state here in
+      subst (λ (r : Result Linking LinkFault). IsReason error r) (sym (left last s.0 s.1.there e))
+      (reason_after error (step (inside depth) last n placed (Some s.0)) (λ next. run (inside depth) next n (drop (at + 1) items)) (told bases last s.0 s.1))
+
+pub goes_last : (depth n : ℕ) (first : Linking) (items : List (Placed Item)) (at : ℕ) (k : Linker) → length items ≤ at → Goes depth n first items (drop at items) k
+    → IsTold (λ _ last. Stands k last) done (run_within depth first n items)
+goes_last depth n first items at k past (last, stands, e) =
+    subst (λ (r : Result Linking LinkFault). IsTold (λ _ last. Stands k last) done r)
+    (sym (e ∙ run_is depth last n (drop at items) ∙ ap (run (inside depth) last n) (drop_all at items past))) stands

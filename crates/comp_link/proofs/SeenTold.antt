@@ -1,0 +1,57 @@
+-- A definition as it is asked for, by what the table of instances answers.
+use Rattle.std.proofs.Common.{◌≡◌, ℕ, Bool, true, false, List, refl, subst, Option, Some, None}
+use Rattle.std.specs.Prelude.{Result, Ok, IfOk}
+use Rattle.ca_base.specs.declared.memory.MemoryOr.{MemoryOr}
+use Rattle.ca_base.specs.declared.memory.MemoryOr.TheVariants as memory
+use Rattle.ca_base.specs.Faults.{IfFault}
+use Rattle.comp_graph.specs.Closed.{Extern}
+use Rattle.comp_linking.specs.declared.fault.LinkWhy.{LinkWhy}
+use Rattle.comp_linking.specs.declared.fault.LinkWhy.TheVariants as why
+use Rattle.comp_linking.specs.Definitions.{Definition, Fits, seen_as}
+use Rattle.comp_linking.specs.Items.{lacking}
+use Rattle.comp_linking.specs.Tests.{fits}
+use Rattle.comp_linking.specs.Computed.{none_missing}
+use Rattle.comp_linking.proofs.Fitting.{fits_lacks}
+use Rattle.comp_linking.proofs.Telling.{fits_told}
+use Rattle.type_tables.specs.Table.{Table, IsName}
+use Rattle.instance_tables.specs.declared.references.DefinitionRef.{DefinitionRef}
+use Rattle.instance_tables.specs.declared.fitting.Fit.{Fit}
+use Rattle.instance_tables.specs.declared.fitting.Fit.TheVariants as answer
+use Rattle.instance_tables.specs.References.{World, Stands}
+use Rattle.instance_tables.specs.Fit.{IsFit}
+use Rattle.comp_link.specs.Told.{IsReason, IsTold}
+use Rattle.comp_link.specs.Ready.{as_wanted, IsSeen}
+use Rattle.comp_link.proofs.Steps.{missing_told}
+
+-- an answer that is there
+pub fit_of_ok : {E : Type 0} (t : Table) (d : Definition) (x : Extern) (result : Result Fit E) (fit : Fit) → result ≡ Ok fit → IfOk result (IsFit t d x) → IsFit t d x fit
+fit_of_ok {E} t d x result fit is h = let k : IfOk {E = E} (Ok fit) (IsFit t d x) = subst (λ (r : Result Fit E). IfOk r (IsFit t d x)) is h in k
+
+not_fitting : (d : Definition) (x : Extern) → (Fits d x → ⊥) → fits d x ≡ false
+not_fitting d x never = by (fits d x) refl
+  where
+    by : (b : Bool) → fits d x ≡ b → fits d x ≡ false
+    by true is = absurd (never ((fits_told d x).0 is))
+    by false is = is
+
+known_missing : (t : Table) (number : ℕ) (missing : List ℕ) → IsName t number missing → (e : MemoryOr LinkWhy) → IfFault e (λ w. (name : List ℕ) → IsName t number name → w ≡ why.Missing name) → IfFault e (λ w. w ≡ why.Missing missing)
+known_missing t number missing named memory.Memory told = tt
+known_missing t number missing named (memory.Fault w) told = told missing named
+
+module _ (t : Table) (w : World) (d : Definition) (x : Extern) (name : List ℕ) (wanted : Option Extern) (is : wanted ≡ Some x) (o : Fit) (fit : IsFit t d x o) where
+  pub seen_fits : (ref : DefinitionRef) → o ≡ answer.Fits → (Fits d x → Stands t w ref (seen_as d x))
+      → IsTold (IsSeen t w) (Ok (Some ref)) (none_missing (lacking (Some d) name wanted) (Ok (as_wanted d wanted)))
+  seen_fits ref same stands =
+      let fitting : Fits d x = subst (λ (o : Fit). IsFit t d x o) same fit in
+      rw (is, fits_lacks d name x fitting, (fits_told d x).1 fitting) (stands fitting)
+
+  pub seen_differs : o ≡ answer.Differs → IsTold (IsSeen t w) (Ok None) (none_missing (lacking (Some d) name wanted) (Ok (as_wanted d wanted)))
+  seen_differs same =
+      let differs = subst (λ (o : Fit). IsFit t d x o) same fit in
+      rw (is, differs.0 name, not_fitting d x differs.1) refl
+
+  pub seen_missing : (number : ℕ) (e : MemoryOr LinkWhy) → o ≡ answer.Missing number → IfFault e (λ w. (name : List ℕ) → IsName t number name → w ≡ why.Missing name)
+      → IsReason e (none_missing {A = Result Definition LinkWhy} (lacking (Some d) name wanted) (Ok (as_wanted d wanted)))
+  seen_missing number e same told =
+      let lacking = subst (λ (o : Fit). IsFit t d x o) same fit in
+      rw (is, lacking.2 name) (missing_told (Result Definition LinkWhy) e lacking.0 lacking.0 refl (known_missing t number lacking.0 lacking.1 e told))

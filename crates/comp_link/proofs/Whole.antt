@@ -1,0 +1,56 @@
+-- What is told of a component whose items were gone through.
+use Rattle.std.proofs.Common.{◌≡◌, ◌≤◌, length, refl, sym, ap, subst, arith}
+use Rattle.std.specs.Prelude.{Result, Ok, Err}
+use Rattle.ca_base.specs.Faults.{IfFault}
+use Rattle.ca_base.specs.declared.memory.MemoryOr.{MemoryOr}
+use Rattle.ca_base.specs.declared.memory.MemoryOr.TheVariants.{Memory, Fault}
+use Rattle.comp_graph.specs.Graph.{Graph, instance_limit, core_instance_limit}
+use Rattle.comp_reader.specs.declared.component.Component.{Component}
+use Rattle.comp_linking.specs.declared.fault.LinkFault.{LinkFault}
+use Rattle.comp_linking.specs.Spaces.{Linking}
+use Rattle.comp_linking.specs.Linked.{root_begun, graph_of, IsLinked, IsLinkRefused}
+use Rattle.comp_linking.specs.Computed.{run_within, answer_of, linked}
+use Rattle.comp_linking.proofs.Running.{graph_computed, fault_computed}
+use Rattle.comp_linking.proofs.Few.{graphs_are_few}
+use Rattle.comp_link.specs.declared.linker.Linker.{Linker}
+use Rattle.comp_link.specs.State.{Stands}
+use Rattle.comp_link.specs.Told.{IsReason, IsTold}
+use Rattle.comp_link.proofs.Passing.{done, as_many}
+
+abbrev gone : Component → Result Linking LinkFault
+gone c = run_within instance_limit root_begun 0 c.items
+
+linked_by : (c : Component) (r : Result Linking LinkFault) → gone c ≡ r → linked c ≡ answer_of r
+linked_by c r e = ap answer_of e
+
+pub refused_told : (c : Component) (e : MemoryOr LinkFault) → IsReason e (gone c) → IfFault e (λ fault. IsLinkRefused c fault)
+refused_told c Memory h = tt
+refused_told c (Fault fault) h = by (gone c) refl h
+  where
+    by : (r : Result Linking LinkFault) → gone c ≡ r → IsReason (Fault fault) r → IsLinkRefused c fault
+    by (Ok last) e h = absurd h
+    by (Err other) e h = subst (λ (f : LinkFault). IsLinkRefused c f) (sym h) ((fault_computed c other).0 (linked_by c (Err other) e))
+
+module _ (c : Component) (k : Linker) (told : IsTold (λ _ last. Stands k last) done (gone c)) where
+  -- what it is linked to
+  found : (l : Linking) × Stands k l × IsLinked c (graph_of l)
+  found = by (gone c) refl told
+    where
+      by : (r : Result Linking LinkFault) → gone c ≡ r → IsTold (λ _ last. Stands k last) done r → (l : Linking) × Stands k l × IsLinked c (graph_of l)
+      by (Ok last) e h = (last, h, (graph_computed c (graph_of last)).0 (linked_by c (Ok last) e))
+      by (Err fault) e h = absurd h
+
+  pub linked_told : (g : Graph) → ((l : Linking) → Stands k l → g ≡ graph_of l) → IsLinked c g
+  linked_told g is = subst (λ (g : Graph). IsLinked c g) (sym (is found.0 found.1)) found.2
+
+  pub few_scopes : length k.scopes.items ≤ instance_limit
+  few_scopes =
+      let few = graphs_are_few c (graph_of found.0) found.2 in
+      let same = as_many found.1.0 k found.0 found.1.1 in
+      omega (arith, few.0, same)
+
+  pub few_cores : length k.cores.items ≤ core_instance_limit
+  few_cores =
+      let few = graphs_are_few c (graph_of found.0) found.2 in
+      let same : length found.0.cores ≡ length k.cores.items = ap length found.1.1.cores in
+      omega (arith, few.1, same)

@@ -1,0 +1,15 @@
+use Rattle.std.proofs.Common.{ℕ, List, sym, subst, rules}
+use Rattle.instance_tables.specs.declared.references.DefinitionRef.{DefinitionRef}
+use Rattle.instance_tables.specs.References.{IsListing}
+use Rattle.comp_link.proofs.Calling.{graph_told}
+use Rattle.comp_link.proofs.graphs.graph_of.Goals as goal
+
+pub returns : goal.returns
+returns c = λ l stands.
+    graph_told c.args.linker l c.in_ok-funcs.funcs.items c.new.result c.requires.root stands c.scope.result.now c.scope.ensures
+    (λ w given are is. c.in_ok-funcs.ensures w given are (subst (λ (es : List (ℕ × DefinitionRef)). IsListing c.args.linker.types w es given) (sym c.entries-entries.ensures) is))
+    (search (rules, c.new.ensures, c.from_vec.ensures))
+    (search (rules, c.new.ensures, c.len-count.ensures))
+    (search (rules, c.new.ensures))
+    (search (rules, c.new.ensures, c.from_vec-2.ensures, c.in_ok-exports.ensures))
+    (search (rules, c.new.ensures, c.from_vec-3.ensures, c.in_ok-lifts.ensures, c.deref.ensures.value))

@@ -1,0 +1,34 @@
+use Rattle.std.proofs.Common.{◌∷◌, ◌++◌, [], ℕ, List, Result, Ok, sym, subst}
+use Rattle.std.proofs.lemmas.Result.{err_from_is_err_and}
+use Rattle.comp_linking.specs.declared.fault.LinkWhy.{LinkWhy}
+use Rattle.comp_linking.specs.Definitions.{AnInstance, Exports}
+use Rattle.comp_linking.specs.Computed.{Outcome, one_more, named_exports}
+use Rattle.instance_tables.specs.declared.references.DefinitionRef.{DefinitionRef}
+use Rattle.instance_tables.specs.References.{IsListing}
+use Rattle.comp_link.specs.declared.instances.Next.TheVariants as next
+use Rattle.comp_link.specs.State.{world_of}
+use Rattle.comp_link.specs.Told.{IsTold}
+use Rattle.comp_link.specs.Next.{IsNext}
+use Rattle.comp_link.proofs.Steps.{told_ok, reason_of}
+use Rattle.comp_link.proofs.NamedSteps.{reason_after, inline_made}
+use Rattle.comp_link.proofs.instances.link_inline.Goals as goal
+
+pub returns-in_err-exports-clause-made : goal.returns-in_err-exports-clause-made
+returns-in_err-exports-clause-made c = λ bases l s at.
+    let k = c.named_exports.new.linker in
+    let e = c.in_err-exports.field-0.0 in
+    let x = named_exports s c.args.read.now in
+    let first = reason_of (λ (listing : List (ℕ × DefinitionRef)) (exports : Exports). IsListing k.types (world_of bases k) listing exports) c.named_exports.result e x c.in_err-exports.was (c.named_exports.ensures.named bases l s at) in
+    let p = err_from_is_err_and c.from_residual.result c.from_residual.ensures.1 in
+    rw (p.1, p.2) (reason_after Exports Outcome e x (λ exports. Ok (one_more l c.args.n s (AnInstance exports))) first)
+
+pub returns-clause-made : goal.returns-clause-made
+returns-clause-made c = λ bases l s at.
+    let k = c.named_exports.new.linker in
+    let ok = told_ok (λ (listing : List (ℕ × DefinitionRef)) (exports : Exports). IsListing k.types (world_of bases k) listing exports) c.named_exports.result c.in_ok-exports.exports (named_exports s c.args.read.now) c.in_ok-exports.was (c.named_exports.ensures.named bases l s at) in
+    let before = (c.named_exports.ensures.at bases l s at).state in
+    let own = bases ++ ok.0 ∷ [] in
+    let state = c.in_ok-instance.ensures.state bases l ok.0 before ok.2 in
+    let stands = c.in_ok-instance.ensures.made bases l ok.0 before ok.2 in
+    subst (λ (r : Result Outcome LinkWhy). IsTold (IsNext c.add.new.self l) (Ok next.Made) r) (sym (inline_made l c.args.n s c.args.read.now ok.0 ok.1))
+    (own, c.in_ok-add.ensures.ok own l s (AnInstance ok.0) (record { state = state; there = at.there }) stands)

@@ -1,0 +1,11 @@
+use Rattle.std.specs.List.{slice_get}
+use Rattle.comp_link.specs.State.{world_of}
+use Rattle.comp_link.proofs.Zips.{found_through}
+use Rattle.comp_link.proofs.States.{scope_is}
+use Rattle.comp_link.proofs.linker.Linker.module.Goals as goal
+
+pub returns : goal.returns
+returns c bases l s at =
+    let k = c.args.self.now in
+    let scope = scope_is bases k c.args.n l s c.index.result.now c.index.ensures c.requires at in
+    found_through k.modules.items c.deref.result.now c.module.result (slice_get s.core_modules c.args.index) c.item_numbered.result c.item_numbered.ensures c.deref.ensures.value (c.module.ensures k.types (world_of bases k) s scope)

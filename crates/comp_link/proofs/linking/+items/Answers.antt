@@ -1,0 +1,78 @@
+use Rattle.std.proofs.Common.{◌≡◌, ◌<◌, ◌≤◌, List, length, refl, sym, ◌∙◌, ap, subst, arith, rules}
+use Rattle.std.specs.Prelude.{Result, Ok}
+use Rattle.std.proofs.lemmas.Result.{err_from_is_err_and}
+use Rattle.ca_base.specs.declared.memory.MemoryOr.{MemoryOr}
+use Rattle.ca_base.specs.declared.placed.Placed.{Placed}
+use Rattle.comp_reader.specs.declared.component.Item.{Item}
+use Rattle.comp_linking.specs.declared.fault.LinkWhy.{LinkWhy}
+use Rattle.comp_linking.specs.Definitions.{Closure}
+use Rattle.comp_linking.specs.Spaces.{Linking}
+use Rattle.comp_linking.specs.Linked.{begun}
+use Rattle.comp_linking.specs.Computed.{item_outcome}
+use Rattle.comp_link.specs.declared.instances.Next.{Next}
+use Rattle.comp_link.specs.declared.instances.Next.TheVariants as next
+use Rattle.comp_link.specs.State.{Stands}
+use Rattle.comp_link.specs.Told.{IsReason, IsTold}
+use Rattle.comp_link.specs.Next.{IsNext}
+use Rattle.comp_link.specs.Running.{inside}
+use Rattle.comp_link.proofs.Passing.{done, as_many, placed_begins, nested_told, nested_refused, goes_on, goes_wrong, goes_last}
+use Rattle.comp_link.proofs.linking.+items.Goals as goal
+
+pub link_nested-returns-in_err-link_inside-clause-told : goal.link_nested-returns-in_err-link_inside-clause-told
+link_nested-returns-in_err-link_inside-clause-told t c = λ bases l s given at instance.
+    let component : Closure = record { items = c.args.component.now.items; around = c.args.around } in
+    let state = c.in_ok-begin.ensures.ok bases l component given at.state refl instance in
+    let many = as_many bases c.args.linker.now l at.state in
+    let same : c.len-instance.result ≡ length l.scopes = c.len-instance.ensures ∙ c.args.linker.now.scopes.ok.0 ∙ sym many in
+    let told : IsReason {A = Linking} c.in_err-link_inside.field-0.0 (inside c.args.depth (begun l component given) c.len-instance.result c.args.component.now.items) =
+    subst (λ (items : List (Placed Item)). IsReason {A = Linking} c.in_err-link_inside.field-0.0 (inside c.args.depth (begun l component given) c.len-instance.result items)) c.as_slice.ensures
+    (c.in_err-link_inside.ensures.told bases (begun l component given) state) in
+    let p = err_from_is_err_and c.from_residual-in_err-link_inside.result c.from_residual-in_err-link_inside.ensures.1 in
+    rw (p.1, p.2) (nested_refused c.args.depth l c.args.n s component given c.link_inside.new.linker c.link_inside.new.linker c.len-instance.result same c.in_err-link_inside.field-0.0 told)
+
+pub link_nested-returns-clause-told : goal.link_nested-returns-clause-told
+link_nested-returns-clause-told t c = λ bases l s given at instance.
+    let component : Closure = record { items = c.args.component.now.items; around = c.args.around } in
+    let state = c.in_ok-begin.ensures.ok bases l component given at.state refl instance in
+    let many = as_many bases c.args.linker.now l at.state in
+    let same : c.len-instance.result ≡ length l.scopes = c.len-instance.ensures ∙ c.args.linker.now.scopes.ok.0 ∙ sym many in
+    let below : c.args.n < length l.scopes = omega (arith, c.requires, many) in
+    let told : IsTold (λ _ last. Stands c.link_inside.new.linker last) done (inside c.args.depth (begun l component given) c.len-instance.result c.args.component.now.items) =
+    subst (λ (items : List (Placed Item)). IsTold (λ _ last. Stands c.link_inside.new.linker last) done (inside c.args.depth (begun l component given) c.len-instance.result items)) c.as_slice.ensures
+    (c.in_ok-link_inside.ensures.told bases (begun l component given) state) in
+    nested_told c.args.depth l c.args.n s component given c.link_inside.new.linker c.end.new.self at.there below c.len-instance.result same told
+    (λ others last there. c.in_ok-end.ensures.ok others last s there)
+
+pub link_placed-link_nested-requires : goal.link_placed-link_nested-requires
+link_placed-link_nested-requires t c =
+    let same : length c.link_item.new.linker.scopes.items ≡ length c.args.linker.now.scopes.items = c.in-Ok-Begins.ensures.scopes in
+    (search (rules, arith, c.decreases), omega (arith, c.requires, same))
+
+pub link_placed-returns-in-Ok-Begins-clause-told : goal.link_placed-returns-in-Ok-Begins-clause-told
+link_placed-returns-in-Ok-Begins-clause-told t c = λ bases l s at.
+    let told : IsTold (IsNext c.link_item.new.linker l) (Ok (next.Begins c.in-Ok-Begins.component c.in-Ok-Begins.around c.in-Ok-Begins.arguments)) (item_outcome l c.args.n s c.args.placed.now.item) =
+    subst (λ (x : Result Next (MemoryOr LinkWhy)). IsTold (IsNext c.link_item.new.linker l) x (item_outcome l c.args.n s c.args.placed.now.item)) (c.in-Ok-Begins.is ∙ ap (λ (x : Next). (let r : Result Next (MemoryOr LinkWhy) = Ok x in r)) c.in-Ok-Begins.field-0-is)
+    (c.link_item.ensures.made bases l s at) in
+    placed_begins (inside c.args.depth) c.link_item.new.linker l c.args.n s c.args.placed.now.place c.link_nested.new.linker c.link_nested.result c.in-Ok-Begins.component c.in-Ok-Begins.around c.in-Ok-Begins.arguments at.there
+    (λ others given here instance. c.link_nested.ensures.told others l s given here instance) (item_outcome l c.args.n s c.args.placed.now.item) told
+
+pub link_items-returns-in_err-link_placed-clause-told : goal.link_items-returns-in_err-link_placed-clause-told
+link_items-returns-in_err-link_placed-clause-told t c = λ bases l h.
+    let p = err_from_is_err_and c.from_residual.result c.from_residual.ensures.1 in
+    rw (p.1, p.2)
+    (goes_wrong c.args.depth c.args.n l c.args.items.now c.loop-placed.placed-index c.placed-item.result c.loop-placed-test.true c.placed-item.is c.loop-placed.linker c.loop-placed.invariant.0 c.in_err-link_placed.field-0.0
+    (c.loop-placed.invariant.2 bases l h) (λ others last s at. c.in_err-link_placed.ensures.told others last s at))
+
+pub link_items-loop-placed-preserved : goal.link_items-loop-placed-preserved
+link_items-loop-placed-preserved t c =
+    let longer : length c.loop-placed.linker.scopes.items ≤ length c.link_placed.new.linker.scopes.items = c.in_ok-link_placed.ensures.scopes in (
+      omega (arith, longer, c.loop-placed.invariant.0),
+      omega (arith, longer, c.loop-placed.invariant.1),
+      λ bases first h.
+          goes_on c.args.depth c.args.n first c.args.items.now c.loop-placed.placed-index c.placed-item.result c.loop-placed-test.true c.placed-item.is c.loop-placed.linker c.loop-placed.invariant.0 c.link_placed.new.linker
+          (c.loop-placed.invariant.2 bases first h) (λ others last s at. c.in_ok-link_placed.ensures.told others last s at),
+    )
+
+pub link_items-returns-clause-told : goal.link_items-returns-clause-told
+link_items-returns-clause-told t c = λ bases l h.
+    goes_last c.args.depth c.args.n l c.args.items.now c.loop-placed.placed-index c.loop-placed.linker (omega (arith, c.loop-placed-test.false)) (c.loop-placed.invariant.2 bases l h)

@@ -1,0 +1,35 @@
+//! Linking of aliases of exports of core instances.
+
+ghost use Rattle.std.specs.Prelude.{◌≡◌, ◌<◌, List, OnOk, length};
+ghost use Rattle.comp_reader.specs.declared.component.AliasTarget.TheVariants as target;
+ghost use Rattle.comp_linking.specs.Definitions.{Exports};
+ghost use Rattle.comp_linking.specs.Spaces.{Spaces, Linking};
+ghost use Rattle.comp_linking.specs.Computed.{alias_outcome};
+ghost use Rattle.comp_link.specs.State.{IsAt, IsMade};
+ghost use Rattle.comp_link.specs.Told.{IsTold};
+
+use crate::link_fault::ItemError;
+use crate::linker::Linker;
+use ca_base::Name;
+use comp_reader::Sort;
+use core_exports::aliased;
+use std::alloc::Global;
+
+/// Links an alias of an export of a core instance.
+pub fn link_core_alias(
+    alloc: Global,
+    linker: &mut Linker<'_>,
+    n: usize,
+    sort: Sort,
+    instance: u32,
+    name: &Name,
+) -> Result<(), ItemError>
+    requires { n < length linker.old.scopes.items }
+    ensures made { (bases : List Exports) (l : Linking) (s : Spaces) → IsAt bases linker.old n l s → IsTold (λ _ outcome. IsMade linker.new outcome) result (alias_outcome l n s sort (target.CoreInstanceExport instance name.now)) }
+    ensures scopes { OnOk result (length linker.new.scopes.items ≡ length linker.old.scopes.items) }
+{
+    let instances = linker.scope(n).core_instances.as_slice();
+    let item = aliased(alloc, instances, sort, instance, name)?;
+    linker.add_core_item(n, item)?;
+    Ok(())
+}

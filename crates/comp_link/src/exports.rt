@@ -1,0 +1,105 @@
+//! Exports.
+
+ghost use Rattle.std.specs.Prelude.{◌≡◌, ◌<◌, List, length, Some, None, OnOk};
+ghost use Rattle.comp_reader.specs.declared.component.ExternDesc.{ExternDesc};
+ghost use Rattle.comp_linking.specs.Definitions.{Exports};
+ghost use Rattle.comp_linking.specs.Spaces.{Spaces, Linking};
+ghost use Rattle.comp_linking.specs.Computed.{export_outcome};
+ghost use Rattle.comp_link.specs.State.{IsAt, IsMade};
+ghost use Rattle.comp_link.specs.Told.{IsTold};
+ghost use Rattle.comp_link.specs.Ready.{IsReady, exported};
+
+use crate::link_fault::ItemError;
+use crate::linker::Linker;
+use crate::seen::seen;
+use ca_base::MemoryOr;
+use comp_linking::LinkWhy;
+use comp_reader::{Export, ExternDesc};
+use instance_tables::DefinitionRef;
+use std::alloc::Global;
+use type_meanings::wanted;
+
+/// The definition of an export that does not say what it is.
+fn plain_export(linker: &Linker<'_>, n: usize, export: &Export) -> Result<DefinitionRef, ItemError>
+    requires { n < length linker.now.scopes.items }
+    ensures { (bases : List Exports) (l : Linking) (s : Spaces) → IsAt bases linker.now n l s → export.now.desc ≡ None → IsTold (IsReady linker.now l (exported l n s export.now.name)) result (export_outcome l n s export.now) }
+{
+    let scope = linker.scope(n);
+    if (export.index as usize) >= scope.size(export.sort) {
+        return Err(MemoryOr::Fault(LinkWhy::Index));
+    }
+    let Some(definition) = scope.definition(export.sort, export.index) else {
+        return Err(MemoryOr::Fault(LinkWhy::Typing));
+    };
+    if scope.export_names.has(export.name.as_str()) {
+        return Err(MemoryOr::Fault(LinkWhy::Typing));
+    }
+    Ok(definition)
+}
+
+/// The definition of an export that says what it is, seen as that.
+fn said_export(
+    alloc: Global,
+    linker: &mut Linker<'_>,
+    n: usize,
+    export: &Export,
+    desc: ExternDesc,
+) -> Result<DefinitionRef, ItemError>
+    requires { n < length linker.old.scopes.items }
+    ensures made { (bases : List Exports) (l : Linking) (s : Spaces) → IsAt bases linker.old n l s → export.now.desc ≡ Some desc → IsTold (IsReady linker.new l (exported l n s export.now.name)) result (export_outcome l n s export.now) }
+    ensures rest { linker.new ≡ record linker.old { instances = linker.new.instances } }
+{
+    let scope = linker.scope(n);
+    if (export.index as usize) >= scope.size(export.sort) {
+        return Err(MemoryOr::Fault(LinkWhy::Index));
+    }
+    let meant = wanted(&scope.types, desc);
+    if !meant.is_there {
+        return Err(MemoryOr::Fault(LinkWhy::Index));
+    }
+    let Some(given) = scope.definition(export.sort, export.index) else {
+        return Err(MemoryOr::Fault(LinkWhy::Typing));
+    };
+    let definition = seen(alloc, linker, given, meant.means)?;
+    if linker.scope(n).export_names.has(export.name.as_str()) {
+        return Err(MemoryOr::Fault(LinkWhy::Typing));
+    }
+    match definition {
+        Some(definition) => Ok(definition),
+        None => Err(MemoryOr::Fault(LinkWhy::Typing)),
+    }
+}
+
+/// The definition of an export.
+fn export_definition(
+    alloc: Global,
+    linker: &mut Linker<'_>,
+    n: usize,
+    export: &Export,
+) -> Result<DefinitionRef, ItemError>
+    requires { n < length linker.old.scopes.items }
+    ensures made { (bases : List Exports) (l : Linking) (s : Spaces) → IsAt bases linker.old n l s → IsTold (IsReady linker.new l (exported l n s export.now.name)) result (export_outcome l n s export.now) }
+    ensures rest { linker.new ≡ record linker.old { instances = linker.new.instances } }
+{
+    match export.desc {
+        None => plain_export(linker, n, export),
+        Some(desc) => said_export(alloc, linker, n, export, desc),
+    }
+}
+
+/// Links an export.
+pub fn link_export<'a>(
+    alloc: Global,
+    linker: &mut Linker<'a>,
+    n: usize,
+    export: &'a Export,
+) -> Result<(), ItemError>
+    requires { n < length linker.old.scopes.items }
+    ensures made { (bases : List Exports) (l : Linking) (s : Spaces) → IsAt bases linker.old n l s → IsTold (λ _ outcome. IsMade linker.new outcome) result (export_outcome l n s export.now) }
+    ensures scopes { OnOk result (length linker.new.scopes.items ≡ length linker.old.scopes.items) }
+{
+    let number = linker.name(&export.name)?;
+    let definition = export_definition(alloc, linker, n, export)?;
+    linker.add_export(n, &export.name, number, definition)?;
+    Ok(())
+}

@@ -1,0 +1,105 @@
+//! Instances: of components, whose items come next, and of exports that are named.
+
+ghost use Rattle.std.specs.Prelude.{◌≡◌, ◌<◌, List, length, OnOk};
+ghost use Rattle.comp_reader.specs.declared.component.Instance.TheVariants as made;
+ghost use Rattle.comp_linking.specs.Definitions.{Exports};
+ghost use Rattle.comp_linking.specs.Spaces.{Spaces, Linking};
+ghost use Rattle.comp_linking.specs.Computed.{instance_outcome};
+ghost use Rattle.comp_link.specs.State.{IsAt};
+ghost use Rattle.comp_link.specs.Told.{IsTold};
+ghost use Rattle.comp_link.specs.Next.{IsNext};
+
+use crate::link_fault::ItemError;
+use crate::linker::Linker;
+use crate::named::named_exports;
+use ca_base::{MemoryOr, Seq};
+use ca_types::Shared;
+use comp_linking::LinkWhy;
+use comp_reader::{Component, Instance, NamedDefinition};
+use instance_tables::{DefinitionRef, InstanceRef};
+use std::alloc::Global;
+
+/// How many component instances there may be.
+const INSTANCE_LIMIT: usize = 256;
+
+/// What an instance comes to.
+#[derive(Drop)]
+pub enum Next<'a> {
+    /// It is made.
+    Made,
+    /// The items of a component come next.
+    Begins {
+        /// The component.
+        component: &'a Component,
+        /// The component instances around it, from the inside out.
+        around: Shared<Seq<usize>>,
+        /// Its arguments.
+        arguments: InstanceRef,
+    },
+}
+
+/// What an instance of a component comes to.
+fn instantiated<'a>(
+    alloc: Global,
+    linker: &mut Linker<'a>,
+    n: usize,
+    component: u32,
+    arguments: &'a [NamedDefinition],
+) -> Result<Next<'a>, ItemError>
+    requires { n < length linker.old.scopes.items }
+    ensures made { (bases : List Exports) (l : Linking) (s : Spaces) → IsAt bases linker.old n l s → IsTold (IsNext linker.new l) result (instance_outcome l n s (made.Instantiate component arguments.now)) }
+    ensures scopes { OnOk result (length linker.new.scopes.items ≡ length linker.old.scopes.items) }
+{
+    let Some(standing) = linker.standing(n, component) else {
+        return Err(MemoryOr::Fault(LinkWhy::Index));
+    };
+    let component = standing.component();
+    let around = standing.around().share()?;
+    let given = named_exports(alloc, linker, n, arguments)?;
+    if linker.instance_count() >= INSTANCE_LIMIT {
+        return Err(MemoryOr::Fault(LinkWhy::Limit));
+    }
+    let arguments = linker.instance(given)?;
+    Ok(Next::Begins {
+        component,
+        around,
+        arguments,
+    })
+}
+
+/// Links an instance of exports that are named.
+fn link_inline<'a>(
+    alloc: Global,
+    linker: &mut Linker<'a>,
+    n: usize,
+    read: &'a [NamedDefinition],
+) -> Result<Next<'a>, ItemError>
+    requires { n < length linker.old.scopes.items }
+    ensures made { (bases : List Exports) (l : Linking) (s : Spaces) → IsAt bases linker.old n l s → IsTold (IsNext linker.new l) result (instance_outcome l n s (made.Inline read.now)) }
+    ensures scopes { OnOk result (length linker.new.scopes.items ≡ length linker.old.scopes.items) }
+{
+    let exports = named_exports(alloc, linker, n, read)?;
+    let instance = linker.instance(exports)?;
+    linker.add(n, DefinitionRef::Instance(instance))?;
+    Ok(Next::Made)
+}
+
+/// Links an instance, or tells which component begins.
+pub fn link_instance<'a>(
+    alloc: Global,
+    linker: &mut Linker<'a>,
+    n: usize,
+    instance: &'a Instance,
+) -> Result<Next<'a>, ItemError>
+    requires { n < length linker.old.scopes.items }
+    ensures made { (bases : List Exports) (l : Linking) (s : Spaces) → IsAt bases linker.old n l s → IsTold (IsNext linker.new l) result (instance_outcome l n s instance.now) }
+    ensures scopes { OnOk result (length linker.new.scopes.items ≡ length linker.old.scopes.items) }
+{
+    match instance {
+        Instance::Instantiate {
+            component,
+            arguments,
+        } => instantiated(alloc, linker, n, *component, arguments.as_slice()),
+        Instance::Inline(read) => link_inline(alloc, linker, n, read.as_slice()),
+    }
+}

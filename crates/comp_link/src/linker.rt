@@ -1,0 +1,324 @@
+//! Linking as it stands: what the component instances that have begun have in their index spaces, and what was made.
+
+ghost use Rattle.std.specs.Prelude.{◌≡◌, ◌<◌, ◌+◌, ◌∷◌, ◌++◌, [], List, ℕ, Some, map, length, IfOk, OnOk};
+ghost use Rattle.std.specs.List.{slice_get};
+ghost use Rattle.std.specs.Option.{option_and_then, option_copied};
+ghost use Rattle.comp_graph.specs.Closed.{Extern};
+ghost use Rattle.comp_linking.specs.Definitions.{CoreItem, extern_of, Closure, Definition, AComponent, AModule, Exports};
+ghost use Rattle.comp_linking.specs.Spaces.{Spaces, Linking, with_core_item, with_core_instance, with_definition, with_spaces};
+ghost use Rattle.comp_linking.specs.Items.{core_made, with_import, with_export};
+ghost use Rattle.comp_linking.specs.Linked.{root_begun, begun, with_instance};
+ghost use Rattle.type_tables.specs.Table.{IsName, IsExtern};
+ghost use Rattle.instance_tables.specs.declared.references.DefinitionRef.{DefinitionRef};
+ghost use Rattle.instance_tables.specs.References.{IsInstance, IsListing};
+ghost use Rattle.instance_tables.specs.References as references;
+ghost use Rattle.instance_tables.specs.Fit.{IsFit};
+ghost use Rattle.comp_link.specs.State.{world_of, IsScope, IsState, IsAt, IsFoundAs, Stands};
+
+use crate::scope::{Scope, Standing};
+use ca_base::{Name, Seq};
+use ca_types::Shared;
+use comp_graph::{Action, CoreExtern, CoreMake};
+use comp_reader::Component;
+use core_exports::{CoreExports, CoreItem, CoreModule, InlineExports};
+use instance_tables::{DefinitionRef, Fit, InstanceRef, Instances};
+use std::alloc::{AllocError, Global};
+use type_tables::{ExternRef, Listing, Types};
+
+/// The number of the root, which begins first.
+pub const ROOT: usize = 0;
+
+/// Linking as it stands.
+#[derive(Drop)]
+pub struct Linker<'a> {
+    /// The types, and the texts of names.
+    pub types: Types<'a>,
+    /// The instances.
+    pub instances: Instances,
+    /// The components, by their numbers.
+    pub components: Vec<Standing<'a>>,
+    /// The core modules, by their numbers.
+    pub modules: Vec<Shared<CoreModule<'a>>>,
+    /// The component instances that have begun, in order of beginning.
+    pub scopes: Vec<Scope<'a>>,
+    /// The core instances that are made of modules, in order of making.
+    pub cores: Vec<CoreMake<'a>>,
+    /// What is made, in file order.
+    pub plan: Vec<Action>,
+}
+
+impl<'a> Linker<'a> {
+    /// The root begins. It fails for want of memory alone, as do all calls here that fail.
+    pub fn new(alloc: Global) -> Result<Linker<'a>, AllocError>
+        ensures ok { IfOk result (λ k. IsState [] k root_begun) }
+        ensures there { IfOk result (λ k. length k.scopes.items ≡ 1) }
+    {
+        let mut plan = Vec::new(alloc);
+        plan.push(Action::Begin(ROOT))?;
+        let mut scopes = Vec::new(alloc);
+        let around = Shared::new(alloc, Seq::new(alloc))?;
+        scopes.push(Scope::new(alloc, None, around))?;
+        Ok(Linker {
+            types: Types::new(alloc),
+            instances: Instances::new(alloc),
+            components: Vec::new(alloc),
+            modules: Vec::new(alloc),
+            scopes,
+            cores: Vec::new(alloc),
+            plan,
+        })
+    }
+
+    /// The index spaces of a component instance that has begun.
+    pub fn scope(&self, n: usize) -> &Scope<'a>
+        requires { n < length self.now.scopes.items }
+        ensures { (bases : List Exports) (l : Linking) (s : Spaces) → IsAt bases self.now n l s → IsScope self.now.types (world_of bases self.now) result.now s }
+    {
+        &self.scopes[n]
+    }
+
+    /// The index spaces of a component instance, if it has begun.
+    pub fn scope_at(&self, n: usize) -> Option<&Scope<'a>>
+        ensures { (bases : List Exports) (l : Linking) → IsState bases self.now l → IsFoundAs (λ scope s. IsScope self.now.types (world_of bases self.now) scope.now s) result (slice_get l.scopes n) }
+    {
+        item_numbered(&self.scopes, Some(n))
+    }
+
+    /// The component of an index of a component instance.
+    pub fn standing(&self, n: usize, index: u32) -> Option<&Standing<'a>>
+        requires { n < length self.now.scopes.items }
+        ensures { (bases : List Exports) (l : Linking) (s : Spaces) → IsAt bases self.now n l s → IsFoundAs (λ c x. c.now ≡ x) result (slice_get s.components index) }
+    {
+        item_numbered(&self.components, self.scopes[n].component(index))
+    }
+
+    /// The core module of an index of a component instance.
+    pub fn module(&self, n: usize, index: u32) -> Option<&Shared<CoreModule<'a>>>
+        requires { n < length self.now.scopes.items }
+        ensures { (bases : List Exports) (l : Linking) (s : Spaces) → IsAt bases self.now n l s → IsFoundAs (λ m x. m.now ≡ x) result (slice_get s.core_modules index) }
+    {
+        item_numbered(&self.modules, self.scopes[n].module(index))
+    }
+
+    /// How many component instances have begun.
+    pub fn instance_count(&self) -> usize
+        ensures { (bases : List Exports) (l : Linking) → IsState bases self.now l → result ≡ length l.scopes }
+    {
+        self.scopes.len()
+    }
+
+    /// How many core instances are made of modules.
+    pub fn core_count(&self) -> usize
+        ensures { (bases : List Exports) (l : Linking) → IsState bases self.now l → result ≡ length l.cores }
+    {
+        self.cores.len()
+    }
+
+    /// The number of a name.
+    pub fn name(&mut self, name: &'a Name) -> Result<usize, AllocError>
+        ensures ok { IfOk result (λ number. IsName self.new.types number name.now) }
+        ensures state { (bases : List Exports) (l : Linking) → IsState bases self.old l → IsState bases self.new l }
+        ensures at { (bases : List Exports) (n : ℕ) (l : Linking) (s : Spaces) → IsAt bases self.old n l s → IsAt bases self.new n l s }
+        ensures listing { (bases : List Exports) (listing : List (ℕ × DefinitionRef)) (exports : Exports) → IsListing self.old.types (world_of bases self.old) listing exports → IsListing self.new.types (world_of bases self.new) listing exports }
+        ensures scopes { self.new.scopes ≡ self.old.scopes }
+    {
+        self.types.name(name.as_str())
+    }
+
+    /// Whether a definition is what is asked for.
+    pub fn fit(
+        &mut self,
+        alloc: Global,
+        given: DefinitionRef,
+        asked: ExternRef,
+    ) -> Result<Fit, AllocError>
+        ensures ok { (bases : List Exports) (l : Linking) (d : Definition) (x : Extern) → IsState bases self.old l → references.Stands self.old.types (world_of bases self.old) given d → IsExtern self.old.types asked x → IfOk result (IsFit self.old.types d x) }
+        ensures state { (bases : List Exports) (l : Linking) (d : Definition) (x : Extern) → IsState bases self.old l → references.Stands self.old.types (world_of bases self.old) given d → IsExtern self.old.types asked x → IsState bases self.new l }
+        ensures rest { self.new ≡ record self.old { instances = self.new.instances } }
+    {
+        self.instances.fit(alloc, &self.types, given, asked)
+    }
+
+    /// Adds a definition to the space of its sort.
+    pub fn add(&mut self, n: usize, definition: DefinitionRef) -> Result<(), AllocError>
+        requires { n < length self.old.scopes.items }
+        ensures ok { OnOk result ((bases : List Exports) (l : Linking) (s : Spaces) (d : Definition) → IsAt bases self.old n l s → references.Stands self.old.types (world_of bases self.old) definition d → IsState bases self.new (with_spaces l n (with_definition s d))) }
+        ensures scopes { OnOk result (length self.new.scopes.items ≡ length self.old.scopes.items) }
+    {
+        self.scopes[n].add(definition)?;
+        Ok(())
+    }
+
+    /// Adds a core module.
+    pub fn add_module(&mut self, n: usize, made: Shared<CoreModule<'a>>) -> Result<(), AllocError>
+        requires { n < length self.old.scopes.items }
+        ensures ok { OnOk result ((bases : List Exports) (l : Linking) (s : Spaces) → IsAt bases self.old n l s → IsState bases self.new (with_spaces l n (with_definition s (AModule made.entry)))) }
+        ensures scopes { OnOk result (length self.new.scopes.items ≡ length self.old.scopes.items) }
+    {
+        let number = self.modules.len();
+        self.modules.push(made)?;
+        self.add(n, DefinitionRef::Module(number))?;
+        Ok(())
+    }
+
+    /// Adds a component, which stands in this component instance.
+    pub fn add_component(
+        &mut self,
+        alloc: Global,
+        n: usize,
+        component: &'a Component,
+    ) -> Result<(), AllocError>
+        requires { n < length self.old.scopes.items }
+        ensures ok { OnOk result ((bases : List Exports) (l : Linking) (s : Spaces) → IsAt bases self.old n l s → IsState bases self.new (with_spaces l n (with_definition s (AComponent (record { items = component.now.items; around = n ∷ s.around }))))) }
+        ensures scopes { OnOk result (length self.new.scopes.items ≡ length self.old.scopes.items) }
+    {
+        let around = put_before(alloc, n, self.scopes[n].around.get().as_slice())?;
+        let around = Shared::new(alloc, around)?;
+        let number = self.components.len();
+        self.components.push(Standing::new(component, around))?;
+        self.add(n, DefinitionRef::Component(number))?;
+        Ok(())
+    }
+
+    /// Adds a core item to the space of its sort.
+    pub fn add_core_item(&mut self, n: usize, item: CoreItem<'a>) -> Result<(), AllocError>
+        requires { n < length self.old.scopes.items }
+        ensures ok { OnOk result ((bases : List Exports) (l : Linking) (s : Spaces) → IsAt bases self.old n l s → IsState bases self.new (with_spaces l n (with_core_item s item.entry))) }
+        ensures scopes { OnOk result (length self.new.scopes.items ≡ length self.old.scopes.items) }
+    {
+        self.scopes[n].add_core_item(item)?;
+        Ok(())
+    }
+
+    /// Adds a core instance of inline exports.
+    pub fn add_inline(&mut self, n: usize, exports: InlineExports<'a>) -> Result<(), AllocError>
+        requires { n < length self.old.scopes.items }
+        ensures ok { OnOk result ((bases : List Exports) (l : Linking) (s : Spaces) → IsAt bases self.old n l s → IsState bases self.new (with_spaces l n (with_core_instance s exports.entry))) }
+        ensures scopes { OnOk result (length self.new.scopes.items ≡ length self.old.scopes.items) }
+    {
+        self.scopes[n].add_core_instance(CoreExports::inline(exports))?;
+        Ok(())
+    }
+
+    /// Adds a core instance of a module whose imports are these items.
+    pub fn add_core_instance(
+        &mut self,
+        n: usize,
+        made: Shared<CoreModule<'a>>,
+        imports: Seq<CoreExtern>,
+    ) -> Result<(), AllocError>
+        requires { n < length self.old.scopes.items }
+        ensures ok { OnOk result ((bases : List Exports) (l : Linking) (s : Spaces) (items : List CoreItem) → IsAt bases self.old n l s → imports ≡ map extern_of items → IsState bases self.new (core_made l n s made.entry items)) }
+        ensures scopes { OnOk result (length self.new.scopes.items ≡ length self.old.scopes.items) }
+    {
+        let number = self.cores.len();
+        let valid = made.get().valid();
+        self.cores.push(CoreMake::new(valid, imports, n))?;
+        self.plan.push(Action::Make(number))?;
+        self.scopes[n].add_core_instance(CoreExports::of_module(number, made))?;
+        Ok(())
+    }
+
+    /// An instance of these exports. No space has it yet.
+    pub fn instance(&mut self, listing: Listing<DefinitionRef>) -> Result<InstanceRef, AllocError>
+        ensures made { IfOk result (λ i. (bases : List Exports) (l : Linking) (exports : Exports) → IsState bases self.old l → IsListing self.old.types (world_of bases self.old) listing exports → IsInstance self.new.types (world_of (bases ++ exports ∷ []) self.new) i exports) }
+        ensures state { OnOk result ((bases : List Exports) (l : Linking) (exports : Exports) → IsState bases self.old l → IsListing self.old.types (world_of bases self.old) listing exports → IsState (bases ++ exports ∷ []) self.new l) }
+        ensures rest { self.new ≡ record self.old { instances = self.new.instances } }
+    {
+        let made = self.instances.add(listing)?;
+        Ok(made)
+    }
+
+    /// Adds an import of a name, which is this definition.
+    pub fn add_import(
+        &mut self,
+        n: usize,
+        name: &'a Name,
+        definition: DefinitionRef,
+    ) -> Result<(), AllocError>
+        requires { n < length self.old.scopes.items }
+        ensures ok { OnOk result ((bases : List Exports) (l : Linking) (s : Spaces) (d : Definition) → IsAt bases self.old n l s → references.Stands self.old.types (world_of bases self.old) definition d → IsState bases self.new (with_spaces l n (with_import s name.now d))) }
+        ensures scopes { OnOk result (length self.new.scopes.items ≡ length self.old.scopes.items) }
+    {
+        self.scopes[n].add_import(name, definition)?;
+        Ok(())
+    }
+
+    /// Adds an export under the number of its name, which is also one more definition.
+    pub fn add_export(
+        &mut self,
+        n: usize,
+        name: &'a Name,
+        number: usize,
+        definition: DefinitionRef,
+    ) -> Result<(), AllocError>
+        requires { n < length self.old.scopes.items }
+        ensures ok { OnOk result ((bases : List Exports) (l : Linking) (s : Spaces) (d : Definition) → IsAt bases self.old n l s → IsName self.old.types number name.now → references.Stands self.old.types (world_of bases self.old) definition d → IsState bases self.new (with_spaces l n (with_export s name.now d))) }
+        ensures scopes { OnOk result (length self.new.scopes.items ≡ length self.old.scopes.items) }
+    {
+        self.scopes[n].add_export(name, number, definition)?;
+        Ok(())
+    }
+
+    /// A component instance begins, in these component instances and with these arguments.
+    pub fn begin(
+        &mut self,
+        alloc: Global,
+        around: Shared<Seq<usize>>,
+        arguments: InstanceRef,
+    ) -> Result<(), AllocError>
+        ensures ok { OnOk result ((bases : List Exports) (l : Linking) (c : Closure) (given : Exports) → IsState bases self.old l → c.around ≡ around → IsInstance self.old.types (world_of bases self.old) arguments given → IsState bases self.new (begun l c given)) }
+        ensures scopes { OnOk result (length self.new.scopes.items ≡ length self.old.scopes.items + 1) }
+    {
+        let number = self.scopes.len();
+        self.scopes
+            .push(Scope::new(alloc, Some(arguments), around))?;
+        self.plan.push(Action::Begin(number))?;
+        Ok(())
+    }
+
+    /// Adds the instance that a component instance has become to the one that made it.
+    pub fn end(&mut self, alloc: Global, n: usize, instance: usize) -> Result<(), AllocError>
+        requires here { n < length self.old.scopes.items }
+        requires there { instance < length self.old.scopes.items }
+        ensures ok { OnOk result ((bases : List Exports) (l : Linking) (s : Spaces) → IsAt bases self.old n l s → Stands self.new (with_instance l n s instance)) }
+        ensures scopes { OnOk result (length self.new.scopes.items ≡ length self.old.scopes.items) }
+    {
+        let exports = copied(alloc, &self.scopes[instance].exports)?;
+        let made = self.instance(exports)?;
+        self.add(n, DefinitionRef::Instance(made))?;
+        Ok(())
+    }
+}
+
+/// The item of a number, if there is a number.
+pub(crate) fn item_numbered<T>(items: &[T], number: Option<usize>) -> Option<&T>
+    ensures { option_copied result ≡ option_and_then (λ n. slice_get items.now n) number }
+{
+    items.get(number?)
+}
+
+/// A number before others.
+fn put_before(alloc: Global, first: usize, others: &[usize]) -> Result<Seq<usize>, AllocError>
+    ensures { IfOk result (λ s. s ≡ first ∷ others.now) }
+{
+    let mut numbers = Seq::of(alloc, first)?;
+    for number in others {
+        numbers.push(*number)?;
+    }
+    Ok(numbers)
+}
+
+/// The same definitions under the same names.
+fn copied(
+    alloc: Global,
+    listing: &Listing<DefinitionRef>,
+) -> Result<Listing<DefinitionRef>, AllocError>
+    ensures { IfOk result (λ l. l ≡ listing.now) }
+{
+    let mut copy = Listing::new(alloc);
+    for entry in listing.entries() {
+        copy.push(entry.0, entry.1)?;
+    }
+    Ok(copy)
+}

@@ -1,0 +1,391 @@
+//! The index spaces of a component instance, as references into tables.
+
+ghost use Rattle.std.specs.Prelude.{◌≡◌, ◌∷◌, ◌++◌, [], OnOk, OnErr, IfOk, Option, List, ℕ};
+ghost use Rattle.std.specs.List.{slice_get};
+ghost use Rattle.std.specs.Option.{option_map};
+ghost use Rattle.ca_base.specs.Names.{is_among};
+ghost use Rattle.comp_linking.specs.Definitions.{Closure, Definition, Exports};
+ghost use Rattle.comp_linking.specs.Spaces.{Spaces, core_size, size_of, core_item_at, definition_at, new_spaces, with_core_item, with_core_instance, with_definition};
+ghost use Rattle.comp_linking.specs.Items.{with_import, with_export};
+ghost use Rattle.type_tables.specs.Table.{Table, IsName, IsType};
+ghost use Rattle.instance_tables.specs.declared.references.DefinitionRef.TheVariants as definition_ref;
+ghost use Rattle.instance_tables.specs.References.{World, IsInstance, IsLifted, Stands};
+ghost use Rattle.comp_link.specs.State.{IsClosure, IsModule, IsScope, AreGiven, IsFoundAs};
+
+use ca_base::{Name, Seq, adds};
+use ca_types::Shared;
+use comp_reader::{Component, CoreSort, Sort};
+use core_exports::{CoreExports, CoreItem};
+use instance_tables::{DefinitionRef, InstanceRef, LiftedRef};
+use std::alloc::{AllocError, Global};
+use std::collections::BTreeSet;
+use std::marker::Model;
+use type_tables::{Listing, TypeRef};
+
+/// A component where it stands: as it is read, and the component instances around it, from the inside out. Contracts see its
+/// items in place of it.
+#[derive(Drop)]
+pub struct Standing<'a> {
+    component: &'a Component,
+    around: Shared<Seq<usize>>,
+}
+
+impl<'a> Model for Standing<'a> {
+    ghost use Rattle.std.specs.Coded.{codes};
+    ghost use Rattle.comp_reader.specs.contracts.component.Component as component_row;
+    ghost use Rattle.comp_reader.specs.contracts.component.Item as item_row;
+    ghost use Rattle.comp_linking.specs.Definitions.{Closure};
+
+    ghost Value = { Closure };
+
+    ghost coded = { Prim.hlevel (codes, component_row.the_row.coded, item_row.the_row.coded) };
+
+    ghost view = { λ s. record { items = s.component.now.items; around = s.around } };
+}
+
+impl<'a> Standing<'a> {
+    /// A component in these component instances.
+    pub fn new(component: &'a Component, around: Shared<Seq<usize>>) -> Standing<'a>
+        ensures { result ≡ record { items = component.now.items; around = around } }
+    {
+        Standing { component, around }
+    }
+
+    /// The component.
+    pub fn component(&self) -> &'a Component
+        ensures { result.now.items ≡ self.now.items }
+    {
+        self.component
+    }
+
+    /// The component instances around it.
+    pub fn around(&self) -> &Shared<Seq<usize>>
+        ensures { result.now ≡ self.now.around }
+    {
+        &self.around
+    }
+}
+
+/// Names, in order, and the set of them. Contracts see the names.
+#[derive(Drop)]
+pub struct NameList<'a> {
+    names: Vec<&'a Name>,
+    seen: BTreeSet<&'a str>,
+}
+
+impl<'a> Model for NameList<'a> {
+    ghost use Rattle.std.specs.Prelude.{◌≡◌, ℕ, List, map};
+    ghost use Rattle.ca_base.specs.Names.{has, is_among};
+
+    ghost Value = { List (List ℕ) };
+
+    ghost view = { λ l. map (λ n. n.now) l.names.items };
+
+    ghost invariant = { λ l. (q : List ℕ) → has l.seen q ≡ is_among q (map (λ n. n.now) l.names.items) };
+}
+
+impl<'a> NameList<'a> {
+    /// No names. They take no memory.
+    pub fn new(alloc: Global) -> NameList<'a>
+        ensures { result ≡ [] }
+    {
+        NameList {
+            names: Vec::new(alloc),
+            seen: BTreeSet::new(alloc),
+        }
+    }
+
+    /// Whether a name is among them.
+    pub fn has(&self, name: &str) -> bool
+        ensures { result ≡ is_among name.now self.now }
+    {
+        self.seen.contains(name)
+    }
+
+    /// Adds a name behind the others. It fails for want of memory alone, and then adds none.
+    pub fn add(&mut self, name: &'a Name) -> Result<(), AllocError>
+        ensures ok { OnOk result (self.new ≡ self.old ++ name.now ∷ []) }
+        ensures err { OnErr result (self.new ≡ self.old) }
+    {
+        self.names.reserve(1)?;
+        adds(&mut self.seen, name.as_str())?;
+        self.names.push_reserved(name);
+        Ok(())
+    }
+}
+
+/// The index spaces of a component instance (Component Model, Explainer.md, "Index Spaces").
+#[derive(Drop)]
+pub struct Scope<'a> {
+    /// The core modules, by their numbers.
+    pub core_modules: Vec<usize>,
+    /// What each core instance exports.
+    pub core_instances: Vec<CoreExports<'a>>,
+    /// The core functions.
+    pub core_funcs: Vec<CoreItem<'a>>,
+    /// The core tables.
+    pub core_tables: Vec<CoreItem<'a>>,
+    /// The core memories.
+    pub core_memories: Vec<CoreItem<'a>>,
+    /// The core globals.
+    pub core_globals: Vec<CoreItem<'a>>,
+    /// The components, by their numbers.
+    pub components: Vec<usize>,
+    /// The instances.
+    pub instances: Vec<InstanceRef>,
+    /// The functions.
+    pub funcs: Vec<LiftedRef>,
+    /// The types.
+    pub types: Vec<TypeRef>,
+    /// The names of its imports so far.
+    pub imports: NameList<'a>,
+    /// Its exports so far, under the numbers of their names.
+    pub exports: Listing<DefinitionRef>,
+    /// The names of its exports so far.
+    pub export_names: NameList<'a>,
+    /// Its arguments: none of the root.
+    pub arguments: Option<InstanceRef>,
+    /// The component instances around it, from the inside out.
+    pub around: Shared<Seq<usize>>,
+}
+
+impl<'a> Scope<'a> {
+    /// Before the first item. It takes no memory.
+    pub fn new(
+        alloc: Global,
+        arguments: Option<InstanceRef>,
+        around: Shared<Seq<usize>>,
+    ) -> Scope<'a>
+        ensures { (t : Table) (w : World) (given : Option Exports) → AreGiven t w arguments given → IsScope t w result (new_spaces given around) }
+    {
+        Scope {
+            core_modules: Vec::new(alloc),
+            core_instances: Vec::new(alloc),
+            core_funcs: Vec::new(alloc),
+            core_tables: Vec::new(alloc),
+            core_memories: Vec::new(alloc),
+            core_globals: Vec::new(alloc),
+            components: Vec::new(alloc),
+            instances: Vec::new(alloc),
+            funcs: Vec::new(alloc),
+            types: Vec::new(alloc),
+            imports: NameList::new(alloc),
+            exports: Listing::new(alloc),
+            export_names: NameList::new(alloc),
+            arguments,
+            around,
+        }
+    }
+
+    /// How many definitions of a core sort there are.
+    #[tactic(auto, using(crate::proofs::Zips::as_long))]
+    pub fn core_size(&self, sort: CoreSort) -> usize
+        ensures { (t : Table) (w : World) (s : Spaces) → IsScope t w self.now s → result ≡ core_size s sort }
+    {
+        match sort {
+            CoreSort::Func => self.core_funcs.len(),
+            CoreSort::Table => self.core_tables.len(),
+            CoreSort::Memory => self.core_memories.len(),
+            CoreSort::Global => self.core_globals.len(),
+            CoreSort::Module => self.core_modules.len(),
+            CoreSort::Instance => self.core_instances.len(),
+        }
+    }
+
+    /// How many definitions of a sort there are.
+    #[tactic(auto, using(crate::proofs::Zips::as_long))]
+    pub fn size(&self, sort: Sort) -> usize
+        ensures { (t : Table) (w : World) (s : Spaces) → IsScope t w self.now s → result ≡ size_of s sort }
+    {
+        match sort {
+            Sort::Core(sort) => self.core_size(sort),
+            Sort::Func => self.funcs.len(),
+            Sort::Type => self.types.len(),
+            Sort::Component => self.components.len(),
+            Sort::Instance => self.instances.len(),
+        }
+    }
+
+    /// What the core instance of an index exports.
+    pub fn core_instance(&self, index: u32) -> Option<&CoreExports<'a>>
+        ensures { (t : Table) (w : World) (s : Spaces) → IsScope t w self.now s → IsFoundAs (λ e x. e.now ≡ x) result (slice_get s.core_instances index) }
+    {
+        self.core_instances.get(index as usize)
+    }
+
+    /// The core item of a sort and an index. Modules and instances are none.
+    pub fn core_item(&self, sort: CoreSort, index: u32) -> Option<CoreItem<'a>>
+        ensures { (t : Table) (w : World) (s : Spaces) → IsScope t w self.now s → result ≡ core_item_at s sort index }
+    {
+        match sort {
+            CoreSort::Func => item_at(&self.core_funcs, index),
+            CoreSort::Table => item_at(&self.core_tables, index),
+            CoreSort::Memory => item_at(&self.core_memories, index),
+            CoreSort::Global => item_at(&self.core_globals, index),
+            CoreSort::Module | CoreSort::Instance => None,
+        }
+    }
+
+    /// The number of the core module of an index.
+    pub fn module(&self, index: u32) -> Option<usize>
+        ensures { (t : Table) (w : World) (s : Spaces) → IsScope t w self.now s → IsFoundAs (IsModule w) result (slice_get s.core_modules index) }
+    {
+        copied_at(&self.core_modules, index)
+    }
+
+    /// The number of the component of an index.
+    pub fn component(&self, index: u32) -> Option<usize>
+        ensures { (t : Table) (w : World) (s : Spaces) → IsScope t w self.now s → IsFoundAs (IsClosure w) result (slice_get s.components index) }
+    {
+        copied_at(&self.components, index)
+    }
+
+    /// The instance of an index.
+    pub fn instance(&self, index: u32) -> Option<InstanceRef>
+        ensures { (t : Table) (w : World) (s : Spaces) → IsScope t w self.now s → IsFoundAs (IsInstance t w) result (slice_get s.instances index) }
+    {
+        copied_at(&self.instances, index)
+    }
+
+    /// The function of an index.
+    pub fn func(&self, index: u32) -> Option<LiftedRef>
+        ensures { (t : Table) (w : World) (s : Spaces) → IsScope t w self.now s → IsFoundAs (IsLifted t) result (slice_get s.funcs index) }
+    {
+        copied_at(&self.funcs, index)
+    }
+
+    /// The type of an index.
+    pub fn type_at(&self, index: u32) -> Option<TypeRef>
+        ensures { (t : Table) (w : World) (s : Spaces) → IsScope t w self.now s → IsFoundAs (IsType t) result (slice_get s.types index) }
+    {
+        copied_at(&self.types, index)
+    }
+
+    /// The definition of a sort and an index.
+    pub fn definition(&self, sort: Sort, index: u32) -> Option<DefinitionRef>
+        ensures { (t : Table) (w : World) (s : Spaces) → IsScope t w self.now s → IsFoundAs (Stands t w) result (definition_at s sort index) }
+    {
+        match sort {
+            Sort::Core(CoreSort::Module) => module_definition(self.module(index)),
+            Sort::Core(_) => None,
+            Sort::Func => func_definition(self.func(index)),
+            Sort::Type => type_definition(self.type_at(index)),
+            Sort::Component => component_definition(self.component(index)),
+            Sort::Instance => instance_definition(self.instance(index)),
+        }
+    }
+
+    /// Adds a definition to the space of its sort. It fails for want of memory alone, as do all calls here that fail.
+    pub(crate) fn add(&mut self, definition: DefinitionRef) -> Result<(), AllocError>
+        ensures { OnOk result ((t : Table) (w : World) (s : Spaces) (d : Definition) → IsScope t w self.old s → Stands t w definition d → IsScope t w self.new (with_definition s d)) }
+    {
+        match definition {
+            DefinitionRef::Func(func) => self.funcs.push(func)?,
+            DefinitionRef::Type(closed) => self.types.push(closed)?,
+            DefinitionRef::Component(number) => self.components.push(number)?,
+            DefinitionRef::Instance(instance) => self.instances.push(instance)?,
+            DefinitionRef::Module(number) => self.core_modules.push(number)?,
+        }
+        Ok(())
+    }
+
+    /// Adds a core item to the space of its sort.
+    pub(crate) fn add_core_item(&mut self, item: CoreItem<'a>) -> Result<(), AllocError>
+        ensures { OnOk result ((t : Table) (w : World) (s : Spaces) → IsScope t w self.old s → IsScope t w self.new (with_core_item s item.entry)) }
+    {
+        match item.sort() {
+            CoreSort::Func => self.core_funcs.push(item)?,
+            CoreSort::Table => self.core_tables.push(item)?,
+            CoreSort::Memory => self.core_memories.push(item)?,
+            CoreSort::Global => self.core_globals.push(item)?,
+            CoreSort::Module | CoreSort::Instance => unreachable!(),
+        }
+        Ok(())
+    }
+
+    /// Adds what a core instance exports.
+    pub(crate) fn add_core_instance(&mut self, exports: CoreExports<'a>) -> Result<(), AllocError>
+        ensures { OnOk result ((t : Table) (w : World) (s : Spaces) → IsScope t w self.old s → IsScope t w self.new (with_core_instance s exports.entry)) }
+    {
+        self.core_instances.push(exports)?;
+        Ok(())
+    }
+
+    /// Adds an import of a name, which is this definition.
+    pub(crate) fn add_import(
+        &mut self,
+        name: &'a Name,
+        definition: DefinitionRef,
+    ) -> Result<(), AllocError>
+        ensures { OnOk result ((t : Table) (w : World) (s : Spaces) (d : Definition) → IsScope t w self.old s → Stands t w definition d → IsScope t w self.new (with_import s name.now d)) }
+    {
+        self.imports.add(name)?;
+        self.add(definition)?;
+        Ok(())
+    }
+
+    /// Adds an export under the number of its name, which is also one more definition.
+    pub(crate) fn add_export(
+        &mut self,
+        name: &'a Name,
+        number: usize,
+        definition: DefinitionRef,
+    ) -> Result<(), AllocError>
+        ensures { OnOk result ((t : Table) (w : World) (s : Spaces) (d : Definition) → IsScope t w self.old s → IsName t number name.now → Stands t w definition d → IsScope t w self.new (with_export s name.now d)) }
+    {
+        self.export_names.add(name)?;
+        self.exports.push(number, definition)?;
+        self.add(definition)?;
+        Ok(())
+    }
+}
+
+/// The core item of an index.
+fn item_at<'a>(items: &[CoreItem<'a>], index: u32) -> Option<CoreItem<'a>>
+    ensures { result ≡ slice_get items.now index }
+{
+    let item = items.get(index as usize)?;
+    Some(item.again())
+}
+
+/// The item of an index, which is copied.
+fn copied_at<T: Copy + Drop>(items: &[T], index: u32) -> Option<T>
+    ensures { result ≡ slice_get items.now index }
+{
+    items.get(index as usize).copied()
+}
+
+/// A function that is found, as a definition.
+fn func_definition(found: Option<LiftedRef>) -> Option<DefinitionRef>
+    ensures { result ≡ option_map definition_ref.Func found }
+{
+    Some(DefinitionRef::Func(found?))
+}
+
+/// A type that is found, as a definition.
+fn type_definition(found: Option<TypeRef>) -> Option<DefinitionRef>
+    ensures { result ≡ option_map definition_ref.Type found }
+{
+    Some(DefinitionRef::Type(found?))
+}
+
+/// A component that is found, as a definition.
+fn component_definition(found: Option<usize>) -> Option<DefinitionRef>
+    ensures { result ≡ option_map definition_ref.Component found }
+{
+    Some(DefinitionRef::Component(found?))
+}
+
+/// An instance that is found, as a definition.
+fn instance_definition(found: Option<InstanceRef>) -> Option<DefinitionRef>
+    ensures { result ≡ option_map definition_ref.Instance found }
+{
+    Some(DefinitionRef::Instance(found?))
+}
+
+/// A core module that is found, as a definition.
+fn module_definition(found: Option<usize>) -> Option<DefinitionRef>
+    ensures { result ≡ option_map definition_ref.Module found }
+{
+    Some(DefinitionRef::Module(found?))
+}

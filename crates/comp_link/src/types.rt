@@ -1,0 +1,127 @@
+//! Types.
+
+ghost use Rattle.std.specs.Prelude.{◌≡◌, ◌<◌, ◌∷◌, ◌++◌, [], ℕ, List, length, OnOk, IfOk};
+ghost use Rattle.std.specs.List.{AllZip};
+ghost use Rattle.comp_linking.specs.Definitions.{Exports};
+ghost use Rattle.comp_linking.specs.Spaces.{Spaces, Linking, levels_at};
+ghost use Rattle.comp_linking.specs.Types as types_read;
+ghost use Rattle.comp_linking.specs.Computed.{type_outcome, one_more};
+ghost use Rattle.type_tables.specs.Table.{Table, IsType};
+ghost use Rattle.instance_tables.specs.References.{World};
+ghost use Rattle.type_meanings.specs.Meant.{IsMeaning};
+ghost use Rattle.type_meanings.specs.Levels.{AreLevels};
+ghost use Rattle.comp_link.specs.State.{IsScope, IsAt, IsMade};
+ghost use Rattle.comp_link.specs.Told.{IsTold};
+ghost use Rattle.comp_link.specs.Ready.{IsReady};
+
+use crate::link_fault::{ItemError, missing};
+use crate::linker::{Linker, item_numbered};
+use crate::scope::Scope;
+use ca_base::MemoryOr;
+use comp_linking::LinkWhy;
+use comp_reader::DefType;
+use instance_tables::DefinitionRef;
+use std::alloc::{AllocError, Global};
+use type_meanings::{Level, Meant, meaning_of};
+use type_tables::TypeRef;
+
+/// What outer aliases see of a component instance.
+fn level_of<'b>(scope: &'b Scope<'_>) -> Level<'b>
+    ensures types { result.types.now ≡ scope.now.types.items }
+    ensures components { result.components.now ≡ scope.now.components.items }
+{
+    Level {
+        types: &scope.types,
+        components: &scope.components,
+    }
+}
+
+/// Puts what outer aliases see of the component instance of a number behind the others, if it has begun. It fails for want of
+/// memory alone, as do the other functions here but the last two.
+fn push_level<'b>(
+    levels: &mut Vec<Level<'b>>,
+    scopes: &'b [Scope<'_>],
+    number: usize,
+) -> Result<(), AllocError>
+    ensures { OnOk result ((t : Table) (w : World) (l : Linking) (numbers : List ℕ) → AllZip (IsScope t w) scopes.now l.scopes → AreLevels t w.components levels.old.items (levels_at l numbers) → AreLevels t w.components levels.new.items (levels_at l (numbers ++ number ∷ []))) }
+{
+    let Some(scope) = item_numbered(scopes, Some(number)) else {
+        return Ok(());
+    };
+    levels.push(level_of(scope))?;
+    Ok(())
+}
+
+/// What outer aliases see of a component instance and of those around it, from the inside out.
+fn levels_at<'b>(
+    alloc: Global,
+    scopes: &'b [Scope<'_>],
+    n: usize,
+    around: &[usize],
+) -> Result<Vec<Level<'b>>, AllocError>
+    ensures { IfOk result (λ levels. (t : Table) (w : World) (l : Linking) → AllZip (IsScope t w) scopes.now l.scopes → AreLevels t w.components levels.items (levels_at l (n ∷ around.now))) }
+{
+    let mut levels = Vec::new(alloc);
+    push_level(&mut levels, scopes, n)?;
+    for number in around {
+        push_level(&mut levels, scopes, *number)?;
+    }
+    Ok(levels)
+}
+
+/// What a type means that stands in a component instance.
+fn meaning_at<'a>(
+    alloc: Global,
+    linker: &mut Linker<'a>,
+    n: usize,
+    def_type: &'a DefType,
+) -> Result<Meant<'a, TypeRef>, AllocError>
+    requires { n < length linker.old.scopes.items }
+    ensures means { IfOk result (λ m. (bases : List Exports) (l : Linking) (s : Spaces) → IsAt bases linker.old n l s → IsMeaning (IsType linker.new.types) m (types_read.meaning_of def_type.now (levels_at l (n ∷ s.around)))) }
+    ensures at { (bases : List Exports) (l : Linking) (s : Spaces) → IsAt bases linker.old n l s → IsAt bases linker.new n l s }
+    ensures scopes { linker.new.scopes ≡ linker.old.scopes }
+{
+    let around = linker.scopes[n].around.get().as_slice();
+    let levels = levels_at(alloc, &linker.scopes, n, around)?;
+    meaning_of(alloc, &mut linker.types, &levels, def_type)
+}
+
+/// The definition of a type.
+fn type_definition<'a>(
+    alloc: Global,
+    linker: &mut Linker<'a>,
+    n: usize,
+    def_type: &'a DefType,
+) -> Result<DefinitionRef, ItemError>
+    requires { n < length linker.old.scopes.items }
+    ensures made { (bases : List Exports) (l : Linking) (s : Spaces) → IsAt bases linker.old n l s → IsTold (IsReady linker.new l (one_more l n s)) result (type_outcome l n s (types_read.meaning_of def_type.now (levels_at l (n ∷ s.around)))) }
+    ensures scopes { linker.new.scopes ≡ linker.old.scopes }
+{
+    let meant = meaning_at(alloc, linker, n, def_type)?;
+    if !meant.is_there {
+        return Err(MemoryOr::Fault(LinkWhy::Index));
+    }
+    if let Some(name) = meant.missing {
+        return Err(missing(alloc, name.as_str()));
+    }
+    match meant.means {
+        Some(closed) => Ok(DefinitionRef::Type(closed)),
+        None => Err(MemoryOr::Fault(LinkWhy::Typing)),
+    }
+}
+
+/// Links a type.
+pub fn link_type<'a>(
+    alloc: Global,
+    linker: &mut Linker<'a>,
+    n: usize,
+    def_type: &'a DefType,
+) -> Result<(), ItemError>
+    requires { n < length linker.old.scopes.items }
+    ensures made { (bases : List Exports) (l : Linking) (s : Spaces) → IsAt bases linker.old n l s → IsTold (λ _ outcome. IsMade linker.new outcome) result (type_outcome l n s (types_read.meaning_of def_type.now (levels_at l (n ∷ s.around)))) }
+    ensures scopes { OnOk result (length linker.new.scopes.items ≡ length linker.old.scopes.items) }
+{
+    let definition = type_definition(alloc, linker, n, def_type)?;
+    linker.add(n, definition)?;
+    Ok(())
+}
