@@ -13,6 +13,31 @@ const PROVIDER: &str = "
 03 00 01 76 03 01 0A 0C 02 07 00 20 00 20 01 6A 0B 02 00 0B
 ";
 
+/// An instance of `PROVIDER`, its `f` as core function 0, the function type of `a` and `b` to u32 as type 0, and the lift of the
+/// one to the other as function 0.
+const LIFTED: &str = "
+02 04 01 00 00 00
+06 07 01 00 00 01 00 01 66
+07 0B 01 40 02 01 61 79 01 62 79 00 79
+08 06 01 00 00 00 00 00
+";
+
+/// The front of the section of a component that has what `LIFTED` has.
+const ADDER: &str = "04 93 01 00 61 73 6D 0D 00 01 00";
+
+/// An export `f` of function 0.
+const EXPORTED: &str = "0B 07 01 00 01 66 01 00 00";
+
+/// The code of a word that stands for some lines.
+fn lines_of(word: &str) -> [&str; 4] {
+    match word {
+        "provider" => [PROVIDER, "", "", ""],
+        "lifted" => [PROVIDER, LIFTED, "", ""],
+        "adder" => [ADDER, PROVIDER, LIFTED, EXPORTED],
+        _ => [word, "", "", ""],
+    }
+}
+
 /// Adds the bytes of a line, so many times.
 fn add_times(alloc: Global, line: &str, bytes: &mut Vec<u8>) -> Result<(), Fail> {
     let (count, code) = line.split_once(' ').ok_or("no bytes")?;
@@ -33,9 +58,10 @@ fn add_line(alloc: Global, line: &str, bytes: &mut Vec<u8>) -> Result<(), Fail> 
     if let Some(times) = code.strip_prefix("times ") {
         return add_times(alloc, times, bytes);
     }
-    let code = if code == "provider" { PROVIDER } else { code };
-    let part = cases::bytes_of(alloc, code)?;
-    bytes.extend_from_slice(&part)?;
+    for part in lines_of(code) {
+        let part = cases::bytes_of(alloc, part)?;
+        bytes.extend_from_slice(&part)?;
+    }
     Ok(())
 }
 

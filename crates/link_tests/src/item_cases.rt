@@ -1,4 +1,4 @@
-//! Types, lifts, imports and exports, and what is not linked yet, with answers that are derived from the definitions by hand.
+//! Types, lifts, imports and exports, with answers that are derived from the definitions by hand.
 
 /// How many cases there are.
 pub(crate) const COUNT: usize = 30;
@@ -342,21 +342,21 @@ an instance
 05 04 01 ; 18: a section
 00 00 00 ; 21: an instance of component 0
 is
-21 Limit
+plan begin 0 begin 1
 
 an instance of a component that is not there
 00 61 73 6D 0D 00 01 00 ; the preamble
 05 04 01 ; 8: a section
 00 00 00 ; 11: an instance of component 0
 is
-11 Limit
+11 Index
 
 an instance type
 00 61 73 6D 0D 00 01 00 ; the preamble
 07 03 01 ; 8: a section
 42 00 ; 11: an instance type
 is
-11 Limit
+plan begin 0
 
 an export that says what it is
 00 61 73 6D 0D 00 01 00 ; the preamble
@@ -370,9 +370,10 @@ provider ; 8: a section of the core module `PROVIDER`, from 10 on
 0B 0A 01 ; 130: a section
 00 01 61 03 00 01 03 00 00 ; 133: an export `a` of type 0
 is
-133 Limit
+plan begin 0 make 0
+core
 
-an item that is refused before one that is not linked yet
+an item that is refused before another one
 00 61 73 6D 0D 00 01 00 ; the preamble
 0A 06 01 ; 8: a section
 00 01 69 01 00 ; 11: an import `i`
