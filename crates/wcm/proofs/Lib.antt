@@ -1,17 +1,9 @@
-pub mod Arguments
-pub mod Behind
-pub mod Calls
-pub mod CoreRuns
 pub mod Entries
 pub mod Exact
-pub mod Fitting
-pub mod Instancing
-pub mod Leads
 pub mod Modules
 pub mod Outcomes
 pub mod Plain
 pub mod Readings
 pub mod Rows
 pub mod Sounds
-pub mod Supplied
 pub mod Taken

@@ -9,8 +9,8 @@ use Rattle.script_reader.specs.declared.fault.ScriptFault.{ScriptFault}
 use Rattle.script_reader.specs.Script.{Script, script}
 use Rattle.wcm.specs.declared.answer.Answer.{Answer}
 use Rattle.comp_graph.specs.Graph.{Graph}
-use Rattle.comp_link.specs.SoFar.{IsLinkedSoFar}
-use Rattle.comp_link.specs.Laws.{LinkedSoFarOrRefused}
+use Rattle.comp_linking.specs.Linked.{IsLinked}
+use Rattle.comp_linking.specs.Laws.{LinkedOrRefused}
 use Rattle.wcm.specs.Laws.{ScriptsAreSound, OneOutcome}
 use Rattle.abi_machine.specs.Laws.{EachRunEnds}
 use Rattle.wcm.specs.Words.{Command, Run, Check, Show, command_of, component_file}
@@ -18,19 +18,19 @@ use Rattle.wcm.specs.Outcome.{component_limit, too_long, refused_answer, link_re
 use Rattle.wcm.proofs.Rows.{usage_answer}
 use Rattle.wcm.proofs.Rows as only
 
-module _ (reading : OneReading) (links : LinkedSoFarOrRefused) (sound : ScriptsAreSound) (ends : EachRunEnds) where
-  by_script : (bytes text : List ℕ) (c : Component) (g : Graph) (r : Result Script ScriptFault) → IsComponent bytes c → IsLinkedSoFar c g → script g.exports text ≡ r → (a : Answer) × ScriptAnswers g text a
+module _ (reading : OneReading) (links : LinkedOrRefused) (sound : ScriptsAreSound) (ends : EachRunEnds) where
+  by_script : (bytes text : List ℕ) (c : Component) (g : Graph) (r : Result Script ScriptFault) → IsComponent bytes c → IsLinked c g → script g.exports text ≡ r → (a : Answer) × ScriptAnswers g text a
   by_script bytes text c g (Err fault) i l h = (script_refused_answer fault, inl (fault, h, refl))
   by_script bytes text c g (Ok s) i l h =
-      let run = ends g s (sound bytes text c g s i l.1 h) in
+      let run = ends g s (sound bytes text c g s i l h) in
       (run_answer run.0 run.1, inr (s, h, (run.0, run.1, run.2, refl)))
 
-  by_held_script : (bytes : List ℕ) (c : Component) (g : Graph) (o : Option (List ℕ)) → IsComponent bytes c → IsLinkedSoFar c g → IsSome o → (a : Answer) × HeldScriptAnswers g o a
+  by_held_script : (bytes : List ℕ) (c : Component) (g : Graph) (o : Option (List ℕ)) → IsComponent bytes c → IsLinked c g → IsSome o → (a : Answer) × HeldScriptAnswers g o a
   by_held_script bytes c g None i l told = cc
   by_held_script bytes c g (Some text) i l told = by_script bytes text c g (script g.exports text) i l refl
 
   -- the answer of a command behind a graph
-  by_command : (bytes : List ℕ) (command : Command) (held : List ℕ → Option (List ℕ)) (c : Component) (g : Graph) → IsComponent bytes c → IsLinkedSoFar c g → IsScriptTold command held → (a : Answer) × GraphAnswers command held g a
+  by_command : (bytes : List ℕ) (command : Command) (held : List ℕ → Option (List ℕ)) (c : Component) (g : Graph) → IsComponent bytes c → IsLinked c g → IsScriptTold command held → (a : Answer) × GraphAnswers command held g a
   by_command bytes (Run f s) held c g i l told = by_held_script bytes c g (held s) i l told
   by_command bytes (Check f) held c g i l told = (accepted_answer, refl)
   by_command bytes (Show f) held c g i l told = (shown_answer g, refl)

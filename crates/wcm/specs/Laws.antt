@@ -8,8 +8,12 @@ use Rattle.wcm.specs.declared.answer.Answer.{Answer}
 use Rattle.comp_graph.specs.Graph.{Graph}
 use Rattle.comp_linking.specs.Linked.{IsLinked}
 use Rattle.wcm.specs.Outcome.{IsTold, Outcome}
-use Rattle.abi_machine.specs.Laws.{Sound}
+use Rattle.abi_machine.specs.Laws.{SoundGraph, Sound}
 use Rattle.wcm.specs.Words.{Command, command_of, is_taken, plain_command}
+
+-- The graph of a component that is read and linked is sound.
+abbrev pub LinkedGraphsAreSound : Type 0
+LinkedGraphsAreSound = (bytes : List ℕ) (c : Component) (g : Graph) → IsComponent bytes c → IsLinked c g → SoundGraph g
 
 -- A script that is read for a component that is read and linked is sound: so it has exactly one run (`specs/Laws` of abi_machine).
 abbrev pub ScriptsAreSound : Type 0

@@ -1,4 +1,3 @@
-pub mod Calling
 pub mod Gives
 pub mod Laws
 pub mod Outcome

@@ -5,7 +5,6 @@
 use Rattle.std.specs.Prelude.{◌≡◌, ◌<◌, ◌≤◌, ◌⊎◌, ℕ, Bool, true, false, List, [], length, Option, Some, IsSome}
 use Rattle.std.specs.Option.{MatchOption}
 use Rattle.ca_base.specs.declared.refusal.Refusal.{Refusal}
-use Rattle.ca_types.specs.declared.exports.Export.{Export}
 use Rattle.comp_reader.specs.declared.component.Component.{Component}
 use Rattle.comp_reader.specs.declared.fault.ComponentWhy.{ComponentWhy}
 use Rattle.comp_reader.specs.declared.fault.ComponentWhy.TheVariants.{Limit}
@@ -24,18 +23,18 @@ use Rattle.abi_machine.specs.Run.{Runs, lines_of}
 use Rattle.trace_show.specs.declared.trap.TrapName.{TrapName}
 use Rattle.wcm.specs.declared.answer.Answer.{Answer}
 use Rattle.wcm.specs.declared.status.Status.TheVariants.{Done, Usage, Refused, ScriptRefused, LinkRefused}
-use Rattle.comp_link.specs.SoFar.{IsLinkedSoFar, IsRefusedSoFar}
+use Rattle.comp_linking.specs.Linked.{IsLinked, IsLinkRefused}
 use Rattle.wcm.specs.Refusals.{refused_line, link_refused_line, script_refused_line}
 use Rattle.wcm.specs.Shown.{accepted_text, graph_text}
 use Rattle.wcm.specs.Status.{status_of}
 use Rattle.wcm.specs.Words.{Command, Run, Check, Show, command_of, component_file}
 
--- what is read of some bytes, and of some text for a component with these exports
+-- what is read of some bytes, and the graph of it
 abbrev pub IsRead : Component → Type 0
 IsRead c = (bytes : List ℕ) × IsComponent bytes c
 
-abbrev pub IsOfScript : List Export → Script → Type 0
-IsOfScript exports s = (text : List ℕ) × IsScript exports text s
+abbrev pub IsOfComponent : Graph → Type 0
+IsOfComponent g = (c : Component) × IsRead c × IsLinked c g
 
 -- how many bytes a component file may have: 16 MiB
 abbrev pub component_limit : ℕ
@@ -93,8 +92,8 @@ ScriptAnswers g text a =
 -- the answer for a component: it is not linked, or the answer is what is said behind its graph
 abbrev pub LinkAnswers : Component → Answer → (Graph → Type 0) → Type 0
 LinkAnswers c a behind =
-    ((fault : LinkFault) × IsRefusedSoFar c fault × (a ≡ link_refused_answer fault))
-    ⊎ ((g : Graph) × IsLinkedSoFar c g × behind g)
+    ((fault : LinkFault) × IsLinkRefused c fault × (a ≡ link_refused_answer fault))
+    ⊎ ((g : Graph) × IsLinked c g × behind g)
 
 -- the answer for the bytes of a component file: they are refused, or the answer is that for their component
 abbrev pub FileAnswers : List ℕ → Answer → (Graph → Type 0) → Type 0
@@ -128,7 +127,7 @@ Outcome words held a = MatchOption (command_of words) (IsUsage a) (λ command. C
 abbrev pub DecidesAlone : List ℕ → Type 0
 DecidesAlone bytes =
     ((refusal : Refusal ComponentWhy) × IsRefusedFile bytes refusal)
-    ⊎ ((c : Component) × (fault : LinkFault) × IsComponentFile bytes c × IsRefusedSoFar c fault)
+    ⊎ ((c : Component) × (fault : LinkFault) × IsComponentFile bytes c × IsLinkRefused c fault)
 
 -- what a command asks for behind a graph is told: `run` asks for the script file, `check` and `show` for nothing
 abbrev pub IsScriptTold : Command → (List ℕ → Option (List ℕ)) → Type 0
@@ -166,7 +165,7 @@ pub record NamesLinkRefused (words : List (List ℕ)) (held : List ℕ → Optio
   pub words_name : command_of words ≡ Some command
   pub holds : held (component_file command) ≡ Some bytes
   pub read : IsComponentFile bytes component
-  pub refused : IsRefusedSoFar component fault
+  pub refused : IsLinkRefused component fault
 
 -- the words name a component file that is linked to this graph, and this command for it
 pub record NamesLinked (words : List (List ℕ)) (held : List ℕ → Option (List ℕ)) (command : Command) (g : Graph) : Type 0 where
@@ -175,7 +174,7 @@ pub record NamesLinked (words : List (List ℕ)) (held : List ℕ → Option (Li
   pub words_name : command_of words ≡ Some command
   pub holds : held (component_file command) ≡ Some bytes
   pub read : IsComponentFile bytes component
-  pub linked : IsLinkedSoFar component g
+  pub linked : IsLinked component g
 
 -- the words name a component that is linked, which they ask to check or to show
 abbrev pub asks_of_graph : Command → Bool

@@ -3,21 +3,18 @@
 ghost use Rattle.std.specs.Prelude.{◌≡◌, ℕ, List, [], IfOk, IfSome, MatchResult};
 ghost use Rattle.std.specs.List.{AllByRecursion};
 ghost use Rattle.script_reader.specs.Script.{IsScript, IsScriptRefused, CallsExport};
-ghost use Rattle.comp_link.specs.SoFar.{IsLinkedSoFar};
 ghost use Rattle.comp_graph.specs.Graph.{IsCallable};
-ghost use Rattle.abi_machine.specs.Laws.{Sound};
+ghost use Rattle.abi_machine.specs.Laws.{SoundGraph};
 ghost use Rattle.wcm.specs.Gives.{CommandGives, GraphGives, ScriptGives};
-ghost use Rattle.wcm.specs.Outcome.{IsRead, IsOfScript, LinkAnswers, RunAnswers, IsComponentFile, IsRefusedFile, accepted_answer, shown_answer};
+ghost use Rattle.wcm.specs.Outcome.{IsRead, IsOfComponent, LinkAnswers, RunAnswers, IsComponentFile, IsRefusedFile, accepted_answer, shown_answer};
 ghost use Rattle.wcm.specs.Stops.{StopsFor};
 ghost use Rattle.wcm.specs.Status.{IsAnswered, IsBehindGraph};
 ghost use Rattle.wcm.specs.Words.{said};
 
-use crate::laws::scripts_are_sound;
+use crate::laws::linked_graphs_are_sound;
 use crate::refusals::{link_refused_line, refused_line, script_refused_line};
-use crate::running::run_script;
 use crate::shown::graph_text;
 use crate::status::{Status, status_of_end};
-use crate::trace_text::trace_text;
 use crate::words::Command;
 use ca_base::{Bytes, Memory, MemoryOr, Refusal, Seq};
 use ca_io::{FileError, Files, read_all};
@@ -26,6 +23,7 @@ use comp_graph::Graph;
 use comp_link::link;
 use comp_linking::laws::graphs_are_sound;
 use comp_reader::{Component, ComponentWhy, read_component};
+use component_run::{run_script, trace_text};
 use script_reader::{Script, ScriptFault, ScriptWhy, read_script};
 use std::alloc::{AllocError, Global};
 
@@ -122,7 +120,6 @@ fn script_of<F: Files>(
     exports: &Exports,
 ) -> Result<Result<Script, ScriptFault>, Stop>
     ensures file { IfSome (F.held files.old name.now) (λ bytes. IfOk result (λ found. MatchResult found (IsScript exports.now bytes) (IsScriptRefused exports.now bytes))) }
-    ensures read { IfOk result (λ found. IfOk found (IsOfScript exports.now)) }
     ensures calls { IfOk result (λ found. IfOk found (λ s. AllByRecursion (CallsExport exports.now) s.items)) }
     ensures same { (other : List ℕ) → F.held files.new other ≡ F.held files.old other }
     ensures cause { StopsFor (F.faults files.old) (F.faults files.new) result }
@@ -154,13 +151,13 @@ fn refusal(alloc: Global, status: Status, err: Bytes) -> Answer
 /// The answer of the run of a graph under a script.
 fn run_answer(alloc: Global, graph: &Graph, script: &Script) -> Result<Answer, Memory>
     requires callable { IsCallable graph.now }
-    requires sound { Sound graph.now script.now.items }
+    requires sound { SoundGraph graph.now }
     requires calls { AllByRecursion (CallsExport graph.now.exports) script.now.items }
     ensures run { IfOk result (λ a. RunAnswers graph.now script.now a) }
     ensures status { IfOk result (λ a. IsBehindGraph a.status) }
 {
     let run = run_script(alloc, graph, script)?;
-    let out = trace_text(alloc, run.labels.as_slice(), run.end)?;
+    let out = trace_text(alloc, &run)?;
     Ok(Answer {
         status: status_of_end(run.end),
         out,
@@ -199,12 +196,12 @@ fn script_answer<F: Files>(
     script: &str,
     files: &mut F,
 ) -> Result<Answer, Stop>
-    requires linked { (c : Component) × IsRead c × IsLinkedSoFar c graph.now }
+    requires linked { IsOfComponent graph.now }
     ensures file { IfOk result (λ a. ScriptGives graph.now (F.held files.old script.now) a) }
     ensures same { (other : List ℕ) → F.held files.new other ≡ F.held files.old other }
     ensures cause { StopsFor (F.faults files.old) (F.faults files.new) result }
 {
-    scripts_are_sound();
+    linked_graphs_are_sound();
     graphs_are_sound();
     match script_of(alloc, script, files, graph.exports())? {
         Ok(script) => Ok(run_answer(alloc, graph, &script)?),
@@ -222,7 +219,7 @@ fn graph_answer<F: Files>(
     graph: &Graph,
     files: &mut F,
 ) -> Result<Answer, Stop>
-    requires linked { (c : Component) × IsRead c × IsLinkedSoFar c graph.now }
+    requires linked { IsOfComponent graph.now }
     ensures file { IfOk result (λ a. GraphGives (said command.entry) (F.held files.old) graph.now a) }
     ensures status { IfOk result (λ a. IsBehindGraph a.status) }
     ensures same { (other : List ℕ) → F.held files.new other ≡ F.held files.old other }

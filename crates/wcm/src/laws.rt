@@ -1,21 +1,28 @@
 //! What holds of the definitions alone.
 
-ghost use Rattle.wcm.specs.Laws.{ScriptsAreSound, OneOutcome, PlainWordsAreTaken, TakenWordsAreRead};
+ghost use Rattle.wcm.specs.Laws.{LinkedGraphsAreSound, ScriptsAreSound, OneOutcome, PlainWordsAreTaken, TakenWordsAreRead};
 
 use abi_machine::{each_run_ends, one_run};
-use comp_link::one_linking;
-use comp_linking::laws::graphs_are_sound;
+use comp_linking::laws::{graphs_are_computed, graphs_are_sound};
 use comp_reader::one_reading;
+use component_run::calls_are_sound;
 use script_reader::scripts_call_exports;
-use value_reader::sound_values_are_small;
+
+/// The graph of a component that is read and linked is sound.
+pub fn linked_graphs_are_sound()
+    ensures { LinkedGraphsAreSound }
+{
+    graphs_are_sound();
+}
 
 /// A script that is read for a component that is read and linked is sound.
 pub fn scripts_are_sound()
     ensures { ScriptsAreSound }
 {
+    linked_graphs_are_sound();
     graphs_are_sound();
     scripts_call_exports();
-    sound_values_are_small();
+    calls_are_sound();
 }
 
 /// Words whose files are told have an outcome, and no other one, but for the text for the error output where they are no
@@ -24,7 +31,7 @@ pub fn one_outcome()
     ensures { OneOutcome }
 {
     one_reading();
-    one_linking();
+    graphs_are_computed();
     one_run();
     scripts_are_sound();
     each_run_ends();

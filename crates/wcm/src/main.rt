@@ -3,23 +3,18 @@
 
 mod adapters;
 mod answer;
-mod call_labels;
-mod calling;
-mod core_runs;
-mod externals;
 #[cfg(test)]
 mod import_tests_cases;
 #[cfg(test)]
 mod instance_tests_cases;
-mod instantiating;
 mod laws;
-mod named_graph;
+#[cfg(test)]
+mod nested_tests_cases;
 mod refusals;
 #[cfg(test)]
 mod refusals_tests;
 #[cfg(test)]
 mod run_tests_cases;
-mod running;
 mod shown;
 mod status;
 #[cfg(test)]
@@ -29,7 +24,6 @@ mod top;
 mod top_tests;
 #[cfg(test)]
 mod top_tests_cases;
-mod trace_text;
 mod words;
 #[cfg(test)]
 mod words_tests_cases;

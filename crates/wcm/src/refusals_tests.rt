@@ -1,12 +1,13 @@
 //! Examples of the lines that tell of a refusal.
 
 use crate::refusals::{link_refused_line, refused_line, script_refused_line};
-use crate::tests_cases::number_of;
+use crate::tests_cases::{number_of, push_line};
 use ca_base::{Bytes, Name, Refusal};
 use comp_link::{LinkFault, LinkWhy};
 use comp_reader::ComponentWhy;
 use script_reader::{ScriptFault, ScriptWhy};
 use std::alloc::Global;
+use std::process::Abort;
 use std::test::Fail;
 use wasm_module::ModuleWhy;
 use wasm_valid::ValidWhy;
@@ -51,11 +52,12 @@ script 1 Utf8 = script refused at line 1: Utf8
 script 2 Form = script refused at line 2: Form
 script 10 Fuel = script refused at line 10: Fuel
 script 65536 Export = script refused at line 65536: Export
+script 3 HostType = script refused at line 3: HostType
 script 1048577 Value = script refused at line 1048577: Value
 ";
 
 /// How many cases there are.
-const COUNT: u32 = 39;
+const COUNT: u32 = 40;
 
 fn module_why(name: &str, argument: &str) -> Result<ModuleWhy, Fail> {
     Ok(match name {
@@ -119,6 +121,7 @@ fn script_why(name: &str) -> Result<ScriptWhy, Fail> {
         "Form" => ScriptWhy::Form,
         "Fuel" => ScriptWhy::Fuel,
         "Export" => ScriptWhy::Export,
+        "HostType" => ScriptWhy::HostType,
         "Value" => ScriptWhy::Value,
         _ => return Err("a reason of a script".into()),
     })
@@ -144,19 +147,23 @@ fn line_of(alloc: Global, kind: &str, at: &str, why: &str) -> Result<Bytes, Fail
     Ok(refused_line(alloc, Refusal { place, why })?)
 }
 
+/// Compares the line for a refusal with this one.
+fn check(rt: &impl Abort, alloc: Global, refusal: &str, wanted: &str) -> Result<(), Fail> {
+    let (kind, rest) = refusal.split_once(' ').ok_or("no kind")?;
+    let (at, why) = rest.split_once(' ').ok_or("no reason")?;
+    let told = line_of(alloc, kind, at, why)?;
+    let mut line = String::new(alloc);
+    push_line(wanted, &mut line)?;
+    assert_eq!(rt; told.as_slice(), line.as_bytes(), "at {refusal}");
+    Ok(())
+}
+
 #[test]
 fn lines(rt: HostRuntime) -> Result<(), Fail> {
     let mut count: u32 = 0;
     for case in CASES.lines() {
         if let Some((refusal, wanted)) = case.split_once(" = ") {
-            let (kind, rest) = refusal.split_once(' ').ok_or("no kind")?;
-            let (at, why) = rest.split_once(' ').ok_or("no reason")?;
-            let text = line_of(rt.alloc(), kind, at, why)?;
-            let (told, end) = text
-                .as_slice()
-                .split_at(wanted.len().min(text.as_slice().len()));
-            assert_eq!(rt; told, wanted.as_bytes(), "at {case}");
-            assert_eq!(rt; end, b"\n".as_slice(), "at {case}");
+            check(&rt, rt.alloc(), refusal, wanted)?;
             count = count.saturating_add(1);
         }
     }

@@ -1,16 +1,17 @@
 //! Calls of the program over files and outputs in memory, by the tables of `top_tests_cases`, `run_tests_cases`,
-//! `import_tests_cases`, `instance_tests_cases` and `words_tests_cases`.
+//! `import_tests_cases`, `instance_tests_cases`, `nested_tests_cases` and `words_tests_cases`.
 
 use crate::import_tests_cases::{IMPORT_CASES, IMPORT_COUNT};
 use crate::instance_tests_cases::{INSTANCE_CASES, INSTANCE_COUNT};
 use crate::laws;
+use crate::nested_tests_cases::{NESTED_CASES, NESTED_COUNT};
 use crate::run_tests_cases::{RUN_CASES, RUN_COUNT};
+use crate::status::Status;
 use crate::tests_cases::{bytes_of, number_of, push_bytes, push_line};
 use crate::top::run_words;
 use crate::top_tests_cases::{ADD, CASES, COUNT, LONG_CASES, LONG_COUNT, MANY_CASES, MANY_COUNT};
 use crate::words_tests_cases::{WORDS_CASES, WORDS_COUNT};
 use ca_io::{MemFiles, MemSink};
-use comp_link::one_linking;
 use std::alloc::Global;
 use std::process::Abort;
 use std::test::Fail;
@@ -49,7 +50,27 @@ impl Case {
         })
     }
 
-    /// Takes in a line of the table.
+    /// Takes in a line of the table; behind the last one of a case checks it, and begins anew.
+    fn take_line(
+        &mut self,
+        rt: &impl Abort,
+        alloc: Global,
+        line: &str,
+        count: &mut u32,
+    ) -> Result<(), Fail> {
+        if !line.is_empty() {
+            let (key, rest) = line.split_once(' ').unwrap_or((line, ""));
+            return self.add_line(alloc, key, rest);
+        }
+        if !self.status.is_empty() {
+            *count = count.saturating_add(1);
+            self.check(rt, alloc, *count)?;
+            *self = Case::new(alloc)?;
+        }
+        Ok(())
+    }
+
+    /// Takes in a line of a case.
     fn add_line(&mut self, alloc: Global, key: &str, rest: &str) -> Result<(), Fail> {
         match key {
             "script" => push_line(rest, &mut self.script)?,
@@ -72,7 +93,7 @@ impl Case {
         Ok(())
     }
 
-    /// Takes in a line of the table that tells of the component file.
+    /// Takes in a line of a case that tells of the component file.
     fn add_bytes(&mut self, alloc: Global, key: &str, rest: &str) -> Result<(), Fail> {
         match key {
             "component" => {
@@ -81,48 +102,85 @@ impl Case {
             }
             "bytes" => push_bytes(rest, &mut self.component)?,
             "front" => self.component.truncate(number_of(rest)? as usize),
-            "times" => {
-                let (count, bytes) = rest.split_once(' ').ok_or("times")?;
-                let bytes = bytes_of(alloc, bytes)?;
-                for _ in 0..number_of(count)? {
-                    self.component.extend_from_slice(&bytes)?;
-                }
-            }
-            "change" => {
-                let (place, byte) = rest.split_once(' ').ok_or("change")?;
-                let place = number_of(place)? as usize;
-                let byte = bytes_of(alloc, byte)?.first().copied().ok_or("byte")?;
-                if place < self.component.len() {
-                    self.component[place] = byte;
-                }
-            }
+            "times" => self.repeat(alloc, rest)?,
+            "change" => self.change(alloc, rest)?,
             _ => return Err("a line of another kind".into()),
         }
         Ok(())
     }
 
-    /// Makes the call and compares what it answers and writes.
-    fn check(&self, rt: &impl Abort, alloc: Global, number: u32) -> Result<(), Fail> {
+    /// The component file has these bytes behind so many times.
+    fn repeat(&mut self, alloc: Global, rest: &str) -> Result<(), Fail> {
+        let (count, bytes) = rest.split_once(' ').ok_or("times")?;
+        let bytes = bytes_of(alloc, bytes)?;
+        for _ in 0..number_of(count)? {
+            self.component.extend_from_slice(&bytes)?;
+        }
+        Ok(())
+    }
+
+    /// The byte at a place of the component file is another one.
+    fn change(&mut self, alloc: Global, rest: &str) -> Result<(), Fail> {
+        let (place, byte) = rest.split_once(' ').ok_or("change")?;
+        let place = number_of(place)? as usize;
+        let byte = bytes_of(alloc, byte)?.first().copied().ok_or("byte")?;
+        if place < self.component.len() {
+            self.component[place] = byte;
+        }
+        Ok(())
+    }
+
+    /// The words of the call.
+    fn words(&self, alloc: Global) -> Result<Vec<String>, Fail> {
         let mut words = Vec::new(alloc);
         if !self.words.is_empty() {
             for word in self.words.as_str().split(' ') {
                 words.push(String::from_str(alloc, word)?)?;
             }
         }
+        Ok(words)
+    }
+
+    /// The files of the call.
+    fn files(&self, alloc: Global) -> Result<MemFiles, Fail> {
         let mut files = MemFiles::new(alloc, &[self.read])?;
         files.add(alloc, "add.wasm", &self.component)?;
         files.add(alloc, "add.txt", self.script.as_bytes())?;
-        let most = self.most.max(1) as usize;
-        let mut out = MemSink::new(alloc, 4096, most, &[self.write])?;
-        let mut err = MemSink::new(alloc, 4096, most, &[self.error])?;
+        Ok(files)
+    }
+
+    /// An output that fails at a write.
+    fn sink(&self, alloc: Global, failing: u64) -> Result<MemSink, Fail> {
+        Ok(MemSink::new(alloc, 4096, self.most.max(1) as usize, &[failing])?)
+    }
+
+    /// Makes the call and compares what it answers and writes.
+    fn check(&self, rt: &impl Abort, alloc: Global, number: u32) -> Result<(), Fail> {
+        let words = self.words(alloc)?;
+        let mut files = self.files(alloc)?;
+        let mut out = self.sink(alloc, self.write)?;
+        let mut err = self.sink(alloc, self.error)?;
         let status = run_words(alloc, words.as_slice(), &mut files, &mut out, &mut err);
+        self.compare(rt, alloc, number, status, out.taken(), err.taken())
+    }
+
+    /// Compares what a call answered and wrote.
+    fn compare(
+        &self,
+        rt: &impl Abort,
+        alloc: Global,
+        number: u32,
+        status: Status,
+        out: &[u8],
+        err: &[u8],
+    ) -> Result<(), Fail> {
         let status = format!(in alloc; "{status:?}")?;
         assert_eq!(rt; status.as_str(), self.status.as_str(), "case {number}");
-        assert_eq!(rt; out.taken(), self.out.as_bytes(), "case {number}");
+        assert_eq!(rt; out, self.out.as_bytes(), "case {number}");
         if self.status.as_str() == "Usage" {
-            assert!(rt; !err.taken().is_empty(), "case {number}");
+            assert!(rt; !err.is_empty(), "case {number}");
         } else {
-            assert_eq!(rt; err.taken(), self.err.as_bytes(), "case {number}");
+            assert_eq!(rt; err, self.err.as_bytes(), "case {number}");
         }
         Ok(())
     }
@@ -133,16 +191,8 @@ fn check_all(rt: &impl Abort, alloc: Global, cases: &str, wanted: u32) -> Result
     let mut count: u32 = 0;
     let mut case = Case::new(alloc)?;
     for line in cases.lines() {
-        if line.starts_with('#') {
-            continue;
-        }
-        if !line.is_empty() {
-            let (key, rest) = line.split_once(' ').unwrap_or((line, ""));
-            case.add_line(alloc, key, rest)?;
-        } else if !case.status.is_empty() {
-            count = count.saturating_add(1);
-            case.check(rt, alloc, count)?;
-            case = Case::new(alloc)?;
+        if !line.starts_with('#') {
+            case.take_line(rt, alloc, line, &mut count)?;
         }
     }
     assert_eq!(rt; count, wanted);
@@ -170,9 +220,10 @@ fn calls_of_whole_modules(rt: HostRuntime) -> Result<(), Fail> {
 }
 
 #[test]
-fn calls_over_core_instances(rt: HostRuntime) -> Result<(), Fail> {
+fn calls_over_instances(rt: HostRuntime) -> Result<(), Fail> {
     check_all(&rt, rt.alloc(), IMPORT_CASES, IMPORT_COUNT)?;
-    check_all(&rt, rt.alloc(), INSTANCE_CASES, INSTANCE_COUNT)
+    check_all(&rt, rt.alloc(), INSTANCE_CASES, INSTANCE_COUNT)?;
+    check_all(&rt, rt.alloc(), NESTED_CASES, NESTED_COUNT)
 }
 
 #[test]
@@ -182,7 +233,7 @@ fn calls_by_their_words(rt: HostRuntime) -> Result<(), Fail> {
 
 #[test]
 fn laws_hold() {
-    one_linking();
+    laws::linked_graphs_are_sound();
     laws::scripts_are_sound();
     laws::one_outcome();
     laws::plain_words_are_taken();

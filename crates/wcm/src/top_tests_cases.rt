@@ -135,7 +135,7 @@ last calls
 status Refused
 err refused at 11: Unsupported(1c)
 
-# items that are read and not linked yet, imports of the root, and components that are never instantiated
+# imports of the root, types of instances, instances, and components that are never instantiated
 component 00 61 73 6D 0D 00 01 00 07 05 01 40 00 01 00
 bytes 0A 06 01 00 01 66 01 00
 status LinkRefused
@@ -155,8 +155,8 @@ status LinkRefused
 err link refused at 11: Index
 
 component 00 61 73 6D 0D 00 01 00 07 03 01 42 00
-status LinkRefused
-err link refused at 11: Limit
+status Done
+out done
 
 component 00 61 73 6D 0D 00 01 00 04 08 00 61 73 6D 0D 00 01 00
 status Done
@@ -177,12 +177,16 @@ out done
 
 bytes 04 08 00 61 73 6D 0D 00 01 00 05 04 01 00 00 00
 script call add (2, 3)
-status LinkRefused
-err link refused at 113: Limit
+status Done
+out take 1 T1 add (2, 3)
+out enter T1
+out return T1 (5)
+out exit T1
+out done
 
 component 00 61 73 6D 0D 00 01 00 05 03 01 01 00
-status LinkRefused
-err link refused at 11: Limit
+status Done
+out done
 
 # a core instance with an argument that nothing asks for, an inline one, aliases of what is not there, and a type that is
 # exported
@@ -217,11 +221,11 @@ bytes 0B 09 01 00 03 61 64 64 03 00 00
 status Done
 out done
 
-# an export that says what it is, which is not linked yet
+# an export that says what it is
 front 89
 bytes 0B 0B 01 00 03 61 64 64 01 00 01 01 00
-status LinkRefused
-err link refused at 92: Limit
+status Done
+out done
 
 # core modules that are not valid, that subtract, and that import from a module that is not there
 change 49 7C
