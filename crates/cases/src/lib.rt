@@ -1,34 +1,18 @@
-//! What the tables of the crates of tests are written in: bytes as hexadecimal text.
+//! What the tables of the crates of tests are written in, and how they are gone through.
+//!
+//! - `bytes`: bytes as hexadecimal text
+//! - `table`: cases in a text, each with the answer that is wanted, or of which something holds
+//! - `acts`: what words make of something, one after the other; `steps`: what lines make of it
 #![tactic(auto)]
 
-ghost use Rattle.std.specs.Prelude.{◌≡◌, ◌⊎◌, filter, Ok, Err, IfOk, IfErr};
-ghost use Rattle.hex.specs.declared.error.FromHexError.TheVariants.{OutOfMemory};
-ghost use Rattle.hex.specs.Hex.{decode_of, is_hex_digit};
+mod acts;
+mod bytes;
+mod steps;
+mod table;
 
-use hex::FromHexError;
-use std::alloc::Global;
-
-/// The bytes of hexadecimal text, two digits each. All between the digits is left out.
-///
-/// `OddLength` comes where the last digit stands alone, and `OutOfMemory` where memory runs out.
-pub fn bytes_of(alloc: Global, text: &str) -> Result<Vec<u8>, FromHexError>
-    ensures ok { IfOk result (λ bytes. decode_of (filter is_hex_digit text.now) ≡ Ok bytes.items) }
-    ensures err { IfErr result (λ e. (e ≡ OutOfMemory) ⊎ (decode_of (filter is_hex_digit text.now) ≡ Err e)) }
-{
-    let letters = text.as_bytes();
-    let digits: Vec<u8> = letters
-        .iter()
-        .copied()
-        .filter(|letter| is_digit(*letter))
-        .collect(alloc)?;
-    hex::decode(alloc, digits)
-}
-
-/// Whether a letter is a hexadecimal digit.
-fn is_digit(letter: u8) -> bool
-    ensures { result ≡ is_hex_digit letter }
-{
-    (b'A' <= letter && letter <= b'F')
-        || (b'a' <= letter && letter <= b'f')
-        || (b'0' <= letter && letter <= b'9')
-}
+pub use acts::{Acts, acted};
+pub use bytes::{bytes_of, bytes_of_lines};
+pub use steps::{Steps, check_steps};
+pub use table::{
+    Answers, Holds, check_all_lines, check_all_paragraphs, check_lines, check_paragraphs,
+};

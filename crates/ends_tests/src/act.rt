@@ -1,10 +1,11 @@
 //! What may happen at two ends, and what is answered.
 
-use std::alloc::{AllocError, Global};
-use stream_ends::Side;
+use std::alloc::AllocError;
+use std::fmt::Write;
+use stream_ends::{By, Offer, Side};
 
 /// What happens.
-#[derive(Clone, Copy, Debug, PartialEq, Eq)]
+#[derive(Clone, Copy)]
 pub enum Act {
     /// A read or write of this length.
     Call(Side, u32),
@@ -17,7 +18,7 @@ pub enum Act {
 }
 
 /// What is answered.
-#[derive(Clone, Copy, Debug, PartialEq, Eq)]
+#[derive(Clone, Copy, PartialEq, Eq)]
 pub enum Answer {
     /// It may not happen now.
     No,
@@ -50,12 +51,27 @@ fn length_of(digit: u8) -> u32 {
     digit.saturating_sub(b'0') as u32
 }
 
-/// An answer as cases write it.
-pub fn answer_text(alloc: Global, answer: Answer) -> Result<String, AllocError> {
+/// Writes an answer as cases write it.
+pub fn write_answer(text: &mut String, answer: Answer) -> Result<(), AllocError> {
     match answer {
-        Answer::No => format!(in alloc; "no"),
-        Answer::Stands => format!(in alloc; "stands"),
-        Answer::Payload(payload) => format!(in alloc; "{payload}"),
-        Answer::Gone => format!(in alloc; "gone"),
+        Answer::No => text.push_str("no"),
+        Answer::Stands => text.push_str("stands"),
+        Answer::Payload(payload) => write!(text, "{payload}"),
+        Answer::Gone => text.push_str("gone"),
     }
+}
+
+/// Writes the offer that stands: its side, who made it, its length, and how much of it is copied.
+pub fn write_offer(text: &mut String, offer: Option<Offer>) -> Result<(), AllocError> {
+    let Some(offer) = offer else {
+        return text.push_str("none");
+    };
+    let side = match offer.side {
+        Side::Reader => "r",
+        Side::Writer => "w",
+    };
+    let By::Task(task) = offer.by;
+    let length = offer.length;
+    let copied = offer.copied;
+    write!(text, "{side}/{task}/{length}/{copied}")
 }

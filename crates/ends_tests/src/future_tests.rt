@@ -1,13 +1,14 @@
 //! Reads, writes, cancels and drops of futures.
 
-use crate::act::{Act, Answer, act_of, answer_text};
+use crate::act::{Act, Answer, act_of, write_answer, write_offer};
+use cases::{Acts, Answers, acted, check_lines};
 use future_ends::{Meet, Rendezvous};
-use std::alloc::Global;
-use std::process::Abort;
+use std::alloc::{AllocError, Global};
 use std::test::Fail;
 use stream_ends::{By, Side};
 
-/// A line a case: what happens, then what is answered. A payload is 0 for completed, 1 for dropped, 2 for cancelled.
+/// A line a case: what happens, then what is answered. `o` is the offer that stands, as its side, its task, its length and
+/// how much is copied. A payload is 0 for completed, 1 for dropped, 2 for cancelled.
 const CASES: &str = "
 xw = no
 w1 xr dw xw = stands gone 1 gone
@@ -21,6 +22,8 @@ r1 w1 cr r1 = stands 0 0 no
 w1 cw xw w1 xr cw xw = stands 2 no stands gone 1 gone
 r1 dr xr w1 = stands no no 0
 w1 xr xr dw xw xw = stands gone no 1 gone no
+o r1 o = none stands r/1/1/0
+w1 xr o dw o = stands gone w/1/1/0 1 none
 ";
 
 /// Lets an act happen where it may. A call has no length of its own.
@@ -77,69 +80,49 @@ fn drop_end(ends: &mut Rendezvous, side: Side) -> Answer {
     Answer::Gone
 }
 
-/// Runs a case.
-fn compare(rt: &impl Abort, alloc: Global, acts: &str, answers: &str) -> Result<(), Fail> {
-    let mut ends = Rendezvous::new();
-    for (word, wanted) in acts.split(' ').zip(answers.split(' ')) {
-        let answer = match act_of(word) {
-            Some(act) => happen(&mut ends, act),
-            None => Answer::No,
-        };
-        let got = answer_text(alloc, answer)?;
-        assert_eq!(rt; got.as_str(), wanted, "{acts}");
+/// The ends of a future, which words change.
+#[derive(Drop)]
+struct Ends {
+    ends: Rendezvous,
+}
+
+impl Ends {
+    /// Writes the answer to a word.
+    fn write_answer(&mut self, word: &str, text: &mut String) -> Result<(), AllocError> {
+        match word {
+            "o" => write_offer(text, self.ends.standing()),
+            _ => match act_of(word) {
+                Some(act) => write_answer(text, happen(&mut self.ends, act)),
+                None => text.push_str("no such word"),
+            },
+        }
     }
-    Ok(())
+}
+
+impl Acts for Ends {
+    fn act(
+        &mut self,
+        _alloc: Global,
+        name: &str,
+        _rest: &str,
+        text: &mut String,
+    ) -> Result<(), Fail> {
+        self.write_answer(name, text)?;
+        Ok(())
+    }
+}
+
+/// The ends of new futures.
+struct Futures;
+
+impl Answers for Futures {
+    fn answer(alloc: Global, given: &str) -> Result<String, Fail> {
+        let ends = Rendezvous::new();
+        acted(alloc, Ends { ends }, given)
+    }
 }
 
 #[test]
 fn futures_meet(rt: HostRuntime) -> Result<(), Fail> {
-    let mut count = 0u32;
-    for line in CASES.lines() {
-        if let Some((acts, answers)) = line.split_once(" = ") {
-            compare(&rt, rt.alloc(), acts, answers)?;
-            count = count.wrapping_add(1);
-        }
-    }
-    assert_eq!(rt; count, 12);
-    Ok(())
-}
-
-#[test]
-fn the_standing_offer_is_told(rt: HostRuntime) -> Result<(), Fail> {
-    let mut ends = Rendezvous::new();
-    assert_eq!(rt; ends.standing(), None);
-    assert_eq!(rt;
-        happen(&mut ends, Act::Call(Side::Reader, 1)),
-        Answer::Stands
-    );
-    if let Some(offer) = ends.standing() {
-        assert_eq!(rt; offer.side, Side::Reader);
-        assert_eq!(rt; offer.length, 1);
-    } else {
-        assert!(rt; false, "an offer stands");
-    }
-    Ok(())
-}
-
-/// The other end's drop is what the offer is told, and it stands until then.
-#[test]
-fn an_offer_stands_until_it_is_told_of_a_drop(rt: HostRuntime) -> Result<(), Fail> {
-    let mut ends = Rendezvous::new();
-    assert_eq!(rt;
-        happen(&mut ends, Act::Call(Side::Writer, 1)),
-        Answer::Stands
-    );
-    assert_eq!(rt; happen(&mut ends, Act::DropEnd(Side::Reader)), Answer::Gone);
-    if let Some(offer) = ends.standing() {
-        assert_eq!(rt; offer.side, Side::Writer);
-        assert_eq!(rt; offer.copied, 0);
-    } else {
-        assert!(rt; false, "the offer stands still");
-    }
-    assert_eq!(rt;
-        happen(&mut ends, Act::Deliver(Side::Writer)),
-        Answer::Payload(1)
-    );
-    assert_eq!(rt; ends.standing(), None);
-    Ok(())
+    check_lines::<Futures>(rt.alloc(), CASES, " =", 14)
 }

@@ -4,7 +4,7 @@ use crate::act::{Act, Answer};
 use stream_ends::Side;
 
 /// An offer that waits for the other side.
-#[derive(Clone, Copy, Debug, PartialEq, Eq)]
+#[derive(Clone, Copy)]
 struct Waiting {
     side: Side,
     length: u32,
@@ -12,7 +12,7 @@ struct Waiting {
 }
 
 /// One side.
-#[derive(Clone, Copy, Debug, PartialEq, Eq)]
+#[derive(Clone, Copy)]
 struct Seat {
     gone: bool,
     done: bool,
@@ -20,7 +20,7 @@ struct Seat {
 }
 
 /// Both sides.
-#[derive(Clone, Copy, Debug, PartialEq, Eq)]
+#[derive(Clone, Copy)]
 pub struct Plain {
     waiting: Option<Waiting>,
     reader: Seat,

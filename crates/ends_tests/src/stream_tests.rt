@@ -1,12 +1,13 @@
 //! Reads, writes, cancels and drops of streams.
 
-use crate::act::{Act, Answer, act_of, answer_text};
-use std::alloc::Global;
-use std::process::Abort;
+use crate::act::{Act, Answer, act_of, write_answer, write_offer};
+use cases::{Acts, Answers, acted, check_lines};
+use std::alloc::{AllocError, Global};
 use std::test::Fail;
 use stream_ends::{By, Meet, Rendezvous, Side};
 
-/// A line a case: what happens, then what is answered. A payload is 16 times the elements copied, plus 0 for
+/// A line a case: what happens, then what is answered. `o` is the offer that stands, as its side, its task, its length and
+/// how much is copied; `fr` and `fw` ask whether an end is done. A payload is 16 times the elements copied, plus 0 for
 /// completed, 1 for dropped and 2 for cancelled.
 const CASES: &str = "
 w5 r3 r3 r3 dw = stands 48 32 stands 80
@@ -29,6 +30,8 @@ w2 w1 xw dw = stands no no no
 w5 r2 cw w1 r4 dw = stands 32 32 stands 16 16
 w5 xr xr dw xr = stands gone no 1 no
 w5 r2 xr cw w1 = stands 32 gone 33 no
+o w5 r2 o fw = none stands 32 w/1/5/2 no
+w5 r2 xr o dw o = stands 32 gone w/1/5/2 33 none
 ";
 
 /// Lets an act happen where it may.
@@ -75,81 +78,56 @@ fn call(ends: &mut Rendezvous, side: Side, length: u32) -> Answer {
     }
 }
 
-/// Runs a case.
-fn compare(rt: &impl Abort, alloc: Global, acts: &str, answers: &str) -> Result<(), Fail> {
-    let mut ends = Rendezvous::new();
-    for (word, wanted) in acts.split(' ').zip(answers.split(' ')) {
-        let answer = match act_of(word) {
-            Some(act) => happen(&mut ends, act),
-            None => Answer::No,
-        };
-        let got = answer_text(alloc, answer)?;
-        assert_eq!(rt; got.as_str(), wanted, "{acts}");
+/// An answer to a question.
+fn yes_or_no(answer: bool) -> &'static str {
+    if answer { "yes" } else { "no" }
+}
+
+/// The ends of a stream, which words change.
+#[derive(Drop)]
+struct Ends {
+    ends: Rendezvous,
+}
+
+impl Ends {
+    /// Writes the answer to a word.
+    fn write_answer(&mut self, word: &str, text: &mut String) -> Result<(), AllocError> {
+        match word {
+            "o" => write_offer(text, self.ends.standing()),
+            "fr" => text.push_str(yes_or_no(self.ends.is_done(Side::Reader))),
+            "fw" => text.push_str(yes_or_no(self.ends.is_done(Side::Writer))),
+            _ => match act_of(word) {
+                Some(act) => write_answer(text, happen(&mut self.ends, act)),
+                None => text.push_str("no such word"),
+            },
+        }
     }
-    Ok(())
+}
+
+impl Acts for Ends {
+    fn act(
+        &mut self,
+        _alloc: Global,
+        name: &str,
+        _rest: &str,
+        text: &mut String,
+    ) -> Result<(), Fail> {
+        self.write_answer(name, text)?;
+        Ok(())
+    }
+}
+
+/// The ends of new streams.
+struct Streams;
+
+impl Answers for Streams {
+    fn answer(alloc: Global, given: &str) -> Result<String, Fail> {
+        let ends = Rendezvous::new();
+        acted(alloc, Ends { ends }, given)
+    }
 }
 
 #[test]
 fn streams_meet(rt: HostRuntime) -> Result<(), Fail> {
-    let mut count = 0u32;
-    for line in CASES.lines() {
-        if let Some((acts, answers)) = line.split_once(" = ") {
-            compare(&rt, rt.alloc(), acts, answers)?;
-            count = count.wrapping_add(1);
-        }
-    }
-    assert_eq!(rt; count, 20);
-    Ok(())
-}
-
-#[test]
-fn the_standing_offer_is_told(rt: HostRuntime) -> Result<(), Fail> {
-    let mut ends = Rendezvous::new();
-    assert_eq!(rt; ends.standing(), None);
-    assert_eq!(rt;
-        happen(&mut ends, Act::Call(Side::Writer, 5)),
-        Answer::Stands
-    );
-    assert_eq!(rt;
-        happen(&mut ends, Act::Call(Side::Reader, 2)),
-        Answer::Payload(32)
-    );
-    if let Some(offer) = ends.standing() {
-        assert_eq!(rt; offer.side, Side::Writer);
-        assert_eq!(rt; offer.by, By::Task(1));
-        assert_eq!(rt; offer.length, 5);
-        assert_eq!(rt; offer.copied, 2);
-    } else {
-        assert!(rt; false, "an offer stands");
-    }
-    assert!(rt; !ends.is_done(Side::Writer));
-    Ok(())
-}
-
-/// The other end's drop is what the offer is told, and it stands until then.
-#[test]
-fn an_offer_stands_until_it_is_told_of_a_drop(rt: HostRuntime) -> Result<(), Fail> {
-    let mut ends = Rendezvous::new();
-    assert_eq!(rt;
-        happen(&mut ends, Act::Call(Side::Writer, 5)),
-        Answer::Stands
-    );
-    assert_eq!(rt;
-        happen(&mut ends, Act::Call(Side::Reader, 2)),
-        Answer::Payload(32)
-    );
-    assert_eq!(rt; happen(&mut ends, Act::DropEnd(Side::Reader)), Answer::Gone);
-    if let Some(offer) = ends.standing() {
-        assert_eq!(rt; offer.side, Side::Writer);
-        assert_eq!(rt; offer.length, 5);
-        assert_eq!(rt; offer.copied, 2);
-    } else {
-        assert!(rt; false, "the offer stands still");
-    }
-    assert_eq!(rt;
-        happen(&mut ends, Act::Deliver(Side::Writer)),
-        Answer::Payload(33)
-    );
-    assert_eq!(rt; ends.standing(), None);
-    Ok(())
+    check_lines::<Streams>(rt.alloc(), CASES, " =", 22)
 }

@@ -7,21 +7,24 @@ use crate::blocks::BLOCKS;
 use crate::calls::CALLS;
 use crate::frame::part;
 use crate::memories::MEMORIES;
-use crate::modules::{func_type, module_of, push_section, push_sized, sections_of};
+use crate::modules::{func_type, push_section, push_sized, sections_of};
 use crate::numbers::NUMBERS;
 use crate::running::{answered, called, given, name_of, run_for, told};
 use crate::words::words_of;
 use ca_base::Fuel;
-use cases::bytes_of;
+use cases::{Answers, bytes_of, check_lines};
+use module_texts::valid_of;
 use std::alloc::Global;
-use std::process::Abort;
 use std::test::Fail;
 use wasm_execution::{Outcome, Running, Suspended};
 use wasm_store::{External, Store};
 use wasm_valid::Valid;
 
-/// The slices of fuel in which each body is run.
-const SLICES: [u64; 3] = [1_000_000, 1, 3];
+/// The slice of fuel in which each body is run first.
+const SLICE: u64 = 1_000_000;
+
+/// The slices of fuel in which it is run again.
+const OTHER_SLICES: [u64; 2] = [1, 3];
 
 /// The most slices that a run may take.
 const MOST_SLICES: u32 = 100_000;
@@ -45,21 +48,26 @@ const WITHOUT_PAGES: Pages = Pages {
     bytes: "no bytes",
 };
 
-/// The module in which function 1 has this type and this body.
-fn module_with(alloc: Global, type_index: &str, body: &str, pages: Pages) -> Result<Valid, Fail> {
+/// Puts the sections behind the functions behind others.
+fn push_parts(alloc: Global, bytes: &mut Vec<u8>, body: &str, pages: Pages) -> Result<(), Fail> {
+    push_section(alloc, bytes, part("table")?)?;
+    push_section(alloc, bytes, part(pages.memory)?)?;
+    push_section(alloc, bytes, part("globals")?)?;
+    push_section(alloc, bytes, "07:01 0166 00 01")?;
+    push_section(alloc, bytes, part("entries")?)?;
+    push_bodies(alloc, bytes, body)?;
+    push_section(alloc, bytes, part(pages.bytes)?)
+}
+
+/// The bytes of the module in which function 1 has this type and this body.
+fn module_with(alloc: Global, type_index: &str, body: &str, pages: Pages) -> Result<Vec<u8>, Fail> {
     let types = part("types")?;
     let text = format!(in alloc;
         "01:{types};02:01 016d 0168 00 02;03:08 {type_index} 01 0a 00 03 01 00 02"
     )?;
     let mut bytes = sections_of(alloc, text.as_str())?;
-    push_section(alloc, &mut bytes, part("table")?)?;
-    push_section(alloc, &mut bytes, part(pages.memory)?)?;
-    push_section(alloc, &mut bytes, part("globals")?)?;
-    push_section(alloc, &mut bytes, "07:01 0166 00 01")?;
-    push_section(alloc, &mut bytes, part("entries")?)?;
-    push_bodies(alloc, &mut bytes, body)?;
-    push_section(alloc, &mut bytes, part(pages.bytes)?)?;
-    module_of(alloc, &bytes)
+    push_parts(alloc, &mut bytes, body, pages)?;
+    Ok(bytes)
 }
 
 /// Puts the section of this body and of those behind it behind others.
@@ -114,51 +122,83 @@ fn finish(alloc: Global, running: Running, store: &mut Store, slice: u64) -> Res
     Err(Fail::new("no end"))
 }
 
-/// What the body of a module gives for these words, in such slices of fuel.
-fn outcome(alloc: Global, valid: &Valid, args: &[u64], slice: u64) -> Result<String, Fail> {
-    let mut store = Store::new(alloc);
+/// What the body of a module gives in a store for these words, in such slices of fuel.
+fn outcome_in(
+    alloc: Global,
+    store: &mut Store,
+    valid: &Valid,
+    args: &[u64],
+    slice: u64,
+) -> Result<String, Fail> {
     let host = store.host(func_type(alloc, "il>li")?)?;
     let imports = [External::Func(host)];
     if !store.matches(valid, imports.as_slice()) {
         return Err(Fail::new("other imports"));
     }
     store.add(alloc, valid, imports.as_slice())?;
-    let running = called(alloc, &store, 1, args)?;
-    finish(alloc, running, &mut store, slice)
+    let running = called(alloc, store, 1, args)?;
+    finish(alloc, running, store, slice)
 }
 
-/// Compares what the body of a line gives.
-fn compare(rt: &impl Abort, alloc: Global, line: &str, pages: Pages) -> Result<(), Fail> {
-    let (given, wanted) = line.rsplit_once(" = ").ok_or("no answer")?;
+/// What the body of a module gives for these words, in such slices of fuel.
+fn outcome(alloc: Global, valid: &Valid, args: &[u64], slice: u64) -> Result<String, Fail> {
+    let mut store = Store::new(alloc);
+    outcome_in(alloc, &mut store, valid, args, slice)
+}
+
+/// What the body of a module gives for these words, and what it gives in other slices of fuel if that is something else.
+fn outcomes(alloc: Global, valid: &Valid, args: &[u64]) -> Result<String, Fail> {
+    let first = outcome(alloc, valid, args, SLICE)?;
+    for slice in OTHER_SLICES {
+        let other = outcome(alloc, valid, args, slice)?;
+        if other.as_str() != first.as_str() {
+            return Ok(format!(in alloc; "{first}, but {other} in slices of {slice}")?);
+        }
+    }
+    Ok(first)
+}
+
+/// The same of a module that is let go then.
+fn all_outcomes(alloc: Global, valid: Valid, args: &[u64]) -> Result<String, Fail> {
+    outcomes(alloc, &valid, args)
+}
+
+/// What the body of a line gives.
+fn answer(alloc: Global, given: &str, pages: Pages) -> Result<String, Fail> {
     let (given, args) = given.rsplit_once(" | ").ok_or("no arguments")?;
     let (given, body) = given.rsplit_once(" | ").ok_or("no body")?;
     let (_title, type_index) = given.rsplit_once(" | ").ok_or("no type")?;
-    let valid = module_with(alloc, type_index, body, pages)?;
     let args = words_of(alloc, args, ' ')?;
-    for slice in SLICES {
-        let got = outcome(alloc, &valid, &args, slice)?;
-        assert_eq!(rt; got.as_str(), wanted, "{line}");
-    }
-    Ok(())
+    let bytes = module_with(alloc, type_index, body, pages)?;
+    let valid = valid_of(alloc, &bytes)?;
+    all_outcomes(alloc, valid, &args)
 }
 
-/// Compares what the bodies of lines give, and answers how many there are. A line has a title, the index of the body's
-/// type, the body without its size, its arguments, and what it gives for how many units of fuel. All but the units is
-/// hexadecimal. The function of the host gives its words the last one first.
-fn check(rt: &impl Abort, alloc: Global, lines: &str, pages: Pages) -> Result<u32, Fail> {
-    let mut count = 0u32;
-    for line in lines.trim().lines() {
-        compare(rt, alloc, line, pages)?;
-        count = count.wrapping_add(1);
+/// Bodies in a module whose memory has a page. A line has a title, the index of the body's type, the body without its size,
+/// its arguments, and what it gives for how many units of fuel. All but the units is hexadecimal. The function of the host
+/// gives its words the last one first.
+struct WithBytes;
+
+impl Answers for WithBytes {
+    fn answer(alloc: Global, given: &str) -> Result<String, Fail> {
+        answer(alloc, given, WITH_BYTES)
     }
-    Ok(count)
+}
+
+/// The same in a module whose memory has no pages.
+struct WithoutPages;
+
+impl Answers for WithoutPages {
+    fn answer(alloc: Global, given: &str) -> Result<String, Fail> {
+        answer(alloc, given, WITHOUT_PAGES)
+    }
 }
 
 #[test]
 fn bodies_give_words(rt: HostRuntime) -> Result<(), Fail> {
-    assert_eq!(rt; check(&rt, rt.alloc(), NUMBERS, WITHOUT_PAGES)?, 176);
-    assert_eq!(rt; check(&rt, rt.alloc(), BLOCKS, WITHOUT_PAGES)?, 93);
-    assert_eq!(rt; check(&rt, rt.alloc(), CALLS, WITHOUT_PAGES)?, 44);
-    assert_eq!(rt; check(&rt, rt.alloc(), MEMORIES, WITH_BYTES)?, 163);
-    Ok(())
+    let alloc = rt.alloc();
+    check_lines::<WithoutPages>(alloc, NUMBERS, " = ", 176)?;
+    check_lines::<WithoutPages>(alloc, BLOCKS, " = ", 93)?;
+    check_lines::<WithoutPages>(alloc, CALLS, " = ", 44)?;
+    check_lines::<WithBytes>(alloc, MEMORIES, " = ", 163)
 }

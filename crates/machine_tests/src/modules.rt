@@ -5,9 +5,7 @@ use cases::bytes_of;
 use std::alloc::Global;
 use std::test::Fail;
 use wasm_module::{FuncType, ValType};
-use wasm_reader::read_module;
 use wasm_store::External;
-use wasm_valid::{Valid, validate};
 
 /// The preamble of a core module.
 const PREAMBLE: &[u8] = &[0x00, 0x61, 0x73, 0x6d, 0x01, 0x00, 0x00, 0x00];
@@ -37,11 +35,6 @@ pub(crate) fn sections_of(alloc: Global, text: &str) -> Result<Vec<u8>, Fail> {
         push_section(alloc, &mut bytes, section)?;
     }
     Ok(bytes)
-}
-
-/// The valid module of these bytes.
-pub(crate) fn module_of(alloc: Global, bytes: &[u8]) -> Result<Valid, Fail> {
-    Ok(validate(alloc, read_module(alloc, bytes, 0)?)?)
 }
 
 /// The type of a letter.

@@ -6,12 +6,13 @@ ghost use Rattle.wasm_store.specs.Views.{address_of};
 ghost use Rattle.std.specs.Option.{IfSome};
 ghost use Rattle.machine_tests.specs.Typed.{MayRun, MayGoOn};
 
-use crate::modules::{func_type, imports_of, module_of, sections_of};
+use crate::modules::{func_type, imports_of, sections_of};
 use crate::running::{answered, called, given, name_of, run_for, told};
 use crate::words::{hex, words_of, write_words};
 use ca_base::Fuel;
-use cases::bytes_of;
+use cases::{Steps, bytes_of};
 use core_machine::laws;
+use module_texts::valid_of;
 use std::alloc::Global;
 use std::fmt::Write;
 use std::test::Fail;
@@ -26,13 +27,18 @@ pub(crate) struct Stage {
     first: Option<usize>,
 }
 
-impl Stage {
-    /// The store with nothing.
-    pub(crate) fn new(alloc: Global) -> Stage {
-        Stage {
+impl Steps for Stage {
+    fn begin(alloc: Global, _title: &str) -> Result<Stage, Fail> {
+        Ok(Stage {
             store: Store::new(alloc),
             first: None,
-        }
+        })
+    }
+
+    fn step(&mut self, alloc: Global, line: &str, text: &mut String) -> Result<(), Fail> {
+        let answer = step(alloc, self, line)?;
+        text.push_str(answer.as_str())?;
+        Ok(())
     }
 }
 
@@ -272,7 +278,8 @@ fn add_module(
 fn add_line(alloc: Global, stage: &mut Stage, line: &str) -> Result<String, Fail> {
     let (imports, sections) = line.split_once(" | ").ok_or("no sections")?;
     let imports = imports_of(alloc, imports)?;
-    let valid = module_of(alloc, &sections_of(alloc, sections)?)?;
+    let bytes = sections_of(alloc, sections)?;
+    let valid = valid_of(alloc, &bytes)?;
     add_module(alloc, stage, &valid, &imports)
 }
 
@@ -339,7 +346,7 @@ fn write_line(alloc: Global, store: &mut Store, line: &str) -> Result<String, Fa
 }
 
 /// Does what a line says, and answers what comes of it.
-pub(crate) fn step(alloc: Global, stage: &mut Stage, line: &str) -> Result<String, Fail> {
+fn step(alloc: Global, stage: &mut Stage, line: &str) -> Result<String, Fail> {
     let (name, rest) = split(line);
     match name {
         "host" => host_line(alloc, &mut stage.store, rest),

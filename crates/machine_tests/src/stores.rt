@@ -1,8 +1,7 @@
 //! Modules and functions of the host in stores, and calls of them.
 
-use crate::scripts::{Stage, step};
-use std::alloc::Global;
-use std::process::Abort;
+use crate::scripts::Stage;
+use cases::check_steps;
 use std::test::Fail;
 
 /// A paragraph a store: a title, then a line a step, with what comes of it. The steps are
@@ -265,26 +264,7 @@ add g0 | 02:01 00 00 03 7e 00 = other imports
 add m0 | 02:01 00 00 03 7f 00 = other imports
 ";
 
-/// Compares the steps of a paragraph, and answers how many there are.
-fn compare(rt: &impl Abort, alloc: Global, paragraph: &str) -> Result<u32, Fail> {
-    let (title, lines) = paragraph.split_once('\n').ok_or("no steps")?;
-    let mut stage = Stage::new(alloc);
-    let mut count = 0u32;
-    for line in lines.lines() {
-        let (given, wanted) = line.rsplit_once(" = ").ok_or("no answer")?;
-        let got = step(alloc, &mut stage, given)?;
-        assert_eq!(rt; got.as_str(), wanted, "{title}: {line}");
-        count = count.wrapping_add(1);
-    }
-    Ok(count)
-}
-
 #[test]
 fn stores_do_steps(rt: HostRuntime) -> Result<(), Fail> {
-    let mut count = 0u32;
-    for paragraph in STORES.trim().split("\n\n") {
-        count = count.wrapping_add(compare(&rt, rt.alloc(), paragraph)?);
-    }
-    assert_eq!(rt; count, 191);
-    Ok(())
+    check_steps::<Stage>(rt.alloc(), STORES, 191)
 }

@@ -1,51 +1,45 @@
 //! From the bytes of a module to its tree, and back.
 
-use comp_make::module_bytes;
+use crate::making::{component, remade, valid_remade};
+use cases::{Holds, bytes_of};
 use std::alloc::Global;
-use std::fmt::Write;
 use std::test::Fail;
-use wasm_reader::read_module;
-use wasm_valid::validate;
 
-/// Whether what is read of the one text's bytes is made as the other's.
-fn is_made(alloc: Global, given: &str, wanted: &str) -> Result<bool, Fail> {
-    let bytes = cases::bytes_of(alloc, given)?;
-    let read = read_module(alloc, &bytes, 0)?;
-    let made = module_bytes(alloc, read.tree())?;
-    let wanted = cases::bytes_of(alloc, wanted)?;
-    Ok(made.as_slice() == wanted.as_slice())
-}
+/// Lines of which what is read is made as their bytes, or as those that stand behind them.
+pub(crate) struct Remade;
 
-/// Whether a module whose bytes a text has is valid, and is made as these bytes.
-fn is_valid_and_made(alloc: Global, given: &str) -> Result<bool, Fail> {
-    let bytes = cases::bytes_of(alloc, given)?;
-    let read = read_module(alloc, &bytes, 0)?;
-    let valid = validate(alloc, read)?;
-    let made = module_bytes(alloc, valid.tree())?;
-    Ok(made.as_slice() == bytes.as_slice())
-}
-
-/// The lines of which what is read is not made as their bytes, or as those that stand behind them.
-pub(crate) fn differing(alloc: Global, lines: &str) -> Result<String, Fail> {
-    let mut wrong = String::new(alloc);
-    for line in lines.trim().lines() {
-        let (_title, given) = line.split_once(" | ").ok_or("no bytes")?;
+impl Holds for Remade {
+    fn holds(alloc: Global, case: &str) -> Result<bool, Fail> {
+        let (_title, given) = case.split_once(" | ").ok_or("no bytes")?;
         let (given, wanted) = given.split_once(" | ").unwrap_or((given, given));
-        if !is_made(alloc, given, wanted)? {
-            writeln!(wrong, "{line}")?;
-        }
+        let given = bytes_of(alloc, given)?;
+        let wanted = bytes_of(alloc, wanted)?;
+        let made = remade(alloc, &given)?;
+        Ok(made.as_slice() == wanted.as_slice())
     }
-    Ok(wrong)
 }
 
-/// The paragraphs whose module is not made as its bytes.
-pub(crate) fn differing_valid(alloc: Global, modules: &str) -> Result<String, Fail> {
-    let mut wrong = String::new(alloc);
-    for module in modules.trim().split("\n\n") {
-        let (_text, hex) = module.split_once("\nbytes\n").ok_or("no bytes")?;
-        if !is_valid_and_made(alloc, hex)? {
-            writeln!(wrong, "{module}")?;
-        }
+/// Paragraphs whose module is valid, and is made as its bytes.
+pub(crate) struct ValidRemade;
+
+impl Holds for ValidRemade {
+    fn holds(alloc: Global, case: &str) -> Result<bool, Fail> {
+        let (_text, hex) = case.split_once("\nbytes\n").ok_or("no bytes")?;
+        let bytes = bytes_of(alloc, hex)?;
+        let made = valid_remade(alloc, &bytes)?;
+        Ok(made.as_slice() == bytes.as_slice())
     }
-    Ok(wrong)
+}
+
+/// Lines whose component of the modules that stand behind it is made as its bytes.
+pub(crate) struct Built;
+
+impl Holds for Built {
+    fn holds(alloc: Global, case: &str) -> Result<bool, Fail> {
+        let (_title, rest) = case.split_once(" | ").ok_or("no bytes")?;
+        let (wanted, modules) = rest.split_once('|').unwrap_or((rest, ""));
+        let bytes = bytes_of(alloc, wanted)?;
+        let made = component(alloc, modules)?;
+        Ok(made.as_slice() == bytes.as_slice())
+    }
 }

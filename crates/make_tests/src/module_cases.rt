@@ -1,6 +1,7 @@
 //! Modules of each section and of each instruction, and modules whose bytes are more than they need.
 
-use crate::made::differing;
+use crate::made::Remade;
+use cases::check_all_lines;
 use std::test::Fail;
 
 /// A line a module: what it has, its bytes, and the bytes that are made of what is read, where these are others. Some modules
@@ -81,7 +82,5 @@ a name, a limit and a number of locals of more bytes than they need | 0061736d01
 
 #[test]
 fn modules_are_made_again(rt: HostRuntime) -> Result<(), Fail> {
-    assert_eq!(rt; differing(rt.alloc(), MODULES)?.as_str(), "");
-    assert_eq!(rt; MODULES.trim().lines().count(), 71);
-    Ok(())
+    check_all_lines::<Remade>(rt.alloc(), MODULES, 71)
 }

@@ -1,7 +1,8 @@
 //! Modules that are written in the text format (Core 2.0, section 6) beside their bytes, and the module of a compiler.
 
 use crate::compiled::TOOLS;
-use crate::made::differing_valid;
+use crate::made::ValidRemade;
+use cases::check_all_paragraphs;
 use std::test::Fail;
 
 /// A paragraph a module: its text, and its bytes, a line for the preamble and for each section.
@@ -176,8 +177,6 @@ bytes
 
 #[test]
 fn texts_are_valid_and_made_again(rt: HostRuntime) -> Result<(), Fail> {
-    assert_eq!(rt; differing_valid(rt.alloc(), MODULES)?.as_str(), "");
-    assert_eq!(rt; MODULES.trim().split("\n\n").count(), 6);
-    assert_eq!(rt; differing_valid(rt.alloc(), TOOLS)?.as_str(), "");
-    Ok(())
+    check_all_paragraphs::<ValidRemade>(rt.alloc(), MODULES, 6)?;
+    check_all_paragraphs::<ValidRemade>(rt.alloc(), TOOLS, 1)
 }

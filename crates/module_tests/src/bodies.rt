@@ -1,8 +1,8 @@
 //! Bodies of functions inside fixed modules.
 
-use crate::answers::answer;
+use cases::{Answers, bytes_of};
+use module_texts::fate;
 use std::alloc::Global;
-use std::fmt::Write;
 use std::test::Fail;
 
 /// A module of 110 bytes, whose code section is missing. Its types are from nothing to nothing, from i32 to i32, from i32
@@ -44,24 +44,16 @@ fn frame_of(name: &str) -> Option<&'static str> {
     }
 }
 
-/// What becomes of a body in its frame.
-fn answer_in_frame(alloc: Global, given: &str) -> Result<String, Fail> {
-    let (start, hex) = given.rsplit_once(" | ").ok_or("no bytes")?;
-    let (_title, name) = start.rsplit_once(" | ").ok_or("no frame")?;
-    let frame = frame_of(name).ok_or("another frame")?;
-    let text = format!(in alloc; "{frame}{hex}")?;
-    answer(alloc, text.as_str(), 0)
-}
+/// Bodies in their frames.
+pub(crate) struct Bodies;
 
-/// The lines whose answers are others than wanted, each with its answer.
-pub(crate) fn differing(alloc: Global, lines: &str) -> Result<String, Fail> {
-    let mut wrong = String::new(alloc);
-    for line in lines.trim().lines() {
-        let (given, wanted) = line.rsplit_once(" | ").ok_or("no answer")?;
-        let got = answer_in_frame(alloc, given)?;
-        if got.as_str() != wanted {
-            writeln!(wrong, "{line}: {got}")?;
-        }
+impl Answers for Bodies {
+    fn answer(alloc: Global, given: &str) -> Result<String, Fail> {
+        let (start, hex) = given.rsplit_once(" | ").ok_or("no bytes")?;
+        let (_title, name) = start.rsplit_once(" | ").ok_or("no frame")?;
+        let frame = frame_of(name).ok_or("another frame")?;
+        let text = format!(in alloc; "{frame}{hex}")?;
+        let bytes = bytes_of(alloc, text.as_str())?;
+        fate(alloc, &bytes, 0)
     }
-    Ok(wrong)
 }

@@ -1,7 +1,8 @@
 //! Bodies that are read, refused, typed and not typed: opcodes and what stands behind them, nesting, locals, numbers,
 //! operands, alignments, memory, calls, ends, an `if` without `else`, branches, and operands that may be of any type.
 
-use crate::bodies::differing;
+use crate::bodies::Bodies;
+use cases::check_lines;
 use std::test::Fail;
 
 /// A line a body: what it is, the frame, the section of its code, and the answer.
@@ -389,7 +390,5 @@ an if behind unreachable | full | 0a0c010a 02017f017e 0004400b0b | ok
 
 #[test]
 fn bodies_are_answered(rt: HostRuntime) -> Result<(), Fail> {
-    assert_eq!(rt; differing(rt.alloc(), BODIES)?.as_str(), "");
-    assert_eq!(rt; BODIES.trim().lines().count(), 379);
-    Ok(())
+    check_lines::<Bodies>(rt.alloc(), BODIES, " | ", 379)
 }

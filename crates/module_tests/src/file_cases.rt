@@ -1,6 +1,7 @@
 //! Files that leave the preamble.
 
-use crate::modules::differing;
+use crate::modules::Files;
+use cases::check_lines;
 use std::test::Fail;
 
 /// A line a module: what it is, the place of its first byte, its bytes, and the answer.
@@ -18,7 +19,5 @@ the preamble cut off | 1 | 0061736d010000 | 8 Truncated
 
 #[test]
 fn files_are_refused(rt: HostRuntime) -> Result<(), Fail> {
-    assert_eq!(rt; differing(rt.alloc(), "", FILES)?.as_str(), "");
-    assert_eq!(rt; FILES.trim().lines().count(), 9);
-    Ok(())
+    check_lines::<Files>(rt.alloc(), FILES, "| ", 9)
 }

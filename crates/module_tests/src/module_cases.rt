@@ -1,7 +1,8 @@
 //! Modules that are read, refused, typed and not typed: sections, their sizes and their order, types, imports, tables,
 //! memories, globals, exports, segments, how many bodies and segments there are, and what no typing gets past.
 
-use crate::modules::{PREAMBLE, differing};
+use crate::modules::Modules;
+use cases::check_lines;
 use std::test::Fail;
 
 /// A line a module: what it is, the place of its first byte, its bytes behind the preamble, and the answer.
@@ -297,7 +298,5 @@ type 0: get 0, i32.add; type 0: get 0; exports `a` 1 | 0 | 010e02 60027f7f017f 6
 
 #[test]
 fn modules_are_answered(rt: HostRuntime) -> Result<(), Fail> {
-    assert_eq!(rt; differing(rt.alloc(), PREAMBLE, MODULES)?.as_str(), "");
-    assert_eq!(rt; MODULES.trim().lines().count(), 283);
-    Ok(())
+    check_lines::<Modules>(rt.alloc(), MODULES, "| ", 283)
 }

@@ -1,12 +1,9 @@
 //! Whole modules.
 
-use crate::answers::answer;
+use cases::{Answers, bytes_of};
+use module_texts::fate;
 use std::alloc::Global;
-use std::fmt::Write;
 use std::test::Fail;
-
-/// The preamble of a core module.
-pub(crate) const PREAMBLE: &str = "0061736d01000000";
 
 /// What becomes of a module behind other bytes.
 fn answer_behind(alloc: Global, start: &str, given: &str) -> Result<String, Fail> {
@@ -14,18 +11,24 @@ fn answer_behind(alloc: Global, start: &str, given: &str) -> Result<String, Fail
     let (_title, base) = head.rsplit_once('|').ok_or("no base")?;
     let base: u16 = base.trim().parse()?;
     let text = format!(in alloc; "{start}{hex}")?;
-    answer(alloc, text.as_str(), base)
+    let bytes = bytes_of(alloc, text.as_str())?;
+    fate(alloc, &bytes, base)
 }
 
-/// The lines whose answers are others than wanted, each with its answer.
-pub(crate) fn differing(alloc: Global, start: &str, lines: &str) -> Result<String, Fail> {
-    let mut wrong = String::new(alloc);
-    for line in lines.trim().lines() {
-        let (given, wanted) = line.rsplit_once("| ").ok_or("no answer")?;
-        let got = answer_behind(alloc, start, given)?;
-        if got.as_str() != wanted {
-            writeln!(wrong, "{line}: {got}")?;
-        }
+/// Modules behind the preamble.
+pub(crate) struct Modules;
+
+impl Answers for Modules {
+    fn answer(alloc: Global, given: &str) -> Result<String, Fail> {
+        answer_behind(alloc, "0061736d01000000", given)
     }
-    Ok(wrong)
+}
+
+/// Whole files.
+pub(crate) struct Files;
+
+impl Answers for Files {
+    fn answer(alloc: Global, given: &str) -> Result<String, Fail> {
+        answer_behind(alloc, "", given)
+    }
 }

@@ -1,12 +1,13 @@
 //! Gates, and the words of callbacks.
 
+use cases::{Acts, Answers, acted, check_lines};
 use entry_gate::{BadCode, Gate, Kind, Next, read_callback};
 use std::alloc::{AllocError, Global};
-use std::process::Abort;
 use std::test::Fail;
 
 /// A line a case: what is done at a new gate, then what is answered. `new:K` and `old:K` ask whether a newcomer, or one that
-/// waits, of kind sync, callback or stackful may enter; `enter:K` lets task 1 in, and `two:K` task 2.
+/// waits, of kind sync, callback or stackful may enter; `enter:K` lets task 1 in, and `two:K` task 2. `fill` raises the
+/// backpressure 65,535 times.
 const CASES: &str = "
 new:sync new:callback new:stackful free = y y y y
 inc new:sync new:callback new:stackful old:sync old:stackful = ok n n n n n
@@ -25,6 +26,7 @@ set:7 new:stackful set:0 new:stackful set:1 dec new:stackful dec = ok n ok y ok 
 inc inc inc set:1 dec new:sync dec = ok ok ok ok ok y zero
 inc inc set:0 new:sync dec = ok ok ok y zero
 inc new:sync wait dec new:sync old:sync unwait enter:sync leave:1 new:sync = ok n ok ok n y ok ok ok y
+fill inc dec inc inc = ok limit ok ok limit
 ";
 
 /// A kind by its name.
@@ -41,9 +43,20 @@ fn yes_or_no(answer: bool) -> &'static str {
     if answer { "y" } else { "n" }
 }
 
+/// Raises the backpressure 65,535 times.
+fn fill(gate: &mut Gate) -> &'static str {
+    for _ in 0..65_535u32 {
+        if gate.inc().is_err() {
+            return "limit";
+        }
+    }
+    "ok"
+}
+
 /// Does what a word without a name says.
 fn act(gate: &mut Gate, word: &str) -> &'static str {
     match word {
+        "fill" => fill(gate),
         "free" => yes_or_no(gate.is_free()),
         "inc" => match gate.inc() {
             Ok(()) => "ok",
@@ -91,42 +104,42 @@ fn act_on(gate: &mut Gate, word: &str, name: &str) -> &'static str {
     "ok"
 }
 
-/// Runs a case.
-fn compare(rt: &impl Abort, acts: &str, answers: &str) {
-    let mut gate = Gate::new();
-    for (word, wanted) in acts.split(' ').zip(answers.split(' ')) {
-        let got = match word.split_once(':') {
-            Some((what, name)) => act_on(&mut gate, what, name),
-            None => act(&mut gate, word),
+/// A gate that words change.
+#[derive(Drop)]
+struct Door {
+    gate: Gate,
+}
+
+impl Acts for Door {
+    fn act(
+        &mut self,
+        _alloc: Global,
+        name: &str,
+        rest: &str,
+        text: &mut String,
+    ) -> Result<(), Fail> {
+        let answer = if rest.is_empty() {
+            act(&mut self.gate, name)
+        } else {
+            act_on(&mut self.gate, name, rest)
         };
-        assert_eq!(rt; got, wanted, "{acts}");
+        text.push_str(answer)?;
+        Ok(())
+    }
+}
+
+/// New gates.
+struct Doors;
+
+impl Answers for Doors {
+    fn answer(alloc: Global, given: &str) -> Result<String, Fail> {
+        acted(alloc, Door { gate: Gate::new() }, given)
     }
 }
 
 #[test]
 fn gates_let_tasks_in(rt: HostRuntime) -> Result<(), Fail> {
-    let mut count = 0u32;
-    for line in CASES.lines() {
-        if let Some((acts, answers)) = line.split_once(" = ") {
-            compare(&rt, acts, answers);
-            count = count.wrapping_add(1);
-        }
-    }
-    assert_eq!(rt; count, 17);
-    Ok(())
-}
-
-#[test]
-fn backpressure_ends_at_its_limit(rt: HostRuntime) -> Result<(), Fail> {
-    let mut gate = Gate::new();
-    for _ in 0..65_535u32 {
-        assert_eq!(rt; act(&mut gate, "inc"), "ok");
-    }
-    assert_eq!(rt; act(&mut gate, "inc"), "limit");
-    assert_eq!(rt; act(&mut gate, "dec"), "ok");
-    assert_eq!(rt; act(&mut gate, "inc"), "ok");
-    assert_eq!(rt; act(&mut gate, "inc"), "limit");
-    Ok(())
+    check_lines::<Doors>(rt.alloc(), CASES, " =", 18)
 }
 
 /// A line a case: the word of a callback, then what it says.
@@ -158,16 +171,16 @@ fn said(alloc: Global, word: u32) -> Result<String, AllocError> {
     }
 }
 
+/// What words of callbacks say.
+struct Callbacks;
+
+impl Answers for Callbacks {
+    fn answer(alloc: Global, given: &str) -> Result<String, Fail> {
+        Ok(said(alloc, given.parse::<u32>()?)?)
+    }
+}
+
 #[test]
 fn words_of_callbacks_are_read(rt: HostRuntime) -> Result<(), Fail> {
-    let mut count = 0u32;
-    for line in WORDS.lines() {
-        if let Some((word, wanted)) = line.split_once(" = ") {
-            let got = said(rt.alloc(), word.parse::<u32>()?)?;
-            assert_eq!(rt; got.as_str(), wanted, "{word}");
-            count = count.wrapping_add(1);
-        }
-    }
-    assert_eq!(rt; count, 14);
-    Ok(())
+    check_lines::<Callbacks>(rt.alloc(), WORDS, " = ", 14)
 }

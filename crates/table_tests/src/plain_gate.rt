@@ -4,7 +4,7 @@ use entry_gate::Kind;
 use std::alloc::{AllocError, Global};
 
 /// Where a task is.
-#[derive(Clone, Copy, Debug, PartialEq, Eq)]
+#[derive(Clone, Copy, PartialEq, Eq)]
 pub enum Place {
     /// Not there.
     Outside,
@@ -17,7 +17,7 @@ pub enum Place {
 }
 
 /// A task.
-#[derive(Clone, Copy, Debug, PartialEq, Eq)]
+#[derive(Clone, Copy)]
 pub struct Stay {
     /// Its kind.
     pub kind: Kind,

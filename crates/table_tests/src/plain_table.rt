@@ -3,7 +3,7 @@
 use std::alloc::{AllocError, Global};
 
 /// What happened.
-#[derive(Clone, Copy, Debug, PartialEq, Eq)]
+#[derive(Clone, Copy)]
 enum Event {
     /// At this index this entry was added.
     Added(u32, u32),

@@ -1,12 +1,13 @@
 //! Tables of handles.
 
+use cases::{Acts, Answers, acted, check_lines};
 use handle_table::{AddError, Table};
 use std::alloc::{AllocError, Global};
-use std::process::Abort;
+use std::fmt::Write;
 use std::test::Fail;
 
 /// A line a case: what is done to an empty table, then what is answered. The entries that are added are 100, 101, and so
-/// on.
+/// on. `fill` adds 1 to 65535, each at the index of its number.
 const CASES: &str = "
 next len add next len = 1 0 1 2 1
 add add remove:1 remove:2 add add add = 1 2 100 101 2 1 3
@@ -20,6 +21,7 @@ add write:1 get:1 remove:1 write:1 add get:1 = 1 ok 7 7 none 1 101
 add add remove:1 len reserved len reserved len = 1 2 100 1 1 2 3 3
 reserved reserved remove:1 remove:2 next reserved = 1 2 100 101 2 2
 add get:4294967295 remove:4294967295 len = 1 none none 1
+fill len next add reserved get:65535 remove:400 add add get:400 = ok 65535 65536 full 100 full 101 65535 400 400 full 103 102
 ";
 
 /// A table and the next entry.
@@ -29,20 +31,20 @@ struct Run {
     entry: u32,
 }
 
-/// What came of an add, as text.
-fn added_text(alloc: Global, added: Result<u32, AddError<u32>>) -> Result<String, AllocError> {
+/// Writes what came of an add.
+fn write_added(text: &mut String, added: Result<u32, AddError<u32>>) -> Result<(), AllocError> {
     match added {
-        Ok(index) => format!(in alloc; "{index}"),
-        Err(AddError::Full(entry)) => format!(in alloc; "full {entry}"),
-        Err(AddError::Memory(entry)) => format!(in alloc; "memory {entry}"),
+        Ok(index) => write!(text, "{index}"),
+        Err(AddError::Full(entry)) => write!(text, "full {entry}"),
+        Err(AddError::Memory(entry)) => write!(text, "memory {entry}"),
     }
 }
 
-/// An entry as text.
-fn entry_text(alloc: Global, entry: Option<u32>) -> Result<String, AllocError> {
+/// Writes an entry.
+fn write_entry(text: &mut String, entry: Option<u32>) -> Result<(), AllocError> {
     match entry {
-        Some(entry) => format!(in alloc; "{entry}"),
-        None => format!(in alloc; "none"),
+        Some(entry) => write!(text, "{entry}"),
+        None => text.push_str("none"),
     }
 }
 
@@ -57,86 +59,87 @@ fn add_reserved(table: &mut Table<u32>, entry: u32) -> Result<u32, AddError<u32>
     }
 }
 
-impl Run {
-    /// Does what a word without a number says.
-    fn act(&mut self, alloc: Global, word: &str) -> Result<String, AllocError> {
-        match word {
-            "next" => format!(in alloc; "{}", self.table.next()),
-            "len" => format!(in alloc; "{}", self.table.len()),
-            "add" | "reserved" => {
-                let entry = self.entry;
-                self.entry = entry.wrapping_add(1);
-                let added = if word == "add" {
-                    self.table.add(entry)
-                } else {
-                    add_reserved(&mut self.table, entry)
-                };
-                added_text(alloc, added)
+/// Adds 1 to 65535, each at the index of its number.
+fn fill(table: &mut Table<u32>) -> &'static str {
+    for wanted in 1..65_536u32 {
+        match table.add(wanted) {
+            Ok(index) => {
+                if index != wanted {
+                    return "another index";
+                }
             }
-            _ => format!(in alloc; "no such word"),
+            Err(_) => return "not added",
         }
+    }
+    "ok"
+}
+
+/// Writes over the entry at an index.
+fn write_over(table: &mut Table<u32>, index: u32) -> &'static str {
+    match table.get_mut(index) {
+        Some(entry) => {
+            *entry = 7;
+            "ok"
+        }
+        None => "none",
+    }
+}
+
+impl Run {
+    /// Adds the next entry.
+    fn add(&mut self, text: &mut String, is_reserved: bool) -> Result<(), AllocError> {
+        let entry = self.entry;
+        self.entry = entry.wrapping_add(1);
+        let added = if is_reserved {
+            add_reserved(&mut self.table, entry)
+        } else {
+            self.table.add(entry)
+        };
+        write_added(text, added)
     }
 
     /// Does what a word says at an index.
-    fn act_at(&mut self, alloc: Global, word: &str, index: u32) -> Result<String, AllocError> {
+    fn act_at(&mut self, text: &mut String, word: &str, index: u32) -> Result<(), AllocError> {
         match word {
-            "remove" => entry_text(alloc, self.table.remove(index)),
-            "get" => entry_text(alloc, self.table.get(index).copied()),
-            "write" => match self.table.get_mut(index) {
-                Some(entry) => {
-                    *entry = 7;
-                    format!(in alloc; "ok")
-                }
-                None => format!(in alloc; "none"),
-            },
-            _ => format!(in alloc; "no such word"),
+            "remove" => write_entry(text, self.table.remove(index)),
+            "get" => write_entry(text, self.table.get(index).copied()),
+            "write" => text.push_str(write_over(&mut self.table, index)),
+            _ => text.push_str("no such word"),
         }
     }
 }
 
-/// Runs a case.
-fn compare(rt: &impl Abort, alloc: Global, acts: &str, answers: &str) -> Result<(), Fail> {
-    let mut run = Run {
-        table: Table::new(alloc),
-        entry: 100,
-    };
-    for (word, wanted) in acts.split(' ').zip(answers.split(' ')) {
-        let got = match word.split_once(':') {
-            Some((act, index)) => run.act_at(alloc, act, index.parse::<u32>()?)?,
-            None => run.act(alloc, word)?,
-        };
-        assert_eq!(rt; got.as_str(), wanted, "{acts}");
+impl Acts for Run {
+    fn act(
+        &mut self,
+        _alloc: Global,
+        name: &str,
+        rest: &str,
+        text: &mut String,
+    ) -> Result<(), Fail> {
+        match name {
+            "next" => write!(text, "{}", self.table.next())?,
+            "len" => write!(text, "{}", self.table.len())?,
+            "fill" => text.push_str(fill(&mut self.table))?,
+            "add" => self.add(text, false)?,
+            "reserved" => self.add(text, true)?,
+            _ => self.act_at(text, name, rest.parse::<u32>()?)?,
+        }
+        Ok(())
     }
-    Ok(())
+}
+
+/// Empty tables.
+struct Tables;
+
+impl Answers for Tables {
+    fn answer(alloc: Global, given: &str) -> Result<String, Fail> {
+        let table = Table::new(alloc);
+        acted(alloc, Run { table, entry: 100 }, given)
+    }
 }
 
 #[test]
 fn indices_are_given_and_given_again(rt: HostRuntime) -> Result<(), Fail> {
-    let mut count = 0u32;
-    for line in CASES.lines() {
-        if let Some((acts, answers)) = line.split_once(" = ") {
-            compare(&rt, rt.alloc(), acts, answers)?;
-            count = count.wrapping_add(1);
-        }
-    }
-    assert_eq!(rt; count, 12);
-    Ok(())
-}
-
-#[test]
-fn the_table_is_full_at_65535_live_entries(rt: HostRuntime) -> Result<(), Fail> {
-    let mut table = Table::new(rt.alloc());
-    for wanted in 1..65_536u32 {
-        assert_eq!(rt; table.add(wanted), Ok(wanted));
-    }
-    assert_eq!(rt; table.len(), 65_535);
-    assert_eq!(rt; table.next(), 65_536);
-    assert_eq!(rt; table.add(9), Err(AddError::Full(9)));
-    assert_eq!(rt; add_reserved(&mut table, 9), Err(AddError::Full(9)));
-    assert_eq!(rt; table.get(65_535).copied(), Some(65_535));
-    assert_eq!(rt; table.remove(400), Some(400));
-    assert_eq!(rt; table.add(9), Ok(400));
-    assert_eq!(rt; table.add(10), Err(AddError::Full(10)));
-    assert_eq!(rt; table.get(400).copied(), Some(9));
-    Ok(())
+    check_lines::<Tables>(rt.alloc(), CASES, " =", 13)
 }

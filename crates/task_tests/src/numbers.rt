@@ -1,6 +1,7 @@
 //! Numbers that look random, and numbers in texts.
 
 use std::alloc::{AllocError, Global};
+use std::fmt::Write;
 
 /// A linear congruential generator.
 #[derive(Clone, Copy)]
@@ -40,17 +41,21 @@ pub fn number_of(text: &str) -> u32 {
     text.parse::<u32>().unwrap_or(0)
 }
 
-/// Numbers as cases write them: with a comma between them, and none as a line.
-pub fn text_of(alloc: Global, numbers: &[u32]) -> Result<String, AllocError> {
-    let mut text = String::new(alloc);
-    for number in numbers {
-        if !text.is_empty() {
-            text.push_str(",")?;
+/// Writes numbers with a comma between them, and none as a line.
+pub fn write_numbers(text: &mut String, numbers: &[u32]) -> Result<(), AllocError> {
+    if numbers.is_empty() {
+        text.push('-')?;
+    }
+    for (place, number) in numbers.iter().enumerate() {
+        if place > 0 {
+            text.push(',')?;
         }
         write!(text, "{number}")?;
     }
-    if text.is_empty() {
-        text.push_str("-")?;
-    }
-    Ok(text)
+    Ok(())
+}
+
+/// Whether numbers are the same, in one order.
+pub fn are_alike(first: &[u32], second: &[u32]) -> bool {
+    first == second
 }

@@ -1,10 +1,10 @@
 //! Waitable sets.
 
-use crate::numbers::{Dice, number_of, numbers_of, text_of};
+use crate::numbers::{Dice, are_alike, number_of, numbers_of, write_numbers};
 use crate::plain_sets::PlainSets;
-use ca_base::Memory;
+use cases::{Acts, Answers, acted, check_lines};
 use std::alloc::Global;
-use std::process::Abort;
+use std::fmt::Write;
 use std::test::Fail;
 use waitables::{Nums, SetRefusal, Sets};
 
@@ -37,53 +37,68 @@ fn drop_text(answer: Result<(), SetRefusal>) -> &'static str {
     }
 }
 
-/// A call of a set that is there.
-fn call_set(
-    alloc: Global,
-    sets: &mut Sets,
-    call: &str,
-    set: u32,
-    told: &Nums,
-) -> Result<String, Fail> {
+/// Begins a wait on a set.
+fn wait_on(sets: &mut Sets, set: u32) -> &'static str {
     if set as usize >= sets.len() {
-        return Ok(format!(in alloc; "no")?);
+        return "no";
     }
-    let answer = match call {
-        "d" => drop_text(sets.drop_set(set)),
-        "w" => {
-            if sets.waiters(set) < 99 {
-                sets.wait_on(set);
-            }
-            "ok"
-        }
-        "o" => {
-            if sets.waiters(set) == 0 {
-                "no"
-            } else {
-                sets.wait_off(set);
-                "ok"
-            }
-        }
-        "a" => {
-            if sets.any_ready(set, told) {
-                "yes"
-            } else {
-                "no"
-            }
-        }
-        "s" => return list_text(alloc, sets.members(set).list(alloc)),
-        "r" => return list_text(alloc, sets.ready(alloc, set, told)),
-        _ => "?",
-    };
-    Ok(format!(in alloc; "{answer}")?)
+    if sets.waiters(set) < 99 {
+        sets.wait_on(set);
+    }
+    "ok"
 }
 
-/// A list of waitables as cases write it.
-fn list_text(alloc: Global, list: Result<Nums, Memory>) -> Result<String, Fail> {
-    match list {
-        Ok(list) => Ok(text_of(alloc, list.as_slice())?),
-        Err(_) => Ok(format!(in alloc; "memory")?),
+/// Ends a wait on a set, where there is one.
+fn wait_off(sets: &mut Sets, set: u32) -> &'static str {
+    if set as usize >= sets.len() || sets.waiters(set) == 0 {
+        return "no";
     }
+    sets.wait_off(set);
+    "ok"
+}
+
+/// Drops a set.
+fn drop_set(sets: &mut Sets, set: u32) -> &'static str {
+    if set as usize >= sets.len() {
+        return "no";
+    }
+    drop_text(sets.drop_set(set))
+}
+
+/// Writes the members of a set.
+fn write_members(alloc: Global, sets: &Sets, set: u32, text: &mut String) -> Result<(), Fail> {
+    if set as usize >= sets.len() {
+        text.push_str("no")?;
+        return Ok(());
+    }
+    let members = sets.members(set).list(alloc)?;
+    write_numbers(text, members.as_slice())?;
+    Ok(())
+}
+
+/// Writes the ready ones of a set.
+fn write_ready(
+    alloc: Global,
+    sets: &Sets,
+    set: u32,
+    told: &Nums,
+    text: &mut String,
+) -> Result<(), Fail> {
+    if set as usize >= sets.len() {
+        text.push_str("no")?;
+        return Ok(());
+    }
+    let ready = sets.ready(alloc, set, told)?;
+    write_numbers(text, ready.as_slice())?;
+    Ok(())
+}
+
+/// Whether there is a ready one in a set.
+fn any_ready(sets: &Sets, set: u32, told: &Nums) -> &'static str {
+    if set as usize >= sets.len() || !sets.any_ready(set, told) {
+        return "no";
+    }
+    "yes"
 }
 
 /// Lets a waitable join a set.
@@ -98,46 +113,74 @@ fn join(sets: &mut Sets, waitable: u32, set: u32) -> &'static str {
     }
 }
 
-/// The call of a word of a case.
-fn call(alloc: Global, sets: &mut Sets, word: &str) -> Result<String, Fail> {
-    let (name, rest) = word.split_once(":").unwrap_or((word, ""));
-    let (first, second) = rest.split_once(".").unwrap_or((rest, ""));
-    match name {
-        "m" => match sets.make(alloc) {
-            Ok(number) => Ok(format!(in alloc; "{number}")?),
-            Err(_) => Ok(format!(in alloc; "memory")?),
-        },
-        "j" => {
-            let answer = join(sets, number_of(first), number_of(second));
-            Ok(format!(in alloc; "{answer}")?)
+/// The waitables of a text.
+fn told_in(alloc: Global, text: &str) -> Result<Nums, Fail> {
+    Ok(Nums::from_vec(numbers_of(alloc, text)?))
+}
+
+/// Sets that calls change.
+#[derive(Drop)]
+struct Called {
+    sets: Sets,
+}
+
+impl Called {
+    /// The answer to a call that tells of no waitables.
+    fn answer(&mut self, name: &str, first: u32, second: u32) -> &'static str {
+        match name {
+            "j" => join(&mut self.sets, first, second),
+            "l" => {
+                self.sets.leave(first);
+                "ok"
+            }
+            "w" => wait_on(&mut self.sets, first),
+            "o" => wait_off(&mut self.sets, first),
+            "d" => drop_set(&mut self.sets, first),
+            _ => "?",
         }
-        "l" => {
-            sets.leave(number_of(first));
-            Ok(format!(in alloc; "ok")?)
+    }
+}
+
+impl Acts for Called {
+    fn act(
+        &mut self,
+        alloc: Global,
+        name: &str,
+        rest: &str,
+        text: &mut String,
+    ) -> Result<(), Fail> {
+        let (first, second) = rest.split_once(".").unwrap_or((rest, ""));
+        let number = number_of(first);
+        match name {
+            "m" => write!(text, "{}", self.sets.make(alloc)?)?,
+            "s" => write_members(alloc, &self.sets, number, text)?,
+            "r" => {
+                let told = told_in(alloc, second)?;
+                write_ready(alloc, &self.sets, number, &told, text)?;
+            }
+            "a" => {
+                let told = told_in(alloc, second)?;
+                text.push_str(any_ready(&self.sets, number, &told))?;
+            }
+            _ => text.push_str(self.answer(name, number, number_of(second)))?,
         }
-        _ => {
-            let told = Nums::from_vec(numbers_of(alloc, second)?);
-            call_set(alloc, sets, name, number_of(first), &told)
-        }
+        Ok(())
+    }
+}
+
+/// No sets at first.
+struct Calls;
+
+impl Answers for Calls {
+    fn answer(alloc: Global, given: &str) -> Result<String, Fail> {
+        let sets = Sets::new(alloc);
+        acted(alloc, Called { sets }, given)
     }
 }
 
 #[test]
 fn sets_answer(rt: HostRuntime) -> Result<(), Fail> {
-    let alloc = rt.alloc();
-    let mut count = 0u32;
-    for line in CASES.lines() {
-        if let Some((calls, answers)) = line.split_once(" = ") {
-            let mut sets = Sets::new(alloc);
-            for (word, wanted) in calls.split(' ').zip(answers.split(' ')) {
-                let got = call(alloc, &mut sets, word)?;
-                assert_eq!(&rt; got.as_str(), wanted, "{calls}");
-            }
-            count = count.wrapping_add(1);
-        }
-    }
-    assert_eq!(&rt; count, 13);
-    Ok(())
+    check_lines::<Calls>(rt.alloc(), CASES, " =", 13)
 }
 
 /// The sets that are tried, and the waitables.
@@ -164,80 +207,109 @@ fn made(alloc: Global, sets: &mut Sets) -> bool {
     sets.len() == SETS as usize
 }
 
-/// Compares all sets with the plain ones.
-fn compare(
-    rt: &impl Abort,
-    alloc: Global,
-    sets: &Sets,
-    plain: &PlainSets,
-    told: &Nums,
-) -> Result<(), Fail> {
-    for set in 0..SETS {
-        if set as usize >= sets.len() {
-            return Ok(());
-        }
-        let members = list_text(alloc, sets.members(set).list(alloc))?;
-        let wanted = text_of(alloc, &plain.members(alloc, set)?)?;
-        assert_eq!(rt; members.as_str(), wanted.as_str());
-        let ready = list_text(alloc, sets.ready(alloc, set, told))?;
-        let wanted = text_of(alloc, &plain.ready(alloc, set, told.as_slice())?)?;
-        assert_eq!(rt; ready.as_str(), wanted.as_str());
-        assert_eq!(rt; sets.any_ready(set, told), wanted.as_str() != "-");
-    }
-    Ok(())
+/// Sets and plain ones.
+#[derive(Drop)]
+struct Both {
+    sets: Sets,
+    plain: PlainSets,
 }
 
-/// A random call of a set, beside the plain sets.
-fn step(
-    rt: &impl Abort,
-    alloc: Global,
-    dice: &mut Dice,
-    sets: &mut Sets,
-    plain: &mut PlainSets,
-) -> Result<(), Fail> {
-    let waitable = dice.below(WAITABLES);
-    let set = dice.below(SETS);
-    if set as usize >= sets.len() {
-        return Ok(());
+impl Both {
+    /// Whether a set has the members that the plain one has.
+    fn has_members(&self, alloc: Global, set: u32) -> Result<bool, Fail> {
+        if set as usize >= self.sets.len() {
+            return Ok(false);
+        }
+        let members = self.sets.members(set).list(alloc)?;
+        let wanted = self.plain.members(alloc, set)?;
+        Ok(are_alike(members.as_slice(), &wanted))
     }
-    match dice.below(8) {
-        0..=3 => {
-            assert_eq!(rt; join(sets, waitable, set), "ok");
-            plain.join(alloc, waitable, set)?;
+
+    /// Whether a set has the ready ones that the plain one has.
+    fn has_ready(&self, alloc: Global, set: u32, told: &Nums) -> Result<bool, Fail> {
+        if set as usize >= self.sets.len() {
+            return Ok(false);
         }
-        4 => {
-            sets.leave(waitable);
-            plain.leave(alloc, waitable)?;
-        }
-        5 => {
-            if sets.waiters(set) < 99 {
-                sets.wait_on(set);
-                plain.wait_on(set)?;
+        let any = self.sets.any_ready(set, told);
+        let ready = self.sets.ready(alloc, set, told)?;
+        let wanted = self.plain.ready(alloc, set, told.as_slice())?;
+        Ok(are_alike(ready.as_slice(), &wanted) && any != wanted.is_empty())
+    }
+
+    /// Compares all sets with the plain ones.
+    fn compare(&self, alloc: Global, told: &Nums) -> Result<(), Fail> {
+        for set in 0..SETS {
+            if !self.has_members(alloc, set)? {
+                return Err(Fail::new("other members"));
+            }
+            if !self.has_ready(alloc, set, told)? {
+                return Err(Fail::new("other ready ones"));
             }
         }
-        6 => {
-            let waits = plain.wait_off(alloc, set)?;
-            assert_eq!(rt; sets.waiters(set) > 0, waits);
-            if sets.waiters(set) > 0 {
-                sets.wait_off(set);
-            }
-        }
-        _ => assert_eq!(rt; drop_text(sets.drop_set(set)), plain.drop_answer(set)),
+        Ok(())
     }
-    Ok(())
+
+    /// Ends a wait on a set, and answers whether both had one.
+    fn wait_off(&mut self, alloc: Global, set: u32) -> Result<bool, Fail> {
+        let wanted = if self.plain.wait_off(alloc, set)? {
+            "ok"
+        } else {
+            "no"
+        };
+        Ok(wait_off(&mut self.sets, set) == wanted)
+    }
+
+    /// A random call of a set, and whether both answer alike.
+    fn step(&mut self, alloc: Global, dice: &mut Dice) -> Result<bool, Fail> {
+        let waitable = dice.below(WAITABLES);
+        let set = dice.below(SETS);
+        match dice.below(8) {
+            0..=3 => {
+                self.plain.join(alloc, waitable, set)?;
+                Ok(join(&mut self.sets, waitable, set) == "ok")
+            }
+            4 => {
+                self.sets.leave(waitable);
+                self.plain.leave(alloc, waitable)?;
+                Ok(true)
+            }
+            5 => {
+                if set as usize >= self.sets.len() {
+                    return Ok(false);
+                }
+                if self.sets.waiters(set) < 99 {
+                    self.sets.wait_on(set);
+                    self.plain.wait_on(set)?;
+                }
+                Ok(true)
+            }
+            6 => self.wait_off(alloc, set),
+            _ => Ok(drop_set(&mut self.sets, set) == self.plain.drop_answer(set)),
+        }
+    }
+
+    /// A thousand random calls, after each of which both agree.
+    fn run(&mut self, alloc: Global, dice: &mut Dice) -> Result<(), Fail> {
+        if !made(alloc, &mut self.sets) {
+            return Err(Fail::new("no sets"));
+        }
+        for _ in 0..1000 {
+            if !self.step(alloc, dice)? {
+                return Err(Fail::new("another answer"));
+            }
+            let told = told_of(alloc, dice)?;
+            self.compare(alloc, &told)?;
+        }
+        Ok(())
+    }
 }
 
 #[test]
 fn random_calls_agree_with_plain_sets(rt: HostRuntime) -> Result<(), Fail> {
     let alloc = rt.alloc();
-    let mut dice = Dice::new(7);
-    let mut sets = Sets::new(alloc);
-    let mut plain = PlainSets::new(alloc);
-    assert!(&rt; made(alloc, &mut sets));
-    for _ in 0..1000 {
-        step(&rt, alloc, &mut dice, &mut sets, &mut plain)?;
-        let told = told_of(alloc, &mut dice)?;
-        compare(&rt, alloc, &sets, &plain, &told)?;
-    }
-    Ok(())
+    let mut both = Both {
+        sets: Sets::new(alloc),
+        plain: PlainSets::new(alloc),
+    };
+    both.run(alloc, &mut Dice::new(7))
 }

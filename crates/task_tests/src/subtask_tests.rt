@@ -1,14 +1,16 @@
 //! Subtasks.
 
-use crate::numbers::{Dice, number_of, text_of};
-use std::alloc::Global;
-use std::process::Abort;
+use crate::numbers::{Dice, are_alike, number_of, write_numbers};
+use cases::{Acts, Answers, acted, check_lines};
+use std::alloc::{AllocError, Global};
+use std::fmt::Write;
 use std::test::Fail;
 use tasks::{Subtask, SubtaskState};
 
-/// A line a case: what is tried, then the answers. `r:2` lets the state rise to that of the code 2, `t` tells the state and
-/// answers the payload, `l:7` lends handle 7, `h` is the list of lent handles, and `e` whether there is something to tell.
-/// What may not be asked for answers `no`.
+/// A line a case: what is tried of a subtask of callee 7, then the answers. `r:2` lets the state rise to that of the code 2,
+/// `t` tells the state and answers the payload, `l:7` lends handle 7, `h` is the list of lent handles, and `e` whether there is
+/// something to tell. `callee`, `payload`, `state` and `told` are what it tells without that. What may not be asked for answers
+/// `no`.
 const CASES: &str = "
 e t r:1 e t e r:2 e t e t = no no ok yes 1 no ok yes 2 no no
 r:1 l:4 l:7 h t h r:2 h t h l:9 = ok ok ok 4,7 1 4,7 ok 4,7 2 - no
@@ -16,6 +18,7 @@ l:4 r:3 h t h r:4 t = ok ok 4 3 - no no
 r:1 l:4 l:4 r:4 t h r:1 r:2 r:3 = ok ok ok ok 4 - no no no
 r:2 r:4 r:0 r:1 r:0 r:1 r:3 r:2 t = no no no ok no no no ok 2
 r:1 l:5 r:2 l:6 h t h = ok ok ok no 5 2 -
+callee r:1 payload state told = 7 ok 1 Started Starting
 ";
 
 /// The state of a code.
@@ -60,49 +63,74 @@ fn tell(subtask: &mut Subtask) -> Option<u32> {
     }
 }
 
-/// The answer to a word.
-fn answer(alloc: Global, subtask: &mut Subtask, word: &str) -> Result<String, Fail> {
-    let (name, rest) = word.split_once(":").unwrap_or((word, ""));
-    let text = match name {
-        "r" => rise(subtask, number_of(rest)),
-        "l" => lend(subtask, number_of(rest)),
-        "e" => { if subtask.has_event() { "yes" } else { "no" } }
-        "h" => return Ok(text_of(alloc, subtask.lends().as_slice())?),
-        _ => match tell(subtask) {
-            Some(payload) => return Ok(format!(in alloc; "{payload}")?),
-            None => "no",
-        },
-    };
-    Ok(format!(in alloc; "{text}")?)
+/// Whether there is something to tell.
+fn has_event(subtask: &Subtask) -> &'static str {
+    if subtask.has_event() { "yes" } else { "no" }
+}
+
+/// Writes a payload.
+fn write_payload(text: &mut String, payload: Option<u32>) -> Result<(), AllocError> {
+    match payload {
+        Some(payload) => write!(text, "{payload}"),
+        None => text.push_str("no"),
+    }
+}
+
+/// A subtask that words change.
+#[derive(Drop)]
+struct Tried {
+    subtask: Subtask,
+}
+
+impl Tried {
+    /// Writes the answer to a word.
+    fn write_answer(
+        &mut self,
+        name: &str,
+        rest: &str,
+        text: &mut String,
+    ) -> Result<(), AllocError> {
+        let subtask = &mut self.subtask;
+        match name {
+            "r" => text.push_str(rise(subtask, number_of(rest))),
+            "l" => text.push_str(lend(subtask, number_of(rest))),
+            "e" => text.push_str(has_event(subtask)),
+            "h" => write_numbers(text, subtask.lends().as_slice()),
+            "callee" => write!(text, "{}", subtask.callee()),
+            "payload" => write!(text, "{}", subtask.payload()),
+            "state" => write!(text, "{:?}", subtask.state()),
+            "told" => write!(text, "{:?}", subtask.told()),
+            _ => write_payload(text, tell(subtask)),
+        }
+    }
+}
+
+impl Acts for Tried {
+    fn act(
+        &mut self,
+        _alloc: Global,
+        name: &str,
+        rest: &str,
+        text: &mut String,
+    ) -> Result<(), Fail> {
+        self.write_answer(name, rest, text)?;
+        Ok(())
+    }
+}
+
+/// New subtasks.
+struct Subtasks;
+
+impl Answers for Subtasks {
+    fn answer(alloc: Global, given: &str) -> Result<String, Fail> {
+        let subtask = Subtask::new(alloc, 7);
+        acted(alloc, Tried { subtask }, given)
+    }
 }
 
 #[test]
 fn subtasks_answer(rt: HostRuntime) -> Result<(), Fail> {
-    let alloc = rt.alloc();
-    let mut count = 0u32;
-    for line in CASES.lines() {
-        if let Some((words, answers)) = line.split_once(" = ") {
-            let mut subtask = Subtask::new(alloc, 2);
-            for (word, wanted) in words.split(' ').zip(answers.split(' ')) {
-                let got = answer(alloc, &mut subtask, word)?;
-                assert_eq!(&rt; got.as_str(), wanted, "{words}");
-            }
-            count = count.wrapping_add(1);
-        }
-    }
-    assert_eq!(&rt; count, 6);
-    Ok(())
-}
-
-#[test]
-fn a_subtask_tells_what_it_is(rt: HostRuntime) -> Result<(), Fail> {
-    let mut subtask = Subtask::new(rt.alloc(), 7);
-    assert_eq!(&rt; subtask.callee(), 7);
-    assert_eq!(&rt; rise(&mut subtask, 1), "ok");
-    assert_eq!(&rt; subtask.payload(), 1);
-    assert_eq!(&rt; subtask.state(), SubtaskState::Started);
-    assert_eq!(&rt; subtask.told(), SubtaskState::Starting);
-    Ok(())
+    check_lines::<Subtasks>(rt.alloc(), CASES, " =", 7)
 }
 
 /// A subtask as its past: the codes of its states, how many of these were told, and what was lent.
@@ -149,44 +177,65 @@ impl PlainSubtask {
     }
 
     /// What is lent: all or nothing.
-    fn lends(&self, alloc: Global) -> Result<String, Fail> {
-        let none = [0u32; 0];
-        let list = if PlainSubtask::last(&self.told) >= 2 {
-            none.as_slice()
+    fn lends(&self) -> &[u32] {
+        if PlainSubtask::last(&self.told) >= 2 {
+            &[]
         } else {
             self.lent.as_slice()
-        };
-        Ok(text_of(alloc, list)?)
+        }
     }
 }
 
-/// Sixteen random steps of a subtask, beside a plain one.
-fn run(rt: &impl Abort, alloc: Global, dice: &mut Dice) -> Result<(), Fail> {
-    let mut subtask = Subtask::new(alloc, 2);
-    let mut plain = PlainSubtask {
-        codes: Vec::new(alloc),
-        told: Vec::new(alloc),
-        lent: Vec::new(alloc),
-    };
-    for _ in 0..16 {
+/// A subtask and a plain one.
+#[derive(Drop)]
+struct Both {
+    subtask: Subtask,
+    plain: PlainSubtask,
+}
+
+impl Both {
+    /// A random act, and whether both answer alike.
+    fn act(&mut self, dice: &mut Dice) -> Result<bool, Fail> {
         let number = dice.below(5);
-        match dice.below(3) {
-            0 => assert_eq!(rt; rise(&mut subtask, number), plain.rise(number)?),
-            1 => assert_eq!(rt; tell(&mut subtask), plain.tell()?),
-            _ => assert_eq!(rt; lend(&mut subtask, number), plain.lend(number)?),
-        }
-        let lends = text_of(alloc, subtask.lends().as_slice())?;
-        let wanted = plain.lends(alloc)?;
-        assert_eq!(rt; lends.as_str(), wanted.as_str());
+        Ok(match dice.below(3) {
+            0 => rise(&mut self.subtask, number) == self.plain.rise(number)?,
+            1 => tell(&mut self.subtask) == self.plain.tell()?,
+            _ => lend(&mut self.subtask, number) == self.plain.lend(number)?,
+        })
     }
-    Ok(())
+
+    /// Sixteen random acts, after each of which both agree.
+    fn run(&mut self, dice: &mut Dice) -> Result<(), Fail> {
+        for _ in 0..16 {
+            if !self.act(dice)? {
+                return Err(Fail::new("another answer"));
+            }
+            if !are_alike(self.subtask.lends().as_slice(), self.plain.lends()) {
+                return Err(Fail::new("other handles"));
+            }
+        }
+        Ok(())
+    }
+}
+
+/// Sixteen random acts of a new subtask.
+fn run(alloc: Global, dice: &mut Dice) -> Result<(), Fail> {
+    let mut both = Both {
+        subtask: Subtask::new(alloc, 2),
+        plain: PlainSubtask {
+            codes: Vec::new(alloc),
+            told: Vec::new(alloc),
+            lent: Vec::new(alloc),
+        },
+    };
+    both.run(dice)
 }
 
 #[test]
 fn random_steps_agree_with_plain_subtasks(rt: HostRuntime) -> Result<(), Fail> {
     let mut dice = Dice::new(5);
     for _ in 0..70 {
-        run(&rt, rt.alloc(), &mut dice)?;
+        run(rt.alloc(), &mut dice)?;
     }
     Ok(())
 }

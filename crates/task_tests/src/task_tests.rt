@@ -2,16 +2,18 @@
 
 use crate::numbers::Dice;
 use crate::plain_task::PlainTask;
+use cases::{Acts, Answers, acted, check_lines};
 use entry_gate::Kind;
-use std::alloc::Global;
-use std::process::Abort;
+use std::alloc::{AllocError, Global};
+use std::fmt::Write;
 use std::test::Fail;
-use tasks::{Asked, BlockedAt, Caller, Cancellation, Phase, Resolution, Task, TaskEvent, TaskTrap};
+use tasks::{Asked, BlockedAt, Caller, Task, TaskEvent, TaskTrap};
 
-/// A line a case: how the task is lifted, what is tried, and the answers. A word of `b` blocks: `be` at the entry, `bl` in
-/// the loop, `by` in yield, `bs` at a set, `bc` at a call, `bp` at a copy, `bx` at a cancel, with `!` for the flag. `x0` and
-/// `x1` ask that it be cancelled, where entry is held and where it is free. `s` is the state of its subtask. An event that
-/// may not be asked for answers `no`.
+/// A line a case: how the task is lifted and who called it (a guest where nobody is named), what is tried, and the answers. A
+/// word of `b` blocks: `be` at the entry, `bl` in the loop, `by` in yield, `bs` at a set, `bc` at a call, `bp` at a copy, `bx`
+/// at a cancel, with `!` for the flag. `x0` and `x1` ask that it be cancelled, where entry is held and where it is free. `s`
+/// is the state of its subtask, and `kind`, `caller`, `phase`, `borrows`, `cancellation` and `resolution` are what it tells.
+/// An event that may not be asked for answers `no`. Only the task that nobody called exits unresolved.
 const CASES: &str = "
 stackful: enter bor ret unb ret exit = ok ok BorrowLives ok ok ok
 callback: enter exit ret exit = ok no ok ok
@@ -39,6 +41,9 @@ stackful: enter bor x1 told unb can bor ret = ok ok Pending ok ok ok no Resolved
 stackful: be be go enter be go by go go = ok no no ok no no ok ok no
 callback: enter bor bor unb unb unb ret bor exit = ok ok ok ok ok no ok no ok
 callback: go told unb exit ret enter enter = no no no no no ok no
+callback host: kind caller phase enter bor borrows unb bl phase x1 = Callback Host(3) New ok ok 1 ok ok Blocked(Loop(18), false) ResumeNow
+callback host: enter bl x1 cancellation resolution go told can resolution = ok ok ResumeNow Asked None ok ok ok Some(Cancelled)
+sync nobody: enter exit phase = ok ok Exited
 ";
 
 /// The event of a word.
@@ -128,6 +133,39 @@ fn answer(task: &mut Task, word: &str) -> &'static str {
     }
 }
 
+/// Writes what a task tells, or else the answer to a word.
+fn write_answer(task: &mut Task, word: &str, text: &mut String) -> Result<(), AllocError> {
+    match word {
+        "kind" => write!(text, "{:?}", task.kind()),
+        "caller" => write!(text, "{:?}", task.caller()),
+        "phase" => write!(text, "{:?}", task.phase()),
+        "borrows" => write!(text, "{}", task.borrows()),
+        "cancellation" => write!(text, "{:?}", task.cancellation()),
+        "resolution" => write!(text, "{:?}", task.resolution()),
+        _ => text.push_str(answer(task, word)),
+    }
+}
+
+/// A task that words change.
+#[derive(Drop)]
+struct Tried {
+    task: Task,
+}
+
+impl Acts for Tried {
+    fn act(
+        &mut self,
+        _alloc: Global,
+        name: &str,
+        _rest: &str,
+        text: &mut String,
+    ) -> Result<(), Fail> {
+        write_answer(&mut self.task, name, text)?;
+        Ok(())
+    }
+}
+
+/// How a task is lifted.
 fn kind_of(name: &str) -> Kind {
     match name {
         "sync" => Kind::Sync,
@@ -136,53 +174,30 @@ fn kind_of(name: &str) -> Kind {
     }
 }
 
+/// Who called a task.
+fn caller_of(name: &str) -> Caller {
+    match name {
+        "host" => Caller::Host(3),
+        "nobody" => Caller::Nobody,
+        _ => Caller::Guest(1),
+    }
+}
+
+/// New tasks.
+struct Tasks;
+
+impl Answers for Tasks {
+    fn answer(alloc: Global, given: &str) -> Result<String, Fail> {
+        let (head, words) = given.split_once(": ").ok_or("no kind")?;
+        let (kind, caller) = head.split_once(' ').unwrap_or((head, ""));
+        let task = Task::new(kind_of(kind), caller_of(caller));
+        acted(alloc, Tried { task }, words)
+    }
+}
+
 #[test]
 fn tasks_answer(rt: HostRuntime) -> Result<(), Fail> {
-    let mut count = 0u32;
-    for line in CASES.lines() {
-        if let Some((tried, answers)) = line.split_once(" = ") {
-            let (kind, words) = tried.split_once(": ").unwrap_or(("", tried));
-            let mut task = Task::new(kind_of(kind), Caller::Guest(1));
-            for (word, wanted) in words.split(' ').zip(answers.split(' ')) {
-                assert_eq!(&rt; answer(&mut task, word), wanted, "{tried}");
-            }
-            count = count.wrapping_add(1);
-        }
-    }
-    assert_eq!(&rt; count, 26);
-    Ok(())
-}
-
-#[test]
-fn a_task_tells_what_it_is(rt: HostRuntime) -> Result<(), Fail> {
-    let mut task = Task::new(Kind::Callback, Caller::Host(3));
-    assert_eq!(&rt; task.kind(), Kind::Callback);
-    assert_eq!(&rt; task.caller(), Caller::Host(3));
-    assert_eq!(&rt; task.phase(), Phase::New);
-    assert_eq!(&rt; answer(&mut task, "enter"), "ok");
-    assert_eq!(&rt; answer(&mut task, "bor"), "ok");
-    assert_eq!(&rt; task.borrows(), 1);
-    assert_eq!(&rt; answer(&mut task, "unb"), "ok");
-    assert_eq!(&rt; answer(&mut task, "bl"), "ok");
-    assert_eq!(&rt; task.phase(), Phase::Blocked(BlockedAt::Loop(18), false));
-    assert_eq!(&rt; answer(&mut task, "x1"), "ResumeNow");
-    assert_eq!(&rt; task.cancellation(), Cancellation::Asked);
-    assert_eq!(&rt; task.resolution(), None);
-    assert_eq!(&rt; answer(&mut task, "go"), "ok");
-    assert_eq!(&rt; answer(&mut task, "told"), "ok");
-    assert_eq!(&rt; answer(&mut task, "can"), "ok");
-    assert_eq!(&rt; task.resolution(), Some(Resolution::Cancelled));
-    Ok(())
-}
-
-/// Only the task that nobody called exits unresolved.
-#[test]
-fn instantiation_exits_unresolved(rt: HostRuntime) -> Result<(), Fail> {
-    let mut task = Task::new(Kind::Sync, Caller::Nobody);
-    assert_eq!(&rt; answer(&mut task, "enter"), "ok");
-    assert_eq!(&rt; answer(&mut task, "exit"), "ok");
-    assert_eq!(&rt; task.phase(), Phase::Exited);
-    Ok(())
+    check_lines::<Tasks>(rt.alloc(), CASES, " =", 29)
 }
 
 /// An event of this number.
@@ -208,55 +223,81 @@ fn random_event(dice: &mut Dice) -> TaskEvent {
     }
 }
 
-/// A random act, beside the plain task.
-fn step(
-    rt: &impl Abort,
-    dice: &mut Dice,
-    task: &mut Task,
-    plain: &mut PlainTask,
-) -> Result<(), Fail> {
-    if dice.below(12) == 0 {
-        let entry_free = dice.below(2) == 1;
-        let wanted = if plain.may_cancel() {
-            asked_text(plain.request_cancel(entry_free)?)
+/// A task and a plain one.
+#[derive(Drop)]
+struct Both {
+    task: Task,
+    plain: PlainTask,
+}
+
+impl Both {
+    /// Asks that both be cancelled, and answers whether they agree.
+    fn request(&mut self, entry_free: bool) -> Result<bool, Fail> {
+        let wanted = if self.plain.may_cancel() {
+            asked_text(self.plain.request_cancel(entry_free)?)
         } else {
             "no"
         };
-        assert_eq!(rt; request(task, entry_free), wanted);
-    } else {
-        let event = random_event(dice);
-        let wanted = if plain.may_happen(event) {
-            match plain.advance(event)? {
+        Ok(request(&mut self.task, entry_free) == wanted)
+    }
+
+    /// Lets an event happen to both, and answers whether they agree.
+    fn advance(&mut self, event: TaskEvent) -> Result<bool, Fail> {
+        let wanted = if self.plain.may_happen(event) {
+            match self.plain.advance(event)? {
                 Some(trap) => trap_text(trap),
                 None => "ok",
             }
         } else {
             "no"
         };
-        assert_eq!(rt; advance(task, event), wanted, "{event:?}");
+        Ok(advance(&mut self.task, event) == wanted)
     }
-    assert_eq!(rt; task.state().code(), plain.code());
-    assert_eq!(rt; task.borrows(), plain.borrows());
-    Ok(())
+
+    /// A random act, after which both agree.
+    fn step(&mut self, dice: &mut Dice) -> Result<(), Fail> {
+        let agrees = if dice.below(12) == 0 {
+            self.request(dice.below(2) == 1)?
+        } else {
+            self.advance(random_event(dice))?
+        };
+        if !agrees {
+            return Err(Fail::new("another answer"));
+        }
+        if self.task.state().code() != self.plain.code() {
+            return Err(Fail::new("another state"));
+        }
+        if self.task.borrows() != self.plain.borrows() {
+            return Err(Fail::new("other borrows"));
+        }
+        Ok(())
+    }
+
+    /// Forty acts.
+    fn run(&mut self, dice: &mut Dice) -> Result<(), Fail> {
+        for _ in 0..40 {
+            self.step(dice)?;
+        }
+        Ok(())
+    }
 }
 
 /// Forty acts of a task of this kind.
-fn run(rt: &impl Abort, alloc: Global, dice: &mut Dice, kind: Kind) -> Result<(), Fail> {
-    let mut task = Task::new(kind, Caller::Guest(1));
-    let mut plain = PlainTask::new(alloc, kind);
-    for _ in 0..40 {
-        step(rt, dice, &mut task, &mut plain)?;
-    }
-    Ok(())
+fn run(alloc: Global, dice: &mut Dice, kind: Kind) -> Result<(), Fail> {
+    let mut both = Both {
+        task: Task::new(kind, Caller::Guest(1)),
+        plain: PlainTask::new(alloc, kind),
+    };
+    both.run(dice)
 }
 
 #[test]
 fn random_acts_agree_with_plain_tasks(rt: HostRuntime) -> Result<(), Fail> {
     let mut dice = Dice::new(11);
     for _ in 0..30 {
-        run(&rt, rt.alloc(), &mut dice, Kind::Sync)?;
-        run(&rt, rt.alloc(), &mut dice, Kind::Callback)?;
-        run(&rt, rt.alloc(), &mut dice, Kind::Stackful)?;
+        run(rt.alloc(), &mut dice, Kind::Sync)?;
+        run(rt.alloc(), &mut dice, Kind::Callback)?;
+        run(rt.alloc(), &mut dice, Kind::Stackful)?;
     }
     Ok(())
 }

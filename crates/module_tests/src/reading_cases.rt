@@ -1,6 +1,8 @@
 //! Modules that are read, with items and places that are derived from the format by hand.
 
-use crate::readings::differing;
+use cases::{Answers, bytes_of, bytes_of_lines, check_lines, check_paragraphs};
+use module_texts::{operation, told};
+use std::alloc::Global;
 use std::test::Fail;
 
 /// A paragraph a module: what it is, what is told of it and the place of its first byte, its bytes, and behind `is` what is
@@ -155,9 +157,48 @@ is
 1 types, 1 exports, 0 locals
 ";
 
+/// What is told of modules.
+struct Readings;
+
+impl Answers for Readings {
+    fn answer(alloc: Global, given: &str) -> Result<String, Fail> {
+        let (_title, rest) = given.split_once('\n').ok_or("no base")?;
+        let (head, lines) = rest.split_once('\n').ok_or("no bytes")?;
+        let (kind, base) = head.split_once(" at ").ok_or("no base")?;
+        let base: u16 = base.parse()?;
+        let bytes = bytes_of_lines(alloc, lines)?;
+        told(alloc, kind, &bytes, base)
+    }
+}
+
 #[test]
 fn modules_are_read(rt: HostRuntime) -> Result<(), Fail> {
-    assert_eq!(rt; differing(rt.alloc(), MODULES)?.as_str(), "");
-    assert_eq!(rt; MODULES.trim().split("\n\n").count(), 15);
-    Ok(())
+    check_paragraphs::<Readings>(rt.alloc(), MODULES, 15)
+}
+
+/// A module of a function whose body has three operations.
+const BODY: &str = "0061736d01000000 010401600000 03020100 0a07010500 2007 6a 0b";
+
+/// A line a number: the operation that stands there in the body, if there is one, and how many it has.
+const OPERATIONS: &str = "
+0 | Some(Plain(LocalGet(7))) of 3
+1 | Some(Plain(Numeric(Binary(W32, Add)))) of 3
+2 | Some(End) of 3
+3 | None of 3
+18446744073709551615 | None of 3
+";
+
+/// The operations of the body.
+struct Operations;
+
+impl Answers for Operations {
+    fn answer(alloc: Global, given: &str) -> Result<String, Fail> {
+        let bytes = bytes_of(alloc, BODY)?;
+        operation(alloc, &bytes, given.parse()?)
+    }
+}
+
+#[test]
+fn a_body_has_operations(rt: HostRuntime) -> Result<(), Fail> {
+    check_lines::<Operations>(rt.alloc(), OPERATIONS, " | ", 5)
 }

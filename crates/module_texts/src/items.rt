@@ -89,7 +89,7 @@ fn write_exports(
 }
 
 /// The items of a module, a line each, behind a line break.
-pub(crate) fn items_text(
+pub fn items_text(
     alloc: Global,
     tree: &ModuleTree,
     places: &ModulePlaces,
@@ -108,7 +108,7 @@ pub(crate) fn items_text(
 }
 
 /// How many types and exports a module has, and how many locals each of its functions declares, behind a line break.
-pub(crate) fn sizes_text(alloc: Global, tree: &ModuleTree) -> Result<String, AllocError> {
+pub fn sizes_text(alloc: Global, tree: &ModuleTree) -> Result<String, AllocError> {
     let types = tree.types.len();
     let exports = tree.exports.len();
     let mut text = format!(in alloc; "\n{types} types, {exports} exports")?;
@@ -127,4 +127,14 @@ fn write_counts(alloc: Global, text: &mut String, funcs: &[Func]) -> Result<(), 
         write!(text, ", {count} locals")?;
     }
     Ok(())
+}
+
+/// The operation at a place of the first function's body, if there is one, and how many the body has.
+pub fn op_text(alloc: Global, funcs: &[Func], at: usize) -> Result<String, AllocError> {
+    let Some(func) = funcs.first() else {
+        return String::from_str(alloc, "no function");
+    };
+    let op = func.body.op_at(at);
+    let count = func.body.len();
+    format!(in alloc; "{op:?} of {count}")
 }
