@@ -99,6 +99,51 @@ def exports(names):
     return section(11, vec(b"\x00" + name(text) + b"\x01" + u32(0) + b"\x00" for text in names))
 
 
+def ext(text):
+    """The name of an import or an export."""
+    return b"\x00" + name(text)
+
+
+def types(items):
+    """Types of a component."""
+    return section(7, vec(items))
+
+
+def instance_type(decls):
+    """A type of instances, of these declarations."""
+    return b"\x42" + vec(decls)
+
+
+def type_exports(names, index=0):
+    """Exports of an instance type, each of which is the type of this index."""
+    return [b"\x04" + ext(text) + b"\x03\x00" + u32(index) for text in names]
+
+
+def inline_types(names):
+    """An instance that exports type 0 under these names."""
+    return section(5, vec([b"\x01" + vec(ext(text) + b"\x03" + u32(0) for text in names)]))
+
+
+def nested(*parts):
+    """A component in a component."""
+    return section(4, component(*parts))
+
+
+def instantiated(index=0, arguments=()):
+    """An instance of a component, with type 0 as each of the arguments."""
+    return section(5, vec([b"\x00" + u32(index) + vec(name(text) + b"\x03" + u32(0) for text in arguments)]))
+
+
+def type_imports(names):
+    """Imports of type 0 under these names."""
+    return section(10, vec(ext(text) + b"\x03\x00" + u32(0) for text in names))
+
+
+def type_aliases(names):
+    """The types that instance 0 exports under these names."""
+    return section(6, vec(b"\x03\x00" + u32(0) + name(text) for text in names))
+
+
 def component(*parts):
     """A component of these sections."""
     return COMPONENT + b"".join(parts)

@@ -119,6 +119,46 @@ def calls(count):
     return formats.component(*parts), script.encode(), 4 * count + 1
 
 
+def types_in_types(count):
+    """So many types of instances, each of which exports the one before twice: as trees they would double each time."""
+    first = formats.instance_type([])
+    outer = b"\x02\x03\x02" + formats.u32(1)
+    others = (
+        formats.instance_type([outer + formats.u32(index), *formats.type_exports(["a", "b"])])
+        for index in range(count - 1)
+    )
+    return formats.component(formats.types([first, *others])), b"", 1
+
+
+def instance_exports(count):
+    """An instance of so many exports, and as many aliases of them."""
+    names = formats.short_names(count, 4)
+    parts = [formats.types([b"\x79"]), formats.inline_types(names), formats.type_aliases(reversed(names))]
+    return formats.component(*parts), b"", 1
+
+
+def component_arguments(count):
+    """A component that imports so many types, and an instance of it that is given them in another order."""
+    names = formats.short_names(count, 4)
+    inner = formats.nested(formats.types([b"\x79"]), formats.type_imports(names))
+    return formats.component(formats.types([b"\x79"]), inner, formats.instantiated(0, reversed(names))), b"", 1
+
+
+def described_exports(count):
+    """An instance of so many exports that is exported as one of a type that asks for them in another order."""
+    names = formats.short_names(count, 4)
+    asked = formats.instance_type([b"\x01\x79", *formats.type_exports(reversed(names))])
+    told = formats.ext("i") + b"\x05" + formats.u32(0) + b"\x01\x05" + formats.u32(1)
+    exported = formats.section(11, formats.vec([told]))
+    return formats.component(formats.types([b"\x79", asked]), formats.inline_types(names), exported), b"", 1
+
+
+def components(count):
+    """So many components, each of which has nothing, and instances of the last one."""
+    parts = [formats.nested() for _ in range(count)]
+    return formats.component(*parts, *[formats.instantiated(count - 1) for _ in range(255)]), b"", 1
+
+
 CASES = [
     Case("exports of a core module", 400_000, module_exports),
     Case("labels of a function type", 400_000, labels),
@@ -128,6 +168,11 @@ CASES = [
     Case("arguments of a core module", 400_000, arguments),
     Case("inline exports of a core instance, and aliases of them", 300_000, inline_exports),
     Case("exports of a component", 400_000, component_exports),
+    Case("types of instances, each of the one before twice", 400_000, types_in_types),
+    Case("exports of an instance, and aliases of them", 400_000, instance_exports),
+    Case("arguments of a component", 400_000, component_arguments),
+    Case("exports of an instance that is exported as one of a type", 400_000, described_exports),
+    Case("components, and 255 instances of the last one", 400_000, components),
     Case("calls of a script, for a component with 1,000 exports", 60_000, calls, doubles=False),
 ]
 
