@@ -168,7 +168,7 @@ CASES = [
     Case("arguments of a core module", 400_000, arguments),
     Case("inline exports of a core instance, and aliases of them", 300_000, inline_exports),
     Case("exports of a component", 400_000, component_exports),
-    Case("types of instances, each of the one before twice", 400_000, types_in_types),
+    Case("types of instances, each of the one before twice", 350_000, types_in_types),
     Case("exports of an instance, and aliases of them", 400_000, instance_exports),
     Case("arguments of a component", 400_000, component_arguments),
     Case("exports of an instance that is exported as one of a type", 400_000, described_exports),
