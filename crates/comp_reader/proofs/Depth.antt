@@ -31,9 +31,9 @@ component_none zero s h = refl
 component_none (suc n) s h = cc
 
 -- one may be opened
-pub component_more : (n : ℕ) (s t : Span ComponentWhy) (r : Result Component (MemoryOr (Refusal ComponentWhy))) → 0 < n → MayRead (λ c. c) (component_of (n - 1) (component_within (n - 1))) s t r → MayRead (λ c. c) (component_within n) s t r
+pub component_more : (n : ℕ) (s t : Span ComponentWhy) (r : Result Component (MemoryOr (Refusal ComponentWhy))) → 0 < n → MayRead (λ c. c) (component_of (component_within (n - 1))) s t r → MayRead (λ c. c) (component_within n) s t r
 unfolding component_within
 component_more zero s t r h m = absurd (omega arith)
 component_more (suc n) s t r h m =
     let e : suc n - 1 ≡ n = omega arith in
-    subst (λ (k : ℕ). MayRead (λ (c : Component). c) (component_of k (component_within k)) s t r) e m
+    subst (λ (k : ℕ). MayRead (λ (c : Component). c) (component_of (component_within k)) s t r) e m

@@ -1,7 +1,7 @@
 -- The binary format of components (Component Model, Binary.md), as far as it is read: sections of core modules, core
 -- instances, components, instances, aliases, types of functions over u32 and of instances, lifts without options, imports
--- and exports of functions, types and instances, and custom sections; any number of them, in any order. Components and
--- instance types may hold others; at most 16 of both are open at a place.
+-- and exports of functions, types and instances, and custom sections; any number of them, in any order. Components may
+-- hold others, and instance types too; at most 16 of either are open at a place.
 use Rattle.std.specs.Prelude.{ℕ, zero, suc, if◌then◌else◌, ◌^◌, ℤ, pos, nat_abs, int_le, int_lt, ◌&&◌, Bool, true, false, List, [], ◌∷◌, length, ◌==◌, ◌||◌, Option, Some, None}
 use Rattle.ca_base.specs.Span.{Span}
 use Rattle.ca_base.specs.Grammar.{Grammar, Give, Refuse, Here, Left, Next, Byte, Sized, Choose, ◌>>=◌, Matches, Refuses}
@@ -301,18 +301,22 @@ declarations inner = do
   decls ← vec numbers (instance_decl inner)
   Give (Instance decls)
 
+-- how many components may be open at a place, and how many instance types
+abbrev pub depth_limit : ℕ
+depth_limit = 16
+
 -- What stands behind the 42 of an instance type at this place, where so many may be opened, itself one of them.
 unfoldable pub instance_type : ℕ → ℕ → Grammar ComponentWhy DefType
 instance_type zero place = Refuse place Limit
 instance_type (suc more) place = declarations (type_of (instance_type more))
 
--- a type, inside which so many components and instance types may be opened
+-- a type, inside which so many instance types may be opened
 abbrev pub def_type : ℕ → Grammar ComponentWhy DefType
 def_type more = type_of (instance_type more)
 
-unfoldable pub type_item : ℕ → Grammar ComponentWhy Item
-type_item more = do
-  type ← def_type more
+unfoldable pub type_item : Grammar ComponentWhy Item
+type_item = do
+  type ← def_type depth_limit
   Give (item.Type type)
 
 -- No option is read.
@@ -377,58 +381,53 @@ component_items inner = do
   read ← inner
   Give (record { item = item.Component read; place = place } ∷ [])
 
--- The payload of a section that is not one of a component, by its id. Inside, so many more components and instance types may
--- be open.
-unfoldable pub plain_payload : ℕ → ℕ → Grammar ComponentWhy (List (Placed Item))
-plain_payload more id =
+-- The payload of a section that is not one of a component, by its id.
+unfoldable pub plain_payload : ℕ → Grammar ComponentWhy (List (Placed Item))
+plain_payload id =
     Choose (id == 0) custom_items
     (Choose (id == 1) module_items
     (Choose (id == 2) (placed_vec numbers core_instance)
     (Choose (id == 5) (placed_vec numbers instance)
     (Choose (id == 6) (placed_vec numbers alias_item)
-    (Choose (id == 7) (placed_vec numbers (type_item more))
+    (Choose (id == 7) (placed_vec numbers type_item)
     (Choose (id == 8) (placed_vec numbers canon)
     (Choose (id == 10) (placed_vec numbers import)
     (placed_vec numbers export))))))))
 
 -- the payload of a section, where components are of this grammar
-unfoldable pub payload : ℕ → Grammar ComponentWhy Component → ℕ → Grammar ComponentWhy (List (Placed Item))
-payload more inner id = Choose (id == 4) (component_items inner) (plain_payload more id)
+unfoldable pub payload : Grammar ComponentWhy Component → ℕ → Grammar ComponentWhy (List (Placed Item))
+payload inner id = Choose (id == 4) (component_items inner) (plain_payload id)
 
 -- the ids of the sections that are read
 abbrev pub is_section : ℕ → Bool
 is_section id = id == 0 || id == 1 || id == 2 || id == 4 || id == 5 || id == 6 || id == 7 || id == 8 || id == 10 || id == 11
 
 -- a section: its id, its size, and its payload, which fills it
-unfoldable pub section : ℕ → Grammar ComponentWhy Component → Grammar ComponentWhy (List (Placed Item))
-section more inner = do
+unfoldable pub section : Grammar ComponentWhy Component → Grammar ComponentWhy (List (Placed Item))
+section inner = do
   place ← Here
   id ← Byte
-  Choose (is_section id) (sized numbers reasons (payload more inner id)) (unsupported place id)
+  Choose (is_section id) (sized numbers reasons (payload inner id)) (unsupported place id)
 
 -- the preamble of a component
 abbrev pub preamble : List ℕ
 preamble = 0x00 ∷ 0x61 ∷ 0x73 ∷ 0x6D ∷ 0x0D ∷ 0x00 ∷ 0x01 ∷ 0x00 ∷ []
 
--- how many components and instance types may be open at a place
-abbrev pub depth_limit : ℕ
-depth_limit = 16
-
--- A component inside which so many components and instance types may be opened, and components are of this grammar: its
--- preamble, its sections up to the end of its bytes, and nothing else.
-unfoldable pub component_of : ℕ → Grammar ComponentWhy Component → Grammar ComponentWhy Component
-component_of more inner = do
+-- A component inside which components are of this grammar: its preamble, its sections up to the end of its bytes, and nothing
+-- else.
+unfoldable pub component_of : Grammar ComponentWhy Component → Grammar ComponentWhy Component
+component_of inner = do
   _ ← fixed Magic preamble
-  sections ← to_the_end (section more inner)
+  sections ← to_the_end (section inner)
   _ ← at_end reasons
   Give (record { items = joined sections })
 
--- A component where so many may be opened, itself one of them.
+-- A component where so many components may be opened, itself one of them.
 unfoldable pub component_within : ℕ → Grammar ComponentWhy Component
 component_within zero = do
   place ← Here
   Refuse place Limit
-component_within (suc more) = component_of more (component_within more)
+component_within (suc more) = component_of (component_within more)
 
 -- a component
 abbrev pub component : Grammar ComponentWhy Component

@@ -1,7 +1,7 @@
 //! Types, and the instance types that hold others.
 //!
-//! Components and instance types hold others up to a depth that is bounded, so these readers call one another. How many more
-//! may be opened is passed on.
+//! Instance types hold others up to a depth that is bounded, so these readers call one another. How many more may be opened is
+//! passed on.
 
 ghost use Rattle.ca_base.specs.Grammar.{MayRead, times};
 ghost use Rattle.comp_reader.specs.Binary.{def_type, instance_type, declarations, instance_decl};
@@ -12,10 +12,13 @@ use crate::externs::read_extern_desc;
 use crate::fault::{ComponentWhy, refused_type, unsupported};
 use crate::func_types::read_func_type;
 use crate::names::read_extern_name;
-use ca_base::{KindOf, Placed, ReadError, Refusal, Seq, Window};
+use ca_base::{Kind, ReadError, Refusal, Seq, Window};
 use std::alloc::Global;
 
-/// Reads a type (Component Model, Binary.md, `deftype`), inside which so many components and instance types may be opened.
+/// How many components may be open at a place, and how many instance types.
+pub(crate) const DEPTH_LIMIT: u8 = 16;
+
+/// Reads a type (Component Model, Binary.md, `deftype`), inside which so many instance types may be opened.
 #[cycle(def_types)]
 #[tactic(auto, unfolding(crate::specs::Binary::type_of))]
 fn read_def_type(
@@ -122,34 +125,24 @@ fn read_decl(
     Err(ReadError::Fault(unsupported(place, byte)))
 }
 
-/// Types of a component with their places, inside which so many components and instance types may be opened.
-#[derive(Drop)]
-pub(crate) struct Types {
-    /// How many.
-    pub(crate) more: u8,
-}
+/// Types of a component.
+pub(crate) struct Types;
 
-impl KindOf for Types {
-    ghost use Rattle.ca_base.specs.Items.{placed};
+impl Kind for Types {
     ghost use Rattle.comp_reader.specs.Binary.{type_item};
 
     type Why = ComponentWhy;
 
-    type Item = Placed<Item>;
+    type Item = Item;
 
-    ghost grammar = { λ types. placed (type_item types.more) };
+    ghost grammar = { type_item };
 
-    #[tactic(auto, unfolding(ca_base::specs::Items::placed, crate::specs::Binary::type_item))]
+    #[tactic(auto, unfolding(crate::specs::Binary::type_item))]
     fn read(
-        &self,
         alloc: Global,
         window: &mut Window<ComponentWhy>,
-    ) -> Result<Placed<Item>, ReadError<ComponentWhy>> {
-        let place = window.at();
-        let def_type = read_def_type(alloc, self.more, window)?;
-        Ok(Placed {
-            item: Item::Type(def_type),
-            place,
-        })
+    ) -> Result<Item, ReadError<ComponentWhy>> {
+        let def_type = read_def_type(alloc, DEPTH_LIMIT, window)?;
+        Ok(Item::Type(def_type))
     }
 }

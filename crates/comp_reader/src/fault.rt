@@ -25,8 +25,8 @@ pub enum ComponentWhy {
     Unsupported(u8),
     /// A type of floats, which are not read.
     Float,
-    /// A component or an instance type stands in 16 others. The place is the first byte of either. The layer above answers
-    /// it for a file that is longer than 16 MiB.
+    /// A component stands in 16 others, or an instance type in 16 others. The place is the first byte of either. The layer
+    /// above answers it for a file that is longer than 16 MiB.
     Limit,
     /// A core module is refused where it stands.
     Module(ModuleWhy),

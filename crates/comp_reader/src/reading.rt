@@ -9,8 +9,9 @@ ghost use Rattle.comp_reader.specs.declared.fault.ComponentWhy.{ComponentWhy};
 ghost use Rattle.comp_reader.specs.Binary.{component, file, file_end, IsComponent, IsRefused};
 
 use crate::component::Component;
+use crate::def_types::DEPTH_LIMIT;
 use crate::fault::ComponentWhy;
-use crate::sections::{DEPTH_LIMIT, read_component_within};
+use crate::sections::read_component_within;
 use ca_base::{ReadError, Window};
 use std::alloc::Global;
 

@@ -1,7 +1,7 @@
 //! The sections of a component, by their ids, and components that hold others.
 //!
-//! Components and instance types hold others up to a depth that is bounded, so these readers call one another. How many more
-//! may be opened is passed on.
+//! Components hold others up to a depth that is bounded, so these readers call one another. How many more may be opened is
+//! passed on.
 
 ghost use Rattle.std.specs.Prelude.{◌≡◌};
 ghost use Rattle.ca_base.specs.Grammar.{MayRead};
@@ -17,16 +17,11 @@ use crate::def_types::Types;
 use crate::externs::{Exports, Imports};
 use crate::fault::{ComponentWhy, unsupported};
 use crate::instances::Instances;
-use ca_base::{
-    Placed, PlacedOf, ReadError, Refusal, Seq, Window, join, read_placed, read_vec, read_vec_of,
-};
+use ca_base::{Placed, PlacedOf, ReadError, Refusal, Seq, Window, join, read_placed, read_vec};
 use std::alloc::Global;
 
 /// The preamble of a component: its magic number, its version and its layer.
 const PREAMBLE: [u8; 8] = [0x00, 0x61, 0x73, 0x6D, 0x0D, 0x00, 0x01, 0x00];
-
-/// How many components and instance types may be open at a place.
-pub(crate) const DEPTH_LIMIT: u8 = 16;
 
 /// Reads a custom section, which has no item.
 #[tactic(auto, unfolding(crate::specs::Binary::custom_items))]
@@ -57,11 +52,10 @@ fn read_module_section(
 #[tactic(auto, unfolding(crate::specs::Binary::plain_payload))]
 fn read_plain_payload(
     alloc: Global,
-    more: u8,
     id: u8,
     window: &mut Window<ComponentWhy>,
 ) -> Result<Seq<Placed<Item>>, ReadError<ComponentWhy>>
-    ensures { MayRead (λ read. read) (plain_payload more id) window.old window.new result }
+    ensures { MayRead (λ read. read) (plain_payload id) window.old window.new result }
 {
     match id {
         0 => read_custom(alloc, window),
@@ -69,7 +63,7 @@ fn read_plain_payload(
         2 => read_vec::<PlacedOf<CoreInstances>>(alloc, window),
         5 => read_vec::<PlacedOf<Instances>>(alloc, window),
         6 => read_vec::<PlacedOf<Aliases>>(alloc, window),
-        7 => read_vec_of(alloc, &Types { more }, window),
+        7 => read_vec::<PlacedOf<Types>>(alloc, window),
         8 => read_vec::<PlacedOf<Canons>>(alloc, window),
         10 => read_vec::<PlacedOf<Imports>>(alloc, window),
         _ => read_vec::<PlacedOf<Exports>>(alloc, window),
@@ -92,7 +86,7 @@ fn is_read(id: u8) -> bool
         || id == 11
 }
 
-/// Reads a component where so many may be opened, itself one of them.
+/// Reads a component where so many components may be opened, itself one of them.
 #[cycle(components)]
 #[tactic(auto, using(crate::proofs::Depth::component_none, crate::proofs::Depth::component_more))]
 pub(crate) fn read_component_within(
@@ -111,7 +105,7 @@ pub(crate) fn read_component_within(
     read_opened(alloc, allowed - 1, window)
 }
 
-/// Reads a component inside which so many components and instance types may be opened.
+/// Reads a component inside which so many components may be opened.
 #[cycle(components)]
 #[tactic(auto, unfolding(crate::specs::Binary::component_of))]
 fn read_opened(
@@ -119,7 +113,7 @@ fn read_opened(
     more: u8,
     window: &mut Window<ComponentWhy>,
 ) -> Result<Component, ReadError<ComponentWhy>>
-    ensures { MayRead (λ c. c) (component_of more (component_within more)) window.old window.new result }
+    ensures { MayRead (λ c. c) (component_of (component_within more)) window.old window.new result }
 {
     window.fixed(&PREAMBLE, ComponentWhy::Magic)?;
     let sections = read_sections(alloc, more, window)?;
@@ -136,7 +130,7 @@ fn read_sections(
     more: u8,
     window: &mut Window<ComponentWhy>,
 ) -> Result<Seq<Seq<Placed<Item>>>, ReadError<ComponentWhy>>
-    ensures { MayRead (λ read. read) (to_the_end (section more (component_within more))) window.old window.new result }
+    ensures { MayRead (λ read. read) (to_the_end (section (component_within more))) window.old window.new result }
 {
     let mut sections = Seq::new(alloc);
     let count = window.left();
@@ -158,7 +152,7 @@ fn read_section(
     more: u8,
     window: &mut Window<ComponentWhy>,
 ) -> Result<Seq<Placed<Item>>, ReadError<ComponentWhy>>
-    ensures { MayRead (λ read. read) (section more (component_within more)) window.old window.new result }
+    ensures { MayRead (λ read. read) (section (component_within more)) window.old window.new result }
 {
     let place = window.at();
     let id = window.byte()?;
@@ -180,12 +174,12 @@ fn read_payload(
     id: u8,
     window: &mut Window<ComponentWhy>,
 ) -> Result<Seq<Placed<Item>>, ReadError<ComponentWhy>>
-    ensures { MayRead (λ read. read) (payload more (component_within more) id) window.old window.new result }
+    ensures { MayRead (λ read. read) (payload (component_within more) id) window.old window.new result }
 {
     if id == 4 {
         return read_component_section(alloc, more, window);
     }
-    read_plain_payload(alloc, more, id, window)
+    read_plain_payload(alloc, id, window)
 }
 
 /// Reads the section of a component that stands in another one, which has one item.

@@ -27,4 +27,4 @@ decreases-read_sections l = 6 * l.more + 5
 
 abbrev pub invariant-read_sections-loop-index : goal.invariant-read_sections-loop-index
 invariant-read_sections-loop-index l =
-    read (many l.count (section l.more (component_within l.more))) l.initial.window ≡ preceded l.sections (read (many (l.count - l._index) (section l.more (component_within l.more))) l.window)
+    read (many l.count (section (component_within l.more))) l.initial.window ≡ preceded l.sections (read (many (l.count - l._index) (section (component_within l.more))) l.window)
