@@ -17,15 +17,15 @@ use Rattle.comp_linking.specs.declared.fault.LinkWhy.{LinkWhy}
 use Rattle.comp_linking.specs.declared.fault.LinkWhy.TheVariants as why
 use Rattle.comp_graph.specs.Closed.{first_of}
 use Rattle.comp_linking.specs.Definitions.{CoreItem, CoreExport, core_named, CoreFits, Closure, Definition, Exports, EmptyInstance, WithExport}
-use Rattle.comp_linking.specs.Spaces.{Spaces, Linking, core_size, size_of, core_item_at, definition_at}
+use Rattle.comp_linking.specs.Spaces.{Spaces, Linking, core_size, size_of, core_item_at, definition_at, with_core_instance, with_spaces}
 use Rattle.comp_linking.specs.Items.{instance_limit, AnyByRecursion, first_told, argument_named, argument_lacking, import_found, import_lacks, FindsOther, IsThere, FindsItem, core_instance_has, IsInline, core_made, core_instance_makes, AreNamed, named_have, instance_has, instance_makes}
 use Rattle.comp_linking.specs.Tests.{are_distinct, all_fit}
-use Rattle.comp_linking.specs.Computed.{after, there_or, only_if, Outcome, Makes, Starts, found_in, all_found, inline_exports, core_instance_outcome, exports_behind, named_exports, instance_outcome}
+use Rattle.comp_linking.specs.Computed.{after, there_or, only_if, Outcome, Makes, Starts, found_in, all_found, imports_outcome, inline_exports, inline_outcome, core_instance_outcome, exports_behind, named_exports, instance_outcome}
 use Rattle.comp_linking.proofs.Lists.{some_all, some_zip, none_told, match_at}
 use Rattle.comp_linking.proofs.Excluding.{both_of, lacks_none, named_excludes}
 use Rattle.comp_linking.proofs.Telling.{less, not_less, fails, distinct_told, all_pass_or, Found, all_fit_or}
 use Rattle.comp_linking.proofs.SameValues.{both}
-use Rattle.comp_linking.proofs.Sounding.{Clear, First, Sound, Answers, clear_root, clear_index, clear_missing, clear_typing, clear_canon, sound_if, sound_there, sound_after, answers_there, answers_after, match_in}
+use Rattle.comp_linking.proofs.Sounding.{Clear, First, Sound, Answers, clear_root, clear_index, clear_missing, clear_typing, clear_canon, sound_if, sound_there, sound_after, sound_behind, sound_told, answers_there, answers_after, match_in}
 
 -- what is made, and nothing begins
 abbrev pub MakesBy : (Linking → Type 0) → Outcome → Type 0
@@ -59,15 +59,15 @@ first_lacks a b name e = rw e refl
 then_lacks : (a b : Option (List ℕ)) (name : List ℕ) → a ≡ None → b ≡ Some name → first_of a b ≡ Some name
 then_lacks a b name e h = rw e h
 
-found_all : (s : Spaces) (arguments : List CoreArgument) (imports : List Import) → Answers (λ items. AllZip (Found s arguments) imports items) (Lacks s arguments imports) (all_found s arguments imports)
+found_all : (s : Spaces) (arguments : List CoreArgument) (imports : List Import) → Answers (λ items. AllZip (Found s arguments) imports items) (Lacks s arguments imports) (all_found s.core_instances arguments imports)
 found_all s arguments [] = tt
 found_all s arguments (i ∷ imports) =
-    answers_after (λ items. AllZip (Found s arguments) (i ∷ imports) items) (Lacks s arguments (i ∷ imports)) (Found s arguments i) (LacksOne i (argument_named s i.module arguments)) (found_in i (argument_named s i.module arguments))
-    (λ item. after (all_found s arguments imports) (λ items. Ok (item ∷ items))) (found_one i (argument_named s i.module arguments))
+    answers_after (λ items. AllZip (Found s arguments) (i ∷ imports) items) (Lacks s arguments (i ∷ imports)) (Found s arguments i) (LacksOne i (argument_named s.core_instances i.module arguments)) (found_in i (argument_named s.core_instances i.module arguments))
+    (λ item. after (all_found s.core_instances arguments imports) (λ items. Ok (item ∷ items))) (found_one i (argument_named s.core_instances i.module arguments))
     (λ w (name, is, lacks). (name, is, first_lacks (import_lacks s arguments i) (first_told (import_lacks s arguments) imports) name lacks))
-    (λ item found. answers_after (λ items. AllZip (Found s arguments) (i ∷ imports) items) (Lacks s arguments (i ∷ imports)) (λ items. AllZip (Found s arguments) imports items) (Lacks s arguments imports) (all_found s arguments imports)
+    (λ item found. answers_after (λ items. AllZip (Found s arguments) (i ∷ imports) items) (Lacks s arguments (i ∷ imports)) (λ items. AllZip (Found s arguments) imports items) (Lacks s arguments imports) (all_found s.core_instances arguments imports)
     (λ items. Ok (item ∷ items)) (found_all s arguments imports)
-    (λ w (name, is, lacks). (name, is, then_lacks (import_lacks s arguments i) (first_told (import_lacks s arguments) imports) name (lacks_none i (argument_named s i.module arguments) item found) lacks))
+    (λ w (name, is, lacks). (name, is, then_lacks (import_lacks s arguments i) (first_told (import_lacks s arguments) imports) name (lacks_none i (argument_named s.core_instances i.module arguments) item found) lacks))
     (λ items others. (found, others)))
 
 -- Core instances of modules.
@@ -78,9 +78,13 @@ OfModule l s index arguments w = core_instance_has l s (made_core.Instantiate in
 abbrev MadeOf : Linking → ℕ → Spaces → ℕ → List CoreArgument → Outcome → Type 0
 MadeOf l n s index arguments = MakesBy (core_instance_makes l n s (made_core.Instantiate index arguments))
 
+-- what is behind the imports of a core module that are passed these items is sound
+abbrev BehindImports : Linking → ℕ → Spaces → ℕ → List CoreArgument → ModuleTree → List CoreItem → Type 0
+BehindImports l n s index arguments m items = Sound (OfModule l s index arguments) (MadeOf l n s index arguments) (only_if (nat_lt (length l.cores) instance_limit) why.Limit (Ok (Makes (core_made l n s m items))))
+
 module_typed : (l : Linking) (n : ℕ) (s : Spaces) (index : ℕ) (arguments : List CoreArgument) (m : ModuleTree) (items : List CoreItem) → slice_get s.core_modules index ≡ Some m → AllByRecursion (IsThere s) arguments
     → AllZip (FindsItem s m arguments) m.imports items → AreDistinct (map (λ (a : CoreArgument). a.name) arguments) → Clear (OfModule l s index arguments) 3
-    → Sound (OfModule l s index arguments) (MadeOf l n s index arguments) (only_if (nat_lt (length l.cores) instance_limit) why.Limit (Ok (Makes (core_made l n s m items))))
+    → BehindImports l n s index arguments m items
 module_typed l n s index arguments m items is there found distinct clear =
     let P = OfModule l s index arguments in
     let typed = clear_typing P clear (λ h. elim h [
@@ -93,16 +97,15 @@ module_typed l n s index arguments m items is there found distinct clear =
 
 module_found : (l : Linking) (n : ℕ) (s : Spaces) (index : ℕ) (arguments : List CoreArgument) (m : ModuleTree) (items : List CoreItem) → slice_get s.core_modules index ≡ Some m → AllByRecursion (IsThere s) arguments
     → Clear (OfModule l s index arguments) 2 → AllZip (Found s arguments) m.imports items
-    → Sound (OfModule l s index arguments) (MadeOf l n s index arguments)
-    (only_if (are_distinct (map (λ (a : CoreArgument). a.name) arguments) && all_fit m m.imports items) why.Typing (only_if (nat_lt (length l.cores) instance_limit) why.Limit (Ok (Makes (core_made l n s m items)))))
+    → Sound (OfModule l s index arguments) (BehindImports l n s index arguments m) (only_if (are_distinct (map (λ (a : CoreArgument). a.name) arguments) && all_fit m m.imports items) why.Typing (Ok items))
 module_found l n s index arguments m items is there clear found =
     let P = OfModule l s index arguments in
     let names = map (λ (a : CoreArgument). a.name) arguments in
     let fitting = all_fit_or s m arguments m.imports items found in
     let none : first_told (import_lacks s arguments) m.imports ≡ None =
-    none_told (Found s arguments) (import_lacks s arguments) (λ i item e. lacks_none i (argument_named s i.module arguments) item e) m.imports items found in
+    none_told (Found s arguments) (import_lacks s arguments) (λ i item e. lacks_none i (argument_named s.core_instances i.module arguments) item e) m.imports items found in
     let missing = clear_missing P clear (λ name h. both_of (first_told (import_lacks s arguments) m.imports) name (match_at (λ m. first_told (import_lacks s arguments) m.imports ≡ Some name) (slice_get s.core_modules index) m is h) none) in
-    sound_if P (MadeOf l n s index arguments) (are_distinct names && all_fit m m.imports items) why.Typing (only_if (nat_lt (length l.cores) instance_limit) why.Limit (Ok (Makes (core_made l n s m items)))) missing
+    sound_if P (BehindImports l n s index arguments m) (are_distinct names && all_fit m m.imports items) why.Typing (Ok items) missing
     (λ h. elim (one_fails (are_distinct names) (all_fit m m.imports items) h) [
       | inl twice ↦ inl (fails (are_distinct names) (distinct_told names) twice)
       | inr other ↦ inr (match_in (λ m. AnyByRecursion (FindsOther s m arguments) m.imports) (slice_get s.core_modules index) m is (fitting.1 other.1))
@@ -121,21 +124,28 @@ arguments_there s arguments =
     all_pass_or (λ (a : CoreArgument). nat_lt a.instance (length s.core_instances)) (IsThere s) (λ (a : CoreArgument). length s.core_instances ≤ a.instance)
     (λ a h. less a.instance (length s.core_instances) h) (λ a h. not_less a.instance (length s.core_instances) h) arguments
 
-module_sound : (l : Linking) (n : ℕ) (s : Spaces) (index : ℕ) (arguments : List CoreArgument) → Sound (OfModule l s index arguments) (MadeOf l n s index arguments) (core_instance_outcome l n s (made_core.Instantiate index arguments))
-module_sound l n s index arguments =
+imports_sound : (l : Linking) (n : ℕ) (s : Spaces) (index : ℕ) (arguments : List CoreArgument) (m : ModuleTree) → slice_get s.core_modules index ≡ Some m
+    → Sound (OfModule l s index arguments) (BehindImports l n s index arguments m) (imports_outcome s.core_instances m arguments)
+imports_sound l n s index arguments m is =
     let P = OfModule l s index arguments in
-    let Q = MadeOf l n s index arguments in
+    let Q = BehindImports l n s index arguments m in
     let root = clear_root P (λ h. h) in
     let within = arguments_there s arguments in
-    sound_there P Q (slice_get s.core_modules index) why.Index _ root (λ none. inl none) (λ m is.
     sound_if P Q (list_all (λ (a : CoreArgument). nat_lt a.instance (length s.core_instances)) arguments) why.Index _ root (λ past. inr (within.1 past)) (λ passed.
     (let there = within.0 passed in
     let clear = clear_index P root (λ h. elim h [
       | inl none ↦ both_of (slice_get s.core_modules index) m is none
       | inr past ↦ some_all (IsThere s) (λ (a : CoreArgument). length s.core_instances ≤ a.instance) (λ a h k. omega arith) arguments there past
     ]) in
-    sound_after P Q (λ items. AllZip (Found s arguments) m.imports items) (Lacks s arguments m.imports) (all_found s arguments m.imports) _ (found_all s arguments m.imports)
-    (lacking_first l s index arguments m is clear) (λ items found. module_found l n s index arguments m items is there clear found))))
+    sound_after P Q (λ items. AllZip (Found s arguments) m.imports items) (Lacks s arguments m.imports) (all_found s.core_instances arguments m.imports) _ (found_all s arguments m.imports)
+    (lacking_first l s index arguments m is clear) (λ items found. module_found l n s index arguments m items is there clear found)))
+
+module_sound : (l : Linking) (n : ℕ) (s : Spaces) (index : ℕ) (arguments : List CoreArgument) → Sound (OfModule l s index arguments) (MadeOf l n s index arguments) (core_instance_outcome l n s (made_core.Instantiate index arguments))
+module_sound l n s index arguments =
+    let P = OfModule l s index arguments in
+    let Q = MadeOf l n s index arguments in
+    sound_there P Q (slice_get s.core_modules index) why.Index _ (clear_root P (λ h. h)) (λ none. inl none)
+    (λ m is. sound_behind P Q (imports_outcome s.core_instances m arguments) _ (imports_sound l n s index arguments m is))
 
 -- Core instances of inline exports.
 
@@ -154,18 +164,19 @@ OfInline l s read w = core_instance_has l s (made_core.Inline read) w
 inline_sound : (l : Linking) (n : ℕ) (s : Spaces) (read : List CoreInlineExport) → Sound (OfInline l s read) (MakesBy (core_instance_makes l n s (made_core.Inline read))) (core_instance_outcome l n s (made_core.Inline read))
 inline_sound l n s read =
     let P = OfInline l s read in
-    let Q = MakesBy (core_instance_makes l n s (made_core.Inline read)) in
+    let Q = (λ (exports : List CoreExport). core_instance_makes l n s (made_core.Inline read) (with_spaces l n (with_core_instance s exports))) in
     let names = map (λ (e : CoreInlineExport). e.name) read in
     let root = clear_root P (λ h. h) in
     let within = all_pass_or (λ (e : CoreInlineExport). nat_lt e.index (core_size s e.sort)) (λ (e : CoreInlineExport). e.index < core_size s e.sort) (λ (e : CoreInlineExport). core_size s e.sort ≤ e.index)
     (λ e h. less e.index (core_size s e.sort) h) (λ e h. not_less e.index (core_size s e.sort) h) read in
+    sound_behind P (MakesBy (core_instance_makes l n s (made_core.Inline read))) (inline_outcome s read) _ (
     sound_if P Q (list_all (λ (e : CoreInlineExport). nat_lt e.index (core_size s e.sort)) read) why.Index _ root (λ past. within.1 past) (λ passed.
     (let index = clear_index P root (λ h. some_all (λ (e : CoreInlineExport). e.index < core_size s e.sort) (λ (e : CoreInlineExport). core_size s e.sort ≤ e.index) (λ e h k. omega arith) read (within.0 passed) h) in
     let missing = clear_missing P index (λ name h. h) in
     sound_if P Q (are_distinct names) why.Typing _ missing (λ twice. inl (fails (are_distinct names) (distinct_told names) twice)) (λ apart.
-    sound_after P Q (λ exports. AllZip (IsInline s) read exports) (λ w. (w ≡ why.Typing) × AnyByRecursion (λ (e : CoreInlineExport). core_item_at s e.sort e.index ≡ None) read) (inline_exports s read) _ (inline_all s read)
+    sound_told P Q (λ exports. AllZip (IsInline s) read exports) (λ w. (w ≡ why.Typing) × AnyByRecursion (λ (e : CoreInlineExport). core_item_at s e.sort e.index ≡ None) read) (inline_exports s read) (inline_all s read)
     (λ w h. subst (λ (w : LinkWhy). First P w) (sym h.0) (let f : First P why.Typing = record { has = inr h.1; clear = missing } in f))
-    (λ exports are. (exports, are, (distinct_told names).0 apart, refl)))))
+    (λ exports are. (exports, are, (distinct_told names).0 apart, refl))))))
 
 pub core_instance_sound : (l : Linking) (n : ℕ) (s : Spaces) (c : CoreInstance) → Sound (core_instance_has l s c) (MakesBy (core_instance_makes l n s c)) (core_instance_outcome l n s c)
 core_instance_sound l n s (made_core.Instantiate index arguments) = module_sound l n s index arguments
@@ -201,14 +212,9 @@ named_sound s read =
     (let index = clear_index P root (λ h. some_all (λ (d : NamedDefinition). d.index < size_of s d.sort) (λ (d : NamedDefinition). size_of s d.sort ≤ d.index) (λ d h k. omega arith) read (within.0 passed) h) in
     let missing = clear_missing P index (λ name h. h) in
     sound_if P Q (are_distinct names) why.Typing _ missing (λ twice. inl (fails (are_distinct names) (distinct_told names) twice)) (λ apart.
-    named_end (exports_behind s EmptyInstance read) missing ((distinct_told names).0 apart) (named_behind s EmptyInstance read))))
-  where
-    named_end : (r : Result Exports LinkWhy) → Clear (named_have s read) 3 → AreDistinct (map (λ (d : NamedDefinition). d.name) read)
-        → Answers (λ exports. AreNamed s EmptyInstance read exports) (λ w. (w ≡ why.Typing) × AnyByRecursion (λ (d : NamedDefinition). definition_at s d.sort d.index ≡ None) read) r
-        → Sound (named_have s read) (AreGiven s read) r
-    named_end (Ok exports) clear distinct h = (h, distinct)
-    named_end (Err w) clear distinct h =
-        subst (λ (w : LinkWhy). First (named_have s read) w) (sym h.0) (let f : First (named_have s read) why.Typing = record { has = inr h.1; clear = clear } in f)
+    sound_told P Q (λ exports. AreNamed s EmptyInstance read exports) (λ w. (w ≡ why.Typing) × AnyByRecursion (λ (d : NamedDefinition). definition_at s d.sort d.index ≡ None) read) (exports_behind s EmptyInstance read) (named_behind s EmptyInstance read)
+    (λ w h. subst (λ (w : LinkWhy). First P w) (sym h.0) (let f : First P why.Typing = record { has = inr h.1; clear = missing } in f))
+    (λ exports named. (named, (distinct_told names).0 apart)))))
 
 -- Instances.
 

@@ -1,5 +1,5 @@
 -- The names under which functions can be called are distinct, where no `#` stands in the names of the root's exports.
-use Rattle.std.proofs.Common.{◌≡◌, ◌≢◌, ℕ, Bool, true, false, cond, List, [], ◌∷◌, ◌++◌, map, refl, sym, ◌∙◌, ap, subst}
+use Rattle.std.proofs.Common.{◌≡◌, ◌≢◌, ℕ, Bool, true, false, cond, List, [], ◌∷◌, ◌++◌, map, refl, sym, ◌∙◌, ap, subst, append-nil}
 use Rattle.std.proofs.lemmas.List.{map-append, append_cancel_left}
 use Rattle.std.specs.Prelude.{◌==◌, codes}
 use Rattle.std.specs.List.{AllByRecursion}
@@ -63,8 +63,8 @@ cut_front [] rest h = refl
 cut_front (b ∷ name) rest h = rw (no_hash b h.0) (ap (λ (name : List ℕ). b ∷ name) (cut_front name rest h.1))
 
 -- Names of the functions of an instance.
-abbrev called : List Callable → List (List ℕ)
-called cs = map (λ (c : Callable). c.name) cs
+abbrev names_of : List Callable → List (List ℕ)
+names_of cs = map (λ (c : Callable). c.name) cs
 
 module _ (R : ModuleTree → Type 0) (cores : List CoreMake) where
   pub exports_distinct : (exports : Exports) → AreSound R cores exports → AreDistinct (export_names exports)
@@ -76,22 +76,23 @@ module _ (R : ModuleTree → Type 0) (cores : List CoreMake) where
   others_behind front (WithExport others q (AFunc f)) name h =
       let p = fresh_before name (export_names others) q h in
       all_push (λ (c : Callable). c.name ≢ front ++ name) (funcs_behind front others) (record { name = front ++ q; func = f }) (others_behind front others name p.0) (λ e. differs q name p.1 (append_cancel_left front q name e))
-  others_behind front (WithExport others q d) name h = others_behind front others name (fresh_before name (export_names others) q h).0
+  others_behind front (WithExport others q d) name h =
+      all_both (λ (c : Callable). c.name ≢ front ++ name) (funcs_behind front others) [] (others_behind front others name (fresh_before name (export_names others) q h).0) tt
 
-  behind_distinct : (front : List ℕ) (exports : Exports) → AreSound R cores exports → AreDistinct (called (funcs_behind front exports))
+  behind_distinct : (front : List ℕ) (exports : Exports) → AreSound R cores exports → AreDistinct (names_of (funcs_behind front exports))
   behind_distinct front EmptyInstance h = tt
   behind_distinct front (WithExport others name (AFunc f)) h =
       subst AreDistinct (sym (map-append (λ (c : Callable). c.name) (funcs_behind front others) (record { name = front ++ name; func = f } ∷ [])))
-      (distinct_push (called (funcs_behind front others)) (front ++ name) (behind_distinct front others h.0)
+      (distinct_push (names_of (funcs_behind front others)) (front ++ name) (behind_distinct front others h.0)
       (all_mapped (λ (c : Callable). c.name) (λ m. m ≢ front ++ name) (funcs_behind front others) (others_behind front others name h.2)))
-  behind_distinct front (WithExport others name d) h = behind_distinct front others h.0
+  behind_distinct front (WithExport others name d) h = subst (λ (cs : List Callable). AreDistinct (names_of cs)) (sym (append-nil (funcs_behind front others))) (behind_distinct front others h.0)
 
   -- Names of the functions of the root: what stands before the first `#` is the name of the export.
   fronts_behind : (name : List ℕ) (exports : Exports) → HasNoHash name → AllByRecursion (λ (c : Callable). front_of c.name ≡ name) (funcs_behind (name ++ codes "#") exports)
   fronts_behind name EmptyInstance h = tt
   fronts_behind name (WithExport others q (AFunc f)) h =
       all_push (λ (c : Callable). front_of c.name ≡ name) (funcs_behind (name ++ codes "#") others) (record { name = (name ++ codes "#") ++ q; func = f }) (fronts_behind name others h) (cut_front name q h)
-  fronts_behind name (WithExport others q d) h = fronts_behind name others h
+  fronts_behind name (WithExport others q d) h = all_both (λ (c : Callable). front_of c.name ≡ name) (funcs_behind (name ++ codes "#") others) [] (fronts_behind name others h) tt
 
   other_fronts : (exports : Exports) (name : List ℕ) → AllByRecursion HasNoHash (export_names exports) → is_among name (export_names exports) ≡ false → AllByRecursion (λ (c : Callable). front_of c.name ≢ name) (callables exports)
   other_fronts EmptyInstance name none h = tt
@@ -104,29 +105,31 @@ module _ (R : ModuleTree → Type 0) (cores : List CoreMake) where
       let n = all_before HasNoHash (export_names others) q none in
       all_both (λ (c : Callable). front_of c.name ≢ name) (callables others) (funcs_behind (q ++ codes "#") inner) (other_fronts others name n.0 p.0)
       (all_weaker (λ (c : Callable). front_of c.name ≡ q) (λ (c : Callable). front_of c.name ≢ name) (λ c k e. differs q name p.1 (sym k ∙ e)) (funcs_behind (q ++ codes "#") inner) (fronts_behind q inner n.1))
-  other_fronts (WithExport others q d) name none h = other_fronts others name (all_before HasNoHash (export_names others) q none).0 (fresh_before name (export_names others) q h).0
+  other_fronts (WithExport others q d) name none h =
+      all_both (λ (c : Callable). front_of c.name ≢ name) (callables others) [] (other_fronts others name (all_before HasNoHash (export_names others) q none).0 (fresh_before name (export_names others) q h).0) tt
 
-  apart_from : (cs : List Callable) (name n : List ℕ) → front_of n ≡ name → AllByRecursion (λ (c : Callable). front_of c.name ≢ name) cs → AllByRecursion (λ m. m ≢ n) (called cs)
+  apart_from : (cs : List Callable) (name n : List ℕ) → front_of n ≡ name → AllByRecursion (λ (c : Callable). front_of c.name ≢ name) cs → AllByRecursion (λ m. m ≢ n) (names_of cs)
   apart_from cs name n e h =
       all_mapped (λ (c : Callable). c.name) (λ m. m ≢ n) cs (all_weaker (λ (c : Callable). front_of c.name ≢ name) (λ (c : Callable). c.name ≢ n) (λ c k same. k (ap front_of same ∙ e)) cs h)
 
-  callables_distinct : (exports : Exports) → AllByRecursion HasNoHash (export_names exports) → AreSound R cores exports → AreDistinct (called (callables exports))
+  callables_distinct : (exports : Exports) → AllByRecursion HasNoHash (export_names exports) → AreSound R cores exports → AreDistinct (names_of (callables exports))
   callables_distinct EmptyInstance none h = tt
   callables_distinct (WithExport others name (AFunc f)) none h =
       let n = all_before HasNoHash (export_names others) name none in
       subst AreDistinct (sym (map-append (λ (c : Callable). c.name) (callables others) (record { name = name; func = f } ∷ [])))
-      (distinct_push (called (callables others)) name (callables_distinct others n.0 h.0) (apart_from (callables others) name name (whole_front name n.1) (other_fronts others name n.0 h.2)))
+      (distinct_push (names_of (callables others)) name (callables_distinct others n.0 h.0) (apart_from (callables others) name name (whole_front name n.1) (other_fronts others name n.0 h.2)))
   callables_distinct (WithExport others name (AnInstance inner)) none h =
       let n = all_before HasNoHash (export_names others) name none in
       let funcs = funcs_behind (name ++ codes "#") inner in
       subst AreDistinct (sym (map-append (λ (c : Callable). c.name) (callables others) funcs))
-      (distinct_both (called (callables others)) (called funcs) (callables_distinct others n.0 h.0) (behind_distinct (name ++ codes "#") inner h.1)
-      (all_mapped (λ (c : Callable). c.name) (λ n. AllByRecursion (λ m. m ≢ n) (called (callables others))) funcs
-      (all_weaker (λ (c : Callable). front_of c.name ≡ name) (λ (c : Callable). AllByRecursion (λ m. m ≢ c.name) (called (callables others)))
+      (distinct_both (names_of (callables others)) (names_of funcs) (callables_distinct others n.0 h.0) (behind_distinct (name ++ codes "#") inner h.1)
+      (all_mapped (λ (c : Callable). c.name) (λ n. AllByRecursion (λ m. m ≢ n) (names_of (callables others))) funcs
+      (all_weaker (λ (c : Callable). front_of c.name ≡ name) (λ (c : Callable). AllByRecursion (λ m. m ≢ c.name) (names_of (callables others)))
       (λ c k. apart_from (callables others) name c.name k (other_fronts others name n.0 h.2)) funcs (fronts_behind name inner n.1))))
-  callables_distinct (WithExport others name d) none h = callables_distinct others (all_before HasNoHash (export_names others) name none).0 h.0
+  callables_distinct (WithExport others name d) none h =
+      subst (λ (cs : List Callable). AreDistinct (names_of cs)) (sym (append-nil (callables others))) (callables_distinct others (all_before HasNoHash (export_names others) name none).0 h.0)
 
-names_called : (cs : List Callable) → names (map export_of cs) ≡ called cs
+names_called : (cs : List Callable) → names (map export_of cs) ≡ names_of cs
 names_called [] = refl
 names_called (c ∷ cs) = ap (λ (ns : List (List ℕ)). c.name ∷ ns) (names_called cs)
 

@@ -52,7 +52,7 @@ lacks_none i None item e = cc
 lacks_none i (Some exports) item e = rw e refl
 
 finds_lacks : (s : Spaces) (m : ModuleTree) (arguments : List CoreArgument) (i : Import) (item : CoreItem) → FindsItem s m arguments i item → import_lacks s arguments i ≡ None
-finds_lacks s m arguments i item h = lacks_none i (argument_named s i.module arguments) item h.0
+finds_lacks s m arguments i item h = lacks_none i (argument_named s.core_instances i.module arguments) item h.0
 
 finds_another : (s : Spaces) (m : ModuleTree) (arguments : List CoreArgument) (i : Import) (item : CoreItem) → FindsItem s m arguments i item → FindsOther s m arguments i → ⊥
 finds_another s m arguments i item h k = match_at (λ item. CoreFits m item i.desc → ⊥) (import_found s arguments i) item h.0 k h.1

@@ -12,17 +12,17 @@ use Rattle.comp_reader.specs.declared.component.ExternDesc.{ExternDesc}
 use Rattle.comp_reader.specs.declared.component.Export as read
 use Rattle.comp_linking.specs.declared.fault.LinkWhy.TheVariants as why
 use Rattle.comp_graph.specs.Closed.{Closed, Extern, OfFunc, OfType, OfInstance, func_of}
-use Rattle.comp_linking.specs.Definitions.{CoreItem, Func, Table, Memory, Global, core_named, Definition, AType, AnInstance, Exports, export_names, export_named, lacks, seen_as, types_of}
+use Rattle.comp_linking.specs.Definitions.{CoreItem, Func, Table, Memory, Global, core_named, Lifted, Definition, AFunc, AType, AnInstance, Exports, export_names, export_named, lacks, seen_as, types_of}
 use Rattle.comp_graph.specs.Graph.{is_flat}
 use Rattle.comp_linking.specs.Types.{Meaning}
-use Rattle.comp_linking.specs.Spaces.{Spaces, Linking, size_of, definition_at, IsOfSort, with_definition, with_spaces, outer_at}
+use Rattle.comp_linking.specs.Spaces.{Spaces, Linking, size_of, definition_at, IsOfSort, with_core_item, with_definition, with_spaces, outer_at}
 use Rattle.comp_linking.specs.Items.{IsCoreOf, alias_has, alias_makes, type_has, lifts, lift_has, lift_makes, wanted, IsOfTypes, lacking, DoesNotFit, import_has, with_import, IsImported, import_makes, said, IsSaid, export_has, with_export, IsExported, export_makes}
 use Rattle.comp_linking.specs.Tests.{is_core_of, is_of_sort, fits, root_may_import}
-use Rattle.comp_linking.specs.Computed.{after, there_or, Outcome, Makes, alias_outcome, type_outcome, lifted, lift_outcome, root_given, as_asked, import_outcome, said_is_there, said_lacks, as_said, export_outcome}
+use Rattle.comp_linking.specs.Computed.{after, there_or, Outcome, Makes, core_aliased, alias_outcome, type_outcome, lifted_to, lifted_of, lift_outcome, root_given, as_asked, import_outcome, said_is_there, said_lacks, as_said, export_outcome}
 use Rattle.comp_linking.proofs.Lists.{match_at, match_some, then_some}
 use Rattle.comp_linking.proofs.Excluding.{both_of, true_false}
 use Rattle.comp_linking.proofs.Telling.{less, not_less, fails, core_of_told, sort_told, fits_told, root_refused, root_taken, root_types}
-use Rattle.comp_linking.proofs.Sounding.{Clear, First, Sound, clear_root, clear_index, clear_missing, clear_typing, sound_if, sound_there, sound_missing, sound_checked, sound_found, match_in, match_none}
+use Rattle.comp_linking.proofs.Sounding.{Clear, First, Sound, clear_root, clear_index, clear_missing, clear_typing, sound_if, sound_there, sound_behind, sound_missing, sound_checked, sound_found, match_in, match_none}
 use Rattle.comp_linking.proofs.CoreOutcomes.{MakesBy}
 
 -- Aliases.
@@ -49,8 +49,9 @@ core_alias : (l : Linking) (n : ℕ) (s : Spaces) (sort : Sort) (instance : ℕ)
     → Sound (alias_has l n s sort (target.CoreInstanceExport instance name)) (MakesBy (alias_makes l n s sort (target.CoreInstanceExport instance name))) (alias_outcome l n s sort (target.CoreInstanceExport instance name))
 core_alias l n s sort instance name =
     let P = alias_has l n s sort (target.CoreInstanceExport instance name) in
-    let Q = MakesBy (alias_makes l n s sort (target.CoreInstanceExport instance name)) in
+    let Q = (λ (item : CoreItem). alias_makes l n s sort (target.CoreInstanceExport instance name) (with_spaces l n (with_core_item s item))) in
     let root = clear_root P (λ h. h) in
+    sound_behind P (MakesBy (alias_makes l n s sort (target.CoreInstanceExport instance name))) (core_aliased s.core_instances sort instance name) _ (
     sound_there P Q (slice_get s.core_instances instance) why.Index _ root (λ none. none) (λ exports there.
     (let index = clear_index P root (λ none. both_of (slice_get s.core_instances instance) exports there none) in
     sound_there P Q (core_named name exports) (why.Missing name) _ index (λ none. (refl, match_in (λ exports. core_named name exports ≡ None) (slice_get s.core_instances instance) exports there none)) (λ item named.
@@ -58,7 +59,7 @@ core_alias l n s sort instance name =
     let missing = clear_missing P index (λ missing h. both_of (core_named name exports) item named (match_at (λ exports. core_named name exports ≡ None) (slice_get s.core_instances instance) exports there h.1)) in
     sound_if P Q (is_core_of item sort) why.Typing _ missing
     (λ other. match_in (λ item. IsCoreOf item sort → ⊥) (option_and_then (core_named name) (slice_get s.core_instances instance)) item found (fails (is_core_of item sort) (core_of_told item sort) other))
-    (λ right. (item, found, (core_of_told item sort).0 right, refl))))))
+    (λ right. (item, found, (core_of_told item sort).0 right, refl)))))))
 
 pub alias_sound : (l : Linking) (n : ℕ) (s : Spaces) (sort : Sort) (t : AliasTarget) → Sound (alias_has l n s sort t) (MakesBy (alias_makes l n s sort t)) (alias_outcome l n s sort t)
 alias_sound l n s sort (target.InstanceExport instance name) = export_alias l n s sort instance name
@@ -93,10 +94,14 @@ not_lifted l n s f t type item there is clear h = record {
   clear = clear;
 }
 
+-- what the lift of these indices makes is this function
+abbrev LiftMakes : Linking → ℕ → Spaces → ℕ → ℕ → Lifted → Type 0
+LiftMakes l n s f t lifted = lift_makes l n s f t (with_spaces l n (with_definition s (AFunc lifted)))
+
 lifted_sound : (l : Linking) (n : ℕ) (s : Spaces) (f t : ℕ) (type : FuncType) (item : CoreItem) → slice_get s.core_funcs f ≡ Some item → option_and_then func_of (slice_get s.types t) ≡ Some type → Clear (lift_has s f t) 4
-    → Sound (lift_has s f t) (MakesBy (lift_makes l n s f t)) (lifted l n s type item)
+    → Sound (lift_has s f t) (LiftMakes l n s f t) (lifted_to n type item)
 lifted_sound l n s f t type (Func ref of_core) there is clear =
-    sound_if (lift_has s f t) (MakesBy (lift_makes l n s f t)) (is_flat type of_core) why.Canon _ clear (λ other. (not_lifted l n s f t type (Func ref of_core) there is clear other).has)
+    sound_if (lift_has s f t) (LiftMakes l n s f t) (is_flat type of_core) why.Canon _ clear (λ other. (not_lifted l n s f t type (Func ref of_core) there is clear other).has)
     (λ flat. (ref, of_core, type, there, is, flat, refl))
 lifted_sound l n s f t type (Table ref limits) there is clear = not_lifted l n s f t type (Table ref limits) there is clear refl
 lifted_sound l n s f t type (Memory ref limits) there is clear = not_lifted l n s f t type (Memory ref limits) there is clear refl
@@ -105,8 +110,9 @@ lifted_sound l n s f t type (Global ref of_core) there is clear = not_lifted l n
 pub lift_sound : (l : Linking) (n : ℕ) (s : Spaces) (f t : ℕ) → Sound (lift_has s f t) (MakesBy (lift_makes l n s f t)) (lift_outcome l n s f t)
 lift_sound l n s f t =
     let P = lift_has s f t in
-    let Q = MakesBy (lift_makes l n s f t) in
+    let Q = LiftMakes l n s f t in
     let root = clear_root P (λ h. h) in
+    sound_behind P (MakesBy (lift_makes l n s f t)) (lifted_of n s f t) _ (
     sound_there P Q (slice_get s.core_funcs f) why.Index _ root (λ none. inl none) (λ item there.
     sound_there P Q (slice_get s.types t) why.Index _ root (λ none. inr none) (λ type is.
     (let index = clear_index P root (λ h. elim h [
@@ -116,7 +122,7 @@ lift_sound l n s f t =
     let missing = clear_missing P index (λ name h. h) in
     sound_there P Q (func_of type) why.Typing _ missing (λ none. match_in (λ type. func_of type ≡ None) (slice_get s.types t) type is none) (λ of_func found.
     lifted_sound l n s f t of_func item there (found_then func_of (slice_get s.types t) type of_func is found)
-    (clear_typing P missing (λ h. both_of (func_of type) of_func found (match_at (λ type. func_of type ≡ None) (slice_get s.types t) type is h)))))))
+    (clear_typing P missing (λ h. both_of (func_of type) of_func found (match_at (λ type. func_of type ≡ None) (slice_get s.types t) type is h))))))))
 
 -- Imports.
 

@@ -27,7 +27,7 @@ funcs_behind_sound : (R : ModuleTree → Type 0) (cores : List CoreMake) (front 
 funcs_behind_sound R cores front EmptyInstance h = tt
 funcs_behind_sound R cores front (WithExport others name (AFunc f)) h =
     all_push (λ (c : Callable). IsFuncSound cores c.func) (funcs_behind front others) (record { name = front ++ name; func = f }) (funcs_behind_sound R cores front others h.0) h.1
-funcs_behind_sound R cores front (WithExport others name d) h = funcs_behind_sound R cores front others h.0
+funcs_behind_sound R cores front (WithExport others name d) h = all_both (λ (c : Callable). IsFuncSound cores c.func) (funcs_behind front others) [] (funcs_behind_sound R cores front others h.0) tt
 
 callables_sound : (R : ModuleTree → Type 0) (cores : List CoreMake) (exports : Exports) → AreSound R cores exports → AllByRecursion (λ (c : Callable). IsFuncSound cores c.func) (callables exports)
 callables_sound R cores EmptyInstance h = tt
@@ -35,7 +35,7 @@ callables_sound R cores (WithExport others name (AFunc f)) h =
     all_push (λ (c : Callable). IsFuncSound cores c.func) (callables others) (record { name = name; func = f }) (callables_sound R cores others h.0) h.1
 callables_sound R cores (WithExport others name (AnInstance inner)) h =
     all_both (λ (c : Callable). IsFuncSound cores c.func) (callables others) _ (callables_sound R cores others h.0) (funcs_behind_sound R cores _ inner h.1)
-callables_sound R cores (WithExport others name d) h = callables_sound R cores others h.0
+callables_sound R cores (WithExport others name d) h = all_both (λ (c : Callable). IsFuncSound cores c.func) (callables others) [] (callables_sound R cores others h.0) tt
 
 all_callable : (cores : List CoreMake) (cs : List Callable) → AllByRecursion (λ (c : Callable). IsFuncSound cores c.func) cs → AllZip (λ (e : Export) (lift : Lift). LiftsCore cores e.func_type lift) (map export_of cs) (map lift_of cs)
 all_callable cores [] h = tt

@@ -86,14 +86,14 @@ module _ (R : ModuleTree → Type 0) where
   made_reached l n s new e h k = subst (IsReached R l) (sym e) (record { sound = with_spaces_sound l n s h k; more = []; longer = sym (append-nil l.cores) })
 
   -- Core instances.
-  argument_there : (cores : List CoreMake) (s : Spaces) (q : List ℕ) (arguments : List CoreArgument) → AreSpacesSound R cores s → IfSome (argument_named s q arguments) (AreThere cores)
+  argument_there : (cores : List CoreMake) (s : Spaces) (q : List ℕ) (arguments : List CoreArgument) → AreSpacesSound R cores s → IfSome (argument_named s.core_instances q arguments) (AreThere cores)
   argument_there cores s q [] k = tt
   argument_there cores s q (a ∷ arguments) k =
-      if_cond (AreThere cores) (bytes_eq a.name q) (slice_get s.core_instances a.instance) (argument_named s q arguments)
+      if_cond (AreThere cores) (bytes_eq a.name q) (slice_get s.core_instances a.instance) (argument_named s.core_instances q arguments)
       (all_at (AreThere cores) s.core_instances a.instance k.core.instances_there) (argument_there cores s q arguments k)
 
   import_there : (cores : List CoreMake) (s : Spaces) (arguments : List CoreArgument) (i : Import) → AreSpacesSound R cores s → IfSome (import_found s arguments i) (IsItem cores)
-  import_there cores s arguments i k = if_found (core_named i.name) (AreThere cores) (IsItem cores) (core_named_there cores i.name) (argument_named s i.module arguments) (argument_there cores s i.module arguments k)
+  import_there cores s arguments i k = if_found (core_named i.name) (AreThere cores) (IsItem cores) (core_named_there cores i.name) (argument_named s.core_instances i.module arguments) (argument_there cores s i.module arguments k)
 
   core_instance_reached : (l : Linking) (n : ℕ) (s : Spaces) (c : CoreInstance) (new : Linking) → IsLinkingSound R l → AreSpacesSound R l.cores s → core_instance_makes l n s c new → IsReached R l new
   core_instance_reached l n s (made_core.Instantiate index arguments) new h k (m, imports, is, there, found, distinct, few, made) =

@@ -80,6 +80,16 @@ pub sound_after : {A B : Type 0} (P : LinkWhy → Type 0) (Q : B → Type 0) (R 
 sound_after P Q R V (Ok a) f h fault rest = rest a h
 sound_after P Q R V (Err w) f h fault rest = fault w h
 
+-- a step, where what comes behind its answers is sound
+pub sound_behind : {A B : Type 0} (P : LinkWhy → Type 0) (Q : B → Type 0) (r : Result A LinkWhy) (f : A → Result B LinkWhy) → Sound P (λ a. Sound P Q (f a)) r → Sound P Q (after r f)
+sound_behind P Q (Ok a) f h = h
+sound_behind P Q (Err w) f h = h
+
+-- a last step of which more is known
+pub sound_told : {A : Type 0} (P : LinkWhy → Type 0) (Q R : A → Type 0) (V : LinkWhy → Type 0) (r : Result A LinkWhy) → Answers R V r → ((w : LinkWhy) → V w → First P w) → ((a : A) → R a → Q a) → Sound P Q r
+sound_told P Q R V (Ok a) h fault rest = rest a h
+sound_told P Q R V (Err w) h fault rest = fault w h
+
 pub answers_there : {A B : Type 0} (R : B → Type 0) (V : LinkWhy → Type 0) (o : Option A) (w : LinkWhy) (f : A → Result B LinkWhy) → (o ≡ None → V w) → ((a : A) → o ≡ Some a → Answers R V (f a)) → Answers R V (after (there_or w o) f)
 answers_there R V None w f none some = none refl
 answers_there R V (Some a) w f none some = some a refl

@@ -7,6 +7,7 @@ use Rattle.ca_base.specs.Names.{is_among}
 use Rattle.ca_base.specs.declared.placed.Placed.{Placed}
 use Rattle.ca_types.specs.declared.types.FuncType.{FuncType}
 use Rattle.wasm_module.specs.declared.module.Import.{Import}
+use Rattle.wasm_module.specs.declared.module.ModuleTree.{ModuleTree}
 use Rattle.comp_graph.specs.Graph.{Graph}
 use Rattle.comp_reader.specs.declared.component.CoreArgument.{CoreArgument}
 use Rattle.comp_reader.specs.declared.component.CoreInlineExport.{CoreInlineExport}
@@ -28,7 +29,7 @@ use Rattle.comp_linking.specs.declared.fault.LinkWhy.{LinkWhy}
 use Rattle.comp_linking.specs.declared.fault.LinkWhy.TheVariants as why
 use Rattle.comp_linking.specs.declared.fault.LinkFault.{LinkFault}
 use Rattle.comp_graph.specs.Closed.{Closed, Extern, OfInstance, func_of}
-use Rattle.comp_linking.specs.Definitions.{CoreItem, Func, CoreExport, core_named, Closure, Definition, AFunc, AType, AComponent, AnInstance, AModule, Exports, EmptyInstance, WithExport, export_names, export_named, lacks, seen_as, types_of}
+use Rattle.comp_linking.specs.Definitions.{CoreItem, Func, CoreExport, core_named, Lifted, Closure, Definition, AFunc, AType, AComponent, AnInstance, AModule, Exports, EmptyInstance, WithExport, export_names, export_named, lacks, seen_as, types_of}
 use Rattle.comp_graph.specs.Graph.{is_flat}
 use Rattle.comp_linking.specs.Types.{Meaning, meaning_of}
 use Rattle.comp_linking.specs.Spaces.{Spaces, Linking, core_size, size_of, core_item_at, definition_at, with_core_item, with_core_instance, with_definition, with_spaces, levels_at, outer_at}
@@ -70,29 +71,38 @@ abbrev pub found_in : Import → Option (List CoreExport) → Result CoreItem Li
 found_in i None = Err (why.Missing i.module)
 found_in i (Some exports) = there_or (why.Missing i.name) (core_named i.name exports)
 
-abbrev pub all_found : Spaces → List CoreArgument → List Import → Result (List CoreItem) LinkWhy
-all_found s arguments [] = Ok []
-all_found s arguments (i ∷ imports) =
-    after (found_in i (argument_named s i.module arguments)) (λ item. after (all_found s arguments imports) (λ items. Ok (item ∷ items)))
+abbrev pub all_found : List (List CoreExport) → List CoreArgument → List Import → Result (List CoreItem) LinkWhy
+all_found instances arguments [] = Ok []
+all_found instances arguments (i ∷ imports) =
+    after (found_in i (argument_named instances i.module arguments)) (λ item. after (all_found instances arguments imports) (λ items. Ok (item ∷ items)))
+
+-- what the imports of a core module are passed, of these core instances
+abbrev pub imports_outcome : List (List CoreExport) → ModuleTree → List CoreArgument → Result (List CoreItem) LinkWhy
+imports_outcome instances m arguments =
+    only_if (list_all (λ (a : CoreArgument). nat_lt a.instance (length instances)) arguments) why.Index (
+    after (all_found instances arguments m.imports) (λ items.
+    only_if (are_distinct (map (λ (a : CoreArgument). a.name) arguments) && all_fit m m.imports items) why.Typing (
+    Ok items)))
 
 abbrev pub inline_exports : Spaces → List CoreInlineExport → Result (List CoreExport) LinkWhy
 inline_exports s [] = Ok []
 inline_exports s (e ∷ read) =
     after (there_or why.Typing (core_item_at s e.sort e.index)) (λ item. after (inline_exports s read) (λ exports. Ok (record { name = e.name; item = item } ∷ exports)))
 
+-- what a core instance of inline exports has
+abbrev pub inline_outcome : Spaces → List CoreInlineExport → Result (List CoreExport) LinkWhy
+inline_outcome s read =
+    only_if (list_all (λ (e : CoreInlineExport). nat_lt e.index (core_size s e.sort)) read) why.Index (
+    only_if (are_distinct (map (λ (e : CoreInlineExport). e.name) read)) why.Typing (
+    inline_exports s read))
+
 abbrev pub core_instance_outcome : Linking → ℕ → Spaces → CoreInstance → Result Outcome LinkWhy
 core_instance_outcome l n s (made_core.Instantiate index arguments) =
     after (there_or why.Index (slice_get s.core_modules index)) (λ m.
-    only_if (list_all (λ (a : CoreArgument). nat_lt a.instance (length s.core_instances)) arguments) why.Index (
-    after (all_found s arguments m.imports) (λ items.
-    only_if (are_distinct (map (λ (a : CoreArgument). a.name) arguments) && all_fit m m.imports items) why.Typing (
+    after (imports_outcome s.core_instances m arguments) (λ items.
     only_if (nat_lt (length l.cores) instance_limit) why.Limit (
-    Ok (Makes (core_made l n s m items)))))))
-core_instance_outcome l n s (made_core.Inline read) =
-    only_if (list_all (λ (e : CoreInlineExport). nat_lt e.index (core_size s e.sort)) read) why.Index (
-    only_if (are_distinct (map (λ (e : CoreInlineExport). e.name) read)) why.Typing (
-    after (inline_exports s read) (λ exports.
-    Ok (Makes (with_spaces l n (with_core_instance s exports))))))
+    Ok (Makes (core_made l n s m items)))))
+core_instance_outcome l n s (made_core.Inline read) = after (inline_outcome s read) (λ exports. Ok (Makes (with_spaces l n (with_core_instance s exports))))
 
 -- Instances.
 
@@ -118,15 +128,20 @@ instance_outcome l n s (made.Inline read) = after (named_exports s read) (λ exp
 
 -- Aliases.
 
+-- an export of a core instance, among these
+abbrev pub core_aliased : List (List CoreExport) → Sort → ℕ → List ℕ → Result CoreItem LinkWhy
+core_aliased instances sort instance name =
+    after (there_or why.Index (slice_get instances instance)) (λ exports.
+    after (there_or (why.Missing name) (core_named name exports)) (λ item.
+    only_if (is_core_of item sort) why.Typing (Ok item)))
+
 abbrev pub alias_outcome : Linking → ℕ → Spaces → Sort → AliasTarget → Result Outcome LinkWhy
 alias_outcome l n s sort (target.InstanceExport instance name) =
     after (there_or why.Index (slice_get s.instances instance)) (λ exports.
     after (there_or (why.Missing name) (export_named name exports)) (λ d.
     only_if (is_of_sort d sort) why.Typing (Ok (one_more l n s d))))
 alias_outcome l n s sort (target.CoreInstanceExport instance name) =
-    after (there_or why.Index (slice_get s.core_instances instance)) (λ exports.
-    after (there_or (why.Missing name) (core_named name exports)) (λ item.
-    only_if (is_core_of item sort) why.Typing (Ok (Makes (with_spaces l n (with_core_item s item))))))
+    after (core_aliased s.core_instances sort instance name) (λ item. Ok (Makes (with_spaces l n (with_core_item s item))))
 alias_outcome l n s sort (target.Outer up index) =
     after (there_or why.Index (outer_at l (n ∷ s.around) sort up index)) (λ d. Ok (one_more l n s d))
 
@@ -140,17 +155,21 @@ type_outcome l n s meaning =
 
 -- Lifts.
 
-abbrev pub lifted : Linking → ℕ → Spaces → FuncType → CoreItem → Result Outcome LinkWhy
-lifted l n s type (Func ref of_core) =
-    only_if (is_flat type of_core) why.Canon (Ok (one_more l n s (AFunc (record { instance = n; core = ref; func_type = type }))))
-lifted l n s type item = Err why.Canon
+-- the lift of a core item to a function of a type, in the component instance of this number
+abbrev pub lifted_to : ℕ → FuncType → CoreItem → Result Lifted LinkWhy
+lifted_to n type (Func ref of_core) = only_if (is_flat type of_core) why.Canon (Ok (record { instance = n; core = ref; func_type = type }))
+lifted_to n type item = Err why.Canon
 
-abbrev pub lift_outcome : Linking → ℕ → Spaces → ℕ → ℕ → Result Outcome LinkWhy
-lift_outcome l n s f t =
+-- the lift of the core function of an index to a function of the type of an index
+abbrev pub lifted_of : ℕ → Spaces → ℕ → ℕ → Result Lifted LinkWhy
+lifted_of n s f t =
     after (there_or why.Index (slice_get s.core_funcs f)) (λ item.
     after (there_or why.Index (slice_get s.types t)) (λ type.
     after (there_or why.Typing (func_of type)) (λ of_func.
-    lifted l n s of_func item)))
+    lifted_to n of_func item)))
+
+abbrev pub lift_outcome : Linking → ℕ → Spaces → ℕ → ℕ → Result Outcome LinkWhy
+lift_outcome l n s f t = after (lifted_of n s f t) (λ lifted. Ok (one_more l n s (AFunc lifted)))
 
 -- Imports.
 

@@ -50,14 +50,14 @@ first_told f (x ∷ xs) = first_of (f x) (first_told f xs)
 
 -- Core instances.
 
--- the exports of the argument of a name: of equal names the first
-abbrev pub argument_named : Spaces → List ℕ → List CoreArgument → Option (List CoreExport)
-argument_named s q [] = None
-argument_named s q (a ∷ arguments) = cond (bytes_eq a.name q) (slice_get s.core_instances a.instance) (argument_named s q arguments)
+-- the exports of the argument of a name, among these core instances: of equal names the first
+abbrev pub argument_named : List (List CoreExport) → List ℕ → List CoreArgument → Option (List CoreExport)
+argument_named instances q [] = None
+argument_named instances q (a ∷ arguments) = cond (bytes_eq a.name q) (slice_get instances a.instance) (argument_named instances q arguments)
 
 -- what an import of a core module finds: the export of its name of the argument that it imports from
 abbrev pub import_found : Spaces → List CoreArgument → Import → Option CoreItem
-import_found s arguments i = option_and_then (core_named i.name) (argument_named s i.module arguments)
+import_found s arguments i = option_and_then (core_named i.name) (argument_named s.core_instances i.module arguments)
 
 -- the name that an import does not find: that of the argument, or else that of the export
 abbrev pub export_lacking : Import → Option CoreItem → Option (List ℕ)
@@ -69,7 +69,7 @@ argument_lacking i None = Some i.module
 argument_lacking i (Some exports) = export_lacking i (core_named i.name exports)
 
 abbrev pub import_lacks : Spaces → List CoreArgument → Import → Option (List ℕ)
-import_lacks s arguments i = argument_lacking i (argument_named s i.module arguments)
+import_lacks s arguments i = argument_lacking i (argument_named s.core_instances i.module arguments)
 
 -- an import of a module finds another item than it asks for
 abbrev pub FindsOther : Spaces → ModuleTree → List CoreArgument → Import → Type 0

@@ -16,7 +16,7 @@ use Rattle.comp_reader.specs.declared.component.Component.{Component}
 use Rattle.comp_linking.specs.declared.fault.LinkWhy.{LinkWhy}
 use Rattle.comp_linking.specs.declared.fault.LinkWhy.TheVariants as why
 use Rattle.comp_linking.specs.declared.fault.LinkFault.{LinkFault}
-use Rattle.comp_linking.specs.Definitions.{Lifted, Closure, AFunc, AnInstance, Exports, EmptyInstance, WithExport}
+use Rattle.comp_linking.specs.Definitions.{Lifted, Closure, Definition, AFunc, AnInstance, Exports, EmptyInstance, WithExport}
 use Rattle.comp_linking.specs.Spaces.{Spaces, new_spaces, Begin, Linking, with_definition, with_spaces}
 use Rattle.comp_linking.specs.Items.{instance_limit, AreNamed, item_has, item_makes}
 
@@ -103,17 +103,27 @@ pub record Callable : Type 0 where
   pub name : List ℕ
   pub func : Lifted
 
--- the functions among exports, and among those of an instance under its name and a `#`
+-- a function under its name, where a definition is one
+abbrev pub func_called : List ℕ → Definition → List Callable
+func_called name (AFunc f) = record { name = name; func = f } ∷ []
+func_called name d = []
+
+-- that of an export of an instance, behind a front
+abbrev pub func_behind : List ℕ → List ℕ × Definition → List Callable
+func_behind front e = func_called (front ++ e.0) e.1
+
 abbrev pub funcs_behind : List ℕ → Exports → List Callable
 funcs_behind front EmptyInstance = []
-funcs_behind front (WithExport others name (AFunc f)) = funcs_behind front others ++ record { name = front ++ name; func = f } ∷ []
-funcs_behind front (WithExport others name d) = funcs_behind front others
+funcs_behind front (WithExport others name d) = funcs_behind front others ++ func_behind front (name, d)
+
+-- the functions of an export of the root: itself, or those of an instance under its name and a `#`
+abbrev pub called : List ℕ × Definition → List Callable
+called (name, AnInstance inner) = funcs_behind (name ++ codes "#") inner
+called (name, d) = func_called name d
 
 abbrev pub callables : Exports → List Callable
 callables EmptyInstance = []
-callables (WithExport others name (AFunc f)) = callables others ++ record { name = name; func = f } ∷ []
-callables (WithExport others name (AnInstance inner)) = callables others ++ funcs_behind (name ++ codes "#") inner
-callables (WithExport others name d) = callables others
+callables (WithExport others name d) = callables others ++ called (name, d)
 
 -- What a component is linked to: what is made, in file order, and the functions that can be called.
 abbrev pub export_of : Callable → Export

@@ -5,8 +5,7 @@ use Rattle.std.proofs.lemmas.List.{drop_all, drop_more}
 use Rattle.wasm_module.specs.declared.module.Import.{Import}
 use Rattle.comp_reader.specs.declared.component.CoreArgument.{CoreArgument}
 use Rattle.comp_linking.specs.declared.fault.LinkWhy.{LinkWhy}
-use Rattle.comp_linking.specs.Definitions.{CoreItem}
-use Rattle.comp_linking.specs.Spaces.{Spaces}
+use Rattle.comp_linking.specs.Definitions.{CoreItem, CoreExport}
 use Rattle.comp_linking.specs.Items.{argument_named}
 use Rattle.comp_linking.specs.Computed.{after, found_in, all_found}
 
@@ -25,13 +24,13 @@ one_more before x (Err w) = refl
 
 -- Imports.
 
-pub all_are_found : (s : Spaces) (arguments : List CoreArgument) (items : List CoreItem) (imports : List Import) (at : ℕ) → length imports ≤ at → behind items (all_found s arguments (drop at imports)) ≡ Ok items
-all_are_found s arguments items imports at h = rw (drop_all at imports h, append-nil items) refl
+pub all_are_found : (instances : List (List CoreExport)) (arguments : List CoreArgument) (items : List CoreItem) (imports : List Import) (at : ℕ) → length imports ≤ at → behind items (all_found instances arguments (drop at imports)) ≡ Ok items
+all_are_found instances arguments items imports at h = rw (drop_all at imports h, append-nil items) refl
 
-pub one_found : (s : Spaces) (arguments : List CoreArgument) (items : List CoreItem) (imports : List Import) (d : Import) (at : ℕ) (item : CoreItem) → at < length imports → found_in (get_or imports at d) (argument_named s (get_or imports at d).module arguments) ≡ Ok item
-    → behind items (all_found s arguments (drop at imports)) ≡ behind (items ++ item ∷ []) (all_found s arguments (drop (at + 1) imports))
-one_found s arguments items imports d at item h e = rw (drop_more imports at d h, e) (one_more items item (all_found s arguments (drop (at + 1) imports)))
+pub one_found : (instances : List (List CoreExport)) (arguments : List CoreArgument) (items : List CoreItem) (imports : List Import) (d : Import) (at : ℕ) (item : CoreItem) → at < length imports → found_in (get_or imports at d) (argument_named instances (get_or imports at d).module arguments) ≡ Ok item
+    → behind items (all_found instances arguments (drop at imports)) ≡ behind (items ++ item ∷ []) (all_found instances arguments (drop (at + 1) imports))
+one_found instances arguments items imports d at item h e = rw (drop_more imports at d h, e) (one_more items item (all_found instances arguments (drop (at + 1) imports)))
 
-pub not_found : (s : Spaces) (arguments : List CoreArgument) (items : List CoreItem) (imports : List Import) (d : Import) (at : ℕ) (w : LinkWhy) → at < length imports → found_in (get_or imports at d) (argument_named s (get_or imports at d).module arguments) ≡ Err w
-    → behind items (all_found s arguments (drop at imports)) ≡ Err w
-not_found s arguments items imports d at w h e = rw (drop_more imports at d h, e) refl
+pub not_found : (instances : List (List CoreExport)) (arguments : List CoreArgument) (items : List CoreItem) (imports : List Import) (d : Import) (at : ℕ) (w : LinkWhy) → at < length imports → found_in (get_or imports at d) (argument_named instances (get_or imports at d).module arguments) ≡ Err w
+    → behind items (all_found instances arguments (drop at imports)) ≡ Err w
+not_found instances arguments items imports d at w h e = rw (drop_more imports at d h, e) refl

@@ -3,7 +3,7 @@
 ghost use Rattle.std.specs.Prelude.{◌≡◌, Some, None, Ok, Err, MatchOption, MatchResult};
 ghost use Rattle.std.specs.List.{slice_get};
 ghost use Rattle.ca_base.specs.Faults.{IfFault};
-ghost use Rattle.core_exports.specs.Aliases as aliases;
+ghost use Rattle.comp_linking.specs.Computed.{core_aliased};
 
 use crate::core_item::CoreItem;
 use crate::exports::CoreExports;
@@ -31,7 +31,7 @@ pub fn aliased<'a>(
     instance: u32,
     name: &Name,
 ) -> Result<CoreItem<'a>, MemoryOr<LinkWhy>>
-    ensures { MatchResult result (λ i. aliases.aliased instances.now sort instance name.now ≡ Ok i) (λ e. IfFault e (λ w. aliases.aliased instances.now sort instance name.now ≡ Err w)) }
+    ensures { MatchResult result (λ i. core_aliased instances.now sort instance name.now ≡ Ok i) (λ e. IfFault e (λ w. core_aliased instances.now sort instance name.now ≡ Err w)) }
 {
     let Some(exports) = exports_at(instances, instance) else {
         return Err(MemoryOr::Fault(LinkWhy::Index));

@@ -7,7 +7,6 @@ ghost use Rattle.std.specs.Str.{bytes_eq};
 ghost use Rattle.ca_base.specs.Faults.{IfFault};
 ghost use Rattle.comp_linking.specs.Items.{argument_named};
 ghost use Rattle.comp_linking.specs.Computed as computed;
-ghost use Rattle.core_exports.specs.Imports.{spaces_with};
 
 use crate::aliases::exports_at;
 use crate::core_item::CoreItem;
@@ -78,7 +77,7 @@ fn argument<'r, 'a>(
     arguments: &Arguments,
     name: &str,
 ) -> Option<&'r CoreExports<'a>>
-    ensures { MatchOption result (argument_named (spaces_with instances.now) name.now arguments.now ≡ None) (λ e. argument_named (spaces_with instances.now) name.now arguments.now ≡ Some e.now) }
+    ensures { MatchOption result (argument_named instances.now name.now arguments.now ≡ None) (λ e. argument_named instances.now name.now arguments.now ≡ Some e.now) }
 {
     exports_at(instances, arguments.instance(name)?)
 }
@@ -90,7 +89,7 @@ fn found_in<'a>(
     arguments: &Arguments,
     import: &Import,
 ) -> Result<CoreItem<'a>, MemoryOr<LinkWhy>>
-    ensures { MatchResult result (λ i. computed.found_in import.now (argument_named (spaces_with instances.now) import.now.module arguments.now) ≡ Ok i) (λ e. IfFault e (λ w. computed.found_in import.now (argument_named (spaces_with instances.now) import.now.module arguments.now) ≡ Err w)) }
+    ensures { MatchResult result (λ i. computed.found_in import.now (argument_named instances.now import.now.module arguments.now) ≡ Ok i) (λ e. IfFault e (λ w. computed.found_in import.now (argument_named instances.now import.now.module arguments.now) ≡ Err w)) }
 {
     let Some(exports) = argument(instances, arguments, import.module.as_str()) else {
         return Err(missing(alloc, import.module.as_str()));
@@ -109,7 +108,7 @@ pub(crate) fn all_found<'a>(
     arguments: &Arguments,
     imports: &[Import],
 ) -> Result<Vec<CoreItem<'a>>, MemoryOr<LinkWhy>>
-    ensures { MatchResult result (λ v. computed.all_found (spaces_with instances.now) arguments.now imports.now ≡ Ok v.items) (λ e. IfFault e (λ w. computed.all_found (spaces_with instances.now) arguments.now imports.now ≡ Err w)) }
+    ensures { MatchResult result (λ v. computed.all_found instances.now arguments.now imports.now ≡ Ok v.items) (λ e. IfFault e (λ w. computed.all_found instances.now arguments.now imports.now ≡ Err w)) }
 {
     let mut items = Vec::new(alloc);
     for import in imports {

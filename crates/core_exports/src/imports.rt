@@ -5,9 +5,8 @@ ghost use Rattle.std.specs.List.{list_all, slice_get};
 ghost use Rattle.ca_base.specs.Faults.{IfFault};
 ghost use Rattle.comp_reader.specs.declared.component.CoreArgument.{CoreArgument};
 ghost use Rattle.comp_graph.specs.CoreItems.{extern_of};
-ghost use Rattle.comp_linking.specs.Spaces.{Spaces};
 ghost use Rattle.comp_linking.specs.Tests as tests;
-ghost use Rattle.core_exports.specs.Imports.{spaces_with, imports_outcome};
+ghost use Rattle.comp_linking.specs.Computed.{imports_outcome};
 
 use crate::arguments::{Arguments, all_found};
 use crate::core_item::CoreItem;
@@ -56,37 +55,23 @@ pub fn externs_of(alloc: Global, items: &[CoreItem]) -> Result<Seq<CoreExtern>, 
     Ok(externs)
 }
 
-/// What the imports of a core module are passed, of core instances that stand alone.
-fn imports_among<'a>(
-    alloc: Global,
-    instances: &[CoreExports<'a>],
-    read: &[CoreArgument],
-    tree: &ModuleTree,
-) -> Result<Vec<CoreItem<'a>>, MemoryOr<LinkWhy>>
-    ensures { MatchResult result (λ v. imports_outcome (spaces_with instances.now) tree.now read.now ≡ Ok v.items) (λ e. IfFault e (λ w. imports_outcome (spaces_with instances.now) tree.now read.now ≡ Err w)) }
-{
-    if !are_there(instances.len(), read) {
-        return Err(MemoryOr::Fault(LinkWhy::Index));
-    }
-    let arguments = Arguments::new(alloc, read)?;
-    let imports = tree.imports.as_slice();
-    let items = all_found(alloc, instances, &arguments, imports)?;
-    if !(are_distinct(alloc, read)? && all_fit(tree, imports, &items)) {
-        return Err(MemoryOr::Fault(LinkWhy::Typing));
-    }
-    Ok(items)
-}
-
-/// What the imports of a core module are passed, of the core instances of index spaces and these arguments; or why it is
-/// not instantiated.
-#[tactic(auto, using(crate::proofs::Passed::outcome_alone))]
+/// What the imports of a core module are passed, of these core instances and arguments; or why it is not instantiated.
 pub fn imports_passed<'a>(
     alloc: Global,
     instances: &[CoreExports<'a>],
     arguments: &[CoreArgument],
     tree: &ModuleTree,
 ) -> Result<Vec<CoreItem<'a>>, MemoryOr<LinkWhy>>
-    ensures { (s : Spaces) → s.core_instances ≡ instances.now → MatchResult result (λ v. imports_outcome s tree.now arguments.now ≡ Ok v.items) (λ e. IfFault e (λ w. imports_outcome s tree.now arguments.now ≡ Err w)) }
+    ensures { MatchResult result (λ v. imports_outcome instances.now tree.now arguments.now ≡ Ok v.items) (λ e. IfFault e (λ w. imports_outcome instances.now tree.now arguments.now ≡ Err w)) }
 {
-    imports_among(alloc, instances, arguments, tree)
+    if !are_there(instances.len(), arguments) {
+        return Err(MemoryOr::Fault(LinkWhy::Index));
+    }
+    let named = Arguments::new(alloc, arguments)?;
+    let imports = tree.imports.as_slice();
+    let items = all_found(alloc, instances, &named, imports)?;
+    if !(are_distinct(alloc, arguments)? && all_fit(tree, imports, &items)) {
+        return Err(MemoryOr::Fault(LinkWhy::Typing));
+    }
+    Ok(items)
 }
