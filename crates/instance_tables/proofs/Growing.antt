@@ -3,7 +3,7 @@ use Rattle.std.proofs.Common.{◌≡◌, ◌⊎◌, ℕ, zero, suc, List, [], �
 use Rattle.std.specs.List.{slice_get, AllZip}
 use Rattle.std.specs.Option.{option_and_then}
 use Rattle.std.proofs.lemmas.Option.{slice_get_within, slice_get_cases}
-use Rattle.comp_linking.specs.Definitions.{Definition, AFunc, AType, AComponent, AnInstance, AModule, Exports, export_named}
+use Rattle.comp_linking.specs.Definitions.{Definition, AFunc, AType, AComponent, AnInstance, AModule, Exports, export_named, types_of}
 use Rattle.type_tables.specs.declared.refs.InstanceTypeRef.{InstanceTypeRef}
 use Rattle.instance_tables.specs.declared.references.InstanceRef.{InstanceRef}
 use Rattle.instance_tables.specs.declared.references.DefinitionRef.{DefinitionRef}
@@ -15,6 +15,7 @@ use Rattle.type_tables.specs.Table.{Table}
 use Rattle.type_tables.specs.Table.{Grows}
 use Rattle.instance_tables.specs.References.{World, IsSeen, IsInstance, Stands, listed, IsEntry, IsListing, IsFound, AreBases, with_base, Stays, WorldStays}
 use Rattle.instance_tables.specs.Pairs.{IsKnown}
+use Rattle.instance_tables.specs.OfTypes.{HasTypes}
 use Rattle.type_tables.proofs.TypesGrow.{grows_refl, func_stays, type_stays, instance_type_stays}
 use Rattle.instance_tables.proofs.Named.{listing_found}
 
@@ -72,6 +73,14 @@ module _ (t u : Table) (v w : World) (types : Grows t u) (world : WorldStays v w
     instance = instance_stays p.given k.given k.instance;
     type = instance_type_stays t u types p.asked k.asked k.type;
     fits = k.fits;
+  }
+
+  pub has_types_stays : (type : InstanceTypeRef) (base : ℕ) → HasTypes t v type base → HasTypes u w type base
+  has_types_stays type base h = record {
+    externs = h.externs;
+    asked = instance_type_stays t u types type h.externs h.asked;
+    types = h.types;
+    stands = world.bases base (types_of h.externs) h.stands;
   }
 
   pub bases_stay : (listings : List (List (ℕ × DefinitionRef))) → w.bases ≡ v.bases → AreBases t v listings → AreBases u w listings

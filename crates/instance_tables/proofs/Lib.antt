@@ -6,7 +6,10 @@ pub mod Growing
 pub mod Named
 pub mod InOrder
 pub mod PairOrder
+pub mod Places
 pub mod Standing
 pub mod Turns
+pub mod TypesAsked
+pub mod TypesKept
 pub mod Views
 pub mod Walking

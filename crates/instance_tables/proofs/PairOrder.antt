@@ -45,6 +45,12 @@ is_equal Less h = cc
 is_equal Equal h = refl
 is_equal Greater h = cc
 
+pub type_same : (x y : InstanceTypeRef) → is_eq ((type_order.ghosts).cmp x y) ≡ true → x ≡ y
+type_same x y h = type_exact x y (is_equal ((type_order.ghosts).cmp x y) h)
+
+pub instance_same : (x y : InstanceRef) → is_eq ((instance_order.ghosts).cmp x y) ≡ true → x ≡ y
+instance_same x y h = instance_exact x y (is_equal ((instance_order.ghosts).cmp x y) h)
+
 pub pair_same : (p q : Pair) → same_pair p q ≡ true → p ≡ q
 pair_same p q h = pair_exact p q (is_equal (pair_cmp p q) h)
 

@@ -1,8 +1,6 @@
 -- What the turns of a walk leave, over references.
-use Rattle.std.proofs.Common.{◌≡◌, ℕ, ◌+◌, Bool, true, false, List, [], ◌∷◌, drop, refl, sym, ◌∙◌, ap, subst, add-one, drop-cons, inl, inr, Option, Some, None}
+use Rattle.std.proofs.Common.{◌≡◌, ℕ, ◌+◌, Bool, true, false, List, [], ◌∷◌, drop, refl, sym, ◌∙◌, ap, subst, Option, Some, None}
 use Rattle.std.specs.List.{slice_get, AllZip}
-use Rattle.std.proofs.lemmas.List.{drop_all}
-use Rattle.std.proofs.lemmas.Option.{slice_get_within, get_or_from_slice_get, slice_get_cases}
 use Rattle.comp_graph.specs.Closed.{Extern, OfInstance, Externs}
 use Rattle.comp_linking.specs.Definitions.{Definition, AnInstance, Exports, export_named, FitAll, first_lacking, seen_exports}
 use Rattle.comp_linking.specs.Tests.{fit_all}
@@ -27,25 +25,12 @@ use Rattle.comp_linking.proofs.Fitting.{all_fit_lacks}
 use Rattle.comp_linking.proofs.Telling.{fits_told}
 use Rattle.type_tables.proofs.TypesTold.{same_instances}
 use Rattle.instance_tables.proofs.Asking.{IsAskedAt, is_asked_at}
+use Rattle.instance_tables.proofs.Places.{drop_at, drop_past}
 use Rattle.instance_tables.proofs.Walking.{whole, with_rest, begins, misses, passes, differs, goes_inside, done, ends, less_is_said}
-
--- Lists by places.
-
-drop_at : {A : Type 0} (xs : List A) (i : ℕ) (x : A) → slice_get xs i ≡ Some x → drop i xs ≡ x ∷ drop (i + 1) xs
-drop_at xs i x h =
-    let within = slice_get_within xs i x h in
-    rw (add-one, drop-cons xs i x within, get_or_from_slice_get xs i x x h) refl
-
-drop_past : {A : Type 0} (xs : List A) (i : ℕ) → slice_get xs i ≡ None → drop i xs ≡ []
-drop_past xs i h =
-    elim (slice_get_cases xs i).1 [
-      | inl p ↦ (let no : Some p.0 ≡ None = sym p.2 ∙ h in cc)
-      | inr p ↦ drop_all i xs p.0
-    ]
 
 -- What stands behind a reference is one.
 
-type_once : (t : Table) → AreDistinct t.texts t.layers → (r : InstanceTypeRef) (a b : Externs) → IsInstanceType t r a → IsInstanceType t r b → a ≡ b
+pub type_once : (t : Table) → AreDistinct t.texts t.layers → (r : InstanceTypeRef) (a b : Externs) → IsInstanceType t r a → IsInstanceType t r b → a ≡ b
 type_once t apart r a b h k = (same_instances t apart r r a b h k).0 refl
 
 seen_once : (t : Table) → AreDistinct t.texts t.layers → (base : Exports) (o : Option InstanceTypeRef) (a b : Exports) → IsSeen t base o a → IsSeen t base o b → a ≡ b
@@ -73,6 +58,14 @@ known_at t w agrees p is k = known_passed t w p (subst (λ (agrees : Bool). IsPa
 
 pub passed_less : (t : Table) (w : World) (agrees : Bool) (p : Pair) → IsPassed t w agrees p → IsPassed t w false p
 passed_less t w agrees p k = record { given = k.given; asked = k.asked; instance = k.instance; type = k.type; says = less_is_said agrees k.given k.asked None true k.says }
+
+-- an instance that is known to be of a type
+pub known_fits : (t : Table) → AreDistinct t.texts t.layers → (w : World) (i : InstanceRef) (r : InstanceTypeRef) (given : Exports) (asked : Externs)
+    → IsInstance t w i given → IsInstanceType t r asked → IsKnown t w (record { given = i; asked = r }) → FitAll given asked
+known_fits t apart w i r given asked h type k =
+    let one : k.given ≡ given = instance_once t apart w i k.given given k.instance h in
+    let other : k.asked ≡ asked = type_once t apart r k.asked asked k.type type in
+    subst (λ (asked : Externs). FitAll given asked) other (subst (λ (given : Exports). FitAll given k.asked) one k.fits)
 
 -- What comes next.
 

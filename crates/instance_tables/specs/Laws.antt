@@ -1,4 +1,5 @@
--- What holds of instances that are seen as a type, in one step or in two.
+-- What holds of instances that are seen as a type (Component Model, Explainer.md, "Import and Export Definitions"), in one step or in
+-- two.
 use Rattle.std.specs.Prelude.{◌≡◌, ℕ, List, None}
 use Rattle.std.specs.List.{list_all}
 use Rattle.comp_graph.specs.Closed.{Extern, Externs, extern_named}

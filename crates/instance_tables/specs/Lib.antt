@@ -3,6 +3,7 @@ pub mod Fit
 pub mod Fitting
 pub mod Instances
 pub mod Laws
+pub mod OfTypes
 pub mod Pairs
 pub mod References
 pub mod Views

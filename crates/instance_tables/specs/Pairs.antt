@@ -1,4 +1,4 @@
--- Pairs of an instance and a type that is asked of it.
+-- Pairs of an instance and a type that is asked of it (Component Model, Explainer.md, "Import and Export Definitions").
 use Rattle.std.specs.Prelude.{Bool}
 use Rattle.std.specs.declared.cmp.Ordering.{Ordering}
 use Rattle.std.specs.Ordering.{is_eq}

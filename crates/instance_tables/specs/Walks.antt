@@ -1,4 +1,5 @@
--- A walk, as its state stands for frames of trees, and what a turn of it comes to.
+-- A walk that compares an instance with a type (Component Model, Explainer.md, "Instance Definitions"), as its state stands for
+-- frames of trees, and what a turn of it comes to.
 use Rattle.std.specs.Prelude.{◌≡◌, ◌&&◌, ◌||◌, Bool, true, false, List, [], ◌∷◌, ◌++◌, reverse, Result, Ok, Err}
 use Rattle.std.specs.declared.alloc.AllocError.{AllocError}
 use Rattle.comp_graph.specs.Closed.{OfInstance, Externs}

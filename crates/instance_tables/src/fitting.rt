@@ -263,7 +263,7 @@ impl Instances {
         ensures { (w : World) (exports : Exports) (externs : Externs) → AreInstances types.now w self.old → IsInstance types.now w given exports → IsInstanceType types.now asked externs → AreInstances types.now w self.new × IfOk result (IsFit types.now (AnInstance exports) (OfInstance externs)) }
     {
         let mut walk = Walk::begin(alloc, given, asked)?;
-        // A walk is over long before.
+        // No walk has so many turns.
         for _turn in 0..usize::MAX {
             match self.turn(types, &mut walk)? {
                 Turn::GoesOn => {}
@@ -273,7 +273,25 @@ impl Instances {
         Err(AllocError)
     }
 
-    /// Whether a definition is what is asked for. It fails for want of memory alone.
+    /// Whether an instance is of a type: as it is known, or by a walk.
+    fn fit_inside(
+        &mut self,
+        alloc: Global,
+        types: &Types<'_>,
+        given: InstanceRef,
+        asked: InstanceTypeRef,
+    ) -> Result<Fit, AllocError>
+        ensures { (w : World) (exports : Exports) (externs : Externs) → AreInstances types.now w self.old → IsInstance types.now w given exports → IsInstanceType types.now asked externs → AreInstances types.now w self.new × IfOk result (IsFit types.now (AnInstance exports) (OfInstance externs)) }
+    {
+        types.are_distinct();
+        if has(&self.known, Pair { given, asked }) {
+            return Ok(Fit::Fits);
+        }
+        self.walk(alloc, types, given, asked)
+    }
+
+    /// Whether a definition is what is asked for. It fails for want of memory, and in the same way where a walk is not over
+    /// behind 2^64 - 1 turns.
     pub fn fit(
         &mut self,
         alloc: Global,
@@ -285,7 +303,7 @@ impl Instances {
     {
         match compare(types, given, asked) {
             Comparison::Agrees(agrees) => Ok(fit_of(agrees)),
-            Comparison::Inside(given, asked) => self.walk(alloc, types, given, asked),
+            Comparison::Inside(given, asked) => self.fit_inside(alloc, types, given, asked),
         }
     }
 }

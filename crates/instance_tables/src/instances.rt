@@ -11,14 +11,17 @@ ghost use Rattle.instance_tables.specs.Instances.{AreInstances};
 use crate::pairs::Pair;
 use crate::references::{DefinitionRef, InstanceRef, seen_as};
 use std::alloc::{AllocError, Global};
-use std::collections::BTreeSet;
-use type_tables::{Listing, Types, asked_named};
+use std::collections::{BTreeMap, BTreeSet};
+use type_tables::{InstanceTypeRef, Listing, Types, asked_named};
 
-/// The exports of instances, by the number of their base, and pairs of an instance and a type that it is known to be of.
+/// The exports of instances, by the number of their base.
 #[derive(Drop)]
 pub struct Instances {
     pub(crate) bases: Vec<Listing<DefinitionRef>>,
+    /// Pairs of an instance and a type that it is known to be of.
     pub(crate) known: BTreeSet<Pair>,
+    /// The bases whose exports are the types that a type of instances asks for.
+    pub(crate) of_types: BTreeMap<InstanceTypeRef, usize>,
 }
 
 impl Instances {
@@ -29,6 +32,7 @@ impl Instances {
         Instances {
             bases: Vec::new(alloc),
             known: BTreeSet::new(alloc),
+            of_types: BTreeMap::new(alloc),
         }
     }
 

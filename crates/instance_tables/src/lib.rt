@@ -4,6 +4,7 @@
 //! - `references`: references to definitions
 //! - `instances`: instances, by number
 //! - `ordered`: the exports of an instance, in order
+//! - `of_types`: instances whose exports are the types that a type of instances asks for
 //! - `comparing`, `pairs`, `fitting`: whether a definition is what is asked for
 //! - `laws`: what holds of instances that are seen as a type
 #![tactic(auto)]
@@ -12,6 +13,7 @@ mod comparing;
 mod fitting;
 mod instances;
 pub mod laws;
+mod of_types;
 mod ordered;
 mod pairs;
 mod references;

@@ -3,6 +3,7 @@ pub mod LayersTold
 pub mod Listings
 pub mod NamesAdded
 pub mod Numbered
+pub mod RefsSame
 pub mod TypesGrow
 pub mod TypesMade
 pub mod TypesTold

@@ -1,9 +1,7 @@
 -- Types that are made, layer by layer.
-use Rattle.std.proofs.Common.{◌≡◌, ◌<◌, ◌≤◌, ◌+◌, ◌-◌, ℕ, zero, suc, List, [], ◌∷◌, ◌++◌, map, length, drop, get_or, refl, ap, sym, ◌∙◌, Some, None, Option, arith}
-use Rattle.std.specs.Option.{option_map}
+use Rattle.std.proofs.Common.{◌≡◌, ◌<◌, ◌≤◌, ◌+◌, ◌-◌, ℕ, zero, suc, List, [], ◌∷◌, ◌++◌, map, length, drop, get_or, refl, ap, ◌∙◌, Some, Option, arith}
 use Rattle.std.specs.List.{slice_get}
 use Rattle.ca_base.proofs.Seen.{drop_one}
-use Rattle.ca_types.specs.declared.types.ValType.{ValType}
 use Rattle.ca_types.specs.declared.types.Param.{Param}
 use Rattle.comp_graph.specs.Closed.{Extern, Externs, WithExtern}
 use Rattle.type_tables.specs.declared.labels.LabelledType.{LabelledType}
@@ -13,7 +11,7 @@ use Rattle.type_tables.specs.declared.layers.Layer.TheVariants as layer
 use Rattle.type_tables.specs.declared.maker.InstanceTypeMaker.{InstanceTypeMaker}
 use Rattle.type_tables.specs.declared.refs.ExternRef.{ExternRef}
 use Rattle.type_tables.specs.Labels.{closed_param, closed_func}
-use Rattle.type_tables.specs.Layered.{val_of, IsParams, IsExternLayer}
+use Rattle.type_tables.specs.Layered.{IsParams, IsExternLayer}
 use Rattle.type_tables.specs.Layering.{extern_layer}
 use Rattle.type_tables.specs.Begun.{IsBegun}
 use Rattle.type_tables.specs.Table.{Table, IsName, IsFunc, IsExtern, IsInstanceType, Grows}

@@ -20,7 +20,7 @@ use Rattle.type_tables.specs.declared.refs.ExternRef.TheVariants as extern_ref
 use Rattle.type_tables.specs.Numbering.{AreApart}
 use Rattle.std.specs.Option.{option_or}
 use Rattle.type_tables.specs.Listed.{item_named}
-use Rattle.type_tables.specs.Layered.{val_of, IsExternLayer, IsTypeLayer}
+use Rattle.type_tables.specs.Layered.{IsExternLayer, IsTypeLayer}
 use Rattle.type_tables.specs.Layering.{type_layer, extern_layer}
 use Rattle.type_tables.specs.Table.{Table, AreDistinct, IsName, IsFunc, IsType, IsExtern, IsInstanceType, AreListed, MayBeExtern, MayBeEntry, in_order}
 use Rattle.type_tables.proofs.Listings.{named_more}

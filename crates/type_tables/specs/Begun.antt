@@ -1,4 +1,4 @@
--- Types of instances that are being made.
+-- Types of instances (Component Model, Explainer.md, "Type Definitions") that are being made.
 use Rattle.comp_graph.specs.Closed.{Externs}
 use Rattle.type_tables.specs.declared.maker.InstanceTypeMaker.{InstanceTypeMaker}
 use Rattle.type_tables.specs.Layered.{IsExternsLayer}

@@ -1,4 +1,4 @@
--- The closed types of parameters and functions, of labels with value types.
+-- The closed types of parameters and functions (Component Model, Explainer.md, "Type Definitions"), of labels with value types.
 use Rattle.std.specs.Prelude.{List, map, Option}
 use Rattle.std.specs.Option.{option_map}
 use Rattle.ca_types.specs.declared.types.Param.{Param}

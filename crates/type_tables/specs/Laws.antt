@@ -1,4 +1,4 @@
--- What holds of tables of types.
+-- What holds of tables of types (Component Model, Explainer.md, "Type Definitions").
 use Rattle.std.specs.Prelude.{◌≡◌, ◌<◌, ℕ, List, length}
 use Rattle.ca_types.specs.declared.types.FuncType.{FuncType}
 use Rattle.comp_graph.specs.Closed.{Closed, Extern, Externs}

@@ -1,4 +1,4 @@
--- The outer layers of what references stand for.
+-- The outer layers of the types (Component Model, Explainer.md, "Type Definitions") that references stand for.
 use Rattle.type_tables.specs.declared.layers.TypeLayer.{TypeLayer}
 use Rattle.type_tables.specs.declared.layers.TypeLayer.TheVariants as of_type
 use Rattle.type_tables.specs.declared.layers.ExternLayer.{ExternLayer}

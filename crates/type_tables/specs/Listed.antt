@@ -1,4 +1,4 @@
--- What stands under names, by the numbers of the names, in order.
+-- What stands under names, by the numbers of the names, in order (Component Model, Explainer.md, "Import and Export Definitions").
 use Rattle.std.specs.Prelude.{ℕ, ◌==◌, cond, List, [], ◌∷◌, Option, Some, None}
 
 -- the item under a name: of equal names the first

@@ -1,4 +1,5 @@
--- Things that are numbered: each stands once in a list, and its number is its place there.
+-- Things that are numbered, as the parts of types are (Component Model, Explainer.md, "Type Definitions"): each stands once in a list,
+-- and its number is its place there.
 use Rattle.std.specs.Prelude.{◌≡◌, ◌≢◌, ◌⊎◌, ℕ, List, [], ◌∷◌, ◌++◌, Option, Some, None}
 use Rattle.std.specs.List.{slice_get}
 

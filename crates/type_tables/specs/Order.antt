@@ -1,4 +1,4 @@
--- The order of layers, by which they are looked up.
+-- The order of the layers of types (Component Model, Explainer.md, "Type Definitions"), by which they are looked up.
 use Rattle.std.specs.Prelude.{ℕ, Option}
 use Rattle.std.specs.declared.cmp.Ordering.{Ordering}
 use Rattle.std.specs.BTreeMap.{BTreeMap, get}

@@ -1,6 +1,6 @@
 //! Labels with value types, which function types are made of.
 
-ghost use Rattle.std.specs.Prelude.{◌≡◌, IfOk, map};
+ghost use Rattle.std.specs.Prelude.{◌≡◌, IfOk, IsTrue, map};
 ghost use Rattle.std.specs.Option.{option_map};
 ghost use Rattle.type_tables.specs.Layered.{val_of};
 ghost use Rattle.type_tables.specs.Labels.{closed_param, closed_func};
@@ -74,4 +74,59 @@ pub(crate) fn closed_func(
         params: closed_params(alloc, params)?,
         result: closed_result(alloc, returned)?,
     })
+}
+
+/// Whether a value type is this one.
+fn is_closed_val(val_type: &ValType, asked: ValueLayer) -> bool
+    ensures { IsTrue result → val_type.now ≡ val_of asked }
+{
+    match (val_type, asked) {
+        (ValType::U32, ValueLayer::U32) => true,
+        (_, ValueLayer::U32) => false,
+    }
+}
+
+/// Whether a parameter is this one.
+fn is_closed_param(param: &Param, asked: &LabelledType<'_>) -> bool
+    ensures { IsTrue result → param.now ≡ closed_param asked.now }
+{
+    param.label.as_str() == asked.label && is_closed_val(param.val_type.get(), asked.val_type)
+}
+
+/// Whether parameters are these.
+fn are_closed_params(params: &[Param], asked: &[LabelledType<'_>]) -> bool
+    ensures { IsTrue result → params.now ≡ map closed_param asked.now }
+{
+    if params.len() != asked.len() {
+        return false;
+    }
+    for at in 0..params.len() {
+        if !is_closed_param(&params[at], &asked[at]) {
+            return false;
+        }
+    }
+    true
+}
+
+/// Whether a result is this one.
+fn is_closed_result(returned: &Option<Shared<ValType>>, asked: Option<ValueLayer>) -> bool
+    ensures { IsTrue result → returned.now ≡ option_map val_of asked }
+{
+    match (returned, asked) {
+        (Some(val_type), Some(asked)) => is_closed_val(val_type.get(), asked),
+        (None, None) => true,
+        (_, _) => false,
+    }
+}
+
+/// Whether a function type is the one of these parameters and this result.
+pub(crate) fn is_closed_func(
+    func_type: &FuncType,
+    params: &[LabelledType<'_>],
+    returned: Option<ValueLayer>,
+) -> bool
+    ensures { IsTrue result → func_type.now ≡ closed_func params.now returned }
+{
+    are_closed_params(func_type.params.as_slice(), params)
+        && is_closed_result(&func_type.result, returned)
 }

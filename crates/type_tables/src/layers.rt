@@ -1,7 +1,6 @@
 //! The layers of types, by number.
 
 ghost use Rattle.std.specs.Prelude.{◌≡◌, ℕ, [], ◌∷◌, ◌++◌, length, None, IfOk, OnOk, OnErr};
-ghost use Rattle.std.specs.List.{slice_get};
 ghost use Rattle.type_tables.specs.Numbering.{AreApart, IsAdded, IsNumberOf};
 
 use std::alloc::{AllocError, Global};
@@ -137,12 +136,5 @@ impl Layers {
         self.numbers.insert(layer, number)?;
         self.layers.push_reserved(layer);
         Ok(number)
-    }
-
-    /// The layer of a number.
-    pub fn get(&self, number: usize) -> Option<Layer>
-        ensures { result ≡ slice_get self.now number }
-    {
-        self.layers.get(number).copied()
     }
 }

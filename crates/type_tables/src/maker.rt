@@ -60,7 +60,7 @@ impl InstanceTypeMaker {
         ensures grows { Grows types.old types.new }
     {
         let layer = self.layer;
-        let number = types.add_instance(self.externs)?;
+        let number = types.instance_number(layer, self.externs)?;
         Ok(InstanceTypeRef { layer, number })
     }
 }

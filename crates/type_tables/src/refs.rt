@@ -1,12 +1,12 @@
 //! References into a table of types.
 
-ghost use Rattle.std.specs.Prelude.{◌≡◌};
+ghost use Rattle.std.specs.Prelude.{◌≡◌, IsTrue};
 ghost use Rattle.type_tables.specs.Layering.{type_layer, extern_layer};
 
 use crate::layers::{ExternLayer, TypeLayer, ValueLayer};
 
 /// A function type of a table.
-#[derive(Clone, Copy, Debug)]
+#[derive(Clone, Copy, Debug, PartialEq, Eq)]
 pub struct FuncTypeRef {
     /// The number of its layer, which tells it from other types.
     pub(crate) layer: usize,
@@ -24,7 +24,7 @@ pub struct InstanceTypeRef {
 }
 
 /// A closed type.
-#[derive(Clone, Copy, Debug)]
+#[derive(Clone, Copy, Debug, PartialEq, Eq)]
 pub enum TypeRef {
     /// A value type.
     Value(ValueLayer),
@@ -35,7 +35,7 @@ pub enum TypeRef {
 }
 
 /// What an import or an export is.
-#[derive(Clone, Copy, Debug)]
+#[derive(Clone, Copy, Debug, PartialEq, Eq)]
 pub enum ExternRef {
     /// A function of a type.
     Func(FuncTypeRef),
@@ -69,4 +69,11 @@ impl ExternRef {
             ExternRef::Instance(instance_type) => ExternLayer::Instance(instance_type.layer),
         }
     }
+}
+
+/// Whether these exports are the same references under the same names, in the same order.
+pub(crate) fn are_same(given: &[(usize, ExternRef)], other: &[(usize, ExternRef)]) -> bool
+    ensures { IsTrue result → given.now ≡ other.now }
+{
+    given == other
 }

@@ -1,23 +1,23 @@
 //! The table of types.
 
-ghost use Rattle.std.specs.Prelude.{◌≡◌, ◌<◌, ◌+◌, ◌∷◌, ◌↔◌, ℕ, List, map, length, Some, None, IfOk, IsTrue};
+ghost use Rattle.std.specs.Prelude.{◌≡◌, ◌<◌, ◌+◌, ◌∷◌, ◌↔◌, ℕ, List, map, length, Some, None, IfOk, IfSome, IsTrue};
 ghost use Rattle.std.specs.List.{slice_get};
 ghost use Rattle.std.specs.Option.{MatchOption};
 ghost use Rattle.ca_types.specs.declared.types.FuncType.{FuncType};
 ghost use Rattle.ca_types.specs.declared.types.Param.{Param};
 ghost use Rattle.comp_graph.specs.Closed.{Closed, Externs, extern_named};
-ghost use Rattle.type_tables.specs.Numbering.{IsNumberOf};
 ghost use Rattle.type_tables.specs.Layered.{IsParams};
 ghost use Rattle.type_tables.specs.Labels.{closed_param, closed_func};
 ghost use Rattle.type_tables.specs.Table.{no_types, IsName, IsFunc, IsType, IsInstanceType, MayBeExtern, MayBeEntry, in_order, Grows, AreDistinct};
 
-use crate::labels::{LabelledType, closed_func};
+use crate::labels::{LabelledType, closed_func, is_closed_func};
 use crate::layers::{Layer, Layers, ValueLayer};
 use crate::listing::Listing;
 use crate::names::Names;
-use crate::refs::{ExternRef, FuncTypeRef, InstanceTypeRef, TypeRef};
+use crate::refs::{ExternRef, FuncTypeRef, InstanceTypeRef, TypeRef, are_same};
 use ca_types::{FuncType, Shared};
 use std::alloc::{AllocError, Global};
+use std::collections::BTreeMap;
 use std::marker::Model;
 
 /// Types, each layer of them once: two types are the same exactly where the numbers of their layers are. A type that is in
@@ -29,6 +29,10 @@ pub struct Types<'a> {
     layers: Layers,
     funcs: Vec<Shared<FuncType>>,
     instances: Vec<Listing<ExternRef>>,
+    /// The number of the function type of a layer, so that a type that is made twice is kept once.
+    func_numbers: BTreeMap<usize, usize>,
+    /// The same of the listing of exports of a layer.
+    instance_numbers: BTreeMap<usize, usize>,
 }
 
 impl<'a> Model for Types<'a> {
@@ -57,6 +61,8 @@ impl<'a> Types<'a> {
             layers: Layers::new(alloc),
             funcs: Vec::new(alloc),
             instances: Vec::new(alloc),
+            func_numbers: BTreeMap::new(alloc),
+            instance_numbers: BTreeMap::new(alloc),
         }
     }
 
@@ -67,13 +73,6 @@ impl<'a> Types<'a> {
         ensures grows { Grows self.old self.new }
     {
         Ok(self.names.number_of(text)?)
-    }
-
-    /// The number of a name, where its text is there.
-    pub fn find_name(&self, text: &str) -> Option<usize>
-        ensures { IsNumberOf self.now.texts text.now result }
-    {
-        self.names.find(text)
     }
 
     /// The text of a name.
@@ -93,10 +92,12 @@ impl<'a> Types<'a> {
         ensures ok { IfOk result (λ ref. IsFunc self.new ref (closed_func params.now returned)) }
         ensures grows { Grows self.old self.new }
     {
-        let func_type = closed_func(alloc, params, returned)?;
-        let params = self.params(params)?;
-        let layer = self.layer(Layer::Func { params, returned })?;
-        let number = self.add_func(alloc, func_type)?;
+        let others = self.params(params)?;
+        let layer = self.layer(Layer::Func {
+            params: others,
+            returned,
+        })?;
+        let number = self.func_number(alloc, layer, params, returned)?;
         Ok(FuncTypeRef { layer, number })
     }
 
@@ -136,6 +137,43 @@ impl<'a> Types<'a> {
         Ok(self.layers.number_of(layer)?)
     }
 
+    /// The number of the function type that has this layer. It is added where it is not there.
+    fn func_number(
+        &mut self,
+        alloc: Global,
+        layer: usize,
+        params: &[LabelledType<'a>],
+        returned: Option<ValueLayer>,
+    ) -> Result<usize, AllocError>
+        ensures ok { IfOk result (λ number. slice_get self.new.funcs number ≡ Some (closed_func params.now returned)) }
+        ensures grows { Grows self.old self.new }
+    {
+        if let Some(number) = self.kept_func(layer, params, returned) {
+            return Ok(number);
+        }
+        let func_type = closed_func(alloc, params, returned)?;
+        let number = self.add_func(alloc, func_type)?;
+        self.func_numbers.insert(layer, number)?;
+        Ok(number)
+    }
+
+    /// The number of the function type of a layer, if it is there.
+    fn kept_func(
+        &self,
+        layer: usize,
+        params: &[LabelledType<'a>],
+        returned: Option<ValueLayer>,
+    ) -> Option<usize>
+        ensures { IfSome result (λ number. slice_get self.now.funcs number ≡ Some (closed_func params.now returned)) }
+    {
+        let number = self.func_numbers.get(&layer).copied()?;
+        let func_type = self.funcs.get(number)?;
+        if !is_closed_func(func_type.get(), params, returned) {
+            return None;
+        }
+        Some(number)
+    }
+
     /// Adds a function type, and answers its number.
     fn add_func(&mut self, alloc: Global, func_type: FuncType) -> Result<usize, AllocError>
         ensures ok { IfOk result (λ number. slice_get self.new.funcs number ≡ Some func_type) }
@@ -147,8 +185,37 @@ impl<'a> Types<'a> {
         Ok(number)
     }
 
+    /// The number of the listing of exports that has this layer. It is added where it is not there.
+    pub(crate) fn instance_number(
+        &mut self,
+        layer: usize,
+        externs: Listing<ExternRef>,
+    ) -> Result<usize, AllocError>
+        ensures ok { IfOk result (λ number. slice_get self.new.instances number ≡ Some externs) }
+        ensures grows { Grows self.old self.new }
+    {
+        if let Some(number) = self.kept_instance(layer, &externs) {
+            return Ok(number);
+        }
+        let number = self.add_instance(externs)?;
+        self.instance_numbers.insert(layer, number)?;
+        Ok(number)
+    }
+
+    /// The number of the listing of exports of a layer, if it is there.
+    fn kept_instance(&self, layer: usize, externs: &Listing<ExternRef>) -> Option<usize>
+        ensures { IfSome result (λ number. slice_get self.now.instances number ≡ Some externs.now) }
+    {
+        let number = self.instance_numbers.get(&layer).copied()?;
+        let kept = self.instances.get(number)?;
+        if !are_same(kept.entries(), externs.entries()) {
+            return None;
+        }
+        Some(number)
+    }
+
     /// Adds a listing of exports, and answers its number.
-    pub(crate) fn add_instance(&mut self, externs: Listing<ExternRef>) -> Result<usize, AllocError>
+    fn add_instance(&mut self, externs: Listing<ExternRef>) -> Result<usize, AllocError>
         ensures ok { IfOk result (λ number. slice_get self.new.instances number ≡ Some externs) }
         ensures grows { Grows self.old self.new }
     {
@@ -180,15 +247,6 @@ impl<'a> Types<'a> {
         a.layer == b.layer
     }
 
-    /// Whether two types of instances are the same.
-    pub fn same_instance(&self, a: InstanceTypeRef, b: InstanceTypeRef) -> bool
-        ensures { (f g : Externs) → IsInstanceType self.now a f → IsInstanceType self.now b g → (IsTrue result ↔ (f ≡ g)) }
-    {
-        // No layer stands twice.
-        let _ = &self.layers;
-        a.layer == b.layer
-    }
-
     /// Whether two types are the same.
     pub fn same_type(&self, a: TypeRef, b: TypeRef) -> bool
         ensures { (f g : Closed) → IsType self.now a f → IsType self.now b g → (IsTrue result ↔ (f ≡ g)) }
@@ -196,14 +254,6 @@ impl<'a> Types<'a> {
         // No layer stands twice.
         let _ = &self.layers;
         a.layer() == b.layer()
-    }
-
-    /// A function type.
-    pub fn func(&self, func_type: FuncTypeRef) -> &Shared<FuncType>
-        requires { func_type.number < length self.now.funcs }
-        ensures { (f : FuncType) → IsFunc self.now func_type f → result.now ≡ f }
-    {
-        &self.funcs[func_type.number]
     }
 
     /// A function type, where its number is there.

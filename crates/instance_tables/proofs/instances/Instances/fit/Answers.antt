@@ -11,4 +11,4 @@ returns-in-Agrees c = λ w d x h s e.
 pub returns-in-Inside : goal.returns-in-Inside
 returns-in-Inside c = λ w d x h s e.
     let (exports, externs, d_is, x_is, instance, type) = subst (λ (k : Comparison). IsCompared c.args.types.now w d x k) c.in-Inside.is (c.compare.ensures.compared w d x s e) in
-    fit_inside c.args.types.now w c.walk.new.self d x exports externs c.walk.result d_is x_is (c.walk.ensures w exports externs h instance type)
+    fit_inside c.args.types.now w c.fit_inside.new.self d x exports externs c.fit_inside.result d_is x_is (c.fit_inside.ensures w exports externs h instance type)

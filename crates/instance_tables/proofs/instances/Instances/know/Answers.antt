@@ -6,4 +6,5 @@ pub returns : goal.returns
 returns c = λ t w h k. record {
   bases = h.bases;
   known = more_or_same (IsKnown t w) c.args.self.now.known c.add.new.pairs c.args.pair c.add.result c.add.ensures.ok c.add.ensures.err h.known k;
+  of_types = h.of_types;
 }

@@ -1,0 +1,42 @@
+-- Instances of the types that an instance type asks for (Component Model, Explainer.md, "Import and Export Definitions"), by the
+-- number of the type.
+use Rattle.std.specs.Prelude.{◌≡◌, ℕ, Bool, true, false, List, [], ◌∷◌, Option, Some}
+use Rattle.std.specs.List.{slice_get}
+use Rattle.std.specs.declared.cmp.Ordering.{Ordering}
+use Rattle.std.specs.BTreeMap.{BTreeMap, get}
+use Rattle.comp_graph.specs.Closed.{Externs}
+use Rattle.comp_linking.specs.Definitions.{types_of}
+use Rattle.comp_linking.specs.Tests.{are_types}
+use Rattle.type_tables.specs.declared.refs.InstanceTypeRef.{InstanceTypeRef}
+use Rattle.type_tables.specs.declared.refs.ExternRef.{ExternRef}
+use Rattle.type_tables.specs.declared.refs.ExternRef.TheVariants as extern_ref
+use Rattle.type_tables.specs.contracts.refs.InstanceTypeRefOrd.TheImpl as order
+use Rattle.type_tables.specs.Table.{Table, IsInstanceType}
+use Rattle.instance_tables.specs.declared.references.DefinitionRef.{DefinitionRef}
+use Rattle.instance_tables.specs.declared.references.DefinitionRef.TheVariants as definition_ref
+use Rattle.instance_tables.specs.References.{World}
+
+-- whether a type is asked for
+abbrev pub is_type : Option (ℕ × ExternRef) → Bool
+is_type (Some (name, extern_ref.Type closed)) = true
+is_type entry = false
+
+-- the type that is asked for under a name, as a definition
+abbrev pub type_listed : Option (ℕ × ExternRef) → List (ℕ × DefinitionRef)
+type_listed (Some (name, extern_ref.Type closed)) = (name, definition_ref.Type closed) ∷ []
+type_listed entry = []
+
+-- the order of instance types, by which they are looked up
+abbrev pub type_cmp : InstanceTypeRef → InstanceTypeRef → Ordering
+type_cmp = (order.ghosts).cmp
+
+-- what a map by instance types has at one
+abbrev pub base_of : BTreeMap InstanceTypeRef ℕ → InstanceTypeRef → Option ℕ
+base_of bases type = get type_cmp bases type
+
+-- The exports of this number are the types that an instance type asks for, which asks for nothing else.
+pub record HasTypes (t : Table) (w : World) (type : InstanceTypeRef) (base : ℕ) : Type 0 where
+  pub externs : Externs
+  pub asked : IsInstanceType t type externs
+  pub types : are_types externs ≡ true
+  pub stands : slice_get w.bases base ≡ Some (types_of externs)
