@@ -1,5 +1,9 @@
 -- The functions that can be called, export by export.
-use Rattle.std.proofs.Common.{◌≡◌, ◌<◌, ◌≤◌, ◌+◌, ℕ, zero, suc, List, [], ◌∷◌, ◌++◌, length, map, take, get_or, refl, sym, ◌∙◌, ap, subst, arith, append-nil, append_assoc, Option, Some, None}
+use Rattle.std.proofs.Common.{◌≡◌, ◌<◌, ◌≤◌, ◌+◌, ℕ, zero, suc, List, [], ◌∷◌, ◌++◌, length, map, take, get_or, Bool, true, false, cond, refl, sym, ◌∙◌, ap, subst, arith, append-nil, append_assoc, Option, Some, None}
+use Rattle.std.specs.Prelude.{IsSome}
+use Rattle.std.specs.Option.{option_map, option_to_list}
+use Rattle.std.specs.Ordering.{is_eq}
+use Rattle.std.specs.BTreeMap.{Updates}
 use Rattle.std.specs.List.{slice_get, flat_map, AllZip}
 use Rattle.std.proofs.lemmas.List.{take_more, take_all}
 use Rattle.std.proofs.lemmas.Grind.{flat_map-append}
@@ -9,7 +13,7 @@ use Rattle.ca_types.specs.declared.types.FuncType.{FuncType}
 use Rattle.comp_linking.specs.Definitions.{Lifted, Definition, AFunc, AType, AComponent, AnInstance, AModule, Exports, EmptyInstance, WithExport}
 use Rattle.comp_graph.specs.Graph.{Graph}
 use Rattle.comp_linking.specs.Spaces.{Spaces, Linking}
-use Rattle.comp_linking.specs.Linked.{Callable, funcs_behind, callables, export_of, lift_of, exports_or, exports_at, graph_of}
+use Rattle.comp_linking.specs.Linked.{Callable, funcs_behind, called, callables, export_of, lift_of, exports_or, exports_at, graph_of}
 use Rattle.type_tables.specs.Table.{Table, IsFunc}
 use Rattle.instance_tables.specs.declared.references.LiftedRef.{LiftedRef}
 use Rattle.instance_tables.specs.declared.references.InstanceRef.{InstanceRef}
@@ -20,38 +24,35 @@ use Rattle.instance_tables.specs.Instances.{AreInstances}
 use Rattle.comp_link.specs.declared.scope.Scope.{Scope}
 use Rattle.comp_link.specs.declared.linker.Linker.{Linker}
 use Rattle.comp_link.specs.State as state
-use Rattle.comp_link.specs.State.{world_of, IsScope, IsAt}
-use Rattle.comp_link.specs.Called.{func_called, func_behind, called}
+use Rattle.comp_link.specs.State.{world_of, IsScope, IsLive, IsAt}
+use Rattle.comp_link.specs.declared.funcs.FuncLists.{FuncLists}
+use Rattle.comp_link.specs.Called.{func_of, funcs_of, named_behind, func_entry, func_entries, IsFuncEntry, AreFuncs, instance_cmp, listed_at, AreLists}
 use Rattle.comp_link.proofs.Passing.{as_many, spaces_at}
+use Rattle.instance_tables.specs.declared.instances.Instances.{Instances}
+use Rattle.instance_tables.proofs.PairOrder.{instance_same}
+use Rattle.instance_tables.proofs.Places.{zips_append}
 
 -- As lists.
 
 flat_one : {A B : Type 0} (f : A → List B) (xs : List A) (x : A) → flat_map f (xs ++ x ∷ []) ≡ flat_map f xs ++ f x
 flat_one f xs x = flat_map-append f xs (x ∷ []) ∙ ap (λ ys. flat_map f xs ++ ys) (append-nil (f x))
 
-one_func : (front : List ℕ) (others : Exports) (name : List ℕ) (d : Definition) → funcs_behind front (WithExport others name d) ≡ funcs_behind front others ++ func_behind front (name, d)
+one_func : (front : List ℕ) (others : Exports) (name : List ℕ) (d : Definition) → funcs_behind front (WithExport others name d) ≡ funcs_behind front others ++ flat_map (named_behind front) (func_of (name, d))
 one_func front others name (AFunc f) = refl
-one_func front others name (AType type) = sym (append-nil (funcs_behind front others))
-one_func front others name (AComponent c) = sym (append-nil (funcs_behind front others))
-one_func front others name (AnInstance inner) = sym (append-nil (funcs_behind front others))
-one_func front others name (AModule m) = sym (append-nil (funcs_behind front others))
+one_func front others name (AType type) = refl
+one_func front others name (AComponent c) = refl
+one_func front others name (AnInstance inner) = refl
+one_func front others name (AModule m) = refl
 
-pub funcs_listed : (front : List ℕ) (exports : Exports) → funcs_behind front exports ≡ flat_map (func_behind front) (listed exports)
+pub funcs_listed : (front : List ℕ) (exports : Exports) → funcs_behind front exports ≡ flat_map (named_behind front) (funcs_of exports)
 funcs_listed front EmptyInstance = refl
 funcs_listed front (WithExport others name d) =
-    one_func front others name d ∙ ap (λ cs. cs ++ func_behind front (name, d)) (funcs_listed front others) ∙ sym (flat_one (func_behind front) (listed others) (name, d))
-
-one_called : (others : Exports) (name : List ℕ) (d : Definition) → callables (WithExport others name d) ≡ callables others ++ called (name, d)
-one_called others name (AFunc f) = refl
-one_called others name (AType type) = sym (append-nil (callables others))
-one_called others name (AComponent c) = sym (append-nil (callables others))
-one_called others name (AnInstance inner) = refl
-one_called others name (AModule m) = sym (append-nil (callables others))
+    one_func front others name d ∙ ap (λ cs. cs ++ flat_map (named_behind front) (func_of (name, d))) (funcs_listed front others)
+    ∙ sym (flat_map-append (named_behind front) (funcs_of others) (func_of (name, d))) ∙ ap (flat_map (named_behind front)) (sym (flat_one func_of (listed others) (name, d)))
 
 pub callables_listed : (exports : Exports) → callables exports ≡ flat_map called (listed exports)
 callables_listed EmptyInstance = refl
-callables_listed (WithExport others name d) =
-    one_called others name d ∙ ap (λ cs. cs ++ called (name, d)) (callables_listed others) ∙ sym (flat_one called (listed others) (name, d))
+callables_listed (WithExport others name d) = ap (λ cs. cs ++ called (name, d)) (callables_listed others) ∙ sym (flat_one called (listed others) (name, d))
 
 -- Through a list.
 
@@ -99,8 +100,8 @@ is_instance t w (definition_ref.Type type) d i is h = cc
 is_instance t w (definition_ref.Component number) d i is h = cc
 is_instance t w (definition_ref.Module number) d i is h = cc
 
--- No function is called where the reference is of none.
-pub not_func : (t : Table) (w : World) (ref : DefinitionRef) (name : List ℕ) (d : Definition) → func_ref ref ≡ None → Stands t w ref d → [] ≡ func_called name d
+-- There is no function where the reference is of none.
+not_func : (t : Table) (w : World) (ref : DefinitionRef) (name : List ℕ) (d : Definition) → func_ref ref ≡ None → Stands t w ref d → func_of (name, d) ≡ []
 not_func t w (definition_ref.Func r) name (AFunc f) none h = cc
 not_func t w (definition_ref.Type type) name (AFunc f) none h = absurd h
 not_func t w (definition_ref.Component number) name (AFunc f) none h = absurd h
@@ -111,43 +112,68 @@ not_func t w ref name (AComponent c) none h = refl
 not_func t w ref name (AnInstance inner) none h = refl
 not_func t w ref name (AModule m) none h = refl
 
-pub not_instance : (t : Table) (w : World) (ref : DefinitionRef) (name : List ℕ) (d : Definition) → instance_ref ref ≡ None → Stands t w ref d → func_behind [] (name, d) ≡ called (name, d)
-not_instance t w ref name (AFunc f) none h = refl
-not_instance t w ref name (AType type) none h = refl
-not_instance t w ref name (AComponent c) none h = refl
-not_instance t w ref name (AModule m) none h = refl
-not_instance t w (definition_ref.Instance i) name (AnInstance inner) none h = cc
-not_instance t w (definition_ref.Func r) name (AnInstance inner) none h = absurd h
-not_instance t w (definition_ref.Type type) name (AnInstance inner) none h = absurd h
-not_instance t w (definition_ref.Component number) name (AnInstance inner) none h = absurd h
-not_instance t w (definition_ref.Module number) name (AnInstance inner) none h = absurd h
+-- The functions among exports.
 
--- The function of an export.
-pub func_made : (t : Table) (w : World) (number : ℕ) (ref : DefinitionRef) (r : LiftedRef) (front text : List ℕ) (e : List ℕ × Definition) (c : Callable)
-    → func_ref ref ≡ Some r → IsEntry t w (number, ref) e → slice_get t.texts number ≡ Some text
-    → c.name ≡ front ++ text → c.func.instance ≡ r.instance → c.func.core ≡ r.core → ((f : FuncType) → IsFunc t r.func_type f → c.func.func_type ≡ f) → c ∷ [] ≡ func_behind front e
-func_made t w number ref r front text e c is (named, stands) there name instance core type =
-    by (is_func t w ref e.1 r is stands)
+entry_told : (t : Table) (w : World) (entry : ℕ × DefinitionRef) (e : List ℕ × Definition) → IsEntry t w entry e → AllZip (IsFuncEntry t) (option_to_list (func_entry entry)) (func_of e)
+entry_told t w (number, ref) (name, d) h = by (func_ref ref) refl
   where
-    same : text ≡ e.0
-    same = let both : Some text ≡ Some e.0 = sym there ∙ named in cc
+    by : (o : Option LiftedRef) → func_ref ref ≡ o → AllZip (IsFuncEntry t) (option_to_list (option_map (λ (f : LiftedRef). (number, f)) o)) (func_of (name, d))
+    by None none = subst (λ (es : List (List ℕ × Lifted)). AllZip (IsFuncEntry t) [] es) (sym (not_func t w ref name d none h.1)) tt
+    by (Some r) is =
+        let p = is_func t w ref d r is h.1 in
+        subst (λ (d : Definition). AllZip (IsFuncEntry t) ((number, r) ∷ []) (func_of (name, d))) (sym p.1) ((h.0, p.2), tt)
 
-    by : ((f : Lifted) × (e.1 ≡ AFunc f) × IsLifted t r f) → c ∷ [] ≡ func_behind front e
-    by (f, d, lifted) =
-        let n : c.name ≡ front ++ e.0 = name ∙ ap (λ text. front ++ text) same in
-        let a : c.func.instance ≡ f.instance = instance ∙ sym lifted.instance in
-        let b : c.func.core ≡ f.core = core ∙ sym lifted.core in
-        let k : c.func.func_type ≡ f.func_type = type f.func_type lifted.func_type in
-        subst (λ (d : Definition). c ∷ [] ≡ func_called (front ++ e.0) d) (sym d)
-        (λ x. (let made : Callable = record { name = n x; func = record { instance = a x; core = b x; func_type = k x } } in made) ∷ [])
+entries_told : (t : Table) (w : World) (entries : List (ℕ × DefinitionRef)) (es : List (List ℕ × Definition)) → AllZip (IsEntry t w) entries es → AllZip (IsFuncEntry t) (func_entries entries) (flat_map func_of es)
+entries_told t w [] [] h = tt
+entries_told t w [] (e ∷ es) h = absurd h
+entries_told t w (entry ∷ entries) [] h = absurd h
+entries_told t w (entry ∷ entries) (e ∷ es) h =
+    zips_append (IsFuncEntry t) (option_to_list (func_entry entry)) (func_entries entries) (func_of e) (flat_map func_of es) (entry_told t w entry e h.0) (entries_told t w entries es h.1)
+
+pub funcs_told : (t : Table) (w : World) (entries : List (ℕ × DefinitionRef)) (exports : Exports) → IsListing t w entries exports → AreFuncs t (func_entries entries) exports
+funcs_told t w entries exports h = entries_told t w entries (listed exports) h
+
+-- one instance more whose functions are listed
+pub lists_grow : (t : Table) (instances : Instances) (old new : FuncLists) (i : InstanceRef) (entries : List (ℕ × LiftedRef)) → AreLists t instances old → Updates instance_cmp old.lists new.lists i (Some entries)
+    → ((w : World) (given : Exports) → AreInstances t w instances → IsInstance t w i given → AreFuncs t entries given) → AreLists t instances new
+lists_grow t instances old new i entries are puts told = λ other others found. by (is_eq (instance_cmp i other)) other others refl (sym (puts.0 other) ∙ found)
+  where
+    by : (same : Bool) → (other : InstanceRef) (others : List (ℕ × LiftedRef)) → is_eq (instance_cmp i other) ≡ same → cond same (Some entries) (listed_at old other) ≡ Some others
+        → (w : World) (given : Exports) → AreInstances t w instances → IsInstance t w other given → AreFuncs t others given
+    by true other others same found = λ w given h is.
+        let this : entries ≡ others = cc in
+        subst (λ (es : List (ℕ × LiftedRef)). AreFuncs t es given) this (told w given h (subst (λ (j : InstanceRef). IsInstance t w j given) (sym (instance_same i other same)) is))
+    by false other others same found = are other others found
+
+pub listed_there : (old new : FuncLists) (i : InstanceRef) (entries : List (ℕ × LiftedRef)) → Updates instance_cmp old.lists new.lists i (Some entries) → IsSome (listed_at new i)
+listed_there old new i entries puts = subst (λ (o : Option (List (ℕ × LiftedRef))). IsSome o) (sym puts.1) refl
+
+-- A function, as it can be called.
+pub func_made : (t : Table) (entry : ℕ × LiftedRef) (front text : List ℕ) (e : List ℕ × Lifted) (c : Callable)
+    → IsFuncEntry t entry e → slice_get t.texts entry.0 ≡ Some text
+    → c.name ≡ front ++ text → c.func.instance ≡ entry.1.instance → c.func.core ≡ entry.1.core → ((f : FuncType) → IsFunc t entry.1.func_type f → c.func.func_type ≡ f) → c ∷ [] ≡ named_behind front e
+func_made t entry front text e c (named, lifted) there name instance core type =
+    let same : text ≡ e.0 = (let both : Some text ≡ Some e.0 = sym there ∙ named in cc) in
+    let n : c.name ≡ front ++ e.0 = name ∙ ap (λ text. front ++ text) same in
+    let a : c.func.instance ≡ e.1.instance = instance ∙ sym lifted.instance in
+    let b : c.func.core ≡ e.1.core = core ∙ sym lifted.core in
+    let k : c.func.func_type ≡ e.1.func_type = type e.1.func_type lifted.func_type in
+    λ x. (let made : Callable = record { name = n x; func = record { instance = a x; core = b x; func_type = k x } } in made) ∷ []
+
+-- An export of the root that can be called.
+pub called_func : (t : Table) (w : World) (number : ℕ) (ref : DefinitionRef) (r : LiftedRef) (e : List ℕ × Definition) (funcs old : List Callable) → func_ref ref ≡ Some r → IsEntry t w (number, ref) e
+    → ((f : List ℕ × Lifted) → IsFuncEntry t (number, r) f → funcs ≡ old ++ named_behind [] f) → funcs ≡ old ++ called e
+called_func t w number ref r (name, d) funcs old is h told =
+    let p = is_func t w ref d r is h.1 in
+    subst (λ (d : Definition). funcs ≡ old ++ called (name, d)) (sym p.1) (told (name, p.0) (h.0, p.2))
 
 -- The graph of what is linked.
-pub graph_told : (k : Linker) (l : Linking) (funcs : List Callable) (g : Graph) → 0 < length k.scopes.items → state.Stands k l → (scope : Scope)
+pub graph_told : (k : Linker) (l : Linking) (funcs : List Callable) (g : Graph) → 0 < length k.scopes.items → IsLive k 0 → state.Stands k l → (scope : Scope)
     → ((bases : List Exports) (l : Linking) (s : Spaces) → IsAt bases k 0 l s → IsScope k.types (world_of bases k) scope s)
     → ((w : World) (given : Exports) → AreInstances k.types w k.instances → IsListing k.types w scope.exports given → funcs ≡ callables given)
     → g.plan ≡ k.plan.items → g.instance_count ≡ length k.scopes.items → g.cores ≡ k.cores.items → g.exports ≡ map export_of funcs → g.lifts ≡ map lift_of funcs → g ≡ graph_of l
-graph_told k l funcs g root (bases, h) scope is called plan count cores exports lifts =
-    let s = spaces_at bases k l 0 h root in
+graph_told k l funcs g root live (bases, h) scope is called plan count cores exports lifts =
+    let s = spaces_at bases k l 0 h root live in
     let here : exports_at l 0 ≡ s.0.exports = ap (λ (o : Option Spaces). exports_or o) s.1.there in
     let are : funcs ≡ callables (exports_at l 0) = called (world_of bases k) s.0.exports h.instances (is bases l s.0 s.1).exports ∙ ap callables (sym here) in
     let a : g.plan ≡ l.plan = plan ∙ sym h.plan in

@@ -5,6 +5,7 @@ use Rattle.comp_graph.specs.Closed.{Closed}
 use Rattle.comp_linking.specs.Definitions.{Lifted, Closure, Exports}
 use Rattle.comp_linking.specs.Spaces.{Spaces}
 use Rattle.type_tables.specs.declared.refs.TypeRef.{TypeRef}
+use Rattle.type_tables.specs.declared.refs.InstanceTypeRef.{InstanceTypeRef}
 use Rattle.type_tables.specs.Table.{Table, Grows, IsType}
 use Rattle.type_tables.proofs.TypesGrow.{func_stays, type_stays}
 use Rattle.instance_tables.specs.declared.references.InstanceRef.{InstanceRef}
@@ -13,10 +14,15 @@ use Rattle.instance_tables.specs.declared.pairs.Pair.{Pair}
 use Rattle.instance_tables.specs.declared.instances.Instances.{Instances}
 use Rattle.instance_tables.specs.References.{World, IsInstance, IsLifted, WorldStays}
 use Rattle.instance_tables.specs.Instances.{AreInstances}
-use Rattle.instance_tables.proofs.Growing.{instance_stays, listing_stays, bases_stay, known_stays}
+use Rattle.instance_tables.proofs.Growing.{instance_stays, listing_stays, bases_stay, known_stays, has_types_stays}
 use Rattle.comp_link.specs.declared.scope.Scope.{Scope}
-use Rattle.comp_link.specs.State.{IsClosure, IsModule, AreGiven, IsScope}
+use Rattle.type_meanings.specs.Levels.{IsClosure}
+use Rattle.comp_link.specs.State.{IsModule, AreGiven, IsScope, IsKept}
 use Rattle.comp_link.proofs.Zips.{zips_weaker}
+
+-- what is kept of a component instance that has not ended
+pub kept_whole : (t : Table) (w : World) (scope : Scope) (s : Spaces) → IsScope t w scope s → IsKept t w scope s
+kept_whole t w scope s h = record { types = h.types; components = h.components; whole = λ live. h }
 
 module _ (t u : Table) (v w : World) (types : Grows t u) (world : WorldStays v w) where
   lifted_stays : (ref : LiftedRef) (f : Lifted) → IsLifted t ref f → IsLifted u ref f
@@ -28,7 +34,7 @@ module _ (t u : Table) (v w : World) (types : Grows t u) (world : WorldStays v w
   given_stays (Some i) None h = absurd h
   given_stays (Some i) (Some exports) h = instance_stays t u v w types world i exports h
 
-  pub scope_stays : (scope : Scope) (s : Spaces) → IsScope t v scope s → IsScope u w scope s
+  scope_stays : (scope : Scope) (s : Spaces) → IsScope t v scope s → IsScope u w scope s
   scope_stays scope s h = record {
     core_modules = zips_weaker (IsModule v) (IsModule w) (λ (n : ℕ) (m : ModuleTree). world.modules n m) scope.core_modules.items s.core_modules h.core_modules;
     core_instances = h.core_instances;
@@ -36,7 +42,7 @@ module _ (t u : Table) (v w : World) (types : Grows t u) (world : WorldStays v w
     core_tables = h.core_tables;
     core_memories = h.core_memories;
     core_globals = h.core_globals;
-    components = zips_weaker (IsClosure v) (IsClosure w) (λ (n : ℕ) (c : Closure). world.components n c) scope.components.items s.components h.components;
+    components = zips_weaker (IsClosure v.components) (IsClosure w.components) (λ (n : ℕ) (c : Closure). world.components n c) scope.components.items s.components h.components;
     instances = zips_weaker (IsInstance t v) (IsInstance u w) (λ (i : InstanceRef) (exports : Exports). instance_stays t u v w types world i exports) scope.instances.items s.instances h.instances;
     funcs = zips_weaker (IsLifted t) (IsLifted u) lifted_stays scope.funcs.items s.funcs h.funcs;
     types = zips_weaker (IsType t) (IsType u) (λ (ref : TypeRef) (type : Closed). type_stays t u types ref type) scope.types.items s.types h.types;
@@ -47,8 +53,16 @@ module _ (t u : Table) (v w : World) (types : Grows t u) (world : WorldStays v w
     around = h.around;
   }
 
+  pub kept_stays : (scope : Scope) (s : Spaces) → IsKept t v scope s → IsKept u w scope s
+  kept_stays scope s h = record {
+    types = zips_weaker (IsType t) (IsType u) (λ (ref : TypeRef) (type : Closed). type_stays t u types ref type) scope.types.items s.types h.types;
+    components = zips_weaker (IsClosure v.components) (IsClosure w.components) (λ (n : ℕ) (c : Closure). world.components n c) scope.components.items s.components h.components;
+    whole = λ live. scope_stays scope s (h.whole live);
+  }
+
   pub instances_stay : (i : Instances) → w.bases ≡ v.bases → AreInstances t v i → AreInstances u w i
   instances_stay i same h = record {
     bases = bases_stay t u v w types world i.bases.items same h.bases;
     known = λ (p : Pair) has. known_stays t u v w types world p (h.known p has);
+    of_types = λ (type : InstanceTypeRef) base found. has_types_stays t u v w types world type base (h.of_types type base found);
   }

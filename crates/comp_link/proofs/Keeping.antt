@@ -26,6 +26,7 @@ use Rattle.comp_linking.specs.Laws.{IsOutcome}
 use Rattle.comp_linking.proofs.Outcomes.{outcome_computed}
 use Rattle.comp_linking.proofs.Lengths.{begun_length, instance_length_same}
 use Rattle.comp_link.specs.Running.{inside}
+use Rattle.comp_link.proofs.Zips.{other_kept}
 
 -- The spaces that one item writes are those of its component instance.
 abbrev IsSet : Linking → ℕ → Linking → Type 0
@@ -60,13 +61,6 @@ case_sets l n s (Item-F.Import i) new (extern, d, is, fresh, imported, e) = set_
 case_sets l n s (Item-F.Export x) new (d, y, is, fresh, exported, e) = set_by l n _ new e
 
 -- What stands elsewhere stays.
-other_kept : {A : Type 0} (xs : List A) (n k : ℕ) (x : A) → (k ≡ n → ⊥) → slice_get (set xs n x) k ≡ slice_get xs k
-other_kept [] n k x apart = refl
-other_kept (y ∷ xs) zero zero x apart = absurd (apart refl)
-other_kept (y ∷ xs) zero (suc k) x apart = refl
-other_kept (y ∷ xs) (suc n) zero x apart = refl
-other_kept (y ∷ xs) (suc n) (suc k) x apart = other_kept xs n k x (λ e. apart (ap suc e))
-
 before_kept : {A : Type 0} (xs ys : List A) (k : ℕ) → k < length xs → slice_get (xs ++ ys) k ≡ slice_get xs k
 before_kept [] ys k h = absurd (omega arith)
 before_kept (x ∷ xs) ys zero h = refl

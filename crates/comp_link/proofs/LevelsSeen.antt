@@ -12,7 +12,7 @@ use Rattle.type_meanings.specs.Meant as meant
 use Rattle.type_meanings.specs.Levels.{IsLevel, AreLevels}
 use Rattle.type_meanings.specs.Levels as levels
 use Rattle.comp_link.specs.declared.scope.Scope.{Scope}
-use Rattle.comp_link.specs.State.{IsScope}
+use Rattle.comp_link.specs.State.{IsKept}
 use Rattle.comp_link.proofs.Zips.{zips_more}
 
 -- what stands beside one another has a meaning
@@ -22,7 +22,7 @@ all_there R [] (y ∷ ys) h = absurd h
 all_there R (x ∷ xs) [] h = absurd h
 all_there R (x ∷ xs) (y ∷ ys) h = ((y, refl, h.0), all_there R xs ys h.1)
 
-level_seen : (t : Table) (w : World) (scope : Scope) (s : Spaces) (level : Level) → level.types.now ≡ scope.types.items → level.components.now ≡ scope.components.items → IsScope t w scope s → IsLevel t w.components level (level_of s)
+level_seen : (t : Table) (w : World) (scope : Scope) (s : Spaces) (level : Level) → level.types.now ≡ scope.types.items → level.components.now ≡ scope.components.items → IsKept t w scope s → IsLevel t w.components level (level_of s)
 level_seen t w scope s level types components h = record {
   types = rw types (all_there (IsType t) scope.types.items s.types h.types);
   components = rw components (all_there (levels.IsClosure w.components) scope.components.items s.components h.components);
@@ -43,7 +43,7 @@ module _ (t : Table) (w : World) (l : Linking) (levels : List Level) (numbers : 
       subst (λ (ls : List spaces.Level). AreLevels t w.components levels ls) (sym same) are
 
   -- one that has
-  pub level_more : (scope : Scope) (s : Spaces) (level : Level) → slice_get l.scopes number ≡ Some s → IsScope t w scope s
+  pub level_more : (scope : Scope) (s : Spaces) (level : Level) → slice_get l.scopes number ≡ Some s → IsKept t w scope s
       → level.types.now ≡ scope.types.items → level.components.now ≡ scope.components.items → AreLevels t w.components (levels ++ level ∷ []) (levels_at l (numbers ++ number ∷ []))
   level_more scope s level there h types components =
       let same : levels_at l (numbers ++ number ∷ []) ≡ levels_at l numbers ++ level_of s ∷ [] = more_levels l numbers number ∙ rw there refl in

@@ -12,7 +12,6 @@ pub mod SortsTold
 pub mod States
 pub mod Steps
 pub mod Told
-pub mod TypesAsked
 pub mod Wanting
 mod Whole
 pub mod Zips

@@ -17,7 +17,7 @@ use Rattle.comp_linking.specs.Computed.{Outcome, Starts, one_more, after, there_
 use Rattle.comp_linking.proofs.Telling.{distinct_told}
 use Rattle.comp_link.specs.declared.linker.Linker.{Linker}
 use Rattle.comp_link.specs.Told.{IsReason}
-use Rattle.comp_link.proofs.Loops.{drop_at, drop_past}
+use Rattle.instance_tables.proofs.Places.{drop_at, drop_past}
 
 -- a reason before others
 pub reason_after : (A B : Type 0) (e : MemoryOr LinkWhy) (x : Result A LinkWhy) (f : A → Result B LinkWhy) → IsReason e x → IsReason e (after x f)

@@ -1,6 +1,6 @@
 -- What is told of items that are gone through.
 use Rattle.std.proofs.Common.{◌≡◌, ◌<◌, ◌≤◌, ◌+◌, ℕ, zero, suc, List, [], ◌∷◌, length, drop, get_or, Bor, refl, sym, ◌∙◌, ap, subst, arith, Option, Some}
-use Rattle.std.specs.Prelude.{Result, Ok, Err}
+use Rattle.std.specs.Prelude.{Result, Ok, Err, OnOk}
 use Rattle.std.specs.List.{slice_get}
 use Rattle.std.proofs.lemmas.List.{drop_more, drop_all}
 use Rattle.std.proofs.lemmas.Slice.Zip.{AllZip-long}
@@ -21,7 +21,7 @@ use Rattle.instance_tables.specs.declared.references.InstanceRef.{InstanceRef}
 use Rattle.comp_link.specs.declared.linker.Linker.{Linker}
 use Rattle.comp_link.specs.declared.instances.Next.{Next}
 use Rattle.comp_link.specs.declared.instances.Next.TheVariants as next
-use Rattle.comp_link.specs.State.{world_of, IsScope, IsState, Stands, IsAt, IsMade}
+use Rattle.comp_link.specs.State.{world_of, IsKept, IsLive, IsState, Stands, IsAt, IsMade}
 use Rattle.comp_link.specs.Told.{IsReason, IsTold}
 use Rattle.comp_link.specs.Next.{IsNext}
 use Rattle.comp_link.specs.Running.{inside, placed_error, next_of}
@@ -33,6 +33,11 @@ done = Ok tt
 
 abbrev pub comes : Next → Result Next (MemoryOr LinkWhy)
 comes x = Ok x
+
+-- what follows from what is said where a call goes on
+pub on_ok : {X E P Q : Type 0} (r : Result X E) → (P → Q) → OnOk r P → OnOk r Q
+on_ok (Ok x) f h = f h
+on_ok (Err e) f h = tt
 
 -- What is refused stays refused behind it, and at its place.
 pub reason_after : {A B W : Type 0} (e : MemoryOr W) (r : Result A W) (f : A → Result B W) → IsReason e r → IsReason e (after r f)
@@ -65,13 +70,13 @@ there_at (x ∷ xs) zero h = (x, refl)
 there_at (x ∷ xs) (suc n) h = there_at xs n (omega arith)
 
 pub as_many : (bases : List Exports) (k : Linker) (l : Linking) → IsState bases k l → length l.scopes ≡ length k.scopes.items
-as_many bases k l h = AllZip-long (IsScope k.types (world_of bases k)) k.scopes.items l.scopes h.scopes
+as_many bases k l h = AllZip-long (IsKept k.types (world_of bases k)) k.scopes.items l.scopes h.scopes
 
-pub spaces_at : (bases : List Exports) (k : Linker) (l : Linking) (n : ℕ) → IsState bases k l → n < length k.scopes.items → (s : Spaces) × IsAt bases k n l s
-spaces_at bases k l n h within =
+pub spaces_at : (bases : List Exports) (k : Linker) (l : Linking) (n : ℕ) → IsState bases k l → n < length k.scopes.items → IsLive k n → (s : Spaces) × IsAt bases k n l s
+spaces_at bases k l n h within live =
     let same = as_many bases k l h in
     let s = there_at l.scopes n (omega (arith, same, within)) in
-    (s.0, record { state = h; there = s.1 })
+    (s.0, record { state = h; there = s.1; live = live })
 
 -- One item.
 
@@ -81,14 +86,14 @@ module _ (within : Run) (k : Linker) (l : Linking) (n : ℕ) (s : Spaces) (place
   placed_made (Ok (Starts c given)) h = absurd h
   placed_made (Err w) h = absurd h
 
-  pub placed_begins : (new : Linker) (answer : Result (Unit {0}) (MemoryOr LinkFault)) (component : Bor Component) (around : List ℕ) (arguments : InstanceRef) → slice_get l.scopes n ≡ Some s
+  pub placed_begins : (new : Linker) (answer : Result (Unit {0}) (MemoryOr LinkFault)) (component : Bor Component) (around : List ℕ) (arguments : InstanceRef) → slice_get l.scopes n ≡ Some s → IsLive k n
       → ((bases : List Exports) (given : Exports) → IsAt bases k n l s → IsInstance k.types (world_of bases k) arguments given
       → IsTold (λ _ next. Stands new next) answer (after (within (begun l (record { items = component.now.items; around = around }) given) (length l.scopes) component.now.items) (λ inner. Ok (with_instance inner n s (length l.scopes)))))
       → (r : Result Outcome LinkWhy) → IsTold (IsNext k l) (comes (next.Begins component around arguments)) r → IsTold (λ _ next. Stands new next) answer (after (placed_at place r) (behind within l n s))
-  placed_begins new answer component around arguments there nested (Ok (Makes made)) h = absurd h
-  placed_begins new answer component around arguments there nested (Ok (Starts c given)) (same, (bases, state, instance)) =
-      subst (λ (c : Closure). IsTold (λ _ next. Stands new next) answer (behind within l n s (Starts c given))) (sym same) (nested bases given (record { state = state; there = there }) instance)
-  placed_begins new answer component around arguments there nested (Err w) h = absurd h
+  placed_begins new answer component around arguments there live nested (Ok (Makes made)) h = absurd h
+  placed_begins new answer component around arguments there live nested (Ok (Starts c given)) (same, (bases, state, instance)) =
+      subst (λ (c : Closure). IsTold (λ _ next. Stands new next) answer (behind within l n s (Starts c given))) (sym same) (nested bases given (record { state = state; there = there; live = live }) instance)
+  placed_begins new answer component around arguments there live nested (Err w) h = absurd h
 
 pub placed_refused : (within : Run) (k : Linker) (l : Linking) (n : ℕ) (s : Spaces) (place : ℕ) (e : MemoryOr LinkWhy) (r : Result Outcome LinkWhy) → IsReason e r → IsReason (placed_error place e) (after (placed_at place r) (behind within l n s))
 placed_refused within k l n s place e r h = reason_after (placed_error place e) (placed_at place r) (behind within l n s) (reason_placed place e r h)
@@ -96,11 +101,11 @@ placed_refused within k l n s place e r h = reason_after (placed_error place e) 
 -- The items of a component that begins, and its instance.
 
 module _ (depth : ℕ) (l : Linking) (n : ℕ) (s : Spaces) (c : Closure) (given : Exports) (mid new : Linker) where
-  pub nested_told : slice_get l.scopes n ≡ Some s → n < length l.scopes → (instance : ℕ) → instance ≡ length l.scopes
+  pub nested_told : slice_get l.scopes n ≡ Some s → IsLive mid n → n < length l.scopes → (instance : ℕ) → instance ≡ length l.scopes
       → IsTold (λ _ last. Stands mid last) done (inside depth (begun l c given) instance c.items)
       → ((bases : List Exports) (last : Linking) → IsAt bases mid n last s → Stands new (with_instance last n s instance))
       → IsTold (λ _ next. Stands new next) done (after (inside depth (begun l c given) (length l.scopes) c.items) (λ inner. Ok (with_instance inner n s (length l.scopes))))
-  nested_told there below instance is told ends =
+  nested_told there live below instance is told ends =
       by (inside depth (begun l c given) (length l.scopes) c.items) refl
       (subst (λ (m : ℕ). IsTold (λ _ last. Stands mid last) done (inside depth (begun l c given) m c.items)) is told)
     where
@@ -108,7 +113,7 @@ module _ (depth : ℕ) (l : Linking) (n : ℕ) (s : Spaces) (c : Closure) (given
           → IsTold (λ _ next. Stands new next) done (after r (λ inner. Ok (with_instance inner n s (length l.scopes))))
       by (Ok inner) e (bases, state) =
           subst (λ (m : ℕ). Stands new (with_instance inner n s m)) is
-          (ends bases inner (record { state = state; there = maker_stays depth l n s c given c.items inner there below e }))
+          (ends bases inner (record { state = state; there = maker_stays depth l n s c given c.items inner there below e; live = live }))
       by (Err fault) e h = absurd h
 
   pub nested_refused : (instance : ℕ) → instance ≡ length l.scopes → (e : MemoryOr LinkFault) → IsReason e (inside depth (begun l c given) instance c.items)
@@ -130,7 +135,7 @@ Goes depth n first items rest k = (last : Linking) × Stands k last × (run_with
 pub goes_first : (depth n : ℕ) (first : Linking) (items : List (Placed Item)) (bases : List Exports) (k : Linker) → IsState bases k first → Goes depth n first items (drop 0 items) k
 goes_first depth n first items bases k h = (first, (bases, h), refl)
 
-module _ (depth n : ℕ) (first : Linking) (items : List (Placed Item)) (at : ℕ) (placed : Placed Item) (within : at < length items) (is : placed ≡ get_or items at placed) (old : Linker) (here : n < length old.scopes.items) where
+module _ (depth n : ℕ) (first : Linking) (items : List (Placed Item)) (at : ℕ) (placed : Placed Item) (within : at < length items) (is : placed ≡ get_or items at placed) (old : Linker) (here : n < length old.scopes.items) (live : IsLive old n) where
   left : (last : Linking) (s : Spaces) → slice_get last.scopes n ≡ Some s → run_within depth first n items ≡ run_within depth last n (drop at items)
       → run_within depth first n items ≡ after (step (inside depth) last n placed (Some s)) (λ next. run (inside depth) next n (drop (at + 1) items))
   left last s there e =
@@ -142,7 +147,7 @@ module _ (depth n : ℕ) (first : Linking) (items : List (Placed Item)) (at : �
       → ((bases : List Exports) (l : Linking) (s : Spaces) → IsAt bases old n l s → IsTold (λ _ next. Stands new next) done (step (inside depth) l n placed (Some s)))
       → Goes depth n first items (drop (at + 1) items) new
   goes_on new (last, (bases, state), e) told =
-      let s = spaces_at bases old last n state here in
+      let s = spaces_at bases old last n state here live in
       by s.0 s.1.there (step (inside depth) last n placed (Some s.0)) refl (told bases last s.0 s.1)
     where
       by : (s : Spaces) → slice_get last.scopes n ≡ Some s → (r : Result Linking LinkFault) → step (inside depth) last n placed (Some s) ≡ r
@@ -155,7 +160,7 @@ module _ (depth n : ℕ) (first : Linking) (items : List (Placed Item)) (at : �
       → ((bases : List Exports) (l : Linking) (s : Spaces) → IsAt bases old n l s → IsReason e (step (inside depth) l n placed (Some s)))
       → IsReason e (run_within depth first n items)
   goes_wrong error (last, (bases, state), e) told =
-      let s = spaces_at bases old last n state here in
+      let s = spaces_at bases old last n state here live in
       subst (λ (r : Result Linking LinkFault). IsReason error r) (sym (left last s.0 s.1.there e))
       (reason_after error (step (inside depth) last n placed (Some s.0)) (λ next. run (inside depth) next n (drop (at + 1) items)) (told bases last s.0 s.1))
 

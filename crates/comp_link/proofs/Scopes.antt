@@ -11,7 +11,8 @@ use Rattle.instance_tables.specs.declared.references.DefinitionRef.{DefinitionRe
 use Rattle.instance_tables.specs.declared.references.DefinitionRef.TheVariants as definition_ref
 use Rattle.instance_tables.specs.References.{World, IsInstance, IsLifted, Stands, listed, IsEntry, IsListing}
 use Rattle.comp_link.specs.declared.scope.Scope.{Scope}
-use Rattle.comp_link.specs.State.{IsClosure, IsModule, IsScope}
+use Rattle.type_meanings.specs.Levels.{IsClosure}
+use Rattle.comp_link.specs.State.{IsModule, IsScope}
 use Rattle.comp_link.proofs.Zips.{zips_more}
 
 -- one export more
@@ -75,7 +76,7 @@ module _ (t : Table) (w : World) (a b : Scope) (s : Spaces) (h : IsScope t w a s
     core_tables = h.core_tables;
     core_memories = h.core_memories;
     core_globals = h.core_globals;
-    components = subst (λ (items : List ℕ). AllZip (IsClosure w) items (s.components ++ x ∷ [])) (sym is) (zips_more (IsClosure w) a.components.items s.components ref x h.components stands);
+    components = subst (λ (items : List ℕ). AllZip (IsClosure w.components) items (s.components ++ x ∷ [])) (sym is) (zips_more (IsClosure w.components) a.components.items s.components ref x h.components stands);
     instances = h.instances;
     funcs = h.funcs;
     types = h.types;

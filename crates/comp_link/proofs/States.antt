@@ -1,7 +1,10 @@
 -- Linkers that have grown.
-use Rattle.std.proofs.Common.{◌≡◌, ◌<◌, ℕ, List, [], ◌∷◌, ◌++◌, length, refl, sym, ap, subst, ◌∙◌}
+use Rattle.std.proofs.Common.{◌≡◌, ◌<◌, ℕ, Bool, true, false, List, [], ◌∷◌, ◌++◌, length, map, set, Some, refl, sym, ap, subst, ◌∙◌, inl, inr}
 use Rattle.std.specs.Prelude.{get_or}
-use Rattle.std.specs.List.{AllZip}
+use Rattle.std.specs.List.{slice_get, AllZip}
+use Rattle.std.specs.Option.{option_map}
+use Rattle.std.proofs.lemmas.Option.{slice_get_read, slice_get-map}
+use Rattle.std.proofs.lemmas.List.{length-map}
 use Rattle.std.specs.Vec.{with_item}
 use Rattle.wasm_module.specs.declared.module.ModuleTree.{ModuleTree}
 use Rattle.comp_linking.specs.Definitions.{Closure, Exports}
@@ -9,14 +12,15 @@ use Rattle.comp_linking.specs.Spaces.{Spaces, Linking, with_spaces}
 use Rattle.comp_linking.specs.Linked.{exports_at}
 use Rattle.type_tables.specs.Table.{Grows}
 use Rattle.type_tables.proofs.TypesGrow.{grows_refl}
+use Rattle.instance_tables.specs.declared.references.InstanceRef.{InstanceRef}
 use Rattle.instance_tables.specs.References.{World, Stays, WorldStays, with_base, IsListing}
-use Rattle.instance_tables.specs.Instances.{AreInstances}
+use Rattle.instance_tables.specs.Instances.{AreInstances, GivesInstance}
 use Rattle.instance_tables.proofs.Growing.{more_bases, stays_before}
 use Rattle.comp_link.specs.declared.scope.Scope.{Scope}
 use Rattle.comp_link.specs.declared.linker.Linker.{Linker}
-use Rattle.comp_link.specs.State.{world_of, IsScope, IsState, IsAt}
-use Rattle.comp_link.proofs.Zips.{zips_weaker, zips_set, zips_there, zips_read}
-use Rattle.comp_link.proofs.Growth.{scope_stays, instances_stay}
+use Rattle.comp_link.specs.State.{world_of, IsScope, IsKept, ended, IsLive, IsState, IsAt, IsThere}
+use Rattle.comp_link.proofs.Zips.{zips_weaker, zips_set, zips_reset, other_kept, map_set, zips_there, zips_read, last_is}
+use Rattle.comp_link.proofs.Growth.{kept_whole, kept_stays, instances_stay}
 
 pub same_world : (w : World) → WorldStays w w
 same_world w = record { components = λ number x h. h; bases = λ number x h. h; modules = λ number x h. h }
@@ -27,8 +31,8 @@ pub state_stays : (bases more : List Exports) (k m : Linker) (l : Linking)
     → m.scopes ≡ k.scopes → m.cores ≡ k.cores → m.plan ≡ k.plan → IsState bases k l → IsState more m l
 state_stays bases more k m l types world instances scopes cores plan h = record {
   instances = instances;
-  scopes = subst (λ (v : Linker). AllZip (IsScope m.types (world_of more m)) v.scopes.items l.scopes) (ap (λ scopes. record k { scopes = scopes }) (sym scopes))
-      (zips_weaker (IsScope k.types (world_of bases k)) (IsScope m.types (world_of more m)) (scope_stays k.types m.types (world_of bases k) (world_of more m) types world) k.scopes.items l.scopes h.scopes);
+  scopes = subst (λ (v : Linker). AllZip (IsKept m.types (world_of more m)) v.scopes.items l.scopes) (ap (λ scopes. record k { scopes = scopes }) (sym scopes))
+      (zips_weaker (IsKept k.types (world_of bases k)) (IsKept m.types (world_of more m)) (kept_stays k.types m.types (world_of bases k) (world_of more m) types world) k.scopes.items l.scopes h.scopes);
   cores = h.cores ∙ ap (λ cores. cores.items) (sym cores);
   plan = h.plan ∙ ap (λ plan. plan.items) (sym plan);
 }
@@ -40,13 +44,33 @@ types_grow bases k m l grows same h = subst (λ (v : Linker). IsState bases v l)
     grown : IsState bases (record k { types = m.types }) l
     grown = record {
       instances = instances_stay k.types m.types (world_of bases k) (world_of bases k) grows (same_world (world_of bases k)) k.instances refl h.instances;
-      scopes = zips_weaker (IsScope k.types (world_of bases k)) (IsScope m.types (world_of bases k)) (scope_stays k.types m.types (world_of bases k) (world_of bases k) grows (same_world (world_of bases k))) k.scopes.items l.scopes h.scopes;
+      scopes = zips_weaker (IsKept k.types (world_of bases k)) (IsKept m.types (world_of bases k)) (kept_stays k.types m.types (world_of bases k) (world_of bases k) grows (same_world (world_of bases k))) k.scopes.items l.scopes h.scopes;
       cores = h.cores;
       plan = h.plan;
     }
 
 pub at_grows : (bases : List Exports) (k m : Linker) (n : ℕ) (l : Linking) (s : Spaces) → Grows k.types m.types → m ≡ record k { types = m.types } → IsAt bases k n l s → IsAt bases m n l s
-at_grows bases k m n l s grows same at = record { state = types_grow bases k m l grows same at.state; there = at.there }
+at_grows bases k m n l s grows same at = record { state = types_grow bases k m l grows same at.state; there = at.there; live = subst (λ (v : Linker). IsLive v n) (sym same) at.live }
+
+-- What is live, and what is kept of it.
+
+pub live_same : (k m : Linker) (n : ℕ) → ended m ≡ ended k → IsLive k n → IsLive m n
+live_same k m n same h = subst (λ (bs : List Bool). slice_get bs n ≡ Some false) (sym same) h
+
+pub live_scopes : (k m : Linker) (n : ℕ) → m.scopes ≡ k.scopes → IsLive k n → IsLive m n
+live_scopes k m n same h = live_same k m n (ap (λ scopes. map (λ (scope : Scope). scope.ended) scopes.items) same) h
+
+live_is : (k : Linker) (n : ℕ) (scope : Scope) → scope ≡ get_or k.scopes.items n scope → n < length k.scopes.items → IsLive k n → scope.ended ≡ false
+live_is k n scope is within live =
+    let there = slice_get_read k.scopes.items (length k.scopes.items) n scope refl within is in
+    let told : slice_get (ended k) n ≡ Some scope.ended = slice_get-map (λ (scope : Scope). scope.ended) k.scopes.items n ∙ ap (option_map (λ (scope : Scope). scope.ended)) there in
+    let both : Some scope.ended ≡ Some false = sym told ∙ live in
+    cc
+
+pub scope_is : (bases : List Exports) (k : Linker) (n : ℕ) (l : Linking) (s : Spaces) (scope : Scope)
+    → scope ≡ get_or k.scopes.items n scope → n < length k.scopes.items → IsAt bases k n l s → IsScope k.types (world_of bases k) scope s
+scope_is bases k n l s scope is within at =
+    (zips_read (IsKept k.types (world_of bases k)) k.scopes.items l.scopes n scope s is within at.state.scopes at.there).whole (live_is k n scope is within at.live)
 
 -- other index spaces of one component instance
 pub scope_set : (bases : List Exports) (k : Linker) (n : ℕ) (l : Linking) (s next : Spaces) (old new : Scope)
@@ -55,20 +79,49 @@ pub scope_set : (bases : List Exports) (k : Linker) (n : ℕ) (l : Linking) (s n
     → IsAt bases k n l s → IsState bases (record k { scopes = with_item k.scopes n new }) (with_spaces l n next)
 scope_set bases k n l s next old new is within becomes at = record {
   instances = at.state.instances;
-  scopes = zips_set (IsScope k.types (world_of bases k)) k.scopes.items l.scopes n new next at.state.scopes
-      (becomes (zips_read (IsScope k.types (world_of bases k)) k.scopes.items l.scopes n old s is within at.state.scopes at.there));
+  scopes = zips_set (IsKept k.types (world_of bases k)) k.scopes.items l.scopes n new next at.state.scopes
+      (kept_whole k.types (world_of bases k) new next (becomes (scope_is bases k n l s old is within at)));
   cores = at.state.cores;
   plan = at.state.plan;
 }
 
-pub scope_is : (bases : List Exports) (k : Linker) (n : ℕ) (l : Linking) (s : Spaces) (scope : Scope)
-    → scope ≡ get_or k.scopes.items n scope → n < length k.scopes.items → IsAt bases k n l s → IsScope k.types (world_of bases k) scope s
-scope_is bases k n l s scope is within at = zips_read (IsScope k.types (world_of bases k)) k.scopes.items l.scopes n scope s is within at.state.scopes at.there
+pub ended_set : (k : Linker) (n : ℕ) (old new : Scope) → old ≡ get_or k.scopes.items n old → n < length k.scopes.items → new.ended ≡ old.ended → ended (record k { scopes = with_item k.scopes n new }) ≡ ended k
+ended_set k n old new is within same = map_set (λ (scope : Scope). scope.ended) k.scopes.items n old new is within same
+
+-- one component instance that ends
+pub scope_ended : (bases : List Exports) (k : Linker) (n : ℕ) (l : Linking) (old new : Scope) → old ≡ get_or k.scopes.items n old → n < length k.scopes.items
+    → new.types ≡ old.types → new.components ≡ old.components → new.ended ≡ true → IsState bases k l → IsState bases (record k { scopes = with_item k.scopes n new }) l
+scope_ended bases k n l old new is within types components over h = record {
+  instances = h.instances;
+  scopes = zips_reset (IsKept k.types (world_of bases k)) k.scopes.items l.scopes n new h.scopes (λ s there. kept s (zips_read (IsKept k.types (world_of bases k)) k.scopes.items l.scopes n old s is within h.scopes there));
+  cores = h.cores;
+  plan = h.plan;
+}
+  where
+    kept : (s : Spaces) → IsKept k.types (world_of bases k) old s → IsKept k.types (world_of bases k) new s
+    kept s h = record {
+      types = rw types h.types;
+      components = rw components h.components;
+      whole = λ live. (let no : false ≡ true = sym live ∙ over in cc);
+    }
+
+pub others_live : (k : Linker) (n : ℕ) (new : Scope) (m : ℕ) → (m ≡ n → ⊥) → IsLive k m → IsLive (record k { scopes = with_item k.scopes n new }) m
+others_live k n new m apart live =
+    slice_get-map (λ (scope : Scope). scope.ended) (set k.scopes.items n new) m
+    ∙ ap (option_map (λ (scope : Scope). scope.ended)) (other_kept k.scopes.items n m new apart)
+    ∙ sym (slice_get-map (λ (scope : Scope). scope.ended) k.scopes.items m) ∙ live
+
+-- one that begins
+pub before_live : (k m : Linker) (n : ℕ) → ended m ≡ ended k ++ false ∷ [] → IsLive k n → IsLive m n
+before_live k m n more live = subst (λ (bs : List Bool). slice_get bs n ≡ Some false) (sym more) (stays_before (ended k) (false ∷ []) n false live)
+
+pub last_live : (k m : Linker) (n : ℕ) → ended m ≡ ended k ++ false ∷ [] → n ≡ length k.scopes.items → IsLive m n
+last_live k m n more is = last_is (ended k) (ended m) false n more (is ∙ sym (length-map k.scopes.items (λ (scope : Scope). scope.ended)))
 
 -- more components, and more core modules
 pub components_more : (bases : List Exports) (k m : Linker) (n : ℕ) (l : Linking) (s : Spaces) (c : Closure)
     → m ≡ record k { components = m.components } → m.components.items ≡ k.components.items ++ c ∷ [] → IsAt bases k n l s → IsAt bases m n l s
-components_more bases k m n l s c same is at = subst (λ (v : Linker). IsAt bases v n l s) (sym same) (record { state = state; there = at.there })
+components_more bases k m n l s c same is at = subst (λ (v : Linker). IsAt bases v n l s) (sym same) (record { state = state; there = at.there; live = at.live })
   where
     world : World
     world = record { components = m.components.items; bases = bases; modules = k.modules.items }
@@ -85,7 +138,7 @@ components_more bases k m n l s c same is at = subst (λ (v : Linker). IsAt base
 
 pub modules_more : (bases : List Exports) (k m : Linker) (n : ℕ) (l : Linking) (s : Spaces) (made : ModuleTree)
     → m ≡ record k { modules = m.modules } → m.modules.items ≡ k.modules.items ++ made ∷ [] → IsAt bases k n l s → IsAt bases m n l s
-modules_more bases k m n l s made same is at = subst (λ (v : Linker). IsAt bases v n l s) (sym same) (record { state = state; there = at.there })
+modules_more bases k m n l s made same is at = subst (λ (v : Linker). IsAt bases v n l s) (sym same) (record { state = state; there = at.there; live = at.live })
   where
     world : World
     world = record { components = k.components.items; bases = bases; modules = m.modules.items }
@@ -106,9 +159,22 @@ pub instance_more : (bases : List Exports) (k m : Linker) (l : Linking) (exports
 instance_more bases k m l exports same instances h = subst (λ (v : Linker). IsState (bases ++ exports ∷ []) v l) (sym same)
     (state_stays bases (bases ++ exports ∷ []) k (record k { instances = m.instances }) l (grows_refl k.types) (more_bases (world_of bases k) exports) instances refl refl refl h)
 
+-- an instance that was there, or is one more
+pub instance_given : (bases : List Exports) (k m : Linker) (l : Linking) (i : InstanceRef) (exports : Exports)
+    → m ≡ record k { instances = m.instances } → GivesInstance k.types (world_of bases k) m.instances i exports → IsState bases k l → IsThere m l i exports
+instance_given bases k m l i exports same gives h = subst (λ (v : Linker). IsThere v l i exports) (sym same) (by gives)
+  where
+    by : GivesInstance k.types (world_of bases k) m.instances i exports → IsThere (record k { instances = m.instances }) l i exports
+    by (inl has) = record { bases = bases; state = record { instances = has.are; scopes = h.scopes; cores = h.cores; plan = h.plan }; instance = has.is }
+    by (inr has) = record {
+      bases = bases ++ exports ∷ [];
+      state = instance_more bases k (record k { instances = m.instances }) l exports refl has.are h;
+      instance = has.is;
+    }
+
 -- the exports of a component instance
 pub exports_are : (bases : List Exports) (k : Linker) (n : ℕ) (l : Linking) (scope : Scope)
-    → scope ≡ get_or k.scopes.items n scope → n < length k.scopes.items → IsState bases k l → IsListing k.types (world_of bases k) scope.exports (exports_at l n)
-exports_are bases k n l scope is within h =
-    let p = zips_there (IsScope k.types (world_of bases k)) k.scopes.items l.scopes n scope is within h.scopes in
-    rw p.1 p.2.exports
+    → scope ≡ get_or k.scopes.items n scope → n < length k.scopes.items → IsLive k n → IsState bases k l → IsListing k.types (world_of bases k) scope.exports (exports_at l n)
+exports_are bases k n l scope is within live h =
+    let p = zips_there (IsKept k.types (world_of bases k)) k.scopes.items l.scopes n scope is within h.scopes in
+    rw p.1 (p.2.whole (live_is k n scope is within live)).exports

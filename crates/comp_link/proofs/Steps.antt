@@ -16,7 +16,8 @@ use Rattle.instance_tables.specs.declared.references.DefinitionRef.{DefinitionRe
 use Rattle.type_tables.specs.Table.{Table}
 use Rattle.instance_tables.specs.References.{World, IsInstance, Stands, IsFound}
 use Rattle.comp_link.specs.declared.linker.Linker.{Linker}
-use Rattle.comp_link.specs.State.{world_of, AreGiven, IsAt, IsFoundAs, IsMade}
+use Rattle.type_meanings.specs.Meant.{IsFoundAs}
+use Rattle.comp_link.specs.State.{world_of, AreGiven, IsAt, IsLive, IsMade}
 use Rattle.comp_link.specs.Told.{IsReason, IsTold}
 use Rattle.comp_link.specs.Ready.{IsReady}
 
@@ -47,11 +48,11 @@ some_found R o b found is h = subst (λ o. IsFoundAs R o found) is h
 
 -- A definition that is ready is added.
 pub added : (k new : Linker) (n : ℕ) (l : Linking) (s : Spaces) (make : Definition → Outcome) (ref : DefinitionRef) (outcome : Outcome)
-    → IsReady k l make ref outcome → slice_get l.scopes n ≡ Some s
+    → IsReady k l make ref outcome → slice_get l.scopes n ≡ Some s → IsLive k n
     → ((bases : List Exports) (d : Definition) → IsAt bases k n l s → Stands k.types (world_of bases k) ref d → IsMade new (make d))
     → IsMade new outcome
-added k new n l s make ref outcome ready there adds =
-    subst (λ o. IsMade new o) (sym ready.makes) (adds ready.bases ready.definition (record { state = ready.state; there = there }) ready.stands)
+added k new n l s make ref outcome ready there live adds =
+    subst (λ o. IsMade new o) (sym ready.makes) (adds ready.bases ready.definition (record { state = ready.state; there = there; live = live }) ready.stands)
 
 -- what is found under a name
 pub none_named : (t : Table) (w : World) (o : Option DefinitionRef) (found : Option Definition) → o ≡ None → IsFound t w o found → found ≡ None
@@ -72,12 +73,12 @@ outcome_ready k l make ref x o is h = subst (λ (r : Result Outcome LinkWhy). Is
 
 -- an item whose definition is ready is linked by adding it
 pub linked_by : (k new : Linker) (n : ℕ) (l : Linking) (s : Spaces) (make : Definition → Outcome) (result : Result DefinitionRef (MemoryOr LinkWhy)) (ref : DefinitionRef) (x : Result Outcome LinkWhy)
-    → result ≡ Ok ref → IsTold (IsReady k l make) result x → slice_get l.scopes n ≡ Some s
+    → result ≡ Ok ref → IsTold (IsReady k l make) result x → slice_get l.scopes n ≡ Some s → IsLive k n
     → ((bases : List Exports) (d : Definition) → IsAt bases k n l s → Stands k.types (world_of bases k) ref d → IsMade new (make d))
     → IsTold {B = Unit {0}} (λ _ outcome. IsMade new outcome) (Ok tt) x
-linked_by k new n l s make result ref x is told there adds =
+linked_by k new n l s make result ref x is told there live adds =
     let ok = told_ok (IsReady k l make) result ref x is told in
-    subst (λ (r : Result Outcome LinkWhy). IsTold {B = Unit {0}} (λ _ outcome. IsMade new outcome) (Ok tt) r) (sym ok.1) (added k new n l s make ref ok.0 ok.2 there adds)
+    subst (λ (r : Result Outcome LinkWhy). IsTold {B = Unit {0}} (λ _ outcome. IsMade new outcome) (Ok tt) r) (sym ok.1) (added k new n l s make ref ok.0 ok.2 there live adds)
 
 -- whether a name is among others, as it is asked
 pub among_is : (text name : List ℕ) (names own : List (List ℕ)) (result b : Bool) → text ≡ name → own ≡ names → result ≡ is_among text names → result ≡ b → is_among name own ≡ b

@@ -1,5 +1,5 @@
 -- What is told of one step behind another: of the first its reason, and else what the second comes to.
-use Rattle.std.proofs.Common.{◌≡◌, Bool, true, false, List, refl}
+use Rattle.std.proofs.Common.{◌≡◌, List, refl}
 use Rattle.std.specs.Prelude.{Result, Ok, Err}
 use Rattle.ca_base.specs.Faults.{IfFault}
 use Rattle.ca_base.specs.declared.memory.MemoryOr.{MemoryOr}
@@ -7,7 +7,7 @@ use Rattle.ca_base.specs.declared.memory.MemoryOr.TheVariants.{Memory, Fault}
 use Rattle.comp_linking.specs.declared.fault.LinkWhy.{LinkWhy}
 use Rattle.comp_linking.specs.Definitions.{Exports}
 use Rattle.comp_linking.specs.Spaces.{Linking}
-use Rattle.comp_linking.specs.Computed.{Outcome, Makes, after, only_if}
+use Rattle.comp_linking.specs.Computed.{Outcome, Makes, after}
 use Rattle.comp_link.specs.declared.linker.Linker.{Linker}
 use Rattle.comp_link.specs.State.{IsState, IsMade}
 use Rattle.comp_link.specs.Told.{IsReason, IsTold}
@@ -28,32 +28,19 @@ reason_after Memory x f h = tt
 reason_after (Fault w) (Ok a) f h = absurd h
 reason_after (Fault w) (Err v) f h = h
 
-pub reason_first : {A B : Type 0} (e : MemoryOr LinkWhy) (x : Result A LinkWhy) (f : A → Result B LinkWhy) (r : Result B LinkWhy) → r ≡ after x f → IsReason e x → IsReason e r
-reason_first e x f r h k = rw h (reason_after e x f k)
-
 pub reason_of_fault : {A : Type 0} (e : MemoryOr LinkWhy) (x : Result A LinkWhy) → IfFault e (λ w. x ≡ Err w) → IsReason e x
 reason_of_fault Memory x h = tt
 reason_of_fault (Fault w) x h = rw h refl
 
--- a reason of the second step, where the first answers this
-pub reason_second : {A B : Type 0} (w : LinkWhy) (x : Result A LinkWhy) (a : A) (f : A → Result B LinkWhy) (r : Result B LinkWhy) → r ≡ after x f → x ≡ Ok a → f a ≡ Err w → IsReason (Fault w) r
-reason_second w x a f r h i j = rw (h, i, j) refl
+-- what the linker stands for, where this is made, and where it is made of what a step answers
+pub made_told : (k : Linker) (bases : List Exports) (r : Result Outcome LinkWhy) (new : Linking) → r ≡ Ok (Makes new) → IsState bases k new → IsTold {B = Unit {0}} {W = LinkWhy} (λ _ outcome. IsMade k outcome) (Ok tt) r
+made_told k bases r new h state = rw h (bases, state)
 
--- what the linker stands for, where the first step answers this and the second makes it
-pub made_second : {A : Type 0} (k : Linker) (bases : List Exports) (x : Result A LinkWhy) (a : A) (f : A → Result Outcome LinkWhy) (r : Result Outcome LinkWhy) (new : Linking)
-    → r ≡ after x f → x ≡ Ok a → f a ≡ Ok (Makes new) → IsState bases k new → IsTold {B = Unit {0}} {W = LinkWhy} (λ _ outcome. IsMade k outcome) (Ok tt) r
-made_second k bases x a f r new h i j state = rw (h, i, j) (bases, state)
+pub made_from : {A : Type 0} (k : Linker) (bases : List Exports) (x : Result A LinkWhy) (a : A) (make : A → Linking) → x ≡ Ok a → IsState bases k (make a)
+    → IsTold {B = Unit {0}} {W = LinkWhy} (λ _ outcome. IsMade k outcome) (Ok tt) (after x (λ a. Ok (Makes (make a))))
+made_from k bases x a make h state = made_told k bases (after x (λ a. Ok (Makes (make a)))) (make a) (rw h refl) state
 
 -- what is computed where this is answered
 pub value_told : {A B : Type 0} (R : B → A → Type 0) (b : B) (r : Result A LinkWhy) → IsTold R (Ok b) r → (a : A) × (r ≡ Ok a) × R b a
 value_told R b (Ok a) h = (a, refl, h)
 value_told R b (Err w) h = absurd h
-
--- Steps one behind the other, as steps behind one.
-pub after_only_if : {A B : Type 0} (b : Bool) (w : LinkWhy) (x : Result A LinkWhy) (f : A → Result B LinkWhy) → after (only_if b w x) f ≡ only_if b w (after x f)
-after_only_if true w x f = refl
-after_only_if false w x f = refl
-
-pub after_if : {A B : Type 0} (x : Result A LinkWhy) (test : A → Bool) (w : LinkWhy) (f : A → Result B LinkWhy) → after (after x (λ a. only_if (test a) w (Ok a))) f ≡ after x (λ a. only_if (test a) w (f a))
-after_if (Ok a) test w f = after_only_if (test a) w (Ok a) f
-after_if (Err e) test w f = refl

@@ -7,6 +7,7 @@ use Rattle.ca_base.specs.Names.{is_among}
 use Rattle.ca_base.specs.declared.memory.MemoryOr.{MemoryOr}
 use Rattle.ca_base.specs.declared.memory.MemoryOr.TheVariants as memory
 use Rattle.comp_reader.specs.declared.component.ExternDesc.{ExternDesc}
+use Rattle.comp_reader.specs.declared.component.ExternDesc.TheVariants as desc
 use Rattle.comp_reader.specs.declared.component.Export as read
 use Rattle.comp_graph.specs.Closed.{Closed, Extern}
 use Rattle.comp_linking.specs.declared.fault.LinkWhy.{LinkWhy}
@@ -15,7 +16,7 @@ use Rattle.comp_linking.specs.Definitions.{Definition, AType, Exports, export_na
 use Rattle.comp_linking.specs.Types.{Meaning}
 use Rattle.comp_linking.specs.Spaces.{Spaces, Linking, size_of, definition_at}
 use Rattle.comp_linking.specs.Items.{lacking, wanted}
-use Rattle.comp_linking.specs.Tests.{root_may_import}
+use Rattle.comp_linking.specs.Tests.{root_may_import, is_of_types}
 use Rattle.comp_linking.specs.Computed.{Outcome, root_given, after, there_or, only_if, none_missing, as_asked, one_more, type_outcome, import_outcome, export_outcome}
 use Rattle.type_tables.specs.Table.{Table}
 use Rattle.type_tables.specs.declared.refs.InstanceTypeRef.{InstanceTypeRef}
@@ -152,11 +153,17 @@ type_made l n s meaning closed there none is = rw (there, none, is) refl
 
 pub root_told : (t : Table) (make : Definition → Outcome) (result : Result InstanceTypeRef (MemoryOr LinkWhy)) (x : Result Definition LinkWhy)
     → IsTold (IsTypesOf t) result x → IsTold (IsGiven t make) result (after x (λ d. Ok (make d)))
-root_told t make (Ok ref) (Ok d) h = (h.0, h.1, ap make h.2)
+root_told t make (Ok ref) (Ok d) h = (h.0, h.1, h.2, ap make h.3)
 root_told t make (Ok ref) (Err w) h = absurd h
 root_told t make (Err memory.Memory) x h = tt
 root_told t make (Err (memory.Fault w)) (Ok d) h = absurd h
 root_told t make (Err (memory.Fault w)) (Err v) h = h
+
+-- what the root may import asks for types alone
+pub root_types : (asked : ExternDesc) (meaning : Option Extern) (extern : Extern) → meaning ≡ Some extern → root_may_import asked meaning ≡ true → is_of_types extern ≡ true
+root_types (desc.Instance index) meaning extern is may = subst (λ (m : Option Extern). root_may_import (desc.Instance index) m ≡ true) is may
+root_types (desc.Func index) meaning extern is may = cc
+root_types (desc.TypeEq index) meaning extern is may = cc
 
 module _ (l : Linking) (n : ℕ) (s : Spaces) (name : List ℕ) (meaning : Meaning Extern) (desc : ExternDesc) where
   pub root_refused : root_may_import desc meaning.means ≡ false → import_outcome l n s name meaning desc None ≡ Err why.RootImport

@@ -1,9 +1,9 @@
 -- Lists whose elements stand beside one another.
-use Rattle.std.proofs.Common.{◌≡◌, ◌<◌, arith, ℕ, zero, suc, List, [], ◌∷◌, ◌++◌, length, refl, ap, subst, sym, ◌∙◌, Option, Some, None}
+use Rattle.std.proofs.Common.{◌≡◌, ◌<◌, arith, ℕ, zero, suc, List, [], ◌∷◌, ◌++◌, length, map, refl, ap, subst, sym, ◌∙◌, Option, Some, None}
 use Rattle.std.specs.Prelude.{set, get_or}
 use Rattle.std.specs.List.{slice_get, AllZip}
 use Rattle.std.specs.Option.{option_and_then, option_copied}
-use Rattle.comp_link.specs.State.{IsFoundAs}
+use Rattle.type_meanings.specs.Meant.{IsFoundAs}
 use denote.Ref.{Bor}
 
 pub zips_weaker : {A B : Type 0} (R Q : A → B → Type 0) → ((x : A) (y : B) → R x y → Q x y) → (xs : List A) (ys : List B) → AllZip R xs ys → AllZip Q xs ys
@@ -24,6 +24,28 @@ zips_set R [] (b ∷ ys) n x y h k = absurd h
 zips_set R (a ∷ xs) [] n x y h k = absurd h
 zips_set R (a ∷ xs) (b ∷ ys) zero x y h k = (k, h.1)
 zips_set R (a ∷ xs) (b ∷ ys) (suc n) x y h k = (h.0, zips_set R xs ys n x y h.1 k)
+
+-- another element, which stands beside what the one before stood beside
+pub zips_reset : {A B : Type 0} (R : A → B → Type 0) (xs : List A) (ys : List B) (n : ℕ) (x : A) → AllZip R xs ys → ((y : B) → slice_get ys n ≡ Some y → R x y) → AllZip R (set xs n x) ys
+zips_reset R [] [] n x h k = tt
+zips_reset R [] (b ∷ ys) n x h k = absurd h
+zips_reset R (a ∷ xs) [] n x h k = absurd h
+zips_reset R (a ∷ xs) (b ∷ ys) zero x h k = (k b refl, h.1)
+zips_reset R (a ∷ xs) (b ∷ ys) (suc n) x h k = (h.0, zips_reset R xs ys n x h.1 k)
+
+-- what stands elsewhere stays
+pub other_kept : {A : Type 0} (xs : List A) (n k : ℕ) (x : A) → (k ≡ n → ⊥) → slice_get (set xs n x) k ≡ slice_get xs k
+other_kept [] n k x apart = refl
+other_kept (y ∷ xs) zero zero x apart = absurd (apart refl)
+other_kept (y ∷ xs) zero (suc k) x apart = refl
+other_kept (y ∷ xs) (suc n) zero x apart = refl
+other_kept (y ∷ xs) (suc n) (suc k) x apart = other_kept xs n k x (λ e. apart (ap suc e))
+
+-- what is seen of each element, where it is the same of another one
+pub map_set : {A B : Type 0} (f : A → B) (xs : List A) (n : ℕ) (old new : A) → old ≡ get_or xs n old → n < length xs → f new ≡ f old → map f (set xs n new) ≡ map f xs
+map_set f [] n old new is within same = absurd (omega (arith, within))
+map_set f (x ∷ xs) zero old new is within same = ap (λ y. y ∷ map f xs) (same ∙ ap f is)
+map_set f (x ∷ xs) (suc n) old new is within same = ap (λ ys. f x ∷ ys) (map_set f xs n old new is (omega (arith, within)) same)
 
 pub zips_found : {A B : Type 0} (R : A → B → Type 0) (xs : List A) (ys : List B) (n : ℕ) → AllZip R xs ys → IsFoundAs R (slice_get xs n) (slice_get ys n)
 zips_found R [] [] n h = refl

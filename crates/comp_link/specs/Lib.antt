@@ -1,5 +1,4 @@
 pub mod Called
-pub mod CoreParts
 pub mod Next
 pub mod Ready
 pub mod Running

@@ -1,19 +1,17 @@
 -- Items on their way (Component Model, Explainer.md, "Import and Export Definitions"): the definition of an item is there, and no
 -- index space has it yet.
-use Rattle.std.specs.Prelude.{◌≡◌, ℕ, Bool, true, false, List, [], ◌∷◌, Option, Some, None, Result, Ok, Err}
+use Rattle.std.specs.Prelude.{◌≡◌, ℕ, true, List, Option, Some, None, Result, Ok, Err}
 use Rattle.comp_graph.specs.Closed.{Extern, Externs}
 use Rattle.comp_linking.specs.declared.fault.LinkWhy.{LinkWhy}
 use Rattle.comp_linking.specs.declared.fault.LinkWhy.TheVariants as why
 use Rattle.comp_linking.specs.Definitions.{Definition, AnInstance, Exports, types_of}
 use Rattle.comp_linking.specs.Spaces.{Spaces, Linking, with_spaces}
 use Rattle.comp_linking.specs.Items.{with_import, with_export}
+use Rattle.comp_linking.specs.Tests.{are_types}
 use Rattle.comp_linking.specs.Computed.{Outcome, Makes, as_asked}
 use Rattle.type_tables.specs.declared.refs.InstanceTypeRef.{InstanceTypeRef}
-use Rattle.type_tables.specs.declared.refs.ExternRef.{ExternRef}
-use Rattle.type_tables.specs.declared.refs.ExternRef.TheVariants as extern_ref
 use Rattle.type_tables.specs.Table.{Table, IsInstanceType}
 use Rattle.instance_tables.specs.declared.references.DefinitionRef.{DefinitionRef}
-use Rattle.instance_tables.specs.declared.references.DefinitionRef.TheVariants as definition_ref
 use Rattle.instance_tables.specs.References.{World, Stands}
 use Rattle.comp_link.specs.declared.linker.Linker.{Linker}
 use Rattle.comp_link.specs.State.{world_of, IsState}
@@ -26,23 +24,15 @@ pub record IsReady (k : Linker) (l : Linking) (make : Definition → Outcome) (r
   pub stands : Stands k.types (world_of bases k) ref definition
   pub makes : outcome ≡ make definition
 
--- The reference stands for the type of instances whose types are what the root is given, of which an item makes this outcome.
+-- The reference stands for a type of instances that asks for types alone, which are what the root is given, of which an item
+-- makes this outcome.
 abbrev pub IsGiven : Table → (Definition → Outcome) → InstanceTypeRef → Outcome → Type 0
-IsGiven t make ref outcome = (externs : Externs) × IsInstanceType t ref externs × (outcome ≡ make (AnInstance (types_of externs)))
+IsGiven t make ref outcome =
+    (externs : Externs) × IsInstanceType t ref externs × (are_types externs ≡ true) × (outcome ≡ make (AnInstance (types_of externs)))
 
 -- the definition of which it is, where it is one
 abbrev pub IsTypesOf : Table → InstanceTypeRef → Definition → Type 0
-IsTypesOf t ref d = (externs : Externs) × IsInstanceType t ref externs × (d ≡ AnInstance (types_of externs))
-
--- whether a type is asked for
-abbrev pub is_type : Option (ℕ × ExternRef) → Bool
-is_type (Some (name, extern_ref.Type closed)) = true
-is_type entry = false
-
--- what the root is given for what is asked for under a name: a type
-abbrev pub type_listed : Option (ℕ × ExternRef) → List (ℕ × DefinitionRef)
-type_listed (Some (name, extern_ref.Type closed)) = (name, definition_ref.Type closed) ∷ []
-type_listed entry = []
+IsTypesOf t ref d = (externs : Externs) × IsInstanceType t ref externs × (are_types externs ≡ true) × (d ≡ AnInstance (types_of externs))
 
 -- what an import and an export make of a definition
 abbrev pub imported : Linking → ℕ → Spaces → List ℕ → Definition → Outcome

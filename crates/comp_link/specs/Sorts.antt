@@ -1,4 +1,4 @@
--- Whether a reference is to a definition of a sort.
+-- Whether a reference is to a definition of a sort (Component Model, Binary.md, "Instance Definitions").
 use Rattle.std.specs.Prelude.{Bool, true, false}
 use Rattle.comp_reader.specs.declared.component.CoreSort.TheVariants as core_sort
 use Rattle.comp_reader.specs.declared.component.Sort.{Sort}

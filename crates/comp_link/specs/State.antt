@@ -1,16 +1,17 @@
 -- Linking as it stands (Component Model, Explainer.md, "Index Spaces"): the component instances that have begun, with their index
 -- spaces as references into tables, the core instances, and the plan. What stands behind the references is told by the lists
 -- of exports that the instances so far have.
-use Rattle.std.specs.Prelude.{◌≡◌, ℕ, List, Option, Some, None}
+use Rattle.std.specs.Prelude.{◌≡◌, ℕ, Bool, false, List, map, Option, Some, None}
 use Rattle.std.specs.List.{slice_get, AllZip}
 use Rattle.wasm_module.specs.declared.module.ModuleTree.{ModuleTree}
-use Rattle.comp_linking.specs.Definitions.{Closure, Exports, export_names}
+use Rattle.comp_linking.specs.Definitions.{Exports, export_names}
 use Rattle.comp_linking.specs.Spaces.{Spaces, Linking}
 use Rattle.comp_linking.specs.Computed.{Outcome, Makes, Starts}
 use Rattle.type_tables.specs.Table.{Table, IsType}
 use Rattle.instance_tables.specs.declared.references.InstanceRef.{InstanceRef}
 use Rattle.instance_tables.specs.References.{World, IsInstance, IsLifted, IsListing}
 use Rattle.instance_tables.specs.Instances.{AreInstances}
+use Rattle.type_meanings.specs.Levels.{IsClosure}
 use Rattle.comp_link.specs.declared.scope.Scope.{Scope}
 use Rattle.comp_link.specs.declared.linker.Linker.{Linker}
 
@@ -18,10 +19,7 @@ use Rattle.comp_link.specs.declared.linker.Linker.{Linker}
 abbrev pub world_of : List Exports → Linker → World
 world_of bases k = record { components = k.components.items; bases = bases; modules = k.modules.items }
 
--- a component and a core module, by their numbers
-abbrev pub IsClosure : World → ℕ → Closure → Type 0
-IsClosure w number c = slice_get w.components number ≡ Some c
-
+-- a core module, by its number
 abbrev pub IsModule : World → ℕ → ModuleTree → Type 0
 IsModule w number m = slice_get w.modules number ≡ Some m
 
@@ -39,7 +37,7 @@ pub record IsScope (t : Table) (w : World) (scope : Scope) (s : Spaces) : Type 0
   pub core_tables : s.core_tables ≡ scope.core_tables.items
   pub core_memories : s.core_memories ≡ scope.core_memories.items
   pub core_globals : s.core_globals ≡ scope.core_globals.items
-  pub components : AllZip (IsClosure w) scope.components.items s.components
+  pub components : AllZip (IsClosure w.components) scope.components.items s.components
   pub instances : AllZip (IsInstance t w) scope.instances.items s.instances
   pub funcs : AllZip (IsLifted t) scope.funcs.items s.funcs
   pub types : AllZip (IsType t) scope.types.items s.types
@@ -49,10 +47,28 @@ pub record IsScope (t : Table) (w : World) (scope : Scope) (s : Spaces) : Type 0
   pub arguments : AreGiven t w scope.arguments s.arguments
   pub around : s.around ≡ scope.around
 
+-- What is kept of the index spaces of a component instance: what outer aliases see of it, and all of them until it ends.
+pub record IsKept (t : Table) (w : World) (scope : Scope) (s : Spaces) : Type 0 where
+  pub types : AllZip (IsType t) scope.types.items s.types
+  pub components : AllZip (IsClosure w.components) scope.components.items s.components
+  pub whole : scope.ended ≡ false → IsScope t w scope s
+
+-- which component instances have ended
+abbrev pub ended : Linker → List Bool
+ended k = map (λ (scope : Scope). scope.ended) k.scopes.items
+
+-- A component instance is live: it has begun, and has not ended.
+abbrev pub IsLive : Linker → ℕ → Type 0
+IsLive k n = slice_get (ended k) n ≡ Some false
+
+-- What is live stays live.
+abbrev pub StayLive : Linker → Linker → Type 0
+StayLive old new = (n : ℕ) → IsLive old n → IsLive new n
+
 -- A linker stands for a linking, where its instances so far have these exports.
 pub record IsState (bases : List Exports) (k : Linker) (l : Linking) : Type 0 where
   pub instances : AreInstances k.types (world_of bases k) k.instances
-  pub scopes : AllZip (IsScope k.types (world_of bases k)) k.scopes.items l.scopes
+  pub scopes : AllZip (IsKept k.types (world_of bases k)) k.scopes.items l.scopes
   pub cores : l.cores ≡ k.cores.items
   pub plan : l.plan ≡ k.plan.items
 
@@ -60,15 +76,17 @@ pub record IsState (bases : List Exports) (k : Linker) (l : Linking) : Type 0 wh
 abbrev pub Stands : Linker → Linking → Type 0
 Stands k l = (bases : List Exports) × IsState bases k l
 
--- a component instance of a linking, with its index spaces
+-- a component instance of a linking, with its index spaces, which has not ended
 pub record IsAt (bases : List Exports) (k : Linker) (n : ℕ) (l : Linking) (s : Spaces) : Type 0 where
   pub state : IsState bases k l
   pub there : slice_get l.scopes n ≡ Some s
+  pub live : IsLive k n
 
--- What stands under a number is found, or nothing is there.
-abbrev pub IsFoundAs : {A B : Type 0} → (B → A → Type 0) → Option B → Option A → Type 0
-IsFoundAs R None found = found ≡ None
-IsFoundAs {A} R (Some b) found = (a : A) × (found ≡ Some a) × R b a
+-- A linker stands for a linking, and a reference for an instance of these exports, which no space needs to have.
+pub record IsThere (k : Linker) (l : Linking) (i : InstanceRef) (exports : Exports) : Type 0 where
+  pub bases : List Exports
+  pub state : IsState bases k l
+  pub instance : IsInstance k.types (world_of bases k) i exports
 
 -- an item is linked: what it makes is what the linker stands for
 abbrev pub IsMade : Linker → Outcome → Type 0

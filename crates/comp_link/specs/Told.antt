@@ -1,5 +1,5 @@
--- What calls answer beside what is computed: a value that stands for the computed one, or the computed reason; and nothing is
--- said of want of memory.
+-- What calls of linking (Component Model, Explainer.md, "Component Definitions") answer beside what is computed: a value that stands
+-- for the computed one, or the computed reason; and nothing is said of want of memory.
 use Rattle.std.specs.Prelude.{◌≡◌, Result, Ok, Err}
 use Rattle.ca_base.specs.declared.memory.MemoryOr.{MemoryOr}
 use Rattle.ca_base.specs.declared.memory.MemoryOr.TheVariants.{Memory, Fault}

@@ -4,21 +4,20 @@ ghost use Rattle.std.specs.Prelude.{◌≡◌, ◌<◌, ◌∷◌, List, length,
 ghost use Rattle.std.specs.List.{slice_get};
 ghost use Rattle.comp_reader.specs.declared.component.AliasTarget.TheVariants as target;
 ghost use Rattle.comp_linking.specs.Definitions.{Definition, Exports};
-ghost use Rattle.comp_linking.specs.Spaces as spaces;
 ghost use Rattle.comp_linking.specs.Spaces.{Spaces, Linking, outer_at};
 ghost use Rattle.comp_linking.specs.Tests.{is_of_sort};
 ghost use Rattle.comp_linking.specs.Computed.{alias_outcome};
 ghost use Rattle.type_tables.specs.Table.{Table};
 ghost use Rattle.instance_tables.specs.References.{World};
 ghost use Rattle.instance_tables.specs.References as references;
-ghost use Rattle.comp_link.specs.State.{world_of, IsScope, IsAt, IsFoundAs, IsMade};
+ghost use Rattle.type_meanings.specs.Meant.{IsFoundAs};
+ghost use Rattle.comp_link.specs.State.{world_of, IsAt, IsMade, ended};
 ghost use Rattle.comp_link.specs.Told.{IsTold};
 ghost use Rattle.comp_link.specs.Sorts.{is_of};
 
 use crate::core_aliases::link_core_alias;
 use crate::link_fault::{ItemError, missing};
 use crate::linker::Linker;
-use crate::scope::Scope;
 use ca_base::{MemoryOr, Name};
 use comp_linking::LinkWhy;
 use comp_reader::{Alias, AliasTarget, CoreSort, Sort};
@@ -53,6 +52,7 @@ fn link_export_alias<'a>(
     requires { n < length linker.old.scopes.items }
     ensures made { (bases : List Exports) (l : Linking) (s : Spaces) → IsAt bases linker.old n l s → IsTold (λ _ outcome. IsMade linker.new outcome) result (alias_outcome l n s sort (target.InstanceExport instance name.now)) }
     ensures scopes { OnOk result (length linker.new.scopes.items ≡ length linker.old.scopes.items) }
+    ensures live { OnOk result (ended linker.new ≡ ended linker.old) }
 {
     let number = linker.name(name)?;
     let Some(instance) = linker.scope(n).instance(instance) else {
@@ -81,16 +81,6 @@ fn level(n: usize, around: &[usize], up: u32) -> Option<usize>
     around.get(up as usize - 1).copied()
 }
 
-/// The definition that an outer alias names in a component instance, which is a type or a component.
-fn outer_definition(scope: &Scope<'_>, sort: Sort, index: u32) -> Option<DefinitionRef>
-    ensures { (t : Table) (w : World) (s : Spaces) → IsScope t w scope.now s → IsFoundAs (references.Stands t w) result (spaces.outer_definition sort index s) }
-{
-    match sort {
-        Sort::Type | Sort::Component => scope.definition(sort, index),
-        Sort::Core(_) | Sort::Func | Sort::Instance => None,
-    }
-}
-
 /// The definition that an outer alias names.
 fn outer(linker: &Linker<'_>, n: usize, sort: Sort, up: u32, index: u32) -> Option<DefinitionRef>
     requires { n < length linker.now.scopes.items }
@@ -99,7 +89,7 @@ fn outer(linker: &Linker<'_>, n: usize, sort: Sort, up: u32, index: u32) -> Opti
     let around = linker.scope(n).around.get().as_slice();
     let level = level(n, around, up)?;
     let scope = linker.scope_at(level)?;
-    outer_definition(scope, sort, index)
+    scope.outer_definition(sort, index)
 }
 
 /// Links an alias of a definition further out.
@@ -113,6 +103,7 @@ fn link_outer(
     requires { n < length linker.old.scopes.items }
     ensures made { (bases : List Exports) (l : Linking) (s : Spaces) → IsAt bases linker.old n l s → IsTold (λ _ outcome. IsMade linker.new outcome) result (alias_outcome l n s sort (target.Outer up index)) }
     ensures scopes { OnOk result (length linker.new.scopes.items ≡ length linker.old.scopes.items) }
+    ensures live { OnOk result (ended linker.new ≡ ended linker.old) }
 {
     let Some(definition) = outer(linker, n, sort, up, index) else {
         return Err(MemoryOr::Fault(LinkWhy::Index));
@@ -131,6 +122,7 @@ pub fn link_alias<'a>(
     requires { n < length linker.old.scopes.items }
     ensures made { (bases : List Exports) (l : Linking) (s : Spaces) → IsAt bases linker.old n l s → IsTold (λ _ outcome. IsMade linker.new outcome) result (alias_outcome l n s alias.now.sort alias.now.target) }
     ensures scopes { OnOk result (length linker.new.scopes.items ≡ length linker.old.scopes.items) }
+    ensures live { OnOk result (ended linker.new ≡ ended linker.old) }
 {
     let sort = alias.sort;
     match &alias.target {

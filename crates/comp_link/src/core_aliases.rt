@@ -5,7 +5,7 @@ ghost use Rattle.comp_reader.specs.declared.component.AliasTarget.TheVariants as
 ghost use Rattle.comp_linking.specs.Definitions.{Exports};
 ghost use Rattle.comp_linking.specs.Spaces.{Spaces, Linking};
 ghost use Rattle.comp_linking.specs.Computed.{alias_outcome};
-ghost use Rattle.comp_link.specs.State.{IsAt, IsMade};
+ghost use Rattle.comp_link.specs.State.{IsAt, IsMade, ended};
 ghost use Rattle.comp_link.specs.Told.{IsTold};
 
 use crate::link_fault::ItemError;
@@ -27,6 +27,7 @@ pub fn link_core_alias(
     requires { n < length linker.old.scopes.items }
     ensures made { (bases : List Exports) (l : Linking) (s : Spaces) → IsAt bases linker.old n l s → IsTold (λ _ outcome. IsMade linker.new outcome) result (alias_outcome l n s sort (target.CoreInstanceExport instance name.now)) }
     ensures scopes { OnOk result (length linker.new.scopes.items ≡ length linker.old.scopes.items) }
+    ensures live { OnOk result (ended linker.new ≡ ended linker.old) }
 {
     let instances = linker.scope(n).core_instances.as_slice();
     let item = aliased(alloc, instances, sort, instance, name)?;

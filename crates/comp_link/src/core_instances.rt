@@ -7,24 +7,20 @@ ghost use Rattle.comp_reader.specs.declared.component.CoreInstance.TheVariants a
 ghost use Rattle.comp_linking.specs.Definitions.{Exports};
 ghost use Rattle.comp_linking.specs.Spaces.{Spaces, Linking, core_size};
 ghost use Rattle.comp_linking.specs.Computed as computed;
-ghost use Rattle.comp_linking.specs.Computed.{core_instance_outcome};
+ghost use Rattle.comp_linking.specs.Computed.{inline_outcome, core_instance_outcome};
 ghost use Rattle.type_tables.specs.Table.{Table};
 ghost use Rattle.instance_tables.specs.References.{World};
-ghost use Rattle.comp_link.specs.State.{IsScope, IsAt, IsMade};
+ghost use Rattle.comp_link.specs.State.{IsScope, IsAt, IsMade, ended};
 ghost use Rattle.comp_link.specs.Told.{IsTold};
-ghost use Rattle.comp_link.specs.CoreParts.{inline_outcome};
 
 use crate::link_fault::ItemError;
-use crate::linker::Linker;
+use crate::linker::{INSTANCE_LIMIT, Linker};
 use crate::scope::Scope;
 use ca_base::MemoryOr;
 use comp_linking::LinkWhy;
 use comp_reader::{CoreArgument, CoreInlineExport, CoreInstance};
 use core_exports::{InlineExport, InlineExports, are_distinct, externs_of, imports_passed};
 use std::alloc::Global;
-
-/// How many core instances may be made of modules.
-const INSTANCE_LIMIT: usize = 256;
 
 /// Links the instantiation of a core module.
 fn link_instantiation(
@@ -37,6 +33,7 @@ fn link_instantiation(
     requires { n < length linker.old.scopes.items }
     ensures made { (bases : List Exports) (l : Linking) (s : Spaces) → IsAt bases linker.old n l s → IsTold (λ _ outcome. IsMade linker.new outcome) result (core_instance_outcome l n s (made_core.Instantiate index arguments.now)) }
     ensures scopes { OnOk result (length linker.new.scopes.items ≡ length linker.old.scopes.items) }
+    ensures live { OnOk result (ended linker.new ≡ ended linker.old) }
 {
     let Some(made) = linker.module(n, index) else {
         return Err(MemoryOr::Fault(LinkWhy::Index));
@@ -113,6 +110,7 @@ fn link_inline<'a>(
     requires { n < length linker.old.scopes.items }
     ensures made { (bases : List Exports) (l : Linking) (s : Spaces) → IsAt bases linker.old n l s → IsTold (λ _ outcome. IsMade linker.new outcome) result (core_instance_outcome l n s (made_core.Inline read.now)) }
     ensures scopes { OnOk result (length linker.new.scopes.items ≡ length linker.old.scopes.items) }
+    ensures live { OnOk result (ended linker.new ≡ ended linker.old) }
 {
     let exports = inline(alloc, linker.scope(n), read)?;
     linker.add_inline(n, exports)?;
@@ -129,6 +127,7 @@ pub fn link_core_instance<'a>(
     requires { n < length linker.old.scopes.items }
     ensures made { (bases : List Exports) (l : Linking) (s : Spaces) → IsAt bases linker.old n l s → IsTold (λ _ outcome. IsMade linker.new outcome) result (core_instance_outcome l n s made.now) }
     ensures scopes { OnOk result (length linker.new.scopes.items ≡ length linker.old.scopes.items) }
+    ensures live { OnOk result (ended linker.new ≡ ended linker.old) }
 {
     match made {
         CoreInstance::Instantiate { module, arguments } => {

@@ -5,7 +5,7 @@ ghost use Rattle.comp_reader.specs.declared.component.ExternDesc.{ExternDesc};
 ghost use Rattle.comp_linking.specs.Definitions.{Exports};
 ghost use Rattle.comp_linking.specs.Spaces.{Spaces, Linking};
 ghost use Rattle.comp_linking.specs.Computed.{export_outcome};
-ghost use Rattle.comp_link.specs.State.{IsAt, IsMade};
+ghost use Rattle.comp_link.specs.State.{IsAt, IsMade, ended};
 ghost use Rattle.comp_link.specs.Told.{IsTold};
 ghost use Rattle.comp_link.specs.Ready.{IsReady, exported};
 
@@ -97,6 +97,7 @@ pub fn link_export<'a>(
     requires { n < length linker.old.scopes.items }
     ensures made { (bases : List Exports) (l : Linking) (s : Spaces) → IsAt bases linker.old n l s → IsTold (λ _ outcome. IsMade linker.new outcome) result (export_outcome l n s export.now) }
     ensures scopes { OnOk result (length linker.new.scopes.items ≡ length linker.old.scopes.items) }
+    ensures live { OnOk result (ended linker.new ≡ ended linker.old) }
 {
     let number = linker.name(&export.name)?;
     let definition = export_definition(alloc, linker, n, export)?;

@@ -3,21 +3,23 @@
 ghost use Rattle.std.specs.Prelude.{◌≡◌, ◌<◌, ◌≤◌, ◌++◌, ℕ, List, codes, map, length, IfOk, OnOk};
 ghost use Rattle.std.specs.Option.{option_to_list};
 ghost use Rattle.comp_graph.specs.Graph.{instance_limit, core_instance_limit};
-ghost use Rattle.comp_linking.specs.Definitions.{Definition, Exports};
+ghost use Rattle.comp_linking.specs.Definitions.{Lifted, Definition, Exports};
 ghost use Rattle.comp_linking.specs.Spaces.{Linking};
 ghost use Rattle.comp_linking.specs.Linked as linked;
-ghost use Rattle.comp_linking.specs.Linked.{funcs_behind, export_of, lift_of};
+ghost use Rattle.comp_linking.specs.Linked.{funcs_behind, called, export_of, lift_of};
 ghost use Rattle.instance_tables.specs.References.{World, IsInstance, IsEntry, IsListing};
 ghost use Rattle.instance_tables.specs.Instances.{AreInstances};
 ghost use Rattle.comp_link.specs.State as state;
-ghost use Rattle.comp_link.specs.Called.{func_behind, called};
+ghost use Rattle.comp_link.specs.State.{IsLive};
+ghost use Rattle.comp_link.specs.Called.{named_behind, IsFuncEntry, AreFuncs, AreLists};
 
 use crate::copying::copied;
+use crate::funcs::FuncLists;
 use crate::linker::{Linker, ROOT};
 use ca_base::{Name, Seq};
 use ca_types::Export;
 use comp_graph::{Graph, Lift};
-use instance_tables::{DefinitionRef, InstanceRef, Instances};
+use instance_tables::{DefinitionRef, InstanceRef, Instances, LiftedRef};
 use std::alloc::{AllocError, Global};
 use std::marker::Model;
 use type_tables::Types;
@@ -67,19 +69,16 @@ fn joined(alloc: Global, front: &str, text: &str) -> Result<Name, AllocError>
     Ok(Name::new(alloc, both.as_str())?)
 }
 
-/// The function of an export of an instance, behind a front; none, if it is not a function.
-fn func_behind(
+/// A function behind a front, as it can be called. It fails for want of memory alone, as do all functions here.
+fn func_named(
     alloc: Global,
     types: &Types<'_>,
     front: &str,
-    entry: (usize, DefinitionRef),
+    entry: (usize, LiftedRef),
 ) -> Result<Option<Callable>, AllocError>
-    ensures { IfOk result (λ o. (w : World) (e : List ℕ × Definition) → IsEntry types.now w entry e → option_to_list o ≡ func_behind front.now e) }
+    ensures { IfOk result (λ o. (e : List ℕ × Lifted) → IsFuncEntry types.now entry e → option_to_list o ≡ named_behind front.now e) }
 {
-    let (number, definition) = entry;
-    let Some(lifted) = definition.func() else {
-        return Ok(None);
-    };
+    let (number, lifted) = entry;
     let Some(text) = types.text(number) else {
         return Ok(None);
     };
@@ -97,20 +96,34 @@ fn func_behind(
     Ok(Some(Callable { export, lift }))
 }
 
-/// Puts the functions of these exports behind others, each behind a front.
+/// Puts a function behind others, behind a front.
+fn push_func(
+    alloc: Global,
+    types: &Types<'_>,
+    front: &str,
+    entry: (usize, LiftedRef),
+    funcs: &mut Vec<Callable>,
+) -> Result<(), AllocError>
+    ensures { OnOk result ((e : List ℕ × Lifted) → IsFuncEntry types.now entry e → funcs.new.items ≡ funcs.old.items ++ named_behind front.now e) }
+{
+    if let Some(func) = func_named(alloc, types, front, entry)? {
+        funcs.push(func)?;
+    }
+    Ok(())
+}
+
+/// Puts functions behind others, each behind a front.
 fn push_funcs(
     alloc: Global,
     types: &Types<'_>,
     front: &str,
-    entries: &[(usize, DefinitionRef)],
+    entries: &[(usize, LiftedRef)],
     funcs: &mut Vec<Callable>,
 ) -> Result<(), AllocError>
-    ensures { OnOk result ((w : World) (given : Exports) → IsListing types.now w entries.now given → funcs.new.items ≡ funcs.old.items ++ funcs_behind front.now given) }
+    ensures { OnOk result ((given : Exports) → AreFuncs types.now entries.now given → funcs.new.items ≡ funcs.old.items ++ funcs_behind front.now given) }
 {
     for entry in entries {
-        if let Some(func) = func_behind(alloc, types, front, *entry)? {
-            funcs.push(func)?;
-        }
+        push_func(alloc, types, front, *entry, funcs)?;
     }
     Ok(())
 }
@@ -122,13 +135,19 @@ fn push_instance(
     instances: &Instances,
     name: &str,
     instance: InstanceRef,
+    lists: &mut FuncLists,
     funcs: &mut Vec<Callable>,
 ) -> Result<(), AllocError>
-    ensures { OnOk result ((w : World) (given : Exports) → AreInstances types.now w instances.now → IsInstance types.now w instance given → funcs.new.items ≡ funcs.old.items ++ funcs_behind (name.now ++ codes "#") given) }
+    requires { AreLists types.now instances.now lists.old }
+    ensures funcs { OnOk result ((w : World) (given : Exports) → AreInstances types.now w instances.now → IsInstance types.now w instance given → funcs.new.items ≡ funcs.old.items ++ funcs_behind (name.now ++ codes "#") given) }
+    ensures lists { OnOk result (AreLists types.now instances.now lists.new) }
 {
+    lists.list(alloc, types, instances, instance)?;
+    let Some(listed) = lists.get(instance) else {
+        return Ok(());
+    };
     let front = joined(alloc, name, "#")?;
-    let entries = instances.exports(alloc, types, instance)?;
-    push_funcs(alloc, types, front.as_str(), &entries, funcs)?;
+    push_funcs(alloc, types, front.as_str(), listed.as_slice(), funcs)?;
     Ok(())
 }
 
@@ -138,21 +157,25 @@ fn push_called(
     types: &Types<'_>,
     instances: &Instances,
     entry: (usize, DefinitionRef),
+    lists: &mut FuncLists,
     funcs: &mut Vec<Callable>,
 ) -> Result<(), AllocError>
-    ensures { OnOk result ((w : World) (e : List ℕ × Definition) → AreInstances types.now w instances.now → IsEntry types.now w entry e → funcs.new.items ≡ funcs.old.items ++ called e) }
+    requires { AreLists types.now instances.now lists.old }
+    ensures funcs { OnOk result ((w : World) (e : List ℕ × Definition) → AreInstances types.now w instances.now → IsEntry types.now w entry e → funcs.new.items ≡ funcs.old.items ++ called e) }
+    ensures lists { OnOk result (AreLists types.now instances.now lists.new) }
 {
     let (number, definition) = entry;
     if let Some(instance) = definition.instance() {
         let Some(name) = types.text(number) else {
             return Ok(());
         };
-        push_instance(alloc, types, instances, name, instance, funcs)?;
+        push_instance(alloc, types, instances, name, instance, lists, funcs)?;
         return Ok(());
     }
-    if let Some(func) = func_behind(alloc, types, "", entry)? {
-        funcs.push(func)?;
-    }
+    let Some(lifted) = definition.func() else {
+        return Ok(());
+    };
+    push_func(alloc, types, "", (number, lifted), funcs)?;
     Ok(())
 }
 
@@ -165,9 +188,10 @@ fn callables(
 ) -> Result<Vec<Callable>, AllocError>
     ensures { IfOk result (λ v. (w : World) (given : Exports) → AreInstances types.now w instances.now → IsListing types.now w entries.now given → v.items ≡ linked.callables given) }
 {
+    let mut lists = FuncLists::new(alloc);
     let mut funcs = Vec::new(alloc);
     for entry in entries {
-        push_called(alloc, types, instances, *entry, &mut funcs)?;
+        push_called(alloc, types, instances, *entry, &mut lists, &mut funcs)?;
     }
     Ok(funcs)
 }
@@ -194,9 +218,10 @@ fn exports_of(alloc: Global, funcs: Vec<Callable>) -> Result<Vec<Export>, AllocE
     Ok(exports)
 }
 
-/// The graph of what is linked. It fails for want of memory alone.
+/// The graph of what is linked.
 pub fn graph_of<'a>(alloc: Global, linker: Linker<'a>) -> Result<Graph<'a>, AllocError>
     requires root { 0 < length linker.scopes.items }
+    requires live { IsLive linker 0 }
     requires few { length linker.scopes.items ≤ instance_limit }
     requires few_cores { length linker.cores.items ≤ core_instance_limit }
     ensures { IfOk result (λ g. (l : Linking) → state.Stands linker.entry l → g ≡ linked.graph_of l) }

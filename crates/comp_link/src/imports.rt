@@ -1,18 +1,19 @@
 //! Imports: of the root, which is given instances of types alone, and of a component with arguments.
 
-ghost use Rattle.std.specs.Prelude.{◌≡◌, ◌<◌, ◌++◌, List, length, Option, Some, None, OnOk, IfOk};
-ghost use Rattle.comp_graph.specs.Closed.{Extern, Externs};
-ghost use Rattle.comp_linking.specs.Definitions as definitions;
+ghost use Rattle.std.specs.Prelude.{◌≡◌, ◌<◌, List, length, Option, Some, None, OnOk, IsTrue};
+ghost use Rattle.comp_graph.specs.Closed.{Extern};
 ghost use Rattle.comp_linking.specs.Definitions.{Exports};
 ghost use Rattle.comp_linking.specs.Spaces.{Spaces, Linking};
 ghost use Rattle.comp_linking.specs.Items as items;
 ghost use Rattle.comp_linking.specs.Tests as tests;
 ghost use Rattle.comp_linking.specs.Computed.{import_outcome, root_given};
-ghost use Rattle.type_tables.specs.Table.{Table, IsName, IsInstanceType, IsExtern};
-ghost use Rattle.instance_tables.specs.References.{World, IsInstance, IsListing};
-ghost use Rattle.comp_link.specs.State.{world_of, IsAt, IsFoundAs, IsMade};
+ghost use Rattle.type_tables.specs.Table.{Table, IsName, IsExtern};
+ghost use Rattle.instance_tables.specs.References.{World, IsInstance};
+ghost use Rattle.instance_tables.specs.Instances.{AreInstances};
+ghost use Rattle.type_meanings.specs.Meant.{IsFoundAs};
+ghost use Rattle.comp_link.specs.State.{world_of, IsAt, IsMade, ended};
 ghost use Rattle.comp_link.specs.Told.{IsTold};
-ghost use Rattle.comp_link.specs.Ready.{IsReady, IsGiven, IsTypesOf, is_type, type_listed, imported};
+ghost use Rattle.comp_link.specs.Ready.{IsReady, IsGiven, IsTypesOf, imported};
 
 use crate::link_fault::{ItemError, missing};
 use crate::linker::Linker;
@@ -20,83 +21,40 @@ use crate::seen::seen;
 use ca_base::MemoryOr;
 use comp_linking::LinkWhy;
 use comp_reader::{ExternDesc, Import};
-use instance_tables::{DefinitionRef, InstanceRef};
-use std::alloc::{AllocError, Global};
+use instance_tables::{DefinitionRef, InstanceRef, Instances};
+use std::alloc::Global;
 use type_meanings::wanted;
-use type_tables::{ExternRef, InstanceTypeRef, Listing, Types, asked_at, asked_count};
-
-/// Whether a type is asked for.
-fn is_type(entry: Option<(usize, ExternRef)>) -> bool
-    ensures { result ≡ is_type entry }
-{
-    matches!(entry, Some((_, ExternRef::Type(_))))
-}
-
-/// Whether all that a type of instances asks for are types.
-fn are_types(types: &Types<'_>, instance_type: InstanceTypeRef) -> bool
-    ensures { (externs : Externs) → IsInstanceType types.now instance_type externs → result ≡ tests.are_types externs }
-{
-    for at in 0..asked_count(types, instance_type) {
-        if !is_type(asked_at(types, instance_type, at)) {
-            return false;
-        }
-    }
-    true
-}
+use type_tables::{ExternRef, InstanceTypeRef, Types};
 
 /// Whether an instance whose exports are types is asked for.
-fn is_of_types(types: &Types<'_>, asked: ExternRef) -> bool
-    ensures { (extern : Extern) → IsExtern types.now asked extern → result ≡ tests.is_of_types extern }
+fn is_of_types(instances: &Instances, types: &Types<'_>, asked: ExternRef) -> bool
+    ensures { (w : World) (extern : Extern) → AreInstances types.now w instances.now → IsExtern types.now asked extern → result ≡ tests.is_of_types extern }
 {
     match asked {
-        ExternRef::Instance(instance_type) => are_types(types, instance_type),
+        ExternRef::Instance(instance_type) => instances.are_types(types, instance_type),
         ExternRef::Func(_) | ExternRef::Type(_) => false,
     }
 }
 
 /// Whether the root may import what is asked for, as far as that has a meaning.
-fn root_may_import(types: &Types<'_>, desc: ExternDesc, asked: Option<ExternRef>) -> bool
-    ensures { (meaning : Option Extern) → IsFoundAs (IsExtern types.now) asked meaning → result ≡ tests.root_may_import desc meaning }
+fn root_may_import(
+    instances: &Instances,
+    types: &Types<'_>,
+    desc: ExternDesc,
+    asked: Option<ExternRef>,
+) -> bool
+    ensures { (w : World) (meaning : Option Extern) → AreInstances types.now w instances.now → IsFoundAs (IsExtern types.now) asked meaning → result ≡ tests.root_may_import desc meaning }
 {
     match (desc, asked) {
-        (ExternDesc::Instance(_), Some(asked)) => is_of_types(types, asked),
+        (ExternDesc::Instance(_), Some(asked)) => is_of_types(instances, types, asked),
         (ExternDesc::Instance(_), None) => true,
         (_, _) => false,
     }
 }
 
-/// Puts a type that is asked for behind others, as the definition that the root is given. It fails for want of memory alone, as
-/// does the next function.
-fn push_type(
-    listing: &mut Listing<DefinitionRef>,
-    entry: Option<(usize, ExternRef)>,
-) -> Result<(), AllocError>
-    ensures { OnOk result (listing.new ≡ listing.old ++ type_listed entry) }
-{
-    if let Some((name, ExternRef::Type(closed))) = entry {
-        listing.push(name, DefinitionRef::Type(closed))?;
-    }
-    Ok(())
-}
-
-/// The types that a type of instances asks for, as the exports of an instance.
-fn types_of(
-    alloc: Global,
-    types: &Types<'_>,
-    instance_type: InstanceTypeRef,
-) -> Result<Listing<DefinitionRef>, AllocError>
-    ensures { IfOk result (λ listing. (w : World) (externs : Externs) → IsInstanceType types.now instance_type externs → IsListing types.now w listing (definitions.types_of externs)) }
-{
-    let mut listing = Listing::new(alloc);
-    for at in 0..asked_count(types, instance_type) {
-        push_type(&mut listing, asked_at(types, instance_type, at))?;
-    }
-    Ok(listing)
-}
-
 /// The type of the instance that the root is given for what it imports.
 fn given_type(asked: ExternRef) -> Result<InstanceTypeRef, ItemError>
-    ensures { (t : Table) (extern : Extern) → IsExtern t asked extern → IsTold (IsTypesOf t) result (root_given extern) }
+    ensures { (t : Table) (extern : Extern) → IsExtern t asked extern → IsTrue (tests.is_of_types extern) → IsTold (IsTypesOf t) result (root_given extern) }
 {
     match asked {
         ExternRef::Instance(instance_type) => Ok(instance_type),
@@ -111,7 +69,7 @@ fn root_type(linker: &Linker<'_>, n: usize, import: &Import) -> Result<InstanceT
 {
     let scope = linker.scope(n);
     let meant = wanted(&scope.types, import.desc);
-    if !root_may_import(&linker.types, import.desc, meant.means) {
+    if !root_may_import(&linker.instances, &linker.types, import.desc, meant.means) {
         return Err(MemoryOr::Fault(LinkWhy::RootImport));
     }
     if !meant.is_there {
@@ -138,8 +96,7 @@ fn root_import(
     ensures rest { linker.new ≡ record linker.old { instances = linker.new.instances } }
 {
     let instance_type = root_type(linker, n, import)?;
-    let listing = types_of(alloc, &linker.types, instance_type)?;
-    let instance = linker.instance(listing)?;
+    let instance = linker.instance_of_types(alloc, instance_type)?;
     Ok(DefinitionRef::Instance(instance))
 }
 
@@ -204,6 +161,7 @@ pub fn link_import<'a>(
     requires { n < length linker.old.scopes.items }
     ensures made { (bases : List Exports) (l : Linking) (s : Spaces) → IsAt bases linker.old n l s → IsTold (λ _ outcome. IsMade linker.new outcome) result (import_outcome l n s import.now.name (items.wanted s import.now.desc) import.now.desc s.arguments) }
     ensures scopes { OnOk result (length linker.new.scopes.items ≡ length linker.old.scopes.items) }
+    ensures live { OnOk result (ended linker.new ≡ ended linker.old) }
 {
     let number = linker.name(&import.name)?;
     let definition = import_definition(alloc, linker, n, import, number)?;

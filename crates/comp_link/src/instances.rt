@@ -5,12 +5,12 @@ ghost use Rattle.comp_reader.specs.declared.component.Instance.TheVariants as ma
 ghost use Rattle.comp_linking.specs.Definitions.{Exports};
 ghost use Rattle.comp_linking.specs.Spaces.{Spaces, Linking};
 ghost use Rattle.comp_linking.specs.Computed.{instance_outcome};
-ghost use Rattle.comp_link.specs.State.{IsAt};
+ghost use Rattle.comp_link.specs.State.{IsAt, ended};
 ghost use Rattle.comp_link.specs.Told.{IsTold};
 ghost use Rattle.comp_link.specs.Next.{IsNext};
 
 use crate::link_fault::ItemError;
-use crate::linker::Linker;
+use crate::linker::{INSTANCE_LIMIT, Linker};
 use crate::named::named_exports;
 use ca_base::{MemoryOr, Seq};
 use ca_types::Shared;
@@ -18,9 +18,6 @@ use comp_linking::LinkWhy;
 use comp_reader::{Component, Instance, NamedDefinition};
 use instance_tables::{DefinitionRef, InstanceRef};
 use std::alloc::Global;
-
-/// How many component instances there may be.
-const INSTANCE_LIMIT: usize = 256;
 
 /// What an instance comes to.
 #[derive(Drop)]
@@ -49,6 +46,7 @@ fn instantiated<'a>(
     requires { n < length linker.old.scopes.items }
     ensures made { (bases : List Exports) (l : Linking) (s : Spaces) → IsAt bases linker.old n l s → IsTold (IsNext linker.new l) result (instance_outcome l n s (made.Instantiate component arguments.now)) }
     ensures scopes { OnOk result (length linker.new.scopes.items ≡ length linker.old.scopes.items) }
+    ensures live { OnOk result (ended linker.new ≡ ended linker.old) }
 {
     let Some(standing) = linker.standing(n, component) else {
         return Err(MemoryOr::Fault(LinkWhy::Index));
@@ -77,6 +75,7 @@ fn link_inline<'a>(
     requires { n < length linker.old.scopes.items }
     ensures made { (bases : List Exports) (l : Linking) (s : Spaces) → IsAt bases linker.old n l s → IsTold (IsNext linker.new l) result (instance_outcome l n s (made.Inline read.now)) }
     ensures scopes { OnOk result (length linker.new.scopes.items ≡ length linker.old.scopes.items) }
+    ensures live { OnOk result (ended linker.new ≡ ended linker.old) }
 {
     let exports = named_exports(alloc, linker, n, read)?;
     let instance = linker.instance(exports)?;
@@ -94,6 +93,7 @@ pub fn link_instance<'a>(
     requires { n < length linker.old.scopes.items }
     ensures made { (bases : List Exports) (l : Linking) (s : Spaces) → IsAt bases linker.old n l s → IsTold (IsNext linker.new l) result (instance_outcome l n s instance.now) }
     ensures scopes { OnOk result (length linker.new.scopes.items ≡ length linker.old.scopes.items) }
+    ensures live { OnOk result (ended linker.new ≡ ended linker.old) }
 {
     match instance {
         Instance::Instantiate {

@@ -4,12 +4,11 @@ ghost use Rattle.std.specs.Prelude.{◌≡◌, ◌<◌, List, OnOk, length};
 ghost use Rattle.ca_types.specs.declared.types.FuncType.{FuncType};
 ghost use Rattle.comp_linking.specs.Definitions.{Exports};
 ghost use Rattle.comp_linking.specs.Spaces.{Spaces, Linking};
-ghost use Rattle.comp_linking.specs.Computed.{lift_outcome};
+ghost use Rattle.comp_linking.specs.Computed.{lifted_to, lifted_of, lift_outcome};
 ghost use Rattle.type_tables.specs.Table.{IsFunc};
 ghost use Rattle.instance_tables.specs.References.{IsLifted};
-ghost use Rattle.comp_link.specs.State.{IsAt, IsMade};
+ghost use Rattle.comp_link.specs.State.{IsAt, IsMade, ended};
 ghost use Rattle.comp_link.specs.Told.{IsTold};
-ghost use Rattle.comp_link.specs.CoreParts.{lifted_to, lifted_of};
 
 use crate::link_fault::ItemError;
 use crate::linker::Linker;
@@ -78,6 +77,7 @@ pub fn link_lift(
     requires { n < length linker.old.scopes.items }
     ensures made { (bases : List Exports) (l : Linking) (s : Spaces) → IsAt bases linker.old n l s → IsTold (λ _ outcome. IsMade linker.new outcome) result (lift_outcome l n s core_func func_type) }
     ensures scopes { OnOk result (length linker.new.scopes.items ≡ length linker.old.scopes.items) }
+    ensures live { OnOk result (ended linker.new ≡ ended linker.old) }
 {
     let lifted = lifted(linker, n, core_func, func_type)?;
     linker.add(n, DefinitionRef::Func(lifted))?;

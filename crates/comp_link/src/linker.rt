@@ -1,19 +1,21 @@
 //! Linking as it stands: what the component instances that have begun have in their index spaces, and what was made.
 
-ghost use Rattle.std.specs.Prelude.{◌≡◌, ◌<◌, ◌+◌, ◌∷◌, ◌++◌, [], List, ℕ, Some, map, length, IfOk, OnOk};
+ghost use Rattle.std.specs.Prelude.{◌≡◌, ◌≢◌, ◌<◌, ◌+◌, ◌∷◌, ◌++◌, [], List, ℕ, false, Some, map, length, IfOk, OnOk, IsTrue};
 ghost use Rattle.std.specs.List.{slice_get};
 ghost use Rattle.std.specs.Option.{option_and_then, option_copied};
-ghost use Rattle.comp_graph.specs.Closed.{Extern};
-ghost use Rattle.comp_linking.specs.Definitions.{CoreItem, extern_of, Closure, Definition, AComponent, AModule, Exports};
+ghost use Rattle.comp_graph.specs.Closed.{Extern, Externs};
+ghost use Rattle.comp_linking.specs.Definitions.{CoreItem, extern_of, Closure, Definition, AComponent, AModule, Exports, types_of};
+ghost use Rattle.comp_linking.specs.Tests.{are_types};
 ghost use Rattle.comp_linking.specs.Spaces.{Spaces, Linking, with_core_item, with_core_instance, with_definition, with_spaces};
 ghost use Rattle.comp_linking.specs.Items.{core_made, with_import, with_export};
 ghost use Rattle.comp_linking.specs.Linked.{root_begun, begun, with_instance};
-ghost use Rattle.type_tables.specs.Table.{IsName, IsExtern};
+ghost use Rattle.type_tables.specs.Table.{IsName, IsExtern, IsInstanceType};
 ghost use Rattle.instance_tables.specs.declared.references.DefinitionRef.{DefinitionRef};
 ghost use Rattle.instance_tables.specs.References.{IsInstance, IsListing};
 ghost use Rattle.instance_tables.specs.References as references;
 ghost use Rattle.instance_tables.specs.Fit.{IsFit};
-ghost use Rattle.comp_link.specs.State.{world_of, IsScope, IsState, IsAt, IsFoundAs, Stands};
+ghost use Rattle.type_meanings.specs.Meant.{IsFoundAs};
+ghost use Rattle.comp_link.specs.State.{world_of, IsScope, IsKept, IsState, IsAt, IsThere, IsLive, Stands, ended};
 
 use crate::scope::{Scope, Standing};
 use ca_base::{Name, Seq};
@@ -23,10 +25,13 @@ use comp_reader::Component;
 use core_exports::{CoreExports, CoreItem, CoreModule, InlineExports};
 use instance_tables::{DefinitionRef, Fit, InstanceRef, Instances};
 use std::alloc::{AllocError, Global};
-use type_tables::{ExternRef, Listing, Types};
+use type_tables::{ExternRef, InstanceTypeRef, Listing, Types};
 
 /// The number of the root, which begins first.
 pub const ROOT: usize = 0;
+
+/// How many component instances there may be, and how many core instances that are made of modules.
+pub const INSTANCE_LIMIT: usize = 256;
 
 /// Linking as it stands.
 #[derive(Drop)]
@@ -52,6 +57,7 @@ impl<'a> Linker<'a> {
     pub fn new(alloc: Global) -> Result<Linker<'a>, AllocError>
         ensures ok { IfOk result (λ k. IsState [] k root_begun) }
         ensures there { IfOk result (λ k. length k.scopes.items ≡ 1) }
+        ensures live { IfOk result (λ k. IsLive k 0) }
     {
         let mut plan = Vec::new(alloc);
         plan.push(Action::Begin(ROOT))?;
@@ -79,7 +85,7 @@ impl<'a> Linker<'a> {
 
     /// The index spaces of a component instance, if it has begun.
     pub fn scope_at(&self, n: usize) -> Option<&Scope<'a>>
-        ensures { (bases : List Exports) (l : Linking) → IsState bases self.now l → IsFoundAs (λ scope s. IsScope self.now.types (world_of bases self.now) scope.now s) result (slice_get l.scopes n) }
+        ensures { (bases : List Exports) (l : Linking) → IsState bases self.now l → IsFoundAs (λ scope s. IsKept self.now.types (world_of bases self.now) scope.now s) result (slice_get l.scopes n) }
     {
         item_numbered(&self.scopes, Some(n))
     }
@@ -144,6 +150,7 @@ impl<'a> Linker<'a> {
         requires { n < length self.old.scopes.items }
         ensures ok { OnOk result ((bases : List Exports) (l : Linking) (s : Spaces) (d : Definition) → IsAt bases self.old n l s → references.Stands self.old.types (world_of bases self.old) definition d → IsState bases self.new (with_spaces l n (with_definition s d))) }
         ensures scopes { OnOk result (length self.new.scopes.items ≡ length self.old.scopes.items) }
+        ensures live { OnOk result (ended self.new ≡ ended self.old) }
     {
         self.scopes[n].add(definition)?;
         Ok(())
@@ -154,6 +161,7 @@ impl<'a> Linker<'a> {
         requires { n < length self.old.scopes.items }
         ensures ok { OnOk result ((bases : List Exports) (l : Linking) (s : Spaces) → IsAt bases self.old n l s → IsState bases self.new (with_spaces l n (with_definition s (AModule made.entry)))) }
         ensures scopes { OnOk result (length self.new.scopes.items ≡ length self.old.scopes.items) }
+        ensures live { OnOk result (ended self.new ≡ ended self.old) }
     {
         let number = self.modules.len();
         self.modules.push(made)?;
@@ -171,6 +179,7 @@ impl<'a> Linker<'a> {
         requires { n < length self.old.scopes.items }
         ensures ok { OnOk result ((bases : List Exports) (l : Linking) (s : Spaces) → IsAt bases self.old n l s → IsState bases self.new (with_spaces l n (with_definition s (AComponent (record { items = component.now.items; around = n ∷ s.around }))))) }
         ensures scopes { OnOk result (length self.new.scopes.items ≡ length self.old.scopes.items) }
+        ensures live { OnOk result (ended self.new ≡ ended self.old) }
     {
         let around = put_before(alloc, n, self.scopes[n].around.get().as_slice())?;
         let around = Shared::new(alloc, around)?;
@@ -185,6 +194,7 @@ impl<'a> Linker<'a> {
         requires { n < length self.old.scopes.items }
         ensures ok { OnOk result ((bases : List Exports) (l : Linking) (s : Spaces) → IsAt bases self.old n l s → IsState bases self.new (with_spaces l n (with_core_item s item.entry))) }
         ensures scopes { OnOk result (length self.new.scopes.items ≡ length self.old.scopes.items) }
+        ensures live { OnOk result (ended self.new ≡ ended self.old) }
     {
         self.scopes[n].add_core_item(item)?;
         Ok(())
@@ -195,6 +205,7 @@ impl<'a> Linker<'a> {
         requires { n < length self.old.scopes.items }
         ensures ok { OnOk result ((bases : List Exports) (l : Linking) (s : Spaces) → IsAt bases self.old n l s → IsState bases self.new (with_spaces l n (with_core_instance s exports.entry))) }
         ensures scopes { OnOk result (length self.new.scopes.items ≡ length self.old.scopes.items) }
+        ensures live { OnOk result (ended self.new ≡ ended self.old) }
     {
         self.scopes[n].add_core_instance(CoreExports::inline(exports))?;
         Ok(())
@@ -210,6 +221,7 @@ impl<'a> Linker<'a> {
         requires { n < length self.old.scopes.items }
         ensures ok { OnOk result ((bases : List Exports) (l : Linking) (s : Spaces) (items : List CoreItem) → IsAt bases self.old n l s → imports ≡ map extern_of items → IsState bases self.new (core_made l n s made.entry items)) }
         ensures scopes { OnOk result (length self.new.scopes.items ≡ length self.old.scopes.items) }
+        ensures live { OnOk result (ended self.new ≡ ended self.old) }
     {
         let number = self.cores.len();
         let valid = made.get().valid();
@@ -229,6 +241,20 @@ impl<'a> Linker<'a> {
         Ok(made)
     }
 
+    /// The instance whose exports are the types that a type of instances asks for, where it asks for types alone. No space has it
+    /// yet.
+    pub fn instance_of_types(
+        &mut self,
+        alloc: Global,
+        instance_type: InstanceTypeRef,
+    ) -> Result<InstanceRef, AllocError>
+        ensures made { IfOk result (λ i. (bases : List Exports) (l : Linking) (externs : Externs) → IsState bases self.old l → IsInstanceType self.old.types instance_type externs → IsTrue (are_types externs) → IsThere self.new l i (types_of externs)) }
+        ensures rest { self.new ≡ record self.old { instances = self.new.instances } }
+    {
+        let made = self.instances.of_types(alloc, &self.types, instance_type)?;
+        Ok(made)
+    }
+
     /// Adds an import of a name, which is this definition.
     pub fn add_import(
         &mut self,
@@ -239,6 +265,7 @@ impl<'a> Linker<'a> {
         requires { n < length self.old.scopes.items }
         ensures ok { OnOk result ((bases : List Exports) (l : Linking) (s : Spaces) (d : Definition) → IsAt bases self.old n l s → references.Stands self.old.types (world_of bases self.old) definition d → IsState bases self.new (with_spaces l n (with_import s name.now d))) }
         ensures scopes { OnOk result (length self.new.scopes.items ≡ length self.old.scopes.items) }
+        ensures live { OnOk result (ended self.new ≡ ended self.old) }
     {
         self.scopes[n].add_import(name, definition)?;
         Ok(())
@@ -255,6 +282,7 @@ impl<'a> Linker<'a> {
         requires { n < length self.old.scopes.items }
         ensures ok { OnOk result ((bases : List Exports) (l : Linking) (s : Spaces) (d : Definition) → IsAt bases self.old n l s → IsName self.old.types number name.now → references.Stands self.old.types (world_of bases self.old) definition d → IsState bases self.new (with_spaces l n (with_export s name.now d))) }
         ensures scopes { OnOk result (length self.new.scopes.items ≡ length self.old.scopes.items) }
+        ensures live { OnOk result (ended self.new ≡ ended self.old) }
     {
         self.scopes[n].add_export(name, number, definition)?;
         Ok(())
@@ -269,6 +297,7 @@ impl<'a> Linker<'a> {
     ) -> Result<(), AllocError>
         ensures ok { OnOk result ((bases : List Exports) (l : Linking) (c : Closure) (given : Exports) → IsState bases self.old l → c.around ≡ around → IsInstance self.old.types (world_of bases self.old) arguments given → IsState bases self.new (begun l c given)) }
         ensures scopes { OnOk result (length self.new.scopes.items ≡ length self.old.scopes.items + 1) }
+        ensures live { OnOk result (ended self.new ≡ ended self.old ++ false ∷ []) }
     {
         let number = self.scopes.len();
         self.scopes
@@ -277,14 +306,17 @@ impl<'a> Linker<'a> {
         Ok(())
     }
 
-    /// Adds the instance that a component instance has become to the one that made it.
+    /// A component instance ends, and the instance that it has become is added to the one that made it.
     pub fn end(&mut self, alloc: Global, n: usize, instance: usize) -> Result<(), AllocError>
         requires here { n < length self.old.scopes.items }
         requires there { instance < length self.old.scopes.items }
+        requires apart { n ≢ instance }
+        requires live { IsLive self.old instance }
         ensures ok { OnOk result ((bases : List Exports) (l : Linking) (s : Spaces) → IsAt bases self.old n l s → Stands self.new (with_instance l n s instance)) }
         ensures scopes { OnOk result (length self.new.scopes.items ≡ length self.old.scopes.items) }
+        ensures live { OnOk result ((m : ℕ) → m ≢ instance → IsLive self.old m → IsLive self.new m) }
     {
-        let exports = copied(alloc, &self.scopes[instance].exports)?;
+        let exports = self.scopes[instance].end(alloc);
         let made = self.instance(exports)?;
         self.add(n, DefinitionRef::Instance(made))?;
         Ok(())
@@ -307,18 +339,4 @@ fn put_before(alloc: Global, first: usize, others: &[usize]) -> Result<Seq<usize
         numbers.push(*number)?;
     }
     Ok(numbers)
-}
-
-/// The same definitions under the same names.
-fn copied(
-    alloc: Global,
-    listing: &Listing<DefinitionRef>,
-) -> Result<Listing<DefinitionRef>, AllocError>
-    ensures { IfOk result (λ l. l ≡ listing.now) }
-{
-    let mut copy = Listing::new(alloc);
-    for entry in listing.entries() {
-        copy.push(entry.0, entry.1)?;
-    }
-    Ok(copy)
 }

@@ -8,7 +8,7 @@ ghost use Rattle.comp_linking.specs.Spaces.{Spaces, Linking};
 ghost use Rattle.comp_linking.specs.Linked.{begun, with_instance, IsLinked, IsLinkRefused};
 ghost use Rattle.comp_linking.specs.Computed.{Outcome, after, one_more, item_outcome, run_within, step};
 ghost use Rattle.instance_tables.specs.References.{IsInstance};
-ghost use Rattle.comp_link.specs.State.{world_of, IsState, IsAt, IsMade};
+ghost use Rattle.comp_link.specs.State.{world_of, IsState, IsAt, IsMade, IsLive, StayLive, ended};
 ghost use Rattle.comp_link.specs.State as state;
 ghost use Rattle.comp_link.specs.Told.{IsTold};
 ghost use Rattle.comp_link.specs.Next.{IsNext};
@@ -22,7 +22,7 @@ use crate::imports::link_import;
 use crate::instances::{Next, link_instance};
 use crate::lifts::link_lift;
 use crate::link_fault::{ItemError, LinkError};
-use crate::linker::{Linker, ROOT};
+use crate::linker::{INSTANCE_LIMIT, Linker, ROOT};
 use crate::types::link_type;
 use ca_base::{MemoryOr, Placed, Seq};
 use ca_types::Shared;
@@ -34,9 +34,6 @@ use instance_tables::InstanceRef;
 use std::alloc::Global;
 use wasm_valid::Valid;
 
-/// How many component instances may begin.
-const INSTANCE_LIMIT: usize = 256;
-
 /// Adds a core module.
 fn link_core_module<'a>(
     alloc: Global,
@@ -47,6 +44,7 @@ fn link_core_module<'a>(
     requires { n < length linker.old.scopes.items }
     ensures made { (bases : List Exports) (l : Linking) (s : Spaces) → IsAt bases linker.old n l s → IsTold (λ _ outcome. IsMade linker.new outcome) result (Ok (one_more l n s (AModule valid.now))) }
     ensures scopes { OnOk result (length linker.new.scopes.items ≡ length linker.old.scopes.items) }
+    ensures live { OnOk result (ended linker.new ≡ ended linker.old) }
 {
     let made = Shared::new(alloc, CoreModule::new(alloc, valid)?)?;
     linker.add_module(n, made)?;
@@ -63,6 +61,7 @@ fn link_component<'a>(
     requires { n < length linker.old.scopes.items }
     ensures made { (bases : List Exports) (l : Linking) (s : Spaces) → IsAt bases linker.old n l s → IsTold (λ _ outcome. IsMade linker.new outcome) result (Ok (one_more l n s (AComponent (record { items = component.now.items; around = n ∷ s.around })))) }
     ensures scopes { OnOk result (length linker.new.scopes.items ≡ length linker.old.scopes.items) }
+    ensures live { OnOk result (ended linker.new ≡ ended linker.old) }
 {
     linker.add_component(alloc, n, component)?;
     Ok(())
@@ -88,6 +87,7 @@ fn link_item<'a>(
     requires { n < length linker.old.scopes.items }
     ensures made { (bases : List Exports) (l : Linking) (s : Spaces) → IsAt bases linker.old n l s → IsTold (IsNext linker.new l) result (item_outcome l n s item.now) }
     ensures scopes { OnOk result (length linker.new.scopes.items ≡ length linker.old.scopes.items) }
+    ensures live { OnOk result (ended linker.new ≡ ended linker.old) }
 {
     match item {
         Item::CoreModule(valid) => next(link_core_module(alloc, linker, n, valid)),
@@ -130,6 +130,7 @@ fn link_placed<'a>(
     requires { n < length linker.old.scopes.items }
     ensures told { (bases : List Exports) (l : Linking) (s : Spaces) → IsAt bases linker.old n l s → IsTold (λ _ next. state.Stands linker.new next) result (step (inside depth) l n placed.now (Some s)) }
     ensures scopes { OnOk result (length linker.old.scopes.items ≤ length linker.new.scopes.items) }
+    ensures live { OnOk result (StayLive linker.old linker.new) }
 {
     match link_item(alloc, linker, n, &placed.item) {
         Ok(Next::Made) => Ok(()),
@@ -158,6 +159,7 @@ fn link_nested<'a>(
     requires { n < length linker.old.scopes.items }
     ensures told { (bases : List Exports) (l : Linking) (s : Spaces) (given : Exports) → IsAt bases linker.old n l s → IsInstance linker.old.types (world_of bases linker.old) arguments given → IsTold (λ _ next. state.Stands linker.new next) result (after (inside depth (begun l (record { items = component.now.items; around = around }) given) (length l.scopes) component.now.items) (λ inner. Ok (with_instance inner n s (length l.scopes)))) }
     ensures scopes { OnOk result (length linker.old.scopes.items ≤ length linker.new.scopes.items) }
+    ensures live { OnOk result (StayLive linker.old linker.new) }
 {
     let instance = linker.scopes.len();
     linker.begin(alloc, around, arguments)?;
@@ -176,8 +178,9 @@ fn link_inside<'a>(
     depth: usize,
 ) -> Result<(), LinkError>
     requires { n < length linker.old.scopes.items }
-    ensures told { (bases : List Exports) (l : Linking) → IsState bases linker.old l → IsTold (λ _ last. state.Stands linker.new last) result (inside depth l n items.now) }
+    ensures told { (bases : List Exports) (l : Linking) → IsState bases linker.old l → IsLive linker.old n → IsTold (λ _ last. state.Stands linker.new last) result (inside depth l n items.now) }
     ensures scopes { OnOk result (length linker.old.scopes.items ≤ length linker.new.scopes.items) }
+    ensures live { OnOk result (StayLive linker.old linker.new) }
 {
     if depth == 0 {
         return Ok(());
@@ -195,8 +198,9 @@ fn link_items<'a>(
     depth: usize,
 ) -> Result<(), LinkError>
     requires { n < length linker.old.scopes.items }
-    ensures told { (bases : List Exports) (l : Linking) → IsState bases linker.old l → IsTold (λ _ last. state.Stands linker.new last) result (run_within depth l n items.now) }
+    ensures told { (bases : List Exports) (l : Linking) → IsState bases linker.old l → IsLive linker.old n → IsTold (λ _ last. state.Stands linker.new last) result (run_within depth l n items.now) }
     ensures scopes { OnOk result (length linker.old.scopes.items ≤ length linker.new.scopes.items) }
+    ensures live { OnOk result (StayLive linker.old linker.new) }
 {
     for placed in items {
         link_placed(alloc, linker, n, placed, depth)?;

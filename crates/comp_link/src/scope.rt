@@ -1,16 +1,19 @@
 //! The index spaces of a component instance, as references into tables.
 
-ghost use Rattle.std.specs.Prelude.{◌≡◌, ◌∷◌, ◌++◌, [], OnOk, OnErr, IfOk, Option, List, ℕ};
+ghost use Rattle.std.specs.Prelude.{◌≡◌, ◌∷◌, ◌++◌, [], true, false, OnOk, OnErr, IfOk, Option, List, ℕ};
 ghost use Rattle.std.specs.List.{slice_get};
 ghost use Rattle.std.specs.Option.{option_map};
 ghost use Rattle.ca_base.specs.Names.{is_among};
 ghost use Rattle.comp_linking.specs.Definitions.{Closure, Definition, Exports};
+ghost use Rattle.comp_linking.specs.Spaces as spaces;
 ghost use Rattle.comp_linking.specs.Spaces.{Spaces, core_size, size_of, core_item_at, definition_at, new_spaces, with_core_item, with_core_instance, with_definition};
 ghost use Rattle.comp_linking.specs.Items.{with_import, with_export};
 ghost use Rattle.type_tables.specs.Table.{Table, IsName, IsType};
 ghost use Rattle.instance_tables.specs.declared.references.DefinitionRef.TheVariants as definition_ref;
 ghost use Rattle.instance_tables.specs.References.{World, IsInstance, IsLifted, Stands};
-ghost use Rattle.comp_link.specs.State.{IsClosure, IsModule, IsScope, AreGiven, IsFoundAs};
+ghost use Rattle.type_meanings.specs.Meant.{IsFoundAs};
+ghost use Rattle.type_meanings.specs.Levels.{IsClosure};
+ghost use Rattle.comp_link.specs.State.{IsModule, IsScope, IsKept, AreGiven};
 
 use ca_base::{Name, Seq, adds};
 use ca_types::Shared;
@@ -20,6 +23,7 @@ use instance_tables::{DefinitionRef, InstanceRef, LiftedRef};
 use std::alloc::{AllocError, Global};
 use std::collections::BTreeSet;
 use std::marker::Model;
+use std::mem;
 use type_tables::{Listing, TypeRef};
 
 /// A component where it stands: as it is read, and the component instances around it, from the inside out. Contracts see its
@@ -147,6 +151,8 @@ pub struct Scope<'a> {
     pub arguments: Option<InstanceRef>,
     /// The component instances around it, from the inside out.
     pub around: Shared<Seq<usize>>,
+    /// Whether it has ended: then its types and its components are kept, which outer aliases see, and nothing else.
+    pub ended: bool,
 }
 
 impl<'a> Scope<'a> {
@@ -156,7 +162,8 @@ impl<'a> Scope<'a> {
         arguments: Option<InstanceRef>,
         around: Shared<Seq<usize>>,
     ) -> Scope<'a>
-        ensures { (t : Table) (w : World) (given : Option Exports) → AreGiven t w arguments given → IsScope t w result (new_spaces given around) }
+        ensures begun { (t : Table) (w : World) (given : Option Exports) → AreGiven t w arguments given → IsScope t w result (new_spaces given around) }
+        ensures ended { result.ended ≡ false }
     {
         Scope {
             core_modules: Vec::new(alloc),
@@ -174,7 +181,29 @@ impl<'a> Scope<'a> {
             export_names: NameList::new(alloc),
             arguments,
             around,
+            ended: false,
         }
+    }
+
+    /// Ends: what outer aliases see is kept, and its exports are handed out.
+    pub(crate) fn end(&mut self, alloc: Global) -> Listing<DefinitionRef>
+        ensures exports { result ≡ self.old.exports }
+        ensures types { self.new.types ≡ self.old.types }
+        ensures components { self.new.components ≡ self.old.components }
+        ensures ended { self.new.ended ≡ true }
+    {
+        self.ended = true;
+        self.core_modules = Vec::new(alloc);
+        self.core_instances = Vec::new(alloc);
+        self.core_funcs = Vec::new(alloc);
+        self.core_tables = Vec::new(alloc);
+        self.core_memories = Vec::new(alloc);
+        self.core_globals = Vec::new(alloc);
+        self.instances = Vec::new(alloc);
+        self.funcs = Vec::new(alloc);
+        drop(mem::replace(&mut self.imports, NameList::new(alloc)));
+        drop(mem::replace(&mut self.export_names, NameList::new(alloc)));
+        mem::replace(&mut self.exports, Listing::new(alloc))
     }
 
     /// How many definitions of a core sort there are.
@@ -233,9 +262,9 @@ impl<'a> Scope<'a> {
         copied_at(&self.core_modules, index)
     }
 
-    /// The number of the component of an index.
+    /// The number of the component of an index, also once the component instance has ended.
     pub fn component(&self, index: u32) -> Option<usize>
-        ensures { (t : Table) (w : World) (s : Spaces) → IsScope t w self.now s → IsFoundAs (IsClosure w) result (slice_get s.components index) }
+        ensures { (t : Table) (w : World) (s : Spaces) → IsKept t w self.now s → IsFoundAs (IsClosure w.components) result (slice_get s.components index) }
     {
         copied_at(&self.components, index)
     }
@@ -254,14 +283,15 @@ impl<'a> Scope<'a> {
         copied_at(&self.funcs, index)
     }
 
-    /// The type of an index.
+    /// The type of an index, also once the component instance has ended.
     pub fn type_at(&self, index: u32) -> Option<TypeRef>
-        ensures { (t : Table) (w : World) (s : Spaces) → IsScope t w self.now s → IsFoundAs (IsType t) result (slice_get s.types index) }
+        ensures { (t : Table) (w : World) (s : Spaces) → IsKept t w self.now s → IsFoundAs (IsType t) result (slice_get s.types index) }
     {
         copied_at(&self.types, index)
     }
 
     /// The definition of a sort and an index.
+    #[tactic(auto, using(crate::proofs::Growth::kept_whole))]
     pub fn definition(&self, sort: Sort, index: u32) -> Option<DefinitionRef>
         ensures { (t : Table) (w : World) (s : Spaces) → IsScope t w self.now s → IsFoundAs (Stands t w) result (definition_at s sort index) }
     {
@@ -275,9 +305,21 @@ impl<'a> Scope<'a> {
         }
     }
 
+    /// The definition that an outer alias names, also once the component instance has ended: a type or a component.
+    pub fn outer_definition(&self, sort: Sort, index: u32) -> Option<DefinitionRef>
+        ensures { (t : Table) (w : World) (s : Spaces) → IsKept t w self.now s → IsFoundAs (Stands t w) result (spaces.outer_definition sort index s) }
+    {
+        match sort {
+            Sort::Type => type_definition(self.type_at(index)),
+            Sort::Component => component_definition(self.component(index)),
+            Sort::Core(_) | Sort::Func | Sort::Instance => None,
+        }
+    }
+
     /// Adds a definition to the space of its sort. It fails for want of memory alone, as do all calls here that fail.
     pub(crate) fn add(&mut self, definition: DefinitionRef) -> Result<(), AllocError>
-        ensures { OnOk result ((t : Table) (w : World) (s : Spaces) (d : Definition) → IsScope t w self.old s → Stands t w definition d → IsScope t w self.new (with_definition s d)) }
+        ensures adds { OnOk result ((t : Table) (w : World) (s : Spaces) (d : Definition) → IsScope t w self.old s → Stands t w definition d → IsScope t w self.new (with_definition s d)) }
+        ensures ended { self.new.ended ≡ self.old.ended }
     {
         match definition {
             DefinitionRef::Func(func) => self.funcs.push(func)?,
@@ -291,7 +333,8 @@ impl<'a> Scope<'a> {
 
     /// Adds a core item to the space of its sort.
     pub(crate) fn add_core_item(&mut self, item: CoreItem<'a>) -> Result<(), AllocError>
-        ensures { OnOk result ((t : Table) (w : World) (s : Spaces) → IsScope t w self.old s → IsScope t w self.new (with_core_item s item.entry)) }
+        ensures adds { OnOk result ((t : Table) (w : World) (s : Spaces) → IsScope t w self.old s → IsScope t w self.new (with_core_item s item.entry)) }
+        ensures ended { self.new.ended ≡ self.old.ended }
     {
         match item.sort() {
             CoreSort::Func => self.core_funcs.push(item)?,
@@ -305,7 +348,8 @@ impl<'a> Scope<'a> {
 
     /// Adds what a core instance exports.
     pub(crate) fn add_core_instance(&mut self, exports: CoreExports<'a>) -> Result<(), AllocError>
-        ensures { OnOk result ((t : Table) (w : World) (s : Spaces) → IsScope t w self.old s → IsScope t w self.new (with_core_instance s exports.entry)) }
+        ensures adds { OnOk result ((t : Table) (w : World) (s : Spaces) → IsScope t w self.old s → IsScope t w self.new (with_core_instance s exports.entry)) }
+        ensures ended { self.new.ended ≡ self.old.ended }
     {
         self.core_instances.push(exports)?;
         Ok(())
@@ -317,7 +361,8 @@ impl<'a> Scope<'a> {
         name: &'a Name,
         definition: DefinitionRef,
     ) -> Result<(), AllocError>
-        ensures { OnOk result ((t : Table) (w : World) (s : Spaces) (d : Definition) → IsScope t w self.old s → Stands t w definition d → IsScope t w self.new (with_import s name.now d)) }
+        ensures adds { OnOk result ((t : Table) (w : World) (s : Spaces) (d : Definition) → IsScope t w self.old s → Stands t w definition d → IsScope t w self.new (with_import s name.now d)) }
+        ensures ended { self.new.ended ≡ self.old.ended }
     {
         self.imports.add(name)?;
         self.add(definition)?;
@@ -331,7 +376,8 @@ impl<'a> Scope<'a> {
         number: usize,
         definition: DefinitionRef,
     ) -> Result<(), AllocError>
-        ensures { OnOk result ((t : Table) (w : World) (s : Spaces) (d : Definition) → IsScope t w self.old s → IsName t number name.now → Stands t w definition d → IsScope t w self.new (with_export s name.now d)) }
+        ensures adds { OnOk result ((t : Table) (w : World) (s : Spaces) (d : Definition) → IsScope t w self.old s → IsName t number name.now → Stands t w definition d → IsScope t w self.new (with_export s name.now d)) }
+        ensures ended { self.new.ended ≡ self.old.ended }
     {
         self.export_names.add(name)?;
         self.exports.push(number, definition)?;

@@ -10,7 +10,8 @@ ghost use Rattle.comp_linking.specs.Items.{lacking};
 ghost use Rattle.comp_linking.specs.Computed.{none_missing};
 ghost use Rattle.type_tables.specs.Table.{IsName, IsExtern};
 ghost use Rattle.instance_tables.specs.References as references;
-ghost use Rattle.comp_link.specs.State.{world_of, IsState, IsFoundAs};
+ghost use Rattle.type_meanings.specs.Meant.{IsFoundAs};
+ghost use Rattle.comp_link.specs.State.{world_of, IsState};
 ghost use Rattle.comp_link.specs.Told.{IsTold};
 ghost use Rattle.comp_link.specs.Ready.{as_wanted, IsSeen};
 

@@ -10,7 +10,7 @@ ghost use Rattle.type_tables.specs.Table.{Table, IsType};
 ghost use Rattle.instance_tables.specs.References.{World};
 ghost use Rattle.type_meanings.specs.Meant.{IsMeaning};
 ghost use Rattle.type_meanings.specs.Levels.{AreLevels};
-ghost use Rattle.comp_link.specs.State.{IsScope, IsAt, IsMade};
+ghost use Rattle.comp_link.specs.State.{IsKept, IsAt, IsMade, ended};
 ghost use Rattle.comp_link.specs.Told.{IsTold};
 ghost use Rattle.comp_link.specs.Ready.{IsReady};
 
@@ -43,7 +43,7 @@ fn push_level<'b>(
     scopes: &'b [Scope<'_>],
     number: usize,
 ) -> Result<(), AllocError>
-    ensures { OnOk result ((t : Table) (w : World) (l : Linking) (numbers : List ℕ) → AllZip (IsScope t w) scopes.now l.scopes → AreLevels t w.components levels.old.items (levels_at l numbers) → AreLevels t w.components levels.new.items (levels_at l (numbers ++ number ∷ []))) }
+    ensures { OnOk result ((t : Table) (w : World) (l : Linking) (numbers : List ℕ) → AllZip (IsKept t w) scopes.now l.scopes → AreLevels t w.components levels.old.items (levels_at l numbers) → AreLevels t w.components levels.new.items (levels_at l (numbers ++ number ∷ []))) }
 {
     let Some(scope) = item_numbered(scopes, Some(number)) else {
         return Ok(());
@@ -59,7 +59,7 @@ fn levels_at<'b>(
     n: usize,
     around: &[usize],
 ) -> Result<Vec<Level<'b>>, AllocError>
-    ensures { IfOk result (λ levels. (t : Table) (w : World) (l : Linking) → AllZip (IsScope t w) scopes.now l.scopes → AreLevels t w.components levels.items (levels_at l (n ∷ around.now))) }
+    ensures { IfOk result (λ levels. (t : Table) (w : World) (l : Linking) → AllZip (IsKept t w) scopes.now l.scopes → AreLevels t w.components levels.items (levels_at l (n ∷ around.now))) }
 {
     let mut levels = Vec::new(alloc);
     push_level(&mut levels, scopes, n)?;
@@ -120,6 +120,7 @@ pub fn link_type<'a>(
     requires { n < length linker.old.scopes.items }
     ensures made { (bases : List Exports) (l : Linking) (s : Spaces) → IsAt bases linker.old n l s → IsTold (λ _ outcome. IsMade linker.new outcome) result (type_outcome l n s (types_read.meaning_of def_type.now (levels_at l (n ∷ s.around)))) }
     ensures scopes { OnOk result (length linker.new.scopes.items ≡ length linker.old.scopes.items) }
+    ensures live { OnOk result (ended linker.new ≡ ended linker.old) }
 {
     let definition = type_definition(alloc, linker, n, def_type)?;
     linker.add(n, definition)?;

@@ -2,7 +2,7 @@ use Rattle.std.proofs.Common.{◌≡◌, ◌∷◌, ℕ, List, Option, Some, Non
 use Rattle.std.specs.List.{slice_get}
 use Rattle.comp_linking.specs.Spaces.{Spaces}
 use Rattle.comp_link.specs.declared.scope.Scope.{Scope}
-use Rattle.comp_link.specs.State.{world_of, IsScope}
+use Rattle.comp_link.specs.State.{world_of, IsKept}
 use Rattle.comp_link.proofs.Steps.{none_found, some_found}
 use Rattle.comp_link.proofs.aliases.outer.Goals as goal
 
@@ -21,7 +21,7 @@ returns-in_err-scope c = λ bases l s at.
     let k = c.args.linker.now in
     let level = level_is c.args.n c.args.up c.as_slice-around.result.now c.scope.result.now.around s.around c.level.result (c.as_slice-around.ensures ∙ c.get.ensures) (c.scope.ensures bases l s at).around c.level.ensures in
     let there : slice_get (c.args.n ∷ s.around) c.args.up ≡ Some c.in_ok-level.level = level ∙ c.in_ok-level.was in
-    let none = none_found (λ (scope : Bor Scope) (x : Spaces). IsScope k.types (world_of bases k) scope.now x) c.scope_at.result (slice_get l.scopes c.in_ok-level.level) c.in_err-scope.was (c.scope_at.ensures bases l at.state) in
+    let none = none_found (λ (scope : Bor Scope) (x : Spaces). IsKept k.types (world_of bases k) scope.now x) c.scope_at.result (slice_get l.scopes c.in_ok-level.level) c.in_err-scope.was (c.scope_at.ensures bases l at.state) in
     rw (c.from_residual-in_err-scope.ensures, there, none) refl
 
 pub returns : goal.returns
@@ -29,5 +29,5 @@ returns c = λ bases l s at.
     let k = c.args.linker.now in
     let level = level_is c.args.n c.args.up c.as_slice-around.result.now c.scope.result.now.around s.around c.level.result (c.as_slice-around.ensures ∙ c.get.ensures) (c.scope.ensures bases l s at).around c.level.ensures in
     let there : slice_get (c.args.n ∷ s.around) c.args.up ≡ Some c.in_ok-level.level = level ∙ c.in_ok-level.was in
-    let one = some_found (λ (scope : Bor Scope) (x : Spaces). IsScope k.types (world_of bases k) scope.now x) c.scope_at.result c.in_ok-scope.scope (slice_get l.scopes c.in_ok-level.level) c.in_ok-scope.was (c.scope_at.ensures bases l at.state) in
+    let one = some_found (λ (scope : Bor Scope) (x : Spaces). IsKept k.types (world_of bases k) scope.now x) c.scope_at.result c.in_ok-scope.scope (slice_get l.scopes c.in_ok-level.level) c.in_ok-scope.was (c.scope_at.ensures bases l at.state) in
     rw (there, one.1) (c.outer_definition.ensures k.types (world_of bases k) one.0 one.2)

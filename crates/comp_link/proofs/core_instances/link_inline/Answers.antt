@@ -1,29 +1,22 @@
 use Rattle.std.proofs.Common.{◌≡◌, List, refl, subst}
-use Rattle.std.specs.Prelude.{Ok, Err}
 use Rattle.std.proofs.lemmas.Result.{err_from_is_err_and}
-use Rattle.comp_reader.specs.declared.component.CoreInstance.TheVariants as made_core
 use Rattle.comp_linking.specs.Definitions.{CoreExport}
 use Rattle.comp_linking.specs.Spaces.{with_core_instance, with_spaces}
-use Rattle.comp_linking.specs.Computed.{core_instance_outcome}
+use Rattle.comp_linking.specs.Computed.{inline_outcome}
 use Rattle.comp_link.specs.State.{IsState, world_of}
-use Rattle.comp_link.specs.CoreParts.{inline_outcome}
-use Rattle.comp_link.proofs.Told.{reason_first, made_second, value_told}
-use Rattle.comp_link.proofs.CoreParts.{inline_is, with_inline}
+use Rattle.comp_link.proofs.Told.{reason_after, made_from, value_told}
 use Rattle.comp_link.proofs.core_instances.link_inline.Goals as goal
 
 pub returns-in_err-exports-clause-made : goal.returns-in_err-exports-clause-made
 returns-in_err-exports-clause-made c =
     λ bases l s at.
     let p = err_from_is_err_and c.from_residual.result c.from_residual.ensures.1 in
-    rw (p.1, p.2)
-    (reason_first _ (inline_outcome s c.args.read.now) (with_inline l c.args.n s) (core_instance_outcome l c.args.n s (made_core.Inline c.args.read.now)) (inline_is l c.args.n s c.args.read.now)
-    (c.in_err-exports.ensures c.args.linker.now.types (world_of bases c.args.linker.now) s (c.scope.ensures bases l s at)))
+    rw (p.1, p.2) (reason_after _ (inline_outcome s c.args.read.now) _ (c.in_err-exports.ensures c.args.linker.now.types (world_of bases c.args.linker.now) s (c.scope.ensures bases l s at)))
 
 pub returns-clause-made : goal.returns-clause-made
 returns-clause-made c =
     λ bases l s at.
     let e = value_told (λ (i exports : List CoreExport). i ≡ exports) c.in_ok-exports.exports (inline_outcome s c.args.read.now)
     (c.in_ok-exports.ensures c.args.linker.now.types (world_of bases c.args.linker.now) s (c.scope.ensures bases l s at)) in
-    made_second c.add_inline.new.self bases (inline_outcome s c.args.read.now) e.0 (with_inline l c.args.n s) (core_instance_outcome l c.args.n s (made_core.Inline c.args.read.now))
-    (with_spaces l c.args.n (with_core_instance s e.0)) (inline_is l c.args.n s c.args.read.now) e.1 refl
+    made_from c.add_inline.new.self bases (inline_outcome s c.args.read.now) e.0 (λ exports. with_spaces l c.args.n (with_core_instance s exports)) e.1
     (subst (λ (exports : List CoreExport). IsState bases c.add_inline.new.self (with_spaces l c.args.n (with_core_instance s exports))) e.2 (c.in_ok-add_inline.ensures.ok bases l s at))

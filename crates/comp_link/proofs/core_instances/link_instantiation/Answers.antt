@@ -1,14 +1,12 @@
 use Rattle.std.proofs.Common.{◌≡◌, ◌≤◌, ◌<◌, ◌∙◌, List, sym, ap, arith, length, map}
 use Rattle.std.proofs.lemmas.Result.{err_from_is_err_and}
-use Rattle.wasm_module.specs.declared.module.ModuleTree.{ModuleTree}
 use Rattle.comp_reader.specs.declared.component.CoreInstance.TheVariants as made_core
 use Rattle.comp_linking.specs.declared.fault.LinkWhy.TheVariants as why
 use Rattle.comp_linking.specs.Definitions.{CoreItem, extern_of}
 use Rattle.comp_linking.specs.Items.{instance_limit, core_made}
 use Rattle.comp_linking.specs.Computed.{core_instance_outcome}
-use Rattle.core_exports.specs.Imports.{imports_outcome}
-use Rattle.comp_link.proofs.Told.{reason_first, reason_second, made_second, reason_of_fault}
-use Rattle.comp_link.proofs.CoreParts.{instantiation_is, instantiated, within_limit, past_limit}
+use Rattle.comp_link.proofs.Told.{reason_is, made_told, reason_of_fault}
+use Rattle.comp_link.proofs.CoreParts.{imports_refused, within_limit, past_limit}
 use Rattle.comp_link.proofs.core_instances.link_instantiation.Goals as goal
 
 pub returns-in_err-items-clause-made : goal.returns-in_err-items-clause-made
@@ -19,8 +17,7 @@ returns-in_err-items-clause-made c =
     let same : s.core_instances ≡ c.as_slice-instances.result.now = (c.scope.ensures bases l s at).core_instances ∙ sym c.as_slice-instances.ensures.value in
     let p = err_from_is_err_and c.from_residual-in_err-items.result c.from_residual-in_err-items.ensures.1 in
     rw (p.1, p.2)
-    (reason_first _ (imports_outcome s m.0 c.args.arguments.now) (instantiated l c.args.n s m.0) (core_instance_outcome l c.args.n s (made_core.Instantiate c.args.index c.args.arguments.now))
-    (instantiation_is l c.args.n s c.args.index c.args.arguments.now m.0 m.1) (rw (sym tree_is) (reason_of_fault _ _ (c.in_err-items.ensures s same))))
+    (imports_refused l c.args.n s c.args.index c.args.arguments.now m.0 c.tree-tree.result.now c.as_slice-instances.result.now m.1 tree_is same _ (reason_of_fault _ _ c.in_err-items.ensures))
 
 pub returns-then-core_count-ge-INSTANCE_LIMIT-clause-made : goal.returns-then-core_count-ge-INSTANCE_LIMIT-clause-made
 returns-then-core_count-ge-INSTANCE_LIMIT-clause-made c =
@@ -29,9 +26,8 @@ returns-then-core_count-ge-INSTANCE_LIMIT-clause-made c =
     let tree_is : c.tree-tree.result.now ≡ m.0 = c.tree-tree.ensures.value ∙ c.valid.ensures ∙ c.get.ensures ∙ c.in_ok-made.ensures ∙ m.2 in
     let same : s.core_instances ≡ c.as_slice-instances.result.now = (c.scope.ensures bases l s at).core_instances ∙ sym c.as_slice-instances.ensures.value in
     let past : instance_limit ≤ length l.cores = omega (arith, c.if-core_count-ge-INSTANCE_LIMIT.true, c.core_count.ensures bases l at.state) in
-    reason_second why.Limit (imports_outcome s m.0 c.args.arguments.now) c.in_ok-items.items.items (instantiated l c.args.n s m.0)
-    (core_instance_outcome l c.args.n s (made_core.Instantiate c.args.index c.args.arguments.now)) (instantiation_is l c.args.n s c.args.index c.args.arguments.now m.0 m.1)
-    (ap (λ (t : ModuleTree). imports_outcome s t c.args.arguments.now) (sym tree_is) ∙ c.in_ok-items.ensures s same) (past_limit l c.args.n s m.0 c.in_ok-items.items.items past)
+    reason_is why.Limit (core_instance_outcome l c.args.n s (made_core.Instantiate c.args.index c.args.arguments.now))
+    (past_limit l c.args.n s c.args.index c.args.arguments.now m.0 c.tree-tree.result.now c.as_slice-instances.result.now m.1 tree_is same c.in_ok-items.items.items c.in_ok-items.ensures past)
 
 pub returns-clause-made : goal.returns-clause-made
 returns-clause-made c =
@@ -42,8 +38,6 @@ returns-clause-made c =
     let same : s.core_instances ≡ c.as_slice-instances.result.now = (c.scope.ensures bases l s at).core_instances ∙ sym c.as_slice-instances.ensures.value in
     let within : length l.cores < instance_limit = omega (arith, c.if-core_count-ge-INSTANCE_LIMIT.false, c.core_count.ensures bases l at.state) in
     let items = c.in_ok-items.items.items in
-    made_second c.add_core_instance.new.self bases (imports_outcome s m.0 c.args.arguments.now) items (instantiated l c.args.n s m.0)
-    (core_instance_outcome l c.args.n s (made_core.Instantiate c.args.index c.args.arguments.now)) (core_made l c.args.n s m.0 items)
-    (instantiation_is l c.args.n s c.args.index c.args.arguments.now m.0 m.1)
-    (ap (λ (t : ModuleTree). imports_outcome s t c.args.arguments.now) (sym tree_is) ∙ c.in_ok-items.ensures s same) (within_limit l c.args.n s m.0 items within)
+    made_told c.add_core_instance.new.self bases (core_instance_outcome l c.args.n s (made_core.Instantiate c.args.index c.args.arguments.now)) (core_made l c.args.n s m.0 items)
+    (within_limit l c.args.n s c.args.index c.args.arguments.now m.0 c.tree-tree.result.now c.as_slice-instances.result.now m.1 tree_is same items c.in_ok-items.ensures within)
     (rw (sym made_is) (c.in_ok-add_core_instance.ensures.ok bases l s items at (c.in_ok-externs.ensures ∙ ap (λ (items : List CoreItem). map extern_of items) c.deref.ensures.value)))

@@ -1,4 +1,4 @@
-use Rattle.std.proofs.Common.{◌<◌, ◌≤◌, ℕ, List, refl, sym, ◌∙◌, subst, Some, true, false}
+use Rattle.std.proofs.Common.{ap, ◌<◌, ◌≤◌, ℕ, List, refl, sym, ◌∙◌, subst, Some, true, false}
 use Rattle.std.specs.List.{AllZip}
 use Rattle.std.proofs.lemmas.Result.{err_from_is_err_and}
 use Rattle.ca_base.specs.Names.{is_among}
@@ -14,6 +14,8 @@ use Rattle.comp_link.specs.State.{world_of}
 use Rattle.comp_link.specs.Ready.{as_wanted, exported}
 use Rattle.comp_link.proofs.Steps.{none_found, some_found, outcome_err, outcome_reason, outcome_ready, among_is}
 use Rattle.comp_link.proofs.Wanting.{wants, wants_err, wants_among, wants_none, wants_some, export_index, said_absent, said_none, said_some}
+use Rattle.comp_link.proofs.States.{live_scopes}
+use Rattle.comp_link.specs.declared.linker.Linker.{Linker}
 use Rattle.comp_link.proofs.exports.said_export.Goals as goal
 
 pub returns-then-export-size-clause-made : goal.returns-then-export-size-clause-made
@@ -92,7 +94,7 @@ returns-then-has-clause-made c = λ bases l s at says.
     let x = as_wanted one.0 meaning.means in
     let make = exported l n s e.name in
     let state = c.seen.ensures.state bases l one.0 meaning.means at.state one.2 m.means in
-    let later = c.scope.ensures bases l s (record { state = state; there = at.there }) in
+    let later = c.scope.ensures bases l s (record { state = state; there = at.there; live = live_scopes k c.seen.new.linker n (ap (λ (m : Linker). m.scopes) c.seen.ensures.rest) at.live }) in
     let taken = among_is c.as_str.result.now e.name c.scope.result.now.export_names (export_names s.exports) c.has.result true c.as_str.ensures later.export_names c.has.ensures c.if-has.true in
     outcome_err why.Typing (export_outcome l n s e) (is ∙ wants_among new.types (world_of bases new) lacks x make among c.seen.result told c.in_ok-definition.definition c.in_ok-definition.was taken)
 
@@ -116,7 +118,7 @@ returns-in-Some-definition-clause-made c = λ bases l s at says.
     let x = as_wanted one.0 meaning.means in
     let make = exported l n s e.name in
     let state = c.seen.ensures.state bases l one.0 meaning.means at.state one.2 m.means in
-    let later = c.scope.ensures bases l s (record { state = state; there = at.there }) in
+    let later = c.scope.ensures bases l s (record { state = state; there = at.there; live = live_scopes k c.seen.new.linker n (ap (λ (m : Linker). m.scopes) c.seen.ensures.rest) at.live }) in
     let free = among_is c.as_str.result.now e.name c.scope.result.now.export_names (export_names s.exports) c.has.result false c.as_str.ensures later.export_names c.has.ensures c.if-has.false in
     let d = wants_some new.types (world_of bases new) lacks x make among c.seen.result told c.in_ok-definition.definition c.in-Some-definition.definition c.in_ok-definition.was c.in-Some-definition.is free in
     outcome_ready new l make c.in-Some-definition.definition (export_outcome l n s e) (make d.0) (is ∙ d.1) (record { bases = bases; state = state; definition = d.0; stands = d.2; makes = refl })
@@ -141,6 +143,6 @@ returns-in-None-clause-made c = λ bases l s at says.
     let x = as_wanted one.0 meaning.means in
     let make = exported l n s e.name in
     let state = c.seen.ensures.state bases l one.0 meaning.means at.state one.2 m.means in
-    let later = c.scope.ensures bases l s (record { state = state; there = at.there }) in
+    let later = c.scope.ensures bases l s (record { state = state; there = at.there; live = live_scopes k c.seen.new.linker n (ap (λ (m : Linker). m.scopes) c.seen.ensures.rest) at.live }) in
     let free = among_is c.as_str.result.now e.name c.scope.result.now.export_names (export_names s.exports) c.has.result false c.as_str.ensures later.export_names c.has.ensures c.if-has.false in
     outcome_err why.Typing (export_outcome l n s e) (is ∙ wants_none new.types (world_of bases new) lacks x make among c.seen.result told c.in_ok-definition.definition c.in_ok-definition.was c.in-None.is free)

@@ -1,15 +1,18 @@
 use Rattle.std.proofs.Common.{[], sym, ◌∙◌}
+use Rattle.comp_linking.specs.Linked.{called}
 use Rattle.instance_tables.specs.References.{listed, IsEntry}
-use Rattle.comp_link.specs.Called.{called}
 use Rattle.comp_link.proofs.Calling.{callables_listed, lists_more, lists_all}
 use Rattle.comp_link.proofs.graphs.callables.Goals as goal
 
 pub loop-entry-preserved : goal.loop-entry-preserved
-loop-entry-preserved c = λ w given are is.
-    lists_more (IsEntry c.args.types.now w) called c.args.entries.now (listed given) [] c.loop-entry.funcs.items c.loop-entry.entry-index is (c.loop-entry.invariant w given are is)
-    _ c.push_called.new.funcs.items c.loop-entry-test.true (λ e h. c.in_ok-push_called.ensures w e are h)
+loop-entry-preserved c = record {
+  lists = c.in_ok-push_called.ensures.lists;
+  funcs = λ w given are is.
+      lists_more (IsEntry c.args.types.now w) called c.args.entries.now (listed given) [] c.loop-entry.funcs.items c.loop-entry.entry-index is (c.loop-entry.invariant.funcs w given are is)
+      _ c.push_called.new.funcs.items c.loop-entry-test.true (λ e h. c.in_ok-push_called.ensures.funcs w e are h);
+}
 
 pub returns : goal.returns
 returns c = λ w given are is.
-    lists_all (IsEntry c.args.types.now w) called c.args.entries.now (listed given) [] c.loop-entry.funcs.items c.loop-entry.entry-index is (c.loop-entry.invariant w given are is) c.loop-entry-test.false
+    lists_all (IsEntry c.args.types.now w) called c.args.entries.now (listed given) [] c.loop-entry.funcs.items c.loop-entry.entry-index is (c.loop-entry.invariant.funcs w given are is) c.loop-entry-test.false
     ∙ sym (callables_listed given)

@@ -6,7 +6,7 @@ use Rattle.comp_link.proofs.graphs.graph_of.Goals as goal
 
 pub returns : goal.returns
 returns c = λ l stands.
-    graph_told c.args.linker l c.in_ok-funcs.funcs.items c.new.result c.requires.root stands c.scope.result.now c.scope.ensures
+    graph_told c.args.linker l c.in_ok-funcs.funcs.items c.new.result c.requires.root c.requires.live stands c.scope.result.now c.scope.ensures
     (λ w given are is. c.in_ok-funcs.ensures w given are (subst (λ (es : List (ℕ × DefinitionRef)). IsListing c.args.linker.types w es given) (sym c.entries-entries.ensures) is))
     (search (rules, c.new.ensures, c.from_vec.ensures))
     (search (rules, c.new.ensures, c.len-count.ensures))

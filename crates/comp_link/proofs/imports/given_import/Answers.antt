@@ -1,4 +1,4 @@
-use Rattle.std.proofs.Common.{List, refl, sym, ◌∙◌, subst, Some, Err, true, false}
+use Rattle.std.proofs.Common.{ap, List, refl, sym, ◌∙◌, subst, Some, Err, true, false}
 use Rattle.std.specs.List.{AllZip}
 use Rattle.std.proofs.lemmas.Result.{err_from_is_err_and}
 use Rattle.ca_base.specs.Names.{is_among}
@@ -12,6 +12,8 @@ use Rattle.comp_link.specs.State.{world_of}
 use Rattle.comp_link.specs.Ready.{as_wanted, imported}
 use Rattle.comp_link.proofs.Steps.{none_named, some_named, missing_told, outcome_err, outcome_reason, outcome_ready, among_is}
 use Rattle.comp_link.proofs.Wanting.{wants, wants_err, wants_among, wants_none, wants_some, given_absent, given_none, given_some}
+use Rattle.comp_link.proofs.States.{live_scopes}
+use Rattle.comp_link.specs.declared.linker.Linker.{Linker}
 use Rattle.comp_link.proofs.imports.given_import.Goals as goal
 
 pub returns-then-not-meant-clause-made : goal.returns-then-not-meant-clause-made
@@ -82,7 +84,7 @@ returns-then-has-clause-made c = λ bases l s given at named instance.
     let x = as_wanted one.0 meaning.means in
     let make = imported l n s i.name in
     let state = c.seen.ensures.state bases l one.0 meaning.means at.state one.2 m.means in
-    let later = c.scope-2.ensures bases l s (record { state = state; there = at.there }) in
+    let later = c.scope-2.ensures bases l s (record { state = state; there = at.there; live = live_scopes k c.seen.new.linker n (ap (λ (m : Linker). m.scopes) c.seen.ensures.rest) at.live }) in
     let taken = among_is c.as_str-2.result.now i.name c.scope-2.result.now.imports s.imports c.has.result true c.as_str-2.ensures later.imports c.has.ensures c.if-has.true in
     outcome_err why.Typing (import_outcome l n s i.name meaning i.desc (Some given)) (is ∙ wants_among new.types (world_of bases new) lacks x make among c.seen.result told c.in_ok-definition.definition c.in_ok-definition.was taken)
 
@@ -106,7 +108,7 @@ returns-in-Some-definition-clause-made c = λ bases l s given at named instance.
     let x = as_wanted one.0 meaning.means in
     let make = imported l n s i.name in
     let state = c.seen.ensures.state bases l one.0 meaning.means at.state one.2 m.means in
-    let later = c.scope-2.ensures bases l s (record { state = state; there = at.there }) in
+    let later = c.scope-2.ensures bases l s (record { state = state; there = at.there; live = live_scopes k c.seen.new.linker n (ap (λ (m : Linker). m.scopes) c.seen.ensures.rest) at.live }) in
     let free = among_is c.as_str-2.result.now i.name c.scope-2.result.now.imports s.imports c.has.result false c.as_str-2.ensures later.imports c.has.ensures c.if-has.false in
     let d = wants_some new.types (world_of bases new) lacks x make among c.seen.result told c.in_ok-definition.definition c.in-Some-definition.definition c.in_ok-definition.was c.in-Some-definition.is free in
     outcome_ready new l make c.in-Some-definition.definition (import_outcome l n s i.name meaning i.desc (Some given)) (make d.0) (is ∙ d.1) (record { bases = bases; state = state; definition = d.0; stands = d.2; makes = refl })
@@ -131,6 +133,6 @@ returns-in-None-clause-made c = λ bases l s given at named instance.
     let x = as_wanted one.0 meaning.means in
     let make = imported l n s i.name in
     let state = c.seen.ensures.state bases l one.0 meaning.means at.state one.2 m.means in
-    let later = c.scope-2.ensures bases l s (record { state = state; there = at.there }) in
+    let later = c.scope-2.ensures bases l s (record { state = state; there = at.there; live = live_scopes k c.seen.new.linker n (ap (λ (m : Linker). m.scopes) c.seen.ensures.rest) at.live }) in
     let free = among_is c.as_str-2.result.now i.name c.scope-2.result.now.imports s.imports c.has.result false c.as_str-2.ensures later.imports c.has.ensures c.if-has.false in
     outcome_err why.Typing (import_outcome l n s i.name meaning i.desc (Some given)) (is ∙ wants_none new.types (world_of bases new) lacks x make among c.seen.result told c.in_ok-definition.definition c.in_ok-definition.was c.in-None.is free)

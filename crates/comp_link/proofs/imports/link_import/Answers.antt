@@ -1,9 +1,12 @@
+use Rattle.std.proofs.Common.{ap, ◌∙◌}
 use Rattle.std.proofs.lemmas.Result.{err_from_is_err_and}
 use Rattle.comp_linking.specs.Items.{wanted}
 use Rattle.comp_linking.specs.Computed.{Outcome, import_outcome}
 use Rattle.comp_link.specs.Ready.{IsReady, imported}
 use Rattle.comp_link.specs.State.{IsMade}
 use Rattle.comp_link.proofs.Steps.{told_err, linked_by}
+use Rattle.comp_link.specs.declared.linker.Linker.{Linker}
+use Rattle.comp_link.proofs.States.{live_scopes}
 use Rattle.comp_link.proofs.imports.link_import.Goals as goal
 
 pub returns-in_err-definition-clause-made : goal.returns-in_err-definition-clause-made
@@ -21,4 +24,5 @@ returns-clause-made c = λ bases l s at.
     let i = c.args.import.now in
     linked_by c.import_definition.new.linker c.add_import.new.self c.args.n l s (imported l c.args.n s i.name) c.import_definition.result c.in_ok-definition.definition (import_outcome l c.args.n s i.name (wanted s i.desc) i.desc s.arguments) c.in_ok-definition.was
     (c.import_definition.ensures.made bases l s (c.name.ensures.at bases c.args.n l s at) c.in_ok-number.ensures.ok) at.there
+    (live_scopes c.args.linker.now c.import_definition.new.linker c.args.n (ap (λ (m : Linker). m.scopes) c.import_definition.ensures.rest ∙ c.name.ensures.scopes) at.live)
     (λ own d now stands. (own, c.in_ok-add_import.ensures.ok own l s d now stands))

@@ -1,9 +1,8 @@
-use Rattle.std.proofs.Common.{◌∷◌, ◌++◌, [], None}
+use Rattle.std.proofs.Common.{None}
 use Rattle.comp_linking.specs.Definitions.{AnInstance, types_of}
 use Rattle.comp_linking.specs.Items.{wanted}
 use Rattle.comp_linking.specs.Computed.{import_outcome}
 use Rattle.instance_tables.specs.declared.references.DefinitionRef.TheVariants as ref
-use Rattle.comp_link.specs.State.{world_of}
 use Rattle.comp_link.specs.Ready.{IsGiven, imported}
 use Rattle.comp_link.proofs.Steps.{told_ok, outcome_ready}
 use Rattle.comp_link.proofs.imports.root_import.Goals as goal
@@ -15,7 +14,6 @@ returns-clause-made c = λ bases l s at.
     let make = imported l c.args.n s i.name in
     let x = import_outcome l c.args.n s i.name (wanted s i.desc) i.desc None in
     let ok = told_ok (IsGiven k.types make) c.root_type.result c.in_ok-instance_type.instance_type x c.in_ok-instance_type.was (c.root_type.ensures bases l s at) in
-    let exports = types_of ok.2.0 in
-    let listed = c.in_ok-listing.ensures (world_of bases k) ok.2.0 ok.2.1 in
-    outcome_ready c.instance.new.self l make (ref.Instance c.in_ok-instance.instance) x ok.0 ok.1
-    (record { bases = bases ++ exports ∷ []; state = c.in_ok-instance.ensures.state bases l exports at.state listed; definition = AnInstance exports; stands = c.in_ok-instance.ensures.made bases l exports at.state listed; makes = ok.2.2 })
+    let there = c.in_ok-instance.ensures.made bases l ok.2.0 at.state ok.2.1 ok.2.2 in
+    outcome_ready c.instance_of_types.new.self l make (ref.Instance c.in_ok-instance.instance) x ok.0 ok.1
+    (record { bases = there.bases; state = there.state; definition = AnInstance (types_of ok.2.0); stands = there.instance; makes = ok.2.3 })

@@ -1,4 +1,4 @@
-use Rattle.std.proofs.Common.{◌∷◌, ◌++◌, [], ℕ, List, Result, Ok, sym, subst}
+use Rattle.std.proofs.Common.{◌∷◌, ◌++◌, [], ℕ, List, Result, Ok, sym, ap, subst, ◌∙◌}
 use Rattle.std.proofs.lemmas.Result.{err_from_is_err_and}
 use Rattle.comp_linking.specs.declared.fault.LinkWhy.{LinkWhy}
 use Rattle.comp_linking.specs.Definitions.{AnInstance, Exports}
@@ -11,6 +11,8 @@ use Rattle.comp_link.specs.Told.{IsTold}
 use Rattle.comp_link.specs.Next.{IsNext}
 use Rattle.comp_link.proofs.Steps.{told_ok, reason_of}
 use Rattle.comp_link.proofs.NamedSteps.{reason_after, inline_made}
+use Rattle.comp_link.specs.declared.linker.Linker.{Linker}
+use Rattle.comp_link.proofs.States.{live_scopes}
 use Rattle.comp_link.proofs.instances.link_inline.Goals as goal
 
 pub returns-in_err-exports-clause-made : goal.returns-in_err-exports-clause-made
@@ -31,4 +33,4 @@ returns-clause-made c = λ bases l s at.
     let state = c.in_ok-instance.ensures.state bases l ok.0 before ok.2 in
     let stands = c.in_ok-instance.ensures.made bases l ok.0 before ok.2 in
     subst (λ (r : Result Outcome LinkWhy). IsTold (IsNext c.add.new.self l) (Ok next.Made) r) (sym (inline_made l c.args.n s c.args.read.now ok.0 ok.1))
-    (own, c.in_ok-add.ensures.ok own l s (AnInstance ok.0) (record { state = state; there = at.there }) stands)
+    (own, c.in_ok-add.ensures.ok own l s (AnInstance ok.0) (record { state = state; there = at.there; live = live_scopes c.args.linker.now c.instance.new.self c.args.n (ap (λ (m : Linker). m.scopes) c.instance.ensures.rest ∙ c.named_exports.ensures.scopes) at.live }) stands)

@@ -1,11 +1,12 @@
 use Rattle.std.proofs.Common.{sym, subst}
 use Rattle.comp_linking.specs.declared.fault.LinkWhy.TheVariants as why
+use Rattle.comp_linking.specs.Computed.{lifted_of}
 use Rattle.type_tables.specs.declared.refs.TypeRef.{TypeRef}
 use Rattle.type_tables.specs.Table.{IsType}
 use Rattle.comp_link.specs.State.{world_of}
-use Rattle.comp_link.specs.CoreParts.{lifted_of}
 use Rattle.comp_link.proofs.Told.{reason_is}
 use Rattle.comp_link.proofs.CoreParts.{no_item, no_type, other_type, of_func_type, of_parts}
+use Rattle.comp_link.proofs.Growth.{kept_whole}
 use Rattle.comp_link.proofs.lifts.lifted.Goals as goal
 
 pub returns-in_default : goal.returns-in_default
@@ -20,13 +21,13 @@ returns-in_default-type_at c =
     let scope = c.scope-scope.ensures bases l s at in
     reason_is why.Index (lifted_of c.args.n s c.args.core_func c.args.func_type)
     (no_type c.args.n s c.args.core_func c.args.func_type c.in-Some.item (sym (c.in-Some.ensures c.args.linker.now.types (world_of bases c.args.linker.now) s scope))
-    (c.in_default-type_at.ensures c.args.linker.now.types (world_of bases c.args.linker.now) s scope))
+    (c.in_default-type_at.ensures c.args.linker.now.types (world_of bases c.args.linker.now) s (kept_whole c.args.linker.now.types (world_of bases c.args.linker.now) c.scope-scope.result.now s scope)))
 
 pub returns-in_default-of_type : goal.returns-in_default-of_type
 returns-in_default-of_type c =
     λ bases l s at.
     let scope = c.scope-scope.ensures bases l s at in
-    let type = c.in-Some-type_at.ensures c.args.linker.now.types (world_of bases c.args.linker.now) s scope in
+    let type = c.in-Some-type_at.ensures c.args.linker.now.types (world_of bases c.args.linker.now) s (kept_whole c.args.linker.now.types (world_of bases c.args.linker.now) c.scope-scope.result.now s scope) in
     reason_is why.Typing (lifted_of c.args.n s c.args.core_func c.args.func_type)
     (other_type c.args.linker.now.types c.args.n s c.args.core_func c.args.func_type c.in-Some.item c.in-Some-type_at.of_type type.0 c.in_default-of_type.not-Func
     (sym (c.in-Some.ensures c.args.linker.now.types (world_of bases c.args.linker.now) s scope)) type.1 type.2)
@@ -35,7 +36,7 @@ pub returns : goal.returns
 returns c =
     λ bases l s at.
     let scope = c.scope-scope.ensures bases l s at in
-    let type = c.in-Some-type_at.ensures c.args.linker.now.types (world_of bases c.args.linker.now) s scope in
+    let type = c.in-Some-type_at.ensures c.args.linker.now.types (world_of bases c.args.linker.now) s (kept_whole c.args.linker.now.types (world_of bases c.args.linker.now) c.scope-scope.result.now s scope) in
     let f = of_func_type c.args.linker.now.types c.in-Func.of_func type.0 (subst (λ (ref : TypeRef). IsType c.args.linker.now.types ref type.0) c.in-Func.is type.2) in
     rw (of_parts c.args.n s c.args.core_func c.args.func_type c.in-Some.item type.0 f.0 (sym (c.in-Some.ensures c.args.linker.now.types (world_of bases c.args.linker.now) s scope)) type.1 f.1)
     (c.lifted_to.ensures f.0 f.2)

@@ -2,8 +2,8 @@ use Rattle.std.proofs.Common.{◌≡◌, ◌∙◌, refl, sym, ap}
 use Rattle.ca_types.specs.declared.types.FuncType.{FuncType}
 use Rattle.comp_graph.specs.Graph.{is_flat}
 use Rattle.comp_linking.specs.declared.fault.LinkWhy.TheVariants as why
+use Rattle.comp_linking.specs.Computed.{lifted_to}
 use Rattle.instance_tables.specs.References.{IsLifted}
-use Rattle.comp_link.specs.CoreParts.{lifted_to}
 use Rattle.comp_link.proofs.Told.{told_why, told_value}
 use Rattle.comp_link.proofs.CoreParts.{not_flat, is_lift}
 use Rattle.comp_link.proofs.lifts.lifted_to.Goals as goal

@@ -1,26 +1,21 @@
-use Rattle.std.proofs.Common.{◌≡◌, refl}
-use Rattle.std.specs.Prelude.{Ok, Err}
+use Rattle.std.proofs.Common.{refl}
 use Rattle.std.proofs.lemmas.Result.{err_from_is_err_and}
 use Rattle.comp_linking.specs.Definitions.{AFunc}
 use Rattle.comp_linking.specs.Spaces.{with_definition, with_spaces}
-use Rattle.comp_linking.specs.Computed.{lift_outcome}
+use Rattle.comp_linking.specs.Computed.{lifted_of}
 use Rattle.instance_tables.specs.References.{IsLifted}
-use Rattle.comp_link.specs.CoreParts.{lifted_of}
-use Rattle.comp_link.proofs.Told.{reason_first, made_second, value_told}
-use Rattle.comp_link.proofs.CoreParts.{lift_is, with_lift}
+use Rattle.comp_link.proofs.Told.{reason_after, made_from, value_told}
 use Rattle.comp_link.proofs.lifts.link_lift.Goals as goal
 
 pub returns-in_err-lifted-clause-made : goal.returns-in_err-lifted-clause-made
 returns-in_err-lifted-clause-made c =
     λ bases l s at.
     let p = err_from_is_err_and c.from_residual.result c.from_residual.ensures.1 in
-    rw (p.1, p.2)
-    (reason_first _ (lifted_of c.args.n s c.args.core_func c.args.func_type) (with_lift l c.args.n s) (lift_outcome l c.args.n s c.args.core_func c.args.func_type)
-    (lift_is l c.args.n s c.args.core_func c.args.func_type) (c.in_err-lifted.ensures bases l s at))
+    rw (p.1, p.2) (reason_after _ (lifted_of c.args.n s c.args.core_func c.args.func_type) _ (c.in_err-lifted.ensures bases l s at))
 
 pub returns-clause-made : goal.returns-clause-made
 returns-clause-made c =
     λ bases l s at.
     let f = value_told (IsLifted c.args.linker.now.types) _ (lifted_of c.args.n s c.args.core_func c.args.func_type) (c.in_ok-lifted.ensures bases l s at) in
-    made_second c.add.new.self bases (lifted_of c.args.n s c.args.core_func c.args.func_type) f.0 (with_lift l c.args.n s) (lift_outcome l c.args.n s c.args.core_func c.args.func_type)
-    (with_spaces l c.args.n (with_definition s (AFunc f.0))) (lift_is l c.args.n s c.args.core_func c.args.func_type) f.1 refl (c.in_ok-add.ensures.ok bases l s (AFunc f.0) at f.2)
+    made_from c.add.new.self bases (lifted_of c.args.n s c.args.core_func c.args.func_type) f.0 (λ lifted. with_spaces l c.args.n (with_definition s (AFunc lifted))) f.1
+    (c.in_ok-add.ensures.ok bases l s (AFunc f.0) at f.2)

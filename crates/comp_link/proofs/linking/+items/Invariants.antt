@@ -3,7 +3,7 @@
 use Rattle.std.proofs.Common.{◌<◌, ◌≤◌, ◌+◌, ◌*◌, List, length, drop}
 use Rattle.comp_linking.specs.Definitions.{Exports}
 use Rattle.comp_linking.specs.Spaces.{Linking}
-use Rattle.comp_link.specs.State.{IsState}
+use Rattle.comp_link.specs.State.{IsLive, StayLive, IsState}
 use Rattle.comp_link.proofs.Passing.{Goes}
 use Rattle.comp_link.proofs.linking.+items.Given as goal
 
@@ -22,4 +22,5 @@ decreases-link_inside l = 4 * l.depth
 abbrev pub invariant-link_items-loop-placed : goal.invariant-link_items-loop-placed
 invariant-link_items-loop-placed l =
     (l.n < length l.linker.scopes.items) × (length l.fn.linker.scopes.items ≤ length l.linker.scopes.items)
-    × ((bases : List Exports) (first : Linking) → IsState bases l.fn.linker first → Goes l.depth l.n first l.items (drop l.placed-index l.items) l.linker)
+    × StayLive l.fn.linker l.linker
+    × ((bases : List Exports) (first : Linking) → IsState bases l.fn.linker first → IsLive l.fn.linker l.n → Goes l.depth l.n first l.items (drop l.placed-index l.items) l.linker)

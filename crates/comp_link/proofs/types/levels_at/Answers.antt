@@ -2,7 +2,8 @@ use Rattle.std.proofs.Common.{◌∷◌, [], ℕ, List, get_or, take, sym, ap, s
 use Rattle.comp_linking.specs.Spaces.{levels_at}
 use Rattle.type_meanings.specs.declared.levels.Level.{Level}
 use Rattle.type_meanings.specs.Levels.{AreLevels}
-use Rattle.comp_link.proofs.Loops.{take_at, item_or}
+use Rattle.instance_tables.proofs.Places.{take_at}
+use Rattle.comp_link.proofs.Loops.{item_or}
 use Rattle.comp_link.proofs.types.levels_at.Goals as goal
 
 pub loop-number-init : goal.loop-number-init

@@ -5,8 +5,8 @@ use Rattle.comp_linking.specs.Spaces.{Linking, levels_at}
 use Rattle.type_tables.specs.Table.{Table}
 use Rattle.instance_tables.specs.References.{World}
 use Rattle.type_meanings.specs.Levels.{AreLevels}
-use Rattle.comp_link.specs.State.{IsScope}
+use Rattle.comp_link.specs.State.{IsKept}
 use Rattle.comp_link.proofs.types.levels_at.Given as goal
 
 abbrev pub invariant-loop-number : goal.invariant-loop-number
-invariant-loop-number l = (t : Table) (w : World) (k : Linking) → AllZip (IsScope t w) l.scopes k.scopes → AreLevels t w.components l.levels.items (levels_at k (l.n ∷ take l.number-index l.around))
+invariant-loop-number l = (t : Table) (w : World) (k : Linking) → AllZip (IsKept t w) l.scopes k.scopes → AreLevels t w.components l.levels.items (levels_at k (l.n ∷ take l.number-index l.around))

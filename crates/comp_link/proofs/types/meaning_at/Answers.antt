@@ -12,7 +12,7 @@ use Rattle.type_meanings.specs.declared.meant.Meant.{Meant}
 use Rattle.type_meanings.specs.Meant.{IsMeaning}
 use Rattle.type_meanings.specs.Levels.{AreLevels}
 use Rattle.comp_link.specs.declared.scope.Scope.{Scope}
-use Rattle.comp_link.specs.State.{world_of, IsScope, IsAt}
+use Rattle.comp_link.specs.State.{world_of, IsKept, IsAt}
 use Rattle.comp_link.proofs.States.{types_grow, scope_is}
 use Rattle.comp_link.proofs.types.meaning_at.Goals as goal
 
@@ -24,7 +24,7 @@ returns-clause-means c =
     (λ (m : Meant TypeRef). (bases : List Exports) (l : Linking) (s : Spaces) → IsAt bases k c.args.n l s → IsMeaning (IsType c.meaning_of.new.types) m (meaning_of c.args.def_type.now (levels_at l (c.args.n ∷ s.around))))
     (λ m h bases l s at.
     let w = world_of bases k in
-    let zips = subst (λ (scopes : List Scope). AllZip (IsScope k.types w) scopes l.scopes) (sym c.deref.ensures.value) at.state.scopes in
+    let zips = subst (λ (scopes : List Scope). AllZip (IsKept k.types w) scopes l.scopes) (sym c.deref.ensures.value) at.state.scopes in
     let around = c.as_slice-around.ensures ∙ c.get.ensures ∙ sym (scope_is bases k c.args.n l s c.index.result.now c.index.ensures c.requires at).around in
     let levels = subst (λ (around : List ℕ). AreLevels k.types w.components c.in_ok-levels.levels.items (levels_at l (c.args.n ∷ around))) around (c.in_ok-levels.ensures k.types w l zips) in
     h w.components (levels_at l (c.args.n ∷ s.around)) (subst (λ (ls : List Level). AreLevels k.types w.components ls (levels_at l (c.args.n ∷ s.around))) (sym c.deref-2.ensures.value) levels))
@@ -34,4 +34,4 @@ pub returns-clause-at : goal.returns-clause-at
 returns-clause-at c = λ bases l s at.
     let k = c.args.linker.now in
     let m = record k { types = c.meaning_of.new.types } in
-    record { state = types_grow bases k m l c.meaning_of.ensures.grows refl at.state; there = at.there }
+    record { state = types_grow bases k m l c.meaning_of.ensures.grows refl at.state; there = at.there; live = at.live }

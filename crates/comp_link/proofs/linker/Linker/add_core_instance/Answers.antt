@@ -5,7 +5,7 @@ use Rattle.comp_graph.specs.Graph.{CoreMake}
 use Rattle.comp_linking.specs.Definitions.{CoreExport, exports_of, extern_of}
 use Rattle.comp_linking.specs.Spaces.{with_core_instance}
 use Rattle.comp_link.specs.State.{world_of, IsScope}
-use Rattle.comp_link.proofs.States.{scope_set}
+use Rattle.comp_link.proofs.States.{scope_set, ended_set}
 use Rattle.comp_link.proofs.linker.Linker.add_core_instance.Goals as goal
 
 pub returns-clause-ok : goal.returns-clause-ok
@@ -20,7 +20,10 @@ returns-clause-ok c bases l s items at imports =
     record {
       instances = at.state.instances;
       scopes = (scope_set bases k c.args.n l s (with_core_instance s (exports_of c.args.made (length l.cores))) c.index_mut.result.now c.add_core_instance.new.self c.index_mut.ensures.value c.requires
-          (λ h. subst (λ (es : List CoreExport). IsScope k.types w c.add_core_instance.new.self (with_core_instance s es)) exports (c.in_ok-add_core_instance.ensures k.types w s h)) at).scopes;
+          (λ h. subst (λ (es : List CoreExport). IsScope k.types w c.add_core_instance.new.self (with_core_instance s es)) exports (c.in_ok-add_core_instance.ensures.adds k.types w s h)) at).scopes;
       cores = rw (at.state.cores, c.in_ok-push.ensures.items, made) refl;
       plan = rw (at.state.plan, c.in_ok-push-2.ensures.items, number) refl;
     }
+
+pub returns-clause-live : goal.returns-clause-live
+returns-clause-live c = ended_set c.args.self.now c.args.n c.index_mut.result.now c.add_core_instance.new.self c.index_mut.ensures.value c.requires c.add_core_instance.ensures.ended

@@ -1,20 +1,26 @@
-use Rattle.std.proofs.Common.{◌∙◌, ◌∷◌, ◌++◌, [], refl, sym, ap, subst, ℕ, List, None}
-use Rattle.std.specs.List.{AllZip}
+use Rattle.std.proofs.Common.{◌≡◌, Bool, map, Some, ◌∙◌, ◌∷◌, ◌++◌, [], refl, sym, ap, subst, ℕ, List, None}
+use Rattle.std.specs.List.{slice_get, AllZip}
 use Rattle.comp_linking.specs.Spaces.{new_spaces, Action, Begin}
 use Rattle.instance_tables.specs.References.{World}
 use Rattle.comp_link.specs.declared.scope.Scope.{Scope}
-use Rattle.comp_link.specs.State.{IsScope}
+use Rattle.comp_link.specs.State.{IsScope, IsKept}
+use Rattle.comp_link.proofs.Growth.{kept_whole}
 use Rattle.comp_link.proofs.linker.Linker.new.Goals as goal
 
 pub returns-clause-ok : goal.returns-clause-ok
 returns-clause-ok c =
     let w : World = record { components = c.new-6.result.items; bases = []; modules = c.new-7.result.items } in
     let root : IsScope c.new-4.result w c.new-3.result (new_spaces None []) =
-    subst (λ (around : List ℕ). IsScope c.new-4.result w c.new-3.result (new_spaces None around)) (c.in_ok-around.ensures ∙ c.new.ensures) (c.new-3.ensures c.new-4.result w None tt) in
+    subst (λ (around : List ℕ). IsScope c.new-4.result w c.new-3.result (new_spaces None around)) (c.in_ok-around.ensures ∙ c.new.ensures) (c.new-3.ensures.begun c.new-4.result w None tt) in
     record {
       instances = c.new-5.ensures c.new-4.result w refl;
-      scopes = subst (λ (scopes : List Scope). AllZip (IsScope c.new-4.result w) scopes (new_spaces None [] ∷ []))
-          (sym (c.in_ok-push-2.ensures.items ∙ ap (λ (before : List Scope). before ++ c.new-3.result ∷ []) c.new-scopes.ensures.items)) (root, tt);
+      scopes = subst (λ (scopes : List Scope). AllZip (IsKept c.new-4.result w) scopes (new_spaces None [] ∷ []))
+          (sym (c.in_ok-push-2.ensures.items ∙ ap (λ (before : List Scope). before ++ c.new-3.result ∷ []) c.new-scopes.ensures.items)) (kept_whole c.new-4.result w c.new-3.result (new_spaces None []) root, tt);
       cores = sym c.new-8.ensures.items;
       plan = sym (c.in_ok-push.ensures.items ∙ ap (λ (before : List Action). before ++ Begin 0 ∷ []) c.new-plan.ensures.items);
     }
+
+pub returns-clause-live : goal.returns-clause-live
+returns-clause-live c =
+    let items : c.push-2.new.self.items ≡ c.new-3.result ∷ [] = c.in_ok-push-2.ensures.items ∙ ap (λ (before : List Scope). before ++ c.new-3.result ∷ []) c.new-scopes.ensures.items in
+    ap (λ (scopes : List Scope). slice_get (map (λ (scope : Scope). scope.ended) scopes) 0) items ∙ ap (λ (b : Bool). Some b) c.new-3.ensures.ended

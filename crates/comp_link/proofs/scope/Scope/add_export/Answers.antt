@@ -3,8 +3,8 @@ use Rattle.comp_linking.specs.Definitions.{WithExport}
 use Rattle.comp_link.proofs.Scopes.{export_named}
 use Rattle.comp_link.proofs.scope.Scope.add_export.Goals as goal
 
-pub returns : goal.returns
-returns c t w s d h named stands =
+pub returns-clause-adds : goal.returns-clause-adds
+returns-clause-adds c t w s d h named stands =
     let name = c.args.name.now in
-    c.in_ok-add-2.ensures t w (record s { exports = WithExport s.exports name d }) d
+    c.in_ok-add-2.ensures.adds t w (record s { exports = WithExport s.exports name d }) d
     (export_named t w c.args.self.now (record c.args.self.now { exports = c.push.new.self; export_names = c.add.new.self }) s h name c.args.number c.args.definition d refl c.in_ok-push.ensures.ok c.in_ok-add.ensures.ok named stands) stands

@@ -1,0 +1,10 @@
+use Rattle.std.proofs.Common.{refl}
+use Rattle.comp_linking.specs.Definitions.{types_of}
+use Rattle.comp_link.specs.State.{world_of}
+use Rattle.comp_link.proofs.States.{instance_given}
+use Rattle.comp_link.proofs.linker.Linker.instance_of_types.Goals as goal
+
+pub returns-clause-made : goal.returns-clause-made
+returns-clause-made c bases l externs h asked types =
+    let k = c.args.self.now in
+    instance_given bases k (record k { instances = c.of_types.new.self }) l c.in_ok-made.made (types_of externs) refl (c.in_ok-made.ensures.ok (world_of bases k) externs h.instances asked types) h
