@@ -1,4 +1,5 @@
--- What the parts of a run give, over the worlds of the machine of calls (abi_machine).
+-- What the parts of a run (Component Model, CanonicalABI.md, `canon lift`, and Concurrency.md) give, over the worlds of the machine of
+-- calls (abi_machine).
 use Rattle.std.specs.Prelude.{◌≡◌, ◌≢◌, ◌<◌, ◌+◌, ◌^◌, ◌++◌, ℕ, true, List, [], ◌∷◌, map, Option, Some, None, Result, MatchResult}
 use Rattle.std.specs.List.{slice_get, flat_map, list_all, AllByRecursion}
 use Rattle.wasm_module.specs.declared.module.ModuleTree.{ModuleTree}

@@ -1,9 +1,5 @@
-pub mod Entries
-pub mod Exact
 pub mod Modules
 pub mod Outcomes
-pub mod Plain
-pub mod Readings
 pub mod Rows
 pub mod Sounds
 pub mod Taken

@@ -194,9 +194,9 @@ alias_gives : Gives ItemTyped alias_item
 unfolding alias_item
 alias_gives s x t m = subst ItemTyped (sym m.3.0) (alias_typed m.0)
 
-type_gives : (more : ℕ) → Gives ItemTyped (type_item more)
+type_gives : Gives ItemTyped type_item
 unfolding type_item
-type_gives more s x t m = subst ItemTyped (sym m.3.0) (type_typed m.0)
+type_gives s x t m = subst ItemTyped (sym m.3.0) (type_typed m.0)
 
 canon_gives : Gives ItemTyped canon
 unfolding canon
@@ -233,45 +233,45 @@ without_canons id = Choose (id == 10) (placed_vec numbers import) (placed_vec nu
 abbrev without_types : ℕ → Grammar ComponentWhy (List (Placed Item))
 without_types id = Choose (id == 8) (placed_vec numbers canon) (without_canons id)
 
-abbrev without_aliases : ℕ → ℕ → Grammar ComponentWhy (List (Placed Item))
-without_aliases more id = Choose (id == 7) (placed_vec numbers (type_item more)) (without_types id)
+abbrev without_aliases : ℕ → Grammar ComponentWhy (List (Placed Item))
+without_aliases id = Choose (id == 7) (placed_vec numbers type_item) (without_types id)
 
-abbrev without_instances : ℕ → ℕ → Grammar ComponentWhy (List (Placed Item))
-without_instances more id = Choose (id == 6) (placed_vec numbers alias_item) (without_aliases more id)
+abbrev without_instances : ℕ → Grammar ComponentWhy (List (Placed Item))
+without_instances id = Choose (id == 6) (placed_vec numbers alias_item) (without_aliases id)
 
-abbrev without_core_instances : ℕ → ℕ → Grammar ComponentWhy (List (Placed Item))
-without_core_instances more id = Choose (id == 5) (placed_vec numbers instance) (without_instances more id)
+abbrev without_core_instances : ℕ → Grammar ComponentWhy (List (Placed Item))
+without_core_instances id = Choose (id == 5) (placed_vec numbers instance) (without_instances id)
 
-abbrev without_modules : ℕ → ℕ → Grammar ComponentWhy (List (Placed Item))
-without_modules more id = Choose (id == 2) (placed_vec numbers core_instance) (without_core_instances more id)
+abbrev without_modules : ℕ → Grammar ComponentWhy (List (Placed Item))
+without_modules id = Choose (id == 2) (placed_vec numbers core_instance) (without_core_instances id)
 
-abbrev without_customs : ℕ → ℕ → Grammar ComponentWhy (List (Placed Item))
-without_customs more id = Choose (id == 1) module_items (without_modules more id)
+abbrev without_customs : ℕ → Grammar ComponentWhy (List (Placed Item))
+without_customs id = Choose (id == 1) module_items (without_modules id)
 
-plain_payload_gives : (more id : ℕ) → Gives PlacedTyped (plain_payload more id)
+plain_payload_gives : (id : ℕ) → Gives PlacedTyped (plain_payload id)
 unfolding plain_payload
-plain_payload_gives more id =
-    choice_gives PlacedTyped custom_items (without_customs more id) custom_gives
-    (choice_gives PlacedTyped module_items (without_modules more id) of_module
-    (choice_gives PlacedTyped (placed_vec numbers core_instance) (without_core_instances more id) (vec_gives core_instance core_instance_gives)
-    (choice_gives PlacedTyped (placed_vec numbers instance) (without_instances more id) (vec_gives instance instance_gives)
-    (choice_gives PlacedTyped (placed_vec numbers alias_item) (without_aliases more id) (vec_gives alias_item alias_gives)
-    (choice_gives PlacedTyped (placed_vec numbers (type_item more)) (without_types id) (vec_gives (type_item more) (type_gives more))
+plain_payload_gives id =
+    choice_gives PlacedTyped custom_items (without_customs id) custom_gives
+    (choice_gives PlacedTyped module_items (without_modules id) of_module
+    (choice_gives PlacedTyped (placed_vec numbers core_instance) (without_core_instances id) (vec_gives core_instance core_instance_gives)
+    (choice_gives PlacedTyped (placed_vec numbers instance) (without_instances id) (vec_gives instance instance_gives)
+    (choice_gives PlacedTyped (placed_vec numbers alias_item) (without_aliases id) (vec_gives alias_item alias_gives)
+    (choice_gives PlacedTyped (placed_vec numbers type_item) (without_types id) (vec_gives type_item type_gives)
     (choice_gives PlacedTyped (placed_vec numbers canon) (without_canons id) (vec_gives canon canon_gives)
     (choice_gives PlacedTyped (placed_vec numbers import) (placed_vec numbers export) (vec_gives import import_gives) (vec_gives export export_gives) (id == 10))
     (id == 8)) (id == 7)) (id == 6)) (id == 5)) (id == 2)) (id == 1)) (id == 0)
 
-payload_gives : (more : ℕ) (inner : Grammar ComponentWhy Component) (id : ℕ) → Gives AllFit inner → Gives PlacedTyped (payload more inner id)
+payload_gives : (inner : Grammar ComponentWhy Component) (id : ℕ) → Gives AllFit inner → Gives PlacedTyped (payload inner id)
 unfolding payload
-payload_gives more inner id h =
-    choice_gives PlacedTyped (component_items inner) (plain_payload more id) (of_component inner h) (plain_payload_gives more id) (id == 4)
+payload_gives inner id h =
+    choice_gives PlacedTyped (component_items inner) (plain_payload id) (of_component inner h) (plain_payload_gives id) (id == 4)
 
-section_gives : (more : ℕ) (inner : Grammar ComponentWhy Component) → Gives AllFit inner → Gives PlacedTyped (file.section more inner)
+section_gives : (inner : Grammar ComponentWhy Component) → Gives AllFit inner → Gives PlacedTyped (file.section inner)
 unfolding file.section
-section_gives more inner h s x t m =
+section_gives inner h s x t m =
     let id = m.3.0 in
-    choice_gives PlacedTyped (sized numbers reasons (payload more inner id)) (unsupported m.0 id)
-    (sized_gives PlacedTyped numbers reasons (payload more inner id) (payload_gives more inner id h)) (nothing_gives PlacedTyped m.0 (Unsupported id))
+    choice_gives PlacedTyped (sized numbers reasons (payload inner id)) (unsupported m.0 id)
+    (sized_gives PlacedTyped numbers reasons (payload inner id) (payload_gives inner id h)) (nothing_gives PlacedTyped m.0 (Unsupported id))
     (is_section id) m.3.1 x t m.3.3
 
 pub all_append : {A : Type 0} (P : A → Type 0) (xs ys : List A) → AllByRecursion P xs → AllByRecursion P ys → AllByRecursion P (xs ++ ys)
@@ -282,17 +282,17 @@ joined_typed : (parts : List (List (Placed Item))) → AllByRecursion PlacedType
 joined_typed [] h = tt
 joined_typed (part ∷ parts) h = all_append (λ (p : Placed Item). ItemTyped p.item) part (joined parts) h.0 (joined_typed parts h.1)
 
-component_of_gives : (more : ℕ) (inner : Grammar ComponentWhy Component) → Gives AllFit inner → Gives AllFit (component_of more inner)
+component_of_gives : (inner : Grammar ComponentWhy Component) → Gives AllFit inner → Gives AllFit (component_of inner)
 unfolding component_of
-component_of_gives more inner h s c t m =
+component_of_gives inner h s c t m =
     let sections = m.3.0 in
-    let all = many_give PlacedTyped (file.section more inner) (section_gives more inner h) m.3.2.0 m.3.2.1 sections m.3.1 m.3.2.3 in
+    let all = many_give PlacedTyped (file.section inner) (section_gives inner h) m.3.2.0 m.3.2.1 sections m.3.1 m.3.2.3 in
     subst AllFit (sym m.3.3.3.0) (λ module_is stands. stands_fit module_is (joined sections) stands (joined_typed sections all))
 
 within_gives : (n : ℕ) → Gives AllFit (component_within n)
 unfolding component_within
 within_gives zero s c t m = absurd m.3
-within_gives (suc more) s c t m = component_of_gives more (component_within more) (within_gives more) s c t m
+within_gives (suc more) s c t m = component_of_gives (component_within more) (within_gives more) s c t m
 
 pub component_typed : (bytes : List ℕ) (c : Component) → IsComponent bytes c → AllFit c
 component_typed bytes c m = within_gives depth_limit (file.file bytes) c (file.file_end bytes) m

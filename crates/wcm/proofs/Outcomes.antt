@@ -13,7 +13,7 @@ use Rattle.comp_linking.specs.Linked.{IsLinked}
 use Rattle.comp_linking.specs.Laws.{LinkedOrRefused}
 use Rattle.wcm.specs.Laws.{ScriptsAreSound, OneOutcome}
 use Rattle.abi_machine.specs.Laws.{EachRunEnds}
-use Rattle.wcm.specs.Words.{Command, Run, Check, Show, command_of, component_file}
+use Rattle.command_words.specs.Words.{Command, Run, Check, Show, command_of, component_file}
 use Rattle.wcm.specs.Outcome.{component_limit, too_long, refused_answer, link_refused_answer, script_refused_answer, accepted_answer, shown_answer, run_answer, IsUsage, ScriptAnswers, LinkAnswers, FileAnswers, HeldScriptAnswers, GraphAnswers, HeldAnswers, CommandAnswers, DecidesAlone, IsScriptTold, IsCommandTold}
 use Rattle.wcm.proofs.Rows.{usage_answer}
 use Rattle.wcm.proofs.Rows as only

@@ -23,7 +23,7 @@ use Rattle.comp_linking.specs.Linked.{IsLinked, IsLinkRefused}
 use Rattle.abi_machine.specs.World.{first_world}
 use Rattle.wcm.specs.Status.{status_of, IsBehindGraph}
 use Rattle.wcm.specs.Laws.{IsSameOutcome}
-use Rattle.wcm.specs.Words.{Command, Run, Check, Show, command_of, component_file}
+use Rattle.command_words.specs.Words.{Command, Run, Check, Show, command_of, component_file}
 use Rattle.wcm.specs.Gives.{ScriptGives, GraphGives, CommandGives}
 use Rattle.wcm.specs.Outcome.{Outcome, IsUsage, DecidesAlone, IsScriptTold, IsCommandTold, IsTold, IsComponentTold, IsComponentFile, IsRefusedFile, RunAnswers, ScriptAnswers, LinkAnswers, FileAnswers, HeldScriptAnswers, GraphAnswers, HeldAnswers, CommandAnswers, run_answer, refused_answer, link_refused_answer, script_refused_answer, accepted_answer, shown_answer, asks_of_graph, NamesRefused, NamesLinkRefused, NamesLinked, NamesAccepted, NamesGraph, NamesScriptRefused, NamesRun, NamesTrap, NamesDone}
 use Rattle.comp_linking.proofs.Following as following

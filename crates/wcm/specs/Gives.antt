@@ -6,7 +6,7 @@ use Rattle.wcm.specs.declared.answer.Answer.{Answer}
 use Rattle.comp_graph.specs.Graph.{Graph}
 use Rattle.wcm.specs.Outcome.{ScriptAnswers, FileAnswers, accepted_answer, shown_answer}
 use Rattle.wcm.specs.Status.{IsBehindGraph}
-use Rattle.wcm.specs.Words.{Command, Run, Check, Show, component_file}
+use Rattle.command_words.specs.Words.{Command, Run, Check, Show, component_file}
 
 -- an answer of a run for a graph, by what is held as the script file
 abbrev pub ScriptGives : Graph → Option (List ℕ) → Answer → Type 0

@@ -1,5 +1,5 @@
 -- What holds of the definitions alone.
-use Rattle.std.specs.Prelude.{◌≡◌, ◌↔◌, ℕ, true, false, List, Option, Some, None}
+use Rattle.std.specs.Prelude.{◌≡◌, ℕ, List, Option}
 use Rattle.std.specs.Option.{MatchOption}
 use Rattle.comp_reader.specs.declared.component.Component.{Component}
 use Rattle.comp_reader.specs.Binary.{IsComponent}
@@ -9,7 +9,7 @@ use Rattle.comp_graph.specs.Graph.{Graph}
 use Rattle.comp_linking.specs.Linked.{IsLinked}
 use Rattle.wcm.specs.Outcome.{IsTold, Outcome}
 use Rattle.abi_machine.specs.Laws.{SoundGraph, Sound}
-use Rattle.wcm.specs.Words.{Command, command_of, is_taken, plain_command}
+use Rattle.command_words.specs.Words.{command_of}
 
 -- The graph of a component that is read and linked is sound.
 abbrev pub LinkedGraphsAreSound : Type 0
@@ -30,13 +30,3 @@ abbrev pub OneOutcome : Type 0
 OneOutcome =
     (words : List (List ℕ)) (held : List ℕ → Option (List ℕ)) → IsTold words held
     → (a : Answer) × Outcome words held a × ((other : Answer) → Outcome words held other → IsSameOutcome words a other)
-
--- Words that clap's command takes are those that lead to a command.
-abbrev pub TakenWordsAreRead : Type 0
-TakenWordsAreRead = (words : List (List ℕ)) → (command_of words ≡ None) ↔ (is_taken words ≡ false)
-
--- Plain words are never refused, and lead to the command that they name.
-abbrev pub PlainWordsAreTaken : Type 0
-PlainWordsAreTaken =
-    (words : List (List ℕ)) (command : Command) → plain_command words ≡ Some command
-    → (command_of words ≡ Some command) × (is_taken words ≡ true)

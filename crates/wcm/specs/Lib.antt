@@ -5,5 +5,4 @@ pub mod Refusals
 pub mod Shown
 pub mod Status
 pub mod Stops
-pub mod Words
 pub mod Written

@@ -27,7 +27,7 @@ use Rattle.comp_linking.specs.Linked.{IsLinked, IsLinkRefused}
 use Rattle.wcm.specs.Refusals.{refused_line, link_refused_line, script_refused_line}
 use Rattle.wcm.specs.Shown.{accepted_text, graph_text}
 use Rattle.wcm.specs.Status.{status_of}
-use Rattle.wcm.specs.Words.{Command, Run, Check, Show, command_of, component_file}
+use Rattle.command_words.specs.Words.{Command, Run, Check, Show, command_of, component_file}
 
 -- what is read of some bytes, and the graph of it
 abbrev pub IsRead : Component → Type 0

@@ -9,16 +9,16 @@ ghost use Rattle.wcm.specs.Gives.{CommandGives, GraphGives, ScriptGives};
 ghost use Rattle.wcm.specs.Outcome.{IsRead, IsOfComponent, LinkAnswers, RunAnswers, IsComponentFile, IsRefusedFile, accepted_answer, shown_answer};
 ghost use Rattle.wcm.specs.Stops.{StopsFor};
 ghost use Rattle.wcm.specs.Status.{IsAnswered, IsBehindGraph};
-ghost use Rattle.wcm.specs.Words.{said};
+ghost use Rattle.command_words.specs.Words.{said};
 
 use crate::laws::linked_graphs_are_sound;
 use crate::refusals::{link_refused_line, refused_line, script_refused_line};
 use crate::shown::graph_text;
 use crate::status::{Status, status_of_end};
-use crate::words::Command;
 use ca_base::{Bytes, Memory, MemoryOr, Refusal, Seq};
 use ca_io::{FileError, Files, read_all};
 use ca_types::Exports;
+use command_words::Command;
 use comp_graph::Graph;
 use comp_link::link;
 use comp_linking::laws::graphs_are_sound;

@@ -1,6 +1,6 @@
 //! What holds of the definitions alone.
 
-ghost use Rattle.wcm.specs.Laws.{LinkedGraphsAreSound, ScriptsAreSound, OneOutcome, PlainWordsAreTaken, TakenWordsAreRead};
+ghost use Rattle.wcm.specs.Laws.{LinkedGraphsAreSound, ScriptsAreSound, OneOutcome};
 
 use abi_machine::{each_run_ends, one_run};
 use comp_linking::laws::{graphs_are_computed, graphs_are_sound};
@@ -36,15 +36,3 @@ pub fn one_outcome()
     scripts_are_sound();
     each_run_ends();
 }
-
-/// Plain words are never refused, and lead to the command that they name.
-#[tactic(auto, using(crate::proofs::Plain::plain_words))]
-pub fn plain_words_are_taken()
-    ensures { PlainWordsAreTaken }
-{}
-
-/// Words that clap's command takes are those that lead to a command.
-#[tactic(auto, using(crate::proofs::Readings::taken_words))]
-pub fn taken_words_are_read()
-    ensures { TakenWordsAreRead }
-{}

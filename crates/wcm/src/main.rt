@@ -24,7 +24,6 @@ mod top;
 mod top_tests;
 #[cfg(test)]
 mod top_tests_cases;
-mod words;
 #[cfg(test)]
 mod words_tests_cases;
 

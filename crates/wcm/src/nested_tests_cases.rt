@@ -1,10 +1,31 @@
 //! Cases of components that are made of others, in the form of `top_tests_cases`: runs, and what `show` and `check` tell.
 
 /// How many cases there are.
-pub const NESTED_COUNT: u32 = 27;
+pub const NESTED_COUNT: u32 = 29;
 
 /// The cases.
 pub const NESTED_CASES: &str = "
+# the component of the example, in one that exports its instance: shown, and called
+component 00 61 73 6D 0D 00 01 00 04 64 00 61 73 6D 0D 00 01 00 01 29 00 61 73 6D 01 00 00 00 01 07 01 60 02 7F 7F 01 7F 03 02 01 00 07 07 01
+bytes 03 61 64 64 00 00 0A 09 01 07 00 20 00 20 01 6A 0B 02 04 01 00 00 00 06 09 01 00 00 01 00 03 61 64 64 07 0B 01 40 02 01 61 79
+bytes 01 62 79 00 79 08 06 01 00 00 00 00 00 0B 09 01 00 03 61 64 64 01 00 00 05 04 01 00 00 00 0B 0A 01 00 04 6D 61 74 68 05 00 00
+words wcm show add.wasm
+status Done
+out instances 2
+out func math#add (u32, u32) -> u32
+
+# the same: its call
+component 00 61 73 6D 0D 00 01 00 04 64 00 61 73 6D 0D 00 01 00 01 29 00 61 73 6D 01 00 00 00 01 07 01 60 02 7F 7F 01 7F 03 02 01 00 07 07 01
+bytes 03 61 64 64 00 00 0A 09 01 07 00 20 00 20 01 6A 0B 02 04 01 00 00 00 06 09 01 00 00 01 00 03 61 64 64 07 0B 01 40 02 01 61 79
+bytes 01 62 79 00 79 08 06 01 00 00 00 00 00 0B 09 01 00 03 61 64 64 01 00 00 05 04 01 00 00 00 0B 0A 01 00 04 6D 61 74 68 05 00 00
+script call math#add (2, 3)
+status Done
+out take 1 T1 math#add (2, 3)
+out enter T1
+out return T1 (5)
+out exit T1
+out done
+
 # the function of an instance, under the names of both
 component 00 61 73 6D 0D 00 01 00 04 93 01 00 61 73 6D 0D 00 01 00 01 5C 00 61 73 6D 01 00 00 00 01 0A 02 60 02 7F 7F 01 7F 60 00 00 03
 bytes 03 02 00 01 04 05 01 70 01 02 05 05 04 01 01 01 03 06 0B 02 7F 00 41 07 0B 7E 01 42 09 0B 07 19 06 01 66 00 00 01 67 00 01 01
@@ -150,7 +171,7 @@ status Trap
 out trap T0 SegmentBounds
 
 # each instance of a component has core instances of its own: the sum, and the second number once more
-component 00 61 73 6D 0D 00 01 00 04 D3 01 00 61 73 6D 0D 00 01 00 01 5C 00 61 73 6D 01 00 00 00 01 0A 02 60 02 7F 7F 01 7F 60 00 00 03
+component 00 61 73 6D 0D 00 01 00 04 d3 01 00 61 73 6D 0D 00 01 00 01 5C 00 61 73 6D 01 00 00 00 01 0A 02 60 02 7F 7F 01 7F 60 00 00 03
 bytes 03 02 00 01 04 05 01 70 01 02 05 05 04 01 01 01 03 06 0B 02 7F 00 41 07 0B 7E 01 42 09 0B 07 19 06 01 66 00 00 01 67 00 01 01
 bytes 74 01 00 01 6D 02 00 01 63 03 00 01 76 03 01 0A 0C 02 07 00 20 00 20 01 6A 0B 02 00 0B 01 35 00 61 73 6D 01 00 00 00 01 07 01
 bytes 60 02 7F 7F 01 7F 02 07 01 01 70 01 66 00 00 03 02 01 00 07 05 01 01 68 00 01 0A 0E 01 0C 00 20 00 20 01 10 00 20 01 10 00 0B

@@ -7,14 +7,14 @@ ghost use Rattle.wcm.specs.declared.answer.Answer.{Answer};
 ghost use Rattle.abi_machine.specs.declared.run_end.RunEnd.TheVariants as end;
 ghost use Rattle.wcm.specs.Outcome.{Outcome, IsTold, IsComponentTold, NamesRefused, NamesLinkRefused, NamesScriptRefused, NamesRun, NamesTrap, NamesDone};
 ghost use Rattle.wcm.specs.Status.{IsGiven, IsFinal};
-ghost use Rattle.wcm.specs.Words.{Command, command_of, is_taken, plain_command};
+ghost use Rattle.command_words.specs.Words.{Command, command_of, is_taken, plain_command};
 ghost use Rattle.wcm.specs.Written.{WroteAll, WroteFront, WroteFrontOrLine};
 
 use crate::answer::{Answer, Stop, answer_of};
 use crate::status::Status;
-use crate::words::command_of;
 use ca_base::MemoryOr;
 use ca_io::{Failed, Files, Sink, write_all};
+use command_words::command_of;
 use std::alloc::Global;
 
 /// The line for a file that was not read.
@@ -45,7 +45,7 @@ fn write_answer<K: Sink>(answer: &Answer, out: &mut K, err: &mut K) -> Result<()
 ///
 /// The files are told where the component file is, and either that one decides the answer, or the command is not `run`, or
 /// the script file is told too.
-#[tactic(auto, using(crate::proofs::Taken::grown_nil, crate::proofs::Taken::took, crate::proofs::Plain::plain_is))]
+#[tactic(auto, using(crate::proofs::Taken::grown_nil, crate::proofs::Taken::took, command_words::proofs::Plain::plain_is))]
 pub fn run_words<F: Files, K: Sink>(
     alloc: Global,
     words: &[String],

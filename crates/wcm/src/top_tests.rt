@@ -236,6 +236,6 @@ fn laws_hold() {
     laws::linked_graphs_are_sound();
     laws::scripts_are_sound();
     laws::one_outcome();
-    laws::plain_words_are_taken();
-    laws::taken_words_are_read();
+    command_words::laws::plain_words_are_taken();
+    command_words::laws::taken_words_are_read();
 }

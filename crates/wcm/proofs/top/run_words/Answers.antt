@@ -2,8 +2,8 @@ use Rattle.std.proofs.Common.{◌≡◌, [], Option, Some, None, false, refl, sy
 use Rattle.ca_base.specs.Faults.{IfFault}
 use Rattle.ca_base.specs.declared.memory.MemoryOr.{MemoryOr}
 use Rattle.ca_base.specs.declared.memory.MemoryOr.TheVariants.{Fault}
-use Rattle.wcm.specs.Words.{Command, command_of, is_taken}
-use Rattle.wcm.proofs.Plain.{plain_is}
+use Rattle.command_words.specs.Words.{Command, command_of, is_taken}
+use Rattle.command_words.proofs.Plain.{plain_is}
 use Rattle.wcm.proofs.Taken.{grown_nil, took, took_none}
 use Rattle.wcm.proofs.Rows.{usage_answer, outcome_of, usage_of, row_refused, row_link_refused, row_script_refused, row_done, row_trap, row_fuel}
 use Rattle.wcm.proofs.top.run_words.Goals as goal

@@ -10,9 +10,9 @@ use Rattle.clap.specs.Simple.{argument_words, built_leaf, entered, inherited, ma
 use Rattle.clap.specs.Walk.{Text, answers_to, finished, nothing_held, stop_after, walk, walk_from}
 use Rattle.clap.specs.declared.error.Error.{Error}
 use Rattle.clap.specs.declared.error.kind.ErrorKind.TheVariants.{OutOfMemory}
-use Rattle.wcm.specs.Words.{Command, command_of, command_of_rows, is_taken, program_app, run_app, file_app}
-use Rattle.wcm.specs.Laws.{TakenWordsAreRead}
-use Rattle.wcm.proofs.Exact.{left, right, taken}
+use Rattle.command_words.specs.Words.{Command, command_of, command_of_rows, is_taken, program_app, run_app, file_app}
+use Rattle.command_words.specs.Laws.{TakenWordsAreRead}
+use Rattle.command_words.proofs.Exact.{left, right, taken}
 
 simple : is_simple program_app ≡ true
 simple = refl

@@ -19,7 +19,7 @@ use Rattle.clap.specs.Faults.{action_fault, bundle_step_fault, check_fault, coun
 use Rattle.clap.specs.declared.builder.action.ArgAction.{ArgAction}
 use Rattle.clap.specs.declared.builder.action.ArgAction.TheVariants as action
 use Rattle.clap.specs.declared.error.kind.ErrorKind.{ErrorKind}
-use Rattle.wcm.specs.Words.{is_taken, program_app}
+use Rattle.command_words.specs.Words.{is_taken, program_app}
 
 -- ---- lists of kinds and tests
 

@@ -3,8 +3,8 @@ use Rattle.std.proofs.Common.{◌≡◌, ◌∙◌, ℕ, ◌==◌, Bool, true, f
 use Rattle.std.specs.Str.{bytes_eq}
 use Rattle.std.proofs.lemmas.Slice.Eq.{bytes_eq-Decides}
 use Rattle.clap.proofs.OnLiterals.{clap_on_literals}
-use Rattle.wcm.specs.Words.{Command, Run, Check, Show, command_of, is_taken, is_plain_name, plain_command}
-use Rattle.wcm.specs.Laws.{PlainWordsAreTaken}
+use Rattle.command_words.specs.Words.{Command, Run, Check, Show, command_of, is_taken, is_plain_name, plain_command}
+use Rattle.command_words.specs.Laws.{PlainWordsAreTaken}
 
 check_read : (p : List ℕ) (x : ℕ) (xs : List ℕ) → (x == 45) ≡ false → command_of (p ∷ codes "check" ∷ (x ∷ xs) ∷ []) ≡ Some (Check (x ∷ xs))
 unfolding clap_on_literals command_of is_taken

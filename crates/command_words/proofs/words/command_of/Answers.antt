@@ -1,9 +1,9 @@
 use Rattle.std.proofs.Common.{◌∙◌, map, string_bytes}
 use Rattle.clap.specs.Words.{app_of, subcommand_rows_of}
-use Rattle.wcm.specs.Words.{command_of_rows}
-use Rattle.wcm.proofs.Entries.{is_found, is_said}
-use Rattle.wcm.proofs.Readings.{some_command, read_command, is_read, refused_words, not_taken}
-use Rattle.wcm.proofs.words.command_of.Goals as goal
+use Rattle.command_words.specs.Words.{command_of_rows}
+use Rattle.command_words.proofs.Entries.{is_found, is_said}
+use Rattle.command_words.proofs.Readings.{some_command, read_command, is_read, refused_words, not_taken}
+use Rattle.command_words.proofs.words.command_of.Goals as goal
 
 pub unwrap-requires : goal.unwrap-requires
 unwrap-requires c =

@@ -6,8 +6,8 @@ use Rattle.clap.specs.Words.{first_value, found_of, rows_of}
 use Rattle.clap.specs.declared.parser.matches.ArgMatches.{ArgMatches}
 use Rattle.clap.proofs.WalkLemmas.{first_value-rows}
 use Rattle.std.specs.Option.{IsSome, MatchOption}
-use Rattle.wcm.specs.declared.words.Command as of_source
-use Rattle.wcm.specs.Words.{Command, name_in, said}
+use Rattle.command_words.specs.declared.words.Command as of_source
+use Rattle.command_words.specs.Words.{Command, name_in, said}
 
 pub name_of : (r : Option (Bor (List ℕ))) (d : Bor (List ℕ)) (m : ArgMatches) (id : List ℕ) → d.now ≡ [] → option_map (λ s. s.now) r ≡ first_value (found_of m) id → (unwrap_or r d).now ≡ name_in id (rows_of (found_of m))
 name_of None d m id e h = e ∙ ap (λ (o : Option (List ℕ)). unwrap_or o []) (h ∙ first_value-rows (found_of m) id)

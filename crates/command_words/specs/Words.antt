@@ -7,8 +7,8 @@ use Rattle.clap.specs.Words.{App, Row, Rule, app_of, first_of, new_app, new_rule
 use Rattle.clap.specs.Simple.{on_top}
 use Rattle.clap.specs.declared.builder.command.Command as clap
 use Rattle.clap.specs.declared.builder.command.Command.TheViews.{out-Command}
-use Rattle.wcm.specs.declared.words.Command as of_source
-use Rattle.wcm.specs.declared.words.Command.TheVariants as source
+use Rattle.command_words.specs.declared.words.Command as of_source
+use Rattle.command_words.specs.declared.words.Command.TheVariants as source
 
 -- what the program is told to do
 pub data Command : Type 0 where

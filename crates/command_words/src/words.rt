@@ -3,7 +3,7 @@
 ghost use Rattle.std.specs.Prelude.{◌≡◌, true, false, None, Some, IfOk, IfErr, MatchOption, map, string_bytes};
 ghost use Rattle.ca_base.specs.Faults.{IfFault};
 ghost use Rattle.clap.specs.Words.{app_of, found_of, rows_of, rule_of, subcommand_rows_of};
-ghost use Rattle.wcm.specs.Words.{IsOf, bare_app, command_of, command_of_rows, component_file, file_app, file_rule, is_taken, name_in, program_app, run_app, said};
+ghost use Rattle.command_words.specs.Words.{IsOf, bare_app, command_of, command_of_rows, component_file, file_app, file_rule, is_taken, name_in, program_app, run_app, said};
 
 use ca_base::{Bytes, MemoryOr, Seq};
 use clap::error::ErrorKind;
