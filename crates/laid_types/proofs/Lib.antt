@@ -1,0 +1,9 @@
+pub mod ByParts
+pub mod HeldByParts
+pub mod OfLayers
+pub mod Growing
+pub mod Rooms
+pub mod Kept
+pub mod FirstPlaces
+pub mod Steps
+pub mod Told

@@ -1,0 +1,38 @@
+-- What was gathered is what is to be known of the type.
+use Rattle.std.proofs.Common.{◌∙◌, List, Option, take, ap, sym, refl}
+use Rattle.ca_types.specs.declared.types.ValType.{ValType, out-ValType}
+use Rattle.ca_types.specs.Limited.{limited, nothing}
+use Rattle.laid_types.specs.Parts.{case_count, layouts, parts_of}
+use Rattle.laid_types.specs.Gathered.{as_laid, room_for, laid_over, flats, flat_over, ends, handles, end_over, handle_over}
+use Rattle.laid_types.proofs.ByParts.{laid_by_parts, flat_by_parts}
+use Rattle.laid_types.proofs.HeldByParts.{end_by_parts, handle_by_parts}
+use Rattle.laid_types.proofs.Told.{over_parts, place_told}
+use Rattle.laid_types.proofs.making.entry_with.Goals as goal
+
+pub invariant_of-result : goal.invariant_of-result
+invariant_of-result c =
+    let types = c.args.types.now in
+    let numbers = c.args.parts.items in
+    let t = c.args.val_type in
+    let parts = c.requires.parts in
+    record {
+      laid_is =
+          over_parts types numbers t parts (λ (u : ValType) (ps : List (Option ValType)). limited (laid_over (out-ValType u) (layouts ps))) c.get.result.now c.deref.result.now _ c.get.ensures c.deref.ensures.value c.laying_of-laying.ensures.value
+          ∙ ap limited (sym (laid_by_parts t));
+      reach = c.laying_of-laying.ensures.reach;
+      place_is =
+          place_told c.case_count.result (case_count t) c.behind_tag-payload_place.result (as_laid c.payload_laying-payload.result) (layouts (parts_of t))
+          (c.case_count.ensures ∙ ap case_count c.get-2.ensures)
+          (over_parts types numbers t parts (λ (u : ValType) (ps : List (Option ValType)). room_for nothing (layouts ps)) t c.deref-2.result.now _ refl c.deref-2.ensures.value c.payload_laying-payload.ensures.value)
+          c.behind_tag-payload_place.ensures;
+      flat_is =
+          over_parts types numbers t parts (λ (u : ValType) (ps : List (Option ValType)). take 17 (flat_over (out-ValType u) (flats ps))) c.get-3.result.now c.deref-3.result.now _ c.get-3.ensures c.deref-3.ensures.value c.in_ok-flat.ensures
+          ∙ ap (take 17) (sym (flat_by_parts t));
+      end_is =
+          over_parts types numbers t parts (λ (u : ValType) (ps : List (Option ValType)). end_over (out-ValType u) (ends ps)) c.get-4.result.now c.deref-4.result.now _ c.get-4.ensures c.deref-4.ensures.value c.holding_of-holding.ensures.end
+          ∙ sym (end_by_parts t);
+      handle_is =
+          over_parts types numbers t parts (λ (u : ValType) (ps : List (Option ValType)). handle_over (out-ValType u) (handles ps)) c.get-4.result.now c.deref-4.result.now _ c.get-4.ensures c.deref-4.ensures.value c.holding_of-holding.ensures.handle
+          ∙ sym (handle_by_parts t);
+      labels_are = c.requires.labels;
+    }

@@ -1,0 +1,22 @@
+-- What is kept of a type (Component Model, CanonicalABI.md, "Alignment", "Element Size" and "Flattening"): how its values lie in
+-- memory, the first of their core types, what they hold, and where its labels stand.
+use Rattle.std.specs.Prelude.{◌≡◌, ℕ, Bool, List, take, Option}
+use Rattle.ca_base.specs.Names.{first_named}
+use Rattle.ca_types.specs.declared.types.ValType.{ValType}
+use Rattle.ca_types.specs.declared.core_type.CoreType.{CoreType}
+use Rattle.ca_types.specs.Layout.{Laid, laid}
+use Rattle.ca_types.specs.Limited.{InReach, limited}
+use Rattle.ca_types.specs.Flat.{flat}
+use Rattle.ca_types.specs.Ends.{has_end}
+use Rattle.laid_types.specs.Parts.{labels_of, payload_place}
+use Rattle.laid_types.specs.Handles.{has_handle}
+
+-- What is computed of a type is this.
+pub record IsComputed (type : ValType) (laying : Laid) (place : ℕ) (types : List CoreType) (end handle : Bool) (at : List ℕ → Option ℕ) : Type 0 where
+  pub laid_is : laying ≡ limited (laid type)
+  pub reach : InReach laying
+  pub place_is : place ≡ payload_place type
+  pub flat_is : types ≡ take 17 (flat type)
+  pub end_is : end ≡ has_end type
+  pub handle_is : handle ≡ has_handle type
+  pub labels_are : (q : List ℕ) → at q ≡ first_named q (labels_of type)

@@ -1,0 +1,6 @@
+pub mod Parts
+pub mod Handles
+pub mod Layers
+pub mod Gathered
+pub mod Known
+pub mod Computed

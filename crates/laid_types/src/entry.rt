@@ -1,0 +1,119 @@
+//! Types with what is computed of them.
+
+ghost use Rattle.std.specs.Prelude.{◌≡◌, take, length, IfOk};
+ghost use Rattle.std.specs.List.{slice_get};
+ghost use Rattle.std.specs.Option.{option_and_then};
+ghost use Rattle.ca_base.specs.Names.{first_named};
+ghost use Rattle.ca_types.specs.Layout.{laid};
+ghost use Rattle.ca_types.specs.Limited.{InReach, limited};
+ghost use Rattle.ca_types.specs.Flat.{flat};
+ghost use Rattle.ca_types.specs.Ends.{has_end};
+ghost use Rattle.laid_types.specs.Parts.{labels_of, payload_place};
+ghost use Rattle.laid_types.specs.Handles.{has_handle};
+ghost use Rattle.laid_types.specs.Gathered.{as_laid};
+
+use crate::holding::Holding;
+use crate::laying::Laying;
+use ca_types::{CoreType, Shared, ValType};
+use std::alloc::AllocError;
+use std::collections::BTreeMap;
+use std::marker::Model;
+
+/// A type, what is computed of it, and the numbers of its parts. Contracts see the type and the numbers.
+#[derive(Drop)]
+pub(crate) struct Entry {
+    pub(crate) val_type: Shared<ValType>,
+    pub(crate) laying: Laying,
+    pub(crate) payload_place: u32,
+    pub(crate) flat: Vec<CoreType>,
+    pub(crate) holding: Holding,
+    pub(crate) label_places: BTreeMap<String, usize>,
+    pub(crate) parts: Vec<Option<usize>>,
+}
+
+impl Model for Entry {
+    ghost use Rattle.std.specs.Coded.{codes};
+    ghost use Rattle.std.specs.BTreeMap.{get_by_text};
+    ghost use Rattle.ca_types.specs.contracts.types.ValType as val_type_row;
+    ghost use Rattle.laid_types.specs.Known.{Known};
+    ghost use Rattle.laid_types.specs.Gathered.{as_laid};
+    ghost use Rattle.laid_types.specs.Computed.{IsComputed};
+
+    ghost Value = { Known };
+
+    ghost coded = { Prim.hlevel (codes, val_type_row.the_row.coded) };
+
+    ghost view = { λ e. record { val_type = e.val_type; parts = e.parts.items } };
+
+    ghost invariant = { λ e. IsComputed e.val_type (as_laid e.laying) e.payload_place e.flat.items e.holding.end e.holding.handle (get_by_text e.label_places) };
+}
+
+impl Entry {
+    /// The type.
+    pub(crate) fn val_type(&self) -> &ValType
+        ensures { result.now ≡ self.now.val_type }
+    {
+        self.val_type.get()
+    }
+
+    /// The type, to be shared.
+    pub(crate) fn share(&self) -> Result<Shared<ValType>, AllocError>
+        ensures { IfOk result (λ t. t ≡ self.now.val_type) }
+    {
+        self.val_type.share()
+    }
+
+    /// How its values lie in memory.
+    pub(crate) fn laying(&self) -> Laying
+        ensures value { as_laid result ≡ limited (laid self.now.val_type) }
+        ensures reach { InReach (as_laid result) }
+    {
+        self.laying
+    }
+
+    /// Where a payload stands behind the number of its case.
+    pub(crate) fn payload_place(&self) -> u32
+        ensures { result ≡ payload_place self.now.val_type }
+    {
+        self.payload_place
+    }
+
+    /// The first 17 of its core types.
+    pub(crate) fn flat(&self) -> &[CoreType]
+        ensures { result.now ≡ take 17 (flat self.now.val_type) }
+    {
+        &self.flat
+    }
+
+    /// What its values hold.
+    pub(crate) fn holding(&self) -> Holding
+        ensures end { result.end ≡ has_end self.now.val_type }
+        ensures handle { result.handle ≡ has_handle self.now.val_type }
+    {
+        self.holding
+    }
+
+    /// Where a label stands: of equal ones the first.
+    pub(crate) fn label_at(&self, label: &str) -> Option<usize>
+        ensures { result ≡ first_named label.now (labels_of self.now.val_type) }
+    {
+        self.label_places.get(label).copied()
+    }
+
+    /// How many places there are for parts.
+    pub(crate) fn part_count(&self) -> usize
+        ensures { result ≡ length self.now.parts }
+    {
+        self.parts.len()
+    }
+
+    /// The number of the part at a place, none where no type stands there.
+    pub(crate) fn part(&self, at: usize) -> Option<usize>
+        ensures { result ≡ option_and_then (λ part. part) (slice_get self.now.parts at) }
+    {
+        match self.parts.get(at) {
+            Some(part) => *part,
+            None => None,
+        }
+    }
+}

@@ -1,0 +1,25 @@
+//! What values of a type hold.
+
+ghost use Rattle.std.specs.Prelude.{◌≡◌, ◌||◌};
+
+/// What values of a type hold.
+#[derive(Clone, Copy, Debug)]
+pub(crate) struct Holding {
+    /// Whether they hold the end of a stream or a future.
+    pub(crate) end: bool,
+    /// Whether they hold a handle.
+    pub(crate) handle: bool,
+}
+
+impl Holding {
+    /// What either of two holds.
+    pub(crate) fn or(self, other: Holding) -> Holding
+        ensures end { result.end ≡ (self.end || other.end) }
+        ensures handle { result.handle ≡ (self.handle || other.handle) }
+    {
+        Holding {
+            end: self.end || other.end,
+            handle: self.handle || other.handle,
+        }
+    }
+}

@@ -1,0 +1,34 @@
+//! Types of values in a table, each over earlier ones, with what is computed of each once: sizes and alignments, core types, what
+//! its values hold, its parts and where its labels stand.
+//!
+//! Types share parts, and a type can have far more parts than there is memory. What is computed of a type here is computed from what
+//! was computed of its parts. The types are those of `ca_types`, which defines what is computed.
+//!
+//! - `layer`: what a type is made of, by the numbers of earlier types
+//! - `laying` and `flattening`: sizes and alignments, and core types, of several parts
+//! - `holding`: what values of a type hold
+//! - `labels`: where labels stand
+//! - `entry`: a type with what is computed of it
+//! - `trees`: types of layers
+//! - `gathering`: what is computed of a type from its parts
+//! - `making`: entries of layers
+//! - `types`: the table
+//! - `laid_type`: a type of the table
+#![tactic(auto)]
+
+mod entry;
+mod flattening;
+mod gathering;
+mod holding;
+mod labels;
+mod laid_type;
+mod layer;
+mod laying;
+mod making;
+mod trees;
+mod types;
+
+pub use laid_type::LaidType;
+pub use layer::{LabelledCase, LabelledPart, ValTypeLayer};
+pub use laying::aligned;
+pub use types::LaidTypes;
