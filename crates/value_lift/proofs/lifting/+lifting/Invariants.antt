@@ -1,0 +1,42 @@
+-- Types get less deep from call to call; what was lifted and what is left to be lifted are the whole.
+use Rattle.std.proofs.Common.{◌≡◌, ◌≤◌, ◌+◌, ◌-◌, ◌*◌, [], drop, length}
+use Rattle.ca_types.specs.Layout.{laid}
+use Rattle.laid_types.specs.Parts.{parts_of}
+use Rattle.value_lift.specs.Pieces.{elements_from}
+use Rattle.value_lift.specs.Lifting.{part, parts, fields_from}
+use Rattle.value_lift.specs.Room.{end_behind}
+use Rattle.value_lift.proofs.Depth.{depth}
+use Rattle.value_lift.proofs.lifting.+lifting.Given as goal
+
+abbrev pub decreases-elements_from : goal.decreases-elements_from
+decreases-elements_from l = depth l.element.now * 8 + 7
+
+abbrev pub decreases-elements_of : goal.decreases-elements_of
+decreases-elements_of l = depth l.element.now * 8 + 8
+
+abbrev pub decreases-fields_at : goal.decreases-fields_at
+decreases-fields_at l = depth l.t.now * 8 + 4
+
+abbrev pub decreases-case_at : goal.decreases-case_at
+decreases-case_at l = depth l.t.now * 8 + 4
+
+abbrev pub decreases-list_of : goal.decreases-list_of
+decreases-list_of l = depth l.t.now * 8 + 4
+
+abbrev pub decreases-counted_at : goal.decreases-counted_at
+decreases-counted_at l = depth l.t.now * 8 + 5
+
+abbrev pub decreases-value_at : goal.decreases-value_at
+decreases-value_at l = depth l.t.now * 8 + 6
+
+abbrev pub invariant-elements_from-loop-index : goal.invariant-elements_from-loop-index
+invariant-elements_from-loop-index l = record {
+  same : elements_from (part l.element) l.memory [] l.count l.start l.initial.left ≡ elements_from (part l.element) l.memory l.values (l.count - l._index) l.at l.left;
+  room : l.at + (l.count - l._index) * (laid l.element).size ≤ length l.memory;
+}
+
+abbrev pub invariant-fields_at-loop-at : goal.invariant-fields_at-loop-at
+invariant-fields_at-loop-at l = record {
+  same : fields_from l.memory l.place [] 0 (parts (parts_of l.t)) l.initial.left ≡ fields_from l.memory l.place l.values l.end (parts (drop l.at (parts_of l.t))) l.left;
+  room : l.place + end_behind l.end (drop l.at (parts_of l.t)) ≤ length l.memory;
+}
