@@ -9,12 +9,13 @@ pub struct Pairs;
 
 impl Kind for Pairs {
     ghost use Rattle.base_tests.specs.Sample.{pair};
+    ghost use Rattle.base_tests.specs.declared.why.Why.TheVariants.{Leb, Utf8};
 
     type Why = Why;
 
     type Item = (u32, i32);
 
-    ghost grammar = { pair };
+    ghost grammar = { pair (record { leb = Leb; utf8 = Utf8 }) };
 
     #[tactic(auto, unfolding(crate::specs::Sample::pair))]
     fn read(_alloc: Global, window: &mut Window<Why>) -> Result<(u32, i32), ReadError<Why>> {
@@ -29,13 +30,13 @@ pub struct Numbers;
 
 impl Kind for Numbers {
     ghost use Rattle.ca_base.specs.Items.{u32};
-    ghost use Rattle.base_tests.specs.Sample.{numbers};
+    ghost use Rattle.base_tests.specs.declared.why.Why.TheVariants.{Leb, Utf8};
 
     type Why = Why;
 
     type Item = u32;
 
-    ghost grammar = { u32 numbers };
+    ghost grammar = { u32 (record { leb = Leb; utf8 = Utf8 }) };
 
     fn read(_alloc: Global, window: &mut Window<Why>) -> Result<u32, ReadError<Why>> {
         let read = window.u32()?;
@@ -48,13 +49,13 @@ pub struct Names;
 
 impl Kind for Names {
     ghost use Rattle.ca_base.specs.Items.{name};
-    ghost use Rattle.base_tests.specs.Sample.{numbers};
+    ghost use Rattle.base_tests.specs.declared.why.Why.TheVariants.{Leb, Utf8};
 
     type Why = Why;
 
     type Item = Name;
 
-    ghost grammar = { name numbers };
+    ghost grammar = { name (record { leb = Leb; utf8 = Utf8 }) };
 
     fn read(alloc: Global, window: &mut Window<Why>) -> Result<Name, ReadError<Why>> {
         let text = window.name()?;
@@ -68,13 +69,13 @@ pub struct Customs;
 
 impl Kind for Customs {
     ghost use Rattle.ca_base.specs.Items.{custom};
-    ghost use Rattle.base_tests.specs.Sample.{numbers};
+    ghost use Rattle.base_tests.specs.declared.why.Why.TheVariants.{Leb, Utf8};
 
     type Why = Why;
 
     type Item = ();
 
-    ghost grammar = { custom numbers };
+    ghost grammar = { custom (record { leb = Leb; utf8 = Utf8 }) };
 
     fn read(_alloc: Global, window: &mut Window<Why>) -> Result<(), ReadError<Why>> {
         window.custom()?;
@@ -90,13 +91,14 @@ pub struct Marked {
 }
 
 impl KindOf for Marked {
-    ghost use Rattle.base_tests.specs.Sample.{marked_by};
+    ghost use Rattle.base_tests.specs.Sample.{marked};
+    ghost use Rattle.base_tests.specs.declared.why.Why.TheVariants.{Leb, Utf8, Size, Unsupported};
 
     type Why = Why;
 
     type Item = (u8, u32);
 
-    ghost grammar = { marked_by };
+    ghost grammar = { λ by. marked (record { leb = Leb; utf8 = Utf8 }) (record { unsupported = λ byte. Unsupported byte; section_size = Size }) by.byte };
 
     #[tactic(auto, unfolding(crate::specs::Sample::marked))]
     fn read(&self, _alloc: Global, window: &mut Window<Why>) -> Result<(u8, u32), ReadError<Why>> {

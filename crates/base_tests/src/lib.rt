@@ -9,23 +9,26 @@
 //! - `lists`: names that stand twice, look-ups, rules, states and texts of lists, over the `samples`
 //! - `files`: sources and sinks
 //! - `values`: lists, places and fuel
-//! - `texts` and `why`: answers as texts, and the reasons of the tests
+//! - `texts` and `why`: answers as texts with the parts of a line, and the reasons of the tests
 #![tactic(auto)]
 
 #[cfg(test)]
 mod files;
-pub mod format;
+#[cfg(test)]
+mod format;
 #[cfg(test)]
 mod formats;
 #[cfg(test)]
 mod lists;
 #[cfg(test)]
 mod numbers;
-pub mod samples;
+#[cfg(test)]
+mod samples;
 #[cfg(test)]
 mod texts;
 #[cfg(test)]
 mod values;
-pub mod why;
+#[cfg(test)]
+mod why;
 #[cfg(test)]
 mod windows;

@@ -1,11 +1,15 @@
-//! Numbers and names, with values and places worked out by hand from the rules of LEB128 and UTF-8.
+//! Numbers and names, with values and places worked out by hand from the rules of LEB128 and UTF-8, and what else a cursor
+//! reads.
 
-use crate::texts::told;
+use crate::texts::{byte, split, write_read, write_refusal, write_value};
 use ca_base::{ByteFault, Cursor};
+use cases::{Acts, Answers, acted, bytes_of_lines, check_lines};
 use std::alloc::{AllocError, Global};
+use std::fmt::Write;
 use std::test::Fail;
 
-/// A line a call on a cursor: its name, the bytes, and what it gives, with how many bytes it read and left.
+/// A line calls on a cursor: their names, with the number of bytes behind a colon, the bytes, and what each call gives, with
+/// how many bytes are read then and left.
 const CALLS: &str = "
 u32 | 00 | 0, 1 read, 0 left
 u32 | 7F | 127, 1 read, 0 left
@@ -89,45 +93,83 @@ name | 02 61 C3 A9 | 2 BadUtf8, 0 read, 4 left
 name | 04 61 E2 82 62 | 2 BadUtf8, 0 read, 5 left
 name | 03 C3 A9 80 | 3 BadUtf8, 0 read, 4 left
 name | FF FF FF FF 0F 61 | 6 Truncated, 0 read, 6 left
+byte take:3 next take:2 byte next | 07 08 09 | 7, 1 read, 2 left 3 Truncated, 1 read, 2 left Some(8), 1 read, 2 left [8, 9], 3 read, 0 left 3 Truncated, 3 read, 0 left None, 3 read, 0 left
 ";
 
-/// The text that a cursor read.
-fn name_text(alloc: Global, read: Result<&str, ByteFault>) -> Result<String, AllocError> {
+/// Writes the text that a cursor read.
+fn write_name(text: &mut String, read: Result<&str, ByteFault>) -> Result<(), AllocError> {
     match read {
-        Ok(name) => format!(in alloc; "<{name}>"),
-        Err(error) => told::<(), _>(alloc, Err(error)),
+        Ok(name) => write!(text, "<{name}>"),
+        Err(fault) => write_refusal(text, fault),
     }
 }
 
-/// What the call of this name gives.
-fn call(alloc: Global, cursor: &mut Cursor, name: &str) -> Result<String, AllocError> {
+/// Writes what the call of a number or a name gives.
+fn write_call(text: &mut String, cursor: &mut Cursor, name: &str) -> Result<(), AllocError> {
     match name {
-        "u32" => told(alloc, cursor.u32()),
-        "s32" => told(alloc, cursor.s32()),
-        "s33" => told(alloc, cursor.s33()),
-        "s64" => told(alloc, cursor.s64()),
-        _ => name_text(alloc, cursor.name()),
+        "u32" => write_read(text, cursor.u32()),
+        "s32" => write_read(text, cursor.s32()),
+        "s33" => write_read(text, cursor.s33()),
+        "s64" => write_read(text, cursor.s64()),
+        _ => write_name(text, cursor.name()),
     }
 }
 
-/// What the call of a line gives.
-fn answer(alloc: Global, line: &str) -> Result<String, Fail> {
-    let (name, hex) = line.split_once(" |").ok_or("no bytes")?;
-    let bytes = cases::bytes_of(alloc, hex)?;
-    let mut cursor = Cursor::new(&bytes);
-    let text = call(alloc, &mut cursor, name)?;
+/// Writes what a call gives.
+fn write_any(
+    text: &mut String,
+    cursor: &mut Cursor,
+    name: &str,
+    count: usize,
+) -> Result<(), AllocError> {
+    match name {
+        "byte" => write_read(text, cursor.byte()),
+        "take" => write_read(text, cursor.take(count)),
+        "next" => write_value(text, cursor.next()),
+        _ => write_call(text, cursor, name),
+    }
+}
+
+/// Writes how many bytes a cursor read, and how many it left.
+fn write_place(text: &mut String, cursor: &Cursor) -> Result<(), AllocError> {
     let read = cursor.at();
     let left = cursor.left();
-    Ok(format!(in alloc; "{text}, {read} read, {left} left")?)
+    write!(text, ", {read} read, {left} left")
+}
+
+/// A cursor that calls read.
+#[derive(Drop)]
+struct Tried<'b> {
+    cursor: Cursor<'b>,
+}
+
+impl<'b> Acts for Tried<'b> {
+    fn act(
+        &mut self,
+        _alloc: Global,
+        name: &str,
+        rest: &str,
+        text: &mut String,
+    ) -> Result<(), Fail> {
+        write_any(text, &mut self.cursor, name, usize::from(byte(rest)))?;
+        write_place(text, &self.cursor)?;
+        Ok(())
+    }
+}
+
+/// Calls on new cursors.
+struct CursorCalls;
+
+impl Answers for CursorCalls {
+    fn answer(alloc: Global, given: &str) -> Result<String, Fail> {
+        let (calls, hex) = split(given, " |");
+        let bytes = bytes_of_lines(alloc, hex)?;
+        let cursor = Cursor::new(&bytes);
+        acted(alloc, Tried { cursor }, calls)
+    }
 }
 
 #[test]
 fn numbers_and_names_are_read(rt: HostRuntime) -> Result<(), Fail> {
-    for line in CALLS.trim().lines() {
-        let (given, wanted) = line.rsplit_once(" | ").ok_or("no answer")?;
-        let got = answer(rt.alloc(), given)?;
-        assert_eq!(rt; got.as_str(), wanted, "{line}");
-    }
-    assert_eq!(rt; CALLS.trim().lines().count(), 82);
-    Ok(())
+    check_lines::<CursorCalls>(rt.alloc(), CALLS, " |", 83)
 }

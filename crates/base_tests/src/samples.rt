@@ -4,7 +4,7 @@ use ca_base::{Memory, MemoryOr, Name, Named, Rule, Step, Text};
 use std::alloc::Global;
 
 /// What has a name.
-#[derive(Debug, Drop)]
+#[derive(Drop)]
 pub struct Item {
     /// The name.
     pub name: Name,
@@ -32,7 +32,7 @@ impl Rule for AtMost {
 
     type Fault = u32;
 
-    ghost fault = { too_many };
+    ghost fault = { λ rule. too_many rule.count };
 
     fn check(&self, _alloc: Global, before: &[u32], item: &u32) -> Result<(), MemoryOr<u32>> {
         if before.len() < self.count {
@@ -52,12 +52,13 @@ pub struct Total {
 
 impl<'a> Step<'a> for Total {
     ghost use Rattle.base_tests.specs.Lists.{added};
+    ghost use Rattle.base_tests.specs.declared.samples.Total.{Total};
 
     type Item = u32;
 
     type Fault = u32;
 
-    ghost stepped = { added };
+    ghost stepped = { λ total. added {T = Total} (λ n. record { sum = n }) total.sum };
 
     fn step(&mut self, _alloc: Global, item: &'a u32) -> Result<(), MemoryOr<u32>> {
         let Some(sum) = self.sum.checked_add(u64::from(*item)) else {

@@ -1,66 +1,99 @@
-//! Answers as texts.
+//! Answers as texts, and the parts of a line.
 
 use crate::why::Why;
 use ca_base::{ReadError, Refusal, Seq};
-use std::alloc::{AllocError, Global};
-use std::fmt::Debug;
+use std::alloc::AllocError;
+use std::fmt::{Debug, Write};
+use std::str::from_utf8;
 
-/// What was read, or the place and the reason.
-pub(crate) fn told<T: Debug + Drop, W: Copy + Debug>(
-    alloc: Global,
+/// A text up to a mark, and what stands behind it.
+pub(crate) fn split<'a>(text: &'a str, mark: &str) -> (&'a str, &'a str) {
+    text.split_once(mark).unwrap_or((text, ""))
+}
+
+/// The number of a text, which is 0 where it has none.
+pub(crate) fn number(text: &str) -> u64 {
+    text.parse::<u64>().unwrap_or(0)
+}
+
+/// The same of a number that is a byte.
+pub(crate) fn byte(text: &str) -> u8 {
+    text.parse::<u8>().unwrap_or(0)
+}
+
+/// The text of bytes.
+pub(crate) fn text_of(bytes: &[u8]) -> &str {
+    from_utf8(bytes).unwrap_or("no text")
+}
+
+/// Writes a value.
+pub(crate) fn write_value<T: Debug + Drop>(text: &mut String, value: T) -> Result<(), AllocError> {
+    write!(text, "{value:?}")
+}
+
+/// Writes the place and the reason.
+pub(crate) fn write_refusal<W: Copy + Debug>(
+    text: &mut String,
+    refusal: Refusal<W>,
+) -> Result<(), AllocError> {
+    let Refusal { place, why } = refusal;
+    write!(text, "{place} {why:?}")
+}
+
+/// Writes what was read, or the place and the reason.
+pub(crate) fn write_read<T: Debug + Drop, W: Copy + Debug>(
+    text: &mut String,
     read: Result<T, Refusal<W>>,
-) -> Result<String, AllocError> {
+) -> Result<(), AllocError> {
     match read {
-        Ok(item) => format!(in alloc; "{item:?}"),
-        Err(refusal) => {
-            let place = refusal.place;
-            let why = refusal.why;
-            format!(in alloc; "{place} {why:?}")
-        }
+        Ok(item) => write_value(text, item),
+        Err(refusal) => write_refusal(text, refusal),
     }
 }
 
-/// The place and the reason.
-pub(crate) fn error_told(alloc: Global, error: ReadError<Why>) -> Result<String, AllocError> {
+/// Writes the place and the reason.
+pub(crate) fn write_error(text: &mut String, error: ReadError<Why>) -> Result<(), AllocError> {
     match error {
-        ReadError::Memory => String::from_str(alloc, "memory"),
-        ReadError::Fault(refusal) => told::<(), Why>(alloc, Err(refusal)),
+        ReadError::Memory => text.push_str("memory"),
+        ReadError::Fault(refusal) => write_refusal(text, refusal),
     }
 }
 
-/// The item that was read, or the place and the reason.
-pub(crate) fn item_told<T: Debug + Drop>(
-    alloc: Global,
+/// Writes the item that was read, or the place and the reason.
+pub(crate) fn write_item<T: Debug + Drop>(
+    text: &mut String,
     read: Result<T, ReadError<Why>>,
-) -> Result<String, AllocError> {
+) -> Result<(), AllocError> {
     match read {
-        Ok(item) => format!(in alloc; "{item:?}"),
-        Err(error) => error_told(alloc, error),
+        Ok(item) => write_value(text, item),
+        Err(error) => write_error(text, error),
     }
 }
 
-/// The items that were read, or the place and the reason.
-pub(crate) fn list_told<T: Debug + Drop>(
-    alloc: Global,
+/// Writes items.
+fn write_items<T: Debug + Drop>(text: &mut String, items: Seq<T>) -> Result<(), AllocError> {
+    write!(text, "{:?}", items.as_slice())
+}
+
+/// Writes the items that were read, or the place and the reason.
+pub(crate) fn write_list<T: Debug + Drop>(
+    text: &mut String,
     read: Result<Seq<T>, ReadError<Why>>,
-) -> Result<String, AllocError> {
+) -> Result<(), AllocError> {
     match read {
-        Ok(items) => {
-            let items = items.as_slice();
-            format!(in alloc; "{items:?}")
-        }
-        Err(error) => error_told(alloc, error),
+        Ok(items) => write_items(text, items),
+        Err(error) => write_error(text, error),
     }
 }
 
-/// The items of a section that may be absent, or the place and the reason.
-pub(crate) fn section_told<T: Debug + Drop>(
-    alloc: Global,
+/// Writes the items of a section that may be absent, or the place and the reason.
+pub(crate) fn write_section<T: Debug + Drop>(
+    text: &mut String,
     read: Result<Option<Seq<T>>, ReadError<Why>>,
-) -> Result<String, AllocError> {
+) -> Result<(), AllocError> {
     match read {
-        Ok(Some(items)) => list_told(alloc, Ok(items)),
-        Ok(None) => String::from_str(alloc, "none"),
-        Err(error) => error_told(alloc, error),
+        Ok(Some(items)) => write_items(text, items),
+        Ok(None) => text.push_str("none"),
+        Err(error) => write_error(text, error),
     }
 }

@@ -1,6 +1,6 @@
 //! Tests of numeric instructions and of linear memories, through their public calls.
 //!
-//! - `relations`, `words32`, `words64`: what numeric instructions give, in texts; `numbers`: how these are compared
+//! - `relations`, `words32`, `words64`: what numeric instructions give, in texts; `numbers`: an instruction that operands are given
 //! - `stacks`: instructions over operands
 //! - `memories`: memories that grow, are loaded, stored, copied and filled, in texts; `steps`: what a line of them does
 //! - `hex`: hexadecimal numbers

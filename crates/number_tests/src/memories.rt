@@ -1,11 +1,8 @@
 //! Memories that grow, are loaded, stored, copied and filled.
 
-use crate::hex::hex32;
-use crate::steps::step;
-use std::alloc::Global;
-use std::process::Abort;
+use crate::steps::Paged;
+use cases::check_steps;
 use std::test::Fail;
-use wasm_memory::{LinearMemory, MOST_PAGES};
 
 /// A paragraph a memory: its pages and its maximum (`-` where there is none), then a line a step, with what comes of it. All
 /// numbers are hexadecimal. The steps are
@@ -258,40 +255,7 @@ fill 3ffffff 9 2 = out of bounds
 load 2d 3ffffff 0 = 9
 ";
 
-/// The memory of these pages and this maximum.
-fn memory_of(alloc: Global, text: &str) -> Result<LinearMemory, Fail> {
-    let (pages, max) = text.split_once(' ').ok_or("no maximum")?;
-    let pages = hex32(pages);
-    let max = if max == "-" { None } else { Some(hex32(max)) };
-    if pages > MOST_PAGES.min(max.unwrap_or(MOST_PAGES)) {
-        return Err(Fail::from("more pages than it may have"));
-    }
-    Ok(LinearMemory::new(alloc, pages, max)?)
-}
-
-/// Makes the steps of a paragraph, and answers how many there are.
-fn check(rt: &impl Abort, alloc: Global, paragraph: &str) -> Result<u32, Fail> {
-    let (title, lines) = paragraph.split_once('\n').ok_or("no steps")?;
-    let mut memory = memory_of(alloc, title)?;
-    let mut count = 0u32;
-    for line in lines.lines() {
-        let (words, wanted) = line.split_once(" = ").ok_or("no answer")?;
-        let got = step(alloc, &mut memory, words)?;
-        assert_eq!(rt; got.as_str(), wanted, "{title}: {words}");
-        count = count.wrapping_add(1);
-    }
-    Ok(count)
-}
-
 #[test]
 fn memories_answer(rt: HostRuntime) -> Result<(), Fail> {
-    let mut paragraphs = 0u32;
-    let mut count = 0u32;
-    for paragraph in STEPS.trim().split("\n\n") {
-        count = count.wrapping_add(check(&rt, rt.alloc(), paragraph)?);
-        paragraphs = paragraphs.wrapping_add(1);
-    }
-    assert_eq!(rt; paragraphs, 9);
-    assert_eq!(rt; count, 221);
-    Ok(())
+    check_steps::<Paged>(rt.alloc(), STEPS, 221)
 }

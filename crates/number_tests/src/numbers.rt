@@ -1,64 +1,99 @@
-//! How the texts of numeric instructions are compared.
+//! What numeric instructions give, as text.
 
-use crate::hex::{hex, hex8};
-use std::alloc::Global;
-use std::process::Abort;
+use crate::hex::{hex, hex8, split};
+use cases::Steps;
+use std::alloc::{AllocError, Global};
+use std::fmt::Write;
 use std::test::Fail;
 use wasm_module::{NumericOp, numeric};
 use wasm_numbers::{NumberTrap, of_one, of_two, takes_one, takes_two};
 
-/// A result, or a trap, as text.
-fn said(alloc: Global, outcome: Result<u64, NumberTrap>) -> Result<String, Fail> {
+/// The name of a trap.
+fn trap_name(trap: NumberTrap) -> &'static str {
+    match trap {
+        NumberTrap::DivideByZero => "by zero",
+        NumberTrap::DivideOverflow => "overflow",
+    }
+}
+
+/// Writes a result, or a trap.
+fn write_result(text: &mut String, outcome: Result<u64, NumberTrap>) -> Result<(), AllocError> {
     match outcome {
-        Ok(value) => Ok(format!(in alloc; "{value:x}")?),
-        Err(NumberTrap::DivideByZero) => Ok(String::from_str(alloc, "by zero")?),
-        Err(NumberTrap::DivideOverflow) => Ok(String::from_str(alloc, "overflow")?),
+        Ok(value) => write!(text, "{value:x}"),
+        Err(trap) => text.push_str(trap_name(trap)),
     }
 }
 
-/// What an instruction gives of operands.
+/// Writes a result, or a trap, or that an instruction takes other operands.
+pub(crate) fn write_outcome(
+    text: &mut String,
+    outcome: Option<Result<u64, NumberTrap>>,
+) -> Result<(), AllocError> {
+    match outcome {
+        Some(outcome) => write_result(text, outcome),
+        None => text.push_str("other operands"),
+    }
+}
+
+/// What an instruction gives of one operand, if it takes that.
+fn given_one(op: NumericOp, a: u64) -> Option<Result<u64, NumberTrap>> {
+    if takes_one(op, a) {
+        Some(Ok(of_one(op, a)))
+    } else {
+        None
+    }
+}
+
+/// What an instruction gives of two operands, if it takes these.
+fn given_two(op: NumericOp, a: u64, b: u64) -> Option<Result<u64, NumberTrap>> {
+    if takes_two(op, a, b) {
+        Some(of_two(op, a, b))
+    } else {
+        None
+    }
+}
+
+/// What the instruction of an opcode gives of two operands, if there is one and it takes these.
+pub(crate) fn given_by(opcode: u8, a: u64, b: u64) -> Option<Result<u64, NumberTrap>> {
+    match numeric(opcode) {
+        Some(op) => given_two(op, a, b),
+        None => None,
+    }
+}
+
+/// What an instruction gives of the operands of a text, if it takes these.
 fn given(op: NumericOp, operands: &str) -> Option<Result<u64, NumberTrap>> {
-    match operands.split_once(' ') {
-        Some((a, b)) => {
-            let (a, b) = (hex(a), hex(b));
-            if takes_two(op, a, b) {
-                Some(of_two(op, a, b))
-            } else {
-                None
-            }
-        }
-        None => {
-            let a = hex(operands);
-            if takes_one(op, a) {
-                Some(Ok(of_one(op, a)))
-            } else {
-                None
-            }
-        }
+    let (a, b) = split(operands);
+    if b.is_empty() {
+        given_one(op, hex(a))
+    } else {
+        given_two(op, hex(a), hex(b))
     }
 }
 
-/// Compares the cases of a paragraph, and answers how many there are.
-fn compare(rt: &impl Abort, alloc: Global, paragraph: &str) -> Result<u32, Fail> {
-    let (title, lines) = paragraph.split_once('\n').ok_or("no lines")?;
-    let (opcode, name) = title.split_once(' ').ok_or("no opcode")?;
-    let op = numeric(hex8(opcode)).ok_or("no such opcode")?;
-    let mut count = 0u32;
-    for line in lines.lines() {
-        let (operands, wanted) = line.split_once(" = ").ok_or("no answer")?;
-        let outcome = given(op, operands).ok_or("other operands")?;
-        let got = said(alloc, outcome)?;
-        assert_eq!(rt; got.as_str(), wanted, "{name} {operands}");
-        count = count.wrapping_add(1);
+/// Writes what an instruction gives of the operands of a text.
+fn write_given(text: &mut String, op: Option<NumericOp>, operands: &str) -> Result<(), AllocError> {
+    match op {
+        Some(op) => write_outcome(text, given(op, operands)),
+        None => text.push_str("no such opcode"),
     }
-    Ok(count)
 }
 
-/// Compares the cases of a text, and answers how many there are.
-pub fn check(rt: &impl Abort, alloc: Global, cases: &str) -> Result<u32, Fail> {
-    let mut count = 0u32;
-    for paragraph in cases.trim().split("\n\n") {
-        count = count.wrapping_add(compare(rt, alloc, paragraph)?);
+/// The instruction of an opcode, if there is one. Operands are given to it.
+#[derive(Drop)]
+pub(crate) struct Instruction {
+    op: Option<NumericOp>,
+}
+
+impl Steps for Instruction {
+    fn begin(_alloc: Global, title: &str) -> Result<Instruction, Fail> {
+        let (opcode, _name) = split(title);
+        let op = numeric(hex8(opcode));
+        Ok(Instruction { op })
     }
-    Ok(count)
+
+    fn step(&mut self, _alloc: Global, line: &str, text: &mut String) -> Result<(), Fail> {
+        write_given(text, self.op, line)?;
+        Ok(())
+    }
 }

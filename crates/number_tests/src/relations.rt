@@ -1,11 +1,10 @@
 //! Comparisons.
 
-use crate::hex::hex;
-use std::alloc::Global;
-use std::fmt::Write;
+use crate::hex::{hex, hex8, split};
+use crate::numbers::{given_by, write_outcome};
+use cases::{Steps, check_steps};
+use std::alloc::{AllocError, Global};
 use std::test::Fail;
-use wasm_module::numeric;
-use wasm_numbers::{of_two, takes_two};
 
 /// A paragraph a width: the opcode of its first comparison, then the names of all, and a line a pair of operands, with what
 /// each comparison gives. All numbers are hexadecimal.
@@ -31,38 +30,42 @@ ffffffff 100000000 = 0 1 1 1 0 0 1 1 0 0
 8000000000000000 8000000000000000 = 1 0 0 0 0 0 1 1 1 1
 ";
 
-/// What the comparisons of these opcodes give.
-fn row(alloc: Global, first: u64, operands: &str) -> Result<String, Fail> {
-    let (a, b) = operands.split_once(' ').ok_or("no operands")?;
-    let (a, b) = (hex(a), hex(b));
-    let mut text = String::from_str(alloc, operands)?;
-    text.push_str(" =")?;
-    for opcode in first..first.saturating_add(10) {
-        let op = numeric((opcode % 256) as u8).ok_or("no such opcode")?;
-        if !takes_two(op, a, b) {
-            return Err(Fail::from("other operands"));
-        }
-        match of_two(op, a, b) {
-            Ok(value) => write!(text, " {value}")?,
-            Err(trap) => write!(text, " {trap:?}")?,
-        }
+/// Writes what a comparison gives of two operands, behind a space.
+fn write_next(text: &mut String, opcode: u8, a: u64, b: u64) -> Result<(), AllocError> {
+    text.push(' ')?;
+    write_outcome(text, given_by(opcode, a, b))
+}
+
+/// Writes what ten comparisons give of two operands, by the opcode of the first.
+fn write_compared(text: &mut String, first: u8, a: u64, b: u64) -> Result<(), AllocError> {
+    write_outcome(text, given_by(first, a, b))?;
+    for number in 1..10 {
+        write_next(text, first.saturating_add(number), a, b)?;
     }
-    Ok(text)
+    Ok(())
+}
+
+/// Ten comparisons, by the opcode of the first.
+#[derive(Drop)]
+struct Comparisons {
+    first: u8,
+}
+
+impl Steps for Comparisons {
+    fn begin(_alloc: Global, title: &str) -> Result<Comparisons, Fail> {
+        let (first, _names) = split(title);
+        let first = hex8(first);
+        Ok(Comparisons { first })
+    }
+
+    fn step(&mut self, _alloc: Global, line: &str, text: &mut String) -> Result<(), Fail> {
+        let (a, b) = split(line);
+        write_compared(text, self.first, hex(a), hex(b))?;
+        Ok(())
+    }
 }
 
 #[test]
 fn integers_are_compared(rt: HostRuntime) -> Result<(), Fail> {
-    let mut count = 0u32;
-    for paragraph in RELATIONS.trim().split("\n\n") {
-        let (title, lines) = paragraph.split_once('\n').ok_or("no lines")?;
-        let (first, _names) = title.split_once(' ').ok_or("no opcode")?;
-        for line in lines.lines() {
-            let (operands, _wanted) = line.split_once(" = ").ok_or("no answer")?;
-            let got = row(rt.alloc(), hex(first), operands)?;
-            assert_eq!(rt; got.as_str(), line, "{title}");
-            count = count.wrapping_add(10);
-        }
-    }
-    assert_eq!(rt; count, 160);
-    Ok(())
+    check_steps::<Comparisons>(rt.alloc(), RELATIONS, 16)
 }

@@ -1,40 +1,119 @@
 //! Numeric instructions over operands.
 
-use std::alloc::Global;
+use crate::hex::{hex, hex8, hex32};
+use cases::{Acts, Answers, acted, check_lines};
+use std::alloc::{AllocError, Global};
+use std::fmt::Write;
 use std::test::Fail;
-use wasm_module::{BinaryOp, NumericOp, Width};
+use wasm_module::{BinaryOp, NumericOp, Width, numeric};
 use wasm_numbers::laws::results_have_their_type;
 use wasm_numbers::{NumberTrap, apply, operand_count};
 
+/// A line an instruction and the operands on a stack, in hexadecimal, and what it answers and leaves of the stack; or how many
+/// operands the instructions of opcodes take, `i32.wrap_i64` and `i32.add`.
+const STACKS: &str = "
+i64.sub:9,7,3 = Ok(()) [9, 4]
+i32.div_u:9,7,0 = Err(DivideByZero) [9]
+i32.wrap_i64:9,100000007 = Ok(()) [9, 7]
+count:a7 count:6a = 1 2
+";
+
+/// Writes an answer, and what is left of the operands.
+fn write_left(
+    text: &mut String,
+    answer: Result<(), NumberTrap>,
+    operands: &[u64],
+) -> Result<(), AllocError> {
+    write!(text, "{answer:?} {operands:?}")
+}
+
+/// Writes what `i64.sub` makes of operands.
+fn write_difference(
+    alloc: Global,
+    text: &mut String,
+    below: u64,
+    a: u64,
+    b: u64,
+) -> Result<(), AllocError> {
+    let mut operands = [below, a, b].to_vec(alloc)?;
+    let answer = apply(NumericOp::Binary(Width::W64, BinaryOp::Sub), &mut operands);
+    write_left(text, answer, &operands)
+}
+
+/// Writes what `i32.div_u` makes of operands.
+fn write_quotient(
+    alloc: Global,
+    text: &mut String,
+    below: u64,
+    a: u32,
+    b: u32,
+) -> Result<(), AllocError> {
+    let mut operands = [below, u64::from(a), u64::from(b)].to_vec(alloc)?;
+    let answer = apply(NumericOp::Binary(Width::W32, BinaryOp::DivU), &mut operands);
+    write_left(text, answer, &operands)
+}
+
+/// Writes what `i32.wrap_i64` makes of operands.
+fn write_wrapped(alloc: Global, text: &mut String, below: u64, a: u64) -> Result<(), AllocError> {
+    let mut operands = [below, a].to_vec(alloc)?;
+    let answer = apply(NumericOp::WrapI64, &mut operands);
+    write_left(text, answer, &operands)
+}
+
+/// Writes how many operands an instruction takes.
+fn write_count(text: &mut String, op: Option<NumericOp>) -> Result<(), AllocError> {
+    match op {
+        Some(op) => write!(text, "{}", operand_count(op)),
+        None => text.push_str("no such opcode"),
+    }
+}
+
+/// Writes what the instruction of a name makes of operands, with a comma between two, or how many it takes.
+fn write_made(
+    alloc: Global,
+    text: &mut String,
+    name: &str,
+    operands: &str,
+) -> Result<(), AllocError> {
+    let (below, rest) = operands.split_once(',').unwrap_or((operands, ""));
+    let (a, b) = rest.split_once(',').unwrap_or((rest, ""));
+    match name {
+        "i64.sub" => write_difference(alloc, text, hex(below), hex(a), hex(b)),
+        "i32.div_u" => write_quotient(alloc, text, hex(below), hex32(a), hex32(b)),
+        "i32.wrap_i64" => write_wrapped(alloc, text, hex(below), hex(a)),
+        _ => write_count(text, numeric(hex8(operands))),
+    }
+}
+
+/// Instructions over stacks.
+#[derive(Drop)]
+struct OverStacks;
+
+impl Acts for OverStacks {
+    fn act(
+        &mut self,
+        alloc: Global,
+        name: &str,
+        rest: &str,
+        text: &mut String,
+    ) -> Result<(), Fail> {
+        write_made(alloc, text, name, rest)?;
+        Ok(())
+    }
+}
+
+impl Answers for OverStacks {
+    fn answer(alloc: Global, given: &str) -> Result<String, Fail> {
+        acted(alloc, OverStacks, given)
+    }
+}
+
 #[test]
 fn results_take_the_place_of_operands(rt: HostRuntime) -> Result<(), Fail> {
-    let mut operands = [9, 7, 3].to_vec(rt.alloc())?;
-    let answer = apply(NumericOp::Binary(Width::W64, BinaryOp::Sub), &mut operands);
-    assert_eq!(rt; answer, Ok(()));
-    assert_eq!(rt; operands.as_slice(), [9, 4].as_slice());
-    Ok(())
+    check_lines::<OverStacks>(rt.alloc(), STACKS, " =", 4)
 }
 
 #[test]
-fn traps_take_the_operands(rt: HostRuntime) -> Result<(), Fail> {
-    let mut operands = [9, 7, 0].to_vec(rt.alloc())?;
-    let answer = apply(NumericOp::Binary(Width::W32, BinaryOp::DivU), &mut operands);
-    assert_eq!(rt; answer, Err(NumberTrap::DivideByZero));
-    assert_eq!(rt; operands.as_slice(), [9].as_slice());
-    Ok(())
-}
-
-#[test]
-fn one_operand_is_taken(rt: HostRuntime) -> Result<(), Fail> {
-    let mut operands = [9, 0x1_0000_0007].to_vec(rt.alloc())?;
-    let answer = apply(NumericOp::WrapI64, &mut operands);
-    assert_eq!(rt; answer, Ok(()));
-    assert_eq!(rt; operands.as_slice(), [9, 7].as_slice());
-    assert_eq!(rt; operand_count(NumericOp::WrapI64), 1);
-    assert_eq!(rt;
-        operand_count(NumericOp::Binary(Width::W32, BinaryOp::Add)),
-        2
-    );
+fn laws_hold() {
     results_have_their_type();
-    Ok(())
 }

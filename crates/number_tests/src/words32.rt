@@ -1,6 +1,7 @@
 //! Numeric instructions of i32, but for comparisons.
 
-use crate::numbers::check;
+use crate::numbers::Instruction;
+use cases::check_steps;
 use std::test::Fail;
 
 /// A paragraph an instruction: its opcode and its name, then a line a case: the operands and the result. All numbers are
@@ -186,6 +187,5 @@ ffffffff = ffffffff
 
 #[test]
 fn i32_instructions_give_their_results(rt: HostRuntime) -> Result<(), Fail> {
-    assert_eq!(rt; check(&rt, rt.alloc(), CASES)?, 133);
-    Ok(())
+    check_steps::<Instruction>(rt.alloc(), CASES, 133)
 }

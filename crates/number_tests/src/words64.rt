@@ -1,6 +1,7 @@
 //! Numeric instructions of i64, but for comparisons.
 
-use crate::numbers::check;
+use crate::numbers::Instruction;
+use cases::check_steps;
 use std::test::Fail;
 
 /// A paragraph an instruction: its opcode and its name, then a line a case: the operands and the result. All numbers are
@@ -177,6 +178,5 @@ ffffffffffffffff = ffffffffffffffff
 
 #[test]
 fn i64_instructions_give_their_results(rt: HostRuntime) -> Result<(), Fail> {
-    assert_eq!(rt; check(&rt, rt.alloc(), CASES)?, 120);
-    Ok(())
+    check_steps::<Instruction>(rt.alloc(), CASES, 120)
 }

@@ -2,6 +2,9 @@
 
 use ca_base::{Name, Seq};
 use ca_types::{Export, Exports, FuncType, Param, Shared, ValType};
+use cases::{Answers, check_lines};
+use std::alloc::{AllocError, Global};
+use std::fmt::Write;
 use std::test::Fail;
 
 #[test]
@@ -9,29 +12,74 @@ fn a_component_has_one_reading() {
     comp_reader::one_reading();
 }
 
-#[test]
-fn an_export_is_described(rt: HostRuntime) -> Result<(), Fail> {
-    let alloc = rt.alloc();
+/// A line an export from u32 to u32: its name and its parameter, and what it is told as.
+const EXPORTS: &str = "
+double a = double, a: u32, to something
+";
+
+/// The export of this name from a parameter of this label.
+fn export_of(alloc: Global, name: &str, label: &str) -> Result<Export, AllocError> {
     let param = Param {
-        label: Name::new(alloc, "a")?,
+        label: Name::new(alloc, label)?,
         val_type: Shared::new(alloc, ValType::U32)?,
     };
     let func_type = FuncType {
         params: Seq::of(alloc, param)?,
         result: Some(Shared::new(alloc, ValType::U32)?),
     };
-    let export = Export {
-        name: Name::new(alloc, "double")?,
+    Ok(Export {
+        name: Name::new(alloc, name)?,
         func_type,
-    };
-    let exports: Exports = Seq::of(alloc, export)?;
-    for export in exports.as_slice() {
-        assert_eq!(rt; export.name.as_str(), "double");
-        assert!(rt; export.func_type.result.is_some());
-        for param in export.func_type.params.as_slice() {
-            assert_eq!(rt; param.label.as_str(), "a");
-            assert!(rt; matches!(param.val_type.get(), ValType::U32));
-        }
+    })
+}
+
+/// Writes a parameter.
+fn write_param(text: &mut String, param: &Param) -> Result<(), AllocError> {
+    let label = param.label.as_str();
+    match param.val_type.get() {
+        ValType::U32 => write!(text, ", {label}: u32"),
+        _ => write!(text, ", {label}: another type"),
+    }
+}
+
+/// Writes an export.
+fn write_export(text: &mut String, export: &Export) -> Result<(), AllocError> {
+    text.push_str(export.name.as_str())?;
+    for param in export.func_type.params.as_slice() {
+        write_param(text, param)?;
+    }
+    if export.func_type.result.is_some() {
+        text.push_str(", to something")?;
     }
     Ok(())
+}
+
+/// Exports as text.
+fn shown(alloc: Global, exports: &Exports) -> Result<String, AllocError> {
+    let mut text = String::new(alloc);
+    for export in exports.as_slice() {
+        write_export(&mut text, export)?;
+    }
+    Ok(text)
+}
+
+/// Exports that are let go then, as text.
+fn exports_text(alloc: Global, exports: Exports) -> Result<String, AllocError> {
+    shown(alloc, &exports)
+}
+
+/// Exports of one function.
+struct OneExport;
+
+impl Answers for OneExport {
+    fn answer(alloc: Global, given: &str) -> Result<String, Fail> {
+        let (name, label) = given.split_once(' ').ok_or("no label")?;
+        let exports = Seq::of(alloc, export_of(alloc, name, label)?)?;
+        Ok(exports_text(alloc, exports)?)
+    }
+}
+
+#[test]
+fn an_export_is_described(rt: HostRuntime) -> Result<(), Fail> {
+    check_lines::<OneExport>(rt.alloc(), EXPORTS, " = ", 1)
 }

@@ -1,13 +1,12 @@
 //! Sections that end within their items: at whichever byte, what passes the end of the section is refused there.
 
 use crate::answers::answer_of;
-use cases::bytes_of;
-use std::alloc::Global;
-use std::fmt::Write;
+use cases::{Holds, bytes_of, check_all_lines};
+use std::alloc::{AllocError, Global};
 use std::test::Fail;
 
 /// The preamble of a component.
-const PREAMBLE: [u8; 8] = [0x00, 0x61, 0x73, 0x6D, 0x0D, 0x00, 0x01, 0x00];
+const PREAMBLE: &[u8] = &[0x00, 0x61, 0x73, 0x6D, 0x0D, 0x00, 0x01, 0x00];
 
 /// A line a section: what it holds, its id, and its payload, whose items begin with their number. So no front of it is a payload.
 const SECTIONS: &str = "
@@ -23,11 +22,9 @@ exports | 0B | 04 00 01 66 01 00 00 01 01 67 01 01 01 01 02 00 01 74 03 02 01 03
 
 /// What becomes of a component of one section, whose payload is this.
 fn answer_in_root(alloc: Global, id: u8, payload: &[u8]) -> Result<String, Fail> {
-    let Ok(size) = u8::try_from(payload.len()) else {
-        return Err(Fail::new("a long payload"));
-    };
+    let size = u8::try_from(payload.len())?;
     let mut bytes = Vec::new(alloc);
-    bytes.extend_from_slice(&PREAMBLE)?;
+    bytes.extend_from_slice(PREAMBLE)?;
     bytes.extend_from_slice(&[id, size])?;
     bytes.extend_from_slice(payload)?;
     answer_of(alloc, &bytes)
@@ -35,64 +32,65 @@ fn answer_in_root(alloc: Global, id: u8, payload: &[u8]) -> Result<String, Fail>
 
 /// What becomes of it in a component that stands in another one, before a section of no types.
 fn answer_in_another(alloc: Global, id: u8, payload: &[u8]) -> Result<String, Fail> {
-    if payload.len() > 100 {
-        return Err(Fail::new("a long payload"));
-    }
-    let size = payload.len() as u8;
+    let size = u8::try_from(payload.len())?;
     let mut bytes = Vec::new(alloc);
-    bytes.extend_from_slice(&PREAMBLE)?;
-    bytes.extend_from_slice(&[0x04, 10 + size])?;
-    bytes.extend_from_slice(&PREAMBLE)?;
+    bytes.extend_from_slice(PREAMBLE)?;
+    bytes.extend_from_slice(&[0x04, size.saturating_add(10)])?;
+    bytes.extend_from_slice(PREAMBLE)?;
     bytes.extend_from_slice(&[id, size])?;
     bytes.extend_from_slice(payload)?;
     bytes.extend_from_slice(&[0x07, 0x01, 0x00])?;
     answer_of(alloc, &bytes)
 }
 
-/// The fronts of a section's payload that are refused elsewhere than at their ends, or for another reason.
-fn differing_fronts(alloc: Global, id: u8, payload: &[u8]) -> Result<String, Fail> {
-    let mut wrong = String::new(alloc);
-    for count in 0..payload.len() {
-        let front = &payload[..count];
-        let place = 10 + count;
-        let wanted = format!(in alloc; "{place} SectionSize")?;
-        let got = answer_in_root(alloc, id, front)?;
-        if got != wanted {
-            writeln!(wrong, "{count} bytes of section {id}: {got}")?;
-        }
-        let place = 20 + count;
-        let wanted = format!(in alloc; "{place} SectionSize")?;
-        let got = answer_in_another(alloc, id, front)?;
-        if got != wanted {
-            writeln!(wrong, "{count} bytes of a nested section {id}: {got}")?;
-        }
-    }
-    Ok(wrong)
+/// Whether an answer is that something passes the end of its section at a place.
+fn is_cut_at(alloc: Global, answer: &str, place: usize) -> Result<bool, AllocError> {
+    let wanted = format!(in alloc; "{place} SectionSize")?;
+    Ok(answer == wanted.as_str())
 }
 
-/// The lines whose sections are not read whole, or whose fronts are not refused at their ends.
-fn differing(alloc: Global, lines: &str) -> Result<String, Fail> {
-    let mut wrong = String::new(alloc);
-    for line in lines.trim().lines() {
-        let (head, hex) = line.rsplit_once('|').ok_or("no payload")?;
-        let (_title, id_hex) = head.rsplit_once('|').ok_or("no id")?;
-        let payload = bytes_of(alloc, hex)?;
-        let ids = bytes_of(alloc, id_hex)?;
-        for id in &ids {
-            let whole = answer_in_root(alloc, *id, &payload)?;
-            if !whole.starts_with("\n11 ") {
-                writeln!(wrong, "{line}: {whole}")?;
-            }
-            let fronts = differing_fronts(alloc, *id, &payload)?;
-            wrong.push_str(fronts.as_str())?;
+/// Whether a front of a section's payload is refused at its end.
+fn is_refused(alloc: Global, id: u8, front: &[u8]) -> Result<bool, Fail> {
+    let count = front.len();
+    let in_root = answer_in_root(alloc, id, front)?;
+    let in_another = answer_in_another(alloc, id, front)?;
+    Ok(
+        is_cut_at(alloc, in_root.as_str(), 10 + count)?
+            && is_cut_at(alloc, in_another.as_str(), 20 + count)?,
+    )
+}
+
+/// Whether all fronts of a section's payload are refused at their ends.
+fn are_refused(alloc: Global, id: u8, payload: &[u8]) -> Result<bool, Fail> {
+    for count in 0..payload.len() {
+        if !is_refused(alloc, id, &payload[..count])? {
+            return Ok(false);
         }
     }
-    Ok(wrong)
+    Ok(true)
+}
+
+/// Whether a section is read whole.
+fn is_read(alloc: Global, id: u8, payload: &[u8]) -> Result<bool, Fail> {
+    let whole = answer_in_root(alloc, id, payload)?;
+    Ok(whole.starts_with("\n11 "))
+}
+
+/// Sections that are read whole, and whose fronts are refused at their ends.
+struct CutOff;
+
+impl Holds for CutOff {
+    fn holds(alloc: Global, case: &str) -> Result<bool, Fail> {
+        let (head, hex) = case.rsplit_once('|').ok_or("no payload")?;
+        let (_title, id) = head.rsplit_once('|').ok_or("no id")?;
+        let payload = bytes_of(alloc, hex)?;
+        let ids = bytes_of(alloc, id)?;
+        let id = ids.first().copied().ok_or("no id")?;
+        Ok(is_read(alloc, id, &payload)? && are_refused(alloc, id, &payload)?)
+    }
 }
 
 #[test]
 fn fronts_of_sections_are_refused(rt: HostRuntime) -> Result<(), Fail> {
-    assert_eq!(rt; differing(rt.alloc(), SECTIONS)?.as_str(), "");
-    assert_eq!(rt; SECTIONS.trim().lines().count(), 8);
-    Ok(())
+    check_all_lines::<CutOff>(rt.alloc(), SECTIONS, 8)
 }

@@ -1,6 +1,7 @@
 //! Components and instance types in others, with items, places and reasons that are derived from the formats by hand.
 
-use crate::answers::{differing_lines, differing_paragraphs};
+use crate::answers::{InLine, InLines};
+use cases::{check_lines, check_paragraphs};
 use std::test::Fail;
 
 /// A paragraph a component: what it is, its bytes, and behind `is` its items at their places, or the place and the reason of its
@@ -166,7 +167,18 @@ sixteen instance types, each in the one before it
 42 01 01 42 01 01 42 01 01 42 01 01 42 01 01 ; 41: five more
 42 00 ; 56: the last one
 is
-56 Limit
+11 instance type of instance type of instance type of instance type of instance type of instance type of instance type of instance type of instance type of instance type of instance type of instance type of instance type of instance type of instance type of instance type of end; end; end; end; end; end; end; end; end; end; end; end; end; end; end; end
+
+seventeen instance types, each in the one before it
+00 61 73 6D 0D 00 01 00 ; 0: the preamble
+07 33 01 ; 8: a type
+42 01 01 42 01 01 42 01 01 42 01 01 42 01 01 ; 11: the first five
+42 01 01 42 01 01 42 01 01 42 01 01 42 01 01 ; 26: five more
+42 01 01 42 01 01 42 01 01 42 01 01 42 01 01 ; 41: five more
+42 01 01 ; 56: one more
+42 00 ; 59: the last one
+is
+59 Limit
 
 a sixteenth instance type whose count is cut off
 00 61 73 6D 0D 00 01 00 ; 0: the preamble
@@ -176,7 +188,18 @@ a sixteenth instance type whose count is cut off
 42 01 01 42 01 01 42 01 01 42 01 01 42 01 01 ; 41: five more
 42 ; 56: the last one
 is
-56 Limit
+57 SectionSize
+
+a seventeenth instance type whose count is cut off
+00 61 73 6D 0D 00 01 00 ; 0: the preamble
+07 32 01 ; 8: a type
+42 01 01 42 01 01 42 01 01 42 01 01 42 01 01 ; 11: the first five
+42 01 01 42 01 01 42 01 01 42 01 01 42 01 01 ; 26: five more
+42 01 01 42 01 01 42 01 01 42 01 01 42 01 01 ; 41: five more
+42 01 01 ; 56: one more
+42 ; 59: the last one
+is
+59 Limit
 
 fifteen instance types twice, one behind the other
 00 61 73 6D 0D 00 01 00 ; 0: the preamble
@@ -211,7 +234,92 @@ fourteen instance types in the third component
 42 01 01 42 01 01 42 01 01 42 01 01 42 01 01 42 01 01 42 01 01 ; 49: seven more
 42 00 ; 70: the last one
 is
-70 Limit
+10 component of
+20 component of
+31 instance type of instance type of instance type of instance type of instance type of instance type of instance type of instance type of instance type of instance type of instance type of instance type of instance type of instance type of end; end; end; end; end; end; end; end; end; end; end; end; end; end
+end
+end
+
+sixteen instance types in the sixteenth component
+00 61 73 6D 0D 00 01 00 ; 0: the first component
+04 CD 01 00 61 73 6D 0D 00 01 00 ; 8: the second
+04 C2 01 00 61 73 6D 0D 00 01 00 ; 19: the third
+04 B7 01 00 61 73 6D 0D 00 01 00 ; 30: the fourth
+04 AC 01 00 61 73 6D 0D 00 01 00 ; 41: the fifth
+04 A1 01 00 61 73 6D 0D 00 01 00 ; 52: the sixth
+04 96 01 00 61 73 6D 0D 00 01 00 ; 63: the seventh
+04 8B 01 00 61 73 6D 0D 00 01 00 ; 74: the eighth
+04 80 01 00 61 73 6D 0D 00 01 00 ; 85: the ninth
+04 76 00 61 73 6D 0D 00 01 00 ; 96: the tenth
+04 6C 00 61 73 6D 0D 00 01 00 ; 106: the eleventh
+04 62 00 61 73 6D 0D 00 01 00 ; 116: the twelfth
+04 58 00 61 73 6D 0D 00 01 00 ; 126: the thirteenth
+04 4E 00 61 73 6D 0D 00 01 00 ; 136: the fourteenth
+04 44 00 61 73 6D 0D 00 01 00 ; 146: the fifteenth
+04 3A 00 61 73 6D 0D 00 01 00 ; 156: the sixteenth
+07 30 01 ; 166: a type
+42 01 01 42 01 01 42 01 01 42 01 01 42 01 01 ; 169: the first five
+42 01 01 42 01 01 42 01 01 42 01 01 42 01 01 ; 184: five more
+42 01 01 42 01 01 42 01 01 42 01 01 42 01 01 ; 199: five more
+42 00 ; 214: the last one
+is
+11 component of
+22 component of
+33 component of
+44 component of
+55 component of
+66 component of
+77 component of
+88 component of
+98 component of
+108 component of
+118 component of
+128 component of
+138 component of
+148 component of
+158 component of
+169 instance type of instance type of instance type of instance type of instance type of instance type of instance type of instance type of instance type of instance type of instance type of instance type of instance type of instance type of instance type of instance type of end; end; end; end; end; end; end; end; end; end; end; end; end; end; end; end
+end
+end
+end
+end
+end
+end
+end
+end
+end
+end
+end
+end
+end
+end
+end
+
+seventeen instance types in the sixteenth component
+00 61 73 6D 0D 00 01 00 ; 0: the first component
+04 D0 01 00 61 73 6D 0D 00 01 00 ; 8: the second
+04 C5 01 00 61 73 6D 0D 00 01 00 ; 19: the third
+04 BA 01 00 61 73 6D 0D 00 01 00 ; 30: the fourth
+04 AF 01 00 61 73 6D 0D 00 01 00 ; 41: the fifth
+04 A4 01 00 61 73 6D 0D 00 01 00 ; 52: the sixth
+04 99 01 00 61 73 6D 0D 00 01 00 ; 63: the seventh
+04 8E 01 00 61 73 6D 0D 00 01 00 ; 74: the eighth
+04 83 01 00 61 73 6D 0D 00 01 00 ; 85: the ninth
+04 79 00 61 73 6D 0D 00 01 00 ; 96: the tenth
+04 6F 00 61 73 6D 0D 00 01 00 ; 106: the eleventh
+04 65 00 61 73 6D 0D 00 01 00 ; 116: the twelfth
+04 5B 00 61 73 6D 0D 00 01 00 ; 126: the thirteenth
+04 51 00 61 73 6D 0D 00 01 00 ; 136: the fourteenth
+04 47 00 61 73 6D 0D 00 01 00 ; 146: the fifteenth
+04 3D 00 61 73 6D 0D 00 01 00 ; 156: the sixteenth
+07 33 01 ; 166: a type
+42 01 01 42 01 01 42 01 01 42 01 01 42 01 01 ; 169: the first five
+42 01 01 42 01 01 42 01 01 42 01 01 42 01 01 ; 184: five more
+42 01 01 42 01 01 42 01 01 42 01 01 42 01 01 ; 199: five more
+42 01 01 ; 214: one more
+42 00 ; 217: the last one
+is
+217 Limit
 ";
 
 /// A line a component: what it is, its bytes behind the preamble, and the place and the reason. The first section begins at 8; a
@@ -247,14 +355,10 @@ a fault behind a component | sections | 04 08 00 61 73 6D 0D 00 01 00 07 02 01 7
 
 #[test]
 fn nested_components_are_read(rt: HostRuntime) -> Result<(), Fail> {
-    assert_eq!(rt; differing_paragraphs(rt.alloc(), NESTED)?.as_str(), "");
-    assert_eq!(rt; NESTED.trim().split("\n\n").count(), 12);
-    Ok(())
+    check_paragraphs::<InLines>(rt.alloc(), NESTED, 16)
 }
 
 #[test]
 fn nested_components_are_refused(rt: HostRuntime) -> Result<(), Fail> {
-    assert_eq!(rt; differing_lines(rt.alloc(), REFUSED)?.as_str(), "");
-    assert_eq!(rt; REFUSED.trim().lines().count(), 26);
-    Ok(())
+    check_lines::<InLine>(rt.alloc(), REFUSED, "| ", 26)
 }

@@ -1,6 +1,7 @@
 //! The items of whole components, read and refused, with items, places and reasons that are derived from the formats by hand.
 
-use crate::answers::{differing_lines, differing_paragraphs};
+use crate::answers::{InLine, InLines};
+use cases::{check_lines, check_paragraphs};
 use std::test::Fail;
 
 /// A paragraph a component: what it is, its bytes, and behind `is` its items at their places.
@@ -225,14 +226,10 @@ an import that the file cuts off | sections | 0A 06 01 00 01 61 01 | 15 Truncate
 
 #[test]
 fn items_are_read(rt: HostRuntime) -> Result<(), Fail> {
-    assert_eq!(rt; differing_paragraphs(rt.alloc(), READ)?.as_str(), "");
-    assert_eq!(rt; READ.trim().split("\n\n").count(), 7);
-    Ok(())
+    check_paragraphs::<InLines>(rt.alloc(), READ, 7)
 }
 
 #[test]
 fn items_are_refused(rt: HostRuntime) -> Result<(), Fail> {
-    assert_eq!(rt; differing_lines(rt.alloc(), REFUSED)?.as_str(), "");
-    assert_eq!(rt; REFUSED.trim().lines().count(), 100);
-    Ok(())
+    check_lines::<InLine>(rt.alloc(), REFUSED, "| ", 100)
 }

@@ -1,14 +1,20 @@
 //! The items of components as text.
 
 use crate::types::{write_alias, write_type};
-use ca_base::Placed;
+use ca_base::{Name, Placed};
 use comp_reader::{
-    Canon, Component, CoreArgument, CoreInlineExport, CoreInstance, Export, Import, Instance, Item,
-    NamedDefinition,
+    Canon, Component, CoreArgument, CoreInlineExport, CoreInstance, Export, ExternDesc, Import,
+    Instance, Item, NamedDefinition,
 };
 use std::alloc::AllocError;
-use std::fmt::Write;
+use std::fmt::{Debug, Write};
 use wasm_valid::Valid;
+
+/// Writes a name behind a space.
+fn write_name(text: &mut String, name: &Name) -> Result<(), AllocError> {
+    text.push(' ')?;
+    text.push_str(name.as_str())
+}
 
 /// Writes a core module.
 fn write_module(text: &mut String, valid: &Valid) -> Result<(), AllocError> {
@@ -20,29 +26,43 @@ fn write_module(text: &mut String, valid: &Valid) -> Result<(), AllocError> {
         "core module of {types} types and {funcs} functions, exporting"
     )?;
     for export in tree.exports.as_slice() {
-        let name = export.name.as_str();
-        write!(text, " {name}")?;
+        write_name(text, &export.name)?;
     }
     Ok(())
+}
+
+/// Writes what stands under a name.
+fn write_named<S: Copy + Debug>(
+    text: &mut String,
+    name: &Name,
+    sort: S,
+    index: u32,
+) -> Result<(), AllocError> {
+    text.push(',')?;
+    write_name(text, name)?;
+    write!(text, " is {sort:?} {index}")
+}
+
+/// Writes an argument of a core module.
+fn write_core_argument(text: &mut String, argument: &CoreArgument) -> Result<(), AllocError> {
+    text.push(',')?;
+    write_name(text, &argument.name)?;
+    write!(text, " from core instance {}", argument.instance)
 }
 
 /// Writes the arguments of a core module.
 fn write_core_arguments(text: &mut String, arguments: &[CoreArgument]) -> Result<(), AllocError> {
     for argument in arguments {
-        let name = argument.name.as_str();
-        let instance = argument.instance;
-        write!(text, ", {name} from core instance {instance}")?;
+        write_core_argument(text, argument)?;
     }
     Ok(())
 }
 
 /// Writes the inline exports of a core instance.
 fn write_core_exports(text: &mut String, exports: &[CoreInlineExport]) -> Result<(), AllocError> {
+    text.push_str("core instance")?;
     for export in exports {
-        let name = export.name.as_str();
-        let sort = export.sort;
-        let index = export.index;
-        write!(text, ", {name} is {sort:?} {index}")?;
+        write_named(text, &export.name, export.sort, export.index)?;
     }
     Ok(())
 }
@@ -54,20 +74,14 @@ fn write_core_instance(text: &mut String, made: &CoreInstance) -> Result<(), All
             write!(text, "instance of core module {module}")?;
             write_core_arguments(text, arguments.as_slice())
         }
-        CoreInstance::Inline(exports) => {
-            write!(text, "core instance")?;
-            write_core_exports(text, exports.as_slice())
-        }
+        CoreInstance::Inline(exports) => write_core_exports(text, exports.as_slice()),
     }
 }
 
 /// Writes definitions under their names.
-fn write_named(text: &mut String, named: &[NamedDefinition]) -> Result<(), AllocError> {
-    for definition in named {
-        let name = definition.name.as_str();
-        let sort = definition.sort;
-        let index = definition.index;
-        write!(text, ", {name} is {sort:?} {index}")?;
+fn write_definitions(text: &mut String, definitions: &[NamedDefinition]) -> Result<(), AllocError> {
+    for definition in definitions {
+        write_named(text, &definition.name, definition.sort, definition.index)?;
     }
     Ok(())
 }
@@ -80,32 +94,36 @@ fn write_instance(text: &mut String, made: &Instance) -> Result<(), AllocError> 
             arguments,
         } => {
             write!(text, "instance of component {component}")?;
-            write_named(text, arguments.as_slice())
+            write_definitions(text, arguments.as_slice())
         }
         Instance::Inline(exports) => {
-            write!(text, "instance")?;
-            write_named(text, exports.as_slice())
+            text.push_str("instance")?;
+            write_definitions(text, exports.as_slice())
         }
     }
 }
 
 /// Writes an import.
 fn write_import(text: &mut String, import: &Import) -> Result<(), AllocError> {
-    let name = import.name.as_str();
-    let desc = import.desc;
-    write!(text, "import {name}: {desc:?}")
+    text.push_str("import")?;
+    write_name(text, &import.name)?;
+    write!(text, ": {:?}", import.desc)
+}
+
+/// Writes what an export is to be, if that is said.
+fn write_desc(text: &mut String, desc: Option<ExternDesc>) -> Result<(), AllocError> {
+    match desc {
+        Some(desc) => write!(text, ", {desc:?}"),
+        None => Ok(()),
+    }
 }
 
 /// Writes an export.
 fn write_export(text: &mut String, export: &Export) -> Result<(), AllocError> {
-    let name = export.name.as_str();
-    let sort = export.sort;
-    let index = export.index;
-    write!(text, "export {name} of {sort:?} {index}")?;
-    match export.desc {
-        Some(desc) => write!(text, ", {desc:?}"),
-        None => Ok(()),
-    }
+    text.push_str("export")?;
+    write_name(text, &export.name)?;
+    write!(text, " of {:?} {}", export.sort, export.index)?;
+    write_desc(text, export.desc)
 }
 
 /// Writes a canonical function.
@@ -119,6 +137,14 @@ fn write_canon(text: &mut String, canon: Canon) -> Result<(), AllocError> {
             "lift of core function {core_func} at type {func_type}"
         ),
     }
+}
+
+/// Writes a component that stands in another one.
+#[cycle(items)]
+fn write_component(text: &mut String, read: &Component) -> Result<(), AllocError> {
+    text.push_str("component of")?;
+    write_items(text, read)?;
+    text.push_str("\nend")
 }
 
 /// Writes the items of a component at their places, each behind a line break.
@@ -138,11 +164,7 @@ fn write_placed(text: &mut String, placed: &Placed<Item>) -> Result<(), AllocErr
     match &placed.item {
         Item::CoreModule(valid) => write_module(text, valid),
         Item::CoreInstance(made) => write_core_instance(text, made),
-        Item::Component(inner) => {
-            write!(text, "component of")?;
-            write_items(text, inner)?;
-            write!(text, "\nend")
-        }
+        Item::Component(inner) => write_component(text, inner),
         Item::Instance(made) => write_instance(text, made),
         Item::Alias(alias) => write_alias(text, alias),
         Item::Type(def_type) => write_type(text, def_type),

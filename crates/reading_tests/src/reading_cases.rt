@@ -1,6 +1,7 @@
 //! Components that are read, with items and places that are derived from the formats by hand.
 
-use crate::answers::differing_paragraphs;
+use crate::answers::InLines;
+use cases::check_paragraphs;
 use std::test::Fail;
 
 /// A paragraph a component: what it is, its bytes, and behind `is` its items at their places.
@@ -108,7 +109,5 @@ is
 
 #[test]
 fn components_are_read(rt: HostRuntime) -> Result<(), Fail> {
-    assert_eq!(rt; differing_paragraphs(rt.alloc(), COMPONENTS)?.as_str(), "");
-    assert_eq!(rt; COMPONENTS.trim().split("\n\n").count(), 6);
-    Ok(())
+    check_paragraphs::<InLines>(rt.alloc(), COMPONENTS, 6)
 }

@@ -1,6 +1,7 @@
 //! Components that are refused, with places and reasons that are derived from the formats by hand.
 
-use crate::answers::differing_lines;
+use crate::answers::InLine;
+use cases::check_lines;
 use std::test::Fail;
 
 /// A line a component: what it is, what its bytes are, its bytes, and the place and the reason. They are those of a whole
@@ -139,7 +140,5 @@ a function of a type that is not there | sections | 01 29 00 61 73 6D 01 00 00 0
 
 #[test]
 fn components_are_refused(rt: HostRuntime) -> Result<(), Fail> {
-    assert_eq!(rt; differing_lines(rt.alloc(), COMPONENTS)?.as_str(), "");
-    assert_eq!(rt; COMPONENTS.trim().lines().count(), 128);
-    Ok(())
+    check_lines::<InLine>(rt.alloc(), COMPONENTS, "| ", 128)
 }

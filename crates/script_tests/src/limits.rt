@@ -1,92 +1,156 @@
 //! The longest script, one with many calls, and two with one long value.
 
-use crate::fixtures::{export, exports_of, outcome};
-use ca_base::Seq;
-use ca_types::Value;
-use script_reader::{Item, Script, read_script};
+use crate::fixtures::{Shown, outcome};
+use cases::{Answers, bytes_of_lines, check_lines};
 use std::alloc::{AllocError, Global};
+use std::fmt::Write;
 use std::test::Fail;
+
+/// A line a script: so many spaces, the bytes behind them, and what becomes of it.
+const SPACES: &str = "
+1048576 - = fuel 1000000
+1048576 FF = line 0: Size
+";
+
+/// Makes a script of so many spaces, and of bytes behind them.
+fn push_spaces(script: &mut Vec<u8>, count: usize, end: &[u8]) -> Result<(), AllocError> {
+    script.resize(count, b' ')?;
+    script.extend_from_slice(end)
+}
+
+/// A script of so many spaces, and of bytes behind them.
+fn blanks(alloc: Global, count: usize, hex: &str) -> Result<Vec<u8>, Fail> {
+    let end = bytes_of_lines(alloc, hex)?;
+    let mut script = Vec::new(alloc);
+    push_spaces(&mut script, count, &end)?;
+    Ok(script)
+}
+
+/// The number of a text, which is 0 where it has none.
+fn number(text: &str) -> usize {
+    text.parse::<usize>().unwrap_or(0)
+}
+
+/// Scripts of spaces.
+struct Blank;
+
+impl Answers for Blank {
+    fn answer(alloc: Global, given: &str) -> Result<String, Fail> {
+        let (count, hex) = given.split_once(' ').unwrap_or((given, ""));
+        let script = blanks(alloc, number(count), hex)?;
+        outcome(alloc, Shown::All, &script, "")
+    }
+}
 
 #[test]
 fn longer_texts_are_refused(rt: HostRuntime) -> Result<(), Fail> {
-    let exports = exports_of(rt.alloc(), "")?;
-    let mut script = Vec::new(rt.alloc());
-    script.resize(1024 * 1024, b' ')?;
-    let found = outcome(rt.alloc(), &script, &exports)?;
-    assert_eq!(rt; found.as_str(), "fuel 1000000");
-    script.push(0xFF)?;
-    let found = outcome(rt.alloc(), &script, &exports)?;
-    assert_eq!(rt; found.as_str(), "line 0: Size");
-    Ok(())
+    check_lines::<Blank>(rt.alloc(), SPACES, " = ", 2)
 }
 
-/// How many functions are exported, and how many calls the script has. It is read within the time of a test only where a
-/// call is looked up without going through the exports.
+/// How many functions are exported where there are many calls. A script of these is read within the time of a test only where
+/// a call is looked up without going through the exports.
 const EXPORTS: usize = 1_000;
 
-const CALLS: usize = 60_000;
+/// The text of many exports.
+fn many_exports(alloc: Global) -> Result<String, AllocError> {
+    let mut exports = String::new(alloc);
+    for number in 0..EXPORTS {
+        write!(exports, "export{number}:\n")?;
+    }
+    Ok(exports)
+}
+
+/// So many calls, of one export after the other, the last one first.
+fn many_calls(alloc: Global, count: usize) -> Result<String, AllocError> {
+    let mut script = String::new(alloc);
+    for number in 0..count {
+        let called = EXPORTS - 1 - number % EXPORTS;
+        write!(script, "call export{called}()\n")?;
+    }
+    Ok(script)
+}
+
+/// How many calls are read of a script, where there are many exports.
+fn many_outcome(alloc: Global, script: &str) -> Result<String, Fail> {
+    let exports = many_exports(alloc)?;
+    outcome(alloc, Shown::Sizes, script.as_bytes(), exports.as_str())
+}
+
+/// A line a script of so many calls, and how many are read.
+const CALLS: &str = "
+60000 = 60000 calls, 0
+";
+
+/// Scripts of many calls.
+struct ManyCalls;
+
+impl Answers for ManyCalls {
+    fn answer(alloc: Global, given: &str) -> Result<String, Fail> {
+        let script = many_calls(alloc, number(given))?;
+        many_outcome(alloc, script.as_str())
+    }
+}
 
 #[test]
 fn many_calls_are_read(rt: HostRuntime) -> Result<(), Fail> {
-    let alloc = rt.alloc();
-    let mut exports = Seq::new(alloc);
-    for number in 0..EXPORTS {
-        let name = format!(in alloc; "export{number}")?;
-        exports.push(export(alloc, name.as_str(), "")?)?;
+    check_lines::<ManyCalls>(rt.alloc(), CALLS, " = ", 1)
+}
+
+/// Writes a text so many times.
+fn push_times(text: &mut String, part: &str, times: usize) -> Result<(), AllocError> {
+    for _ in 0..times {
+        text.push_str(part)?;
     }
-    let mut script = String::new(alloc);
-    for number in 0..CALLS {
-        let called = EXPORTS - 1 - number % EXPORTS;
-        let line = format!(in alloc; "call export{called}()\n")?;
-        script.push_str(line.as_str())?;
-    }
-    let read = read_script(alloc, script.as_bytes(), &exports).expect(&rt, "a script");
-    assert_eq!(rt; read.items().len(), CALLS);
     Ok(())
 }
 
-/// How many elements the long list has, and how many bytes the long text: each makes a script of nearly 1 MiB.
-const ELEMENTS: usize = 340_000;
-
-const BYTES: usize = 1_048_000;
-
-/// A text with another one in its midst, so many times.
-fn repeated(
-    alloc: Global,
-    front: &str,
-    part: &str,
-    times: usize,
-    end: &str,
-) -> Result<Vec<u8>, AllocError> {
-    let mut text = Vec::from_slice(alloc, front.as_bytes())?;
-    for _ in 0..times {
-        text.extend_from_slice(part.as_bytes())?;
-    }
-    text.extend_from_slice(end.as_bytes())?;
-    Ok(text)
+/// Writes the call of `sum` with a list of so many elements.
+fn push_list(text: &mut String, count: usize) -> Result<(), AllocError> {
+    text.push_str("call sum ([0")?;
+    push_times(text, ", 1", count.saturating_sub(1))?;
+    text.push_str("])")
 }
 
-/// How long the first argument of a script's first call is: the elements of a list, the bytes of a text.
-fn length(script: &Script) -> usize {
-    let Some(Item::Call(call)) = script.items().first() else {
-        return 0;
-    };
-    match call.values.as_slice().first() {
-        Some(Value::List(elements)) => elements.len(),
-        Some(Value::String(text)) => text.as_str().len(),
-        _ => 0,
+/// Writes the call of `say` with a text of so many bytes.
+fn push_text(text: &mut String, count: usize) -> Result<(), AllocError> {
+    text.push_str("call say (\"")?;
+    push_times(text, "x", count)?;
+    text.push_str("\")")
+}
+
+/// A line a script of one call: whether its argument is a list or a text, how many elements or bytes that has, so that the
+/// script has nearly 1 MiB, and how long it is read.
+const LONG_VALUES: &str = "
+list 340000 = 1 calls, 340000
+text 1048000 = 1 calls, 1048000
+";
+
+/// Writes the call with one long value.
+fn push_value(text: &mut String, kind: &str, count: usize) -> Result<(), AllocError> {
+    match kind {
+        "list" => push_list(text, count),
+        _ => push_text(text, count),
+    }
+}
+
+/// Scripts of one long value.
+struct Long;
+
+impl Answers for Long {
+    fn answer(alloc: Global, given: &str) -> Result<String, Fail> {
+        let (kind, count) = given.split_once(' ').unwrap_or((given, ""));
+        let mut script = String::new(alloc);
+        push_value(&mut script, kind, number(count))?;
+        outcome(
+            alloc,
+            Shown::Sizes,
+            script.as_bytes(),
+            "sum:a=numbers\nsay:a=string",
+        )
     }
 }
 
 #[test]
 fn long_values_are_read(rt: HostRuntime) -> Result<(), Fail> {
-    let alloc = rt.alloc();
-    let exports = exports_of(alloc, "sum:a=numbers\nsay:a=string")?;
-    let list = repeated(alloc, "call sum ([0", ", 1", ELEMENTS - 1, "])")?;
-    let read = read_script(alloc, &list, &exports).expect(&rt, "a list");
-    assert_eq!(rt; length(&read), ELEMENTS);
-    let text = repeated(alloc, "call say (\"", "x", BYTES, "\")")?;
-    let read = read_script(alloc, &text, &exports).expect(&rt, "a text");
-    assert_eq!(rt; length(&read), BYTES);
-    Ok(())
+    check_lines::<Long>(rt.alloc(), LONG_VALUES, " = ", 2)
 }

@@ -1,73 +1,22 @@
 //! What is left in tables and memories.
 
+use crate::labels::{number_at, numbers_of, tasks};
 use ca_base::Seq;
-use std::alloc::{AllocError, Global};
+use cases::{Answers, bytes_of, check_paragraphs};
+use std::alloc::Global;
 use std::str::from_utf8;
 use std::test::Fail;
 use trace_show::{Channel, Dump, EndState, Entry, LiveEntry, Side, dump_text};
 
-/// Entries of every kind, by index.
-fn entries(alloc: Global) -> Result<Seq<LiveEntry>, AllocError> {
-    let mut entries = Seq::new(alloc);
-    let members = Seq::from_vec([6, 3].to_vec(alloc)?);
-    for (index, entry) in [
-        (
-            1,
-            Entry::Own {
-                resource: 1,
-                rep: 7,
-                lends: 0,
-            },
-        ),
-        (
-            2,
-            Entry::Borrow {
-                resource: 1,
-                rep: 4294967295,
-                task: 3,
-                lends: 2,
-            },
-        ),
-        (3, Entry::Subtask { task: 2, state: 1 }),
-        (4, Entry::Set { members }),
-        (
-            5,
-            Entry::Set {
-                members: Seq::new(alloc),
-            },
-        ),
-    ] {
-        entries.push(LiveEntry { index, entry })?;
-    }
-    Ok(entries)
-}
-
-/// Ends of every kind.
-fn ends(alloc: Global) -> Result<Seq<LiveEntry>, AllocError> {
-    let mut entries = Seq::new(alloc);
-    for (index, channel, side, state) in [
-        (6, Channel::Stream(1), Side::Readable, EndState::Idle),
-        (7, Channel::Stream(1), Side::Writable, EndState::Copying),
-        (8, Channel::Future(2), Side::Readable, EndState::Done),
-        (9, Channel::Future(2), Side::Writable, EndState::Idle),
-    ] {
-        let entry = Entry::End {
-            channel,
-            side,
-            state,
-        };
-        entries.push(LiveEntry { index, entry })?;
-    }
-    Ok(entries)
-}
-
-/// The text of a dump.
-fn shown(alloc: Global, dump: &Dump) -> Result<String, Fail> {
-    let text = dump_text(alloc, dump).ok().ok_or("no memory")?;
-    Ok(String::from_str(alloc, from_utf8(text.as_slice())?)?)
-}
-
-const TABLES: &str = "instance I1
+/// A paragraph the tables of instances, a line each, and what is dumped of them, in angle brackets. An entry is its index, its
+/// kind and its numbers, with a semicolon behind it: a handle has its resource, its representation, for a borrow its task, and
+/// its lends; a subtask has its task and its state, a set its members, and an end the number of its stream or future.
+const TABLES: &str = "
+1 own 1 7 0;2 borrow 1 4294967295 3 2;3 subtask 2 1;4 set 6 3;5 set;
+6 stream-readable-idle 1;7 stream-writable-copying 1;8 future-readable-done 2;9 future-writable-idle 2;
+-
+is
+<instance I1
 entry 1 own R1 7 0
 entry 2 borrow R1 4294967295 T3 2
 entry 3 subtask T2 1
@@ -79,58 +28,204 @@ entry 7 stream-writable S1 copying
 entry 8 future-readable F2 done
 entry 9 future-writable F2 idle
 instance I3
+>
 ";
+
+/// How an end stands.
+fn state_of(word: &str) -> Option<EndState> {
+    match word {
+        "idle" => Some(EndState::Idle),
+        "copying" => Some(EndState::Copying),
+        "done" => Some(EndState::Done),
+        _ => None,
+    }
+}
+
+/// Which end a word names.
+fn side_of(word: &str) -> Option<Side> {
+    match word {
+        "readable" => Some(Side::Readable),
+        "writable" => Some(Side::Writable),
+        _ => None,
+    }
+}
+
+/// The stream or future of a number.
+fn channel_of(word: &str, number: u32) -> Option<Channel> {
+    match word {
+        "stream" => Some(Channel::Stream(number)),
+        "future" => Some(Channel::Future(number)),
+        _ => None,
+    }
+}
+
+/// An end of three words and a number.
+fn end_of(kind: &str, number: u32) -> Option<Entry> {
+    let (channel, rest) = kind.split_once('-')?;
+    let (side, state) = rest.split_once('-')?;
+    Some(Entry::End {
+        channel: channel_of(channel, number)?,
+        side: side_of(side)?,
+        state: state_of(state)?,
+    })
+}
+
+/// A handle or a subtask.
+fn plain_entry(kind: &str, numbers: &[u64]) -> Option<Entry> {
+    let one = number_at(numbers, 0);
+    let two = number_at(numbers, 1);
+    let three = number_at(numbers, 2);
+    match kind {
+        "own" => Some(Entry::Own {
+            resource: one,
+            rep: two,
+            lends: u64::from(three),
+        }),
+        "borrow" => Some(Entry::Borrow {
+            resource: one,
+            rep: two,
+            task: three,
+            lends: u64::from(number_at(numbers, 3)),
+        }),
+        "subtask" => Some(Entry::Subtask {
+            task: one,
+            state: two,
+        }),
+        _ => end_of(kind, one),
+    }
+}
+
+/// The entry of a word and numbers.
+fn entry_of(alloc: Global, kind: &str, numbers: &[u64]) -> Result<Entry, Fail> {
+    if kind == "set" {
+        let members = tasks(alloc, numbers)?;
+        return Ok(Entry::Set { members });
+    }
+    Ok(plain_entry(kind, numbers).ok_or("no entry")?)
+}
+
+/// The entry of a text, with its index.
+fn live_entry(alloc: Global, text: &str) -> Result<LiveEntry, Fail> {
+    let (index, rest) = text.split_once(' ').ok_or("no kind")?;
+    let (kind, numbers) = rest.split_once(' ').unwrap_or((rest, ""));
+    let index = index.parse::<u32>()?;
+    let numbers = numbers_of(alloc, numbers)?;
+    let entry = entry_of(alloc, kind, &numbers)?;
+    Ok(LiveEntry { index, entry })
+}
+
+/// The entries of an instance.
+fn table_of(alloc: Global, line: &str) -> Result<Seq<LiveEntry>, Fail> {
+    let mut entries = Seq::new(alloc);
+    for text in line.trim_matches('-').split_terminator(';') {
+        entries.push(live_entry(alloc, text)?)?;
+    }
+    Ok(entries)
+}
+
+/// The entries of instances.
+fn tables_of(alloc: Global, lines: &str) -> Result<Seq<Seq<LiveEntry>>, Fail> {
+    let mut tables = Seq::new(alloc);
+    for line in lines.lines() {
+        tables.push(table_of(alloc, line)?)?;
+    }
+    Ok(tables)
+}
+
+/// The text of a dump, in angle brackets.
+fn dump_told(alloc: Global, dump: &Dump) -> Result<String, Fail> {
+    let text = dump_text(alloc, dump)?;
+    let text = from_utf8(text.as_slice())?;
+    Ok(format!(in alloc; "<{text}>")?)
+}
+
+/// What is left in tables alone.
+struct InTables;
+
+impl Answers for InTables {
+    fn answer(alloc: Global, given: &str) -> Result<String, Fail> {
+        let dump = Dump {
+            instances: tables_of(alloc, given)?,
+            memories: Seq::new(alloc),
+        };
+        dump_told(alloc, &dump)
+    }
+}
 
 #[test]
 fn tables_are_dumped(rt: HostRuntime) -> Result<(), Fail> {
-    let alloc = rt.alloc();
-    let mut instances = Seq::new(alloc);
-    instances.push(entries(alloc)?)?;
-    instances.push(ends(alloc)?)?;
-    instances.push(Seq::new(alloc))?;
-    let dump = Dump {
-        instances,
-        memories: Seq::new(alloc),
-    };
-    assert_eq!(rt; shown(alloc, &dump)?.as_str(), TABLES);
-    Ok(())
+    check_paragraphs::<InTables>(rt.alloc(), TABLES, 1)
 }
 
-const MEMORIES: &str = "instance I1
+/// A paragraph the memories behind an instance without entries, a line each, and what is dumped of them, in angle brackets. A
+/// memory is words of a place and the bytes that stand there, in hexadecimal; up to each place stand zeros, and the last place
+/// is the end.
+const MEMORIES: &str = "
+32:68c3a96c6c6f 65536:
+0:
+31:ff 131040:01 131072:
+is
+<instance I1
 memory M1 1
 00000020 68c3a96c6c6f0000000000000000000000000000000000000000000000000000
 memory M2 0
 memory M3 2
 00000000 00000000000000000000000000000000000000000000000000000000000000ff
 0001ffe0 0100000000000000000000000000000000000000000000000000000000000000
+>
 ";
+
+/// Puts the bytes of a word behind zeros up to its place.
+fn push_part(alloc: Global, memory: &mut Vec<u8>, word: &str) -> Result<(), Fail> {
+    let (place, bytes) = word.split_once(':').ok_or("no place")?;
+    let bytes = bytes_of(alloc, bytes)?;
+    memory.resize(place.parse()?, 0)?;
+    memory.extend_from_slice(&bytes)?;
+    Ok(())
+}
+
+/// The memory of a line.
+fn memory_of(alloc: Global, line: &str) -> Result<Vec<u8>, Fail> {
+    let mut memory = Vec::new(alloc);
+    for word in line.split(' ') {
+        push_part(alloc, &mut memory, word)?;
+    }
+    Ok(memory)
+}
+
+/// The memories of lines.
+fn memories_of(alloc: Global, lines: &str) -> Result<Vec<Vec<u8>>, Fail> {
+    let mut memories = Vec::new(alloc);
+    for line in lines.lines() {
+        memories.push(memory_of(alloc, line)?)?;
+    }
+    Ok(memories)
+}
+
+/// The text of memories behind an instance without entries.
+fn memories_told(alloc: Global, kept: &[Vec<u8>]) -> Result<String, Fail> {
+    let mut memories = Seq::new(alloc);
+    for memory in kept {
+        memories.push(memory.as_slice())?;
+    }
+    let dump = Dump {
+        instances: Seq::of(alloc, Seq::new(alloc))?,
+        memories,
+    };
+    dump_told(alloc, &dump)
+}
+
+/// What is left in memories alone.
+struct InMemories;
+
+impl Answers for InMemories {
+    fn answer(alloc: Global, given: &str) -> Result<String, Fail> {
+        let kept = memories_of(alloc, given)?;
+        memories_told(alloc, &kept)
+    }
+}
 
 #[test]
 fn memories_are_dumped(rt: HostRuntime) -> Result<(), Fail> {
-    let alloc = rt.alloc();
-    let mut first = vec![in alloc; 0; 65536]?;
-    for (place, byte) in [0x68, 0xc3, 0xa9, 0x6c, 0x6c, 0x6f].iter().enumerate() {
-        if let Some(there) = first.get_mut(32 + place) {
-            *there = *byte;
-        }
-    }
-    let mut third = vec![in alloc; 0; 131072]?;
-    if let Some(there) = third.get_mut(31) {
-        *there = 255;
-    }
-    if let Some(there) = third.get_mut(131040) {
-        *there = 1;
-    }
-    let mut instances = Seq::new(alloc);
-    instances.push(Seq::new(alloc))?;
-    let mut memories = Seq::new(alloc);
-    memories.push(first.as_slice())?;
-    memories.push([].as_slice())?;
-    memories.push(third.as_slice())?;
-    let dump = Dump {
-        instances,
-        memories,
-    };
-    assert_eq!(rt; shown(alloc, &dump)?.as_str(), MEMORIES);
-    Ok(())
+    check_paragraphs::<InMemories>(rt.alloc(), MEMORIES, 1)
 }

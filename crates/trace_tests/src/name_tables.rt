@@ -1,135 +1,127 @@
 //! The names of built-ins and traps, and texts of names.
 
+use crate::variants::{builtin_of, trap_of};
 use ca_base::Name;
-use std::str::from_utf8;
+use cases::{Answers, check_lines, check_paragraphs};
+use std::alloc::Global;
 use std::test::Fail;
-use trace_show::{Builtin, TrapName, name_text};
+use trace_show::name_text;
+use type_texts::text_of;
 
-/// All built-ins, in the order of their names below.
-const BUILTINS: [Builtin; 33] = [
-    Builtin::Lower,
-    Builtin::ResourceNew,
-    Builtin::ResourceRep,
-    Builtin::ResourceDrop,
-    Builtin::TaskReturn,
-    Builtin::TaskCancel,
-    Builtin::SubtaskCancel,
-    Builtin::SubtaskDrop,
-    Builtin::BackpressureInc,
-    Builtin::BackpressureDec,
-    Builtin::BackpressureSet,
-    Builtin::ContextGet,
-    Builtin::ContextSet,
-    Builtin::Yield,
-    Builtin::WaitableSetNew,
-    Builtin::WaitableSetWait,
-    Builtin::WaitableSetPoll,
-    Builtin::WaitableSetDrop,
-    Builtin::WaitableJoin,
-    Builtin::StreamNew,
-    Builtin::StreamRead,
-    Builtin::StreamWrite,
-    Builtin::StreamCancelRead,
-    Builtin::StreamCancelWrite,
-    Builtin::StreamDropReadable,
-    Builtin::StreamDropWritable,
-    Builtin::FutureNew,
-    Builtin::FutureRead,
-    Builtin::FutureWrite,
-    Builtin::FutureCancelRead,
-    Builtin::FutureCancelWrite,
-    Builtin::FutureDropReadable,
-    Builtin::FutureDropWritable,
-];
-
-const BUILTIN_NAMES: &str = "
-lower resource.new resource.rep resource.drop task.return task.cancel subtask.cancel subtask.drop
-backpressure.inc backpressure.dec backpressure.set context.get context.set yield
-waitable-set.new waitable-set.wait waitable-set.poll waitable-set.drop waitable.join
-stream.new stream.read stream.write stream.cancel-read stream.cancel-write stream.drop-readable stream.drop-writable
-future.new future.read future.write future.cancel-read future.cancel-write future.drop-readable future.drop-writable
+/// A line a built-in: the variant, and its name.
+const BUILTINS: &str = "
+Lower = lower
+ResourceNew = resource.new
+ResourceRep = resource.rep
+ResourceDrop = resource.drop
+TaskReturn = task.return
+TaskCancel = task.cancel
+SubtaskCancel = subtask.cancel
+SubtaskDrop = subtask.drop
+BackpressureInc = backpressure.inc
+BackpressureDec = backpressure.dec
+BackpressureSet = backpressure.set
+ContextGet = context.get
+ContextSet = context.set
+Yield = yield
+WaitableSetNew = waitable-set.new
+WaitableSetWait = waitable-set.wait
+WaitableSetPoll = waitable-set.poll
+WaitableSetDrop = waitable-set.drop
+WaitableJoin = waitable.join
+StreamNew = stream.new
+StreamRead = stream.read
+StreamWrite = stream.write
+StreamCancelRead = stream.cancel-read
+StreamCancelWrite = stream.cancel-write
+StreamDropReadable = stream.drop-readable
+StreamDropWritable = stream.drop-writable
+FutureNew = future.new
+FutureRead = future.read
+FutureWrite = future.write
+FutureCancelRead = future.cancel-read
+FutureCancelWrite = future.cancel-write
+FutureDropReadable = future.drop-readable
+FutureDropWritable = future.drop-writable
 ";
 
-#[test]
-fn built_ins_have_their_names(rt: HostRuntime) {
-    let mut count: usize = 0;
-    for (builtin, name) in BUILTINS.iter().zip(BUILTIN_NAMES.split_whitespace()) {
-        assert_eq!(rt; builtin.as_str(), name);
-        count = count.saturating_add(1);
+/// Built-ins by their names.
+struct BuiltinNames;
+
+impl Answers for BuiltinNames {
+    fn answer(alloc: Global, given: &str) -> Result<String, Fail> {
+        let builtin = builtin_of(given).ok_or("no such built-in")?;
+        text_of(alloc, builtin.as_str().as_bytes())
     }
-    assert_eq!(rt; count, 33);
-    assert_eq!(rt; BUILTIN_NAMES.split_whitespace().count(), 33);
 }
 
-/// All traps, in the order of their names below.
-const TRAPS: [TrapName; 45] = [
-    TrapName::Unreachable,
-    TrapName::DivideByZero,
-    TrapName::DivideOverflow,
-    TrapName::MemoryBounds,
-    TrapName::TableBounds,
-    TrapName::NullElement,
-    TrapName::OtherSignature,
-    TrapName::StackLimit,
-    TrapName::SegmentBounds,
-    TrapName::Misaligned,
-    TrapName::Bounds,
-    TrapName::BadChar,
-    TrapName::BadUtf8,
-    TrapName::BadCase,
-    TrapName::TooLarge,
-    TrapName::Absent,
-    TrapName::OtherKind,
-    TrapName::OtherType,
-    TrapName::NotOwn,
-    TrapName::Lent,
-    TrapName::NotIdle,
-    TrapName::TableFull,
-    TrapName::Resolved,
-    TrapName::NotAsked,
-    TrapName::SyncTask,
-    TrapName::BorrowLives,
-    TrapName::Unresolved,
-    TrapName::PressureLimit,
-    TrapName::PressureZero,
-    TrapName::BadCode,
-    TrapName::Reentrant,
-    TrapName::CannotLeave,
-    TrapName::WrongResult,
-    TrapName::WrongOptions,
-    TrapName::Delivered,
-    TrapName::Asked,
-    TrapName::NotDelivered,
-    TrapName::Members,
-    TrapName::Waiters,
-    TrapName::Busy,
-    TrapName::DoneEnd,
-    TrapName::TooLong,
-    TrapName::SameInstance,
-    TrapName::NotCopying,
-    TrapName::UnwrittenFuture,
-];
+#[test]
+fn built_ins_have_their_names(rt: HostRuntime) -> Result<(), Fail> {
+    check_lines::<BuiltinNames>(rt.alloc(), BUILTINS, " = ", 33)
+}
 
-/// Those of core modules, of lifting, of handles, of tasks and gates, of calls, of subtasks and sets, and of ends.
-const TRAP_NAMES: &str = "
-Unreachable DivideByZero DivideOverflow MemoryBounds TableBounds NullElement OtherSignature StackLimit SegmentBounds
-Misaligned Bounds BadChar BadUtf8 BadCase TooLarge
-Absent OtherKind OtherType NotOwn Lent NotIdle TableFull
-Resolved NotAsked SyncTask BorrowLives Unresolved PressureLimit PressureZero BadCode
-Reentrant CannotLeave WrongResult WrongOptions
-Delivered Asked NotDelivered Members Waiters
-Busy DoneEnd TooLong SameInstance NotCopying UnwrittenFuture
+/// A line a trap: the variant, and its name.
+const TRAPS: &str = "
+Unreachable = Unreachable
+DivideByZero = DivideByZero
+DivideOverflow = DivideOverflow
+MemoryBounds = MemoryBounds
+TableBounds = TableBounds
+NullElement = NullElement
+OtherSignature = OtherSignature
+StackLimit = StackLimit
+SegmentBounds = SegmentBounds
+Misaligned = Misaligned
+Bounds = Bounds
+BadChar = BadChar
+BadUtf8 = BadUtf8
+BadCase = BadCase
+TooLarge = TooLarge
+Absent = Absent
+OtherKind = OtherKind
+OtherType = OtherType
+NotOwn = NotOwn
+Lent = Lent
+NotIdle = NotIdle
+TableFull = TableFull
+Resolved = Resolved
+NotAsked = NotAsked
+SyncTask = SyncTask
+BorrowLives = BorrowLives
+Unresolved = Unresolved
+PressureLimit = PressureLimit
+PressureZero = PressureZero
+BadCode = BadCode
+Reentrant = Reentrant
+CannotLeave = CannotLeave
+WrongResult = WrongResult
+WrongOptions = WrongOptions
+Delivered = Delivered
+Asked = Asked
+NotDelivered = NotDelivered
+Members = Members
+Waiters = Waiters
+Busy = Busy
+DoneEnd = DoneEnd
+TooLong = TooLong
+SameInstance = SameInstance
+NotCopying = NotCopying
+UnwrittenFuture = UnwrittenFuture
 ";
 
-#[test]
-fn traps_have_their_names(rt: HostRuntime) {
-    let mut count: usize = 0;
-    for (trap, name) in TRAPS.iter().zip(TRAP_NAMES.split_whitespace()) {
-        assert_eq!(rt; trap.as_str(), name);
-        count = count.saturating_add(1);
+/// Traps by their names.
+struct TrapNames;
+
+impl Answers for TrapNames {
+    fn answer(alloc: Global, given: &str) -> Result<String, Fail> {
+        let trap = trap_of(given).ok_or("no such trap")?;
+        text_of(alloc, trap.as_str().as_bytes())
     }
-    assert_eq!(rt; count, 45);
-    assert_eq!(rt; TRAP_NAMES.split_whitespace().count(), 45);
+}
+
+#[test]
+fn traps_have_their_names(rt: HostRuntime) -> Result<(), Fail> {
+    check_lines::<TrapNames>(rt.alloc(), TRAPS, " = ", 45)
 }
 
 /// A line a name: the name and its text, with a bar between them.
@@ -146,28 +138,36 @@ größe|gr\u{f6}\u{df}e
 |
 "#;
 
+/// A paragraph a name with a character that has no mark of its own, and its text.
+const CONTROLS: &str = "
+\u{7f}
+is
+\\u{7f}
+
+a
+b
+is
+a\\u{a}b
+
+\u{0}
+is
+\\u{0}
+";
+
+/// Texts of names.
+struct NamesTold;
+
+impl Answers for NamesTold {
+    fn answer(alloc: Global, given: &str) -> Result<String, Fail> {
+        let name = Name::new(alloc, given)?;
+        let text = name_text(alloc, &name)?;
+        text_of(alloc, text.as_slice())
+    }
+}
+
 #[test]
 fn names_have_their_texts(rt: HostRuntime) -> Result<(), Fail> {
     let alloc = rt.alloc();
-    let mut count: usize = 0;
-    for line in NAMES.lines() {
-        let Some((given, wanted)) = line.split_once("|") else {
-            continue;
-        };
-        let name = Name::new(alloc, given)?;
-        let text = name_text(alloc, &name).ok().ok_or("no memory")?;
-        assert_eq!(rt; from_utf8(text.as_slice())?, wanted);
-        count = count.saturating_add(1);
-    }
-    assert_eq!(rt; count, 10);
-    for (given, wanted) in [
-        ("\u{7f}", "\\u{7f}"),
-        ("a\nb", "a\\u{a}b"),
-        ("\u{0}", "\\u{0}"),
-    ] {
-        let name = Name::new(alloc, given)?;
-        let text = name_text(alloc, &name).ok().ok_or("no memory")?;
-        assert_eq!(rt; from_utf8(text.as_slice())?, wanted);
-    }
-    Ok(())
+    check_lines::<NamesTold>(alloc, NAMES, "|", 10)?;
+    check_paragraphs::<NamesTold>(alloc, CONTROLS, 3)
 }

@@ -6,23 +6,11 @@ ghost use Rattle.trace_show.specs.LabelText.{label_text};
 
 use ca_base::MemoryOr;
 use ca_io::{Failed, MemSink, Sink};
-use std::alloc::Global;
+use cases::{Answers, check_lines};
+use std::alloc::{AllocError, Global};
 use std::str::from_utf8;
 use std::test::Fail;
 use trace_show::{Label, ROOM, Trace};
-
-/// Puts the lines of a task that enters and exits, and of the end, and flushes the trace.
-fn run_to<K: Sink>(alloc: Global, sink: &mut K) -> Result<(), MemoryOr<Failed>> {
-    let mut kept = Vec::new(alloc);
-    let mut trace = Trace::new(sink, &mut kept);
-    trace.put(alloc, &Label::Enter { task: 1 })?;
-    trace.put(alloc, &Label::Exit { task: 1 })?;
-    trace.put(alloc, &Label::Done)?;
-    match trace.flush() {
-        Ok(()) => Ok(()),
-        Err(failed) => Err(MemoryOr::Fault(failed)),
-    }
-}
 
 /// Writes a label's line to a sink. That the sink took it all, and nothing else, follows from the clauses of a trace.
 fn write_label<K: Sink>(alloc: Global, label: &Label, sink: &mut K) -> Result<(), MemoryOr<Failed>>
@@ -37,89 +25,146 @@ fn write_label<K: Sink>(alloc: Global, label: &Label, sink: &mut K) -> Result<()
     }
 }
 
-#[test]
-fn a_line_is_written(rt: HostRuntime) -> Result<(), Fail> {
-    let alloc = rt.alloc();
-    let mut sink = MemSink::new(alloc, 100, 2, &[])?;
-    assert_eq!(rt; write_label(alloc, &Label::Fuel, &mut sink), Ok(()));
-    assert_eq!(rt; from_utf8(sink.taken())?, "fuel\n");
-    Ok(())
+/// A sink with so much room, of which a write takes so much, and one fails.
+fn sink_of(alloc: Global, room: usize, most: usize, failing: u64) -> Result<MemSink, Fail> {
+    Ok(MemSink::new(alloc, room, most.max(1), &[failing])?)
 }
 
-/// A line a sink: how many bytes it takes in one write, the number of the write that fails (0: none does), and what it
-/// took, with how the flush ends.
+/// Puts a label's line to a trace.
+fn put<K: Sink>(
+    alloc: Global,
+    trace: &mut Trace<'_, K>,
+    label: &Label,
+) -> Result<(), MemoryOr<Failed>> {
+    trace.put(alloc, label)
+}
+
+/// Flushes a trace.
+fn flush<K: Sink>(trace: &mut Trace<'_, K>) -> Result<(), MemoryOr<Failed>> {
+    match trace.flush() {
+        Ok(()) => Ok(()),
+        Err(failed) => Err(MemoryOr::Fault(failed)),
+    }
+}
+
+/// Puts the lines of a task that enters and exits, and of the end, and flushes the trace.
+fn run_to<K: Sink>(alloc: Global, trace: &mut Trace<'_, K>) -> Result<(), MemoryOr<Failed>> {
+    put(alloc, trace, &Label::Enter { task: 1 })?;
+    put(alloc, trace, &Label::Exit { task: 1 })?;
+    put(alloc, trace, &Label::Done)?;
+    flush(trace)
+}
+
+/// A line a sink: what it is written, how many bytes it takes in one write, the number of the write that fails (0: none does),
+/// and how the last call ends, with what the sink took.
 const SINKS: &str = "
-1 0 | Ok(()) enter T1;exit T1;done;
-1 2 | Err(Fault(Failed)) e
-3 2 | Err(Fault(Failed)) ent
-3 1 | Err(Fault(Failed))
-100 2 | Ok(()) enter T1;exit T1;done;
+fuel 2 0 | Ok(()) fuel;
+run 1 0 | Ok(()) enter T1;exit T1;done;
+run 1 2 | Err(Fault(Failed)) e
+run 3 2 | Err(Fault(Failed)) ent
+run 3 1 | Err(Fault(Failed))
+run 100 2 | Ok(()) enter T1;exit T1;done;
 ";
 
-/// What a sink takes of a run, and how it ends.
-fn told(alloc: Global, most: usize, failing: u64) -> Result<String, Fail> {
-    let mut sink = MemSink::new(alloc, 100, most.max(1), &[failing])?;
-    let outcome = run_to(alloc, &mut sink);
-    let taken = from_utf8(sink.taken())?.replace(alloc, "\n", ";")?;
-    Ok(format!(in alloc; "{outcome:?} {taken}")?)
+/// Writes a run, or the line of the end for want of fuel.
+fn write_to<K: Sink>(alloc: Global, what: &str, sink: &mut K) -> Result<(), MemoryOr<Failed>> {
+    if what == "fuel" {
+        return write_label(alloc, &Label::Fuel, sink);
+    }
+    let mut kept = Vec::new(alloc);
+    run_to(alloc, &mut Trace::new(sink, &mut kept))
+}
+
+/// How calls end, and what a sink took, with semicolons in place of line feeds.
+fn taken_told(
+    alloc: Global,
+    outcome: Result<(), MemoryOr<Failed>>,
+    taken: &[u8],
+) -> Result<String, Fail> {
+    let taken = from_utf8(taken)?.replace(alloc, "\n", ";")?;
+    let between = if taken.is_empty() { "" } else { " " };
+    Ok(format!(in alloc; "{outcome:?}{between}{taken}")?)
+}
+
+/// How the writing to a sink ends.
+fn told(alloc: Global, what: &str, mut sink: MemSink) -> Result<String, Fail> {
+    let outcome = write_to(alloc, what, &mut sink);
+    taken_told(alloc, outcome, sink.taken())
+}
+
+/// Sinks to which traces go.
+struct SinksTold;
+
+impl Answers for SinksTold {
+    fn answer(alloc: Global, given: &str) -> Result<String, Fail> {
+        let (what, rest) = given.split_once(' ').ok_or("no bytes of a write")?;
+        let (most, failing) = rest.split_once(' ').ok_or("no number of a write")?;
+        let sink = sink_of(alloc, 100, most.parse()?, failing.parse()?)?;
+        told(alloc, what, sink)
+    }
 }
 
 #[test]
 fn sinks_take_what_is_flushed(rt: HostRuntime) -> Result<(), Fail> {
-    let alloc = rt.alloc();
-    let mut count: usize = 0;
-    for line in SINKS.trim().lines() {
-        let (given, wanted) = line.split_once(" | ").ok_or("no outcome")?;
-        let (most, failing) = given.split_once(" ").ok_or("no number")?;
-        let got = told(alloc, most.parse()?, failing.parse()?)?;
-        assert_eq!(rt; got.trim_end(), wanted);
-        count = count.saturating_add(1);
-    }
-    assert_eq!(rt; count, 5);
-    Ok(())
+    check_lines::<SinksTold>(rt.alloc(), SINKS, " | ", 6)
 }
 
-/// So many `enter` lines of 9 bytes each, and how many bytes the sink took before the flush.
-fn before_the_flush(alloc: Global, lines: usize) -> Result<usize, Fail> {
-    let mut sink = MemSink::new(alloc, 200_000, 200_000, &[])?;
-    let mut kept = Vec::new(alloc);
-    let mut trace = Trace::new(&mut sink, &mut kept);
-    for _ in 0..lines {
-        if trace.put(alloc, &Label::Enter { task: 1 }) != Ok(()) {
-            return Err("a line was not put".into());
+/// A line how many lines of 9 bytes each are put to a trace, and the number of the write that fails (0: none does). Behind it
+/// stand the room of a trace, how many lines are put before a put fails, how the last put ends, and how many bytes the sink
+/// took before any flush.
+const PUTS: &str = "
+7281 0 = room 65536, 7281 put, Ok(()), 0 taken
+7282 0 = room 65536, 7282 put, Ok(()), 65538 taken
+7283 0 = room 65536, 7283 put, Ok(()), 65538 taken
+8000 1 = room 65536, 7281 put, Err(Fault(Failed)), 0 taken
+";
+
+/// Puts so many lines, or those before the first one of which the put fails, and answers how many these are and how the last
+/// put ends.
+fn put_lines<K: Sink>(
+    alloc: Global,
+    trace: &mut Trace<'_, K>,
+    lines: u32,
+) -> (u32, Result<(), MemoryOr<Failed>>) {
+    for before in 0..lines {
+        let last = put(alloc, trace, &Label::Enter { task: 1 });
+        if last.is_err() {
+            return (before, last);
         }
     }
-    Ok(sink.taken().len())
+    (lines, Ok(()))
+}
+
+/// How many lines were put, how the last put ended, and what was taken.
+fn counts_told(
+    alloc: Global,
+    put: u32,
+    last: Result<(), MemoryOr<Failed>>,
+    taken: usize,
+) -> Result<String, AllocError> {
+    let room = ROOM;
+    format!(in alloc; "room {room}, {put} put, {last:?}, {taken} taken")
+}
+
+/// How the putting of so many lines to a sink ends.
+fn puts_told(alloc: Global, lines: u32, mut sink: MemSink) -> Result<String, Fail> {
+    let mut kept = Vec::new(alloc);
+    let (put, last) = put_lines(alloc, &mut Trace::new(&mut sink, &mut kept), lines);
+    Ok(counts_told(alloc, put, last, sink.taken().len())?)
+}
+
+/// Long traces.
+struct LongTraces;
+
+impl Answers for LongTraces {
+    fn answer(alloc: Global, given: &str) -> Result<String, Fail> {
+        let (lines, failing) = given.split_once(' ').ok_or("no number of a write")?;
+        let sink = sink_of(alloc, 200_000, 200_000, failing.parse()?)?;
+        puts_told(alloc, lines.parse()?, sink)
+    }
 }
 
 #[test]
-fn a_long_trace_goes_out_as_it_is_put(rt: HostRuntime) -> Result<(), Fail> {
-    let alloc = rt.alloc();
-    assert_eq!(rt; ROOM, 65536);
-    assert_eq!(rt; before_the_flush(alloc, 7281)?, 0);
-    assert_eq!(rt; before_the_flush(alloc, 7282)?, 65538);
-    assert_eq!(rt; before_the_flush(alloc, 7283)?, 65538);
-    Ok(())
-}
-
-/// A long trace to a sink whose first write fails: the put that fills the trace's room says so.
-#[test]
-fn a_put_may_fail(rt: HostRuntime) -> Result<(), Fail> {
-    let alloc = rt.alloc();
-    let mut sink = MemSink::new(alloc, 200_000, 200_000, &[1])?;
-    let mut kept = Vec::new(alloc);
-    let mut trace = Trace::new(&mut sink, &mut kept);
-    let mut put: usize = 0;
-    let mut last = Ok(());
-    for _ in 0..8000 {
-        last = trace.put(alloc, &Label::Enter { task: 1 });
-        if last != Ok(()) {
-            break;
-        }
-        put = put.saturating_add(1);
-    }
-    assert_eq!(rt; last, Err(MemoryOr::Fault(Failed)));
-    assert_eq!(rt; put, 7281);
-    assert_eq!(rt; sink.taken().len(), 0);
-    Ok(())
+fn long_traces_go_out_as_they_are_put(rt: HostRuntime) -> Result<(), Fail> {
+    check_lines::<LongTraces>(rt.alloc(), PUTS, " = ", 4)
 }

@@ -1,10 +1,9 @@
 //! Which values fit, and their texts.
 
-use crate::types::type_of;
-use crate::values::value_of;
-use ca_types::{ValType, Value, fits, value_text};
+use cases::{Answers, Holds, check_all_lines, check_lines};
 use std::alloc::Global;
 use std::test::Fail;
+use type_texts::{type_of, value_of, value_told};
 
 /// A line a value: its type, the value, and its text between angle brackets.
 const TEXTS: &str = r#"
@@ -121,47 +120,39 @@ stream | future=1
 future | stream=1
 ";
 
-/// The text of a value, between angle brackets.
-fn told(alloc: Global, value: &Value, val_type: &ValType) -> Result<String, Fail> {
-    let text = value_text(alloc, value, val_type).ok().ok_or("memory")?;
-    let text = str::from_utf8(text.as_slice()).ok().ok_or("text")?;
-    Ok(format!(in alloc; "<{text}>")?)
+/// The text of the value of a line, or `misfit`.
+fn text_told(alloc: Global, given: &str) -> Result<String, Fail> {
+    let (val_type, value) = given.split_once(" | ").ok_or("no value")?;
+    let val_type = type_of(alloc, val_type)?;
+    let value = value_of(alloc, value)?;
+    value_told(alloc, &value, val_type.get())
+}
+
+/// The texts of values.
+struct Told;
+
+impl Answers for Told {
+    fn answer(alloc: Global, given: &str) -> Result<String, Fail> {
+        text_told(alloc, given)
+    }
 }
 
 #[test]
 fn texts(rt: HostRuntime) -> Result<(), Fail> {
-    let alloc = rt.alloc();
-    let mut cases: u32 = 0;
-    for line in TEXTS.lines() {
-        let mut parts = line.splitn(3, '|');
-        let Some(val_type) = parts.next() else {
-            continue
-        };
-        let Some(value) = parts.next() else { continue };
-        let wanted = parts.next().ok_or("no text")?;
-        let val_type = type_of(alloc, val_type).ok_or("no type")?;
-        let value = value_of(alloc, value).ok_or("no value")?;
-        let found = told(alloc, &value, val_type.get())?;
-        assert!(rt; fits(&value, val_type.get()), "{line}");
-        assert_eq!(rt; found.as_str(), wanted.trim(), "{line}");
-        cases = cases.saturating_add(1);
+    check_lines::<Told>(rt.alloc(), TEXTS, " | ", 69)
+}
+
+/// Values of other types.
+struct OfNoSuchType;
+
+impl Holds for OfNoSuchType {
+    fn holds(alloc: Global, case: &str) -> Result<bool, Fail> {
+        let text = text_told(alloc, case)?;
+        Ok(text.as_str() == "misfit")
     }
-    assert_eq!(rt; cases, 69);
-    Ok(())
 }
 
 #[test]
 fn misfits(rt: HostRuntime) -> Result<(), Fail> {
-    let alloc = rt.alloc();
-    let mut cases: u32 = 0;
-    for line in MISFITS.lines() {
-        if let Some((val_type, value)) = line.split_once(" | ") {
-            let val_type = type_of(alloc, val_type).ok_or("no type")?;
-            let value = value_of(alloc, value).ok_or("no value")?;
-            assert!(rt; !fits(&value, val_type.get()), "{line}");
-            cases = cases.saturating_add(1);
-        }
-    }
-    assert_eq!(rt; cases, 38);
-    Ok(())
+    check_all_lines::<OfNoSuchType>(rt.alloc(), MISFITS, 38)
 }

@@ -1,11 +1,12 @@
 //! Arguments, and types that no script can write.
 
-use crate::driver::unbracketed;
-use ca_base::{Name, Seq};
-use ca_types::{FuncType, Param, ValType, Value, value_text};
+use crate::driver::{told, unbracketed};
+use ca_base::{Memory, Seq};
+use ca_types::{Param, ValType, Value, Values};
+use cases::{Answers, Holds, check_all_lines, check_lines};
 use std::alloc::Global;
 use std::test::Fail;
-use type_tests::types::{type_of, types_of};
+use type_texts::{func_of, params_of, type_of, types_of};
 use value_reader::{func_has_host_type, has_host_type, read_arguments};
 
 /// A line a text of arguments that are read: the types of the parameters, the text, and the text of the arguments.
@@ -43,128 +44,130 @@ u32 u32 | <(2, 4294967296)>
 own:1 | <(1)>
 ";
 
-/// A line a type: whether it holds a handle or an end, and the type.
+/// A line a type, and whether it holds a handle or an end.
 const HELD: &str = "
-no u8
-no string
-no u8 list option
-no u8 string tuple/2 list
-no u8 record:a
-no u8 variant:a*,b
-no u8 string result**
-no result__
-no flags:a,b
-no enum:a,b
-yes own:1
-yes borrow:1
-yes stream
-yes future
-yes u8 stream*
-yes u8 future*
-yes own:1 list
-yes borrow:1 option
-yes u8 own:1 tuple/2
-yes u8 stream record:a,b
-yes u8 own:1 variant:a*,b*
-yes own:1 result*_
-yes own:1 result_*
-yes future list list
+u8 = no
+string = no
+u8 list option = no
+u8 string tuple/2 list = no
+u8 record:a = no
+u8 variant:a*,b = no
+u8 string result** = no
+result__ = no
+flags:a,b = no
+enum:a,b = no
+own:1 = yes
+borrow:1 = yes
+stream = yes
+future = yes
+u8 stream* = yes
+u8 future* = yes
+own:1 list = yes
+borrow:1 option = yes
+u8 own:1 tuple/2 = yes
+u8 stream record:a,b = yes
+u8 own:1 variant:a*,b* = yes
+own:1 result*_ = yes
+own:1 result_* = yes
+future list list = yes
 ";
 
-/// Parameters of these types.
-fn params_of(alloc: Global, types: &str) -> Result<Seq<Param>, Fail> {
-    let mut params = Seq::new(alloc);
-    for val_type in types_of(alloc, types).ok_or("no types")? {
-        params.push(Param {
-            label: Name::new(alloc, "p")?,
-            val_type,
-        })?;
-    }
-    Ok(params)
+/// A line a function: the types of its parameters and of its result, and whether it holds a handle or an end.
+const HOLDERS: &str = "
+u8 string | = no
+u8 own:1 list | = yes
+u8 | stream = yes
+";
+
+/// The arguments that a text stands for.
+fn arguments_in(alloc: Global, text: &[u8], params: &[Param]) -> Result<Option<Values>, Memory> {
+    read_arguments(alloc, text, params)
+}
+
+/// The text of arguments of these types.
+fn arguments_told(alloc: Global, types: &str, values: Values) -> Result<String, Fail> {
+    let tuple = ValType::Tuple(Seq::from_vec(types_of(alloc, types)?));
+    told(alloc, Value::Record(values), &tuple)
 }
 
 /// What is read of the text of arguments, between angle brackets, or `none`.
-fn read_back(alloc: Global, types: &str, text: &str) -> Result<String, Fail> {
-    let params = params_of(alloc, types)?;
+fn read_back(alloc: Global, types: &str, text: &[u8], params: &[Param]) -> Result<String, Fail> {
+    match arguments_in(alloc, text, params)? {
+        Some(values) => arguments_told(alloc, types, values),
+        None => Ok(String::from_str(alloc, "none")?),
+    }
+}
+
+/// What is read of the text of a line.
+fn answer(alloc: Global, given: &str) -> Result<String, Fail> {
+    let (types, text) = given.split_once('|').ok_or("no text")?;
     let text = unbracketed(alloc, text)?;
-    let read = read_arguments(alloc, text.as_slice(), params.as_slice());
-    match read.ok().ok_or("memory")? {
-        Some(values) => {
-            let parts = types_of(alloc, types).ok_or("no types")?;
-            let tuple = ValType::Tuple(Seq::from_vec(parts));
-            let text = value_text(alloc, &Value::Record(values), &tuple);
-            let text = text.ok().ok_or("memory")?;
-            let text = str::from_utf8(text.as_slice()).ok().ok_or("text")?;
-            Ok(format!(in alloc; "<{text}>")?)
-        }
-        None => Ok(format!(in alloc; "none")?),
+    let params = params_of(alloc, types)?;
+    read_back(alloc, types, &text, params.as_slice())
+}
+
+/// Arguments that are read.
+struct ReadCalls;
+
+impl Answers for ReadCalls {
+    fn answer(alloc: Global, given: &str) -> Result<String, Fail> {
+        answer(alloc, given)
     }
 }
 
 #[test]
 fn arguments_that_are_read(rt: HostRuntime) -> Result<(), Fail> {
-    let alloc = rt.alloc();
-    let mut cases: u32 = 0;
-    for line in READ.lines() {
-        let mut parts = line.splitn(3, '|');
-        let Some(types) = parts.next() else { continue };
-        let Some(text) = parts.next() else { continue };
-        let wanted = parts.next().ok_or("no text")?;
-        let found = read_back(alloc, types, text)?;
-        assert_eq!(rt; found.as_str(), wanted.trim(), "{line}");
-        cases = cases.saturating_add(1);
+    check_lines::<ReadCalls>(rt.alloc(), READ, " | ", 9)
+}
+
+/// Arguments that are refused.
+struct RefusedCalls;
+
+impl Holds for RefusedCalls {
+    fn holds(alloc: Global, case: &str) -> Result<bool, Fail> {
+        let text = answer(alloc, case)?;
+        Ok(text.as_str() == "none")
     }
-    assert_eq!(rt; cases, 9);
-    Ok(())
 }
 
 #[test]
 fn arguments_that_are_refused(rt: HostRuntime) -> Result<(), Fail> {
-    let alloc = rt.alloc();
-    let mut cases: u32 = 0;
-    for line in REFUSED.lines() {
-        if let Some((types, text)) = line.split_once('|') {
-            let found = read_back(alloc, types, text)?;
-            assert_eq!(rt; found.as_str(), "none", "{line}");
-            cases = cases.saturating_add(1);
-        }
+    check_all_lines::<RefusedCalls>(rt.alloc(), REFUSED, 18)
+}
+
+/// A truth value.
+fn word(alloc: Global, truth: bool) -> Result<String, Fail> {
+    let word = if truth { "yes" } else { "no" };
+    Ok(String::from_str(alloc, word)?)
+}
+
+/// Types that may hold handles.
+struct HeldByTypes;
+
+impl Answers for HeldByTypes {
+    fn answer(alloc: Global, given: &str) -> Result<String, Fail> {
+        let val_type = type_of(alloc, given)?;
+        word(alloc, has_host_type(val_type.get()))
     }
-    assert_eq!(rt; cases, 18);
-    Ok(())
 }
 
 #[test]
 fn types_that_hold_handles(rt: HostRuntime) -> Result<(), Fail> {
-    let alloc = rt.alloc();
-    let mut cases: u32 = 0;
-    for line in HELD.lines() {
-        if let Some((wanted, val_type)) = line.split_once(' ') {
-            let val_type = type_of(alloc, val_type).ok_or("no type")?;
-            assert_eq!(rt; has_host_type(val_type.get()), wanted == "yes", "{line}");
-            cases = cases.saturating_add(1);
-        }
+    check_lines::<HeldByTypes>(rt.alloc(), HELD, " = ", 24)
+}
+
+/// Functions that may hold handles.
+struct HeldByFunctions;
+
+impl Answers for HeldByFunctions {
+    fn answer(alloc: Global, given: &str) -> Result<String, Fail> {
+        let (params, returned) = given.split_once(" |").ok_or("no result")?;
+        let func_type = func_of(alloc, params, returned)?;
+        word(alloc, func_has_host_type(&func_type))
     }
-    assert_eq!(rt; cases, 24);
-    Ok(())
 }
 
 #[test]
 fn functions_that_hold_handles(rt: HostRuntime) -> Result<(), Fail> {
-    let alloc = rt.alloc();
-    let plain = FuncType {
-        params: params_of(alloc, "u8 string")?,
-        result: None,
-    };
-    assert!(rt; !func_has_host_type(&plain));
-    let taken = FuncType {
-        params: params_of(alloc, "u8 own:1 list")?,
-        result: None,
-    };
-    assert!(rt; func_has_host_type(&taken));
-    let given = FuncType {
-        params: params_of(alloc, "u8")?,
-        result: type_of(alloc, "stream"),
-    };
-    assert!(rt; func_has_host_type(&given));
-    Ok(())
+    check_lines::<HeldByFunctions>(rt.alloc(), HOLDERS, " = ", 3)
 }

@@ -1,11 +1,17 @@
 //! What is read of a text, written as traces write it.
 
-use ca_types::{ValType, fits, value_text};
+use ca_base::Memory;
+use ca_types::{ValType, Value};
+use cases::{Answers, Holds};
 use std::alloc::Global;
-use std::process::Abort;
 use std::test::Fail;
-use type_tests::types::type_of;
+use type_texts::{type_of, value_told};
 use value_reader::read_value;
+
+/// The value of a type that a text stands for.
+pub fn value_in(alloc: Global, text: &[u8], val_type: &ValType) -> Result<Option<Value>, Memory> {
+    read_value(alloc, text, val_type)
+}
 
 /// A text without the angle brackets around it, and with a tab for each `~`.
 pub fn unbracketed(alloc: Global, text: &str) -> Result<Vec<u8>, Fail> {
@@ -18,51 +24,42 @@ pub fn unbracketed(alloc: Global, text: &str) -> Result<Vec<u8>, Fail> {
     Ok(bytes)
 }
 
+/// The text of a value that is let go then.
+pub fn told(alloc: Global, value: Value, val_type: &ValType) -> Result<String, Fail> {
+    value_told(alloc, &value, val_type)
+}
+
 /// What is read of a text, between angle brackets, or `none`.
-fn read_back(alloc: Global, val_type: &ValType, text: &[u8]) -> Result<String, Fail> {
-    match read_value(alloc, text, val_type).ok().ok_or("memory")? {
-        Some(value) => {
-            if !fits(&value, val_type) {
-                return Ok(format!(in alloc; "misfit")?);
-            }
-            let text = value_text(alloc, &value, val_type).ok().ok_or("memory")?;
-            let text = str::from_utf8(text.as_slice()).ok().ok_or("text")?;
-            Ok(format!(in alloc; "<{text}>")?)
-        }
-        None => Ok(format!(in alloc; "none")?),
+fn read_back(alloc: Global, text: &[u8], val_type: &ValType) -> Result<String, Fail> {
+    match value_in(alloc, text, val_type)? {
+        Some(value) => told(alloc, value, val_type),
+        None => Ok(String::from_str(alloc, "none")?),
     }
 }
 
-/// Compares what is read of each text of a table with what is wanted, and answers how many cases there are.
-pub fn all_read(rt: &impl Abort, alloc: Global, table: &str) -> Result<u32, Fail> {
-    let mut cases: u32 = 0;
-    for line in table.lines() {
-        let mut parts = line.splitn(3, '|');
-        let Some(val_type) = parts.next() else {
-            continue
-        };
-        let Some(text) = parts.next() else { continue };
-        let wanted = parts.next().ok_or("no text")?;
-        let val_type = type_of(alloc, val_type).ok_or("no type")?;
-        let text = unbracketed(alloc, text)?;
-        let found = read_back(alloc, val_type.get(), text.as_slice())?;
-        assert_eq!(rt; found.as_str(), wanted.trim(), "{line}");
-        cases = cases.saturating_add(1);
-    }
-    Ok(cases)
+/// What is read of the text of a line.
+fn answer(alloc: Global, given: &str) -> Result<String, Fail> {
+    let (val_type, text) = given.split_once('|').ok_or("no text")?;
+    let text = unbracketed(alloc, text)?;
+    let val_type = type_of(alloc, val_type)?;
+    read_back(alloc, &text, val_type.get())
 }
 
-/// Tests that each text of a table is refused, and answers how many cases there are.
-pub fn all_refused(rt: &impl Abort, alloc: Global, table: &str) -> Result<u32, Fail> {
-    let mut cases: u32 = 0;
-    for line in table.lines() {
-        if let Some((val_type, text)) = line.split_once('|') {
-            let val_type = type_of(alloc, val_type).ok_or("no type")?;
-            let text = unbracketed(alloc, text)?;
-            let found = read_back(alloc, val_type.get(), text.as_slice())?;
-            assert_eq!(rt; found.as_str(), "none", "{line}");
-            cases = cases.saturating_add(1);
-        }
+/// Texts that are read.
+pub struct Read;
+
+impl Answers for Read {
+    fn answer(alloc: Global, given: &str) -> Result<String, Fail> {
+        answer(alloc, given)
     }
-    Ok(cases)
+}
+
+/// Texts that are refused.
+pub struct Refused;
+
+impl Holds for Refused {
+    fn holds(alloc: Global, case: &str) -> Result<bool, Fail> {
+        let text = answer(alloc, case)?;
+        Ok(text.as_str() == "none")
+    }
 }

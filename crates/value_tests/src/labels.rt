@@ -1,6 +1,7 @@
 //! Flags, enums, variants, options and results.
 
-use crate::driver::{all_read, all_refused};
+use crate::driver::{Read, Refused};
+use cases::{check_all_lines, check_lines};
 use std::test::Fail;
 
 /// A line a text that is read: its type, the text, and the text of the value.
@@ -123,14 +124,10 @@ u8 record: | <{5}>
 
 #[test]
 fn labels_that_are_read(rt: HostRuntime) -> Result<(), Fail> {
-    let cases = all_read(&rt, rt.alloc(), READ)?;
-    assert_eq!(rt; cases, 44);
-    Ok(())
+    check_lines::<Read>(rt.alloc(), READ, " | ", 44)
 }
 
 #[test]
 fn labels_that_are_refused(rt: HostRuntime) -> Result<(), Fail> {
-    let cases = all_refused(&rt, rt.alloc(), REFUSED)?;
-    assert_eq!(rt; cases, 66);
-    Ok(())
+    check_all_lines::<Refused>(rt.alloc(), REFUSED, 66)
 }

@@ -1,12 +1,12 @@
 //! Tests of the reader of values: tables of cases, whose outcomes are derived from the format by hand.
 //!
-//! A case is a line of a text: types as `type_tests` writes them, a text between angle brackets in which `~` stands for a
+//! A case is a line of a text: types as `type_texts` reads them, a text between angle brackets in which `~` stands for a
 //! tab, and the text that is wanted for what is read, as traces write it. Each test states how many cases it has.
 //!
 //! - `driver`: what is read of a text, written as traces write it
 //! - `numbers`, `quoted`, `parts`, `labels`: texts that are read, and texts that are refused
 //! - `calls`: arguments, and types that no script can write
-//! - `limits`: long texts
+//! - `limits`: long texts, and bytes that are no text
 //! - `laws`: what holds of the format alone
 #![tactic(auto)]
 

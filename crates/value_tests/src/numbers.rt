@@ -1,6 +1,7 @@
 //! Truth values and integers.
 
-use crate::driver::{all_read, all_refused};
+use crate::driver::{Read, Refused};
+use cases::{check_all_lines, check_lines};
 use std::test::Fail;
 
 /// A line a text that is read: its type, the text, and the text of the value.
@@ -72,14 +73,10 @@ u64 | <99999999999999999999999999999999999999999>
 
 #[test]
 fn numbers_that_are_read(rt: HostRuntime) -> Result<(), Fail> {
-    let cases = all_read(&rt, rt.alloc(), READ)?;
-    assert_eq!(rt; cases, 22);
-    Ok(())
+    check_lines::<Read>(rt.alloc(), READ, " | ", 22)
 }
 
 #[test]
 fn numbers_that_are_refused(rt: HostRuntime) -> Result<(), Fail> {
-    let cases = all_refused(&rt, rt.alloc(), REFUSED)?;
-    assert_eq!(rt; cases, 37);
-    Ok(())
+    check_all_lines::<Refused>(rt.alloc(), REFUSED, 37)
 }

@@ -1,28 +1,22 @@
 //! Scripts that are read, and scripts that are refused.
 
-use crate::fixtures::{bytes_of, exports_of, outcome};
-use ca_types::Exports;
+use crate::fixtures::{Shown, bytes_of, outcome};
+use cases::{Answers, check_lines};
 use std::alloc::Global;
-use std::process::Abort;
 use std::test::Fail;
 
 /// A line an export: its name, its parameters, and behind `>` the type of its result where it is not u32. Two have one name.
-const EXPORTS: &str = "
-add: a b
+const EXPORTS: &str = "add: a b
 zero:
 a#b: x
 zero: x
 größe: x
 greet: name=string
 close: file=own
-listen: >stream
-";
+listen: >stream";
 
-/// How many cases there are.
-const COUNT: usize = 101;
-
-/// A line a case: a script, and what it says or where it is refused and why.
-const CASES: &str = r#"
+/// A line a case: a script, and what it says.
+const READ: &str = r#"
  => fuel 1000000
 \n\n\n => fuel 1000000
 # a\n\n \t\n\t# b\n   => fuel 1000000
@@ -41,7 +35,6 @@ call zero () \t\r\n => fuel 1000000; zero ()
 call zero () => fuel 1000000; zero ()
 call add (2, 3)\ncall a#b (0007)\ncall zero ()\n => fuel 1000000; add (2, 3); a#b (7); zero ()
 # \xC3\xA9\n => fuel 1000000
-
 call add (2,3) => fuel 1000000; add (2, 3)
 call add(2,3) => fuel 1000000; add (2, 3)
 call add\t(2, 3) => fuel 1000000; add (2, 3)
@@ -52,7 +45,10 @@ call add (4294967295, 0) => fuel 1000000; add (4294967295, 0)
 call add (0002, 00000000000000000003) => fuel 1000000; add (2, 3)
 call a#b (7) => fuel 1000000; a#b (7)
 call größe (1)\ncall gr\xC3\xB6\xC3\x9Fe(2) => fuel 1000000; größe (1); größe (2)
+"#;
 
+/// A line a case: a script of one line, and why that is refused.
+const REFUSED: &str = r#"
 calls\r\n => line 1: Form
 call => line 1: Form
 call add => line 1: Form
@@ -72,7 +68,6 @@ fuel 4 5 => line 1: Form
 fuel 4x => line 1: Form
 pick 1 => line 1: Form
 cancel 1 => line 1: Form
-
 call add () => line 1: Value
 call add (2) => line 1: Value
 call add (2 3) => line 1: Value
@@ -89,7 +84,6 @@ call add (2, 0x3) => line 1: Value
 call add (4294967296, 0) => line 1: Value
 call add (2, 99999999999999999999999) => line 1: Value
 call zero (1) => line 1: Value
-
 call nothing () => line 1: Export
 call nothing (x => line 1: Export
 call (2) => line 1: Export
@@ -101,7 +95,10 @@ fuel 0 => line 1: Fuel
 fuel 000 => line 1: Fuel
 fuel 1000000001 => line 1: Fuel
 fuel 99999999999999999999999 => line 1: Fuel
+"#;
 
+/// A line a case: a script of several lines, and which of them is refused first, and why.
+const FIRST_REFUSED: &str = r#"
 fuel 4\nfuel 5 => line 2: Form
 fuel 4\nfuel 0 => line 2: Form
 fuel 4\n# between\nfuel x => line 3: Form
@@ -112,13 +109,15 @@ call zero ()\r\ncall add (2)\r\n => line 2: Value
 pick 1\ncall add (2)\nfuel 0 => line 1: Form
 call add (2)\npick 1 => line 1: Value
 fuel 0\nfuel 4 => line 1: Fuel
-
 pick 1\n\ncall \xFF\n# b\n => line 3: Utf8
 # \xC3\n => line 1: Utf8
 call zero ()\n\xC3 => line 2: Utf8
 # \xED\xA0\x80 => line 1: Utf8
 # \xC0\x8A\n\n\xFF => line 1: Utf8
+"#;
 
+/// A line a case: a script whose calls have texts, or types that no script can write.
+const OTHER_TYPES: &str = r#"
 call greet ("a") => fuel 1000000; greet (<a>)
 call greet\t( "a, (b) # c"\t)  => fuel 1000000; greet (<a, (b) # c>)
 call greet ("a) \\", \\u{e9}") => fuel 1000000; greet (<a) ", é>)
@@ -133,30 +132,21 @@ call listen () => line 1: HostType
 call zero ()\ncall listen (\ncall add (2) => line 2: HostType
 "#;
 
-/// Reads the script of a case, and compares what comes out.
-fn compare(
-    rt: &impl Abort,
-    alloc: Global,
-    exports: &Exports,
-    script: &str,
-    wanted: &str,
-) -> Result<(), Fail> {
-    let bytes = bytes_of(alloc, script)?;
-    let found = outcome(alloc, &bytes, exports)?;
-    assert_eq!(rt; found.as_str(), wanted, "{script}");
-    Ok(())
+/// What scripts say.
+struct Outcomes;
+
+impl Answers for Outcomes {
+    fn answer(alloc: Global, given: &str) -> Result<String, Fail> {
+        let bytes = bytes_of(alloc, given)?;
+        outcome(alloc, Shown::All, &bytes, EXPORTS)
+    }
 }
 
 #[test]
 fn scripts_have_their_outcomes(rt: HostRuntime) -> Result<(), Fail> {
-    let exports = exports_of(rt.alloc(), EXPORTS)?;
-    let mut count = 0usize;
-    for line in CASES.lines() {
-        if let Some((script, wanted)) = line.split_once(" => ") {
-            compare(&rt, rt.alloc(), &exports, script, wanted)?;
-            count = count.saturating_add(1);
-        }
-    }
-    assert_eq!(rt; count, COUNT);
-    Ok(())
+    let alloc = rt.alloc();
+    check_lines::<Outcomes>(alloc, READ, " => ", 28)?;
+    check_lines::<Outcomes>(alloc, REFUSED, " => ", 46)?;
+    check_lines::<Outcomes>(alloc, FIRST_REFUSED, " => ", 15)?;
+    check_lines::<Outcomes>(alloc, OTHER_TYPES, " => ", 12)
 }
