@@ -124,6 +124,17 @@ def inline_types(names):
     return section(5, vec([b"\x01" + vec(ext(text) + b"\x03" + u32(0) for text in names)]))
 
 
+def instance_exports(names, index=0, described=None):
+    """Exports of the instance of an index under these names, as ones of the type of an index if that is described."""
+    described = b"\x00" if described is None else b"\x01\x05" + u32(described)
+    return section(11, vec(ext(text) + b"\x05" + u32(index) + described for text in names))
+
+
+def instance_imports(names, index):
+    """Imports of instances of the type of this index under these names."""
+    return section(10, vec(ext(text) + b"\x05" + u32(index) for text in names))
+
+
 def nested(*parts):
     """A component in a component."""
     return section(4, component(*parts))

@@ -153,6 +153,43 @@ def described_exports(count):
     return formats.component(formats.types([b"\x79", asked]), formats.inline_types(names), exported), b"", 1
 
 
+def described_again(count):
+    """An instance of so many exports that is exported as many times, each time as one of a type that asks for all of them."""
+    names = formats.short_names(count, 4)
+    asked = formats.instance_type([b"\x01\x79", *formats.type_exports(reversed(names))])
+    exported = formats.instance_exports(names, described=1)
+    return formats.component(formats.types([b"\x79", asked]), formats.inline_types(names), exported), b"", 1
+
+
+def exported_again(count):
+    """An instance of so many exports, none of them a function, that is exported as many times."""
+    names = formats.short_names(count, 4)
+    return formats.component(formats.types([b"\x79"]), formats.inline_types(names), formats.instance_exports(names)), b"", 1
+
+
+def imported_again(count):
+    """So many imports of instances of one type, which has as many exports."""
+    names = formats.short_names(count, 4)
+    asked = formats.instance_type([b"\x01\x79", *formats.type_exports(names)])
+    return formats.component(formats.types([asked]), formats.instance_imports(names, 0)), b"", 1
+
+
+def types_again(count):
+    """A component with so many types of instances and of functions, which has 255 instances."""
+    names = formats.short_names(count, 4)
+    made = [formats.instance_type([b"\x01\x79", *formats.type_exports([text])]) for text in names]
+    made += [b"\x40" + formats.vec([formats.name(text) + b"\x79"]) + b"\x01\x00" for text in names]
+    return formats.component(formats.nested(formats.types(made)), *[formats.instantiated() for _ in range(255)]), b"", 1
+
+
+def instances_again(count):
+    """A component with so many instances, each of which is exported, which has 255 instances."""
+    names = formats.short_names(count, 4)
+    made = formats.section(5, formats.vec(b"\x01" + formats.vec([]) for _ in names))
+    inner = formats.nested(made, formats.instance_exports(names))
+    return formats.component(inner, *[formats.instantiated() for _ in range(255)]), b"", 1
+
+
 def components(count):
     """So many components, each of which has nothing, and instances of the last one."""
     parts = [formats.nested() for _ in range(count)]
@@ -172,7 +209,12 @@ CASES = [
     Case("exports of an instance, and aliases of them", 400_000, instance_exports),
     Case("arguments of a component", 400_000, component_arguments),
     Case("exports of an instance that is exported as one of a type", 400_000, described_exports),
+    Case("exports of an instance that is exported as many times as one of a type", 250_000, described_again),
+    Case("exports of an instance, none a function, that is exported as many times", 400_000, exported_again),
+    Case("imports of instances of a type with as many exports", 400_000, imported_again),
     Case("components, and 255 instances of the last one", 400_000, components),
+    Case("types of instances and of functions in a component with 255 instances", 4_000, types_again),
+    Case("instances in a component with 255 instances", 6_000, instances_again),
     Case("calls of a script, for a component with 1,000 exports", 60_000, calls, doubles=False),
 ]
 
