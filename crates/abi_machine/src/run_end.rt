@@ -3,7 +3,7 @@
 use trace_show::TrapName;
 
 /// How a run ends.
-#[derive(Clone, Copy, Debug, PartialEq, Eq)]
+#[derive(Clone, Copy)]
 pub enum RunEnd {
     /// Nothing is left to do, and each task has exited.
     Done,

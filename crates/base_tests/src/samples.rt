@@ -4,7 +4,7 @@ use ca_base::{Memory, MemoryOr, Name, Named, Rule, Step, Text};
 use std::alloc::Global;
 
 /// What has a name.
-#[derive(Drop)]
+#[derive(Debug, Drop)]
 pub struct Item {
     /// The name.
     pub name: Name,

@@ -3,7 +3,7 @@
 use ca_base::{NumberReason, Reason};
 
 /// Why bytes are refused.
-#[derive(Clone, Copy, Debug, PartialEq, Eq)]
+#[derive(Clone, Copy, Debug)]
 pub enum Why {
     /// An item passes the end of a window.
     Past,

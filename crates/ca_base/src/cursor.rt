@@ -8,7 +8,7 @@ use crate::refusal::Refusal;
 use crate::window::Window;
 
 /// Why a read of a cursor is refused.
-#[derive(Clone, Copy, Debug, PartialEq, Eq)]
+#[derive(Clone, Copy, Debug)]
 pub enum ByteWhy {
     /// It passes the end of the bytes.
     Truncated,

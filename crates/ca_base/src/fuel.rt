@@ -5,7 +5,7 @@ ghost use Rattle.std.specs.Prelude.{◌≡◌, ◌-◌, ◌<◌, ◌↔◌, IsTr
 use std::marker::Model;
 
 /// A budget of work in units, from 0 to `u64::MAX`. Contracts see it as the number of units that are left.
-#[derive(Drop, Debug)]
+#[derive(Drop)]
 pub struct Fuel {
     units: u64,
 }

@@ -5,7 +5,7 @@ ghost use Rattle.std.specs.Prelude.{◌≡◌};
 use std::alloc::{AllocError, AllocFailed};
 
 /// Want of memory, of a call that has no other refusal.
-#[derive(Clone, Copy, Debug, PartialEq, Eq)]
+#[derive(Clone, Copy, Debug)]
 pub struct Memory;
 
 impl From<AllocError> for Memory {
@@ -21,7 +21,7 @@ impl<T: Drop> From<AllocFailed<T>> for Memory {
 }
 
 /// A fault of this kind, or want of memory: why a call ends without its result.
-#[derive(Clone, Copy, Debug, Drop, PartialEq, Eq)]
+#[derive(Clone, Copy, Debug, Drop)]
 pub enum MemoryOr<F> {
     /// Want of memory.
     Memory,

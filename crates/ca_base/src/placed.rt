@@ -7,7 +7,7 @@ use crate::seq::Seq;
 use std::alloc::{AllocError, Global};
 
 /// An item, and where it stands.
-#[derive(Clone, Copy, Debug, Drop, PartialEq, Eq)]
+#[derive(Clone, Copy, Debug, Drop)]
 pub struct Placed<T> {
     /// The item.
     pub item: T,

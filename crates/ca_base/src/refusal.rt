@@ -5,7 +5,7 @@ ghost use Rattle.std.specs.Prelude.{◌≡◌};
 use crate::memory::MemoryOr;
 
 /// Why bytes are refused, and where.
-#[derive(Clone, Copy, Debug, PartialEq, Eq)]
+#[derive(Clone, Copy, Debug)]
 pub struct Refusal<W> {
     /// The byte place, counted from the file's start.
     pub place: usize,

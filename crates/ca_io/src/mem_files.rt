@@ -15,7 +15,7 @@ use std::alloc::Global;
 use std::marker::Model;
 
 /// A file in memory, which contracts see as its name and its bytes.
-#[derive(Drop, Debug)]
+#[derive(Drop)]
 struct Entry {
     name: String,
     bytes: Vec<u8>,
@@ -30,7 +30,7 @@ impl Model for Entry {
 }
 
 /// Files in memory, of which chosen reads fail.
-#[derive(Drop, Debug)]
+#[derive(Drop)]
 pub struct MemFiles {
     /// The newest first.
     entries: Vec<Entry>,

@@ -9,7 +9,7 @@ use ca_base::{Bytes, Seq};
 use std::alloc::{AllocError, Global};
 
 /// Why a file was not read whole.
-#[derive(Clone, Copy, Debug, PartialEq, Eq)]
+#[derive(Clone, Copy, Debug)]
 pub enum FileError {
     /// A read of the source failed.
     Fault,

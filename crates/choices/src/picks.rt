@@ -8,7 +8,7 @@ use std::alloc::{AllocError, Global};
 use std::marker::Model;
 
 /// The picks that a script gives for the choices of its run, in order.
-#[derive(Drop, Debug)]
+#[derive(Drop)]
 pub struct Picks {
     picks: Vec<u32>,
     next: usize,

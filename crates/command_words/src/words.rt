@@ -11,7 +11,7 @@ use clap::{Arg, ArgMatches};
 use std::alloc::{AllocError, Global};
 
 /// What the program is told to do.
-#[derive(Clone, Copy, Debug)]
+#[derive(Clone, Copy)]
 pub enum Command<'a> {
     /// Run the component of a file under the script of another file.
     Run {

@@ -11,7 +11,7 @@ use std::marker::Model;
 use wasm_valid::Valid;
 
 /// A definition of a core instance.
-#[derive(Clone, Copy, Debug, PartialEq, Eq)]
+#[derive(Clone, Copy)]
 pub struct CoreRef {
     /// The number of the core instance, in order of making.
     pub instance: usize,
@@ -20,7 +20,7 @@ pub struct CoreRef {
 }
 
 /// What an import of a core module is: a definition of a core instance (Core 2.0, section 4.5.4).
-#[derive(Clone, Copy, Debug, PartialEq, Eq)]
+#[derive(Clone, Copy)]
 pub enum CoreExtern {
     /// A function.
     Func(CoreRef),
@@ -33,7 +33,7 @@ pub enum CoreExtern {
 }
 
 /// What is made when a component is instantiated.
-#[derive(Clone, Copy, Debug, PartialEq, Eq)]
+#[derive(Clone, Copy)]
 pub enum Action {
     /// The component instance of this number begins.
     Begin(usize),
@@ -42,7 +42,7 @@ pub enum Action {
 }
 
 /// The core function that a function lifts (Component Model, CanonicalABI.md, `canon lift`).
-#[derive(Clone, Copy, Debug, PartialEq, Eq)]
+#[derive(Clone, Copy)]
 pub struct Lift {
     /// The number of the component instance that lifts it, in order of beginning.
     pub instance: usize,

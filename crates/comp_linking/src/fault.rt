@@ -21,7 +21,7 @@ pub enum LinkWhy {
 }
 
 /// The first item of a component that is refused.
-#[derive(Debug, Drop)]
+#[derive(Drop)]
 pub struct LinkFault {
     /// The byte place of the item in the component file.
     pub place: usize,

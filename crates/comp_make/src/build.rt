@@ -13,7 +13,7 @@ use wasm_module::ModuleTree;
 const PREAMBLE: [u8; 8] = [0x00, 0x61, 0x73, 0x6D, 0x0D, 0x00, 0x01, 0x00];
 
 /// A component that is made item by item. So far its items are core modules.
-#[derive(Debug, Drop)]
+#[derive(Drop)]
 pub struct Build {
     /// The core modules, in order.
     pub modules: Seq<ModuleTree>,

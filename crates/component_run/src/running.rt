@@ -24,7 +24,7 @@ use value_reader::sound_values_are_small;
 use wasm_store::Store;
 
 /// A run, from its first line to its end.
-#[derive(Debug, Drop)]
+#[derive(Drop)]
 pub struct Run {
     /// The lines, in order, but for the last one.
     pub labels: Seq<Label>,

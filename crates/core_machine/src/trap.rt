@@ -1,7 +1,7 @@
 //! Traps.
 
 /// Why a run ends with a trap (Core 2.0, section 4.4).
-#[derive(Clone, Copy, Debug, PartialEq, Eq)]
+#[derive(Clone, Copy)]
 pub enum Trap {
     /// The instruction `unreachable`.
     Unreachable,

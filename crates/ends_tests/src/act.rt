@@ -18,7 +18,7 @@ pub enum Act {
 }
 
 /// What is answered.
-#[derive(Clone, Copy, PartialEq, Eq)]
+#[derive(Clone, Copy, PartialEq)]
 pub enum Answer {
     /// It may not happen now.
     No,

@@ -4,7 +4,7 @@ ghost use Rattle.std.specs.Prelude.{◌≡◌};
 ghost use Rattle.entry_gate.specs.Callbacks.{callback_of};
 
 /// What a task with a callback does next.
-#[derive(Clone, Copy, Debug, PartialEq, Eq)]
+#[derive(Clone, Copy)]
 pub enum Next {
     /// It ends.
     Exit,
@@ -17,7 +17,7 @@ pub enum Next {
 }
 
 /// The word of a callback has a code above 3.
-#[derive(Clone, Copy, Debug, PartialEq, Eq)]
+#[derive(Clone, Copy)]
 pub struct BadCode;
 
 /// Reads the word that a callback or its function answers (Component Model, CanonicalABI.md, `canon lift`): a code in its

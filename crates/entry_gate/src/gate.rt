@@ -13,16 +13,16 @@ use std::marker::Model;
 const MAX_PRESSURE: u32 = 65_535;
 
 /// The backpressure of an instance can't grow.
-#[derive(Clone, Copy, Debug, PartialEq, Eq)]
+#[derive(Clone, Copy)]
 pub struct PressureLimit;
 
 /// The backpressure of an instance is 0 already.
-#[derive(Clone, Copy, Debug, PartialEq, Eq)]
+#[derive(Clone, Copy)]
 pub struct PressureZero;
 
 /// Who may enter an instance: its backpressure, the task that holds its exclusive entry, and the number of tasks that wait
 /// to enter. No call takes memory.
-#[derive(Drop, Debug)]
+#[derive(Drop)]
 pub struct Gate {
     pressure: u32,
     holder: Option<u32>,

@@ -4,7 +4,7 @@ ghost use Rattle.std.specs.Prelude.{◌≡◌};
 ghost use Rattle.entry_gate.specs.Kinds.{needs_entry};
 
 /// How the core function of a task is lifted, and so how it waits (Component Model, CanonicalABI.md, `canon lift`).
-#[derive(Clone, Copy, Debug, PartialEq, Eq)]
+#[derive(Clone, Copy, Debug)]
 pub enum Kind {
     /// Without `async`: the function's end is the task's end.
     Sync,

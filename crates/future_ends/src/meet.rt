@@ -8,7 +8,7 @@ use crate::future_end::payload;
 use stream_ends::{CopyResult, End, OpenCopy};
 
 /// What came of a read or write (CanonicalABI.md, "Future State").
-#[derive(Clone, Copy, Debug, PartialEq, Eq)]
+#[derive(Clone, Copy)]
 pub enum Meet {
     /// No offer stands at the other end: the offer stands.
     Stands,

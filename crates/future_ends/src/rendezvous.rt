@@ -13,7 +13,7 @@ use std::marker::Model;
 use stream_ends::{By, End, Offer, OpenCopy, Side};
 
 /// Both ends of a future: what is under way at each, and whether it is done or dropped. No call takes memory.
-#[derive(Drop, Debug)]
+#[derive(Drop)]
 pub struct Rendezvous {
     reader: End,
     writer: End,

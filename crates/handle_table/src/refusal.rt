@@ -1,7 +1,7 @@
 //! Why an entry is not added.
 
 /// Why an entry is not added. It is handed back.
-#[derive(Clone, Copy, Debug, PartialEq, Eq, Drop)]
+#[derive(Clone, Copy, Drop)]
 pub enum AddError<T> {
     /// The table has 65,535 live entries.
     Full(T),
@@ -10,7 +10,7 @@ pub enum AddError<T> {
 }
 
 /// An entry that is not added, since the table has 65,535 live entries.
-#[derive(Clone, Copy, Debug, PartialEq, Eq, Drop)]
+#[derive(Clone, Copy, Drop)]
 pub struct Full<T> {
     /// The entry.
     pub entry: T,

@@ -11,7 +11,7 @@ use crate::references::{DefinitionRef, InstanceRef};
 use type_tables::{ExternRef, InstanceTypeRef, Types};
 
 /// What a definition comes to beside what is asked for.
-#[derive(Clone, Copy, Debug)]
+#[derive(Clone, Copy)]
 pub(crate) enum Comparison {
     /// Whether it is what is asked for.
     Agrees(bool),

@@ -25,7 +25,7 @@ use std::collections::BTreeSet;
 use type_tables::{ExternRef, InstanceTypeRef, Types, asked_at};
 
 /// Whether a definition is what is asked for.
-#[derive(Clone, Copy, Debug)]
+#[derive(Clone, Copy)]
 pub enum Fit {
     /// It is.
     Fits,
@@ -36,7 +36,7 @@ pub enum Fit {
 }
 
 /// A pair that is gone through.
-#[derive(Clone, Copy, Debug)]
+#[derive(Clone, Copy)]
 pub(crate) struct Frame {
     given: InstanceRef,
     asked: InstanceTypeRef,
@@ -45,7 +45,7 @@ pub(crate) struct Frame {
 }
 
 /// What comes next of a pair.
-#[derive(Clone, Copy, Debug)]
+#[derive(Clone, Copy)]
 pub(crate) enum Step {
     /// Nothing is left.
     Done,
@@ -67,7 +67,7 @@ pub(crate) struct Walk {
 }
 
 /// How a turn of a walk ends.
-#[derive(Clone, Copy, Debug)]
+#[derive(Clone, Copy)]
 pub(crate) enum Turn {
     /// The walk goes on.
     GoesOn,

@@ -10,7 +10,7 @@ use std::collections::BTreeSet;
 use type_tables::InstanceTypeRef;
 
 /// An instance and a type that is asked of it.
-#[derive(Clone, Copy, Debug, PartialEq, Eq, PartialOrd, Ord)]
+#[derive(Clone, Copy, PartialEq, Eq, PartialOrd, Ord)]
 pub(crate) struct Pair {
     /// The instance.
     pub(crate) given: InstanceRef,

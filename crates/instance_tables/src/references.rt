@@ -12,7 +12,7 @@ use comp_graph::CoreRef;
 use type_tables::{ExternRef, FuncTypeRef, InstanceTypeRef, TypeRef};
 
 /// A function.
-#[derive(Clone, Copy, Debug)]
+#[derive(Clone, Copy)]
 pub struct LiftedRef {
     /// The component instance that lifts it.
     pub instance: usize,
@@ -23,7 +23,7 @@ pub struct LiftedRef {
 }
 
 /// An instance.
-#[derive(Clone, Copy, Debug, PartialEq, Eq, PartialOrd, Ord)]
+#[derive(Clone, Copy, PartialEq, Eq, PartialOrd, Ord)]
 pub struct InstanceRef {
     /// The number of its exports.
     pub base: usize,
@@ -32,7 +32,7 @@ pub struct InstanceRef {
 }
 
 /// A definition.
-#[derive(Clone, Copy, Debug)]
+#[derive(Clone, Copy)]
 pub enum DefinitionRef {
     /// A function.
     Func(LiftedRef),

@@ -3,7 +3,7 @@
 ghost use Rattle.std.specs.Prelude.{◌≡◌, ◌||◌};
 
 /// What values of a type hold.
-#[derive(Clone, Copy, Debug)]
+#[derive(Clone, Copy)]
 pub(crate) struct Holding {
     /// Whether they hold the end of a stream or a future.
     pub(crate) end: bool,

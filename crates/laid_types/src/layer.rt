@@ -7,7 +7,7 @@ use std::alloc::{AllocError, Global};
 
 /// The outer layer of a type, over the numbers of earlier types (Component Model, Explainer.md, "Type Definitions": `valtype` and
 /// `defvaltype`).
-#[derive(Clone, Copy, Debug)]
+#[derive(Clone, Copy)]
 pub enum ValTypeLayer<'a> {
     /// A truth value.
     Bool,
@@ -63,7 +63,7 @@ pub enum ValTypeLayer<'a> {
 }
 
 /// A field of a record.
-#[derive(Clone, Copy, Debug)]
+#[derive(Clone, Copy)]
 pub struct LabelledPart<'a> {
     /// Its label.
     pub label: &'a str,
@@ -72,7 +72,7 @@ pub struct LabelledPart<'a> {
 }
 
 /// A case of a variant.
-#[derive(Clone, Copy, Debug)]
+#[derive(Clone, Copy)]
 pub struct LabelledCase<'a> {
     /// Its label.
     pub label: &'a str,

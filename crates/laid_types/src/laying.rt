@@ -7,7 +7,7 @@ ghost use Rattle.ca_types.specs.Layout.{aligned, tag_size, bits_size};
 const MOST: u128 = 1 << 64;
 
 /// How values of a type lie in memory.
-#[derive(Clone, Copy, Debug)]
+#[derive(Clone, Copy)]
 pub(crate) struct Laying {
     /// How many bytes a value takes, or `MOST` where it takes more.
     pub(crate) size: u128,

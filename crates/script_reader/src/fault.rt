@@ -5,7 +5,7 @@ ghost use Rattle.std.specs.Prelude.{◌≡◌};
 use ca_base::MemoryOr;
 
 /// Why a text is refused. At one line the first in this order is told.
-#[derive(Clone, Copy, Debug, PartialEq, Eq)]
+#[derive(Clone, Copy, Debug)]
 pub enum ScriptWhy {
     /// The text has more than 1 MiB.
     Size,
@@ -24,7 +24,7 @@ pub enum ScriptWhy {
 }
 
 /// Where a text is refused first, and why.
-#[derive(Clone, Copy, Debug, PartialEq, Eq)]
+#[derive(Clone, Copy)]
 pub struct ScriptFault {
     /// The number of the line, counted from 1; 0 where the text is too long.
     pub line: usize,

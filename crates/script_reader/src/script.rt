@@ -8,7 +8,7 @@ use ca_types::Values;
 use std::marker::Model;
 
 /// A call of an exported function.
-#[derive(Debug, Drop)]
+#[derive(Drop)]
 pub struct Call {
     /// The function's name, as it is written.
     pub name: Name,
@@ -17,14 +17,14 @@ pub struct Call {
 }
 
 /// What happens in a run, by its script.
-#[derive(Debug, Drop)]
+#[derive(Drop)]
 pub enum Item {
     /// An exported function is called.
     Call(Call),
 }
 
 /// A script: what decides the free choices of a run.
-#[derive(Debug, Drop)]
+#[derive(Drop)]
 pub struct Script {
     fuel: u32,
     items: Seq<Item>,

@@ -9,7 +9,7 @@ use crate::side::Side;
 use crate::stream_end::End;
 
 /// What came of a read or write (CanonicalABI.md, "Stream State").
-#[derive(Clone, Copy, Debug, PartialEq, Eq)]
+#[derive(Clone, Copy)]
 pub enum Meet {
     /// No offer stands at the other end: the offer stands.
     Stands,

@@ -6,14 +6,14 @@ ghost use Rattle.stream_ends.specs.Ends.{new_copy, payload_of, offer_of, result_
 use crate::side::Side;
 
 /// Who reads or writes.
-#[derive(Clone, Copy, Debug, PartialEq, Eq)]
+#[derive(Clone, Copy)]
 pub enum By {
     /// The task of this number.
     Task(u32),
 }
 
 /// What is to be told of a copy that waits (CanonicalABI.md, "Stream State": `CopyResult`).
-#[derive(Clone, Copy, Debug, PartialEq, Eq)]
+#[derive(Clone, Copy)]
 pub enum CopyEvent {
     /// Elements were copied, or another offer took its place.
     Completed,
@@ -22,7 +22,7 @@ pub enum CopyEvent {
 }
 
 /// How a copy ended (CanonicalABI.md, "Stream State": `CopyResult`).
-#[derive(Clone, Copy, Debug, PartialEq, Eq)]
+#[derive(Clone, Copy)]
 pub enum CopyResult {
     /// Elements were copied, or the other end answered.
     Completed,
@@ -33,7 +33,7 @@ pub enum CopyResult {
 }
 
 /// An offer as the layer above sees it.
-#[derive(Clone, Copy, Debug, PartialEq, Eq)]
+#[derive(Clone, Copy)]
 pub struct Offer {
     /// The end that was read or written.
     pub side: Side,
@@ -50,7 +50,7 @@ pub struct Offer {
 }
 
 /// A read or write that was begun at an end and not yet told of its result.
-#[derive(Clone, Copy, Debug, PartialEq, Eq)]
+#[derive(Clone, Copy)]
 pub struct OpenCopy {
     /// Who reads or writes.
     pub by: By,

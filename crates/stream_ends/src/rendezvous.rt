@@ -13,7 +13,7 @@ use crate::stream_end::End;
 use std::marker::Model;
 
 /// Both ends of a stream: what is under way at each, and whether it is done or dropped. No call takes memory.
-#[derive(Drop, Debug)]
+#[derive(Drop)]
 pub struct Rendezvous {
     reader: End,
     writer: End,

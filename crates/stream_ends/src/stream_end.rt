@@ -6,7 +6,7 @@ ghost use Rattle.stream_ends.specs.Ends.{no_end, standing_of, is_idle, is_copyin
 use crate::open_copy::{CopyEvent, CopyResult, OpenCopy, payload};
 
 /// One end of a stream.
-#[derive(Clone, Copy, Debug, PartialEq, Eq)]
+#[derive(Clone, Copy)]
 pub struct End {
     /// Whether it is dropped.
     pub dropped: bool,

@@ -4,7 +4,7 @@ use entry_gate::Kind;
 use std::alloc::{AllocError, Global};
 
 /// Where a task is.
-#[derive(Clone, Copy, PartialEq, Eq)]
+#[derive(Clone, Copy)]
 pub enum Place {
     /// Not there.
     Outside,

@@ -5,7 +5,7 @@ use std::alloc::{AllocError, Global};
 use tasks::{Asked, BlockedAt, TaskEvent, TaskTrap};
 
 /// What happened.
-#[derive(Clone, Copy, PartialEq, Eq)]
+#[derive(Clone, Copy, PartialEq)]
 enum Past {
     Did(TaskEvent),
     Asked,

@@ -4,7 +4,7 @@ ghost use Rattle.std.specs.Prelude.{◌≡◌};
 ghost use Rattle.tasks.specs.Tasks.{is_entry};
 
 /// Where a task waits.
-#[derive(Clone, Copy, Debug, PartialEq, Eq)]
+#[derive(Clone, Copy, Debug, PartialEq)]
 pub enum BlockedAt {
     /// It waits to enter its instance.
     Entry,
@@ -23,7 +23,7 @@ pub enum BlockedAt {
 }
 
 /// What happens to a task.
-#[derive(Clone, Copy, Debug, PartialEq, Eq)]
+#[derive(Clone, Copy, PartialEq)]
 pub enum TaskEvent {
     /// A new task, or one that waits to enter, enters its instance.
     Enter,
@@ -48,7 +48,7 @@ pub enum TaskEvent {
 }
 
 /// Why something may not happen to a task.
-#[derive(Clone, Copy, Debug, PartialEq, Eq)]
+#[derive(Clone, Copy)]
 pub enum TaskTrap {
     /// The task is lifted without `async`.
     SyncTask,
@@ -61,7 +61,7 @@ pub enum TaskTrap {
 }
 
 /// What comes of a request to cancel a task.
-#[derive(Clone, Copy, Debug, PartialEq, Eq)]
+#[derive(Clone, Copy)]
 pub enum Asked {
     /// It waited to enter, and is removed.
     Removed,

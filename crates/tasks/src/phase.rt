@@ -7,7 +7,7 @@ use crate::event::BlockedAt;
 use crate::subtask_state::SubtaskState;
 
 /// Who called a task.
-#[derive(Clone, Copy, Debug, PartialEq, Eq)]
+#[derive(Clone, Copy, Debug)]
 pub enum Caller {
     /// Nobody: the task is that of instantiation.
     Nobody,
@@ -18,7 +18,7 @@ pub enum Caller {
 }
 
 /// Where a task is.
-#[derive(Clone, Copy, Debug, PartialEq, Eq)]
+#[derive(Clone, Copy, Debug)]
 pub enum Phase {
     /// It neither entered its instance nor waits to.
     New,
@@ -31,7 +31,7 @@ pub enum Phase {
 }
 
 /// How a task is resolved.
-#[derive(Clone, Copy, Debug, PartialEq, Eq)]
+#[derive(Clone, Copy, Debug)]
 pub enum Resolution {
     /// Its result is returned.
     Returned,
@@ -40,7 +40,7 @@ pub enum Resolution {
 }
 
 /// How far a cancellation of a task is.
-#[derive(Clone, Copy, Debug, PartialEq, Eq)]
+#[derive(Clone, Copy, Debug)]
 pub enum Cancellation {
     /// None is asked.
     NotAsked,

@@ -4,7 +4,7 @@ ghost use Rattle.std.specs.Prelude.{◌≡◌};
 ghost use Rattle.tasks.specs.Subtasks.{code_of, is_over, follows, follows_starting, follows_started};
 
 /// How far a subtask is (CanonicalABI.md, "Subtask State").
-#[derive(Clone, Copy, Debug, PartialEq, Eq)]
+#[derive(Clone, Copy, Debug)]
 pub enum SubtaskState {
     /// The callee waits to enter.
     Starting,

@@ -11,7 +11,7 @@ use entry_gate::Kind;
 use std::marker::Model;
 
 /// A task. No call takes memory.
-#[derive(Drop, Debug)]
+#[derive(Drop)]
 pub struct Task {
     kind: Kind,
     caller: Caller,

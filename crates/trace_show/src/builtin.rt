@@ -6,7 +6,7 @@ ghost use Rattle.trace_show.specs.Names.{builtin_text};
 use std::fmt;
 
 /// A built-in of the Canonical ABI, or a lowered import (Component Model, CanonicalABI.md, "Canonical Definitions").
-#[derive(Clone, Copy, Debug, PartialEq, Eq)]
+#[derive(Clone, Copy)]
 pub enum Builtin {
     /// A lowered import.
     Lower,

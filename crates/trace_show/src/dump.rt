@@ -6,7 +6,7 @@ use std::alloc::Global;
 use std::fmt;
 
 /// An end of a stream or a future.
-#[derive(Clone, Copy, Debug, PartialEq, Eq)]
+#[derive(Clone, Copy)]
 pub enum Side {
     /// The one that is read.
     Readable,
@@ -15,7 +15,7 @@ pub enum Side {
 }
 
 /// How an end stands.
-#[derive(Clone, Copy, Debug, PartialEq, Eq)]
+#[derive(Clone, Copy)]
 pub enum EndState {
     /// It has no open copy.
     Idle,
@@ -41,7 +41,7 @@ impl fmt::Display for EndState {
 }
 
 /// An entry of an instance's table.
-#[derive(Debug, Drop)]
+#[derive(Drop)]
 pub enum Entry {
     /// An owning handle.
     Own {
@@ -87,7 +87,7 @@ pub enum Entry {
 }
 
 /// A live entry with its index.
-#[derive(Debug, Drop)]
+#[derive(Drop)]
 pub struct LiveEntry {
     /// The index.
     pub index: u32,
@@ -96,7 +96,7 @@ pub struct LiveEntry {
 }
 
 /// What a run leaves.
-#[derive(Debug, Drop)]
+#[derive(Drop)]
 pub struct Dump<'a> {
     /// The live entries of each instance, by index. The first instance has the number 1.
     pub instances: Seq<Seq<LiveEntry>>,

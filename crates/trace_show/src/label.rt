@@ -8,7 +8,7 @@ use std::alloc::Global;
 use std::fmt;
 
 /// A stream or a future, by its number.
-#[derive(Clone, Copy, Debug, PartialEq, Eq)]
+#[derive(Clone, Copy)]
 pub enum Channel {
     /// The stream with this number.
     Stream(u32),
@@ -31,7 +31,7 @@ impl fmt::Display for Channel {
 }
 
 /// Why a task blocks.
-#[derive(Clone, Copy, Debug, PartialEq, Eq)]
+#[derive(Clone, Copy)]
 pub enum BlockReason {
     /// It waits to enter its instance.
     Entry,
@@ -69,7 +69,7 @@ impl fmt::Display for BlockReason {
 }
 
 /// What one copy moved from a stream or a future to its reader.
-#[derive(Debug, Drop)]
+#[derive(Drop)]
 pub enum Copied {
     /// So many elements that hold nothing.
     Units(u32),
@@ -78,7 +78,7 @@ pub enum Copied {
 }
 
 /// A line of a trace. Instances, tasks, streams, futures and calls of the script stand by their numbers.
-#[derive(Debug, Drop)]
+#[derive(Drop)]
 pub enum Label {
     /// A call of the script is taken: it makes a task that runs a function with arguments.
     Take {

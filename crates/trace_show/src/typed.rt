@@ -5,7 +5,7 @@ use ca_types::{Shared, ValType, Value};
 
 /// A value with its type, which it shares with other values. The value should be of the type (`fits`); of another one the
 /// text says nothing.
-#[derive(Debug, Drop)]
+#[derive(Drop)]
 pub struct TypedValue {
     /// The value.
     pub value: Value,
@@ -14,7 +14,7 @@ pub struct TypedValue {
 }
 
 /// Values of one type, each of which should be of it.
-#[derive(Debug, Drop)]
+#[derive(Drop)]
 pub struct TypedValues {
     /// The values, in order.
     pub values: Seq<Value>,

@@ -5,7 +5,7 @@ ghost use Rattle.std.specs.Prelude.{◌≡◌, true, false, None};
 use ca_base::Name;
 
 /// What a part of a type comes to.
-#[derive(Clone, Copy, Debug)]
+#[derive(Clone, Copy)]
 pub struct Meant<'a, T> {
     /// Whether all its indices are there.
     pub is_there: bool,

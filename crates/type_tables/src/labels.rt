@@ -11,7 +11,7 @@ use ca_types::{FuncType, Param, Shared, ValType};
 use std::alloc::{AllocError, Global};
 
 /// A parameter, with its closed type.
-#[derive(Clone, Copy, Debug)]
+#[derive(Clone, Copy)]
 pub struct LabelledType<'a> {
     /// The label under which it is passed.
     pub label: &'a str,

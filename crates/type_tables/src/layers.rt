@@ -8,14 +8,14 @@ use std::collections::BTreeMap;
 use std::marker::Model;
 
 /// A value type.
-#[derive(Clone, Copy, Debug, PartialEq, Eq, PartialOrd, Ord)]
+#[derive(Clone, Copy, PartialEq, Eq, PartialOrd, Ord)]
 pub enum ValueLayer {
     /// An unsigned 32-bit integer.
     U32,
 }
 
 /// The outer layer of a type, over the numbers of the layers that it stands on.
-#[derive(Clone, Copy, Debug, PartialEq, Eq, PartialOrd, Ord)]
+#[derive(Clone, Copy, PartialEq, Eq, PartialOrd, Ord)]
 pub enum TypeLayer {
     /// A value type.
     Value(ValueLayer),
@@ -26,7 +26,7 @@ pub enum TypeLayer {
 }
 
 /// What an export is.
-#[derive(Clone, Copy, Debug, PartialEq, Eq, PartialOrd, Ord)]
+#[derive(Clone, Copy, PartialEq, Eq, PartialOrd, Ord)]
 pub enum ExternLayer {
     /// A function of a type.
     Func(usize),
@@ -37,7 +37,7 @@ pub enum ExternLayer {
 }
 
 /// A layer of a function type or of a type of instances, over the numbers of the layers that it stands on, and of names.
-#[derive(Clone, Copy, Debug, PartialEq, Eq, PartialOrd, Ord)]
+#[derive(Clone, Copy, PartialEq, Eq, PartialOrd, Ord)]
 pub enum Layer {
     /// No parameters.
     NoParams,

@@ -6,7 +6,7 @@ ghost use Rattle.type_tables.specs.Layering.{type_layer, extern_layer};
 use crate::layers::{ExternLayer, TypeLayer, ValueLayer};
 
 /// A function type of a table.
-#[derive(Clone, Copy, Debug, PartialEq, Eq)]
+#[derive(Clone, Copy, PartialEq)]
 pub struct FuncTypeRef {
     /// The number of its layer, which tells it from other types.
     pub(crate) layer: usize,
@@ -15,7 +15,7 @@ pub struct FuncTypeRef {
 }
 
 /// A type of instances of a table.
-#[derive(Clone, Copy, Debug, PartialEq, Eq, PartialOrd, Ord)]
+#[derive(Clone, Copy, PartialEq, Eq, PartialOrd, Ord)]
 pub struct InstanceTypeRef {
     /// The number of its layer, which tells it from other types.
     pub(crate) layer: usize,
@@ -24,7 +24,7 @@ pub struct InstanceTypeRef {
 }
 
 /// A closed type.
-#[derive(Clone, Copy, Debug, PartialEq, Eq)]
+#[derive(Clone, Copy, PartialEq)]
 pub enum TypeRef {
     /// A value type.
     Value(ValueLayer),
@@ -35,7 +35,7 @@ pub enum TypeRef {
 }
 
 /// What an import or an export is.
-#[derive(Clone, Copy, Debug, PartialEq, Eq)]
+#[derive(Clone, Copy, PartialEq)]
 pub enum ExternRef {
     /// A function of a type.
     Func(FuncTypeRef),

@@ -5,7 +5,7 @@ ghost use Rattle.std.specs.Prelude.{◌≡◌};
 use ca_base::MemoryOr;
 
 /// The text is not one of the type that is asked for.
-#[derive(Clone, Copy, Debug, PartialEq, Eq)]
+#[derive(Clone, Copy)]
 pub struct NoText;
 
 impl From<NoText> for MemoryOr<NoText> {

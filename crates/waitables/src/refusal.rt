@@ -1,7 +1,7 @@
 //! Why a set isn't dropped.
 
 /// Why a set isn't dropped (CanonicalABI.md, "canon waitable-set.drop").
-#[derive(Clone, Copy, Debug, PartialEq, Eq)]
+#[derive(Clone, Copy)]
 pub enum SetRefusal {
     /// It has a member.
     Members,

@@ -12,7 +12,7 @@ use std::marker::Model;
 use wasm_module::{Body, Op};
 
 /// The code of a function (Core 2.0, section 2.4.9), which contracts see as its expression.
-#[derive(Debug, Drop)]
+#[derive(Drop)]
 pub struct Code {
     body: Body,
     jumps: Vec<Jump>,

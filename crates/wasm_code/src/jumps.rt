@@ -8,7 +8,7 @@ use std::alloc::{AllocError, Global};
 use wasm_module::{Body, Op};
 
 /// The places at which the code of a block, a loop or an `if` goes on.
-#[derive(Clone, Copy, Debug)]
+#[derive(Clone, Copy)]
 pub(crate) struct Jump {
     /// The place behind its end.
     pub(crate) behind: usize,

@@ -8,7 +8,7 @@ use crate::frame::Frame;
 use wasm_module::{BlockType, Instr, Op};
 
 /// What comes next in a function's code.
-#[derive(Clone, Copy, Debug)]
+#[derive(Clone, Copy)]
 pub(crate) enum Control {
     /// `unreachable`.
     Unreachable,

@@ -12,7 +12,7 @@ use std::rc::Rc;
 use wasm_code::Code;
 
 /// A block, a loop, an `if` or a body that is being run.
-#[derive(Clone, Copy, Debug)]
+#[derive(Clone, Copy)]
 pub(crate) struct OpenLabel {
     /// How many values a branch to it takes along.
     pub(crate) arity: usize,
@@ -25,7 +25,7 @@ pub(crate) struct OpenLabel {
 }
 
 /// A function that runs, or that waits for what it called.
-#[derive(Debug, Drop)]
+#[derive(Drop)]
 pub(crate) struct Frame {
     /// The address of its instance.
     pub(crate) instance: usize,

@@ -21,7 +21,7 @@ use wasm_store::{FunctionInstance, OwnFunction, Store};
 const FRAME_LIMIT: usize = 512;
 
 /// What a call of a function made of the frames.
-#[derive(Debug, Drop)]
+#[derive(Drop)]
 pub(crate) enum Invoked {
     /// A function of an instance begins, in this frame.
     Began(Frame),

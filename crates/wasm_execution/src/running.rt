@@ -12,7 +12,7 @@ use std::marker::Model;
 pub type Words = Seq<u64>;
 
 /// The function that runs, and those that called it.
-#[derive(Debug, Drop)]
+#[derive(Drop)]
 pub(crate) struct Frames {
     /// The one that runs.
     pub(crate) top: Frame,
@@ -21,7 +21,7 @@ pub(crate) struct Frames {
 }
 
 /// What a stack consists of.
-#[derive(Debug, Drop)]
+#[derive(Drop)]
 pub(crate) enum State {
     /// Functions of instances.
     Active(Frames),
@@ -33,7 +33,6 @@ pub(crate) enum State {
 
 /// A stack that runs and has not ended (Core 2.0, section 4.2.14). It is spent by `run` or given up. Contracts see it as the
 /// stack of core_machine.
-#[derive(Debug)]
 pub struct Running {
     pub(crate) state: State,
 }
@@ -61,7 +60,6 @@ impl Running {
 
 /// A stack that waits for the words of a host function that it called. It is spent by `resume` or given up. Contracts see it as the
 /// stack of core_machine, and for how many words it waits.
-#[derive(Debug)]
 pub struct Suspended {
     pub(crate) state: State,
     pub(crate) count: usize,
@@ -88,7 +86,6 @@ impl Suspended {
 }
 
 /// What came of a run.
-#[derive(Debug)]
 pub enum Outcome {
     /// The stack ended with these words.
     Done(Words),

@@ -22,7 +22,7 @@ use wasm_module::{Instr, Op};
 use wasm_store::Store;
 
 /// What came of an instruction.
-#[derive(Clone, Copy, Debug)]
+#[derive(Clone, Copy)]
 pub(crate) enum Step {
     /// The function goes on.
     Goes,

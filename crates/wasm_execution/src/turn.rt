@@ -13,7 +13,7 @@ use core_machine::Trap;
 use wasm_store::Store;
 
 /// Why a function pauses.
-#[derive(Clone, Copy, Debug)]
+#[derive(Clone, Copy)]
 pub(crate) enum Pause {
     /// It has ended.
     Ended,

@@ -4,7 +4,7 @@ ghost use Rattle.std.specs.Prelude.{◌≡◌, ◌+◌, length};
 ghost use Rattle.wasm_memory.specs.Bytes.{is_inside};
 
 /// Bytes that a call asks for are not all inside the memory.
-#[derive(Clone, Copy, Debug, PartialEq, Eq)]
+#[derive(Clone, Copy)]
 pub struct OutOfBounds;
 
 /// Whether so many bytes from a place on are inside.

@@ -23,7 +23,7 @@ pub const MOST_PAGES: u32 = 1_024;
 
 /// A linear memory (Core 2.0, section 4.2.8), which contracts see as its bytes and its maximum of pages. It has at most 1,024
 /// pages, and at most its maximum.
-#[derive(Debug, Drop)]
+#[derive(Drop)]
 pub struct LinearMemory {
     bytes: Vec<u8>,
     max: Option<u32>,

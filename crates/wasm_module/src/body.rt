@@ -9,7 +9,7 @@ use std::marker::Model;
 
 /// A function's body (Core 2.0, section 2.4.9). Contracts see the expression, a tree, of which the code is the flat form:
 /// each instruction in file order, with `else` and `end` in their places, the body's own `end` last.
-#[derive(Debug, Drop)]
+#[derive(Drop)]
 pub struct Body {
     code: Vec<Op>,
 }

@@ -6,7 +6,7 @@ ghost use Rattle.wasm_module.specs.Reasons.{byte_why};
 use ca_base::{NumberReason, Reason, Refusal};
 
 /// Why the bytes of a module are refused (Core 2.0, section 5).
-#[derive(Clone, Copy, Debug, PartialEq, Eq)]
+#[derive(Clone, Copy, Debug)]
 pub enum ModuleWhy {
     /// The module ends within an item. The place is the module's end.
     Truncated,

@@ -8,7 +8,7 @@ use std::marker::Model;
 
 /// The type of a memory (Core 2.0, section 2.3.8): its limits in pages of 65,536 bytes, of which it has at most 1,024 from
 /// the start. Contracts see the limits.
-#[derive(Clone, Copy, Debug, PartialEq, Eq)]
+#[derive(Clone, Copy)]
 pub struct MemoryType {
     limits: Limits,
 }
@@ -47,7 +47,7 @@ impl MemoryType {
 
 /// The type of a table of references to functions (Core 2.0, section 2.3.9): its limits in entries, of which it has at most
 /// 65,536 from the start. Contracts see the limits.
-#[derive(Clone, Copy, Debug, PartialEq, Eq)]
+#[derive(Clone, Copy)]
 pub struct TableType {
     limits: Limits,
 }

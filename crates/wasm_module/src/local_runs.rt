@@ -10,7 +10,7 @@ use std::alloc::{AllocError, Global};
 use std::marker::Model;
 
 /// Declared locals of one type that stand side by side.
-#[derive(Clone, Copy, Debug, PartialEq, Eq)]
+#[derive(Clone, Copy)]
 pub(crate) struct Run {
     /// How many declared locals there are up to its end.
     pub end: usize,
@@ -19,7 +19,7 @@ pub(crate) struct Run {
 }
 
 /// The types of a function's parameters and of its locals behind them. Contracts see them one by one.
-#[derive(Drop, Debug)]
+#[derive(Drop)]
 pub struct LocalTypes<'a> {
     params: &'a [ValType],
     runs: Vec<Run>,

@@ -9,7 +9,7 @@ use std::alloc::{AllocError, Global};
 use std::marker::Model;
 
 /// The locals that a function declares: groups of one type, at most 50,000 locals in all. Contracts see the groups.
-#[derive(Debug, Drop)]
+#[derive(Drop)]
 pub struct DeclaredLocals {
     groups: Seq<Locals>,
 }

@@ -12,7 +12,7 @@ use ca_base::{Bytes, Name, Named, Seq};
 use std::marker::Model;
 
 /// What an import asks for (Core 2.0, section 2.5.11).
-#[derive(Clone, Copy, Debug, PartialEq, Eq)]
+#[derive(Clone, Copy)]
 pub enum ImportDesc {
     /// A function of the type of this index.
     Func(u32),
@@ -25,7 +25,7 @@ pub enum ImportDesc {
 }
 
 /// An import (Core 2.0, section 2.5.11).
-#[derive(Debug, Drop)]
+#[derive(Drop)]
 pub struct Import {
     /// The name of the module that it comes from.
     pub module: Name,
@@ -36,7 +36,7 @@ pub struct Import {
 }
 
 /// A function of a module (Core 2.0, section 2.5.3).
-#[derive(Debug, Drop)]
+#[derive(Drop)]
 pub struct Func {
     /// The index of its type among the module's types.
     pub type_index: u32,
@@ -47,7 +47,7 @@ pub struct Func {
 }
 
 /// A global of a module (Core 2.0, section 2.5.6).
-#[derive(Debug, Drop)]
+#[derive(Drop)]
 pub struct Global {
     /// Its type.
     pub global_type: GlobalType,
@@ -56,7 +56,7 @@ pub struct Global {
 }
 
 /// What an export offers, by its index (Core 2.0, section 2.5.10).
-#[derive(Clone, Copy, Debug, PartialEq, Eq)]
+#[derive(Clone, Copy, Debug)]
 pub enum ExportDesc {
     /// A function.
     Func(u32),
@@ -69,7 +69,7 @@ pub enum ExportDesc {
 }
 
 /// What a module offers under a name (Core 2.0, section 2.5.10).
-#[derive(Debug, Drop)]
+#[derive(Drop)]
 pub struct Export {
     /// The name.
     pub name: Name,
@@ -86,7 +86,7 @@ impl Named for Export {
 }
 
 /// An active segment of functions that are written into a table (Core 2.0, section 2.5.7).
-#[derive(Debug, Drop)]
+#[derive(Drop)]
 pub struct ElementSegment {
     /// The index of the table.
     pub table: u32,
@@ -97,7 +97,7 @@ pub struct ElementSegment {
 }
 
 /// An active segment of bytes that are written into a memory (Core 2.0, section 2.5.8).
-#[derive(Debug, Drop)]
+#[derive(Drop)]
 pub struct DataSegment {
     /// The index of the memory.
     pub memory: u32,
@@ -109,7 +109,7 @@ pub struct DataSegment {
 
 /// The tree of a module (Core 2.0, section 2.5). Its lists are in file order. An index of a function, a table, a memory or
 /// a global counts the imported ones first, and behind them those of these lists.
-#[derive(Debug, Drop)]
+#[derive(Drop)]
 pub struct ModuleTree {
     /// The types.
     pub types: Seq<FuncType>,
@@ -134,7 +134,7 @@ pub struct ModuleTree {
 }
 
 /// The places of a function.
-#[derive(Debug, Drop)]
+#[derive(Drop)]
 pub struct FuncPlaces {
     /// The first byte of its type's index in the function section.
     pub place: usize,
@@ -143,7 +143,7 @@ pub struct FuncPlaces {
 }
 
 /// The places of a global.
-#[derive(Debug, Drop)]
+#[derive(Drop)]
 pub struct GlobalPlaces {
     /// Its first byte: that of its type.
     pub place: usize,
@@ -152,7 +152,7 @@ pub struct GlobalPlaces {
 }
 
 /// The places of a segment of functions.
-#[derive(Debug, Drop)]
+#[derive(Drop)]
 pub struct ElementPlaces {
     /// Its first byte: that of its kind.
     pub place: usize,
@@ -163,7 +163,7 @@ pub struct ElementPlaces {
 }
 
 /// The places of a segment of bytes.
-#[derive(Debug, Drop)]
+#[derive(Drop)]
 pub struct DataPlaces {
     /// Its first byte: that of its kind.
     pub place: usize,
@@ -172,7 +172,7 @@ pub struct DataPlaces {
 }
 
 /// Where the parts of a module stand that a validation can refuse, as byte places counted from the file's start.
-#[derive(Debug, Drop)]
+#[derive(Drop)]
 pub struct ModulePlaces {
     /// The first byte of each import: that of its module name's length.
     pub imports: Seq<usize>,
@@ -195,7 +195,7 @@ pub struct ModulePlaces {
 }
 
 /// What a module is made of: its tree, and the places of the tree's parts.
-#[derive(Debug, Drop)]
+#[derive(Drop)]
 pub struct ModuleParts {
     /// The tree.
     pub tree: ModuleTree,
@@ -205,7 +205,7 @@ pub struct ModuleParts {
 
 /// A module, as read and not yet validated. Contracts see its tree and the places of the tree's parts, of which there is
 /// one for each part.
-#[derive(Debug, Drop)]
+#[derive(Drop)]
 pub struct Module {
     tree: ModuleTree,
     places: ModulePlaces,

@@ -10,7 +10,7 @@ use std::alloc::{AllocError, Global};
 use std::marker::Model;
 
 /// A module with its index spaces. Contracts see its tree.
-#[derive(Drop, Debug)]
+#[derive(Drop)]
 pub struct Space<'a> {
     tree: &'a ModuleTree,
     funcs: Vec<u32>,

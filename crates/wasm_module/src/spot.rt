@@ -7,7 +7,7 @@ ghost use Rattle.wasm_module.specs.Spots.{place_of};
 use crate::module::ModulePlaces;
 
 /// A part of a module that a validation can refuse. Parts are told by their numbers in the module's lists.
-#[derive(Clone, Copy, Debug, PartialEq, Eq)]
+#[derive(Clone, Copy, Debug)]
 pub enum Spot {
     /// An import.
     Import(usize),

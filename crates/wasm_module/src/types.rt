@@ -3,7 +3,7 @@
 use ca_base::Seq;
 
 /// The type of a value (Core 2.0, section 2.3.4).
-#[derive(Clone, Copy, Debug, PartialEq, Eq)]
+#[derive(Clone, Copy, Debug)]
 pub enum ValType {
     /// A 32-bit integer.
     I32,
@@ -12,7 +12,7 @@ pub enum ValType {
 }
 
 /// The type of a function (Core 2.0, section 2.3.6).
-#[derive(Debug, Drop)]
+#[derive(Drop)]
 pub struct FuncType {
     /// The types of its parameters, in order.
     pub params: Seq<ValType>,
@@ -21,7 +21,7 @@ pub struct FuncType {
 }
 
 /// How far a memory, in pages of 65,536 bytes, or a table, in entries, may grow (Core 2.0, section 2.3.7).
-#[derive(Clone, Copy, Debug, PartialEq, Eq)]
+#[derive(Clone, Copy)]
 pub struct Limits {
     /// What it has from the start.
     pub min: u32,
@@ -30,7 +30,7 @@ pub struct Limits {
 }
 
 /// Whether a global may be set (Core 2.0, section 2.3.10).
-#[derive(Clone, Copy, Debug, PartialEq, Eq)]
+#[derive(Clone, Copy)]
 pub enum Mutability {
     /// It keeps its value.
     Constant,
@@ -39,7 +39,7 @@ pub enum Mutability {
 }
 
 /// The type of a global (Core 2.0, section 2.3.10).
-#[derive(Clone, Copy, Debug, PartialEq, Eq)]
+#[derive(Clone, Copy)]
 pub struct GlobalType {
     /// The type of its value.
     pub val_type: ValType,
@@ -48,7 +48,7 @@ pub struct GlobalType {
 }
 
 /// Locals of one type that stand side by side (Core 2.0, section 5.5.13).
-#[derive(Clone, Copy, Debug, PartialEq, Eq)]
+#[derive(Clone, Copy)]
 pub struct Locals {
     /// How many there are.
     pub count: u32,

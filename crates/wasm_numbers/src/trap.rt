@@ -1,7 +1,7 @@
 //! Why a numeric instruction has no result.
 
 /// Why a numeric instruction traps (Core 2.0, section 4.3.2).
-#[derive(Clone, Copy, Debug, PartialEq, Eq)]
+#[derive(Clone, Copy, Debug)]
 pub enum NumberTrap {
     /// A division by 0, or the remainder of one.
     DivideByZero,

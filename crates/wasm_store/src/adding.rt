@@ -19,7 +19,7 @@ use wasm_module::FuncType;
 use wasm_valid::Valid;
 
 /// Why a module has no instance.
-#[derive(Clone, Copy, Debug, PartialEq, Eq)]
+#[derive(Clone, Copy, Debug)]
 pub enum AddFault {
     /// A segment does not fit into its table or memory. The segments before it stay written.
     SegmentBounds,

@@ -13,7 +13,7 @@ use wasm_code::Code;
 use wasm_module::{DeclaredLocals, FuncType, ValType, are_same};
 
 /// A function of an instance (Core 2.0, section 4.2.6).
-#[derive(Debug, Drop)]
+#[derive(Drop)]
 pub struct OwnFunction {
     /// The types of its module.
     pub types: Rc<Seq<FuncType>>,
@@ -28,7 +28,7 @@ pub struct OwnFunction {
 }
 
 /// A function of a store (Core 2.0, section 4.2.6).
-#[derive(Debug, Drop)]
+#[derive(Drop)]
 pub enum FunctionInstance {
     /// One of an instance.
     Own(OwnFunction),

@@ -8,7 +8,7 @@ use std::rc::Rc;
 use wasm_module::{FuncType, GlobalType};
 
 /// A table (Core 2.0, section 4.2.7).
-#[derive(Debug, Drop)]
+#[derive(Drop)]
 pub struct TableInstance {
     /// In each place nothing, or a function's address.
     pub entries: Vec<Option<usize>>,
@@ -17,7 +17,7 @@ pub struct TableInstance {
 }
 
 /// A global (Core 2.0, section 4.2.9).
-#[derive(Clone, Copy, Debug)]
+#[derive(Clone, Copy)]
 pub struct GlobalInstance {
     /// Its type.
     pub global_type: GlobalType,
@@ -26,7 +26,7 @@ pub struct GlobalInstance {
 }
 
 /// An instance of a module (Core 2.0, section 4.2.5): its types, and the addresses of what is in its index spaces.
-#[derive(Debug, Drop)]
+#[derive(Drop)]
 pub struct ModuleInstance {
     /// The module's types.
     pub types: Rc<Seq<FuncType>>,
@@ -41,7 +41,7 @@ pub struct ModuleInstance {
 }
 
 /// What an import brings: the address of something in the store (Core 2.0, section 4.2.13).
-#[derive(Clone, Copy, Debug, PartialEq, Eq)]
+#[derive(Clone, Copy)]
 pub enum External {
     /// A function.
     Func(usize),
@@ -54,7 +54,7 @@ pub enum External {
 }
 
 /// What may be imported (Core 2.0, section 2.5.11).
-#[derive(Clone, Copy, Debug, PartialEq, Eq)]
+#[derive(Clone, Copy)]
 pub(crate) enum Sort {
     Func,
     Table,

@@ -20,7 +20,7 @@ use wasm_memory::LinearMemory;
 use wasm_module::{Func, FuncType, MemoryType, ModuleTree, TableType};
 
 /// What a module brings to a store, in order.
-#[derive(Debug, Drop)]
+#[derive(Drop)]
 pub(crate) struct Parts {
     pub(crate) functions: Vec<FunctionInstance>,
     pub(crate) tables: Vec<TableInstance>,

@@ -14,7 +14,7 @@ use wasm_memory::LinearMemory;
 
 /// A store (Core 2.0, section 4.2.3), which is typed. Contracts see it as the functions, tables, memories, globals and
 /// instances that it has, each at its address.
-#[derive(Debug, Drop)]
+#[derive(Drop)]
 pub struct Store {
     pub(crate) functions: Vec<FunctionInstance>,
     pub(crate) tables: Vec<TableInstance>,

@@ -28,7 +28,7 @@ use script_reader::{Script, ScriptFault, ScriptWhy, read_script};
 use std::alloc::{AllocError, Global};
 
 /// What a call of the program answers.
-#[derive(Debug, Drop)]
+#[derive(Drop)]
 pub struct Answer {
     /// How it ends.
     pub status: Status,
@@ -39,7 +39,7 @@ pub struct Answer {
 }
 
 /// Why there is no answer.
-#[derive(Clone, Copy, Debug, PartialEq, Eq)]
+#[derive(Clone, Copy)]
 pub enum Stop {
     /// A file was not read.
     Fault,

@@ -8,7 +8,7 @@ use abi_machine::RunEnd;
 use std::process::ExitCode;
 
 /// How a call of the program ends.
-#[derive(Clone, Copy, Debug, PartialEq, Eq)]
+#[derive(Clone, Copy, Debug)]
 pub enum Status {
     /// The run is done.
     Done,
