@@ -1,17 +1,16 @@
 -- What texts are for the types that hold others.
-use Rattle.std.proofs.Common.{ℕ, ◌≡◌, ◌∙◌, List, ◌++◌, map, ap, sym, refl, Option, Some, None}
+use Rattle.std.proofs.Common.{◌≡◌, ◌∙◌, List, ◌++◌, map, ap, sym, refl, Option, Some, None}
 use Rattle.ca_types.specs.declared.types.ValType.{ValType}
 use Rattle.ca_types.specs.declared.types.Case.{Case}
 use Rattle.ca_types.specs.declared.types.Field.{Field}
 use Rattle.ca_types.specs.declared.types.ValType.TheViews as types
-use Rattle.ca_types.specs.declared.types.ValType.TheVariants as leaves
 use Rattle.ca_types.specs.declared.types.ValType.TheOpen as F
 use Rattle.ca_types.specs.declared.types.ValType.TheFolds.{fold-Case, fold-Field, fold-roll-ValType}
-use Rattle.ca_types.specs.declared.types.ValType.TheVariants.{rolls-Tuple, rolls-Record, rolls-Variant, rolls-Result, rolls-Stream, rolls-Future, rolls-List, rolls-Option, rolls-Flags, rolls-Enum, rolls-Own, rolls-Borrow}
+use Rattle.ca_types.specs.declared.types.ValType.TheVariants.{rolls-Tuple, rolls-Record, rolls-Variant, rolls-Result, rolls-Stream, rolls-Future, rolls-List, rolls-Option}
 use Rattle.ca_types.proofs.Folds.{held, fold_case, fold_field, fold_result, fold_stream, fold_future}
 use Rattle.ca_types.proofs.Parts.{map_alike}
 use Rattle.std.specs.Prelude.{codes}
-use Rattle.ca_types.specs.TypeText.{Chars, type_text, text_step, text_case, text_field, field_text, case_text, held_text, listed, labelled, part_text, ended, resource_text}
+use Rattle.ca_types.specs.TypeText.{Chars, type_text, text_step, text_case, text_field, field_text, case_text, held_text, listed, labelled, part_text, ended}
 
 pub text_of_tuple : (parts : List ValType) → type_text (types.Tuple parts) ≡ codes "tuple<" ++ listed (map type_text parts) ++ codes ">"
 text_of_tuple parts =
@@ -68,23 +67,3 @@ pub text_of_option : (e : ValType) → type_text (types.Option e) ≡ codes "opt
 text_of_option e =
     ap type_text (sym (rolls-Option e))
     ∙ fold-roll-ValType Chars Chars Chars text_step text_case text_field (F.Option e)
-
-pub text_of_flags : (ls : List Chars) → type_text (leaves.Flags ls) ≡ codes "flags" ++ (codes "{" ++ listed ls ++ codes "}")
-text_of_flags ls =
-    ap type_text (sym (rolls-Flags ls))
-    ∙ fold-roll-ValType Chars Chars Chars text_step text_case text_field (F.Flags ls)
-
-pub text_of_enum : (ls : List Chars) → type_text (leaves.Enum ls) ≡ codes "enum" ++ (codes "{" ++ listed ls ++ codes "}")
-text_of_enum ls =
-    ap type_text (sym (rolls-Enum ls))
-    ∙ fold-roll-ValType Chars Chars Chars text_step text_case text_field (F.Enum ls)
-
-pub text_of_own : (r : ℕ) → type_text (leaves.Own r) ≡ codes "own" ++ resource_text r
-text_of_own r =
-    ap type_text (sym (rolls-Own r))
-    ∙ fold-roll-ValType Chars Chars Chars text_step text_case text_field (F.Own r)
-
-pub text_of_borrow : (r : ℕ) → type_text (leaves.Borrow r) ≡ codes "borrow" ++ resource_text r
-text_of_borrow r =
-    ap type_text (sym (rolls-Borrow r))
-    ∙ fold-roll-ValType Chars Chars Chars text_step text_case text_field (F.Borrow r)

@@ -5,5 +5,6 @@ pub mod Flat
 pub mod Fits
 pub mod CharText
 pub mod TypeText
+pub mod LeafText
 pub mod ValueText
 pub mod formers

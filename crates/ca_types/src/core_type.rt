@@ -3,7 +3,7 @@
 use ca_base::Seq;
 
 /// The type of a core value (Core 2.0, section 2.3.1).
-#[derive(Clone, Copy, Debug, PartialEq, Eq)]
+#[derive(Clone, Copy)]
 pub enum CoreType {
     /// A 32-bit integer.
     I32,
@@ -15,7 +15,7 @@ pub enum CoreType {
 pub type CoreTypes = Seq<CoreType>;
 
 /// The type of a core function (Core 2.0, section 2.3.6).
-#[derive(Debug, Drop)]
+#[derive(Drop)]
 pub struct CoreFunc {
     /// The types of its parameters, in order.
     pub params: CoreTypes,
@@ -25,7 +25,7 @@ pub struct CoreFunc {
 
 /// The five ways in which a core function and a function stand for each other (Component Model, CanonicalABI.md,
 /// "Flattening": `flatten_functype`).
-#[derive(Clone, Copy, Debug, PartialEq, Eq)]
+#[derive(Clone, Copy)]
 pub enum FlatKind {
     /// A core function is lifted, and its caller waits for it.
     SyncLift,

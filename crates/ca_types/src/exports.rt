@@ -4,7 +4,7 @@ use crate::types::FuncType;
 use ca_base::{Name, Named, Seq};
 
 /// A function that a component exports.
-#[derive(Debug, Drop)]
+#[derive(Drop)]
 pub struct Export {
     /// The name under which it is called.
     pub name: Name,

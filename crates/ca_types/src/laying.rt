@@ -7,7 +7,7 @@ ghost use Rattle.ca_types.specs.Layout.{aligned};
 const MOST: u128 = 1 << 64;
 
 /// How values of a type lie in memory.
-#[derive(Clone, Copy, Debug)]
+#[derive(Clone, Copy)]
 pub struct Laying {
     /// How many bytes a value takes, or `MOST` where it takes more.
     pub size: u128,

@@ -7,7 +7,7 @@ use std::marker::Model;
 use std::rc::Rc;
 
 /// A value that several owners share. Contracts see the value. It may stand in a type that holds itself.
-#[derive(Debug, Drop)]
+#[derive(Drop)]
 pub struct Shared<T> {
     inner: Rc<T>,
 }

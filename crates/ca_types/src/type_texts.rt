@@ -1,6 +1,8 @@
 //! The texts of types (after Component Model, WIT.md, "Types").
 
 ghost use Rattle.std.specs.Prelude.{◌≡◌, ◌++◌, OnOk, IfOk, codes, map};
+ghost use Rattle.ca_types.specs.declared.types.ValType.{out-ValType};
+ghost use Rattle.ca_types.specs.LeafText.{primitive_text, leaf_text};
 ghost use Rattle.ca_types.specs.TypeText.{type_text, field_text, case_text, listed, held_text, part_text, ended, resource_text};
 
 use crate::pieces::{Labels, push_name, push_number, push_word};
@@ -134,92 +136,152 @@ fn push_resource(alloc: Global, resource: u32, to: &mut Vec<u8>) -> Result<(), M
     Ok(())
 }
 
+/// The name of a type that has neither parts nor labels. Of any other type it is empty.
+fn primitive_name(val_type: &ValType) -> &'static [u8]
+    ensures { result.now ≡ primitive_text (out-ValType val_type.now) }
+{
+    match val_type {
+        ValType::Bool => b"bool",
+        ValType::S8 => b"s8",
+        ValType::U8 => b"u8",
+        ValType::S16 => b"s16",
+        ValType::U16 => b"u16",
+        ValType::S32 => b"s32",
+        ValType::U32 => b"u32",
+        ValType::S64 => b"s64",
+        ValType::U64 => b"u64",
+        ValType::Char => b"char",
+        ValType::String => b"string",
+        _ => b"",
+    }
+}
+
+/// Appends a word, and labels between braces.
+fn push_labelled(
+    alloc: Global,
+    word: &[u8],
+    labels: &Seq<Name>,
+    to: &mut Vec<u8>,
+) -> Result<(), Memory>
+    ensures { OnOk result (to.new.items ≡ to.old.items ++ (word.now ++ (codes "{" ++ listed labels.now ++ codes "}"))) }
+{
+    push_word(word, to)?;
+    push_labels(alloc, labels.as_slice(), to)
+}
+
+/// Appends a word, and the number of a resource's type in angle brackets.
+fn push_handle(alloc: Global, word: &[u8], resource: u32, to: &mut Vec<u8>) -> Result<(), Memory>
+    ensures { OnOk result (to.new.items ≡ to.old.items ++ (word.now ++ resource_text resource)) }
+{
+    push_word(word, to)?;
+    push_resource(alloc, resource, to)
+}
+
+/// Appends the text of a type that has no parts. Of any other type it appends nothing.
+fn push_leaf(alloc: Global, val_type: &ValType, to: &mut Vec<u8>) -> Result<(), Memory>
+    ensures { OnOk result (to.new.items ≡ to.old.items ++ leaf_text (out-ValType val_type.now)) }
+{
+    match val_type {
+        ValType::Flags(labels) => push_labelled(alloc, b"flags", labels, to),
+        ValType::Enum(labels) => push_labelled(alloc, b"enum", labels, to),
+        ValType::Own(resource) => push_handle(alloc, b"own", *resource, to),
+        ValType::Borrow(resource) => push_handle(alloc, b"borrow", *resource, to),
+        _ => push_word(primitive_name(val_type), to),
+    }
+}
+
+/// Appends the text of a record with these fields.
+#[cycle(type_text)]
+fn push_record(alloc: Global, fields: &Seq<Field>, to: &mut Vec<u8>) -> Result<(), Memory>
+    ensures { OnOk result (to.new.items ≡ to.old.items ++ (codes "record{" ++ listed (map field_text fields.now) ++ codes "}")) }
+{
+    push_word(b"record{", to)?;
+    push_fields(alloc, fields.as_slice(), to)?;
+    push_word(b"}", to)
+}
+
+/// Appends the text of a variant with these cases.
+#[cycle(type_text)]
+fn push_variant(alloc: Global, cases: &Seq<Case>, to: &mut Vec<u8>) -> Result<(), Memory>
+    ensures { OnOk result (to.new.items ≡ to.old.items ++ (codes "variant{" ++ listed (map case_text cases.now) ++ codes "}")) }
+{
+    push_word(b"variant{", to)?;
+    push_cases(alloc, cases.as_slice(), to)?;
+    push_word(b"}", to)
+}
+
+/// Appends the text of a tuple of these types.
+#[cycle(type_text)]
+fn push_tuple(alloc: Global, parts: &Seq<Shared<ValType>>, to: &mut Vec<u8>) -> Result<(), Memory>
+    ensures { OnOk result (to.new.items ≡ to.old.items ++ (codes "tuple<" ++ listed (map type_text parts.now) ++ codes ">")) }
+{
+    push_word(b"tuple<", to)?;
+    push_parts(alloc, parts.as_slice(), to)?;
+    push_word(b">", to)
+}
+
+/// Appends a word, and a type behind it up to the closing bracket.
+#[cycle(type_text)]
+fn push_around(alloc: Global, word: &[u8], part: &ValType, to: &mut Vec<u8>) -> Result<(), Memory>
+    ensures { OnOk result (to.new.items ≡ to.old.items ++ (word.now ++ type_text part.now ++ codes ">")) }
+{
+    push_word(word, to)?;
+    push_type(alloc, part, to)?;
+    push_word(b">", to)
+}
+
+/// Appends the text of a result up to the type of its failure.
+#[cycle(type_text)]
+fn push_ok(alloc: Global, ok: &Option<Shared<ValType>>, to: &mut Vec<u8>) -> Result<(), Memory>
+    ensures { OnOk result (to.new.items ≡ to.old.items ++ (codes "result<" ++ part_text (held_text ok.now) ++ codes ", ")) }
+{
+    push_word(b"result<", to)?;
+    push_part(alloc, ok, to)?;
+    push_word(b", ", to)
+}
+
+/// Appends the text of a result from the type of its failure on.
+#[cycle(type_text)]
+fn push_err(alloc: Global, err: &Option<Shared<ValType>>, to: &mut Vec<u8>) -> Result<(), Memory>
+    ensures { OnOk result (to.new.items ≡ to.old.items ++ (part_text (held_text err.now) ++ codes ">")) }
+{
+    push_part(alloc, err, to)?;
+    push_word(b">", to)
+}
+
+/// Appends a word, and the type of elements in angle brackets where there is one.
+#[cycle(type_text)]
+fn push_end(
+    alloc: Global,
+    word: &[u8],
+    element: &Option<Shared<ValType>>,
+    to: &mut Vec<u8>,
+) -> Result<(), Memory>
+    ensures { OnOk result (to.new.items ≡ to.old.items ++ (word.now ++ ended (held_text element.now))) }
+{
+    push_word(word, to)?;
+    push_element(alloc, element, to)
+}
+
 /// Appends the text of a type.
 #[cycle(type_text)]
-#[tactic(auto, using(crate::proofs::TextEquations::text_of_tuple, crate::proofs::TextEquations::text_of_record, crate::proofs::TextEquations::text_of_variant, crate::proofs::TextEquations::text_of_result, crate::proofs::TextEquations::text_of_stream, crate::proofs::TextEquations::text_of_future))]
+#[tactic(auto, using(crate::proofs::TextEquations::text_of_record, crate::proofs::TextEquations::text_of_variant, crate::proofs::TextEquations::text_of_tuple, crate::proofs::TextEquations::text_of_result, crate::proofs::TextEquations::text_of_list, crate::proofs::TextEquations::text_of_option, crate::proofs::TextEquations::text_of_stream, crate::proofs::TextEquations::text_of_future))]
 fn push_type(alloc: Global, val_type: &ValType, to: &mut Vec<u8>) -> Result<(), Memory>
     ensures { OnOk result (to.new.items ≡ to.old.items ++ type_text val_type.now) }
 {
     match val_type {
-        ValType::Bool => push_word(b"bool", to),
-        ValType::S8 => push_word(b"s8", to),
-        ValType::U8 => push_word(b"u8", to),
-        ValType::S16 => push_word(b"s16", to),
-        ValType::U16 => push_word(b"u16", to),
-        ValType::S32 => push_word(b"s32", to),
-        ValType::U32 => push_word(b"u32", to),
-        ValType::S64 => push_word(b"s64", to),
-        ValType::U64 => push_word(b"u64", to),
-        ValType::Char => push_word(b"char", to),
-        ValType::String => push_word(b"string", to),
-        ValType::Record(fields) => {
-            to.extend_from_slice(b"record{")?;
-            push_fields(alloc, fields.as_slice(), to)?;
-            push_word(b"}", to)?;
-            Ok(())
-        }
-        ValType::Variant(cases) => {
-            to.extend_from_slice(b"variant{")?;
-            push_cases(alloc, cases.as_slice(), to)?;
-            push_word(b"}", to)?;
-            Ok(())
-        }
-        ValType::List(element) => {
-            to.extend_from_slice(b"list<")?;
-            push_type(alloc, element.get(), to)?;
-            push_word(b">", to)?;
-            Ok(())
-        }
-        ValType::Tuple(parts) => {
-            to.extend_from_slice(b"tuple<")?;
-            push_parts(alloc, parts.as_slice(), to)?;
-            push_word(b">", to)?;
-            Ok(())
-        }
-        ValType::Flags(labels) => {
-            to.extend_from_slice(b"flags")?;
-            push_labels(alloc, labels.as_slice(), to)?;
-            Ok(())
-        }
-        ValType::Enum(labels) => {
-            to.extend_from_slice(b"enum")?;
-            push_labels(alloc, labels.as_slice(), to)?;
-            Ok(())
-        }
-        ValType::Option(part) => {
-            to.extend_from_slice(b"option<")?;
-            push_type(alloc, part.get(), to)?;
-            push_word(b">", to)?;
-            Ok(())
-        }
+        ValType::Record(fields) => push_record(alloc, fields, to),
+        ValType::Variant(cases) => push_variant(alloc, cases, to),
+        ValType::List(element) => push_around(alloc, b"list<", element.get(), to),
+        ValType::Tuple(parts) => push_tuple(alloc, parts, to),
+        ValType::Option(part) => push_around(alloc, b"option<", part.get(), to),
         ValType::Result { ok, err } => {
-            to.extend_from_slice(b"result<")?;
-            push_part(alloc, ok, to)?;
-            to.extend_from_slice(b", ")?;
-            push_part(alloc, err, to)?;
-            push_word(b">", to)?;
-            Ok(())
+            push_ok(alloc, ok, to)?;
+            push_err(alloc, err, to)
         }
-        ValType::Own(resource) => {
-            to.extend_from_slice(b"own")?;
-            push_resource(alloc, *resource, to)?;
-            Ok(())
-        }
-        ValType::Borrow(resource) => {
-            to.extend_from_slice(b"borrow")?;
-            push_resource(alloc, *resource, to)?;
-            Ok(())
-        }
-        ValType::Stream(element) => {
-            to.extend_from_slice(b"stream")?;
-            push_element(alloc, element, to)?;
-            Ok(())
-        }
-        ValType::Future(element) => {
-            to.extend_from_slice(b"future")?;
-            push_element(alloc, element, to)?;
-            Ok(())
-        }
+        ValType::Stream(element) => push_end(alloc, b"stream", element, to),
+        ValType::Future(element) => push_end(alloc, b"future", element, to),
+        _ => push_leaf(alloc, val_type, to),
     }
 }
 

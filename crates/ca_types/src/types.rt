@@ -7,7 +7,7 @@ use ca_base::{Name, Seq};
 ///
 /// A type holds its parts behind a `Shared`, so types that have a part in common share its memory.
 #[cycle(types)]
-#[derive(Debug, Drop)]
+#[derive(Drop)]
 pub enum ValType {
     /// A truth value.
     Bool,
@@ -64,7 +64,7 @@ pub enum ValType {
 
 /// A field of a record.
 #[cycle(types)]
-#[derive(Debug, Drop)]
+#[derive(Drop)]
 pub struct Field {
     /// Its label.
     pub label: Name,
@@ -74,7 +74,7 @@ pub struct Field {
 
 /// A case of a variant.
 #[cycle(types)]
-#[derive(Debug, Drop)]
+#[derive(Drop)]
 pub struct Case {
     /// Its label.
     pub label: Name,
@@ -83,7 +83,7 @@ pub struct Case {
 }
 
 /// A parameter of a function.
-#[derive(Debug, Drop)]
+#[derive(Drop)]
 pub struct Param {
     /// The label under which it is passed.
     pub label: Name,
@@ -92,7 +92,7 @@ pub struct Param {
 }
 
 /// The type of a function (Component Model, Explainer.md, "Type Definitions": `functype`).
-#[derive(Debug, Drop)]
+#[derive(Drop)]
 pub struct FuncType {
     /// Its parameters, in order.
     pub params: Seq<Param>,

@@ -5,7 +5,7 @@ use ca_base::{Name, Seq};
 
 /// A value of a component. A tuple is the record of its places, and an enum, an option and a result are variants
 /// (Component Model, CanonicalABI.md, "Despecialization").
-#[derive(Debug, Drop)]
+#[derive(Drop)]
 pub enum Value {
     /// A truth value.
     Bool(bool),
@@ -49,7 +49,7 @@ pub enum Value {
 }
 
 /// What a handle refers to.
-#[derive(Clone, Copy, Debug, PartialEq, Eq)]
+#[derive(Clone, Copy)]
 pub struct Handle {
     /// The number of the resource's type.
     pub resource: u32,

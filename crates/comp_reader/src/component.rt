@@ -4,7 +4,7 @@ use ca_base::{Name, Named, Placed, Seq};
 use wasm_valid::Valid;
 
 /// A sort of what a core instance can export (Component Model, Binary.md, `core:sort`).
-#[derive(Clone, Copy, Debug, PartialEq, Eq)]
+#[derive(Clone, Copy, Debug)]
 pub enum CoreSort {
     /// A function.
     Func,
@@ -21,7 +21,7 @@ pub enum CoreSort {
 }
 
 /// A sort of definitions, each of which has an index space of its own (Component Model, Binary.md, `sort`).
-#[derive(Clone, Copy, Debug, PartialEq, Eq)]
+#[derive(Clone, Copy, Debug)]
 pub enum Sort {
     /// A core sort.
     Core(CoreSort),
@@ -37,7 +37,7 @@ pub enum Sort {
 
 /// An argument of a core module (Component Model, Binary.md, `core:instantiatearg`): a core instance, whose exports the
 /// module imports under this name.
-#[derive(Debug, Drop)]
+#[derive(Drop)]
 pub struct CoreArgument {
     /// The name of the module that is imported from.
     pub name: Name,
@@ -54,7 +54,7 @@ impl Named for CoreArgument {
 }
 
 /// An export of a core instance that is made of its exports (Component Model, Binary.md, `core:inlineexport`).
-#[derive(Debug, Drop)]
+#[derive(Drop)]
 pub struct CoreInlineExport {
     /// The name.
     pub name: Name,
@@ -73,7 +73,7 @@ impl Named for CoreInlineExport {
 }
 
 /// What makes a core instance (Component Model, Binary.md, `core:instanceexpr`).
-#[derive(Debug, Drop)]
+#[derive(Drop)]
 pub enum CoreInstance {
     /// The instantiation of a core module.
     Instantiate {
@@ -88,7 +88,7 @@ pub enum CoreInstance {
 
 /// A definition under a name: an argument of a component, or an export of an instance that is made of its exports
 /// (Component Model, Binary.md, `instantiatearg`, `inlineexport`).
-#[derive(Debug, Drop)]
+#[derive(Drop)]
 pub struct NamedDefinition {
     /// The name.
     pub name: Name,
@@ -107,7 +107,7 @@ impl Named for NamedDefinition {
 }
 
 /// What makes an instance (Component Model, Binary.md, `instanceexpr`).
-#[derive(Debug, Drop)]
+#[derive(Drop)]
 pub enum Instance {
     /// The instantiation of a component.
     Instantiate {
@@ -121,7 +121,7 @@ pub enum Instance {
 }
 
 /// Where the definition stands that an alias names (Component Model, Binary.md, `aliastarget`).
-#[derive(Debug, Drop)]
+#[derive(Drop)]
 pub enum AliasTarget {
     /// An export of an instance.
     InstanceExport {
@@ -147,7 +147,7 @@ pub enum AliasTarget {
 }
 
 /// Another index of a definition (Component Model, Binary.md, `alias`). An outer alias is of a type or a component.
-#[derive(Debug, Drop)]
+#[derive(Drop)]
 pub struct Alias {
     /// The sort of the definition.
     pub sort: Sort,
@@ -156,14 +156,14 @@ pub struct Alias {
 }
 
 /// A primitive type (Component Model, Binary.md, `primvaltype`), as far as it is read.
-#[derive(Clone, Copy, Debug, PartialEq, Eq)]
+#[derive(Clone, Copy, Debug)]
 pub enum PrimValType {
     /// An unsigned 32-bit integer.
     U32,
 }
 
 /// A value type as it is written (Component Model, Binary.md, `valtype`).
-#[derive(Clone, Copy, Debug, PartialEq, Eq)]
+#[derive(Clone, Copy)]
 pub enum ValTypeRef {
     /// A primitive type.
     Primitive(PrimValType),
@@ -172,7 +172,7 @@ pub enum ValTypeRef {
 }
 
 /// A parameter of a function type as it is written.
-#[derive(Debug, Drop)]
+#[derive(Drop)]
 pub struct Param {
     /// The label under which it is passed.
     pub label: Name,
@@ -189,7 +189,7 @@ impl Named for Param {
 }
 
 /// A function type as it is written (Component Model, Binary.md, `functype`).
-#[derive(Debug, Drop)]
+#[derive(Drop)]
 pub struct FuncType {
     /// Its parameters, in order.
     pub params: Seq<Param>,
@@ -198,7 +198,7 @@ pub struct FuncType {
 }
 
 /// What an import or an export is asked to be (Component Model, Binary.md, `externdesc`).
-#[derive(Clone, Copy, Debug, PartialEq, Eq)]
+#[derive(Clone, Copy, Debug)]
 pub enum ExternDesc {
     /// A function of the type of this index.
     Func(u32),
@@ -210,7 +210,7 @@ pub enum ExternDesc {
 
 /// A type that is defined (Component Model, Binary.md, `deftype`).
 #[cycle(def_types)]
-#[derive(Debug, Drop)]
+#[derive(Drop)]
 pub enum DefType {
     /// A primitive type.
     Value(PrimValType),
@@ -223,7 +223,7 @@ pub enum DefType {
 /// A declaration of an instance type (Component Model, Binary.md, `instancedecl`). It adds an index to a space of the
 /// instance type.
 #[cycle(def_types)]
-#[derive(Debug, Drop)]
+#[derive(Drop)]
 pub enum InstanceDecl {
     /// A type.
     Type(DefType),
@@ -239,7 +239,7 @@ pub enum InstanceDecl {
 }
 
 /// A function that the Canonical ABI makes (Component Model, Binary.md, `canon`).
-#[derive(Clone, Copy, Debug, PartialEq, Eq)]
+#[derive(Clone, Copy)]
 pub enum Canon {
     /// The lift of a core function to a function, without options.
     Lift {
@@ -251,7 +251,7 @@ pub enum Canon {
 }
 
 /// A definition that the component wants as an argument (Component Model, Binary.md, `import`).
-#[derive(Debug, Drop)]
+#[derive(Drop)]
 pub struct Import {
     /// The name.
     pub name: Name,
@@ -261,7 +261,7 @@ pub struct Import {
 
 /// A definition that the component's instances export (Component Model, Binary.md, `export`). The export is a definition
 /// of its own, with an index behind those of its sort.
-#[derive(Debug, Drop)]
+#[derive(Drop)]
 pub struct Export {
     /// The name.
     pub name: Name,
@@ -275,7 +275,7 @@ pub struct Export {
 
 /// An item of a component. Each one adds an index to the space of its sort. Custom sections are no items.
 #[cycle(components)]
-#[derive(Debug, Drop)]
+#[derive(Drop)]
 pub enum Item {
     /// A core module, which is valid.
     CoreModule(Valid),
@@ -299,7 +299,7 @@ pub enum Item {
 
 /// A component: its items, in file order, each with the place of its first byte.
 #[cycle(components)]
-#[derive(Debug, Drop)]
+#[derive(Drop)]
 pub struct Component {
     /// The items, in file order.
     pub items: Seq<Placed<Item>>,

@@ -1,7 +1,6 @@
 //! Types, and the instance types that hold others.
 //!
-//! Instance types hold others up to a depth that is bounded, so these readers call one another. How many more may be opened is
-//! passed on.
+//! Instance types hold others up to a bounded depth, so these readers call one another; how many more may be opened is passed on.
 
 ghost use Rattle.ca_base.specs.Grammar.{MayRead, times};
 ghost use Rattle.comp_reader.specs.Binary.{def_type, instance_type, declarations, instance_decl};

@@ -8,7 +8,7 @@ use wasm_module::ModuleWhy;
 use wasm_valid::ValidWhy;
 
 /// Why the bytes of a component are refused (Component Model, Binary.md).
-#[derive(Clone, Copy, Debug, PartialEq, Eq)]
+#[derive(Clone, Copy, Debug)]
 pub enum ComponentWhy {
     /// The file ends within an item. The place is the file's end.
     Truncated,

@@ -1,8 +1,7 @@
 //! Components, and the reader of their binary format.
 //!
-//! The layer above takes a component as read. `read_component` answers it exactly for the bytes of a component, and else
-//! the first place at which they leave the format, with the reason. Each core module is read and validated where it
-//! stands. Only want of memory keeps it from either.
+//! `read_component` answers a component exactly for its bytes, and else the first place at which they leave the format, with the
+//! reason. Each core module is read and validated where it stands. Only want of memory keeps it from either.
 //!
 //! - `component`: components and their items
 //! - `reading`: the reading of a whole component

@@ -1,7 +1,6 @@
 //! The sections of a component, by their ids, and components that hold others.
 //!
-//! Components hold others up to a depth that is bounded, so these readers call one another. How many more may be opened is
-//! passed on.
+//! Components hold others up to a bounded depth, so these readers call one another; how many more may be opened is passed on.
 
 ghost use Rattle.std.specs.Prelude.{◌≡◌};
 ghost use Rattle.ca_base.specs.Grammar.{MayRead};

@@ -5,3 +5,4 @@ pub mod Instrs
 pub mod Items
 pub mod Laws
 pub mod Parts
+pub mod Together

@@ -8,7 +8,7 @@ use wasm_module::{
 };
 
 /// A function as the function section declares it.
-#[derive(Clone, Copy, Debug, PartialEq, Eq)]
+#[derive(Clone, Copy)]
 pub(crate) struct DeclaredFunc {
     /// The index of its type.
     pub type_index: u32,
@@ -17,21 +17,21 @@ pub(crate) struct DeclaredFunc {
 }
 
 /// A body, and the place of each of its operations.
-#[derive(Debug, Drop)]
+#[derive(Drop)]
 pub(crate) struct PlacedBody {
     pub body: Body,
     pub ops: Seq<usize>,
 }
 
 /// A constant expression without its end, and the place of each instruction and of the end.
-#[derive(Debug, Drop)]
+#[derive(Drop)]
 pub(crate) struct PlacedConst {
     pub instrs: Seq<ConstInstr>,
     pub places: Seq<usize>,
 }
 
 /// What the sections of types, imports and functions declare.
-#[derive(Debug, Drop)]
+#[derive(Drop)]
 pub(crate) struct Declarations {
     pub types: Seq<FuncType>,
     pub imports: Seq<Placed<Import>>,
@@ -39,7 +39,7 @@ pub(crate) struct Declarations {
 }
 
 /// What the sections of tables, memories and globals define.
-#[derive(Debug, Drop)]
+#[derive(Drop)]
 pub(crate) struct Definitions {
     pub tables: Seq<Placed<TableType>>,
     pub memories: Seq<Placed<MemoryType>>,
@@ -47,7 +47,7 @@ pub(crate) struct Definitions {
 }
 
 /// What the sections of exports, of the start and of elements tell.
-#[derive(Debug, Drop)]
+#[derive(Drop)]
 pub(crate) struct Uses {
     pub exports: Seq<Placed<Export>>,
     pub start: Option<Placed<u32>>,
@@ -55,7 +55,7 @@ pub(crate) struct Uses {
 }
 
 /// What the sections of code and of data hold.
-#[derive(Debug, Drop)]
+#[derive(Drop)]
 pub(crate) struct Contents {
     pub funcs: Seq<Parted<Func, FuncPlaces>>,
     pub data_segments: Seq<Parted<DataSegment, DataPlaces>>,

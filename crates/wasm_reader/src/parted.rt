@@ -6,7 +6,7 @@ use ca_base::Seq;
 use std::alloc::{AllocError, Global};
 
 /// A part of a module, and its places.
-#[derive(Debug, Drop)]
+#[derive(Drop)]
 pub(crate) struct Parted<T, P> {
     pub part: T,
     pub places: P,

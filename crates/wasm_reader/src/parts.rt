@@ -7,7 +7,7 @@ ghost use Rattle.wasm_reader.specs.Parts.{may_else, Leaves};
 const ELSE: u8 = 0x05;
 
 /// A part of a body that is being read.
-#[derive(Clone, Copy, Debug, PartialEq, Eq)]
+#[derive(Clone, Copy)]
 pub(crate) enum Part {
     /// The first part of an `if`, which `else` may end.
     First,

@@ -178,7 +178,7 @@ fn differs_from(counted: Option<u32>, number: u32) -> bool
 }
 
 /// What the data count tells, where there is one.
-#[derive(Clone, Copy, Debug, PartialEq, Eq)]
+#[derive(Clone, Copy)]
 pub(crate) struct DataCount {
     pub told: Option<u32>,
 }

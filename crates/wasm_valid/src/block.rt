@@ -6,7 +6,7 @@ ghost use Rattle.wasm_valid.specs.Faults.{label_in};
 use wasm_module::{BlockType, FuncType, ValType};
 
 /// What a block is, as far as its label and its end tell.
-#[derive(Clone, Copy, Debug, PartialEq, Eq)]
+#[derive(Clone, Copy)]
 pub(crate) enum Part {
     /// A block, a function's body, or the second part of an `if`.
     Block,
@@ -17,7 +17,7 @@ pub(crate) enum Part {
 }
 
 /// An open block.
-#[derive(Clone, Copy, Debug, PartialEq, Eq)]
+#[derive(Clone, Copy)]
 pub(crate) struct OpenBlock {
     /// What it is.
     pub part: Part,

@@ -13,7 +13,7 @@ use std::alloc::AllocError;
 use wasm_module::{BlockType, Op, ValType, are_same};
 
 /// What an item of flat code leads to.
-#[derive(Clone, Copy, Debug, PartialEq, Eq)]
+#[derive(Clone, Copy)]
 pub(crate) enum Stepped {
     /// The rules don't get past it.
     Stops,

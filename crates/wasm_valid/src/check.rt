@@ -19,10 +19,10 @@ use std::alloc::Global;
 use wasm_module::{Module, ModuleParts, ModuleTree, Space};
 
 /// Looks for the first fault of a module, section by section.
-fn check_module(alloc: Global, tree: &ModuleTree) -> Result<(), MemoryOr<Fault>>
-    ensures { MayFind (first_fault tree.now) result }
+fn check_items(alloc: Global, space: &Space) -> Result<(), MemoryOr<Fault>>
+    ensures { MayFind (first_fault space.now) result }
 {
-    let space = &Space::of(alloc, tree)?;
+    let tree = space.tree();
     check_all(alloc, &ImportRule { space }, tree.imports.as_slice())?;
     check_all(alloc, &TypeRule { space }, tree.funcs.as_slice())?;
     check_all(alloc, &TableRule { space }, tree.tables.as_slice())?;
@@ -40,6 +40,14 @@ fn check_module(alloc: Global, tree: &ModuleTree) -> Result<(), MemoryOr<Fault>>
     Ok(())
 }
 
+/// Looks for the first fault of a module, over its index spaces.
+fn check_module(alloc: Global, tree: &ModuleTree) -> Result<(), MemoryOr<Fault>>
+    ensures { MayFind (first_fault tree.now) result }
+{
+    let space = Space::of(alloc, tree)?;
+    check_items(alloc, &space)
+}
+
 /// The module as a valid one, or its first fault. `Memory` is want of memory, or a first fault in the body of a function
 /// whose number is 2^32 or more.
 pub fn validate(alloc: Global, read: Module) -> Result<Valid, MemoryOr<ValidFault>>
@@ -54,8 +62,18 @@ pub fn validate(alloc: Global, read: Module) -> Result<Valid, MemoryOr<ValidFaul
 {
     let ModuleParts { tree, places } = read.into_parts();
     match check_module(alloc, &tree) {
-        Ok(()) => Ok(Valid::from_typed(tree)),
-        Err(MemoryOr::Memory) => Err(MemoryOr::Memory),
-        Err(MemoryOr::Fault(fault)) => Err(told(&places, fault)),
+        Ok(()) => {
+            drop(places);
+            Ok(Valid::from_typed(tree))
+        }
+        Err(MemoryOr::Memory) => {
+            drop(ModuleParts { tree, places });
+            Err(MemoryOr::Memory)
+        }
+        Err(MemoryOr::Fault(fault)) => {
+            let found = told(&places, fault);
+            drop(ModuleParts { tree, places });
+            Err(found)
+        }
     }
 }

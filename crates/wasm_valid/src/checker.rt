@@ -15,7 +15,7 @@ use std::marker::Model;
 use wasm_module::{BlockType, ValType};
 
 /// What is known of the operands of open blocks. An operand of which no type is known may have any.
-#[derive(Drop, Debug)]
+#[derive(Drop)]
 pub(crate) struct Checker {
     top: OpenBlock,
     around: Vec<OpenBlock>,

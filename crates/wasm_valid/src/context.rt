@@ -13,7 +13,7 @@ use std::marker::Model;
 use wasm_module::{BlockType, FuncType, GlobalType, LocalTypes, ValType};
 
 /// What the rules know of a module and of one of its functions (Core 2.0, section 3.1.1).
-#[derive(Drop, Debug)]
+#[derive(Drop)]
 pub(crate) struct Context<'a> {
     /// The module's types.
     pub types: &'a [FuncType],

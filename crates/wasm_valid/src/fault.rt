@@ -4,7 +4,7 @@ use crate::why::ValidWhy;
 use wasm_module::Spot;
 
 /// A part that is wrong, and how.
-#[derive(Clone, Copy, Debug, PartialEq, Eq)]
+#[derive(Clone, Copy, Debug)]
 pub(crate) struct Fault {
     /// The part.
     pub spot: Spot,
@@ -13,7 +13,7 @@ pub(crate) struct Fault {
 }
 
 /// A fault of a part that has parts of its own.
-#[derive(Clone, Copy, Debug, PartialEq, Eq)]
+#[derive(Clone, Copy)]
 pub(crate) struct PartFault {
     /// Behind how many of them it stands.
     pub at: usize,
@@ -22,7 +22,7 @@ pub(crate) struct PartFault {
 }
 
 /// A fault of a module.
-#[derive(Clone, Copy, Debug, PartialEq, Eq)]
+#[derive(Clone, Copy, Debug)]
 pub struct ValidFault {
     /// The function in whose body it stands, by its number among those that the module defines. `None` outside bodies.
     pub func: Option<u32>,

@@ -14,7 +14,7 @@ use std::alloc::AllocError;
 use wasm_module::{Instr, Mutability, NumericOp, ValType};
 
 /// What an instruction does with a local.
-#[derive(Clone, Copy, Debug, PartialEq, Eq)]
+#[derive(Clone, Copy)]
 pub(crate) enum Access {
     /// It reads it.
     Get,

@@ -7,7 +7,7 @@ use std::marker::Model;
 use wasm_module::ModuleTree;
 
 /// A module that is typed. Contracts see its tree.
-#[derive(Debug, Drop)]
+#[derive(Drop)]
 pub struct Valid {
     tree: ModuleTree,
 }

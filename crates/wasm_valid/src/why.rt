@@ -1,7 +1,7 @@
 //! Why a module is not valid.
 
 /// What is wrong in a module. At one place the first in this order is told.
-#[derive(Clone, Copy, Debug, PartialEq, Eq)]
+#[derive(Clone, Copy, Debug)]
 pub enum ValidWhy {
     /// What an index names is not there.
     Index,
