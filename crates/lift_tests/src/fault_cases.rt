@@ -27,11 +27,11 @@ u8 u64 variant:a*,b*,c | 02 00 00 00 00 00 00 00 | 0 = Bounds at 0
 
 /// A line bytes that stand for no value.
 const BYTES: &str = "
-char | 00 D8 00 00 | 0 = BadChar at 0
+char | 00 d8 00 00 | 0 = BadChar at 0
 char | FF DF 00 00 | 0 = BadChar at 0
 char | 00 00 11 00 | 0 = BadChar at 0
 char | FF FF FF FF | 0 = BadChar at 0
-char | 61 00 00 00 00 D8 00 00 | 4 = BadChar at 4
+char | 61 00 00 00 00 d8 00 00 | 4 = BadChar at 4
 string | 08 00 00 00 01 00 00 00 FF | 0 = BadUtf8 at 0
 string | 08 00 00 00 01 00 00 00 C3 A9 | 0 = BadUtf8 at 0
 string | 08 00 00 00 02 00 00 00 C0 80 | 0 = BadUtf8 at 0
@@ -59,16 +59,16 @@ u8 list | 08 00 00 00 04 00 00 00 01 02 03 | 0 = Bounds at 0
 u64 list | 08 00 00 00 FF FF FF FF | 0 = Bounds at 0
 u64 list | 08 00 00 00 00 00 00 20 | 0 = Bounds at 0
 u32 list | 00 00 00 00 08 00 00 00 00 00 00 40 | 4 = Bounds at 4
-char list | 08 00 00 00 02 00 00 00 61 00 00 00 00 D8 00 00 | 0 = BadChar at 12
+char list | 08 00 00 00 02 00 00 00 61 00 00 00 00 d8 00 00 | 0 = BadChar at 12
 string list | 08 00 00 00 02 00 00 00 08 00 00 00 00 00 00 00 18 00 00 00 01 00 00 00 80 | 0 = BadUtf8 at 16
 u8 list list | 08 00 00 00 01 00 00 00 10 00 00 00 02 00 00 00 01 | 0 = Bounds at 8
 u16 list list | 08 00 00 00 02 00 00 00 18 00 00 00 00 00 00 00 19 00 00 00 01 00 00 00 00 00 00 00 | 0 = Misaligned at 16
 u8 string tuple/2 | 01 00 00 00 0C 00 00 00 01 00 00 00 80 | 0 = BadUtf8 at 4
 u8 enum:a,b tuple/2 | 01 02 | 0 = BadCase at 1
-char option | 01 00 00 00 00 D8 00 00 | 0 = BadChar at 4
+char option | 01 00 00 00 00 d8 00 00 | 0 = BadChar at 4
 u8 option option | 01 02 00 | 0 = BadCase at 1
-char char tuple/2 | 00 D8 00 00 00 00 11 00 | 0 = BadChar at 0
-enum:a char tuple/2 | 01 00 00 00 00 D8 00 00 | 0 = BadCase at 0
+char char tuple/2 | 00 d8 00 00 00 00 11 00 | 0 = BadChar at 0
+enum:a char tuple/2 | 01 00 00 00 00 d8 00 00 | 0 = BadCase at 0
 ";
 
 #[test]

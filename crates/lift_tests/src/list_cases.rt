@@ -21,7 +21,7 @@ u8 list | 01 02 03 | 3 1 = Bounds at 3
 u8 list | 01 | 4294967295 1 = Bounds at 4294967295
 u64 list | 00 00 00 00 00 00 00 00 | 0 4294967295 = Bounds at 0
 u64 list | 00 00 00 00 00 00 00 00 | 8 536870912 = Bounds at 8
-char list | 61 00 00 00 00 D8 00 00 | 0 2 = BadChar at 4
+char list | 61 00 00 00 00 d8 00 00 | 0 2 = BadChar at 4
 string list | 10 00 00 00 01 00 00 00 10 00 00 00 03 00 00 00 61 62 | 0 2 = Bounds at 8
 enum:a,b list | 00 01 02 | 0 3 = BadCase at 2
 "#;

@@ -1,20 +1,17 @@
 -- One part: what lifts it, and where it lies.
-use Rattle.std.proofs.Common.{◌≡◌, ◌∙◌, ◌+◌, ◌<◌, ◌≤◌, ◌^◌, min, ℕ, zero, suc, List, [], ◌∷◌, ◌++◌, length, take, drop, Option, Some, None, Ok, Err, refl, ap, sym, subst, arith}
+use Rattle.std.proofs.Common.{◌≡◌, ◌∙◌, ◌+◌, ◌<◌, ◌≤◌, ◌^◌, min, ℕ, List, [], ◌∷◌, ◌++◌, length, take, drop, Option, Some, None, Ok, ap, sym, subst, arith}
 use Rattle.std.specs.Prelude.{nat_lt}
-use Rattle.std.specs.List.{slice_get}
-use Rattle.std.specs.Option.{option_and_then, option_map}
+use Rattle.std.specs.Option.{option_map}
 use Rattle.std.specs.Int.{w32}
 use Rattle.std.proofs.lemmas.Bool.{cond-true, lt-ltb}
-use Rattle.ca_types.specs.declared.core_type.CoreType.{CoreType}
 use Rattle.ca_types.specs.declared.types.ValType.{ValType}
 use Rattle.ca_types.specs.declared.value.Value.{Value}
 use Rattle.ca_types.specs.declared.value.Value.TheViews as values
 use Rattle.ca_types.specs.Layout.{laid, aligned, tag_size}
 use Rattle.ca_types.specs.Flat.{flat}
 use Rattle.laid_types.specs.Parts.{parts_of, part_at, case_count, payload_place}
-use Rattle.value_lift.specs.declared.trap.LiftTrap.{LiftTrap}
 use Rattle.value_lift.specs.Bytes.{number, width_of}
-use Rattle.value_lift.specs.Answers.{Lifted, made}
+use Rattle.value_lift.specs.Answers.{made}
 use Rattle.value_lift.specs.Pieces.{Part, part_in, list_of, elements_of, chosen}
 use Rattle.value_lift.specs.Lifting.{part, parts, lift, lift_words, low, fields_from, word_fields_from, payload_of, word_payload_of, case_of, case_told, word_case_of, behind_tag}
 use Rattle.value_lift.specs.Room.{end_behind, words_behind}

@@ -18,3 +18,11 @@ pub mod WordStood
 pub mod WordFound
 pub mod WordTypes
 pub mod Inside
+pub mod Stopping
+pub mod Bare
+pub mod Failed
+pub mod Stopped
+pub mod WordFailed
+pub mod WordStopped
+pub mod TypesStopped
+pub mod Faults

@@ -50,17 +50,19 @@ module _ (what : LiftOf) (type : ValType) (memory : List ℕ) (place : ℕ) (v :
       let w = value_was (lift type memory place (most what)) v q.1 in
       let f = told_type type memory place (most what) w.0 v w.1 in
       record {
-        aligned = eqb-true (place % (laid type).align) 0 p.0;
-        inside = leb-true (place + (laid type).size) (length memory) q.0;
-        stands = f.stands;
+        stored = record {
+          aligned = eqb-true (place % (laid type).align) 0 p.0;
+          inside = leb-true (place + (laid type).size) (length memory) q.0;
+          stands = f.stands;
+        };
         few = omega (arith, f.count);
       }
 
   standing : IsLoaded what type memory place v → load what type memory place ≡ Ok v
   standing i =
-      cond-true (is_aligned place (laid type).align) bounded (Err (trap Misaligned place)) (eq-eqb (place % (laid type).align) 0 i.aligned)
-      ∙ cond-true (is_inside place (laid type).size memory) answer (Err (trap Bounds place)) (le-leb (place + (laid type).size) (length memory) i.inside)
-      ∙ ap (λ (l : Lifted Value). value_of l) (stood i.stands (most what) i.few)
+      cond-true (is_aligned place (laid type).align) bounded (Err (trap Misaligned place)) (eq-eqb (place % (laid type).align) 0 i.stored.aligned)
+      ∙ cond-true (is_inside place (laid type).size memory) answer (Err (trap Bounds place)) (le-leb (place + (laid type).size) (length memory) i.stored.inside)
+      ∙ ap (λ (l : Lifted Value). value_of l) (stood i.stored.stands (most what) i.few)
 
 pub loaded_values_stand : LoadedValuesStand
 loaded_values_stand what type memory place v = (loaded what type memory place v, standing what type memory place v)
@@ -93,22 +95,27 @@ module _ (type : ValType) (memory : List ℕ) (place count : ℕ) (all : List Va
       let q = if_ok (is_inside place (count * (laid type).size) memory) elements (trap Bounds place) (all, w.0) p.1 in
       let e = elements_found type (told_type type) memory [] all count place 134217728 w.0 q.1 in
       let same : e.values ≡ all = sym e.all_is in
+      let many : length all ≡ count = ap (λ (l : List Value). length l) (sym same) ∙ e.many in
+      let inside : place + count * (laid type).size ≤ length memory = leb-true (place + count * (laid type).size) (length memory) q.0 in
       record {
-        many = ap (λ (l : List Value). length l) (sym same) ∙ e.many;
-        aligned = eqb-true (place % (laid type).align) 0 p.0;
-        inside = leb-true (place + count * (laid type).size) (length memory) q.0;
-        stand = subst (λ (l : List Value). AreElements memory place type l) same e.are;
+        many = many;
+        stored = record {
+          aligned = eqb-true (place % (laid type).align) 0 p.0;
+          inside = subst (λ (n : ℕ). place + n * (laid type).size ≤ length memory) (sym many) inside;
+          stand = subst (λ (l : List Value). AreElements memory place type l) same e.are;
+        };
         few = subst (λ (l : List Value). total (map counts l) ≤ 134217728) same (omega (arith, e.count));
       }
 
   all_stand : AreLoaded type memory place count all → load_list type memory place count ≡ Ok all
   all_stand i =
+      let room : place + count * (laid type).size ≤ length memory = subst (λ (n : ℕ). place + n * (laid type).size ≤ length memory) i.many i.stored.inside in
       some
       ∙ ap (λ (l : Lifted (List Value)). value_of l)
-      (cond-true (is_aligned place (laid type).align) within (Err (trap Misaligned place)) (eq-eqb (place % (laid type).align) 0 i.aligned)
-      ∙ cond-true (is_inside place (count * (laid type).size) memory) elements (Err (trap Bounds place)) (le-leb (place + count * (laid type).size) (length memory) i.inside)
+      (cond-true (is_aligned place (laid type).align) within (Err (trap Misaligned place)) (eq-eqb (place % (laid type).align) 0 i.stored.aligned)
+      ∙ cond-true (is_inside place (count * (laid type).size) memory) elements (Err (trap Bounds place)) (le-leb (place + count * (laid type).size) (length memory) room)
       ∙ ap (λ (n : ℕ). elements_from (part type) memory [] n place 134217728) (sym i.many)
-      ∙ elements_stood i.stand [] 134217728 i.few)
+      ∙ elements_stood i.stored.stand [] 134217728 i.few)
 
 pub loaded_lists_stand : LoadedListsStand
 loaded_lists_stand type memory place count all low = (loaded_all type memory place count all low, all_stand type memory place count all low)
@@ -120,13 +127,16 @@ module _ (what : LiftOf) (type : ValType) (memory words : List ℕ) (v : Value) 
       let w = value_was (lift_words type memory words 0 (most what)) v h in
       let many = words_many (flat type) words are in
       let f = word_told_type type memory words 0 (most what) w.0 v (omega (arith, many)) w.1 in
-      record { stands = subst (λ (l : List ℕ). FlatOf memory type v l) (wrapped_same (flat type) words are) f.stands; few = omega (arith, f.count) }
+      record {
+        flattened = record { typed = are; stands = subst (λ (l : List ℕ). FlatOf memory type v l) (wrapped_same (flat type) words are) f.stands };
+        few = omega (arith, f.count);
+      }
 
   stand_for : IsLifted what type memory words v → lift_flat what type memory words ≡ Ok v
   stand_for i =
       let many = words_many (flat type) words are in
       let there : IsThere type memory words 0 words = record { are = sym (wrapped_same (flat type) words are); room = omega (arith, many) } in
-      ap (λ (l : Lifted Value). value_of l) (word_stood i.stands words 0 (most what) there i.few)
+      ap (λ (l : Lifted Value). value_of l) (word_stood i.flattened.stands words 0 (most what) there i.few)
 
 pub lifted_words_stand : LiftedWordsStand
 lifted_words_stand what type memory words v are = (lifted what type memory words v are, stand_for what type memory words v are)

@@ -93,23 +93,24 @@ reached t memory words at left rest v h =
     let p = counting_ok 1 at left (λ left. lift_word_case (layer_of t) memory words at left) (v, rest) (sym (lift_words_is t memory words at left) ∙ h) in
     record { one = p.0; case = p.1 }
 
-module _ (t : ValType) (memory words : List ℕ) (at left rest : ℕ) (v : Value) where
+module _ (t : ValType) (words : List ℕ) (at : ℕ) where
   -- the one core value of a type, and the first of several
-  first_32 : (ts : List CoreType) → flat t ≡ I32 ∷ ts → at + length (flat t) ≤ length words → wrapped (flat t) (drop at words) ≡ low w32 at words ∷ wrapped ts (drop (at + 1) words)
+  pub first_32 : (ts : List CoreType) → flat t ≡ I32 ∷ ts → at + length (flat t) ≤ length words → wrapped (flat t) (drop at words) ≡ low w32 at words ∷ wrapped ts (drop (at + 1) words)
   first_32 ts f room =
       let many : length (flat t) ≡ suc (length ts) = ap (λ (l : List CoreType). length l) f in
       ap (λ (l : List CoreType). wrapped l (drop at words)) f ∙ wrapped_32 ts words at (omega (arith, room, many))
 
-  first_64 : flat t ≡ I64 ∷ [] → at + length (flat t) ≤ length words → wrapped (flat t) (drop at words) ≡ low w64 at words ∷ []
+  pub first_64 : flat t ≡ I64 ∷ [] → at + length (flat t) ≤ length words → wrapped (flat t) (drop at words) ≡ low w64 at words ∷ []
   first_64 f room =
       let many : length (flat t) ≡ 1 = ap (λ (l : List CoreType). length l) f in
       ap (λ (l : List CoreType). wrapped l (drop at words)) f ∙ wrapped_64 [] words at (omega (arith, room, many))
 
-  two_32 : flat t ≡ I32 ∷ I32 ∷ [] → at + length (flat t) ≤ length words → wrapped (flat t) (drop at words) ≡ low w32 at words ∷ low w32 (at + 1) words ∷ []
+  pub two_32 : flat t ≡ I32 ∷ I32 ∷ [] → at + length (flat t) ≤ length words → wrapped (flat t) (drop at words) ≡ low w32 at words ∷ low w32 (at + 1) words ∷ []
   two_32 f room =
       let many : length (flat t) ≡ 2 = ap (λ (l : List CoreType). length l) f in
       first_32 (I32 ∷ []) f room ∙ ap (λ (l : List ℕ). low w32 at words ∷ l) (wrapped_32 [] words (at + 1) (omega (arith, room, many)))
 
+module _ (t : ValType) (memory words : List ℕ) (at left rest : ℕ) (v : Value) where
   plain_found : (y : F.ValType-F ValType Case Field) → out-ValType t ≡ y → IsPlain y → lift_words t memory words at left ≡ Ok (v, rest)
       → (plain_of y w32 (λ w. low w at words) at ≡ Ok v) × (suc rest ≡ left)
   plain_found y e kind h =
@@ -131,14 +132,14 @@ module _ (t : ValType) (memory words : List ℕ) (at left rest : ℕ) (v : Value
       → WordFound memory words at left t v rest
   word_number_found y w u e kind f room told same s c h =
       let p = plain_found y e kind h in
-      leaf_found w (low w32 at words ∷ []) (same ∙ ok_same u v (sym told ∙ p.0)) (first_32 [] (flat_at t y e ∙ f) room) s c p.1
+      leaf_found w (low w32 at words ∷ []) (same ∙ ok_same u v (sym told ∙ p.0)) (first_32 t words at [] (flat_at t y e ∙ f) room) s c p.1
 
   pub word_long_found : (y : F.ValType-F ValType Case Field) (w : Value) → out-ValType t ≡ y → IsPlain y → flat_step (flats_in y) ≡ I64 ∷ [] → at + length (flat t) ≤ length words
       → plain_of y w32 (λ w. low w at words) at ≡ Ok w → FlatOf memory t w (low w64 at words ∷ []) → counts w ≡ 1 → lift_words t memory words at left ≡ Ok (v, rest)
       → WordFound memory words at left t v rest
   word_long_found y w e kind f room told s c h =
       let p = plain_found y e kind h in
-      leaf_found w (low w64 at words ∷ []) (ok_same w v (sym told ∙ p.0)) (first_64 (flat_at t y e ∙ f) room) s c p.1
+      leaf_found w (low w64 at words ∷ []) (ok_same w v (sym told ∙ p.0)) (first_64 t words at (flat_at t y e ∙ f) room) s c p.1
 
 bool_stands : (memory : List ℕ) (n : ℕ) (b : Bool) → (n == 0) ≡ b → FlatOf memory leaves.Bool (plain.Bool (not b)) (n ∷ [])
 bool_stands memory n true e = subst (λ (k : ℕ). FlatOf memory leaves.Bool (plain.Bool false) (k ∷ [])) (sym (eqb-true n 0 e)) false_flat
@@ -191,7 +192,7 @@ word_char m ws at l r v room h =
     let p = plain_found leaves.Char m ws at l r v F.Char out_char tt h in
     let n : ℕ = low w32 at ws in
     let q = if_ok (is_scalar n) (Ok (plain.Char n)) (trap BadChar at) v p.0 in
-    leaf_found leaves.Char m ws at l r v (plain.Char n) (n ∷ []) (ok_same (plain.Char n) v q.1) (first_32 leaves.Char m ws at l r v [] (flat_at leaves.Char F.Char out_char) room)
+    leaf_found leaves.Char m ws at l r v (plain.Char n) (n ∷ []) (ok_same (plain.Char n) v q.1) (first_32 leaves.Char ws at [] (flat_at leaves.Char F.Char out_char) room)
     (char_flat n q.0) (count_char n) p.1
 
 -- types that have no values yet
@@ -212,7 +213,7 @@ word_string memory words at left rest v room h =
     let u = uncounted_ok (left - 1 - count) (text_of bytes at) v rest c.1 in
     let t = if_ok (is_utf8 bytes) (Ok (plain.String bytes)) (trap BadUtf8 at) v u.0 in
     let e : plain.String bytes ≡ v = ok_same (plain.String bytes) v t.1 in
-    let f = two_32 leaves.String memory words at left rest v (flat_at leaves.String F.String out_string) room in
+    let f = two_32 leaves.String words at (flat_at leaves.String F.String out_string) room in
     record {
       stands = subst (λ (l : List ℕ). FlatOf memory leaves.String v l) (sym f)
           (subst (λ (v : Value). FlatOf memory leaves.String v (from ∷ count ∷ [])) e (string_flat from count inside (IsUtf8-from_is_utf8 bytes t.0)));
@@ -230,7 +231,7 @@ word_flags labels memory words at left rest v room h =
     let e : plain.Flags b.flags ≡ v = ap (λ (fs : List Bool). plain.Flags fs) (sym b.from) ∙ ap (λ (p : Value × ℕ). p.0) pair in
     let k : left - 1 ≡ rest = ap (λ (p : Value × ℕ). p.1) pair in
     leaf_found (leaves.Flags labels) memory words at left rest v (plain.Flags b.flags) (n ∷ []) e
-    (first_32 (leaves.Flags labels) memory words at left rest v [] (flat_at (leaves.Flags labels) (F.Flags labels) (out_flags labels)) room)
+    (first_32 (leaves.Flags labels) words at [] (flat_at (leaves.Flags labels) (F.Flags labels) (out_flags labels)) room)
     (flags_flat labels b.flags n b.are) (count_flags b.flags) (omega (arith, k, r.one))
 
 pub word_list : (t : ValType) → WordTold (types.List t)
@@ -247,7 +248,7 @@ word_list t memory words at left rest v room h =
     let e = elements_found t (told_type t) memory [] m.first count from (left - 1) rest q.1 in
     let same : values.List e.values ≡ v = ap (λ (l : List Value). values.List l) (sym e.all_is) ∙ m.is in
     let inside : from + count * (laid t).size ≤ length memory = leb-true (from + count * (laid t).size) (length memory) q.0 in
-    let f = two_32 (types.List t) memory words at left rest v (flat_at (types.List t) (F.List t) (out_list t)) room in
+    let f = two_32 (types.List t) words at (flat_at (types.List t) (F.List t) (out_list t)) room in
     let stands : FlatOf memory (types.List t) (values.List e.values) (from ∷ length e.values ∷ []) =
     list_flat from t e.values (eqb-true (from % (laid t).align) 0 p.0) (subst (λ (n : ℕ). from + n * (laid t).size ≤ length memory) (sym e.many) inside) e.are in
     record {
@@ -333,7 +334,7 @@ word_cases t y o kind told stands memory words at left rest v room h =
     record { same = wrapped_below (flat u) s.types (drop (at + 1) words) b; room = omega (arith, room, many, below_length (flat u) s.types b) } in
     let g = told n below memory words (at + 1) (left - 1) rest m.first ws fills part_here in
     record {
-      stands = subst (λ (l : List ℕ). FlatOf memory t v l) (sym (first_32 t memory words at left rest v s.types f room))
+      stands = subst (λ (l : List ℕ). FlatOf memory t v l) (sym (first_32 t words at s.types f room))
           (subst (λ (v : Value). FlatOf memory t v (n ∷ ws)) m.is (stands memory n m.first (drop (at + 1) words) below g.is));
       count = subst (λ (v : Value). rest + counts v ≡ left) m.is (omega (arith, count_variant n m.first, g.count, r.one));
     }

@@ -55,7 +55,7 @@ flat_at t y e = flat_is t ∙ ap (λ (y : F.ValType-F ValType Case Field). flat_
 
 module _ (t : ValType) (memory words : List ℕ) (at : ℕ) where
   -- the one core value of a type, and the first of several
-  one_32 : (w : ℕ) (ws : List ℕ) (ts : List CoreType) → flat t ≡ I32 ∷ ts → IsThere t memory words at (w ∷ ws) → (w ≡ low w32 at words) × (ws ≡ wrapped ts (drop (at + 1) words))
+  pub one_32 : (w : ℕ) (ws : List ℕ) (ts : List CoreType) → flat t ≡ I32 ∷ ts → IsThere t memory words at (w ∷ ws) → (w ≡ low w32 at words) × (ws ≡ wrapped ts (drop (at + 1) words))
   one_32 w ws ts f is =
       let many : length (flat t) ≡ suc (length ts) = ap (λ (l : List CoreType). length l) f in
       let e : w ∷ ws ≡ low w32 at words ∷ wrapped ts (drop (at + 1) words) =
@@ -145,10 +145,10 @@ module _ (t : ValType) (memory words : List ℕ) (at : ℕ) where
       ∙ ap (λ (k : ℕ). done (values.Variant n payload) k) (let k : left - 1 - payload_counts payload ≡ left - counts (values.Variant n payload) = omega (arith, size) in k)
 
 -- A payload that is there, in what payloads share.
-record IsPayloadThere (p : Option ValType) (memory words : List ℕ) (at : ℕ) (ws : List ℕ) : Type 0 where
+pub record IsPayloadThere (p : Option ValType) (memory words : List ℕ) (at : ℕ) (ws : List ℕ) : Type 0 where
   pub each : (t : ValType) → p ≡ Some t → IsThere t memory words at (wrapped (flat t) ws)
 
-payload_there : (t : ValType) (memory words : List ℕ) (at n : ℕ) (y : F.ValType-F ValType Case Field) (p : Option ValType) (ws : List ℕ) → out-ValType t ≡ y → (kind : HasCases y)
+pub payload_there : (t : ValType) (memory words : List ℕ) (at n : ℕ) (y : F.ValType-F ValType Case Field) (p : Option ValType) (ws : List ℕ) → out-ValType t ≡ y → (kind : HasCases y)
     → part_in (parts_case y) n ≡ p → IsThere t memory words at (n ∷ ws) → IsPayloadThere p memory words (at + 1) ws
 payload_there t memory words at n y p ws o kind part_is is = record {
   each = λ u e.
@@ -175,18 +175,18 @@ pub flat_of_tuple : (parts : List ValType) → flat (types.Tuple parts) ≡ all_
 flat_of_tuple parts = flat_at (types.Tuple parts) (F.Tuple parts) (out_tuple parts)
 
 -- core values of several types that are there
-record AreThere (types : List CoreType) (words : List ℕ) (at : ℕ) (ws : List ℕ) : Type 0 where
+pub record AreThere (types : List CoreType) (words : List ℕ) (at : ℕ) (ws : List ℕ) : Type 0 where
   pub are : ws ≡ wrapped types (drop at words)
   pub room : at + length types ≤ length words
 
-row_there : (t : ValType) (memory words : List ℕ) (at : ℕ) (ws : List ℕ) (types : List CoreType) → flat t ≡ types → IsThere t memory words at ws → AreThere types words at ws
+pub row_there : (t : ValType) (memory words : List ℕ) (at : ℕ) (ws : List ℕ) (types : List CoreType) → flat t ≡ types → IsThere t memory words at ws → AreThere types words at ws
 row_there t memory words at ws types e is = record {
   are = is.are ∙ ap (λ (l : List CoreType). wrapped l (drop at words)) e;
   room = subst (λ (l : List CoreType). at + length l ≤ length words) e is.room;
 }
 
 -- those of the first part, and those of the others
-part_there : (t : ValType) (types : List ValType) (words : List ℕ) (at : ℕ) (ws others : List ℕ) → length ws ≡ length (flat t) → AreThere (flat t ++ all_of (map flat types)) words at (ws ++ others)
+pub part_there : (t : ValType) (types : List ValType) (words : List ℕ) (at : ℕ) (ws others : List ℕ) → length ws ≡ length (flat t) → AreThere (flat t ++ all_of (map flat types)) words at (ws ++ others)
     → (ws ≡ wrapped (flat t) (drop at words)) × (at + length (flat t) ≤ length words) × AreThere (all_of (map flat types)) words (at + length (flat t)) others
 part_there t types words at ws others many is =
     let rest : List CoreType = all_of (map flat types) in
@@ -200,7 +200,7 @@ part_there t types words at ws others many is =
     (split.0, room, record { are = split.1; room = omega (arith, is.room, size) })
 
 -- the second of two core values
-second_word : (words : List ℕ) (at count : ℕ) (t : ValType) (memory : List ℕ) → flat t ≡ I32 ∷ I32 ∷ [] → at + length (flat t) ≤ length words
+pub second_word : (words : List ℕ) (at count : ℕ) (t : ValType) (memory : List ℕ) → flat t ≡ I32 ∷ I32 ∷ [] → at + length (flat t) ≤ length words
     → count ∷ [] ≡ wrapped (I32 ∷ []) (drop (at + 1) words) → count ≡ low w32 (at + 1) words
 second_word words at count t memory f room e =
     let many : length (flat t) ≡ 2 = ap (λ (l : List CoreType). length l) f in
@@ -208,7 +208,7 @@ second_word words at count t memory f room e =
     cc
 
 -- the number of a case
-tag_told : (t : ValType) (memory words : List ℕ) (at n : ℕ) (ws : List ℕ) (y : F.ValType-F ValType Case Field) → out-ValType t ≡ y → HasCases y → IsThere t memory words at (n ∷ ws) → n ≡ low w32 at words
+pub tag_told : (t : ValType) (memory words : List ℕ) (at n : ℕ) (ws : List ℕ) (y : F.ValType-F ValType Case Field) → out-ValType t ≡ y → HasCases y → IsThere t memory words at (n ∷ ws) → n ≡ low w32 at words
 tag_told t memory words at n ws y o kind is = (one_32 t memory words at n ws (shares y kind).types (flat_at t y o ∙ (shares y kind).is) is).0
 
 -- narrow integers

@@ -1,13 +1,20 @@
--- What holds of lifting alone: what is lifted from a memory is what stands there, and nothing else is; the same of core values.
-use Rattle.std.specs.Prelude.{◌≡◌, ◌≤◌, ◌<◌, ◌+◌, ◌-◌, ◌*◌, ◌%◌, ◌↔◌, ℕ, List, map, length, Ok}
+-- What holds of lifting alone: what is lifted from a memory is what stands there, and nothing else is; where no value stands, it stops at
+-- the first part that stands for nothing, and for its reason; so there is one value or one fault. The same of core values.
+use Rattle.std.specs.Prelude.{◌≡◌, ◌≤◌, ◌<◌, ◌+◌, ◌-◌, ◌↔◌, ◌⊎◌, ℕ, false, List, map, length, Ok, Err}
 use Rattle.ca_types.specs.declared.types.ValType.{ValType}
 use Rattle.ca_types.specs.declared.value.Value.{Value}
-use Rattle.ca_types.specs.Layout.{laid}
 use Rattle.value_lift.specs.declared.counting.LiftOf.{LiftOf}
+use Rattle.value_lift.specs.declared.trap.LiftWhy.{LiftWhy}
+use Rattle.ca_types.specs.Ends.{has_end}
 use Rattle.ca_types.specs.Flat.{flat}
+use Rattle.laid_types.specs.Handles.{has_handle}
+use Rattle.value_lift.specs.Answers.{trap}
 use Rattle.value_lift.specs.Lifting.{lift, load, load_list, lift_flat, most}
-use Rattle.value_lift.specs.Standing.{Stands, AreElements, total, counts}
-use Rattle.value_lift.specs.WordStanding.{AreWords, FlatOf}
+use Rattle.value_lift.specs.Standing.{Stands, total, counts}
+use Rattle.value_lift.specs.WordStanding.{AreWords}
+use Rattle.value_lift.specs.Stored.{IsStored, AreStored, IsFlattened}
+use Rattle.value_lift.specs.Failing.{Fails, LoadFails, LoadListFails}
+use Rattle.value_lift.specs.WordFailing.{LiftFlatFails}
 
 -- What is lifted stands there, and is counted.
 abbrev pub LiftedValuesStand : Type 0
@@ -21,25 +28,20 @@ StandingValuesAreLifted =
     (type : ValType) (memory : List ℕ) (place left : ℕ) (v : Value)
     → Stands memory place type v → counts v ≤ left → lift type memory place left ≡ Ok (v, left - counts v)
 
--- A value that stands at a place, which is a multiple of its alignment, with all its bytes inside, and that is not too large.
+-- A value that is stored at a place, and is not too large.
 pub record IsLoaded (what : LiftOf) (type : ValType) (memory : List ℕ) (place : ℕ) (v : Value) : Type 0 where
-  pub aligned : place % (laid type).align ≡ 0
-  pub inside : place + (laid type).size ≤ length memory
-  pub stands : Stands memory place type v
+  pub stored : IsStored memory place type v
   pub few : counts v ≤ most what
 
--- A value is loaded exactly where it is one. So a place has one such value, or one fault.
+-- A value is loaded exactly where it is one.
 abbrev pub LoadedValuesStand : Type 0
 LoadedValuesStand =
     (what : LiftOf) (type : ValType) (memory : List ℕ) (place : ℕ) (v : Value) → (load what type memory place ≡ Ok v) ↔ IsLoaded what type memory place v
 
--- So many values that stand one after the other from a place, which is a multiple of their alignment, with all their bytes inside, and
--- that are not too large.
+-- So many values that are stored one after the other from a place on, and are not too large.
 pub record AreLoaded (type : ValType) (memory : List ℕ) (place count : ℕ) (all : List Value) : Type 0 where
   pub many : length all ≡ count
-  pub aligned : place % (laid type).align ≡ 0
-  pub inside : place + count * (laid type).size ≤ length memory
-  pub stand : AreElements memory place type all
+  pub stored : AreStored memory place type all
   pub few : total (map counts all) ≤ 134217728
 
 -- Values are loaded one after the other exactly where they are such, where there is one at least.
@@ -47,13 +49,64 @@ abbrev pub LoadedListsStand : Type 0
 LoadedListsStand =
     (type : ValType) (memory : List ℕ) (place count : ℕ) (all : List Value) → 0 < count → (load_list type memory place count ≡ Ok all) ↔ AreLoaded type memory place count all
 
--- A value that some core values stand for, which are of the type's core types, and that is not too large.
+-- A value that some core values stand for, and that is not too large.
 pub record IsLifted (what : LiftOf) (type : ValType) (memory words : List ℕ) (v : Value) : Type 0 where
-  pub stands : FlatOf memory type v words
+  pub flattened : IsFlattened memory type v words
   pub few : counts v ≤ most what
 
--- A value is lifted from core values exactly where they stand for it.
+-- A value is lifted from core values, which are of the type's core types, exactly where it is one.
 abbrev pub LiftedWordsStand : Type 0
 LiftedWordsStand =
     (what : LiftOf) (type : ValType) (memory words : List ℕ) (v : Value) → AreWords (flat type) words
     → (lift_flat what type memory words ≡ Ok v) ↔ IsLifted what type memory words v
+
+-- A type that holds no handle and no end of a stream or a future.
+pub record IsBare (type : ValType) : Type 0 where
+  pub handles : has_handle type ≡ false
+  pub ends : has_end type ≡ false
+
+-- Lifting from a memory stops exactly where the value at the place fails, for the same reason and at the same spot.
+abbrev pub FailingValuesStop : Type 0
+FailingValuesStop =
+    (type : ValType) (memory : List ℕ) (place left : ℕ) (why : LiftWhy) (spot : ℕ) → IsBare type
+    → (lift type memory place left ≡ Err (trap why spot)) ↔ Fails memory place type left why spot
+
+-- Loading a value stops exactly where it fails.
+abbrev pub FailingLoadsStop : Type 0
+FailingLoadsStop =
+    (what : LiftOf) (type : ValType) (memory : List ℕ) (place : ℕ) (why : LiftWhy) (spot : ℕ) → IsBare type
+    → (load what type memory place ≡ Err (trap why spot)) ↔ LoadFails what type memory place why spot
+
+-- Loading values one after the other stops exactly where they fail.
+abbrev pub FailingListsStop : Type 0
+FailingListsStop =
+    (type : ValType) (memory : List ℕ) (place count : ℕ) (why : LiftWhy) (spot : ℕ) → IsBare type
+    → (load_list type memory place count ≡ Err (trap why spot)) ↔ LoadListFails type memory place count why spot
+
+-- Lifting from core values, which are of the type's core types, stops exactly where they fail.
+abbrev pub FailingWordsStop : Type 0
+FailingWordsStop =
+    (what : LiftOf) (type : ValType) (memory words : List ℕ) (why : LiftWhy) (spot : ℕ) → IsBare type → AreWords (flat type) words
+    → (lift_flat what type memory words ≡ Err (trap why spot)) ↔ LiftFlatFails what type memory words why spot
+
+-- There is one thing, or one fault, and never both.
+pub record OneOrFault {A : Type 0} (Is : A → Type 0) (Faults : LiftWhy → ℕ → Type 0) : Type 0 where
+  pub some : ((x : A) × Is x) ⊎ ((why : LiftWhy) × (spot : ℕ) × Faults why spot)
+  pub one : (x y : A) → Is x → Is y → x ≡ y
+  pub one_fault : (why other : LiftWhy) (spot place : ℕ) → Faults why spot → Faults other place → (why ≡ other) × (spot ≡ place)
+  pub never_both : (x : A) (why : LiftWhy) (spot : ℕ) → Is x → Faults why spot → ⊥
+
+-- So a place has one value of a type, or one fault;
+abbrev pub OneIsLoaded : Type 0
+OneIsLoaded = (what : LiftOf) (type : ValType) (memory : List ℕ) (place : ℕ) → IsBare type → OneOrFault (IsLoaded what type memory place) (LoadFails what type memory place)
+
+-- it has one list of so many values, where that is one at least, or one fault;
+abbrev pub OneListIsLoaded : Type 0
+OneListIsLoaded =
+    (type : ValType) (memory : List ℕ) (place count : ℕ) → IsBare type → 0 < count → OneOrFault (AreLoaded type memory place count) (LoadListFails type memory place count)
+
+-- and core values, which are of the type's core types, have one value of the type, or one fault.
+abbrev pub OneIsLifted : Type 0
+OneIsLifted =
+    (what : LiftOf) (type : ValType) (memory words : List ℕ) → IsBare type → AreWords (flat type) words
+    → OneOrFault (IsLifted what type memory words) (LiftFlatFails what type memory words)

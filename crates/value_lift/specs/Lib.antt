@@ -5,4 +5,7 @@ pub mod Lifting
 pub mod Room
 pub mod Standing
 pub mod WordStanding
+pub mod Stored
+pub mod Failing
+pub mod WordFailing
 pub mod Laws

@@ -1,7 +1,7 @@
--- Which value of a type stands at a place of a memory (Component Model, CanonicalABI.md, "Loading"), by cases on the value. That
--- all its bytes are inside, and that the place is a multiple of the alignment, is said once, of the whole. For handles and the
--- ends of streams and futures there is no case yet. `specs/Lifting` computes what this says; the laws in `specs/Laws` say that
--- both are the same.
+-- Which value of a type stands at a place of a memory (Component Model, CanonicalABI.md, "Loading"), by cases on the value. That the
+-- place is a multiple of the alignment, and that all bytes of the value are inside, is not said here, since for its parts it follows
+-- from the same of the whole: `specs/Stored` says it of the whole. For handles and the ends of streams and futures there is no case
+-- yet. `specs/Lifting` computes what this says; the laws in `specs/Laws` say that both are the same.
 use Rattle.std.specs.Prelude.{◌≡◌, ◌≢◌, ◌≤◌, ◌<◌, ◌+◌, ◌*◌, ◌%◌, ◌/◌, ℕ, suc, Bool, true, false, IsTrue, List, [], ◌∷◌, map, length, Option, Some, None}
 use Rattle.std.specs.List.{slice_get}
 use Rattle.std.specs.Int.{w8, w16, w32, w64, cast_signed}

@@ -1,6 +1,7 @@
 -- Which value of a type some core values stand for, over a memory (Component Model, CanonicalABI.md, "Flat Lifting"), by cases on the
--- value. For handles and the ends of streams and futures there is no case yet. `specs/Lifting` computes what this says; the laws in
--- `specs/Laws` say that both are the same.
+-- value. That they are of the type's core types is not said here: `specs/Stored` says it of the whole. For handles and the ends of
+-- streams and futures there is no case yet. `specs/Lifting` computes what this says; the laws in `specs/Laws` say that both are the
+-- same.
 use Rattle.std.specs.Prelude.{◌≡◌, ◌≢◌, ◌≤◌, ◌<◌, ◌+◌, ◌*◌, ◌%◌, ◌^◌, ℕ, Bool, true, false, IsTrue, List, [], ◌∷◌, ◌++◌, map, length, Option, Some, None}
 use Rattle.std.specs.List.{slice_get}
 use Rattle.std.specs.Int.{w8, w16, w32, w64, cast_signed}

@@ -7,7 +7,7 @@ ghost use Rattle.value_lift.specs.Lifting.{most};
 use crate::trap::{LiftTrap, LiftWhy};
 
 /// What is lifted at once.
-#[derive(Clone, Copy, Debug, PartialEq, Eq)]
+#[derive(Clone, Copy)]
 pub enum LiftOf {
     /// A value, which is counted.
     Value,

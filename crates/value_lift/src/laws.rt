@@ -1,6 +1,6 @@
 //! What holds of lifting alone.
 
-ghost use Rattle.value_lift.specs.Laws.{LiftedValuesStand, StandingValuesAreLifted, LoadedValuesStand, LoadedListsStand, LiftedWordsStand};
+ghost use Rattle.value_lift.specs.Laws.{LiftedValuesStand, StandingValuesAreLifted, LoadedValuesStand, LoadedListsStand, LiftedWordsStand, FailingValuesStop, FailingLoadsStop, FailingListsStop, FailingWordsStop, OneIsLoaded, OneListIsLoaded, OneIsLifted};
 
 /// What is lifted from a memory stands there, and is counted.
 pub fn lifted_values_stand()
@@ -12,8 +12,7 @@ pub fn standing_values_are_lifted()
     ensures { StandingValuesAreLifted }
 {}
 
-/// A value is loaded from a place exactly where it stands there, aligned and inside, and is not too large. So for each type a
-/// place has one value, or one fault.
+/// A value is loaded from a place exactly where it stands there, aligned and inside, and is not too large.
 pub fn loaded_values_stand()
     ensures { LoadedValuesStand }
 {}
@@ -25,7 +24,43 @@ pub fn loaded_lists_stand()
 {}
 
 /// A value is lifted from core values, which are of the type's core types, exactly where they stand for it, and it is not too
-/// large. So for each type they have one value, or one fault.
+/// large.
 pub fn lifted_words_stand()
     ensures { LiftedWordsStand }
+{}
+
+/// Lifting from a memory stops exactly where a value fails, for its reason and at its spot: that of the first part, from left to
+/// right, that stands for nothing.
+pub fn failing_values_stop()
+    ensures { FailingValuesStop }
+{}
+
+/// Loading from a place stops exactly where the place or the value fails.
+pub fn failing_loads_stop()
+    ensures { FailingLoadsStop }
+{}
+
+/// Loading values one after the other stops exactly where the place or one of them fails.
+pub fn failing_lists_stop()
+    ensures { FailingListsStop }
+{}
+
+/// Lifting from core values, which are of the type's core types, stops exactly where they fail.
+pub fn failing_words_stop()
+    ensures { FailingWordsStop }
+{}
+
+/// A place has one value of a type, or one fault.
+pub fn one_is_loaded()
+    ensures { OneIsLoaded }
+{}
+
+/// A place has so many values of a type, or one fault.
+pub fn one_list_is_loaded()
+    ensures { OneListIsLoaded }
+{}
+
+/// Core values, which are of a type's core types, have one value of the type, or one fault.
+pub fn one_is_lifted()
+    ensures { OneIsLifted }
 {}

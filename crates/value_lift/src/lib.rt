@@ -2,7 +2,8 @@
 //! that stands for nothing (Component Model, CanonicalABI.md, "Loading", "Flat Lifting").
 //!
 //! Contracts see what is lifted as a function of the bytes, `specs/Lifting`. Which value stands where is said apart from it, by
-//! cases on the value, in `specs/Standing` of memories and in `specs/WordStanding` of core values; the laws tie both.
+//! cases on the value, in `specs/Standing` of memories and in `specs/WordStanding` of core values, and so is which part is the
+//! first that stands for nothing, and why, in `specs/Failing` and `specs/WordFailing`; the laws tie both.
 //!
 //! - `loads`: values of a memory; `words`: values from core values
 //! - `lifting`: values with parts; `plain` and `texts`: those without

@@ -5,7 +5,7 @@ ghost use Rattle.std.specs.Prelude.{◌≡◌};
 use ca_base::MemoryOr;
 
 /// Why no value of a type stands there.
-#[derive(Clone, Copy, Debug, PartialEq, Eq)]
+#[derive(Clone, Copy, Debug)]
 pub enum LiftWhy {
     /// A place is no multiple of the alignment of what is to stand there.
     Misaligned,
@@ -22,7 +22,7 @@ pub enum LiftWhy {
 }
 
 /// Why and where lifting ends without a value.
-#[derive(Clone, Copy, Debug, PartialEq, Eq)]
+#[derive(Clone, Copy)]
 pub struct LiftTrap {
     /// The reason.
     pub why: LiftWhy,

@@ -1,0 +1,5 @@
+use Rattle.value_lift.proofs.Faults.{one_is_loaded}
+use Rattle.value_lift.proofs.laws.one_is_loaded.Goals as goal
+
+pub returns : goal.returns
+returns c = one_is_loaded
