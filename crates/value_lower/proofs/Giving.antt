@@ -1,0 +1,48 @@
+-- What holds of all core values that a plan may give.
+use Rattle.std.proofs.Common.{◌≡◌, ◌+◌, ◌%◌, ◌^◌, ◌==◌, ◌&&◌, cond, nat_lt, nat_le, ℕ, List, length, Result, sym, subst, inl, inr}
+use Rattle.std.proofs.lemmas.Bool.{cond_both}
+use Rattle.value_lower.specs.declared.ends.LowerWhy.TheVariants.{Misaligned, Bounds}
+use Rattle.value_lower.specs.declared.ends.RoomEnd.{RoomEnd}
+use Rattle.value_lower.specs.Plan.{Ask, Plan, Gives, Fails, Asks, Size, Put}
+use Rattle.value_lower.specs.Following.{Came, Words, Failed, Ended, Follows}
+use Rattle.value_lower.specs.Lowering.{tested, asked, text_in}
+
+module _ (Q : List ℕ → Type 0) where
+  abbrev pub AllGive : Plan → Type 0
+  AllGive (Gives words) = Q words
+  AllGive (Fails why) = Unit {0}
+  AllGive (Asks ask k) = (place : ℕ) → AllGive (k place)
+  AllGive (Size k) = (there : ℕ) → AllGive (k there)
+  AllGive (Put place bytes k) = AllGive k
+
+  pub tested_gives : (place align size : ℕ) (k : Plan) → AllGive k → AllGive (tested place align size k)
+  tested_gives place align size k h =
+      cond_both (place % align == 0) (Size (λ there. cond (nat_le (place + size) there) k (Fails Bounds))) (Fails Misaligned) AllGive
+      (λ e. λ there. cond_both (nat_le (place + size) there) k (Fails Bounds) AllGive (λ f. h) (λ f. tt)) (λ e. tt)
+
+  pub asked_gives : (count align size : ℕ) (k : ℕ → Plan) → ((place : ℕ) → AllGive (k place)) → AllGive (asked count align size k)
+  asked_gives count align size k h =
+      cond_both (nat_lt count (2 ^ 32) && nat_lt size (2 ^ 32)) (Asks (record { old = 0; old_size = 0; align = align; size = size }) (λ place. tested place align size (k place))) (Fails Bounds) AllGive
+      (λ e. λ place. tested_gives place align size (k place) (h place)) (λ e. tt)
+
+  pub text_gives : (text : List ℕ) (k : ℕ → Plan) → ((place : ℕ) → AllGive (k place)) → AllGive (text_in text k)
+  text_gives text k h = asked_gives (length text) 1 (length text) (λ place. Put place text (k place)) h
+
+  module _ {R T : Type 0} (answers : R → Ask → Result ℕ (RoomEnd T) → R → Type 0) (memory : R → List ℕ) (wrote : R → ℕ → List ℕ → R → Type 0) where
+    abbrev came_words : List ℕ → Came T
+    came_words words = Words words
+
+    same_words : (words others : List ℕ) → came_words words ≡ came_words others → words ≡ others
+    same_words words others h = cc
+
+    pub given : (plan : Plan) (r s : R) (words : List ℕ) → Follows answers memory wrote plan r (Words words) s → AllGive plan → Q words
+    given (Gives others) r s words h q = subst Q (sym (same_words words others h.0)) q
+    given (Fails why) r s words h q =
+        let e : came_words words ≡ Failed why = h.0 in
+        cc
+    given (Asks ask k) r s words (inl h) q = given (k h.0) h.1 s words h.3 (q h.0)
+    given (Asks ask k) r s words (inr h) q =
+        let e : came_words words ≡ Ended h.0 = h.2 in
+        cc
+    given (Size k) r s words h q = given (k (length (memory r))) r s words h (q (length (memory r)))
+    given (Put place bytes k) r s words h q = given k h.0 s words h.2 q

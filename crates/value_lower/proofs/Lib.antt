@@ -1,0 +1,12 @@
+pub mod Flags
+pub mod Going
+pub mod Lists
+pub mod Layers
+pub mod Fitted
+pub mod Bytes
+pub mod Views
+pub mod Plans
+pub mod FlatWords
+pub mod Once
+pub mod Giving
+pub mod Counts

@@ -1,0 +1,45 @@
+-- A plan comes to one thing in a room that gives one answer to each realloc.
+use Rattle.std.proofs.Common.{◌≡◌, ◌∙◌, ℕ, List, length, Result, Ok, Err, sym, subst, inl, inr}
+use Rattle.value_lower.specs.declared.ends.RoomEnd.{RoomEnd}
+use Rattle.value_lower.specs.Plan.{Ask, Plan, Gives, Fails, Asks, Size, Put}
+use Rattle.value_lower.specs.Following.{Came, Ended, Follows}
+use Rattle.value_lower.specs.Laws.{AnswersOnce, WritesOnce, PlansComeToOne}
+
+module _ {R T : Type 0} (answers : R → Ask → Result ℕ (RoomEnd T) → R → Type 0) (memory : R → List ℕ) (wrote : R → ℕ → List ℕ → R → Type 0)
+    (answers_once : AnswersOnce answers) (writes_once : WritesOnce wrote) where
+  abbrev Comes : Plan → R → Came T → R → Type 0
+  Comes plan r came s = Follows answers memory wrote plan r came s
+
+  abbrev One : Plan → Type 0
+  One plan = (r : R) (one other : Came T) (s u : R) → Comes plan r one s → Comes plan r other u → (one ≡ other) × (s ≡ u)
+
+  asked_once : (ask : Ask) (k : ℕ → Plan) → ((place : ℕ) → One (k place)) → One (Asks ask k)
+  asked_once ask k once r one other s u (inl h) (inl i) =
+      let q = answers_once r ask (Ok h.0) (Ok i.0) h.1 i.1 h.2 i.2 in
+      let e : i.0 ≡ h.0 = cc (q.0) in
+      once h.0 h.1 one other s u h.3 (subst (λ (m : R). Comes (k h.0) m other u) (sym q.1) (subst (λ (n : ℕ). Comes (k n) i.1 other u) e i.3))
+  asked_once ask k once r one other s u (inl h) (inr i) =
+      let q = answers_once r ask (Ok h.0) (Err i.0) h.1 u h.2 i.1 in
+      let e : Ok h.0 ≡ Err i.0 = q.0 in
+      cc
+  asked_once ask k once r one other s u (inr h) (inl i) =
+      let q = answers_once r ask (Err h.0) (Ok i.0) s i.1 h.1 i.2 in
+      let e : Err h.0 ≡ Ok i.0 = q.0 in
+      cc
+  asked_once ask k once r one other s u (inr h) (inr i) =
+      let q = answers_once r ask (Err h.0) (Err i.0) s u h.1 i.1 in
+      let e : h.0 ≡ i.0 = cc (q.0) in
+      let same : Ended h.0 ≡ Ended i.0 = cc in
+      (h.2 ∙ same ∙ sym i.2, q.1)
+
+  one_end : (plan : Plan) → One plan
+  one_end (Gives words) r one other s u h i = (h.0 ∙ sym i.0, h.1 ∙ sym i.1)
+  one_end (Fails why) r one other s u h i = (h.0 ∙ sym i.0, h.1 ∙ sym i.1)
+  one_end (Asks ask k) r one other s u h i = asked_once ask k (λ place. one_end (k place)) r one other s u h i
+  one_end (Size k) r one other s u h i = one_end (k (length (memory r))) r one other s u h i
+  one_end (Put place bytes k) r one other s u h i =
+      one_end k h.0 one other s u h.2 (subst (λ (m : R). Comes k m other u) (sym (writes_once r place bytes h.0 i.0 h.1 i.1)) i.2)
+
+pub plans_come_to_one : {R T : Type 0} (answers : R → Ask → Result ℕ (RoomEnd T) → R → Type 0) (memory : R → List ℕ) (wrote : R → ℕ → List ℕ → R → Type 0)
+    → PlansComeToOne answers memory wrote
+plans_come_to_one answers memory wrote = λ a w plan r one other s u h i. one_end answers memory wrote a w plan r one other s u h i

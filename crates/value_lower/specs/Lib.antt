@@ -1,0 +1,5 @@
+pub mod Plan
+pub mod Following
+pub mod Lowering
+pub mod Fitting
+pub mod Laws
