@@ -1,0 +1,13 @@
+pub mod Memories
+pub mod Going
+pub mod Asking
+pub mod Numbers
+pub mod ByKind
+pub mod Sounding
+pub mod Standing
+pub mod Followed
+pub mod Words
+pub mod WordsByKind
+pub mod WordsSounding
+pub mod Fitted
+pub mod TwoTexts

@@ -1,0 +1,6 @@
+pub mod Settling
+pub mod Apart
+pub mod Values
+pub mod Laws
+pub mod Rooms
+pub mod Examples
