@@ -7,8 +7,8 @@ use Rattle.ca_base.specs.declared.memory.MemoryOr.{MemoryOr}
 use Rattle.ca_types.specs.declared.types.FuncType.{FuncType}
 use Rattle.wasm_module.specs.declared.types.FuncType as core
 use Rattle.wasm_module.specs.declared.module.ModuleTree.{ModuleTree}
-use Rattle.comp_reader.specs.declared.component.CoreArgument.{CoreArgument}
-use Rattle.comp_reader.specs.declared.component.CoreInstance.TheVariants as made_core
+use Rattle.comp_tree.specs.declared.core_instances.CoreArgument.{CoreArgument}
+use Rattle.comp_tree.specs.declared.core_instances.CoreInstance.TheVariants as made_core
 use Rattle.comp_graph.specs.Closed.{Closed, Value, Func, Instance}
 use Rattle.comp_graph.specs.Graph.{is_flat}
 use Rattle.comp_linking.specs.declared.fault.LinkWhy.{LinkWhy}

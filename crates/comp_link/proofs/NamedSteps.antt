@@ -5,10 +5,10 @@ use Rattle.std.specs.List.{slice_get, list_all}
 use Rattle.ca_base.specs.Names.{AreDistinct}
 use Rattle.ca_base.specs.declared.memory.MemoryOr.{MemoryOr}
 use Rattle.ca_base.specs.declared.memory.MemoryOr.TheVariants as memory
-use Rattle.comp_reader.specs.declared.component.NamedDefinition.{NamedDefinition}
+use Rattle.comp_tree.specs.declared.instances.NamedDefinition.{NamedDefinition}
 use Rattle.comp_linking.specs.declared.fault.LinkWhy.{LinkWhy}
 use Rattle.comp_linking.specs.declared.fault.LinkWhy.TheVariants as why
-use Rattle.comp_reader.specs.declared.component.Instance.TheVariants as made
+use Rattle.comp_tree.specs.declared.instances.Instance.TheVariants as made
 use Rattle.comp_linking.specs.Definitions.{Definition, AnInstance, Closure, Exports, EmptyInstance, WithExport}
 use Rattle.comp_linking.specs.Spaces.{Spaces, Linking, size_of, definition_at}
 use Rattle.comp_linking.specs.Items.{instance_limit}

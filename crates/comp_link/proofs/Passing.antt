@@ -7,9 +7,9 @@ use Rattle.std.proofs.lemmas.Slice.Zip.{AllZip-long}
 use Rattle.ca_base.specs.declared.placed.Placed.{Placed}
 use Rattle.ca_base.specs.declared.memory.MemoryOr.{MemoryOr}
 use Rattle.ca_base.specs.declared.memory.MemoryOr.TheVariants.{Memory, Fault}
-use Rattle.comp_reader.specs.declared.component.Item.{Item, out-Item}
-use Rattle.comp_reader.specs.declared.component.Item.TheOpen.{Item-F}
-use Rattle.comp_reader.specs.declared.component.Component.{Component}
+use Rattle.comp_tree.specs.declared.items.Item.{Item, out-Item}
+use Rattle.comp_tree.specs.declared.items.Item.TheOpen.{Item-F}
+use Rattle.comp_tree.specs.declared.items.Component.{Component}
 use Rattle.comp_linking.specs.declared.fault.LinkWhy.{LinkWhy}
 use Rattle.comp_linking.specs.declared.fault.LinkFault.{LinkFault}
 use Rattle.comp_linking.specs.Definitions.{Closure, Exports}

@@ -1,8 +1,8 @@
 -- A reference is of the sort of its definition.
 use Rattle.std.proofs.Common.{◌≡◌, refl}
-use Rattle.comp_reader.specs.declared.component.CoreSort.TheVariants as core_sort
-use Rattle.comp_reader.specs.declared.component.Sort.{Sort}
-use Rattle.comp_reader.specs.declared.component.Sort.TheVariants as sorts
+use Rattle.comp_tree.specs.declared.core_instances.CoreSort.TheVariants as core_sort
+use Rattle.comp_tree.specs.declared.instances.Sort.{Sort}
+use Rattle.comp_tree.specs.declared.instances.Sort.TheVariants as sorts
 use Rattle.comp_linking.specs.Definitions.{Definition, AFunc, AType, AComponent, AnInstance, AModule}
 use Rattle.comp_linking.specs.Tests.{is_of_sort}
 use Rattle.type_tables.specs.Table.{Table}

@@ -5,7 +5,7 @@ use Rattle.ca_base.specs.Faults.{IfFault}
 use Rattle.ca_base.specs.declared.memory.MemoryOr.{MemoryOr}
 use Rattle.ca_base.specs.declared.memory.MemoryOr.TheVariants.{Memory, Fault}
 use Rattle.comp_graph.specs.Graph.{Graph, instance_limit, core_instance_limit}
-use Rattle.comp_reader.specs.declared.component.Component.{Component}
+use Rattle.comp_tree.specs.declared.items.Component.{Component}
 use Rattle.comp_linking.specs.declared.fault.LinkFault.{LinkFault}
 use Rattle.comp_linking.specs.Spaces.{Linking}
 use Rattle.comp_linking.specs.Linked.{root_begun, graph_of, IsLinked, IsLinkRefused}

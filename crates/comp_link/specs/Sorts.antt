@@ -1,8 +1,8 @@
 -- Whether a reference is to a definition of a sort (Component Model, Binary.md, "Instance Definitions").
 use Rattle.std.specs.Prelude.{Bool, true, false}
-use Rattle.comp_reader.specs.declared.component.CoreSort.TheVariants as core_sort
-use Rattle.comp_reader.specs.declared.component.Sort.{Sort}
-use Rattle.comp_reader.specs.declared.component.Sort.TheVariants as sorts
+use Rattle.comp_tree.specs.declared.core_instances.CoreSort.TheVariants as core_sort
+use Rattle.comp_tree.specs.declared.instances.Sort.{Sort}
+use Rattle.comp_tree.specs.declared.instances.Sort.TheVariants as sorts
 use Rattle.instance_tables.specs.declared.references.DefinitionRef.{DefinitionRef}
 use Rattle.instance_tables.specs.declared.references.DefinitionRef.TheVariants as ref
 

@@ -2,7 +2,7 @@
 
 ghost use Rattle.std.specs.Prelude.{◌≡◌, ◌<◌, ◌∷◌, List, length, OnOk};
 ghost use Rattle.std.specs.List.{slice_get};
-ghost use Rattle.comp_reader.specs.declared.component.AliasTarget.TheVariants as target;
+ghost use Rattle.comp_tree.specs.declared.instances.AliasTarget.TheVariants as target;
 ghost use Rattle.comp_linking.specs.Definitions.{Definition, Exports};
 ghost use Rattle.comp_linking.specs.Spaces.{Spaces, Linking, outer_at};
 ghost use Rattle.comp_linking.specs.Tests.{is_of_sort};
@@ -20,7 +20,7 @@ use crate::link_fault::{ItemError, missing};
 use crate::linker::Linker;
 use ca_base::{MemoryOr, Name};
 use comp_linking::LinkWhy;
-use comp_reader::{Alias, AliasTarget, CoreSort, Sort};
+use comp_tree::{Alias, AliasTarget, CoreSort, Sort};
 use instance_tables::DefinitionRef;
 use std::alloc::Global;
 

@@ -1,7 +1,7 @@
 //! Linking of aliases of exports of core instances.
 
 ghost use Rattle.std.specs.Prelude.{◌≡◌, ◌<◌, List, OnOk, length};
-ghost use Rattle.comp_reader.specs.declared.component.AliasTarget.TheVariants as target;
+ghost use Rattle.comp_tree.specs.declared.instances.AliasTarget.TheVariants as target;
 ghost use Rattle.comp_linking.specs.Definitions.{Exports};
 ghost use Rattle.comp_linking.specs.Spaces.{Spaces, Linking};
 ghost use Rattle.comp_linking.specs.Computed.{alias_outcome};
@@ -11,7 +11,7 @@ ghost use Rattle.comp_link.specs.Told.{IsTold};
 use crate::link_fault::ItemError;
 use crate::linker::Linker;
 use ca_base::Name;
-use comp_reader::Sort;
+use comp_tree::Sort;
 use core_exports::aliased;
 use std::alloc::Global;
 

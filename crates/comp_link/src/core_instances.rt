@@ -2,8 +2,8 @@
 
 ghost use Rattle.std.specs.Prelude.{◌≡◌, ◌<◌, List, OnOk, IfOk, nat_lt, length, map};
 ghost use Rattle.std.specs.List.{list_all};
-ghost use Rattle.comp_reader.specs.declared.component.CoreInlineExport.{CoreInlineExport};
-ghost use Rattle.comp_reader.specs.declared.component.CoreInstance.TheVariants as made_core;
+ghost use Rattle.comp_tree.specs.declared.core_instances.CoreInlineExport.{CoreInlineExport};
+ghost use Rattle.comp_tree.specs.declared.core_instances.CoreInstance.TheVariants as made_core;
 ghost use Rattle.comp_linking.specs.Definitions.{Exports};
 ghost use Rattle.comp_linking.specs.Spaces.{Spaces, Linking, core_size};
 ghost use Rattle.comp_linking.specs.Computed as computed;
@@ -18,7 +18,7 @@ use crate::linker::{INSTANCE_LIMIT, Linker};
 use crate::scope::Scope;
 use ca_base::MemoryOr;
 use comp_linking::LinkWhy;
-use comp_reader::{CoreArgument, CoreInlineExport, CoreInstance};
+use comp_tree::{CoreArgument, CoreInlineExport, CoreInstance};
 use core_exports::{InlineExport, InlineExports, are_distinct, externs_of, imports_passed};
 use std::alloc::Global;
 

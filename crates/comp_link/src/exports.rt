@@ -1,7 +1,7 @@
 //! Exports.
 
 ghost use Rattle.std.specs.Prelude.{◌≡◌, ◌<◌, List, length, Some, None, OnOk};
-ghost use Rattle.comp_reader.specs.declared.component.ExternDesc.{ExternDesc};
+ghost use Rattle.comp_tree.specs.declared.externs.ExternDesc.{ExternDesc};
 ghost use Rattle.comp_linking.specs.Definitions.{Exports};
 ghost use Rattle.comp_linking.specs.Spaces.{Spaces, Linking};
 ghost use Rattle.comp_linking.specs.Computed.{export_outcome};
@@ -14,7 +14,7 @@ use crate::linker::Linker;
 use crate::seen::seen;
 use ca_base::MemoryOr;
 use comp_linking::LinkWhy;
-use comp_reader::{Export, ExternDesc};
+use comp_tree::{Export, ExternDesc};
 use instance_tables::DefinitionRef;
 use std::alloc::Global;
 use type_meanings::wanted;

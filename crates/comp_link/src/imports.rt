@@ -20,7 +20,7 @@ use crate::linker::Linker;
 use crate::seen::seen;
 use ca_base::MemoryOr;
 use comp_linking::LinkWhy;
-use comp_reader::{ExternDesc, Import};
+use comp_tree::{ExternDesc, Import};
 use instance_tables::{DefinitionRef, InstanceRef, Instances};
 use std::alloc::Global;
 use type_meanings::wanted;

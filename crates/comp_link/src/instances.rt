@@ -1,7 +1,7 @@
 //! Instances: of components, whose items come next, and of exports that are named.
 
 ghost use Rattle.std.specs.Prelude.{◌≡◌, ◌<◌, List, length, OnOk};
-ghost use Rattle.comp_reader.specs.declared.component.Instance.TheVariants as made;
+ghost use Rattle.comp_tree.specs.declared.instances.Instance.TheVariants as made;
 ghost use Rattle.comp_linking.specs.Definitions.{Exports};
 ghost use Rattle.comp_linking.specs.Spaces.{Spaces, Linking};
 ghost use Rattle.comp_linking.specs.Computed.{instance_outcome};
@@ -15,7 +15,7 @@ use crate::named::named_exports;
 use ca_base::{MemoryOr, Seq};
 use ca_types::Shared;
 use comp_linking::LinkWhy;
-use comp_reader::{Component, Instance, NamedDefinition};
+use comp_tree::{Component, Instance, NamedDefinition};
 use instance_tables::{DefinitionRef, InstanceRef};
 use std::alloc::Global;
 

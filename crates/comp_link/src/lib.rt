@@ -2,7 +2,7 @@
 //!
 //! The layer above takes a component's graph: its core instances, in order of making, and the functions that it exports,
 //! each with its core function and its type. `link` answers the one graph of a component, as `comp_linking` defines it, or its
-//! first item that has no meaning, with the place and the reason. Only want of memory keeps it from either.
+//! first item that is refused, with the place and the reason. Only want of memory keeps it from either.
 //!
 //! - `linking`: from a component to its graph, item by item
 //! - `core_instances`, `core_aliases`, `lifts`, `aliases`, `types`, `instances`, `imports` and `exports`: what each kind of item makes

@@ -14,7 +14,7 @@ use crate::link_fault::ItemError;
 use crate::linker::Linker;
 use ca_base::MemoryOr;
 use comp_linking::LinkWhy;
-use comp_reader::CoreSort;
+use comp_tree::CoreSort;
 use core_exports::{CoreItem, is_flat};
 use instance_tables::{DefinitionRef, LiftedRef};
 use type_tables::{FuncTypeRef, TypeRef, Types};

@@ -21,7 +21,7 @@ use crate::scope::{Scope, Standing};
 use ca_base::{Name, Seq};
 use ca_types::Shared;
 use comp_graph::{Action, CoreExtern, CoreMake};
-use comp_reader::Component;
+use comp_tree::Component;
 use core_exports::{CoreExports, CoreItem, CoreModule, InlineExports};
 use instance_tables::{DefinitionRef, Fit, InstanceRef, Instances};
 use std::alloc::{AllocError, Global};

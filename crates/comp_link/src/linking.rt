@@ -1,4 +1,4 @@
-//! Linking: from a component to its graph, or to the first item that has no meaning.
+//! Linking: from a component to its graph, or to the first item that is refused.
 
 ghost use Rattle.std.specs.Prelude.{◌≡◌, ◌<◌, ◌≤◌, ◌+◌, ◌∷◌, List, length, Some, Ok, IfOk, IfErr, OnOk};
 ghost use Rattle.ca_base.specs.Faults.{IfFault};
@@ -28,7 +28,7 @@ use ca_base::{MemoryOr, Placed, Seq};
 use ca_types::Shared;
 use comp_graph::Graph;
 use comp_linking::{LinkFault, LinkWhy};
-use comp_reader::{Canon, Component, Item};
+use comp_tree::{Canon, Component, Item};
 use core_exports::CoreModule;
 use instance_tables::InstanceRef;
 use std::alloc::Global;
@@ -210,7 +210,7 @@ fn link_items<'a>(
 
 /// Links a component (Component Model, Explainer.md and CanonicalABI.md).
 ///
-/// It answers the graph that the component is linked to, or the first item that has no meaning, with its place and the reason.
+/// It answers the graph that the component is linked to, or the first item that is refused, with its place and the reason.
 /// `Memory` is want of memory.
 pub fn link<'a>(alloc: Global, component: &'a Component) -> Result<Graph<'a>, LinkError>
     // What is answered is the component's graph.

@@ -18,7 +18,7 @@ use crate::linker::Linker;
 use crate::scope::Scope;
 use ca_base::{MemoryOr, are_distinct};
 use comp_linking::LinkWhy;
-use comp_reader::NamedDefinition;
+use comp_tree::NamedDefinition;
 use instance_tables::DefinitionRef;
 use std::alloc::Global;
 use type_tables::Listing;

@@ -17,7 +17,7 @@ ghost use Rattle.comp_link.specs.State.{IsModule, IsScope, IsKept, AreGiven};
 
 use ca_base::{Name, Seq, adds};
 use ca_types::Shared;
-use comp_reader::{Component, CoreSort, Sort};
+use comp_tree::{Component, CoreSort, Sort};
 use core_exports::{CoreExports, CoreItem};
 use instance_tables::{DefinitionRef, InstanceRef, LiftedRef};
 use std::alloc::{AllocError, Global};
@@ -36,8 +36,8 @@ pub struct Standing<'a> {
 
 impl<'a> Model for Standing<'a> {
     ghost use Rattle.std.specs.Coded.{codes};
-    ghost use Rattle.comp_reader.specs.contracts.component.Component as component_row;
-    ghost use Rattle.comp_reader.specs.contracts.component.Item as item_row;
+    ghost use Rattle.comp_tree.specs.contracts.items.Component as component_row;
+    ghost use Rattle.comp_tree.specs.contracts.items.Item as item_row;
     ghost use Rattle.comp_linking.specs.Definitions.{Closure};
 
     ghost Value = { Closure };

@@ -19,7 +19,7 @@ use crate::linker::{Linker, item_numbered};
 use crate::scope::Scope;
 use ca_base::MemoryOr;
 use comp_linking::LinkWhy;
-use comp_reader::DefType;
+use comp_tree::DefType;
 use instance_tables::DefinitionRef;
 use std::alloc::{AllocError, Global};
 use type_meanings::{Level, Meant, meaning_of};

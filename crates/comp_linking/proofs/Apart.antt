@@ -8,10 +8,10 @@ use Rattle.ca_base.specs.Names.{AreDistinct, first_twice, is_among}
 use Rattle.ca_base.proofs.Distinct.{distinct_law}
 use Rattle.ca_types.specs.declared.types.Param.{Param}
 use Rattle.ca_types.specs.declared.types.FuncType.{FuncType}
-use Rattle.comp_reader.specs.declared.component.Param as read_param
-use Rattle.comp_reader.specs.declared.component.FuncType as read_func
-use Rattle.comp_reader.specs.declared.component.ExternDesc.{ExternDesc}
-use Rattle.comp_reader.specs.declared.component.ExternDesc.TheVariants as desc
+use Rattle.comp_tree.specs.declared.externs.ExternDesc.{ExternDesc}
+use Rattle.comp_tree.specs.declared.externs.ExternDesc.TheVariants as desc
+use Rattle.comp_tree.specs.declared.types.Param as read_param
+use Rattle.comp_tree.specs.declared.types.FuncType as read_func
 use Rattle.comp_graph.specs.Closed.{Closed, Value, Func, Instance, Extern, OfFunc, OfType, OfInstance, Externs, EmptyType, WithExtern, extern_names, extern_named, first_of, externs_of, func_of}
 use Rattle.comp_linking.specs.Distinct.{HasDistinctLabels}
 use Rattle.comp_linking.specs.Types.{absent, meant, found, close_val, close_param, close_params, close_result, close_func, all_within, func_meaning, desc_meaning}

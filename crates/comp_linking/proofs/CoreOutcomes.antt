@@ -6,13 +6,13 @@ use Rattle.std.specs.List.{slice_get, AllByRecursion, AllZip, list_all}
 use Rattle.ca_base.specs.Names.{AreDistinct}
 use Rattle.wasm_module.specs.declared.module.Import.{Import}
 use Rattle.wasm_module.specs.declared.module.ModuleTree.{ModuleTree}
-use Rattle.comp_reader.specs.declared.component.CoreArgument.{CoreArgument}
-use Rattle.comp_reader.specs.declared.component.CoreInlineExport.{CoreInlineExport}
-use Rattle.comp_reader.specs.declared.component.CoreInstance.{CoreInstance}
-use Rattle.comp_reader.specs.declared.component.CoreInstance.TheVariants as made_core
-use Rattle.comp_reader.specs.declared.component.NamedDefinition.{NamedDefinition}
-use Rattle.comp_reader.specs.declared.component.Instance as made_of
-use Rattle.comp_reader.specs.declared.component.Instance.TheVariants as made
+use Rattle.comp_tree.specs.declared.core_instances.CoreArgument.{CoreArgument}
+use Rattle.comp_tree.specs.declared.core_instances.CoreInlineExport.{CoreInlineExport}
+use Rattle.comp_tree.specs.declared.core_instances.CoreInstance.{CoreInstance}
+use Rattle.comp_tree.specs.declared.core_instances.CoreInstance.TheVariants as made_core
+use Rattle.comp_tree.specs.declared.instances.NamedDefinition.{NamedDefinition}
+use Rattle.comp_tree.specs.declared.instances.Instance as made_of
+use Rattle.comp_tree.specs.declared.instances.Instance.TheVariants as made
 use Rattle.comp_linking.specs.declared.fault.LinkWhy.{LinkWhy}
 use Rattle.comp_linking.specs.declared.fault.LinkWhy.TheVariants as why
 use Rattle.comp_graph.specs.Closed.{first_of}

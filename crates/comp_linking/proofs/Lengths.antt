@@ -2,17 +2,17 @@
 use Rattle.std.proofs.Common.{◌≡◌, ◌≤◌, ◌+◌, ℕ, List, [], ◌∷◌, length, ◌∙◌, ap, arith, length-append, Some}
 use Rattle.std.proofs.Math.ListN.{length-set}
 use Rattle.ca_base.specs.declared.placed.Placed.{Placed}
-use Rattle.comp_reader.specs.declared.component.CoreInstance.{CoreInstance}
-use Rattle.comp_reader.specs.declared.component.CoreInstance.TheVariants as made_core
-use Rattle.comp_reader.specs.declared.component.Instance as made_of
-use Rattle.comp_reader.specs.declared.component.Instance.TheVariants as made
-use Rattle.comp_reader.specs.declared.component.Sort.{Sort}
-use Rattle.comp_reader.specs.declared.component.AliasTarget.{AliasTarget}
-use Rattle.comp_reader.specs.declared.component.AliasTarget.TheVariants as target
-use Rattle.comp_reader.specs.declared.component.Canon.TheVariants.{Lift}
-use Rattle.comp_reader.specs.declared.component.Item.{Item, out-Item}
-use Rattle.comp_reader.specs.declared.component.Item.TheOpen.{Item-F}
-use Rattle.comp_reader.specs.declared.component.Component.{Component}
+use Rattle.comp_tree.specs.declared.core_instances.CoreInstance.{CoreInstance}
+use Rattle.comp_tree.specs.declared.core_instances.CoreInstance.TheVariants as made_core
+use Rattle.comp_tree.specs.declared.instances.Instance as made_of
+use Rattle.comp_tree.specs.declared.instances.Instance.TheVariants as made
+use Rattle.comp_tree.specs.declared.instances.Sort.{Sort}
+use Rattle.comp_tree.specs.declared.instances.AliasTarget.{AliasTarget}
+use Rattle.comp_tree.specs.declared.instances.AliasTarget.TheVariants as target
+use Rattle.comp_tree.specs.declared.items.Canon.TheVariants.{Lift}
+use Rattle.comp_tree.specs.declared.items.Item.{Item, out-Item}
+use Rattle.comp_tree.specs.declared.items.Item.TheOpen.{Item-F}
+use Rattle.comp_tree.specs.declared.items.Component.{Component}
 use Rattle.comp_linking.specs.Definitions.{Closure, Exports, exports_of}
 use Rattle.comp_linking.specs.Spaces.{Spaces, Linking, new_spaces, with_spaces, with_core_instance}
 use Rattle.comp_linking.specs.Items.{core_instance_makes, instance_makes, alias_makes, makes_case, item_makes}

@@ -1,11 +1,11 @@
 -- What is computed of an item is what it makes or begins, or its first reason.
 use Rattle.std.proofs.Common.{◌≡◌, ℕ, ◌∷◌, refl, ◌∙◌, ap, ap₂, subst}
 use Rattle.std.specs.Prelude.{Result, Ok, Err}
-use Rattle.comp_reader.specs.declared.component.Canon.TheVariants.{Lift}
-use Rattle.comp_reader.specs.declared.component.Instance as made_of
-use Rattle.comp_reader.specs.declared.component.Item.{Item, out-Item}
-use Rattle.comp_reader.specs.declared.component.Item.TheOpen.{Item-F}
-use Rattle.comp_reader.specs.declared.component.Component.{Component}
+use Rattle.comp_tree.specs.declared.instances.Instance as made_of
+use Rattle.comp_tree.specs.declared.items.Canon.TheVariants.{Lift}
+use Rattle.comp_tree.specs.declared.items.Item.{Item, out-Item}
+use Rattle.comp_tree.specs.declared.items.Item.TheOpen.{Item-F}
+use Rattle.comp_tree.specs.declared.items.Component.{Component}
 use Rattle.comp_linking.specs.declared.fault.LinkWhy.{LinkWhy}
 use Rattle.comp_linking.specs.Definitions.{Closure, Exports}
 use Rattle.comp_linking.specs.Types.{meaning_of}

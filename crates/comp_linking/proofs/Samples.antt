@@ -4,21 +4,21 @@ use Rattle.std.specs.Prelude.{Ok, Result, codes}
 use Rattle.ca_types.specs.declared.types.ValType.TheVariants as val_type
 use Rattle.ca_types.specs.declared.types.ValType.TheViews.{outs-U32}
 use Rattle.comp_graph.specs.Graph.{Graph}
-use Rattle.comp_reader.specs.declared.component.FuncType.{FuncType}
-use Rattle.comp_reader.specs.declared.component.PrimValType.TheVariants.{U32}
-use Rattle.comp_reader.specs.declared.component.Item.TheVariants as plain
-use Rattle.comp_reader.specs.declared.component.Item.TheViews.{outs-CoreModule, outs-CoreInstance, outs-Canon, outs-Import, outs-Alias, outs-Export, outs-Type, outs-Instance, outs-Component}
-use Rattle.comp_reader.specs.declared.component.DefType.TheOpen.{DefType-F, InstanceDecl-F}
-use Rattle.comp_reader.specs.declared.component.DefType.TheViews.{rolls-Func, rolls-Export, rolls-Instance, rolls-Type, rolls-Value}
-use Rattle.comp_reader.specs.declared.component.DefType.TheFolds.{fold-InstanceDecl, fold-roll-DefType, fold-roll-InstanceDecl}
-use Rattle.comp_reader.specs.declared.component.DefType.{DefType}
-use Rattle.comp_reader.specs.declared.component.DefType.TheViews as def_type
-use Rattle.comp_reader.specs.declared.component.DefType.TheVariants as plain_type
-use Rattle.comp_reader.specs.declared.component.InstanceDecl.{InstanceDecl}
-use Rattle.comp_reader.specs.declared.component.ExternDesc.{ExternDesc}
-use Rattle.comp_reader.specs.declared.component.ExternDesc.TheVariants as desc
-use Rattle.comp_reader.specs.declared.component.Sort.TheVariants as sorts
-use Rattle.comp_reader.specs.declared.component.Component.{Component}
+use Rattle.comp_tree.specs.declared.instances.Sort.TheVariants as sorts
+use Rattle.comp_tree.specs.declared.externs.ExternDesc.{ExternDesc}
+use Rattle.comp_tree.specs.declared.externs.ExternDesc.TheVariants as desc
+use Rattle.comp_tree.specs.declared.types.FuncType.{FuncType}
+use Rattle.comp_tree.specs.declared.types.PrimValType.TheVariants.{U32}
+use Rattle.comp_tree.specs.declared.types.DefType.TheOpen.{DefType-F, InstanceDecl-F}
+use Rattle.comp_tree.specs.declared.types.DefType.TheViews.{rolls-Func, rolls-Export, rolls-Instance, rolls-Type, rolls-Value}
+use Rattle.comp_tree.specs.declared.types.DefType.TheFolds.{fold-InstanceDecl, fold-roll-DefType, fold-roll-InstanceDecl}
+use Rattle.comp_tree.specs.declared.types.DefType.{DefType}
+use Rattle.comp_tree.specs.declared.types.DefType.TheViews as def_type
+use Rattle.comp_tree.specs.declared.types.DefType.TheVariants as plain_type
+use Rattle.comp_tree.specs.declared.types.InstanceDecl.{InstanceDecl}
+use Rattle.comp_tree.specs.declared.items.Item.TheVariants as plain
+use Rattle.comp_tree.specs.declared.items.Item.TheViews.{outs-CoreModule, outs-CoreInstance, outs-Canon, outs-Import, outs-Alias, outs-Export, outs-Type, outs-Instance, outs-Component}
+use Rattle.comp_tree.specs.declared.items.Component.{Component}
 use Rattle.comp_linking.specs.declared.fault.LinkFault.{LinkFault}
 use Rattle.comp_linking.specs.declared.fault.LinkWhy.TheVariants as why
 use Rattle.comp_graph.specs.Closed.{Value, Instance, OfType, EmptyType, WithExtern}

@@ -7,8 +7,8 @@ use Rattle.ca_types.specs.declared.exports.Export.{Export}
 use Rattle.wasm_module.specs.declared.module.ModuleTree.{ModuleTree}
 use Rattle.comp_graph.specs.declared.graph.Lift.{Lift}
 use Rattle.comp_graph.specs.Graph.{Graph, LiftsCore, IsCallable, AreImported}
-use Rattle.comp_reader.specs.declared.component.Item.{Item, out-Item}
-use Rattle.comp_reader.specs.declared.component.Component.{Component}
+use Rattle.comp_tree.specs.declared.items.Item.{Item, out-Item}
+use Rattle.comp_tree.specs.declared.items.Component.{Component}
 use Rattle.comp_linking.specs.Definitions.{Closure, AFunc, AnInstance, Exports, EmptyInstance, WithExport}
 use Rattle.comp_linking.specs.Spaces.{CoreMake, Spaces, Linking, new_spaces, with_definition}
 use Rattle.comp_linking.specs.Linked.{Begins, begun, exports_or, exports_at, with_instance, Links, no_items, item_links, instance_links, root_begun, Callable, funcs_behind, callables, export_of, lift_of, IsLinked}

@@ -12,21 +12,21 @@ use Rattle.wasm_module.specs.declared.module.ModuleTree.{ModuleTree}
 use Rattle.wasm_module.specs.Spaces.{type_of_func, global_space}
 use Rattle.comp_graph.specs.CoreItems.{table_space, memory_space}
 use Rattle.comp_graph.specs.Graph.{IsItem, HasImports}
-use Rattle.comp_reader.specs.declared.component.CoreArgument.{CoreArgument}
-use Rattle.comp_reader.specs.declared.component.CoreInlineExport.{CoreInlineExport}
-use Rattle.comp_reader.specs.declared.component.CoreInstance.{CoreInstance}
-use Rattle.comp_reader.specs.declared.component.CoreInstance.TheVariants as made_core
-use Rattle.comp_reader.specs.declared.component.Instance as made_of
-use Rattle.comp_reader.specs.declared.component.Instance.TheVariants as made
-use Rattle.comp_reader.specs.declared.component.Sort.{Sort}
-use Rattle.comp_reader.specs.declared.component.AliasTarget.{AliasTarget}
-use Rattle.comp_reader.specs.declared.component.AliasTarget.TheVariants as target
-use Rattle.comp_reader.specs.declared.component.ExternDesc.{ExternDesc}
-use Rattle.comp_reader.specs.declared.component.Canon.TheVariants.{Lift}
-use Rattle.comp_reader.specs.declared.component.Export as read
-use Rattle.comp_reader.specs.declared.component.Item.{Item}
-use Rattle.comp_reader.specs.declared.component.Item.TheOpen.{Item-F}
-use Rattle.comp_reader.specs.declared.component.Component.{Component}
+use Rattle.comp_tree.specs.declared.core_instances.CoreArgument.{CoreArgument}
+use Rattle.comp_tree.specs.declared.core_instances.CoreInlineExport.{CoreInlineExport}
+use Rattle.comp_tree.specs.declared.core_instances.CoreInstance.{CoreInstance}
+use Rattle.comp_tree.specs.declared.core_instances.CoreInstance.TheVariants as made_core
+use Rattle.comp_tree.specs.declared.instances.Instance as made_of
+use Rattle.comp_tree.specs.declared.instances.Instance.TheVariants as made
+use Rattle.comp_tree.specs.declared.instances.Sort.{Sort}
+use Rattle.comp_tree.specs.declared.instances.AliasTarget.{AliasTarget}
+use Rattle.comp_tree.specs.declared.instances.AliasTarget.TheVariants as target
+use Rattle.comp_tree.specs.declared.externs.ExternDesc.{ExternDesc}
+use Rattle.comp_tree.specs.declared.externs.Export as read
+use Rattle.comp_tree.specs.declared.items.Canon.TheVariants.{Lift}
+use Rattle.comp_tree.specs.declared.items.Item.{Item}
+use Rattle.comp_tree.specs.declared.items.Item.TheOpen.{Item-F}
+use Rattle.comp_tree.specs.declared.items.Component.{Component}
 use Rattle.comp_graph.specs.Closed.{Extern, OfFunc, OfType, OfInstance, func_of}
 use Rattle.comp_linking.specs.Definitions.{CoreItem, Func, Table, Memory, Global, extern_of, item_of, CoreFits, CoreExport, core_named, listed, exports_of, Definition, AFunc, AType, AComponent, AnInstance, AModule, Exports, WithExport, export_named}
 use Rattle.comp_linking.specs.Spaces.{CoreMake, Spaces, Linking, Level, level_of, listed_level, levels_at, core_item_at, definition_at, with_core_item, with_core_instance, with_definition, with_spaces, outer_definition, outer_at}

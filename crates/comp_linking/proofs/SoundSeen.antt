@@ -7,7 +7,7 @@ use Rattle.ca_base.specs.Names.{AreDistinct, is_among, twice_behind}
 use Rattle.ca_base.proofs.Seen.{among_more}
 use Rattle.ca_base.proofs.Distinct.{distinct_law}
 use Rattle.wasm_module.specs.declared.module.ModuleTree.{ModuleTree}
-use Rattle.comp_reader.specs.declared.component.NamedDefinition.{NamedDefinition}
+use Rattle.comp_tree.specs.declared.instances.NamedDefinition.{NamedDefinition}
 use Rattle.comp_graph.specs.Closed.{Extern, OfFunc, OfType, OfInstance, Externs, EmptyType, WithExtern, extern_names}
 use Rattle.comp_linking.specs.Definitions.{Definition, AnInstance, Exports, EmptyInstance, WithExport, export_names, export_named, with_seen, seen_as, seen_exports, types_of}
 use Rattle.comp_linking.specs.Spaces.{CoreMake, Spaces, definition_at}

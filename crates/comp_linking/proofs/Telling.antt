@@ -19,13 +19,13 @@ use Rattle.wasm_module.specs.declared.module.Import.{Import}
 use Rattle.wasm_module.specs.declared.module.ImportDesc.{ImportDesc}
 use Rattle.wasm_module.specs.declared.module.ImportDesc.TheVariants as wanted
 use Rattle.wasm_module.specs.declared.module.ModuleTree.{ModuleTree}
-use Rattle.comp_reader.specs.declared.component.CoreArgument.{CoreArgument}
-use Rattle.comp_reader.specs.declared.component.CoreSort.{CoreSort}
-use Rattle.comp_reader.specs.declared.component.CoreSort.TheVariants as core_sort
-use Rattle.comp_reader.specs.declared.component.Sort.{Sort}
-use Rattle.comp_reader.specs.declared.component.Sort.TheVariants as sorts
-use Rattle.comp_reader.specs.declared.component.ExternDesc.{ExternDesc}
-use Rattle.comp_reader.specs.declared.component.ExternDesc.TheVariants as desc
+use Rattle.comp_tree.specs.declared.core_instances.CoreArgument.{CoreArgument}
+use Rattle.comp_tree.specs.declared.core_instances.CoreSort.{CoreSort}
+use Rattle.comp_tree.specs.declared.core_instances.CoreSort.TheVariants as core_sort
+use Rattle.comp_tree.specs.declared.instances.Sort.{Sort}
+use Rattle.comp_tree.specs.declared.instances.Sort.TheVariants as sorts
+use Rattle.comp_tree.specs.declared.externs.ExternDesc.{ExternDesc}
+use Rattle.comp_tree.specs.declared.externs.ExternDesc.TheVariants as desc
 use Rattle.comp_graph.specs.Closed.{Extern, OfFunc, OfType, OfInstance, Externs, EmptyType, WithExtern, AreTypes}
 use Rattle.comp_linking.specs.Definitions.{CoreItem, Func, Table, Memory, Global, MaxIsWithin, IsWithin, CoreFits, Definition, AFunc, AType, AComponent, AnInstance, AModule, Exports, export_named, Fits, FitAll}
 use Rattle.comp_linking.specs.Types.{Meaning}

@@ -11,7 +11,7 @@ use Rattle.wasm_module.specs.declared.module.ModuleTree.{ModuleTree}
 pub use Rattle.comp_graph.specs.declared.graph.CoreRef.{CoreRef}
 pub use Rattle.comp_graph.specs.CoreItems.{CoreItem, Func, Table, Memory, Global, extern_of, item_of, MaxIsWithin, IsWithin, CoreFits}
 pub use Rattle.comp_graph.specs.Graph.{Lifted}
-use Rattle.comp_reader.specs.declared.component.Item.{Item}
+use Rattle.comp_tree.specs.declared.items.Item.{Item}
 use Rattle.comp_graph.specs.Closed.{Closed, Extern, OfFunc, OfType, OfInstance, Externs, EmptyType, WithExtern, first_of}
 
 -- what a core instance exports

@@ -10,26 +10,26 @@ use Rattle.wasm_module.specs.declared.module.ModuleTree.{ModuleTree}
 use Rattle.wasm_module.specs.Expr.{Plain, End}
 use Rattle.comp_graph.specs.declared.graph.Lift as graph
 use Rattle.comp_graph.specs.Graph.{Graph}
-use Rattle.comp_reader.specs.declared.component.CoreSort.TheVariants as core_sort
-use Rattle.comp_reader.specs.declared.component.CoreInstance.TheVariants as made_core
-use Rattle.comp_reader.specs.declared.component.Canon.TheVariants.{Lift}
-use Rattle.comp_reader.specs.declared.component.ValTypeRef.TheVariants as type_ref
-use Rattle.comp_reader.specs.declared.component.PrimValType.TheVariants.{U32}
-use Rattle.comp_reader.specs.declared.component.Sort.{Sort}
-use Rattle.comp_reader.specs.declared.component.Sort.TheVariants as sorts
-use Rattle.comp_reader.specs.declared.component.AliasTarget.TheVariants as target
-use Rattle.comp_reader.specs.declared.component.ExternDesc.{ExternDesc}
-use Rattle.comp_reader.specs.declared.component.ExternDesc.TheVariants as desc
-use Rattle.comp_reader.specs.declared.component.NamedDefinition.{NamedDefinition}
-use Rattle.comp_reader.specs.declared.component.Instance.TheVariants as made
-use Rattle.comp_reader.specs.declared.component.DefType.TheViews as def_type
-use Rattle.comp_reader.specs.declared.component.DefType.TheVariants as plain_type
-use Rattle.comp_reader.specs.declared.component.DefType.{DefType}
-use Rattle.comp_reader.specs.declared.component.InstanceDecl.{InstanceDecl}
-use Rattle.comp_reader.specs.declared.component.Item.{Item}
-use Rattle.comp_reader.specs.declared.component.Item.TheVariants as plain
-use Rattle.comp_reader.specs.declared.component.Item.TheViews as item
-use Rattle.comp_reader.specs.declared.component.Component.{Component}
+use Rattle.comp_tree.specs.declared.core_instances.CoreSort.TheVariants as core_sort
+use Rattle.comp_tree.specs.declared.core_instances.CoreInstance.TheVariants as made_core
+use Rattle.comp_tree.specs.declared.instances.Sort.{Sort}
+use Rattle.comp_tree.specs.declared.instances.Sort.TheVariants as sorts
+use Rattle.comp_tree.specs.declared.instances.AliasTarget.TheVariants as target
+use Rattle.comp_tree.specs.declared.instances.NamedDefinition.{NamedDefinition}
+use Rattle.comp_tree.specs.declared.instances.Instance.TheVariants as made
+use Rattle.comp_tree.specs.declared.externs.ExternDesc.{ExternDesc}
+use Rattle.comp_tree.specs.declared.externs.ExternDesc.TheVariants as desc
+use Rattle.comp_tree.specs.declared.types.ValTypeRef.TheVariants as type_ref
+use Rattle.comp_tree.specs.declared.types.PrimValType.TheVariants.{U32}
+use Rattle.comp_tree.specs.declared.types.DefType.TheViews as def_type
+use Rattle.comp_tree.specs.declared.types.DefType.TheVariants as plain_type
+use Rattle.comp_tree.specs.declared.types.DefType.{DefType}
+use Rattle.comp_tree.specs.declared.types.InstanceDecl.{InstanceDecl}
+use Rattle.comp_tree.specs.declared.items.Canon.TheVariants.{Lift}
+use Rattle.comp_tree.specs.declared.items.Item.{Item}
+use Rattle.comp_tree.specs.declared.items.Item.TheVariants as plain
+use Rattle.comp_tree.specs.declared.items.Item.TheViews as item
+use Rattle.comp_tree.specs.declared.items.Component.{Component}
 use Rattle.comp_linking.specs.declared.fault.LinkWhy.{LinkWhy}
 use Rattle.comp_linking.specs.declared.fault.LinkFault.{LinkFault}
 use Rattle.comp_linking.specs.Spaces.{Begin, Make}

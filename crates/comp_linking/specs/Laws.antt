@@ -7,8 +7,8 @@ use Rattle.ca_base.specs.declared.placed.Placed.{Placed}
 use Rattle.ca_types.specs.declared.types.FuncType.{FuncType}
 use Rattle.ca_types.specs.declared.exports.Export.{Export}
 use Rattle.comp_graph.specs.Graph.{Graph, CoreMake, names, IsCallable, AreImported}
-use Rattle.comp_reader.specs.declared.component.Item.{Item}
-use Rattle.comp_reader.specs.declared.component.Component.{Component}
+use Rattle.comp_tree.specs.declared.items.Item.{Item}
+use Rattle.comp_tree.specs.declared.items.Component.{Component}
 use Rattle.comp_linking.specs.declared.fault.LinkWhy.{LinkWhy}
 use Rattle.comp_linking.specs.declared.fault.LinkWhy.TheVariants.{Missing}
 use Rattle.comp_linking.specs.declared.fault.LinkFault.{LinkFault}

@@ -8,11 +8,11 @@ use Rattle.ca_base.specs.declared.placed.Placed.{Placed}
 use Rattle.ca_types.specs.declared.exports.Export.{Export}
 use Rattle.comp_graph.specs.declared.graph.Lift.{Lift}
 use Rattle.comp_graph.specs.Graph.{Graph}
-use Rattle.comp_reader.specs.declared.component.NamedDefinition.{NamedDefinition}
-use Rattle.comp_reader.specs.declared.component.Instance.TheVariants.{Instantiate}
-use Rattle.comp_reader.specs.declared.component.Item.{Item, out-Item}
-use Rattle.comp_reader.specs.declared.component.Item.TheOpen.{Item-F}
-use Rattle.comp_reader.specs.declared.component.Component.{Component}
+use Rattle.comp_tree.specs.declared.instances.NamedDefinition.{NamedDefinition}
+use Rattle.comp_tree.specs.declared.instances.Instance.TheVariants.{Instantiate}
+use Rattle.comp_tree.specs.declared.items.Item.{Item, out-Item}
+use Rattle.comp_tree.specs.declared.items.Item.TheOpen.{Item-F}
+use Rattle.comp_tree.specs.declared.items.Component.{Component}
 use Rattle.comp_linking.specs.declared.fault.LinkWhy.{LinkWhy}
 use Rattle.comp_linking.specs.declared.fault.LinkWhy.TheVariants as why
 use Rattle.comp_linking.specs.declared.fault.LinkFault.{LinkFault}

@@ -10,20 +10,20 @@ use Rattle.ca_types.specs.declared.types.ValType.{ValType}
 use Rattle.ca_types.specs.declared.types.ValType.TheVariants as val_type
 use Rattle.ca_types.specs.declared.types.Param.{Param}
 use Rattle.ca_types.specs.declared.types.FuncType.{FuncType}
-use Rattle.comp_reader.specs.declared.component.PrimValType.{PrimValType}
-use Rattle.comp_reader.specs.declared.component.PrimValType.TheVariants as prim
-use Rattle.comp_reader.specs.declared.component.ValTypeRef.{ValTypeRef}
-use Rattle.comp_reader.specs.declared.component.ValTypeRef.TheVariants as type_ref
-use Rattle.comp_reader.specs.declared.component.Param as read_param
-use Rattle.comp_reader.specs.declared.component.FuncType as read_func
-use Rattle.comp_reader.specs.declared.component.Sort.{Sort}
-use Rattle.comp_reader.specs.declared.component.Sort.TheVariants as sorts
-use Rattle.comp_reader.specs.declared.component.AliasTarget.{AliasTarget}
-use Rattle.comp_reader.specs.declared.component.AliasTarget.TheVariants as target
-use Rattle.comp_reader.specs.declared.component.ExternDesc.{ExternDesc}
-use Rattle.comp_reader.specs.declared.component.ExternDesc.TheVariants as desc
-use Rattle.comp_reader.specs.declared.component.DefType.{DefType, fold-DefType}
-use Rattle.comp_reader.specs.declared.component.DefType.TheOpen.{DefType-F, InstanceDecl-F}
+use Rattle.comp_tree.specs.declared.instances.Sort.{Sort}
+use Rattle.comp_tree.specs.declared.instances.Sort.TheVariants as sorts
+use Rattle.comp_tree.specs.declared.instances.AliasTarget.{AliasTarget}
+use Rattle.comp_tree.specs.declared.instances.AliasTarget.TheVariants as target
+use Rattle.comp_tree.specs.declared.externs.ExternDesc.{ExternDesc}
+use Rattle.comp_tree.specs.declared.externs.ExternDesc.TheVariants as desc
+use Rattle.comp_tree.specs.declared.types.PrimValType.{PrimValType}
+use Rattle.comp_tree.specs.declared.types.PrimValType.TheVariants as prim
+use Rattle.comp_tree.specs.declared.types.ValTypeRef.{ValTypeRef}
+use Rattle.comp_tree.specs.declared.types.ValTypeRef.TheVariants as type_ref
+use Rattle.comp_tree.specs.declared.types.Param as read_param
+use Rattle.comp_tree.specs.declared.types.FuncType as read_func
+use Rattle.comp_tree.specs.declared.types.DefType.{DefType, fold-DefType}
+use Rattle.comp_tree.specs.declared.types.DefType.TheOpen.{DefType-F, InstanceDecl-F}
 use Rattle.comp_graph.specs.Closed.{Closed, Value, Func, Instance, Extern, OfFunc, OfType, OfInstance, Externs, EmptyType, WithExtern, extern_named, first_of, externs_of, func_of, value_of}
 use Rattle.comp_linking.specs.Definitions.{Closure}
 use Rattle.comp_linking.specs.Spaces.{Level}

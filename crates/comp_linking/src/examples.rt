@@ -1,9 +1,9 @@
 //! Examples of the definitions, worked out by hand.
 
 ghost use Rattle.std.specs.Prelude.{◌≡◌, [], ◌∷◌, Ok, codes};
-ghost use Rattle.comp_reader.specs.declared.component.ExternDesc.TheVariants as desc;
-ghost use Rattle.comp_reader.specs.declared.component.Sort.TheVariants as sorts;
-ghost use Rattle.comp_reader.specs.declared.component.Item.TheVariants as plain;
+ghost use Rattle.comp_tree.specs.declared.instances.Sort.TheVariants as sorts;
+ghost use Rattle.comp_tree.specs.declared.externs.ExternDesc.TheVariants as desc;
+ghost use Rattle.comp_tree.specs.declared.items.Item.TheVariants as plain;
 ghost use Rattle.comp_linking.specs.declared.fault.LinkWhy.TheVariants as why;
 ghost use Rattle.comp_linking.specs.Computed.{linked};
 ghost use Rattle.comp_linking.specs.Examples.{root, fault, u32, import, outer, export_type, instantiate, wanting, giving_both, nesting, begins, of_one, make, make_with_absent, lifting, lifting_twice, callable_as};

@@ -2,7 +2,7 @@
 
 use ca_base::Name;
 
-/// Why an item of a component has no meaning. At one item the first in this order is told.
+/// Why an item of a component is refused. Of the reasons against one item the first in this order is told.
 #[derive(Debug, Drop)]
 pub enum LinkWhy {
     /// The root imports something other than an instance whose exports are all types.

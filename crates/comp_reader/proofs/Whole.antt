@@ -5,7 +5,7 @@ use Rattle.ca_base.specs.Grammar.{Matches}
 use Rattle.ca_base.proofs.Laws.{matches_past, decided}
 use Rattle.ca_base.proofs.Places.{matches_end, at_end_matches, at_its_end}
 use Rattle.ca_base.proofs.Whole.{whole_decided}
-use Rattle.comp_reader.specs.declared.component.Component.{Component}
+use Rattle.comp_tree.specs.declared.items.Component.{Component}
 use Rattle.comp_reader.specs.declared.fault.ComponentWhy.{ComponentWhy}
 use Rattle.comp_reader.specs.declared.fault.ComponentWhy.TheVariants.{Truncated}
 use Rattle.comp_reader.specs.Binary.{reasons, component, component_of, component_within, file, file_end}

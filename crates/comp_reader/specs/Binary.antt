@@ -14,33 +14,33 @@ use Rattle.wasm_module.specs.declared.module.ModuleTree.{ModuleTree}
 use Rattle.wasm_reader.specs.Binary.{the_module}
 use Rattle.wasm_valid.specs.declared.fault.ValidFault.{ValidFault}
 use Rattle.wasm_valid.specs.Finding.{untyped}
-use Rattle.comp_reader.specs.declared.component.CoreSort.{CoreSort}
-use Rattle.comp_reader.specs.declared.component.CoreSort.TheVariants as core
-use Rattle.comp_reader.specs.declared.component.Sort.{Sort}
-use Rattle.comp_reader.specs.declared.component.Sort.TheVariants as sorts
-use Rattle.comp_reader.specs.declared.component.CoreArgument.{CoreArgument}
-use Rattle.comp_reader.specs.declared.component.CoreInlineExport.{CoreInlineExport}
-use Rattle.comp_reader.specs.declared.component.CoreInstance.TheVariants as made_core
-use Rattle.comp_reader.specs.declared.component.NamedDefinition.{NamedDefinition}
-use Rattle.comp_reader.specs.declared.component.Instance.TheVariants as made
-use Rattle.comp_reader.specs.declared.component.AliasTarget.{AliasTarget}
-use Rattle.comp_reader.specs.declared.component.AliasTarget.TheVariants.{InstanceExport, CoreInstanceExport, Outer}
-use Rattle.comp_reader.specs.declared.component.Alias.{Alias}
-use Rattle.comp_reader.specs.declared.component.ExternDesc.{ExternDesc}
-use Rattle.comp_reader.specs.declared.component.ExternDesc.TheVariants as descs
-use Rattle.comp_reader.specs.declared.component.PrimValType.TheVariants.{U32}
-use Rattle.comp_reader.specs.declared.component.ValTypeRef.{ValTypeRef}
-use Rattle.comp_reader.specs.declared.component.ValTypeRef.TheVariants.{Primitive, Index}
-use Rattle.comp_reader.specs.declared.component.Param.{Param}
-use Rattle.comp_reader.specs.declared.component.FuncType.{FuncType}
-use Rattle.comp_reader.specs.declared.component.DefType.{DefType}
-use Rattle.comp_reader.specs.declared.component.DefType.TheVariants.{Value, Func, Instance}
-use Rattle.comp_reader.specs.declared.component.InstanceDecl.{InstanceDecl}
-use Rattle.comp_reader.specs.declared.component.InstanceDecl.TheVariants as decl
-use Rattle.comp_reader.specs.declared.component.Canon.TheVariants.{Lift}
-use Rattle.comp_reader.specs.declared.component.Item.{Item}
-use Rattle.comp_reader.specs.declared.component.Item.TheVariants as item
-use Rattle.comp_reader.specs.declared.component.Component.{Component}
+use Rattle.comp_tree.specs.declared.core_instances.CoreSort.{CoreSort}
+use Rattle.comp_tree.specs.declared.core_instances.CoreSort.TheVariants as core
+use Rattle.comp_tree.specs.declared.core_instances.CoreArgument.{CoreArgument}
+use Rattle.comp_tree.specs.declared.core_instances.CoreInlineExport.{CoreInlineExport}
+use Rattle.comp_tree.specs.declared.core_instances.CoreInstance.TheVariants as made_core
+use Rattle.comp_tree.specs.declared.instances.Sort.{Sort}
+use Rattle.comp_tree.specs.declared.instances.Sort.TheVariants as sorts
+use Rattle.comp_tree.specs.declared.instances.NamedDefinition.{NamedDefinition}
+use Rattle.comp_tree.specs.declared.instances.Instance.TheVariants as made
+use Rattle.comp_tree.specs.declared.instances.AliasTarget.{AliasTarget}
+use Rattle.comp_tree.specs.declared.instances.AliasTarget.TheVariants.{InstanceExport, CoreInstanceExport, Outer}
+use Rattle.comp_tree.specs.declared.instances.Alias.{Alias}
+use Rattle.comp_tree.specs.declared.externs.ExternDesc.{ExternDesc}
+use Rattle.comp_tree.specs.declared.externs.ExternDesc.TheVariants as descs
+use Rattle.comp_tree.specs.declared.types.PrimValType.TheVariants.{U32}
+use Rattle.comp_tree.specs.declared.types.ValTypeRef.{ValTypeRef}
+use Rattle.comp_tree.specs.declared.types.ValTypeRef.TheVariants.{Primitive, Index}
+use Rattle.comp_tree.specs.declared.types.Param.{Param}
+use Rattle.comp_tree.specs.declared.types.FuncType.{FuncType}
+use Rattle.comp_tree.specs.declared.types.DefType.{DefType}
+use Rattle.comp_tree.specs.declared.types.DefType.TheVariants.{Value, Func, Instance}
+use Rattle.comp_tree.specs.declared.types.InstanceDecl.{InstanceDecl}
+use Rattle.comp_tree.specs.declared.types.InstanceDecl.TheVariants as decl
+use Rattle.comp_tree.specs.declared.items.Canon.TheVariants.{Lift}
+use Rattle.comp_tree.specs.declared.items.Item.{Item}
+use Rattle.comp_tree.specs.declared.items.Item.TheVariants as item
+use Rattle.comp_tree.specs.declared.items.Component.{Component}
 use Rattle.comp_reader.specs.declared.fault.ComponentWhy.{ComponentWhy}
 use Rattle.comp_reader.specs.declared.fault.ComponentWhy.TheVariants.{Truncated, Leb, Utf8, Magic, SectionSize, Unsupported, Float, Limit, Module, Invalid}
 

@@ -4,11 +4,11 @@ ghost use Rattle.std.specs.Prelude.{◌≡◌};
 ghost use Rattle.ca_base.specs.Grammar.{MayRead};
 ghost use Rattle.comp_reader.specs.Binary.{may_be_outer, alias_target, alias};
 
-use crate::component::{Alias, AliasTarget, Item, Sort};
 use crate::fault::{ComponentWhy, unsupported};
 use crate::names::read_name;
 use crate::sorts::read_sort;
 use ca_base::{Kind, ReadError, Window};
+use comp_tree::{Alias, AliasTarget, Item, Sort};
 use std::alloc::Global;
 
 /// Whether definitions of this sort have outer aliases.

@@ -5,9 +5,9 @@ ghost use Rattle.ca_base.specs.Grammar.{Reads};
 ghost use Rattle.ca_base.specs.Items.{vec};
 ghost use Rattle.comp_reader.specs.Binary.{numbers, option};
 
-use crate::component::{Canon, Item};
 use crate::fault::{ComponentWhy, unsupported};
 use ca_base::{Kind, ReadError, Refusal, Window};
+use comp_tree::{Canon, Item};
 use std::alloc::Global;
 
 /// Reads options (Component Model, Binary.md, `opts`), of which none is read: the first one is refused.

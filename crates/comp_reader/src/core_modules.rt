@@ -5,9 +5,9 @@ ghost use Rattle.ca_base.specs.Grammar.{MayRead, in_words};
 ghost use Rattle.comp_reader.specs.declared.fault.ComponentWhy.TheVariants as why;
 ghost use Rattle.comp_reader.specs.Binary.{module_file};
 
-use crate::component::Item;
 use crate::fault::ComponentWhy;
 use ca_base::{Kind, MemoryOr, ReadError, Refusal, Window};
+use comp_tree::Item;
 use std::alloc::Global;
 use wasm_module::{Module, ModuleWhy};
 use wasm_reader::read_module;

@@ -4,10 +4,10 @@ ghost use Rattle.std.specs.Prelude.{◌≡◌};
 ghost use Rattle.ca_base.specs.Grammar.{Reads, MayRead};
 ghost use Rattle.comp_reader.specs.Binary.{val_type, func_result, func_type};
 
-use crate::component::{FuncType, Param, PrimValType, ValTypeRef};
 use crate::fault::{ComponentWhy, refused_type, unsupported};
 use crate::names::read_name;
 use ca_base::{Kind, ReadError, Refusal, Window, read_vec};
+use comp_tree::{FuncType, Param, PrimValType, ValTypeRef};
 use std::alloc::Global;
 
 /// Reads a value type (Component Model, Binary.md, `valtype`).

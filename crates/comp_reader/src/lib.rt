@@ -1,9 +1,8 @@
-//! Components, and the reader of their binary format.
+//! The reader of the binary format of components.
 //!
 //! `read_component` answers a component exactly for its bytes, and else the first place at which they leave the format, with the
 //! reason. Each core module is read and validated where it stands. Only want of memory keeps it from either.
 //!
-//! - `component`: components and their items
 //! - `reading`: the reading of a whole component
 //! - `sections`: the sections by their ids, and components that hold others
 //! - `core_modules`, `core_instances`, `instances`, `aliases`, `def_types`, `canons`, `externs`: the items, a kind for each
@@ -14,7 +13,6 @@
 
 mod aliases;
 mod canons;
-mod component;
 mod core_instances;
 mod core_modules;
 mod def_types;
@@ -28,11 +26,7 @@ mod reading;
 mod sections;
 mod sorts;
 
-pub use component::{
-    Alias, AliasTarget, Canon, Component, CoreArgument, CoreInlineExport, CoreInstance, CoreSort,
-    DefType, Export, ExternDesc, FuncType, Import, Instance, InstanceDecl, Item, NamedDefinition,
-    Param, PrimValType, Sort, ValTypeRef,
-};
+pub use comp_tree::Component;
 pub use fault::ComponentWhy;
 pub use laws::one_reading;
 pub use reading::read_component;

@@ -9,7 +9,6 @@ ghost use Rattle.comp_reader.specs.Binary.{custom_items, module_items, component
 
 use crate::aliases::Aliases;
 use crate::canons::Canons;
-use crate::component::{Component, Item};
 use crate::core_instances::CoreInstances;
 use crate::core_modules::CoreModules;
 use crate::def_types::Types;
@@ -17,6 +16,7 @@ use crate::externs::{Exports, Imports};
 use crate::fault::{ComponentWhy, unsupported};
 use crate::instances::Instances;
 use ca_base::{Placed, PlacedOf, ReadError, Refusal, Seq, Window, join, read_placed, read_vec};
+use comp_tree::{Component, Item};
 use std::alloc::Global;
 
 /// The preamble of a component: its magic number, its version and its layer.

@@ -3,7 +3,7 @@ use Rattle.std.proofs.Common.{◌≡◌, ◌<◌, ◌≤◌, ◌+◌, ℕ, List,
 use Rattle.std.specs.Prelude.{Result, Ok, Err}
 use Rattle.std.proofs.lemmas.List.{drop_all, drop_more}
 use Rattle.wasm_module.specs.declared.module.Import.{Import}
-use Rattle.comp_reader.specs.declared.component.CoreArgument.{CoreArgument}
+use Rattle.comp_tree.specs.declared.core_instances.CoreArgument.{CoreArgument}
 use Rattle.comp_linking.specs.declared.fault.LinkWhy.{LinkWhy}
 use Rattle.comp_linking.specs.Definitions.{CoreItem, CoreExport}
 use Rattle.comp_linking.specs.Items.{argument_named}

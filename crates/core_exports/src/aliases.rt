@@ -10,7 +10,7 @@ use crate::exports::CoreExports;
 use crate::names::missing;
 use ca_base::{MemoryOr, Name};
 use comp_linking::LinkWhy;
-use comp_reader::Sort;
+use comp_tree::Sort;
 use std::alloc::Global;
 
 /// What the core instance of an index exports.

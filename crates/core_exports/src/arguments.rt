@@ -14,7 +14,7 @@ use crate::exports::CoreExports;
 use crate::names::missing;
 use ca_base::{MemoryOr, by_name, find};
 use comp_linking::LinkWhy;
-use comp_reader::CoreArgument;
+use comp_tree::CoreArgument;
 use std::alloc::{AllocError, Global};
 use std::collections::BTreeMap;
 use std::marker::Model;
@@ -30,8 +30,8 @@ pub(crate) struct Arguments<'a> {
 impl<'a> Model for Arguments<'a> {
     ghost use Rattle.std.specs.Prelude.{◌≡◌, ℕ, List, map};
     ghost use Rattle.std.specs.Coded.{coded_list};
-    ghost use Rattle.comp_reader.specs.declared.component.CoreArgument.{CoreArgument};
-    ghost use Rattle.comp_reader.specs.contracts.component.CoreArgument as argument;
+    ghost use Rattle.comp_tree.specs.declared.core_instances.CoreArgument.{CoreArgument};
+    ghost use Rattle.comp_tree.specs.contracts.core_instances.CoreArgument as argument;
     ghost use Rattle.ca_base.specs.Names.{at_name, first_named};
 
     ghost Value = { List CoreArgument };

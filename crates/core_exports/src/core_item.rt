@@ -11,7 +11,7 @@ ghost use Rattle.comp_linking.specs.Tests.{is_of_core_sort, is_core_of, core_fit
 ghost use Rattle.core_exports.specs.Items.{core_of, func_part};
 
 use comp_graph::{CoreExtern, CoreRef};
-use comp_reader::{CoreSort, Sort};
+use comp_tree::{CoreSort, Sort};
 use std::marker::Model;
 use wasm_module::{FuncType, GlobalType, ImportDesc, Limits, ModuleTree, Mutability, are_same};
 

@@ -3,7 +3,7 @@
 ghost use Rattle.std.specs.Prelude.{◌≡◌, ◌<◌, Some, None, Ok, Err, MatchResult, IfOk, nat_lt, length, map};
 ghost use Rattle.std.specs.List.{list_all, slice_get};
 ghost use Rattle.ca_base.specs.Faults.{IfFault};
-ghost use Rattle.comp_reader.specs.declared.component.CoreArgument.{CoreArgument};
+ghost use Rattle.comp_tree.specs.declared.core_instances.CoreArgument.{CoreArgument};
 ghost use Rattle.comp_graph.specs.CoreItems.{extern_of};
 ghost use Rattle.comp_linking.specs.Tests as tests;
 ghost use Rattle.comp_linking.specs.Computed.{imports_outcome};
@@ -15,7 +15,7 @@ use crate::names::are_distinct;
 use ca_base::{MemoryOr, Seq};
 use comp_graph::CoreExtern;
 use comp_linking::LinkWhy;
-use comp_reader::CoreArgument;
+use comp_tree::CoreArgument;
 use std::alloc::{AllocError, Global};
 use wasm_module::{Import, ModuleTree};
 

@@ -7,7 +7,7 @@ ghost use Rattle.comp_linking.specs.Definitions.{core_named};
 
 use crate::core_item::CoreItem;
 use ca_base::{Name, by_name, find};
-use comp_reader::CoreInlineExport;
+use comp_tree::CoreInlineExport;
 use std::alloc::{AllocError, Global};
 use std::collections::BTreeMap;
 use std::marker::Model;

@@ -2,7 +2,7 @@
 
 use crate::types::{write_alias, write_type};
 use ca_base::{Name, Placed};
-use comp_reader::{
+use comp_tree::{
     Canon, Component, CoreArgument, CoreInlineExport, CoreInstance, Export, ExternDesc, Import,
     Instance, Item, NamedDefinition,
 };

@@ -1,6 +1,6 @@
 //! The types of components as text.
 
-use comp_reader::{Alias, AliasTarget, DefType, FuncType, InstanceDecl, Param, ValTypeRef};
+use comp_tree::{Alias, AliasTarget, DefType, FuncType, InstanceDecl, Param, ValTypeRef};
 use std::alloc::AllocError;
 use std::fmt::Write;
 

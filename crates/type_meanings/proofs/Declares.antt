@@ -6,8 +6,8 @@ use denote.Ref.{Bor}
 use Rattle.std.specs.Str.{bytes_eq}
 use Rattle.ca_base.specs.Names.{has, is_among}
 use Rattle.ca_base.proofs.Seen.{among_more}
-use Rattle.comp_reader.specs.declared.component.Sort.{Sort}
-use Rattle.comp_reader.specs.declared.component.Sort.TheVariants as sorts
+use Rattle.comp_tree.specs.declared.instances.Sort.{Sort}
+use Rattle.comp_tree.specs.declared.instances.Sort.TheVariants as sorts
 use Rattle.comp_graph.specs.Closed.{Closed, Extern, OfFunc, OfType, OfInstance, Externs, extern_named}
 use Rattle.comp_linking.specs.Definitions.{Closure}
 use Rattle.comp_linking.specs.Types as types_read

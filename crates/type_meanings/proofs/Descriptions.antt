@@ -2,8 +2,8 @@
 use Rattle.std.proofs.Common.{◌≡◌, ◌∙◌, ℕ, true, false, List, refl, ap, sym, subst, Option, Some, None}
 use Rattle.std.specs.Option.{option_map}
 use Rattle.std.specs.List.{slice_get}
-use Rattle.comp_reader.specs.declared.component.ExternDesc.{ExternDesc}
-use Rattle.comp_reader.specs.declared.component.ExternDesc.TheVariants as desc
+use Rattle.comp_tree.specs.declared.externs.ExternDesc.{ExternDesc}
+use Rattle.comp_tree.specs.declared.externs.ExternDesc.TheVariants as desc
 use Rattle.comp_graph.specs.Closed.{Closed, Value, Func, Instance, OfFunc, OfType, OfInstance, func_of, externs_of}
 use Rattle.comp_linking.specs.Types.{absent, desc_meaning}
 use Rattle.type_tables.specs.declared.refs.TypeRef.{TypeRef}

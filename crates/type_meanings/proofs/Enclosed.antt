@@ -2,9 +2,9 @@
 use Rattle.std.proofs.Common.{◌≡◌, ◌⊎◌, inl, inr, ℕ, true, false, List, [], ◌∷◌, map, refl, Option, Some, None}
 use Rattle.std.specs.Option.{option_and_then}
 use Rattle.std.specs.List.{slice_get, AllZip}
-use Rattle.comp_reader.specs.declared.component.CoreSort.{CoreSort}
-use Rattle.comp_reader.specs.declared.component.Sort.{Sort}
-use Rattle.comp_reader.specs.declared.component.Sort.TheVariants as sorts
+use Rattle.comp_tree.specs.declared.core_instances.CoreSort.{CoreSort}
+use Rattle.comp_tree.specs.declared.instances.Sort.{Sort}
+use Rattle.comp_tree.specs.declared.instances.Sort.TheVariants as sorts
 use Rattle.comp_linking.specs.Definitions.{Closure}
 use Rattle.comp_linking.specs.Spaces as spaces
 use Rattle.comp_linking.specs.Types as types_read

@@ -2,14 +2,14 @@
 use Rattle.std.proofs.Common.{◌≡◌, ◌∙◌, ◌<◌, ◌+◌, ℕ, List, [], ◌∷◌, ◌++◌, length, map, take, get_or, refl, ap, sym}
 use Rattle.std.proofs.lemmas.List.{map-append}
 use Rattle.ca_base.proofs.Seen.{take_one}
-use Rattle.comp_reader.specs.declared.component.FuncType as read_func
-use Rattle.comp_reader.specs.declared.component.ExternDesc.{ExternDesc}
-use Rattle.comp_reader.specs.declared.component.DefType.{DefType}
-use Rattle.comp_reader.specs.declared.component.InstanceDecl.{InstanceDecl}
-use Rattle.comp_reader.specs.declared.component.DefType.TheVariants as type_leaves
-use Rattle.comp_reader.specs.declared.component.DefType.TheViews.{rolls-Func, rolls-Type, rolls-Export}
-use Rattle.comp_reader.specs.declared.component.DefType.TheOpen.{DefType-F, InstanceDecl-F}
-use Rattle.comp_reader.specs.declared.component.DefType.TheFolds.{fold-roll-DefType, fold-roll-InstanceDecl}
+use Rattle.comp_tree.specs.declared.externs.ExternDesc.{ExternDesc}
+use Rattle.comp_tree.specs.declared.types.FuncType as read_func
+use Rattle.comp_tree.specs.declared.types.DefType.{DefType}
+use Rattle.comp_tree.specs.declared.types.InstanceDecl.{InstanceDecl}
+use Rattle.comp_tree.specs.declared.types.DefType.TheVariants as type_leaves
+use Rattle.comp_tree.specs.declared.types.DefType.TheViews.{rolls-Func, rolls-Type, rolls-Export}
+use Rattle.comp_tree.specs.declared.types.DefType.TheOpen.{DefType-F, InstanceDecl-F}
+use Rattle.comp_tree.specs.declared.types.DefType.TheFolds.{fold-roll-DefType, fold-roll-InstanceDecl}
 use Rattle.comp_linking.specs.Spaces.{Level}
 use Rattle.comp_linking.specs.Types.{Declared, InLevels, meaning_of, type_step, decl_step, func_meaning, types_around, declared_by, nothing_declared, with_type, with_export, own_level}
 use Rattle.type_meanings.specs.Declaring.{decl_makes}

@@ -8,9 +8,9 @@ use Rattle.ca_base.specs.Names.{first_twice}
 use Rattle.ca_types.specs.declared.types.ValType.{ValType}
 use Rattle.ca_types.specs.declared.types.Param.{Param}
 use Rattle.ca_types.specs.declared.types.FuncType.{FuncType}
-use Rattle.comp_reader.specs.declared.component.Param as read_param
-use Rattle.comp_reader.specs.declared.component.FuncType as read_func
-use Rattle.comp_reader.specs.declared.component.ValTypeRef.{ValTypeRef}
+use Rattle.comp_tree.specs.declared.types.Param as read_param
+use Rattle.comp_tree.specs.declared.types.FuncType as read_func
+use Rattle.comp_tree.specs.declared.types.ValTypeRef.{ValTypeRef}
 use Rattle.comp_graph.specs.Closed.{Closed, Value, Func, Instance, value_of}
 use Rattle.comp_linking.specs.Types.{absent, meant, all_within, close_val, close_param, close_params, close_result, close_func, func_meaning}
 use Rattle.type_tables.specs.declared.layers.ValueLayer.{ValueLayer}

@@ -5,8 +5,8 @@ use Rattle.std.specs.Option.{option_map}
 use Rattle.std.specs.List.{AllZip}
 use denote.Ref.{Bor}
 use Rattle.ca_base.specs.Names.{has, is_among}
-use Rattle.comp_reader.specs.declared.component.InstanceDecl.{InstanceDecl}
-use Rattle.comp_reader.specs.declared.component.DefType.TheFolds.{fold-InstanceDecl}
+use Rattle.comp_tree.specs.declared.types.InstanceDecl.{InstanceDecl}
+use Rattle.comp_tree.specs.declared.types.DefType.TheFolds.{fold-InstanceDecl}
 use Rattle.comp_graph.specs.Closed.{Closed, Instance, Externs, first_of}
 use Rattle.comp_linking.specs.Definitions.{Closure}
 use Rattle.comp_linking.specs.Spaces as spaces

@@ -1,9 +1,9 @@
 -- What references are (Component Model, Explainer.md, "Type Definitions"): values, types and instances among types and exports.
 use Rattle.std.specs.Prelude.{ℕ, Option, Some, None}
-use Rattle.comp_reader.specs.declared.component.Sort.{Sort}
-use Rattle.comp_reader.specs.declared.component.Sort.TheVariants as sorts
-use Rattle.comp_reader.specs.declared.component.ExternDesc.{ExternDesc}
-use Rattle.comp_reader.specs.declared.component.ExternDesc.TheVariants as desc
+use Rattle.comp_tree.specs.declared.instances.Sort.{Sort}
+use Rattle.comp_tree.specs.declared.instances.Sort.TheVariants as sorts
+use Rattle.comp_tree.specs.declared.externs.ExternDesc.{ExternDesc}
+use Rattle.comp_tree.specs.declared.externs.ExternDesc.TheVariants as desc
 use Rattle.type_tables.specs.declared.layers.ValueLayer.{ValueLayer}
 use Rattle.type_tables.specs.declared.refs.InstanceTypeRef.{InstanceTypeRef}
 use Rattle.type_tables.specs.declared.refs.TypeRef.{TypeRef}

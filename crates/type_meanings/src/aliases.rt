@@ -18,7 +18,7 @@ use crate::levels::{Enclosing, level_at};
 use crate::meant::Meant;
 use crate::outer::{outer_component, outer_type};
 use ca_base::Name;
-use comp_reader::{Alias, AliasTarget, Sort};
+use comp_tree::{Alias, AliasTarget, Sort};
 use std::alloc::AllocError;
 use type_tables::{ExternRef, InstanceTypeRef, Types, asked_named};
 

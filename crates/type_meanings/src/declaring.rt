@@ -17,7 +17,7 @@ use crate::levels::Enclosing;
 use crate::meant::Meant;
 use crate::so_far::SoFar;
 use ca_base::{Name, adds};
-use comp_reader::{ExternDesc, Sort};
+use comp_tree::{ExternDesc, Sort};
 use std::alloc::{AllocError, Global};
 use std::collections::BTreeSet;
 use type_tables::{ExternRef, InstanceTypeRef, TypeRef, Types};

@@ -12,7 +12,7 @@ ghost use Rattle.type_meanings.specs.References.{desc_index, described_ref};
 
 use crate::levels::{Enclosing, Level};
 use crate::meant::Meant;
-use comp_reader::{ExternDesc, Sort};
+use comp_tree::{ExternDesc, Sort};
 use type_tables::{ExternRef, TypeRef};
 
 /// The sort of what an export is to be.

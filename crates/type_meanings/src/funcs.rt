@@ -18,7 +18,7 @@ ghost use Rattle.type_meanings.specs.References.{value_ref};
 use crate::levels::Enclosing;
 use crate::meant::Meant;
 use ca_base::first_twice;
-use comp_reader::{FuncType, Param, PrimValType, ValTypeRef};
+use comp_tree::{FuncType, Param, PrimValType, ValTypeRef};
 use std::alloc::{AllocError, Global};
 use type_tables::{LabelledType, TypeRef, Types, ValueLayer};
 

@@ -15,7 +15,7 @@ use crate::declaring::Declared;
 use crate::funcs::{func_meaning, value_layer};
 use crate::levels::{Enclosing, Level, all_enclosing, innermost, within};
 use crate::meant::Meant;
-use comp_reader::{DefType, InstanceDecl};
+use comp_tree::{DefType, InstanceDecl};
 use std::alloc::{AllocError, Global};
 use type_tables::{TypeRef, Types};
 

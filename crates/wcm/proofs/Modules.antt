@@ -21,21 +21,21 @@ use Rattle.wasm_valid.specs.declared.fault.ValidFault.{ValidFault}
 use Rattle.wasm_valid.specs.Finding.{untyped}
 use Rattle.wasm_valid.specs.Modules.{Typed}
 use Rattle.wasm_valid.proofs.Placing.{told_or_typed}
-use Rattle.comp_reader.specs.declared.component.Item.{Item, out-Item}
-use Rattle.comp_reader.specs.declared.component.Item.TheOpen.{Item-F}
-use Rattle.comp_reader.specs.declared.component.Item.TheVariants as item
-use Rattle.comp_reader.specs.declared.component.Item.TheViews.{the_lemmas}
-use Rattle.comp_reader.specs.declared.component.Component.{Component}
-use Rattle.comp_reader.specs.declared.component.Canon.{Canon}
-use Rattle.comp_reader.specs.declared.component.Canon.TheVariants.{Lift}
-use Rattle.comp_reader.specs.declared.component.CoreInstance.{CoreInstance}
-use Rattle.comp_reader.specs.declared.component.CoreInstance.TheVariants as made_core
-use Rattle.comp_reader.specs.declared.component.Instance as made_of
-use Rattle.comp_reader.specs.declared.component.Instance.TheVariants as made
-use Rattle.comp_reader.specs.declared.component.Alias as aliased
-use Rattle.comp_reader.specs.declared.component.DefType.{DefType}
-use Rattle.comp_reader.specs.declared.component.Import as imported
-use Rattle.comp_reader.specs.declared.component.Export as exported
+use Rattle.comp_tree.specs.declared.core_instances.CoreInstance.{CoreInstance}
+use Rattle.comp_tree.specs.declared.core_instances.CoreInstance.TheVariants as made_core
+use Rattle.comp_tree.specs.declared.instances.Instance as made_of
+use Rattle.comp_tree.specs.declared.instances.Instance.TheVariants as made
+use Rattle.comp_tree.specs.declared.instances.Alias as aliased
+use Rattle.comp_tree.specs.declared.externs.Import as imported
+use Rattle.comp_tree.specs.declared.externs.Export as exported
+use Rattle.comp_tree.specs.declared.types.DefType.{DefType}
+use Rattle.comp_tree.specs.declared.items.Item.{Item, out-Item}
+use Rattle.comp_tree.specs.declared.items.Item.TheOpen.{Item-F}
+use Rattle.comp_tree.specs.declared.items.Item.TheVariants as item
+use Rattle.comp_tree.specs.declared.items.Item.TheViews.{the_lemmas}
+use Rattle.comp_tree.specs.declared.items.Component.{Component}
+use Rattle.comp_tree.specs.declared.items.Canon.{Canon}
+use Rattle.comp_tree.specs.declared.items.Canon.TheVariants.{Lift}
 use Rattle.comp_reader.specs.declared.fault.ComponentWhy.{ComponentWhy}
 use Rattle.comp_reader.specs.declared.fault.ComponentWhy.TheVariants.{Unsupported}
 use Rattle.comp_reader.specs.Binary.{numbers, reasons, validated, unsupported, module_file, core_module, core_argument, core_inline_export, core_instance, argument, inline_export, instance, alias_item, type_item, canon, import, export, custom_items, module_items, component_items, plain_payload, payload, is_section, component_of, component_within, depth_limit, IsComponent}

@@ -2,7 +2,7 @@
 use Rattle.std.proofs.Common.{◌≡◌, ◌⊎◌, ℕ, List, [], length, Option, Some, None, Result, Ok, Err, inl, inr, refl}
 use Rattle.std.specs.Option.{IsSome, MatchOption}
 use Rattle.std.proofs.lemmas.Bool.{cases_lt}
-use Rattle.comp_reader.specs.declared.component.Component.{Component}
+use Rattle.comp_tree.specs.declared.items.Component.{Component}
 use Rattle.comp_reader.specs.Binary.{IsComponent}
 use Rattle.comp_reader.specs.Laws.{OneReading}
 use Rattle.script_reader.specs.declared.fault.ScriptFault.{ScriptFault}

@@ -6,7 +6,7 @@ use Rattle.ca_base.specs.declared.refusal.Refusal.{Refusal}
 use Rattle.ca_base.specs.Grammar.{Grammar, Matches, Refuses}
 use Rattle.ca_base.proofs.Laws.{matches_reads, refuses_reads}
 use Rattle.ca_types.specs.declared.exports.Export.{Export}
-use Rattle.comp_reader.specs.declared.component.Component.{Component}
+use Rattle.comp_tree.specs.declared.items.Component.{Component}
 use Rattle.comp_reader.specs.declared.fault.ComponentWhy.{ComponentWhy}
 use Rattle.comp_reader.specs.Binary.{component, file, file_end}
 use Rattle.script_reader.specs.declared.fault.ScriptFault.{ScriptFault}

@@ -5,7 +5,7 @@ use Rattle.std.specs.List.{AllByRecursion}
 use Rattle.wasm_valid.specs.Modules.{Typed}
 use Rattle.core_machine.specs.Instantiation.{InRange}
 use Rattle.ca_types.specs.declared.exports.Export.{Export}
-use Rattle.comp_reader.specs.declared.component.Component.{Component}
+use Rattle.comp_tree.specs.declared.items.Component.{Component}
 use Rattle.comp_graph.specs.Graph.{CoreMake, Graph, IsCallable}
 use Rattle.comp_linking.specs.Standing.{StandsIn}
 use Rattle.comp_linking.specs.Laws.{GraphsAreImported, GraphsAreCallable, ModulesStand}

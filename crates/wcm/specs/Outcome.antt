@@ -5,7 +5,7 @@
 use Rattle.std.specs.Prelude.{◌≡◌, ◌<◌, ◌≤◌, ◌⊎◌, ℕ, Bool, true, false, List, [], length, Option, Some, IsSome}
 use Rattle.std.specs.Option.{MatchOption}
 use Rattle.ca_base.specs.declared.refusal.Refusal.{Refusal}
-use Rattle.comp_reader.specs.declared.component.Component.{Component}
+use Rattle.comp_tree.specs.declared.items.Component.{Component}
 use Rattle.comp_reader.specs.declared.fault.ComponentWhy.{ComponentWhy}
 use Rattle.comp_reader.specs.declared.fault.ComponentWhy.TheVariants.{Limit}
 use Rattle.comp_reader.specs.Binary.{IsComponent, IsRefused}

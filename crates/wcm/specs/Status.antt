@@ -65,7 +65,7 @@ IsAnswered WriteFault = ⊥
 IsAnswered Memory = ⊥
 IsAnswered LinkRefused = Unit {0}
 
--- a status that the script file and the run decide, behind a linked graph
+-- a status behind a linked graph: that of a command without a script, or what the script file and the run decide
 abbrev pub IsBehindGraph : Status → Type 0
 IsBehindGraph Done = Unit {0}
 IsBehindGraph Trap = Unit {0}

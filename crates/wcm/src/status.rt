@@ -10,7 +10,7 @@ use std::process::ExitCode;
 /// How a call of the program ends.
 #[derive(Clone, Copy, Debug)]
 pub enum Status {
-    /// The run is done.
+    /// The run is done, or the component is linked and only to be checked or shown.
     Done,
     /// The run ended in a trap.
     Trap,

@@ -1,7 +1,7 @@
 -- What is left of the exports decides.
 use Rattle.std.proofs.Common.{◌≡◌, drop, nat_lt}
 use Rattle.std.specs.List.{list_all}
-use Rattle.comp_reader.specs.declared.component.CoreInlineExport.{CoreInlineExport}
+use Rattle.comp_tree.specs.declared.core_instances.CoreInlineExport.{CoreInlineExport}
 use Rattle.comp_linking.specs.Spaces.{Spaces, core_size}
 use Rattle.type_tables.specs.Table.{Table}
 use Rattle.instance_tables.specs.References.{World}

@@ -5,7 +5,7 @@ use Rattle.std.proofs.lemmas.List.{length-map}
 use Rattle.std.proofs.lemmas.Option.{slice_get_within}
 use Rattle.ca_base.specs.declared.memory.MemoryOr.{MemoryOr}
 use Rattle.ca_base.specs.declared.placed.Placed.{Placed}
-use Rattle.comp_reader.specs.declared.component.Item.{Item}
+use Rattle.comp_tree.specs.declared.items.Item.{Item}
 use Rattle.comp_linking.specs.declared.fault.LinkWhy.{LinkWhy}
 use Rattle.comp_linking.specs.Definitions.{Closure}
 use Rattle.comp_linking.specs.Spaces.{Linking}

@@ -2,7 +2,7 @@ use Rattle.std.proofs.Common.{List, [], subst}
 use Rattle.std.proofs.lemmas.Result.{err_from_is_err_and}
 use Rattle.ca_base.specs.declared.placed.Placed.{Placed}
 use Rattle.comp_graph.specs.Graph.{instance_limit}
-use Rattle.comp_reader.specs.declared.component.Item.{Item}
+use Rattle.comp_tree.specs.declared.items.Item.{Item}
 use Rattle.comp_linking.specs.Spaces.{Linking}
 use Rattle.comp_linking.specs.Linked.{root_begun}
 use Rattle.comp_linking.specs.Computed.{run_within}

@@ -1,7 +1,7 @@
 use Rattle.std.proofs.Common.{◌≡◌, refl}
-use Rattle.comp_reader.specs.declared.component.Item.{out-Item}
-use Rattle.comp_reader.specs.declared.component.Item.TheOpen.{Item-F}
-use Rattle.comp_reader.specs.declared.component.Item.TheViews.{outs-CoreModule, outs-CoreInstance, outs-Component, outs-Alias, outs-Type, outs-Import, outs-Export}
+use Rattle.comp_tree.specs.declared.items.Item.{out-Item}
+use Rattle.comp_tree.specs.declared.items.Item.TheOpen.{Item-F}
+use Rattle.comp_tree.specs.declared.items.Item.TheViews.{outs-CoreModule, outs-CoreInstance, outs-Component, outs-Alias, outs-Type, outs-Import, outs-Export}
 use Rattle.comp_link.proofs.Passing.{item_told}
 use Rattle.comp_link.proofs.linking.link_item.Goals as goal
 

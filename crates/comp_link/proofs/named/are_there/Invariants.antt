@@ -1,7 +1,7 @@
 -- All indices so far are there.
 use Rattle.std.proofs.Common.{◌≡◌, nat_lt, drop}
 use Rattle.std.specs.List.{list_all}
-use Rattle.comp_reader.specs.declared.component.NamedDefinition.{NamedDefinition}
+use Rattle.comp_tree.specs.declared.instances.NamedDefinition.{NamedDefinition}
 use Rattle.comp_linking.specs.Spaces.{Spaces, size_of}
 use Rattle.type_tables.specs.Table.{Table}
 use Rattle.instance_tables.specs.References.{World}

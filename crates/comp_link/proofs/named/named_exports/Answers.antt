@@ -1,5 +1,5 @@
 use Rattle.std.proofs.Common.{List, ℕ, map, Result, refl, sym, subst, ◌∙◌}
-use Rattle.comp_reader.specs.declared.component.NamedDefinition.{NamedDefinition}
+use Rattle.comp_tree.specs.declared.instances.NamedDefinition.{NamedDefinition}
 use Rattle.comp_linking.specs.declared.fault.LinkWhy.{LinkWhy}
 use Rattle.comp_linking.specs.declared.fault.LinkWhy.TheVariants as why
 use Rattle.comp_linking.specs.Definitions.{Exports}

@@ -1,5 +1,5 @@
 use Rattle.std.specs.Prelude.{[], ◌∷◌}
-use Rattle.comp_reader.specs.declared.component.Item.TheVariants as plain
+use Rattle.comp_tree.specs.declared.items.Item.TheVariants as plain
 use Rattle.comp_linking.specs.Examples.{root, of_one, make_with_absent, lifting}
 use Rattle.comp_linking.proofs.Samples.{linked_by, lifts_one, absent_argument}
 use Rattle.comp_linking.proofs.examples.core_instances.Goals as goal

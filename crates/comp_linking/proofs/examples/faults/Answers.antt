@@ -1,6 +1,6 @@
-use Rattle.comp_reader.specs.declared.component.ExternDesc.TheVariants as desc
-use Rattle.comp_reader.specs.declared.component.Item.TheVariants as plain
-use Rattle.comp_reader.specs.declared.component.Sort.TheVariants as sorts
+use Rattle.comp_tree.specs.declared.instances.Sort.TheVariants as sorts
+use Rattle.comp_tree.specs.declared.externs.ExternDesc.TheVariants as desc
+use Rattle.comp_tree.specs.declared.items.Item.TheVariants as plain
 use Rattle.std.specs.Prelude.{[], ◌∷◌, codes}
 use Rattle.comp_linking.specs.Examples.{root, u32, import, outer, export_type}
 use Rattle.comp_linking.proofs.Samples.{linked_by, function_imported, too_far, twice}

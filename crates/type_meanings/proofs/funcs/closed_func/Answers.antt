@@ -1,7 +1,7 @@
 use Rattle.std.proofs.Common.{◌∙◌, ap, subst, map, List}
 use Rattle.std.specs.Prelude.{is_none}
 use Rattle.ca_base.specs.Names.{first_twice}
-use Rattle.comp_reader.specs.declared.component.Param as read_param
+use Rattle.comp_tree.specs.declared.types.Param as read_param
 use Rattle.comp_linking.specs.Types.{close_params}
 use Rattle.type_tables.specs.declared.labels.LabelledType.{LabelledType}
 use Rattle.type_tables.specs.Labels.{closed_func}

@@ -1,7 +1,7 @@
 use Rattle.std.proofs.Common.{◌∷◌, map, take, subst, List}
 use Rattle.std.specs.List.{AllZip}
 use Rattle.std.proofs.lemmas.List.{take_all}
-use Rattle.comp_reader.specs.declared.component.InstanceDecl.{InstanceDecl}
+use Rattle.comp_tree.specs.declared.types.InstanceDecl.{InstanceDecl}
 use Rattle.comp_linking.specs.Types.{own_level, types_around, meaning_of, declared_by, nothing_declared}
 use Rattle.type_tables.proofs.TypesGrow.{grows_trans}
 use Rattle.type_meanings.specs.Levels.{IsEnclosing, AreTypes}

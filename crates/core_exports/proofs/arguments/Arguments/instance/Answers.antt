@@ -3,7 +3,7 @@ use Rattle.std.specs.List.{slice_get, find}
 use Rattle.std.specs.Option.{option_and_then, option_map}
 use Rattle.std.specs.Str.{bytes_eq}
 use Rattle.ca_base.proofs.FirstNamed.{found_by_name}
-use Rattle.comp_reader.specs.declared.component.CoreArgument.{CoreArgument}
+use Rattle.comp_tree.specs.declared.core_instances.CoreArgument.{CoreArgument}
 use Rattle.core_exports.proofs.arguments.Arguments.instance.Goals as goal
 
 pub returns : goal.returns

@@ -2,7 +2,7 @@ use Rattle.std.proofs.Common.{◌≡◌, ◌∙◌, ℕ, List, refl, ap, subst}
 use Rattle.std.specs.Prelude.{◌||◌, not}
 use Rattle.std.specs.Str.{bytes_eq}
 use Rattle.ca_base.specs.Names.{has}
-use Rattle.comp_reader.specs.declared.component.Sort.{Sort}
+use Rattle.comp_tree.specs.declared.instances.Sort.{Sort}
 use Rattle.comp_linking.specs.Types.{desc_meaning, declared_as, sort_of}
 use Rattle.type_tables.specs.Table.{IsName}
 use Rattle.type_meanings.specs.declared.declaring.Declared.{Declared}

@@ -1,0 +1,23 @@
+//! Components as trees (Component Model, Explainer.md).
+//!
+//! A component is its items, in file order, each with its place. The reader of the binary format makes the tree, and linking
+//! gives it its meaning. Both stand on this crate alone, so that neither knows of the other.
+//!
+//! - `items`: components, their items, and canonical functions
+//! - `core_instances`: core instances
+//! - `instances`: instances and aliases
+//! - `types`: types as they are written
+//! - `externs`: imports and exports
+#![tactic(auto)]
+
+mod core_instances;
+mod externs;
+mod instances;
+mod items;
+mod types;
+
+pub use core_instances::{CoreArgument, CoreInlineExport, CoreInstance, CoreSort};
+pub use externs::{Export, ExternDesc, Import};
+pub use instances::{Alias, AliasTarget, Instance, NamedDefinition, Sort};
+pub use items::{Canon, Component, Item};
+pub use types::{DefType, FuncType, InstanceDecl, Param, PrimValType, ValTypeRef};
