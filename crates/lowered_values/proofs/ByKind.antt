@@ -29,7 +29,7 @@ use Rattle.value_lift.proofs.Rooms.{row_room, tagged_is, case_room, tag_bytes, f
 use Rattle.value_lift.proofs.Views.{out_bool, out_s8, out_u8, out_s16, out_u16, out_s32, out_u32, out_s64, out_u64, out_char, out_string, out_flags, out_list}
 use Rattle.lowered_values.proofs.Going.{Goes, goes_put, goes_more, goes_on, goes_as}
 use Rattle.lowered_values.proofs.Asking.{Placed, goes_asked}
-use Rattle.lowered_values.proofs.Numbers.{IsRead, read_8, read_16, read_32, read_64, case_below, few_bits, flags_below, are_bits, unsigned_below, signed_back, goes_number, goes_short, goes_pointed}
+use Rattle.lowered_values.proofs.Numbers.{IsRead, read_8, read_16, read_32, read_64, case_below, flags_below, are_bits, unsigned_below, signed_back, goes_number, goes_short, goes_pointed}
 
 -- A value of this type that is stored stands.
 abbrev pub Sound : ValType → Value → Type 0
@@ -103,12 +103,12 @@ char_sound c low f =
     (λ place m h. subst (λ (i : ℕ). Stands m place leaves.Char (plain.Char i)) h (char_stands place (subst (λ (i : ℕ). IsTrue (is_scalar i)) (sym h) f)))
 
 -- Flags.
-pub flags_sound : (labels : List (List ℕ)) (flags : List Bool) → length flags ≡ length labels → length flags ≤ 32 → Sound (leaves.Flags labels) (plain.Flags flags)
-flags_sound labels flags many few place =
+pub flags_sound : (labels : List (List ℕ)) (flags : List Bool) → length flags ≡ length labels → bits_of flags < 2 ^ 32 → Sound (leaves.Flags labels) (plain.Flags flags)
+flags_sound labels flags many low place =
     let count : ℕ = length labels in
     let w : Width = width_of (bits_size count) in
     let n : ℕ = bits_of flags in
-    let small : n % 2 ^ 32 ≡ n = mod-eq_of_lt (few_bits flags 32 few) in
+    let small : n % 2 ^ 32 ≡ n = mod-eq_of_lt low in
     let t : ValType = leaves.Flags labels in
     let v : Value = plain.Flags flags in
     let size : (laid t).size ≡ byte_len w = size_of t (F.Flags labels) (out_flags labels) ∙ sym (flag_bytes count) in
@@ -120,7 +120,7 @@ flags_sound labels flags many few place =
     goes_more (store t v place) place (byte_len w) place (laid t).size (λ m. number w place m ≡ n) (λ m. Stands m place t v) (omega arith) (omega (arith, size))
     (λ m inside h. flags_stand place labels flags (subst (λ (i : ℕ). AreBits labels i flags) (sym h) (are_bits labels flags many)))
     (goes_as (store t v place) (λ k. Put place (number_bytes (bits_size count) n) k) place (byte_len w) (λ m. number w place m ≡ n) e
-    (goes_short (bits_size count) n place (flags_below flags count many (omega (arith, many, few)))))
+    (goes_short (bits_size count) n place (flags_below flags count many low)))
 
 -- Texts.
 pub string_sound : (text : List ℕ) → IsUtf8 text → Sound leaves.String (plain.String text)

@@ -20,6 +20,7 @@ use Rattle.ca_types.specs.declared.value.Value.TheViews.{the_lemmas}
 use Rattle.ca_types.specs.declared.value.Value.TheVariants as plain
 use Rattle.ca_types.specs.Fits.{Test, fits, test_of, fits_step, fits_case, fits_field, each_passes, all_pass, payload_passes, case_passes, is_bool, is_s8, is_u8, is_s16, is_u16, is_s32, is_u32, is_s64, is_u64, is_char, is_string, is_stream, is_future, is_own, is_borrow, is_record, is_list, is_variant, is_enum, is_either, is_flags}
 use Rattle.ca_types.proofs.Folds.{held, fold_case, fold_field}
+use Rattle.value_lower.specs.Lowering.{bits_of}
 use Rattle.value_lift.specs.Bytes.{is_scalar}
 use Rattle.value_lift.proofs.Layers.{by_layer}
 use Rattle.lowered_values.specs.Laws.{FittingValuesAre}
@@ -27,13 +28,13 @@ use Rattle.lowered_values.specs.Values.{InRange, AllInRange, bool_in, s8_in, u8_
 use Rattle.lowered_values.proofs.Asking.{both_true}
 
 -- The test of a type by its outer layer and that of the value.
-abbrev Layer : Type 0
+abbrev pub Layer : Type 0
 Layer = F.ValType-F ValType Case Field
 
-abbrev tests_in : Layer → F.ValType-F Test (Option Test) Test
+abbrev pub tests_in : Layer → F.ValType-F Test (Option Test) Test
 tests_in y = map-ValType ValType Case Field Test (Option Test) Test test_of (λ (c : Case). held test_of c.payload) (λ (f : Field). test_of f.val_type) y
 
-abbrev passes : F.ValType-F Test (Option Test) Test → V.Value-F Value → Bool
+abbrev pub passes : F.ValType-F Test (Option Test) Test → V.Value-F Value → Bool
 passes F.Bool o = is_bool o
 passes F.S8 o = is_s8 o
 passes F.U8 o = is_u8 o
@@ -83,7 +84,7 @@ step_passes (F.Borrow resource) v = refl
 step_passes (F.Stream element) v = refl
 step_passes (F.Future element) v = refl
 
-fits_is : (t : ValType) (v : Value) → fits v t ≡ passes (tests_in (out-ValType t)) (out-Value v)
+pub fits_is : (t : ValType) (v : Value) → fits v t ≡ passes (tests_in (out-ValType t)) (out-Value v)
 fits_is t v =
     ap (λ (f : Test). f v)
     (by_layer Test (Option Test) Test fits_step fits_case fits_field (λ (c : Case). held test_of c.payload) (λ (f : Field). test_of f.val_type)
@@ -100,49 +101,49 @@ at : (s t : ValType) (v : Value) → s ≡ t → IsOf t v → IsOf s v
 at s t v e is = subst (λ (u : ValType). IsOf u v) (sym e) is
 
 -- Values without parts.
-out_bool : (b : Bool) → out-Value (plain.Bool b) ≡ V.Bool b
+pub out_bool : (b : Bool) → out-Value (plain.Bool b) ≡ V.Bool b
 out_bool b = search (rules, the_lemmas)
 
-out_s8 : (n : ℤ) → out-Value (plain.S8 n) ≡ V.S8 n
+pub out_s8 : (n : ℤ) → out-Value (plain.S8 n) ≡ V.S8 n
 out_s8 n = search (rules, the_lemmas)
 
-out_u8 : (n : ℕ) → out-Value (plain.U8 n) ≡ V.U8 n
+pub out_u8 : (n : ℕ) → out-Value (plain.U8 n) ≡ V.U8 n
 out_u8 n = search (rules, the_lemmas)
 
-out_s16 : (n : ℤ) → out-Value (plain.S16 n) ≡ V.S16 n
+pub out_s16 : (n : ℤ) → out-Value (plain.S16 n) ≡ V.S16 n
 out_s16 n = search (rules, the_lemmas)
 
-out_u16 : (n : ℕ) → out-Value (plain.U16 n) ≡ V.U16 n
+pub out_u16 : (n : ℕ) → out-Value (plain.U16 n) ≡ V.U16 n
 out_u16 n = search (rules, the_lemmas)
 
-out_s32 : (n : ℤ) → out-Value (plain.S32 n) ≡ V.S32 n
+pub out_s32 : (n : ℤ) → out-Value (plain.S32 n) ≡ V.S32 n
 out_s32 n = search (rules, the_lemmas)
 
-out_u32 : (n : ℕ) → out-Value (plain.U32 n) ≡ V.U32 n
+pub out_u32 : (n : ℕ) → out-Value (plain.U32 n) ≡ V.U32 n
 out_u32 n = search (rules, the_lemmas)
 
-out_s64 : (n : ℤ) → out-Value (plain.S64 n) ≡ V.S64 n
+pub out_s64 : (n : ℤ) → out-Value (plain.S64 n) ≡ V.S64 n
 out_s64 n = search (rules, the_lemmas)
 
-out_u64 : (n : ℕ) → out-Value (plain.U64 n) ≡ V.U64 n
+pub out_u64 : (n : ℕ) → out-Value (plain.U64 n) ≡ V.U64 n
 out_u64 n = search (rules, the_lemmas)
 
-out_char : (n : ℕ) → out-Value (plain.Char n) ≡ V.Char n
+pub out_char : (n : ℕ) → out-Value (plain.Char n) ≡ V.Char n
 out_char n = search (rules, the_lemmas)
 
-out_string : (s : List ℕ) → out-Value (plain.String s) ≡ V.String s
+pub out_string : (s : List ℕ) → out-Value (plain.String s) ≡ V.String s
 out_string s = search (rules, the_lemmas)
 
-out_flags : (flags : List Bool) → out-Value (plain.Flags flags) ≡ V.Flags flags
+pub out_flags : (flags : List Bool) → out-Value (plain.Flags flags) ≡ V.Flags flags
 out_flags flags = search (rules, the_lemmas)
 
-out_list : (all : List Value) → out-Value (values.List all) ≡ V.List all
+pub out_list : (all : List Value) → out-Value (values.List all) ≡ V.List all
 out_list all = search (rules, the_lemmas)
 
-out_record : (all : List Value) → out-Value (values.Record all) ≡ V.Record all
+pub out_record : (all : List Value) → out-Value (values.Record all) ≡ V.Record all
 out_record all = search (rules, the_lemmas)
 
-out_variant : (n : ℕ) (payload : Option Value) → out-Value (values.Variant n payload) ≡ V.Variant n payload
+pub out_variant : (n : ℕ) (payload : Option Value) → out-Value (values.Variant n payload) ≡ V.Variant n payload
 out_variant n payload = search (rules, the_lemmas)
 
 bool_of : (b : Bool) (y : Layer) → passes (tests_in y) (V.Bool b) ≡ true → IsOf (roll-ValType y) (plain.Bool b)
@@ -189,7 +190,7 @@ string_of : (s : List ℕ) → IsUtf8 s → (y : Layer) → passes (tests_in y) 
 string_of s f F.String h = at _ leaves.String _ leaves.rolls-String (string_is s f)
 string_of s f other h = cc
 
-flags_of : (flags : List Bool) → length flags ≤ 32 → (y : Layer) → passes (tests_in y) (V.Flags flags) ≡ true → IsOf (roll-ValType y) (plain.Flags flags)
+flags_of : (flags : List Bool) → bits_of flags < 2 ^ 32 → (y : Layer) → passes (tests_in y) (V.Flags flags) ≡ true → IsOf (roll-ValType y) (plain.Flags flags)
 flags_of flags f (F.Flags labels) h = at _ (leaves.Flags labels) _ (leaves.rolls-Flags labels) (flags_are labels flags (eqb-true (length flags) (length labels) h) f)
 flags_of flags f other h = cc
 
@@ -204,7 +205,7 @@ list_of : (all : List Value) → AllOf all → (y : Layer) → passes (tests_in 
 list_of all f (F.List element) h = at _ (types.List element) _ (leaves.rolls-List element) (list_is element all (f element h))
 list_of all f other h = cc
 
-field_tests : (fields : List Field) → map (λ (f : Field). test_of f.val_type) fields ≡ map test_of (map (λ (f : Field). f.val_type) fields)
+pub field_tests : (fields : List Field) → map (λ (f : Field). test_of f.val_type) fields ≡ map test_of (map (λ (f : Field). f.val_type) fields)
 field_tests [] = refl
 field_tests (f ∷ fields) = ap (λ (ts : List Test). test_of f.val_type ∷ ts) (field_tests fields)
 

@@ -4,7 +4,7 @@ use Rattle.value_lower.specs.declared.ends.RoomEnd.{RoomEnd}
 use Rattle.value_lower.specs.Plan.{Ask, Plan, Gives, Fails, Asks, Size, Put}
 use Rattle.value_lower.specs.Following.{Came, Words, Failed, Ended}
 use Rattle.lowered_values.specs.Settling.{Answer, Settles}
-use Rattle.lowered_values.specs.Rooms.{FollowedOver, FollowedSettle, Leaves, StoredStand, ListsStand, PlacedStand, LoweredStand}
+use Rattle.lowered_values.specs.Rooms.{FollowedOver, FollowedSettle, Leaves, StoredStand, ListsStand, PlacedStand, LoweredStand, LoweredAreTyped, PlacedAreTyped}
 use Rattle.lowered_values.specs.Values.{AllInRange, none_in, more_in, AllAre, none_are, more_are}
 use Rattle.ca_types.specs.declared.types.ValType.{ValType}
 use Rattle.ca_types.specs.declared.value.Value.{Value}
@@ -13,7 +13,12 @@ use Rattle.lowered_values.specs.Apart.{Region, Apart}
 use Rattle.lowered_values.specs.Laws.{target, list_target, IsPlaced}
 use Rattle.value_lower.specs.Lowering.{stored, all_stored, placed, flat_lowered}
 use Rattle.value_lift.specs.Stored.{IsStored, AreStored, IsFlattened}
+use Rattle.ca_types.specs.declared.core_type.CoreType.TheVariants.{I32}
+use Rattle.ca_types.specs.Flat.{flat}
+use Rattle.value_lower.proofs.Giving.{given}
+use Rattle.value_lift.specs.WordStanding.{AreWords}
 use Rattle.lowered_values.proofs.Fitted.{fitted}
+use Rattle.lowered_values.proofs.Widths.{flat_gives, placed_gives}
 use Rattle.lowered_values.proofs.Standing.{stored_values_stand, stored_lists_stand, placed_values_stand, lowered_words_stand}
 
 -- the core values that a plan came to
@@ -46,21 +51,19 @@ module _ {R T : Type 0} (answers : R → Ask → Result ℕ (RoomEnd T) → R �
       (w.0, (h.0, h.1, w.1))
 
   pub followed_settle : FollowedSettle answers memory wrote
-  followed_settle is (Gives words) r s over given h = (h.0, ap memory h.2, h.1)
-  followed_settle is (Fails why) r s over given h = h
-  followed_settle is (Asks ask k) r s over given h =
+  followed_settle (Gives words) r s over given h = (h.0, ap memory h.2, h.1)
+  followed_settle (Fails why) r s over given h = h
+  followed_settle (Asks ask k) r s over given h =
       let e : Answer = record { asked = ask; place = h.0; before = memory r; after = memory h.1 } in
       subst (λ (es : List Answer). Settles (Asks ask k) (memory r) es (memory s) given) (sym h.3)
-      (record { asked = refl; before = refl; low = is.low r h.1 ask h.0 h.4; grows = is.grows r h.1 ask h.0 h.4 }, followed_settle is (k h.0) h.1 s h.2 given h.5)
-  followed_settle is (Size k) r s over given h = followed_settle is (k (length (memory r))) r s over given h
-  followed_settle is (Put place bytes k) r s over given h =
-      subst (λ (m : List ℕ). Settles k m over (memory s) given) (is.puts r h.0 place bytes h.1) (followed_settle is k h.0 s over given h.2)
+      (record { asked = refl; before = refl; low = h.4.1; grows = h.4.2 }, followed_settle (k h.0) h.1 s h.2 given h.5)
+  followed_settle (Size k) r s over given h = followed_settle (k (length (memory r))) r s over given h
+  followed_settle (Put place bytes k) r s over given h =
+      subst (λ (m : List ℕ). Settles k m over (memory s) given) h.1.1 (followed_settle k h.0 s over given h.2)
 
   leaves : (plan : Plan) (regions : List Region) (Holds : List ℕ → List ℕ → Type 0)
       → ((before after given : List ℕ) (over : List Answer) → Settles plan before over after given → Apart regions over → Holds after given) → Leaves answers memory wrote plan regions Holds
-  leaves plan regions Holds law is r s given h =
-      let w = followed_over plan r s given h in
-      (w.0, w.1, λ apart. law (memory r) (memory s) given w.0 (followed_settle is plan r s w.0 given w.1) apart)
+  leaves plan regions Holds law r s over given h apart = law (memory r) (memory s) given over (followed_settle plan r s over given h) apart
 
   pub stored_stand : StoredStand answers memory wrote
   stored_stand type v place ranged fit =
@@ -81,3 +84,10 @@ module _ {R T : Type 0} (answers : R → Ask → Result ℕ (RoomEnd T) → R �
   lowered_stand type v ranged fit =
       leaves (flat_lowered type v) [] (λ after given. IsFlattened after type v given)
       (λ before after given over settles apart. lowered_words_stand type v before after given over (fitted ranged type fit) settles apart)
+
+  pub lowered_are_typed : LoweredAreTyped answers memory wrote
+  lowered_are_typed type v r s words ranged fit h =
+      given (λ (ws : List ℕ). AreWords (flat type) ws) answers memory wrote (flat_lowered type v) r s words h (flat_gives type v (fitted ranged type fit))
+
+  pub placed_are_typed : PlacedAreTyped answers memory wrote
+  placed_are_typed type v r s words h = given (λ (ws : List ℕ). AreWords (I32 ∷ []) ws) answers memory wrote (placed type v) r s words h (placed_gives type v)

@@ -6,7 +6,8 @@ use Rattle.value_lower.specs.Plan.{Plan, Fails, Size, Put}
 use Rattle.value_lower.specs.declared.ends.LowerWhy.TheVariants.{Misaligned, Bounds}
 use Rattle.value_lower.specs.Lowering.{tested}
 use Rattle.value_lift.specs.Bytes.{bytes_at}
-use Rattle.lowered_values.specs.Settling.{Answer, Settles, written}
+use Rattle.value_lower.specs.Following.{written}
+use Rattle.lowered_values.specs.Settling.{Answer, Settles}
 use Rattle.lowered_values.specs.Apart.{Region, Within, In, Apart, given}
 use Rattle.lowered_values.proofs.Memories.{length_written, there, beside, same_bytes}
 

@@ -9,5 +9,8 @@ pub mod Followed
 pub mod Words
 pub mod WordsByKind
 pub mod WordsSounding
+pub mod Widths
 pub mod Fitted
+pub mod Ranged
+pub mod Lifted
 pub mod TwoTexts

@@ -2,7 +2,7 @@
 use Rattle.std.proofs.Common.{◌≡◌, ◌∙◌, ◌≤◌, ◌<◌, ◌+◌, ◌-◌, ◌⊎◌, ℕ, List, ◌++◌, length, take, drop, get_or, refl, ap, sym, arith, inl, inr, append_assoc}
 use Rattle.std.proofs.lemmas.List.{ext_get_or, length-append, length-take, length-drop, length-take-le, take_at, drop_at, get_or-append_right, get_or_append_left, get_or-take, get_or-drop}
 use Rattle.value_lift.specs.Bytes.{bytes_at}
-use Rattle.lowered_values.specs.Settling.{written}
+use Rattle.value_lower.specs.Following.{written}
 
 pub length_written : (place : ℕ) (bytes memory : List ℕ) → place + length bytes ≤ length memory → length (written place bytes memory) ≡ length memory
 length_written place bytes memory inside = simp (length-append, length-take, length-drop) (omega arith)
@@ -36,10 +36,10 @@ pub beside : (place : ℕ) (bytes memory : List ℕ) (a : ℕ) → place + lengt
 beside place bytes memory a inside (inl low) = before place bytes memory a inside low
 beside place bytes memory a inside (inr high) = behind place bytes memory a inside high
 
-bytes_long : (place count : ℕ) (memory : List ℕ) → place + count ≤ length memory → length (bytes_at place count memory) ≡ count
+pub bytes_long : (place count : ℕ) (memory : List ℕ) → place + count ≤ length memory → length (bytes_at place count memory) ≡ count
 bytes_long place count memory h = length-take-le count (drop place memory) (omega (arith, length-drop place memory))
 
-byte_of : (place count : ℕ) (memory : List ℕ) (i : ℕ) → i < count → get_or (bytes_at place count memory) i 0 ≡ get_or memory (place + i) 0
+pub byte_of : (place count : ℕ) (memory : List ℕ) (i : ℕ) → i < count → get_or (bytes_at place count memory) i 0 ≡ get_or memory (place + i) 0
 byte_of place count memory i low = get_or-take count (drop place memory) i 0 low ∙ get_or-drop place memory i 0
 
 -- Bytes are the same where each is.

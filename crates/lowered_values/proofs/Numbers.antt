@@ -58,11 +58,11 @@ few_bits flags count h =
     let k : 2 ^ length flags ≤ 2 ^ count = pow_mono h in
     omega (arith, bits_below flags, k)
 
-pub flags_below : (flags : List Bool) (count : ℕ) → length flags ≡ count → count ≤ 32 → bits_of flags < 2 ^ bits (width_of (bits_size count))
+pub flags_below : (flags : List Bool) (count : ℕ) → length flags ≡ count → bits_of flags < 2 ^ 32 → bits_of flags < 2 ^ bits (width_of (bits_size count))
 flags_below flags count h i =
     cond_both (nat_le count 8) 1 (cond (nat_le count 16) 2 4) (λ (k : ℕ). bits_of flags < 2 ^ bits (width_of k))
     (λ e. few_bits flags 8 (omega (arith, h, leb-true count 8 e)))
-    (λ e. cond_both (nat_le count 16) 2 4 (λ (k : ℕ). bits_of flags < 2 ^ bits (width_of k)) (λ f. few_bits flags 16 (omega (arith, h, leb-true count 16 f))) (λ f. few_bits flags 32 (omega (arith, h, i))))
+    (λ e. cond_both (nat_le count 16) 2 4 (λ (k : ℕ). bits_of flags < 2 ^ bits (width_of k)) (λ f. few_bits flags 16 (omega (arith, h, leb-true count 16 f))) (λ f. i))
 
 pub are_bits : (labels : List (List ℕ)) (flags : List Bool) → length flags ≡ length labels → AreBits labels (bits_of flags) flags
 are_bits [] [] h = tt

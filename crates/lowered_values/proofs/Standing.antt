@@ -4,14 +4,14 @@ use Rattle.ca_types.specs.declared.types.ValType.{ValType}
 use Rattle.ca_types.specs.declared.value.Value.{Value}
 use Rattle.ca_types.specs.Layout.{laid}
 use Rattle.value_lower.specs.Plan.{Plan, Gives}
-use Rattle.value_lower.specs.Lowering.{lowered, store, stored, all_stored, flat_lowered, elements_from}
+use Rattle.value_lower.specs.Lowering.{lowered, store, stored, all_stored, placed, flat_lowered, elements_from}
 use Rattle.value_lift.specs.Standing.{Stands, AreElements}
 use Rattle.value_lift.specs.Stored.{IsStored, AreStored, IsFlattened}
 use Rattle.value_lift.proofs.Loaded.{loaded_values_stand, loaded_lists_stand, lifted_words_stand}
 use Rattle.lowered_values.specs.Settling.{Answer, Settles}
 use Rattle.lowered_values.specs.Apart.{Region, Within, In, Apart, given}
 use Rattle.lowered_values.specs.Values.{IsOf, AllAre}
-use Rattle.lowered_values.specs.Laws.{StoredValuesStand, StoredListsStand, PlacedValuesStand, StoresLeaveOthers, ListsLeaveOthers, WordsLeaveOthers, StoredValuesAreLoaded, StoredListsAreLoaded, LoweredWordsStand, LoweredWordsAreLifted, target, list_target}
+use Rattle.lowered_values.specs.Laws.{StoredValuesStand, StoredListsStand, PlacedValuesStand, IsPlaced, StoresLeaveOthers, ListsLeaveOthers, PlacedLeaveOthers, WordsLeaveOthers, StoredValuesAreLoaded, StoredListsAreLoaded, LoweredWordsStand, LoweredWordsAreLifted, target, list_target}
 use Rattle.lowered_values.proofs.Going.{Went, was_tested, region}
 use Rattle.lowered_values.proofs.Asking.{was_asked}
 use Rattle.lowered_values.proofs.Sounding.{sound, elements_go}
@@ -89,17 +89,34 @@ lists_leave_others type (v ∷ all) place memory after words answers are settles
     (were_stored type v all place (other ∷ list_target type place (v ∷ all) ∷ []) memory after words answers are settles (λ a w. inr (inl w)) apart).frame a (inl w) (λ i. disjoint a (inl i) w)
 lists_leave_others type (v ∷ all) place memory after words answers are settles other disjoint apart a (inr w) = absurd w
 
-pub placed_values_stand : PlacedValuesStand
-placed_values_stand type v memory after words answers is settles apart =
+record WasPlaced (type : ValType) (v : Value) (regions : List Region) (memory after words : List ℕ) : Type 0 where
+  pub is : IsPlaced type v after words
+  pub frame : (a : ℕ) → In regions a → get_or after a 0 ≡ get_or memory a 0
+
+was_placed : (type : ValType) (v : Value) (r : List Region) (memory after words : List ℕ) (answers : List Answer) → IsOf type v → Settles (placed type v) memory answers after words
+    → Apart r answers → WasPlaced type v r memory after words
+was_placed type v r memory after words answers is settles apart =
     let w = was_asked 1 (laid type).align (laid type).size memory (λ place. store type v place (Gives (place ∷ []))) answers after words settles in
     let p : ℕ = w.answer.place in
-    let h : Apart [] (w.answer ∷ w.rest) = subst (λ (es : List Answer). Apart [] es) w.all apart in
+    let h : Apart r (w.answer ∷ w.rest) = subst (λ (es : List Answer). Apart r es) w.all apart in
     let size : w.answer.asked.size ≡ (laid type).size = ap (λ q. q.size) w.is.asked in
     let e =
-    ended (p ∷ []) (target type p) (given w.answer ∷ []) w.answer.after after words (λ m. Stands m p type v)
-    (sound is p (Gives (p ∷ [])) (given w.answer ∷ []) w.answer.after w.rest after words w.tested.inside
+    ended (p ∷ []) (target type p) (given w.answer ∷ r) w.answer.after after words (λ m. Stands m p type v)
+    (sound is p (Gives (p ∷ [])) (given w.answer ∷ r) w.answer.after w.rest after words w.tested.inside
     (λ a i. inl (i.0, (let n : a < w.answer.place + w.answer.asked.size = omega (arith, i.1, size) in n))) h.2 w.tested.settles) in
-    record { place = p; words_are = e.words_are; low = w.is.low; stored = record { aligned = w.tested.aligned; inside = omega (arith, w.tested.inside, e.grown); stands = e.post } }
+    record {
+      is = record { place = p; words_are = e.words_are; low = w.is.low; stored = record { aligned = w.tested.aligned; inside = omega (arith, w.tested.inside, e.grown); stands = e.post } };
+      frame = λ a i.
+          e.frame a (inr i) (λ j. h.0 a i (j.0, (let n : a < w.answer.place + w.answer.asked.size = omega (arith, j.1, size) in n)))
+          ∙ h.1 a i
+          ∙ ap (λ (m : List ℕ). get_or m a 0) w.is.before;
+    }
+
+pub placed_values_stand : PlacedValuesStand
+placed_values_stand type v memory after words answers is settles apart = (was_placed type v [] memory after words answers is settles apart).is
+
+pub placed_leave_others : PlacedLeaveOthers
+placed_leave_others type v memory after words answers is settles other disjoint apart a w = (was_placed type v (other ∷ []) memory after words answers is settles apart).frame a w
 
 pub stored_values_are_loaded : StoredValuesAreLoaded
 stored_values_are_loaded what type v place memory after words answers is settles apart few =

@@ -33,7 +33,7 @@ use Rattle.value_lift.proofs.Views.{out_bool, out_s8, out_u8, out_s16, out_u16, 
 use Rattle.value_lift.proofs.Wrapped.{Below, Shares, shares, words_many, below_length}
 use Rattle.lowered_values.specs.Settling.{Settles}
 use Rattle.lowered_values.proofs.Going.{Goes, Went, went_more, goes_put, region}
-use Rattle.lowered_values.proofs.Numbers.{few_bits, are_bits, unsigned_below, signed_back}
+use Rattle.lowered_values.proofs.Numbers.{are_bits, unsigned_below, signed_back}
 use Rattle.lowered_values.proofs.ByKind.{lowered_payload}
 use Rattle.lowered_values.proofs.Words.{GoesWords, words_now, words_asked, filled_are, low_bits_8, low_bits_16, word_8, word_16}
 
@@ -41,20 +41,20 @@ use Rattle.lowered_values.proofs.Words.{GoesWords, words_now, words_asked, fille
 abbrev pub Flat : ValType → Value → Type 0
 Flat t v = GoesWords (flat_words t v) (λ ws m. IsFlattened m t v ws)
 
-words_by : (v : Value) (y : V.Value-F Value) (t : ValType) (before : List ℕ) (K : List ℕ → Plan) → roll-Value y ≡ v → flat_words t v before K ≡ words_case (map-Value Value Lowered lowered y) t before K
+pub words_by : (v : Value) (y : V.Value-F Value) (t : ValType) (before : List ℕ) (K : List ℕ → Plan) → roll-Value y ≡ v → flat_words t v before K ≡ words_case (map-Value Value Lowered lowered y) t before K
 words_by v y t before K e = ap (λ (l : Lowered). l.words t before K) (ap lowered (sym e) ∙ fold-roll-Value Lowered lower_step y)
 
-types_of : (t : ValType) (y : F.ValType-F ValType Case Field) → out-ValType t ≡ y → flat t ≡ flat_step (flats_in y)
+pub types_of : (t : ValType) (y : F.ValType-F ValType Case Field) → out-ValType t ≡ y → flat t ≡ flat_step (flats_in y)
 types_of t y e = flat_is t ∙ ap (λ (y : F.ValType-F ValType Case Field). flat_step (flats_in y)) e
 
 -- one core value
-one_32 : (t : ValType) (w : ℕ) → flat t ≡ I32 ∷ [] → w < 2 ^ 32 → AreWords (flat t) (w ∷ [])
+pub one_32 : (t : ValType) (w : ℕ) → flat t ≡ I32 ∷ [] → w < 2 ^ 32 → AreWords (flat t) (w ∷ [])
 one_32 t w e h = subst (λ (ts : List CoreType). AreWords ts (w ∷ [])) (sym e) (h, tt)
 
-one_64 : (t : ValType) (w : ℕ) → flat t ≡ I64 ∷ [] → w < 2 ^ 64 → AreWords (flat t) (w ∷ [])
+pub one_64 : (t : ValType) (w : ℕ) → flat t ≡ I64 ∷ [] → w < 2 ^ 64 → AreWords (flat t) (w ∷ [])
 one_64 t w e h = subst (λ (ts : List CoreType). AreWords ts (w ∷ [])) (sym e) (h, tt)
 
-two_32 : (t : ValType) (v w : ℕ) → flat t ≡ I32 ∷ I32 ∷ [] → v < 2 ^ 32 → w < 2 ^ 32 → AreWords (flat t) (v ∷ w ∷ [])
+pub two_32 : (t : ValType) (v w : ℕ) → flat t ≡ I32 ∷ I32 ∷ [] → v < 2 ^ 32 → w < 2 ^ 32 → AreWords (flat t) (v ∷ w ∷ [])
 two_32 t v w e h i = subst (λ (ts : List CoreType). AreWords ts (v ∷ w ∷ [])) (sym e) (h, (i, tt))
 
 leaf : (t : ValType) (v : Value) (w : ℕ) → ((before : List ℕ) (K : List ℕ → Plan) → flat_words t v before K ≡ K (before ++ w ∷ [])) → AreWords (flat t) (w ∷ [])
@@ -116,12 +116,11 @@ char_lowered c low f =
     leaf leaves.Char (plain.Char c) c (λ before K. words_by (plain.Char c) (V.Char c) leaves.Char before K (plain.rolls-Char c)) (one_32 leaves.Char c (types_of leaves.Char F.Char out_char) low) (λ m. char_flat c f)
 
 -- Flags.
-pub flags_lowered : (labels : List (List ℕ)) (flags : List Bool) → length flags ≡ length labels → length flags ≤ 32 → Flat (leaves.Flags labels) (plain.Flags flags)
-flags_lowered labels flags many few =
+pub flags_lowered : (labels : List (List ℕ)) (flags : List Bool) → length flags ≡ length labels → bits_of flags < 2 ^ 32 → Flat (leaves.Flags labels) (plain.Flags flags)
+flags_lowered labels flags many low =
     let t : ValType = leaves.Flags labels in
     let v : Value = plain.Flags flags in
     let n : ℕ = bits_of flags in
-    let low : n < 2 ^ 32 = few_bits flags 32 few in
     leaf t v n (λ before K. words_by v (V.Flags flags) t before K (plain.rolls-Flags flags) ∙ ap (λ (i : ℕ). K (before ++ i ∷ [])) (mod-eq_of_lt low)) (one_32 t n (types_of t (F.Flags labels) (out_flags labels)) low)
     (λ m. flags_flat labels flags n (are_bits labels flags many))
 
@@ -141,6 +140,14 @@ string_lowered text utf8 =
     })
 
 -- Lists.
+pub list_words : (element : ValType) (all : List Value) (before : List ℕ) (K : List ℕ → Plan) → flat_words (types.List element) (values.List all) before K
+    ≡ asked (length all) (laid element).align (length all * (laid element).size) (λ to. elements_from element to (map lowered all) (K (before ++ to ∷ length all ∷ [])))
+list_words element all before K =
+    let part : part_at (types.List element) 0 ≡ Some element = ap (λ (y : F.ValType-F ValType Case Field). part_in (parts_case y) 0) (out_list element) in
+    words_by (values.List all) (V.List all) (types.List element) before K (plain.rolls-List all)
+    ∙ ap (λ (p : Option ValType). list_in p (map lowered all) (λ to. K (before ++ to ∷ length (map lowered all) ∷ []))) part
+    ∙ ap (λ (n : ℕ). asked n (laid element).align (n * (laid element).size) (λ to. elements_from element to (map lowered all) (K (before ++ to ∷ n ∷ [])))) (length-map all lowered)
+
 pub list_lowered : (element : ValType) (all : List Value)
     → ((at : ℕ) → Goes (elements_from element at (map lowered all)) at (length all * (laid element).size) (λ m. AreElements m at element all)) → Flat (types.List element) (values.List all)
 list_lowered element all parts =
@@ -149,12 +156,7 @@ list_lowered element all parts =
     let v : Value = values.List all in
     let bytes : ℕ = count * (laid element).size in
     let Post : ℕ → List ℕ → Type 0 = λ to m. AreElements m to element all in
-    let part : part_at t 0 ≡ Some element = ap (λ (y : F.ValType-F ValType Case Field). part_in (parts_case y) 0) (out_list element) in
-    words_asked (flat_words t v) count (laid element).align bytes (λ to k. elements_from element to (map lowered all) k) Post (λ ws m. IsFlattened m t v ws)
-    (λ before K.
-    words_by v (V.List all) t before K (plain.rolls-List all)
-    ∙ ap (λ (p : Option ValType). list_in p (map lowered all) (λ to. K (before ++ to ∷ length (map lowered all) ∷ []))) part
-    ∙ ap (λ (n : ℕ). asked n (laid element).align (n * (laid element).size) (λ to. elements_from element to (map lowered all) (K (before ++ to ∷ n ∷ [])))) (length-map all lowered))
+    words_asked (flat_words t v) count (laid element).align bytes (λ to k. elements_from element to (map lowered all) k) Post (λ ws m. IsFlattened m t v ws) (list_words element all)
     (λ to. parts to)
     (λ m to low few aligned inside post. record {
       typed = two_32 t to count (types_of t (F.List element) (out_list element)) low few;
@@ -165,14 +167,18 @@ list_lowered element all parts =
 abbrev pub FieldsFlat : List ValType → List Value → Type 0
 FieldsFlat types all = GoesWords (field_words (map (λ (t : ValType). Some t) types) (map lowered all)) (λ ws m. AreWords (all_of (map flat types)) ws × AreFlat m types all ws)
 
+pub row_words : (t : ValType) (types : List ValType) (all : List Value) → parts_of t ≡ map (λ (t : ValType). Some t) types → (before : List ℕ) (K : List ℕ → Plan)
+    → flat_words t (values.Record all) before K ≡ field_words (map (λ (t : ValType). Some t) types) (map lowered all) before K
+row_words t types all e before K =
+    words_by (values.Record all) (V.Record all) t before K (plain.rolls-Record all) ∙ ap (λ (ts : List (Option ValType)). field_words ts (map lowered all) before K) e
+
 pub row_lowered : (t : ValType) (types : List ValType) (all : List Value) → parts_of t ≡ map (λ (t : ValType). Some t) types → flat t ≡ all_of (map flat types) → FieldsFlat types all
     → ((m ws : List ℕ) → AreFlat m types all ws → FlatOf m t (values.Record all) ws) → Flat t (values.Record all)
 row_lowered t types all e f parts stands before K regions memory answers after given apart settles =
     let v : Value = values.Record all in
     let w =
     parts before K regions memory answers after given apart
-    (subst (λ (p : Plan). Settles p memory answers after given)
-    (words_by v (V.Record all) t before K (plain.rolls-Record all) ∙ ap (λ (ts : List (Option ValType)). field_words ts (map lowered all) before K) e) settles) in
+    (subst (λ (p : Plan). Settles p memory answers after given) (row_words t types all e before K) settles) in
     record {
       words = w.words;
       went =
@@ -192,37 +198,56 @@ payload_below : (types : List CoreType) (p : Option ValType) → ((q : ValType) 
 payload_below types (Some q) h = h q refl
 payload_below types None h = tt
 
-pub case_lowered : (t : ValType) (y : F.ValType-F ValType Case Field) (n : ℕ) (p : Option ValType) (payload : Option Value) → out-ValType t ≡ y → HasCases y → n < 2 ^ 32
-    → part_in (parts_case y) n ≡ p → PayloadFlat p payload
-    → ((m ws : List ℕ) → AreWords (flat t) (n ∷ ws) → IsFlatPayload m p payload ws → FlatOf m t (values.Variant n payload) (n ∷ ws)) → Flat t (values.Variant n payload)
-case_lowered t y n p payload e kind low at goes stands before K regions memory answers after given apart settles =
-    let v : Value = values.Variant n payload in
+-- the zeros behind the number of a case and its payload
+abbrev pub case_zeros : ValType → ℕ → List ℕ → List ℕ → List ℕ
+case_zeros t n before ws = replicate (length (flat t) - (length ((before ++ n ∷ []) ++ ws) - length before)) 0
+
+pub case_same : (t : ValType) (n : ℕ) (before ws : List ℕ) → filled (length (flat t)) (length before) ((before ++ n ∷ []) ++ ws) ≡ before ++ n ∷ (ws ++ case_zeros t n before ws)
+case_same t n before ws =
+    let zs : List ℕ = case_zeros t n before ws in
+    append_assoc (before ++ n ∷ []) ws zs ∙ append_assoc before (n ∷ []) (ws ++ zs)
+
+pub case_plan : (t : ValType) (y : F.ValType-F ValType Case Field) (n : ℕ) (p : Option ValType) (payload : Option Value) → out-ValType t ≡ y → part_in (parts_case y) n ≡ p
+    → (before : List ℕ) (K : List ℕ → Plan)
+    → flat_words t (values.Variant n payload) before K ≡ payload_words p (lowered_payload payload) (before ++ n ∷ []) (λ ws. K (filled (length (flat t)) (length before) ws))
+case_plan t y n p payload e at before K =
+    let part : part_at t n ≡ p = ap (λ (y : F.ValType-F ValType Case Field). part_in (parts_case y) n) e ∙ at in
+    variant_words n payload t before K ∙ ap (λ (o : Option ValType). payload_words o (lowered_payload payload) (before ++ n ∷ []) (λ ws. K (filled (length (flat t)) (length before) ws))) part
+
+pub case_typed : (t : ValType) (y : F.ValType-F ValType Case Field) (n : ℕ) (p : Option ValType) → out-ValType t ≡ y → HasCases y → n < 2 ^ 32 → part_in (parts_case y) n ≡ p
+    → (before ws : List ℕ) → AreWords (flat_payload p) ws → AreWords (flat t) (n ∷ (ws ++ case_zeros t n before ws))
+case_typed t y n p e kind low at before ws a =
     let s : Shares y = shares y kind in
     let is : flat t ≡ I32 ∷ s.types = types_of t y e ∙ s.is in
-    let part : part_at t n ≡ p = ap (λ (y : F.ValType-F ValType Case Field). part_in (parts_case y) n) e ∙ at in
     let many : length (flat t) ≡ suc (length s.types) = ap (λ (ts : List CoreType). length ts) is in
-    let Q : List ℕ → Plan = λ ws. K (filled (length (flat t)) (length before) ws) in
-    let w =
-    goes (before ++ n ∷ []) Q regions memory answers after given apart
-    (subst (λ (q : Plan). Settles q memory answers after given)
-    (variant_words n payload t before K ∙ ap (λ (o : Option ValType). payload_words o (lowered_payload payload) (before ++ n ∷ []) Q) part) settles) in
-    let ws : List ℕ = w.words in
     let whole : List ℕ = (before ++ n ∷ []) ++ ws in
     let c : ℕ = length (flat t) - (length whole - length before) in
     let long : length whole ≡ length (before ++ n ∷ []) + length ws = length-append (before ++ n ∷ []) ws in
     let front : length (before ++ n ∷ []) ≡ length before + 1 = length-append before (n ∷ []) in
     let under : Below (flat_payload p) s.types = payload_below s.types p (λ q f. s.below n q (at ∙ f)) in
-    let zs : List ℕ = replicate c 0 in
-    let same : filled (length (flat t)) (length before) whole ≡ before ++ n ∷ (ws ++ zs) = append_assoc (before ++ n ∷ []) ws zs ∙ append_assoc before (n ∷ []) (ws ++ zs) in
+    let count : length ws ≡ length (flat_payload p) = words_many (flat_payload p) ws a in
+    let fill : length ws + c ≡ length s.types = omega (arith, long, front, many, count, below_length (flat_payload p) s.types under) in
+    subst (λ (ts : List CoreType). AreWords ts (n ∷ (ws ++ case_zeros t n before ws))) (sym is) (low, filled_are (flat_payload p) s.types ws c under a fill)
+
+pub case_lowered : (t : ValType) (y : F.ValType-F ValType Case Field) (n : ℕ) (p : Option ValType) (payload : Option Value) → out-ValType t ≡ y → HasCases y → n < 2 ^ 32
+    → part_in (parts_case y) n ≡ p → PayloadFlat p payload
+    → ((m ws : List ℕ) → AreWords (flat t) (n ∷ ws) → IsFlatPayload m p payload ws → FlatOf m t (values.Variant n payload) (n ∷ ws)) → Flat t (values.Variant n payload)
+case_lowered t y n p payload e kind low at goes stands before K regions memory answers after given apart settles =
+    let v : Value = values.Variant n payload in
+    let Q : List ℕ → Plan = λ ws. K (filled (length (flat t)) (length before) ws) in
+    let w =
+    goes (before ++ n ∷ []) Q regions memory answers after given apart
+    (subst (λ (q : Plan). Settles q memory answers after given) (case_plan t y n p payload e at before K) settles) in
+    let ws : List ℕ = w.words in
+    let zs : List ℕ = case_zeros t n before ws in
     record {
       words = n ∷ (ws ++ zs);
       went =
-          subst (λ (l : List ℕ). Went (K l) (region 0 0) regions memory after given (λ m. IsFlattened m t v (n ∷ (ws ++ zs)))) same
-          (went_more (Q whole) (region 0 0) regions memory after given (λ m. AreWords (flat_payload p) ws × ((zs : List ℕ) → IsFlatPayload m p payload (ws ++ zs))) (λ m. IsFlattened m t v (n ∷ (ws ++ zs)))
+          subst (λ (l : List ℕ). Went (K l) (region 0 0) regions memory after given (λ m. IsFlattened m t v (n ∷ (ws ++ zs)))) (case_same t n before ws)
+          (went_more (Q ((before ++ n ∷ []) ++ ws)) (region 0 0) regions memory after given (λ m. AreWords (flat_payload p) ws × ((zs : List ℕ) → IsFlatPayload m p payload (ws ++ zs)))
+          (λ m. IsFlattened m t v (n ∷ (ws ++ zs)))
           (λ m h.
-          let count : length ws ≡ length (flat_payload p) = words_many (flat_payload p) ws h.0 in
-          let fill : length ws + c ≡ length s.types = omega (arith, long, front, many, count, below_length (flat_payload p) s.types under) in
-          let typed : AreWords (flat t) (n ∷ (ws ++ zs)) = subst (λ (ts : List CoreType). AreWords ts (n ∷ (ws ++ zs))) (sym is) (low, filled_are (flat_payload p) s.types ws c under h.0 fill) in
+          let typed : AreWords (flat t) (n ∷ (ws ++ zs)) = case_typed t y n p e kind low at before ws h.0 in
           record { typed = typed; stands = stands m (ws ++ zs) typed (h.1 zs) })
           w.went);
     }

@@ -8,6 +8,9 @@ use Rattle.ca_types.specs.Layout.{laid}
 use Rattle.value_lift.specs.declared.counting.LiftOf.{LiftOf}
 use Rattle.value_lift.specs.Lifting.{load, load_list, lift_flat, most}
 use Rattle.value_lift.specs.Standing.{total, counts}
+use Rattle.ca_types.specs.declared.core_type.CoreType.TheVariants.{I32}
+use Rattle.ca_types.specs.Flat.{flat}
+use Rattle.value_lift.specs.WordStanding.{AreWords}
 use Rattle.value_lift.specs.Stored.{IsStored, AreStored, IsFlattened}
 use Rattle.value_lower.specs.Lowering.{stored, all_stored, placed, flat_lowered}
 use Rattle.lowered_values.specs.Settling.{Answer, Settles}
@@ -70,6 +73,17 @@ LoweredWordsStand =
     (type : ValType) (v : Value) (memory after words : List ℕ) (answers : List Answer) → IsOf type v → Settles (flat_lowered type v) memory answers after words → Apart [] answers
     → IsFlattened after type v words
 
+-- Wherever places lie, these core values are of the type's core types,
+abbrev pub LoweredWordsAreTyped : Type 0
+LoweredWordsAreTyped =
+    (type : ValType) (v : Value) (memory after words : List ℕ) (answers : List Answer) → IsOf type v → Settles (flat_lowered type v) memory answers after words
+    → AreWords (flat type) words
+
+-- and the one core value of a value that was stored at a new place is an i32.
+abbrev pub PlacedWordsAreTyped : Type 0
+PlacedWordsAreTyped =
+    (type : ValType) (v : Value) (memory after words : List ℕ) (answers : List Answer) → Settles (placed type v) memory answers after words → AreWords (I32 ∷ []) words
+
 -- What was lowered into core values is lifted from them, where it is not too large.
 abbrev pub LoweredWordsAreLifted : Type 0
 LoweredWordsAreLifted =
@@ -92,6 +106,12 @@ abbrev pub ListsLeaveOthers : Type 0
 ListsLeaveOthers =
     (type : ValType) (all : List Value) (place : ℕ) (memory after words : List ℕ) (answers : List Answer) → AllAre type all
     → Settles (all_stored type all place) memory answers after words → Stays (list_target type place all ∷ []) answers memory after
+
+-- with all that is there where a value is stored at a new place,
+abbrev pub PlacedLeaveOthers : Type 0
+PlacedLeaveOthers =
+    (type : ValType) (v : Value) (memory after words : List ℕ) (answers : List Answer) → IsOf type v → Settles (placed type v) memory answers after words
+    → Stays [] answers memory after
 
 -- and with all that is there where a value is lowered into core values.
 abbrev pub WordsLeaveOthers : Type 0

@@ -3,4 +3,5 @@ pub mod Apart
 pub mod Values
 pub mod Laws
 pub mod Rooms
+pub mod Lifted
 pub mod Examples

@@ -1,24 +1,21 @@
--- Rooms that are memories, and the answers that their reallocs give while a plan is followed.
-use Rattle.std.specs.Prelude.{◌≡◌, ◌≤◌, ◌<◌, ◌^◌, ℕ, true, List, [], ◌∷◌, length, Result, Ok}
+-- The answers that a room's reallocs give while a plan is followed, and what holds of the room then.
+use Rattle.std.specs.Prelude.{◌≡◌, ◌<◌, ℕ, true, List, [], ◌∷◌, length, Result}
 use Rattle.ca_types.specs.declared.types.ValType.{ValType}
 use Rattle.ca_types.specs.declared.value.Value.{Value}
 use Rattle.ca_types.specs.Fits.{fits}
+use Rattle.ca_types.specs.declared.core_type.CoreType.TheVariants.{I32}
+use Rattle.ca_types.specs.Flat.{flat}
+use Rattle.value_lift.specs.WordStanding.{AreWords}
 use Rattle.value_lift.specs.Stored.{IsStored, AreStored, IsFlattened}
 use Rattle.value_lower.specs.declared.ends.RoomEnd.{RoomEnd}
 use Rattle.value_lower.specs.Plan.{Ask, Plan, Gives, Fails, Asks, Size, Put}
-use Rattle.value_lower.specs.Following.{Follows, Words}
+use Rattle.value_lower.specs.Following.{Follows, Words, Answered, Wrote}
 use Rattle.value_lower.specs.Lowering.{stored, all_stored, placed, flat_lowered}
 use Rattle.value_lower.specs.Fitting.{AllFit}
 use Rattle.lowered_values.specs.Apart.{Region, Apart}
 use Rattle.lowered_values.specs.Values.{InRange, AllInRange}
 use Rattle.lowered_values.specs.Laws.{target, list_target, IsPlaced}
-use Rattle.lowered_values.specs.Settling.{Answer, Settles, written}
-
--- A store puts its bytes and leaves all others as they are; a place is an i32, and the memory gets no shorter.
-pub record IsMemory {R T : Type 0} (answers : R → Ask → Result ℕ (RoomEnd T) → R → Type 0) (memory : R → List ℕ) (wrote : R → ℕ → List ℕ → R → Type 0) : Type 0 where
-  pub puts : (r s : R) (place : ℕ) (bytes : List ℕ) → wrote r place bytes s → memory s ≡ written place bytes (memory r)
-  pub low : (r s : R) (ask : Ask) (place : ℕ) → answers r ask (Ok place) s → place < 2 ^ 32
-  pub grows : (r s : R) (ask : Ask) (place : ℕ) → answers r ask (Ok place) s → length (memory r) ≤ length (memory s)
+use Rattle.lowered_values.specs.Settling.{Answer, Settles}
 
 -- From this room the plan comes to these core values, and leaves that room, and these are the answers on the way.
 abbrev pub FollowsOver : {R T : Type 0} → (R → Ask → Result ℕ (RoomEnd T) → R → Type 0) → (R → List ℕ) → (R → ℕ → List ℕ → R → Type 0)
@@ -27,10 +24,10 @@ FollowsOver answers memory wrote (Gives words) r over given s = (over ≡ []) ×
 FollowsOver answers memory wrote (Fails why) r over given s = ⊥
 FollowsOver {R} {T} answers memory wrote (Asks ask k) r over given s =
     (place : ℕ) × (mid : R) × (rest : List Answer) × (over ≡ record { asked = ask; place = place; before = memory r; after = memory mid } ∷ rest)
-    × answers r ask (Ok place) mid × FollowsOver answers memory wrote (k place) mid rest given s
+    × Answered answers memory r ask place mid × FollowsOver answers memory wrote (k place) mid rest given s
 FollowsOver answers memory wrote (Size k) r over given s = FollowsOver answers memory wrote (k (length (memory r))) r over given s
 FollowsOver {R} answers memory wrote (Put place bytes k) r over given s =
-    (mid : R) × wrote r place bytes mid × FollowsOver answers memory wrote k mid over given s
+    (mid : R) × Wrote memory wrote r place bytes mid × FollowsOver answers memory wrote k mid over given s
 
 -- A plan that is followed to its core values is followed over some answers;
 abbrev pub FollowedOver : {R T : Type 0} → (R → Ask → Result ℕ (RoomEnd T) → R → Type 0) → (R → List ℕ) → (R → ℕ → List ℕ → R → Type 0) → Type 0
@@ -38,19 +35,18 @@ FollowedOver {R} {T} answers memory wrote =
     (plan : Plan) (r s : R) (given : List ℕ) → Follows answers memory wrote plan r (Words given) s
     → (over : List Answer) × FollowsOver answers memory wrote plan r over given s
 
--- and so it goes in the memory of a room that is one.
+-- and so it goes in the room's memory.
 abbrev pub FollowedSettle : {R T : Type 0} → (R → Ask → Result ℕ (RoomEnd T) → R → Type 0) → (R → List ℕ) → (R → ℕ → List ℕ → R → Type 0) → Type 0
 FollowedSettle {R} {T} answers memory wrote =
-    IsMemory answers memory wrote → (plan : Plan) (r s : R) (over : List Answer) (given : List ℕ) → FollowsOver answers memory wrote plan r over given s
+    (plan : Plan) (r s : R) (over : List Answer) (given : List ℕ) → FollowsOver answers memory wrote plan r over given s
     → Settles plan (memory r) over (memory s) given
 
--- Where a plan is followed in a room that is a memory, so much holds then of the memory and the core values, if what the reallocs
--- answered on the way lies apart from some regions.
+-- Wherever a plan is followed in a room over answers that lie apart from some regions, so much holds then of the memory and the core
+-- values.
 abbrev pub Leaves : {R T : Type 0} → (R → Ask → Result ℕ (RoomEnd T) → R → Type 0) → (R → List ℕ) → (R → ℕ → List ℕ → R → Type 0)
     → Plan → List Region → (List ℕ → List ℕ → Type 0) → Type 0
 Leaves {R} {T} answers memory wrote plan regions Holds =
-    IsMemory answers memory wrote → (r s : R) (given : List ℕ) → Follows answers memory wrote plan r (Words given) s
-    → (over : List Answer) × FollowsOver answers memory wrote plan r over given s × (Apart regions over → Holds (memory s) given)
+    (r s : R) (over : List Answer) (given : List ℕ) → FollowsOver answers memory wrote plan r over given s → Apart regions over → Holds (memory s) given
 
 -- A value in its ranges that fits a type and is stored in a room stands at its place,
 abbrev pub StoredStand : {R T : Type 0} → (R → Ask → Result ℕ (RoomEnd T) → R → Type 0) → (R → List ℕ) → (R → ℕ → List ℕ → R → Type 0) → Type 0
@@ -75,3 +71,14 @@ abbrev pub LoweredStand : {R T : Type 0} → (R → Ask → Result ℕ (RoomEnd 
 LoweredStand answers memory wrote =
     (type : ValType) (v : Value) → InRange v → fits v type ≡ true
     → Leaves answers memory wrote (flat_lowered type v) [] (λ after given. IsFlattened after type v given)
+
+-- Whatever is answered, the core values that a value is lowered into are of the type's core types,
+abbrev pub LoweredAreTyped : {R T : Type 0} → (R → Ask → Result ℕ (RoomEnd T) → R → Type 0) → (R → List ℕ) → (R → ℕ → List ℕ → R → Type 0) → Type 0
+LoweredAreTyped {R} {T} answers memory wrote =
+    (type : ValType) (v : Value) (r s : R) (given : List ℕ) → InRange v → fits v type ≡ true
+    → Follows answers memory wrote (flat_lowered type v) r (Words given) s → AreWords (flat type) given
+
+-- and the one core value of a value that is stored at a new place is an i32.
+abbrev pub PlacedAreTyped : {R T : Type 0} → (R → Ask → Result ℕ (RoomEnd T) → R → Type 0) → (R → List ℕ) → (R → ℕ → List ℕ → R → Type 0) → Type 0
+PlacedAreTyped {R} {T} answers memory wrote =
+    (type : ValType) (v : Value) (r s : R) (given : List ℕ) → Follows answers memory wrote (placed type v) r (Words given) s → AreWords (I32 ∷ []) given

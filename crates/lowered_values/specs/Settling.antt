@@ -1,7 +1,8 @@
 -- How a lowering goes over a memory alone (Component Model, CanonicalABI.md, "Storing", "Flat Lowering"): what a realloc answered, with
 -- the memory as it found and as it left it, and the core values and the memory that a plan comes to over such answers.
-use Rattle.std.specs.Prelude.{◌≡◌, ◌≤◌, ◌<◌, ◌+◌, ◌^◌, ℕ, List, [], ◌∷◌, ◌++◌, length, take, drop}
+use Rattle.std.specs.Prelude.{◌≡◌, ◌≤◌, ◌<◌, ◌^◌, ℕ, List, [], ◌∷◌, length}
 use Rattle.value_lower.specs.Plan.{Ask, Plan, Gives, Fails, Asks, Size, Put}
+use Rattle.value_lower.specs.Following.{written}
 
 -- One answer: what was asked, the place, and the memory before and after.
 pub record Answer : Type 0 where
@@ -9,10 +10,6 @@ pub record Answer : Type 0 where
   pub place : ℕ
   pub before : List ℕ
   pub after : List ℕ
-
--- A memory with bytes that are put at a place.
-abbrev pub written : ℕ → List ℕ → List ℕ → List ℕ
-written place bytes memory = take place memory ++ bytes ++ drop (place + length bytes) memory
 
 -- To this question, in this memory, came this answer. The place is an i32, and memories get no shorter.
 pub record IsAnswer (ask : Ask) (memory : List ℕ) (answer : Answer) : Type 0 where

@@ -1,7 +1,7 @@
 -- Which values are of a type (Component Model, Explainer.md, "Type Definitions"), with what the types of the program say of them:
--- numbers are in their ranges, texts are UTF-8, and there are at most 32 flags. For handles and the ends of streams
--- and futures there is no case yet.
-use Rattle.std.specs.Prelude.{◌≡◌, ◌≤◌, ◌<◌, ◌^◌, ℕ, ℤ, Bool, IsTrue, List, [], ◌∷◌, map, length, Option, Some, None}
+-- numbers are in their ranges, texts are UTF-8, and of flags none behind the 32nd is set: the standard has no more. For handles and the
+-- ends of streams and futures there is no case yet.
+use Rattle.std.specs.Prelude.{◌≡◌, ◌<◌, ◌^◌, ℕ, ℤ, Bool, IsTrue, List, [], ◌∷◌, map, length, Option, Some, None}
 use Rattle.std.specs.List.{slice_get}
 use Rattle.std.specs.Int.{w8, w16, w32, w64}
 use Rattle.std.specs.Prelude.{FitsSigned}
@@ -14,6 +14,7 @@ use Rattle.ca_types.specs.declared.types.ValType.TheVariants as leaves
 use Rattle.ca_types.specs.declared.value.Value.{Value}
 use Rattle.ca_types.specs.declared.value.Value.TheViews as values
 use Rattle.ca_types.specs.declared.value.Value.TheVariants as plain
+use Rattle.value_lower.specs.Lowering.{bits_of}
 use Rattle.value_lift.specs.Bytes.{is_scalar}
 
 -- What the types of the program say of a value, without its type.
@@ -32,7 +33,7 @@ mutual
     string_in : (text : List ℕ) → IsUtf8 text → InRange (plain.String text)
     list_in : (all : List Value) → AllInRange all → InRange (values.List all)
     record_in : (all : List Value) → AllInRange all → InRange (values.Record all)
-    flags_in : (flags : List Bool) → length flags ≤ 32 → InRange (plain.Flags flags)
+    flags_in : (flags : List Bool) → bits_of flags < 2 ^ 32 → InRange (plain.Flags flags)
     case_in : (n : ℕ) → n < 2 ^ 32 → InRange (values.Variant n None)
     payload_in : (n : ℕ) (v : Value) → n < 2 ^ 32 → InRange v → InRange (values.Variant n (Some v))
 
@@ -57,7 +58,7 @@ mutual
     list_is : (element : ValType) (all : List Value) → AllAre element all → IsOf (types.List element) (values.List all)
     record_is : (fields : List Field) (all : List Value) → EachIs (map (λ (f : Field). f.val_type) fields) all → IsOf (types.Record fields) (values.Record all)
     tuple_is : (parts : List ValType) (all : List Value) → EachIs parts all → IsOf (types.Tuple parts) (values.Record all)
-    flags_are : (labels : List (List ℕ)) (flags : List Bool) → length flags ≡ length labels → length flags ≤ 32
+    flags_are : (labels : List (List ℕ)) (flags : List Bool) → length flags ≡ length labels → bits_of flags < 2 ^ 32
         → IsOf (leaves.Flags labels) (plain.Flags flags)
     case_is : (n : ℕ) (cases : List Case) (c : Case) (payload : Option Value) → n < 2 ^ 32 → slice_get cases n ≡ Some c
         → PayloadIs c.payload payload → IsOf (types.Variant cases) (values.Variant n payload)

@@ -177,7 +177,7 @@ module _ (Q : List ℕ → Type 0) where
   list_gives : (o : Option ValType) (es : List Goods) (k : ℕ → Plan) → ((place : ℕ) → AllGive Q (k place)) → AllGive Q (list_in o (map lowered (these es)) k)
   list_gives (Some t) es k h =
       asked_gives Q (length (map lowered (these es))) (laid t).align (length (map lowered (these es)) * (laid t).size) (λ place. elements_from t place (map lowered (these es)) (k place))
-      (λ place. elements_give t place es (k place) (h place))
+      (λ place low few. elements_give t place es (k place) (h place))
   list_gives None es k h = tt
 
   fields_give : (place end : ℕ) (types : List (Option ValType)) (es : List Goods) (k : Plan) → AllGive Q k → AllGive Q (fields_from place end types (map lowered (these es)) k)
@@ -203,7 +203,7 @@ module _ (Q : List ℕ → Type 0) where
   in_layer w = map-Value Value Lowered lowered w
 
   store_gives : (w : V.Value-F Goods) (t : ValType) (place : ℕ) (k : Plan) → AllGive Q k → AllGive Q (store_case (in_layer (layer w)) t place k)
-  store_gives (V.String text) t place k h = text_gives Q text (λ to. pointed place to (length text) k) (λ to. h)
+  store_gives (V.String text) t place k h = text_gives Q text (λ to. pointed place to (length text) k) (λ to low few. h)
   store_gives (V.List es) t place k h = list_gives (part_at t 0) es (λ to. pointed place to (length (map lowered (these es))) k) (λ to. h)
   store_gives (V.Record es) t place k h = fields_give place 0 (parts_of t) es k h
   store_gives (V.Variant n (Some e)) t place k h = payload_gives (part_at t n) e _ k h
@@ -253,7 +253,7 @@ module _ (Q : List ℕ → Type 0) where
   plain_gives w word i t before k h g = g (before ++ word ∷ []) (omega (arith, one_more before word, plain_count (out-ValType t) w h i, count_is t))
 
   words_give : (w : V.Value-F Goods) → WordsGive w
-  words_give (V.String text) = λ t before k none h g. text_gives Q text (λ to. k (before ++ to ∷ length text ∷ [])) (λ to.
+  words_give (V.String text) = λ t before k none h g. text_gives Q text (λ to. k (before ++ to ∷ length text ∷ [])) (λ to low few.
       g (before ++ to ∷ length text ∷ []) (omega (arith, length-append before (to ∷ length text ∷ []), text_count (out-ValType t) text h, count_is t)))
   words_give (V.List es) = λ t before k none h g. list_gives (part_at t 0) es (λ to. k (before ++ to ∷ length (map lowered (these es)) ∷ [])) (λ to.
       g (before ++ to ∷ length (map lowered (these es)) ∷ []) (omega (arith, length-append before (to ∷ length (map lowered (these es)) ∷ []), list_count (out-ValType t) (these es) h, count_is t)))

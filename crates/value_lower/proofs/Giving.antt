@@ -1,17 +1,25 @@
 -- What holds of all core values that a plan may give.
-use Rattle.std.proofs.Common.{◌≡◌, ◌+◌, ◌%◌, ◌^◌, ◌==◌, ◌&&◌, cond, nat_lt, nat_le, ℕ, List, length, Result, sym, subst, inl, inr}
-use Rattle.std.proofs.lemmas.Bool.{cond_both}
+use Rattle.std.proofs.Common.{◌≡◌, ◌<◌, ◌+◌, ◌%◌, ◌^◌, ◌==◌, ◌&&◌, cond, nat_lt, nat_le, ℕ, Bool, true, false, List, length, Result, refl, sym, subst, inl, inr}
+use Rattle.std.proofs.lemmas.Bool.{cond_both, ltb-true}
 use Rattle.value_lower.specs.declared.ends.LowerWhy.TheVariants.{Misaligned, Bounds}
 use Rattle.value_lower.specs.declared.ends.RoomEnd.{RoomEnd}
 use Rattle.value_lower.specs.Plan.{Ask, Plan, Gives, Fails, Asks, Size, Put}
 use Rattle.value_lower.specs.Following.{Came, Words, Failed, Ended, Follows}
 use Rattle.value_lower.specs.Lowering.{tested, asked, text_in}
 
+left_true : (a b : Bool) → (a && b) ≡ true → a ≡ true
+left_true true b h = refl
+left_true false b h = cc
+
+-- where a count and a size are both below 2^32
+first_low : (count size : ℕ) → (nat_lt count (2 ^ 32) && nat_lt size (2 ^ 32)) ≡ true → count < 2 ^ 32
+first_low count size h = ltb-true count (2 ^ 32) (left_true (nat_lt count (2 ^ 32)) (nat_lt size (2 ^ 32)) h)
+
 module _ (Q : List ℕ → Type 0) where
   abbrev pub AllGive : Plan → Type 0
   AllGive (Gives words) = Q words
   AllGive (Fails why) = Unit {0}
-  AllGive (Asks ask k) = (place : ℕ) → AllGive (k place)
+  AllGive (Asks ask k) = (place : ℕ) → place < 2 ^ 32 → AllGive (k place)
   AllGive (Size k) = (there : ℕ) → AllGive (k there)
   AllGive (Put place bytes k) = AllGive k
 
@@ -20,12 +28,12 @@ module _ (Q : List ℕ → Type 0) where
       cond_both (place % align == 0) (Size (λ there. cond (nat_le (place + size) there) k (Fails Bounds))) (Fails Misaligned) AllGive
       (λ e. λ there. cond_both (nat_le (place + size) there) k (Fails Bounds) AllGive (λ f. h) (λ f. tt)) (λ e. tt)
 
-  pub asked_gives : (count align size : ℕ) (k : ℕ → Plan) → ((place : ℕ) → AllGive (k place)) → AllGive (asked count align size k)
+  pub asked_gives : (count align size : ℕ) (k : ℕ → Plan) → ((place : ℕ) → place < 2 ^ 32 → count < 2 ^ 32 → AllGive (k place)) → AllGive (asked count align size k)
   asked_gives count align size k h =
       cond_both (nat_lt count (2 ^ 32) && nat_lt size (2 ^ 32)) (Asks (record { old = 0; old_size = 0; align = align; size = size }) (λ place. tested place align size (k place))) (Fails Bounds) AllGive
-      (λ e. λ place. tested_gives place align size (k place) (h place)) (λ e. tt)
+      (λ e. λ place low. tested_gives place align size (k place) (h place low (first_low count size e))) (λ e. tt)
 
-  pub text_gives : (text : List ℕ) (k : ℕ → Plan) → ((place : ℕ) → AllGive (k place)) → AllGive (text_in text k)
+  pub text_gives : (text : List ℕ) (k : ℕ → Plan) → ((place : ℕ) → place < 2 ^ 32 → length text < 2 ^ 32 → AllGive (k place)) → AllGive (text_in text k)
   text_gives text k h = asked_gives (length text) 1 (length text) (λ place. Put place text (k place)) h
 
   module _ {R T : Type 0} (answers : R → Ask → Result ℕ (RoomEnd T) → R → Type 0) (memory : R → List ℕ) (wrote : R → ℕ → List ℕ → R → Type 0) where
@@ -40,7 +48,7 @@ module _ (Q : List ℕ → Type 0) where
     given (Fails why) r s words h q =
         let e : came_words words ≡ Failed why = h.0 in
         cc
-    given (Asks ask k) r s words (inl h) q = given (k h.0) h.1 s words h.3 (q h.0)
+    given (Asks ask k) r s words (inl h) q = given (k h.0) h.1 s words h.3 (q h.0 h.2.1)
     given (Asks ask k) r s words (inr h) q =
         let e : came_words words ≡ Ended h.0 = h.2 in
         cc

@@ -15,15 +15,15 @@ module _ {R T : Type 0} (answers : R → Ask → Result ℕ (RoomEnd T) → R �
 
   asked_once : (ask : Ask) (k : ℕ → Plan) → ((place : ℕ) → One (k place)) → One (Asks ask k)
   asked_once ask k once r one other s u (inl h) (inl i) =
-      let q = answers_once r ask (Ok h.0) (Ok i.0) h.1 i.1 h.2 i.2 in
+      let q = answers_once r ask (Ok h.0) (Ok i.0) h.1 i.1 h.2.0 i.2.0 in
       let e : i.0 ≡ h.0 = cc (q.0) in
       once h.0 h.1 one other s u h.3 (subst (λ (m : R). Comes (k h.0) m other u) (sym q.1) (subst (λ (n : ℕ). Comes (k n) i.1 other u) e i.3))
   asked_once ask k once r one other s u (inl h) (inr i) =
-      let q = answers_once r ask (Ok h.0) (Err i.0) h.1 u h.2 i.1 in
+      let q = answers_once r ask (Ok h.0) (Err i.0) h.1 u h.2.0 i.1 in
       let e : Ok h.0 ≡ Err i.0 = q.0 in
       cc
   asked_once ask k once r one other s u (inr h) (inl i) =
-      let q = answers_once r ask (Err h.0) (Ok i.0) s i.1 h.1 i.2 in
+      let q = answers_once r ask (Err h.0) (Ok i.0) s i.1 h.1 i.2.0 in
       let e : Err h.0 ≡ Ok i.0 = q.0 in
       cc
   asked_once ask k once r one other s u (inr h) (inr i) =
@@ -38,7 +38,7 @@ module _ {R T : Type 0} (answers : R → Ask → Result ℕ (RoomEnd T) → R �
   one_end (Asks ask k) r one other s u h i = asked_once ask k (λ place. one_end (k place)) r one other s u h i
   one_end (Size k) r one other s u h i = one_end (k (length (memory r))) r one other s u h i
   one_end (Put place bytes k) r one other s u h i =
-      one_end k h.0 one other s u h.2 (subst (λ (m : R). Comes k m other u) (sym (writes_once r place bytes h.0 i.0 h.1 i.1)) i.2)
+      one_end k h.0 one other s u h.2 (subst (λ (m : R). Comes k m other u) (sym (writes_once r place bytes h.0 i.0 h.1.0 i.1.0)) i.2)
 
 pub plans_come_to_one : {R T : Type 0} (answers : R → Ask → Result ℕ (RoomEnd T) → R → Type 0) (memory : R → List ℕ) (wrote : R → ℕ → List ℕ → R → Type 0)
     → PlansComeToOne answers memory wrote

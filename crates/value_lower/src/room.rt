@@ -8,7 +8,8 @@ use std::alloc::Global;
 /// Where values are lowered: the memory of a component instance, with the instance's code that gives out places in it.
 ///
 /// Contracts see the memory; `answers` says of each realloc what may be answered and how the room is then, `wrote` how it is after a
-/// store. So a room may keep more than its memory.
+/// store. So a room may keep more than its memory. What a plan comes to in a room also has what the calls below say of the memory and of
+/// places, so a room need not say it again.
 pub trait Room {
     ghost use Rattle.std.specs.Prelude.{ℕ, List, Result};
     ghost use Rattle.value_lower.specs.declared.ends.RoomEnd.{RoomEnd};
