@@ -1,9 +1,8 @@
 -- The core values that a value is lowered into are of the type's core types, whatever is answered.
-use Rattle.std.proofs.Common.{◌≡◌, ◌∙◌, ◌<◌, ◌+◌, ◌*◌, ◌^◌, ℕ, ℤ, Bool, true, false, List, [], ◌∷◌, ◌++◌, map, length, Option, Some, None, refl, ap, sym, subst, arith, mod-eq_of_lt, append_assoc, append-nil}
-use Rattle.std.specs.Int.{w8, w16, w32, w64, cast_unsigned}
-use Rattle.std.specs.Prelude.{FitsSigned}
+use Rattle.std.proofs.Common.{◌≡◌, ◌∙◌, ◌<◌, ◌+◌, ◌*◌, ◌^◌, ℕ, true, false, List, [], ◌∷◌, ◌++◌, map, length, Option, Some, None, refl, ap, sym, subst, arith, mod-eq_of_lt, append_assoc, append-nil}
+use Rattle.std.specs.Int.{w32, w64, cast_unsigned}
 use Rattle.ca_types.specs.declared.core_type.CoreType.{CoreType}
-use Rattle.ca_types.specs.declared.core_type.CoreType.TheVariants.{I32, I64}
+use Rattle.ca_types.specs.declared.core_type.CoreType.TheVariants.{I32}
 use Rattle.ca_types.specs.declared.types.ValType.{ValType, out-ValType}
 use Rattle.ca_types.specs.declared.types.Case.{Case}
 use Rattle.ca_types.specs.declared.types.Field.{Field}
@@ -19,7 +18,7 @@ use Rattle.ca_types.specs.Flat.{flat, flat_payload, all_of}
 use Rattle.laid_types.specs.Parts.{parts_of, parts_case}
 use Rattle.value_lower.specs.Plan.{Plan, Gives, Fails, Asks, Size, Put}
 use Rattle.value_lower.specs.Following.{written}
-use Rattle.value_lower.specs.Lowering.{lowered, store, elements_from, flat_words, field_words, payload_words, filled, bits_of, stored, placed, flat_lowered}
+use Rattle.value_lower.specs.Lowering.{lowered, store, elements_from, flat_words, field_words, payload_words, filled, bits_of, placed, flat_lowered}
 use Rattle.value_lower.proofs.Giving.{AllGive, asked_gives, text_gives}
 use Rattle.value_lower.proofs.Counts.{good}
 use Rattle.value_lift.specs.Pieces.{part_in}
