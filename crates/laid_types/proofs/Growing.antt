@@ -26,7 +26,7 @@ there_more : (types more : List ValType) (number : Option ℕ) → IsThere types
 there_more types more None h = tt
 there_more types more (Some number) h = omega (arith, length-append types more)
 
-are_there_more : (types more : List ValType) (numbers : List (Option ℕ)) → AreThere types numbers → AreThere (types ++ more) numbers
+pub are_there_more : (types more : List ValType) (numbers : List (Option ℕ)) → AreThere types numbers → AreThere (types ++ more) numbers
 are_there_more types more [] h = tt
 are_there_more types more (n ∷ numbers) h = (there_more types more n h.0, are_there_more types more numbers h.1)
 
@@ -34,7 +34,7 @@ tree_stays : (types more : List ValType) (number : Option ℕ) → IsThere types
 tree_stays types more None h = refl
 tree_stays types more (Some number) h = stays_at types more number h
 
-trees_stay : (types more : List ValType) (numbers : List (Option ℕ)) → AreThere types numbers → trees_of (types ++ more) numbers ≡ trees_of types numbers
+pub trees_stay : (types more : List ValType) (numbers : List (Option ℕ)) → AreThere types numbers → trees_of (types ++ more) numbers ≡ trees_of types numbers
 trees_stay types more [] h = refl
 trees_stay types more (n ∷ numbers) h =
     ap (λ (t : Option ValType). t ∷ trees_of (types ++ more) numbers) (tree_stays types more n h.0)

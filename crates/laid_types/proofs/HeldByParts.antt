@@ -12,7 +12,8 @@ use Rattle.ca_types.proofs.Folds.{held, fold_case, fold_field, fold_result, fold
 use Rattle.ca_types.proofs.Parts.{map_alike}
 use Rattle.laid_types.specs.Parts.{parts_case, parts_of}
 use Rattle.laid_types.specs.Handles.{has_handle, handle_step, held_handle}
-use Rattle.laid_types.specs.Gathered.{ends, handles, end_over, handle_over}
+use Rattle.laid_types.specs.Lists.{has_list, list_step, held_list}
+use Rattle.laid_types.specs.Gathered.{ends, handles, lists, end_over, handle_over, list_over}
 use Rattle.laid_types.proofs.ByParts.{Layer, map_twice}
 
 pub or_false : (b : Bool) → (b || false) ≡ b
@@ -114,3 +115,51 @@ handle_rolled (F.Future e) = fold_future Bool Bool Bool handle_step end_case end
 
 pub handle_by_parts : (t : ValType) → has_handle t ≡ handle_over (out-ValType t) (handles (parts_of t))
 handle_by_parts t = ap has_handle (sym (roll-out-ValType t)) ∙ handle_rolled (out-ValType t)
+
+-- Strings and lists.
+list_of_payload : (p : Option ValType) → part_true (held has_list p) ≡ held_list p
+list_of_payload (Some p) = refl
+list_of_payload None = refl
+
+list_of_case : (c : Case) → fold-Case Bool Bool Bool list_step end_case end_field c ≡ held_list c.payload
+list_of_case c = fold_case Bool Bool Bool list_step end_case end_field c ∙ list_of_payload c.payload
+
+list_of_field : (f : Field) → fold-Field Bool Bool Bool list_step end_case end_field f ≡ has_list f.val_type
+list_of_field = fold_field Bool Bool Bool list_step end_case end_field
+
+list_rolled : (x : Layer) → has_list (roll-ValType x) ≡ list_over x (lists (parts_case x))
+list_rolled F.Bool = fold-roll-ValType Bool Bool Bool list_step end_case end_field F.Bool
+list_rolled F.S8 = fold-roll-ValType Bool Bool Bool list_step end_case end_field F.S8
+list_rolled F.U8 = fold-roll-ValType Bool Bool Bool list_step end_case end_field F.U8
+list_rolled F.S16 = fold-roll-ValType Bool Bool Bool list_step end_case end_field F.S16
+list_rolled F.U16 = fold-roll-ValType Bool Bool Bool list_step end_case end_field F.U16
+list_rolled F.S32 = fold-roll-ValType Bool Bool Bool list_step end_case end_field F.S32
+list_rolled F.U32 = fold-roll-ValType Bool Bool Bool list_step end_case end_field F.U32
+list_rolled F.S64 = fold-roll-ValType Bool Bool Bool list_step end_case end_field F.S64
+list_rolled F.U64 = fold-roll-ValType Bool Bool Bool list_step end_case end_field F.U64
+list_rolled F.Char = fold-roll-ValType Bool Bool Bool list_step end_case end_field F.Char
+list_rolled F.String = fold-roll-ValType Bool Bool Bool list_step end_case end_field F.String
+list_rolled (F.Record fields) =
+    fold-roll-ValType Bool Bool Bool list_step end_case end_field (F.Record fields)
+    ∙ ap some_true (map_alike _ _ list_of_field fields ∙ sym (map_twice (λ (f : Field). Some f.val_type) held_list fields))
+list_rolled (F.Variant cases) =
+    fold-roll-ValType Bool Bool Bool list_step end_case end_field (F.Variant cases)
+    ∙ ap some_true (map_alike _ _ list_of_case cases ∙ sym (map_twice (λ (c : Case). c.payload) held_list cases))
+list_rolled (F.List e) = fold-roll-ValType Bool Bool Bool list_step end_case end_field (F.List e)
+list_rolled (F.Tuple parts) =
+    fold-roll-ValType Bool Bool Bool list_step end_case end_field (F.Tuple parts)
+    ∙ ap some_true (sym (map_twice {B = Option ValType} Some held_list parts))
+list_rolled (F.Flags labels) = fold-roll-ValType Bool Bool Bool list_step end_case end_field (F.Flags labels)
+list_rolled (F.Enum labels) = fold-roll-ValType Bool Bool Bool list_step end_case end_field (F.Enum labels)
+list_rolled (F.Option p) = fold-roll-ValType Bool Bool Bool list_step end_case end_field (F.Option p) ∙ sym (or_false (has_list p))
+list_rolled (F.Result ok err) =
+    fold_result Bool Bool Bool list_step end_case end_field ok err
+    ∙ ap (λ (b : Bool). b || part_true (held has_list err)) (list_of_payload ok)
+    ∙ ap (λ (b : Bool). held_list ok || b) (list_of_payload err ∙ sym (or_false (held_list err)))
+list_rolled (F.Own n) = fold-roll-ValType Bool Bool Bool list_step end_case end_field (F.Own n)
+list_rolled (F.Borrow n) = fold-roll-ValType Bool Bool Bool list_step end_case end_field (F.Borrow n)
+list_rolled (F.Stream e) = fold_stream Bool Bool Bool list_step end_case end_field e
+list_rolled (F.Future e) = fold_future Bool Bool Bool list_step end_case end_field e
+
+pub list_by_parts : (t : ValType) → has_list t ≡ list_over (out-ValType t) (lists (parts_of t))
+list_by_parts t = ap has_list (sym (roll-out-ValType t)) ∙ list_rolled (out-ValType t)

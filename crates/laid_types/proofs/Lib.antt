@@ -1,5 +1,7 @@
 pub mod ByParts
 pub mod HeldByParts
+pub mod DepthByParts
+pub mod Deepest
 pub mod OfLayers
 pub mod Growing
 pub mod Rooms

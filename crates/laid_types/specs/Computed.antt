@@ -1,6 +1,6 @@
 -- What is kept of a type (Component Model, CanonicalABI.md, "Alignment", "Element Size" and "Flattening"): how its values lie in
--- memory, the first of their core types, what they hold, and where its labels stand.
-use Rattle.std.specs.Prelude.{◌≡◌, ℕ, Bool, List, take, Option}
+-- memory, the first of their core types, what they hold, its depth as far as 33, and where its labels stand.
+use Rattle.std.specs.Prelude.{◌≡◌, ℕ, Bool, List, take, min, Option}
 use Rattle.ca_base.specs.Names.{first_named}
 use Rattle.ca_types.specs.declared.types.ValType.{ValType}
 use Rattle.ca_types.specs.declared.core_type.CoreType.{CoreType}
@@ -10,13 +10,17 @@ use Rattle.ca_types.specs.Flat.{flat}
 use Rattle.ca_types.specs.Ends.{has_end}
 use Rattle.laid_types.specs.Parts.{labels_of, payload_place}
 use Rattle.laid_types.specs.Handles.{has_handle}
+use Rattle.laid_types.specs.Lists.{has_list}
+use Rattle.laid_types.specs.Depth.{depth}
 
 -- What is computed of a type is this.
-pub record IsComputed (type : ValType) (laying : Laid) (place : ℕ) (types : List CoreType) (end handle : Bool) (at : List ℕ → Option ℕ) : Type 0 where
+pub record IsComputed (type : ValType) (laying : Laid) (place : ℕ) (types : List CoreType) (end handle list : Bool) (levels : ℕ) (at : List ℕ → Option ℕ) : Type 0 where
   pub laid_is : laying ≡ limited (laid type)
   pub reach : InReach laying
   pub place_is : place ≡ payload_place type
   pub flat_is : types ≡ take 17 (flat type)
   pub end_is : end ≡ has_end type
   pub handle_is : handle ≡ has_handle type
+  pub list_is : list ≡ has_list type
+  pub depth_is : levels ≡ min (depth type) 33
   pub labels_are : (q : List ℕ) → at q ≡ first_named q (labels_of type)

@@ -1,6 +1,6 @@
 -- What is computed of a type from what is computed of its parts (Component Model, CanonicalABI.md, "Alignment", "Element Size" and
--- "Flattening"): layouts, core types, and what values hold.
-use Rattle.std.specs.Prelude.{Bool, true, false, List, [], ◌∷◌, map, length, Option}
+-- "Flattening"): layouts, core types, what values hold, and depths.
+use Rattle.std.specs.Prelude.{ℕ, suc, Bool, true, false, List, [], ◌∷◌, map, length, Option}
 use Rattle.ca_types.specs.declared.types.ValType.{ValType}
 use Rattle.ca_types.specs.declared.types.ValType.TheOpen.{ValType-F}
 use Rattle.ca_types.specs.declared.core_type.CoreType.{CoreType}
@@ -10,6 +10,8 @@ use Rattle.ca_types.specs.Limited.{limited, joined}
 use Rattle.ca_types.specs.Flat.{flat_payload, all_of, joined_all}
 use Rattle.ca_types.specs.Ends.{held_end, some_true}
 use Rattle.laid_types.specs.Handles.{held_handle}
+use Rattle.laid_types.specs.Lists.{held_list}
+use Rattle.laid_types.specs.Depth.{held_depth, greatest}
 use Rattle.laid_types.specs.declared.laying.Laying.{Laying}
 
 abbrev pub as_laid : Laying → Laid
@@ -64,14 +66,17 @@ flat_over (ValType-F.Option payload) parts = I32 ∷ joined_all parts
 flat_over (ValType-F.Result ok err) parts = I32 ∷ joined_all parts
 flat_over _ parts = I32 ∷ []
 
--- whether parts hold the end of a stream or a future, or a handle
+-- whether parts hold the end of a stream or a future, a handle, or a string or a list
 abbrev pub ends : List (Option ValType) → List Bool
 ends parts = map held_end parts
 
 abbrev pub handles : List (Option ValType) → List Bool
 handles parts = map held_handle parts
 
--- a layer of a type, where it is known of its parts whether they hold an end, or a handle
+abbrev pub lists : List (Option ValType) → List Bool
+lists parts = map held_list parts
+
+-- a layer of a type, where it is known of its parts whether they hold an end, a handle, or a string or a list
 abbrev pub end_over : {A B C : Type 0} → ValType-F A B C → List Bool → Bool
 end_over (ValType-F.Stream element) parts = true
 end_over (ValType-F.Future element) parts = true
@@ -83,3 +88,18 @@ handle_over (ValType-F.Borrow resource) parts = true
 handle_over (ValType-F.Stream element) parts = false
 handle_over (ValType-F.Future element) parts = false
 handle_over _ parts = some_true parts
+
+abbrev pub list_over : {A B C : Type 0} → ValType-F A B C → List Bool → Bool
+list_over ValType-F.String parts = true
+list_over (ValType-F.List element) parts = true
+list_over (ValType-F.Stream element) parts = false
+list_over (ValType-F.Future element) parts = false
+list_over _ parts = some_true parts
+
+-- the depths of parts, 0 where no type stands
+abbrev pub depths : List (Option ValType) → List ℕ
+depths parts = map held_depth parts
+
+-- a type whose parts have these depths
+abbrev pub depth_over : List ℕ → ℕ
+depth_over parts = suc (greatest parts)

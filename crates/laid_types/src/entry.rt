@@ -1,6 +1,6 @@
 //! Types with what is computed of them.
 
-ghost use Rattle.std.specs.Prelude.{◌≡◌, take, length, IfOk};
+ghost use Rattle.std.specs.Prelude.{◌≡◌, take, min, length, IfOk};
 ghost use Rattle.std.specs.List.{slice_get};
 ghost use Rattle.std.specs.Option.{option_and_then};
 ghost use Rattle.ca_base.specs.Names.{first_named};
@@ -10,6 +10,8 @@ ghost use Rattle.ca_types.specs.Flat.{flat};
 ghost use Rattle.ca_types.specs.Ends.{has_end};
 ghost use Rattle.laid_types.specs.Parts.{labels_of, payload_place};
 ghost use Rattle.laid_types.specs.Handles.{has_handle};
+ghost use Rattle.laid_types.specs.Lists.{has_list};
+ghost use Rattle.laid_types.specs.Depth.{depth};
 ghost use Rattle.laid_types.specs.Gathered.{as_laid};
 
 use crate::holding::Holding;
@@ -27,6 +29,8 @@ pub(crate) struct Entry {
     pub(crate) payload_place: u32,
     pub(crate) flat: Vec<CoreType>,
     pub(crate) holding: Holding,
+    /// How many types stand in one another in it, or 33 where there are more than 32.
+    pub(crate) depth: u32,
     pub(crate) label_places: BTreeMap<String, usize>,
     pub(crate) parts: Vec<Option<usize>>,
 }
@@ -45,7 +49,7 @@ impl Model for Entry {
 
     ghost view = { λ e. record { val_type = e.val_type; parts = e.parts.items } };
 
-    ghost invariant = { λ e. IsComputed e.val_type (as_laid e.laying) e.payload_place e.flat.items e.holding.end e.holding.handle (get_by_text e.label_places) };
+    ghost invariant = { λ e. IsComputed e.val_type (as_laid e.laying) e.payload_place e.flat.items e.holding.end e.holding.handle e.holding.list e.depth (get_by_text e.label_places) };
 }
 
 impl Entry {
@@ -89,8 +93,16 @@ impl Entry {
     pub(crate) fn holding(&self) -> Holding
         ensures end { result.end ≡ has_end self.now.val_type }
         ensures handle { result.handle ≡ has_handle self.now.val_type }
+        ensures list { result.list ≡ has_list self.now.val_type }
     {
         self.holding
+    }
+
+    /// How many types stand in one another in it, or 33 where there are more than 32.
+    pub(crate) fn depth(&self) -> u32
+        ensures { result ≡ min (depth self.now.val_type) 33 }
+    {
+        self.depth
     }
 
     /// Where a label stands: of equal ones the first.

@@ -1,6 +1,6 @@
 //! What is computed of a type from its parts.
 
-ghost use Rattle.std.specs.Prelude.{◌≡◌, ◌∷◌, take, IfOk};
+ghost use Rattle.std.specs.Prelude.{◌≡◌, ◌∷◌, take, min, IfOk};
 ghost use Rattle.ca_types.specs.declared.core_type.CoreType.TheVariants.{I32};
 ghost use Rattle.ca_types.specs.declared.types.ValType.{out-ValType};
 ghost use Rattle.ca_types.specs.Layout.{record_laid, tagged};
@@ -9,7 +9,8 @@ ghost use Rattle.ca_types.specs.Flat.{all_of, joined_all};
 ghost use Rattle.ca_types.specs.Ends.{some_true};
 ghost use Rattle.laid_types.specs.Parts.{case_count, layouts};
 ghost use Rattle.laid_types.specs.Layers.{AreThere, trees_of};
-ghost use Rattle.laid_types.specs.Gathered.{as_laid, room_for, laid_over, flats, flat_over, ends, handles, end_over, handle_over};
+ghost use Rattle.laid_types.specs.Depth.{greatest};
+ghost use Rattle.laid_types.specs.Gathered.{as_laid, room_for, laid_over, flats, flat_over, ends, handles, lists, end_over, handle_over, list_over, depths, depth_over};
 
 use crate::flattening::{alone, joined_lists, push_types, tagged};
 use crate::holding::Holding;
@@ -170,10 +171,12 @@ fn parts_holding(types: &LaidTypes, parts: &[Option<usize>]) -> Holding
     requires { AreThere types.now parts.now }
     ensures end { result.end ≡ some_true (ends (trees_of types.now parts.now)) }
     ensures handle { result.handle ≡ some_true (handles (trees_of types.now parts.now)) }
+    ensures list { result.list ≡ some_true (lists (trees_of types.now parts.now)) }
 {
     let mut held = Holding {
         end: false,
         handle: false,
+        list: false,
     };
     for part in parts {
         if let Some(number) = part {
@@ -188,16 +191,42 @@ pub(crate) fn holding_of(types: &LaidTypes, val_type: &ValType, parts: &[Option<
     requires { AreThere types.now parts.now }
     ensures end { result.end ≡ end_over (out-ValType val_type.now) (ends (trees_of types.now parts.now)) }
     ensures handle { result.handle ≡ handle_over (out-ValType val_type.now) (handles (trees_of types.now parts.now)) }
+    ensures list { result.list ≡ list_over (out-ValType val_type.now) (lists (trees_of types.now parts.now)) }
 {
+    let held = parts_holding(types, parts);
     match val_type {
         ValType::Stream(_) | ValType::Future(_) => Holding {
             end: true,
             handle: false,
+            list: false,
         },
         ValType::Own(_) | ValType::Borrow(_) => Holding {
-            end: parts_holding(types, parts).end,
             handle: true,
+            ..held
         },
-        _ => parts_holding(types, parts),
+        ValType::String | ValType::List(_) => Holding { list: true, ..held },
+        _ => held,
     }
+}
+
+/// The greatest depth of parts, or 33 where one is deeper than 32.
+fn deepest(types: &LaidTypes, parts: &[Option<usize>]) -> u32
+    requires { AreThere types.now parts.now }
+    ensures { result ≡ min (greatest (depths (trees_of types.now parts.now))) 33 }
+{
+    let mut depth = 0;
+    for part in parts {
+        if let Some(number) = part {
+            depth = types.entry(*number).depth().max(depth);
+        }
+    }
+    depth
+}
+
+/// The depth of a type with these parts, or 33 where it is deeper than 32.
+pub(crate) fn depth_of(types: &LaidTypes, parts: &[Option<usize>]) -> u32
+    requires { AreThere types.now parts.now }
+    ensures { result ≡ min (depth_over (depths (trees_of types.now parts.now))) 33 }
+{
+    (deepest(types, parts) + 1).min(33)
 }

@@ -9,6 +9,8 @@ pub(crate) struct Holding {
     pub(crate) end: bool,
     /// Whether they hold a handle.
     pub(crate) handle: bool,
+    /// Whether they hold a string or a list.
+    pub(crate) list: bool,
 }
 
 impl Holding {
@@ -16,10 +18,12 @@ impl Holding {
     pub(crate) fn or(self, other: Holding) -> Holding
         ensures end { result.end ≡ (self.end || other.end) }
         ensures handle { result.handle ≡ (self.handle || other.handle) }
+        ensures list { result.list ≡ (self.list || other.list) }
     {
         Holding {
             end: self.end || other.end,
             handle: self.handle || other.handle,
+            list: self.list || other.list,
         }
     }
 }

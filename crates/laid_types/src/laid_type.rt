@@ -7,6 +7,8 @@ ghost use Rattle.ca_types.specs.Flat.{flat};
 ghost use Rattle.ca_types.specs.Ends.{has_end};
 ghost use Rattle.laid_types.specs.Parts.{parts_of, part_at, case_count, labels_of, payload_place};
 ghost use Rattle.laid_types.specs.Handles.{has_handle};
+ghost use Rattle.laid_types.specs.Lists.{has_list};
+ghost use Rattle.laid_types.specs.Depth.{depth};
 ghost use Rattle.laid_types.specs.Known.{Stands};
 
 use crate::entry::Entry;
@@ -158,6 +160,23 @@ impl<'a> LaidType<'a> {
     {
         let entry = self.entry;
         entry.holding().handle
+    }
+
+    /// Whether values hold a string or a list. What the elements of a stream or a future hold does not count.
+    pub fn has_list(&self) -> bool
+        ensures { result ≡ has_list self.now }
+    {
+        let entry = self.entry;
+        entry.holding().list
+    }
+
+    /// How many types stand in one another in it, itself counted, or 33 where there are more than 32. A type without parts has
+    /// depth 1.
+    pub fn depth(&self) -> u32
+        ensures { result ≡ min (depth self.now) 33 }
+    {
+        let entry = self.entry;
+        entry.depth()
     }
 
     /// Where a label stands among the fields, cases or labels of the type: of equal ones the first.

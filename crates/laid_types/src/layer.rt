@@ -6,9 +6,9 @@ ghost use Rattle.laid_types.specs.Layers.{part_numbers, layer_labels};
 use std::alloc::{AllocError, Global};
 
 /// The outer layer of a type, over the numbers of earlier types (Component Model, Explainer.md, "Type Definitions": `valtype` and
-/// `defvaltype`).
+/// `defvaltype`). Its lists may be let go before its labels.
 #[derive(Clone, Copy)]
-pub enum ValTypeLayer<'a> {
+pub enum ValTypeLayer<'s, 'a> {
     /// A truth value.
     Bool,
     /// A signed 8-bit integer.
@@ -32,17 +32,17 @@ pub enum ValTypeLayer<'a> {
     /// A text of Unicode scalar values.
     String,
     /// A value for each field, in order.
-    Record(&'a [LabelledPart<'a>]),
+    Record(&'s [LabelledPart<'a>]),
     /// One of several cases, with its payload where it has one.
-    Variant(&'a [LabelledCase<'a>]),
+    Variant(&'s [LabelledCase<'a>]),
     /// Any number of values of one type.
     List(usize),
     /// A value for each place, in order.
-    Tuple(&'a [usize]),
+    Tuple(&'s [usize]),
     /// A truth value for each label, in order.
-    Flags(&'a [&'a str]),
+    Flags(&'s [&'a str]),
     /// One of several labels.
-    Enum(&'a [&'a str]),
+    Enum(&'s [&'a str]),
     /// A value, or none.
     Option(usize),
     /// A success or a failure, each with a value where it has a type.
@@ -80,10 +80,10 @@ pub struct LabelledCase<'a> {
     pub payload: Option<usize>,
 }
 
-impl<'a> ValTypeLayer<'a> {
+impl<'s, 'a> ValTypeLayer<'s, 'a> {
     /// The numbers of the parts, by their places. It fails for want of memory alone, as do the other functions of this crate that
     /// fail.
-    pub(crate) fn parts(&self, alloc: Global) -> Result<Vec<Option<usize>>, AllocError>
+    pub fn parts(&self, alloc: Global) -> Result<Vec<Option<usize>>, AllocError>
         ensures { IfOk result (λ numbers. numbers.items ≡ part_numbers self.now) }
     {
         match self {
@@ -100,7 +100,7 @@ impl<'a> ValTypeLayer<'a> {
     }
 
     /// The labels, in order.
-    pub(crate) fn labels(&self, alloc: Global) -> Result<Vec<&'a str>, AllocError>
+    pub fn labels(&self, alloc: Global) -> Result<Vec<&'a str>, AllocError>
         ensures { IfOk result (λ labels. map (λ l. l.now) labels.items ≡ layer_labels self.now) }
     {
         match self {

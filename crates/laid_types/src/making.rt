@@ -8,7 +8,7 @@ ghost use Rattle.laid_types.specs.Layers.{AreThere, trees_of, type_of, part_numb
 ghost use Rattle.laid_types.specs.Known.{Stands};
 
 use crate::entry::Entry;
-use crate::gathering::{case_count, flat_of, holding_of, laying_of, payload_laying};
+use crate::gathering::{case_count, depth_of, flat_of, holding_of, laying_of, payload_laying};
 use crate::labels::first_places;
 use crate::layer::ValTypeLayer;
 use crate::trees::type_of;
@@ -35,12 +35,14 @@ fn entry_with(
     let payload_place = payload.behind_tag(case_count(val_type.get()));
     let flat = flat_of(alloc, types, val_type.get(), &parts)?;
     let holding = holding_of(types, val_type.get(), &parts);
+    let depth = depth_of(types, &parts);
     Ok(Entry {
         val_type,
         laying,
         payload_place,
         flat,
         holding,
+        depth,
         label_places,
         parts,
     })
@@ -51,7 +53,7 @@ fn entry_with(
 pub(crate) fn entry_of(
     alloc: Global,
     types: &LaidTypes,
-    layer: &ValTypeLayer<'_>,
+    layer: &ValTypeLayer<'_, '_>,
 ) -> Result<Entry, AllocError>
     requires { AreThere types.now (part_numbers layer.now) }
     ensures val_type { IfOk result (λ e. e.val_type ≡ type_of types.now layer.now) }

@@ -90,7 +90,7 @@ fn places(
 pub(crate) fn type_of(
     alloc: Global,
     types: &LaidTypes,
-    layer: &ValTypeLayer<'_>,
+    layer: &ValTypeLayer<'_, '_>,
 ) -> Result<ValType, AllocError>
     requires { AreThere types.now (part_numbers layer.now) }
     ensures { IfOk result (λ t. t ≡ type_of types.now layer.now) }

@@ -55,7 +55,7 @@ impl LaidTypes {
 
     /// Adds the type of a layer, whose parts are there, and answers its number. It fails for want of memory alone, and then adds
     /// none. Its cost is that of the layer, however many parts the type has.
-    pub fn add(&mut self, alloc: Global, layer: &ValTypeLayer<'_>) -> Result<usize, AllocError>
+    pub fn add(&mut self, alloc: Global, layer: &ValTypeLayer<'_, '_>) -> Result<usize, AllocError>
         requires { AreThere self.old (part_numbers layer.now) }
         ensures number { IfOk result (λ number. number ≡ length self.old) }
         ensures ok { OnOk result (self.new ≡ self.old ++ type_of self.old layer.now ∷ []) }

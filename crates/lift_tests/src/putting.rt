@@ -43,7 +43,7 @@ fn places_there(count: usize, numbers: &[usize]) -> bool
 }
 
 /// Whether the parts of a layer are among so many types.
-fn layer_there(count: usize, layer: &ValTypeLayer<'_>) -> bool
+fn layer_there(count: usize, layer: &ValTypeLayer<'_, '_>) -> bool
     ensures { result ≡ layer_there count layer.now }
 {
     match layer {
@@ -59,7 +59,7 @@ fn layer_there(count: usize, layer: &ValTypeLayer<'_>) -> bool
 
 /// Whether the parts of a layer are there.
 #[tactic(auto, using(crate::proofs::There::layer_is_there))]
-fn are_there(types: &LaidTypes, layer: &ValTypeLayer<'_>) -> bool
+fn are_there(types: &LaidTypes, layer: &ValTypeLayer<'_, '_>) -> bool
     ensures { result ≡ true → AreThere types.now (part_numbers layer.now) }
 {
     layer_there(types.len(), layer)
@@ -69,7 +69,7 @@ fn are_there(types: &LaidTypes, layer: &ValTypeLayer<'_>) -> bool
 pub(crate) fn add(
     alloc: Global,
     types: &mut LaidTypes,
-    layer: &ValTypeLayer<'_>,
+    layer: &ValTypeLayer<'_, '_>,
 ) -> Result<usize, Fail> {
     if !are_there(types, layer) {
         return Err(Fail::new("no part"));
@@ -78,7 +78,7 @@ pub(crate) fn add(
 }
 
 /// The layer of a type without parts. Any other is taken as one of truth values.
-fn plain_layer(val_type: &ValType) -> ValTypeLayer<'static> {
+fn plain_layer(val_type: &ValType) -> ValTypeLayer<'static, 'static> {
     match val_type {
         ValType::S8 => ValTypeLayer::S8,
         ValType::U8 => ValTypeLayer::U8,
