@@ -1,0 +1,4 @@
+pub mod Keyed
+pub mod Keys
+pub mod Laws
+pub mod Numbering

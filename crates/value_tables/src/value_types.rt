@@ -1,0 +1,148 @@
+//! The table of types of values.
+
+ghost use Rattle.std.specs.Prelude.{◌≡◌, ◌<◌, ◌∷◌, ◌++◌, [], length, None, Some, IfOk, OnOk, OnErr};
+ghost use Rattle.std.specs.List.{slice_get};
+ghost use Rattle.ca_types.specs.declared.types.ValType.{ValType};
+ghost use Rattle.laid_types.specs.Layers.{AreThere, type_of, part_numbers};
+ghost use Rattle.value_tables.specs.Keys.{IsKeyOf, IsKeyOfLayer};
+ghost use Rattle.value_tables.specs.Numbering.{AreApart, IsAdded, IsNumberOf};
+
+use crate::keys::{ValueKey, key_of};
+use ca_types::{Shared, ValType};
+use laid_types::{LaidType, LaidTypes, ValTypeLayer};
+use std::alloc::{AllocError, Global};
+use std::collections::BTreeMap;
+use std::marker::Model;
+
+/// Types of values, each distinct one once, over earlier ones, with what is computed of each. A type's number is its place, so two
+/// types are the same exactly where their numbers are. Contracts see the types, in order of adding.
+#[derive(Drop)]
+pub struct ValueTypes<'a> {
+    numbers: BTreeMap<ValueKey<'a>, usize>,
+    laid: LaidTypes,
+}
+
+impl<'a> Model for ValueTypes<'a> {
+    ghost use Rattle.std.specs.Prelude.{List};
+    ghost use Rattle.std.specs.Coded.{coded_list};
+    ghost use Rattle.ca_types.specs.declared.types.ValType.{ValType};
+    ghost use Rattle.ca_types.specs.contracts.types.ValType as val_type;
+    ghost use Rattle.value_tables.specs.Keyed.{AreKeyed};
+
+    ghost Value = { List ValType };
+
+    ghost coded = { coded_list val_type.the_row.coded };
+
+    ghost view = { λ t. t.laid };
+
+    ghost invariant = { λ t. AreKeyed t.numbers t.laid };
+}
+
+impl<'a> ValueTypes<'a> {
+    /// No types. They take no memory.
+    pub fn new(alloc: Global) -> ValueTypes<'a>
+        ensures { result ≡ [] }
+    {
+        ValueTypes {
+            numbers: BTreeMap::new(alloc),
+            laid: LaidTypes::new(alloc),
+        }
+    }
+
+    /// How many types there are.
+    pub fn len(&self) -> usize
+        ensures { result ≡ length self.now }
+    {
+        self.laid.len()
+    }
+
+    /// No type stands at two numbers.
+    pub fn are_apart(&self)
+        ensures { AreApart self.now }
+    {
+        let _ = &self.laid;
+    }
+
+    /// The number of the type of a layer, whose parts are there. The type is added behind the others where it is not there. It fails
+    /// for want of memory alone, and then adds none. Its cost is that of the layer and of a look-up, however many types stand in one
+    /// another.
+    pub fn number_of(
+        &mut self,
+        alloc: Global,
+        layer: &ValTypeLayer<'_, 'a>,
+    ) -> Result<usize, AllocError>
+        requires { AreThere self.old (part_numbers layer.now) }
+        ensures ok { IfOk result (λ number. IsAdded self.old (type_of self.old layer.now) number self.new) }
+        ensures err { OnErr result (self.new ≡ self.old) }
+        ensures apart { AreApart self.new }
+    {
+        // Also where there is no memory for the key.
+        self.are_apart();
+        let key = key_of(alloc, layer)?;
+        match self.find(&key) {
+            Some(number) => Ok(number),
+            None => Ok(self.add(alloc, layer, &key)?),
+        }
+    }
+
+    /// The number of the type that a key is of, where it is there.
+    fn find(&self, key: &ValueKey<'a>) -> Option<usize>
+        ensures number { (t : ValType) → IsKeyOf self.now key.now t → IsNumberOf self.now t result }
+        ensures apart { AreApart self.now }
+    {
+        self.numbers.get(key).copied()
+    }
+
+    /// Adds the type of a layer that is not there, and answers its number.
+    fn add(
+        &mut self,
+        alloc: Global,
+        layer: &ValTypeLayer<'_, 'a>,
+        key: &ValueKey<'a>,
+    ) -> Result<usize, AllocError>
+        requires there { AreThere self.old (part_numbers layer.now) }
+        requires key { IsKeyOfLayer key.now layer.now }
+        requires absent { IsNumberOf self.old (type_of self.old layer.now) None }
+        ensures number { IfOk result (λ number. number ≡ length self.old) }
+        ensures ok { OnOk result (self.new ≡ self.old ++ type_of self.old layer.now ∷ []) }
+        ensures err { OnErr result (self.new ≡ self.old) }
+        ensures apart { AreApart self.new }
+    {
+        let number = self.laid.len();
+        self.numbers.insert(key_of(alloc, layer)?, number)?;
+        match self.laid.add(alloc, layer) {
+            Ok(number) => Ok(number),
+            Err(error) => {
+                self.numbers.remove(key);
+                Err(error)
+            }
+        }
+    }
+
+    /// The type of a number.
+    pub fn get(&self, number: usize) -> Option<LaidType<'_>>
+        ensures { result ≡ slice_get self.now number }
+    {
+        self.laid.get(number)
+    }
+
+    /// The type of a number that is there.
+    pub fn value(&self, number: usize) -> LaidType<'_>
+        requires { number < length self.now }
+        ensures { slice_get self.now number ≡ Some result }
+    {
+        match self.laid.get(number) {
+            Some(val_type) => val_type,
+            None => unreachable!(),
+        }
+    }
+
+    /// The type of a number that is there, as a tree that is shared. It fails only where there are as many owners as can be counted.
+    pub fn share(&self, number: usize) -> Result<Shared<ValType>, AllocError>
+        requires { number < length self.now }
+        ensures { IfOk result (λ t. slice_get self.now number ≡ Some t) }
+    {
+        let val_type = self.value(number).share()?;
+        Ok(val_type)
+    }
+}
