@@ -1,8 +1,7 @@
 pub mod LayerOrder
+pub mod LayersAdded
 pub mod LayersTold
 pub mod Listings
-pub mod NamesAdded
-pub mod Numbered
 pub mod RefsSame
 pub mod TypesGrow
 pub mod TypesMade

@@ -19,7 +19,7 @@ use Rattle.type_tables.specs.declared.refs.ExternRef.TheVariants as extern_ref
 use Rattle.type_tables.specs.Layered.{IsParams, IsFuncLayer, IsExternsLayer, IsExternLayer, IsTypeLayer}
 use Rattle.type_tables.specs.Numbering.{IsAdded}
 use Rattle.type_tables.specs.Table.{Table, IsName, IsFunc, IsType, IsExtern, IsInstanceType, AreListed, Grows}
-use Rattle.type_tables.proofs.Numbered.{stays_at}
+use Rattle.value_tables.proofs.Numbered.{stays_at}
 
 pub grows_refl : (t : Table) → Grows t t
 grows_refl t = record { texts = λ k x h. h; layers = λ k x h. h; funcs = λ k x h. h; instances = λ k x h. h }

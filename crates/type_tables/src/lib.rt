@@ -1,7 +1,6 @@
 //! Numbers in place of trees: types of functions and of instances, in tables, where a type is told by numbers, and two types
 //! are the same exactly where their numbers are. The trees are the closed types of `comp_graph`.
 //!
-//! - `names`: the texts of names, each once, by number
 //! - `listing`: what stands under names, in order
 //! - `layers`: the layers of types, each once, by number
 //! - `refs`: references into a table of types
@@ -18,7 +17,6 @@ pub mod laws;
 mod layers;
 mod listing;
 mod maker;
-mod names;
 mod refs;
 mod types;
 
@@ -27,6 +25,6 @@ pub use labels::LabelledType;
 pub use layers::{ExternLayer, Layer, Layers, TypeLayer, ValueLayer};
 pub use listing::Listing;
 pub use maker::InstanceTypeMaker;
-pub use names::Names;
 pub use refs::{ExternRef, FuncTypeRef, InstanceTypeRef, TypeRef};
 pub use types::Types;
+pub use value_tables::Names;

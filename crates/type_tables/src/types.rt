@@ -13,12 +13,12 @@ ghost use Rattle.type_tables.specs.Table.{no_types, IsName, IsFunc, IsType, IsIn
 use crate::labels::{LabelledType, closed_func, is_closed_func};
 use crate::layers::{Layer, Layers, ValueLayer};
 use crate::listing::Listing;
-use crate::names::Names;
 use crate::refs::{ExternRef, FuncTypeRef, InstanceTypeRef, TypeRef, are_same};
 use ca_types::{FuncType, Shared};
 use std::alloc::{AllocError, Global};
 use std::collections::BTreeMap;
 use std::marker::Model;
+use value_tables::Names;
 
 /// Types, each layer of them once: two types are the same exactly where the numbers of their layers are. A type that is in
 /// another one stands there by its number, so nothing here nests. Contracts see the texts of names, the layers, and of the

@@ -1,8 +1,8 @@
 use Rattle.std.proofs.Common.{◌≡◌, ℕ, List, length, Some, rules, sym, subst}
 use Rattle.std.specs.List.{slice_get}
 use Rattle.type_tables.specs.declared.layers.Layer.{Layer}
-use Rattle.type_tables.proofs.Numbered.{apart_in, apart_of}
-use Rattle.type_tables.proofs.NamesAdded.{layer_added, layers_kept}
+use Rattle.value_tables.proofs.Numbered.{apart_in, apart_of}
+use Rattle.type_tables.proofs.LayersAdded.{layer_added, layers_kept}
 use Rattle.type_tables.proofs.layers.Layers.add.Goals as goal
 
 pub returns-in_err-reserve-clause-apart : goal.returns-in_err-reserve-clause-apart

@@ -2,7 +2,7 @@ use Rattle.std.proofs.Common.{◌≡◌, List, rules, sym, subst}
 use Rattle.type_tables.specs.declared.layers.Layer.{Layer}
 use Rattle.type_tables.specs.Numbering.{IsNumberOf}
 use Rattle.type_tables.specs.Order.{number_in}
-use Rattle.type_tables.proofs.Numbered.{apart_in, is_number_of}
+use Rattle.value_tables.proofs.Numbered.{apart_in, is_number_of}
 use Rattle.type_tables.proofs.layers.Layers.find.Goals as goal
 
 pub returns-clause-number : goal.returns-clause-number
