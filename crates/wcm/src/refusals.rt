@@ -1,11 +1,12 @@
 //! The lines that tell of a refusal.
 
-ghost use Rattle.std.specs.Prelude.{◌≡◌, ◌++◌, OnOk, IfOk, codes};
+ghost use Rattle.std.specs.Prelude.{◌≡◌, ◌++◌, IfOk, OnOk, codes};
+ghost use Rattle.std.specs.Option.{MatchOption};
 ghost use Rattle.std.specs.Fmt.{decimal};
+ghost use Rattle.trace_show.specs.LabelText.{line};
 ghost use Rattle.wcm.specs.Refusals.{with_argument, byte_text, module_why_text, valid_why_text, component_why_text, link_why_text, script_why_text, refused_line, link_refused_line, script_refused_line};
-ghost use Rattle.trace_show.specs.NameText.{name_text};
 
-use ca_base::{Bytes, Memory, Name, Refusal, Seq};
+use ca_base::{Bytes, Memory, Refusal, Seq};
 use comp_link::{LinkFault, LinkWhy};
 use comp_reader::ComponentWhy;
 use script_reader::{ScriptFault, ScriptWhy};
@@ -14,185 +15,177 @@ use trace_show::name_text;
 use wasm_module::ModuleWhy;
 use wasm_valid::ValidWhy;
 
-/// Appends a byte as two hexadecimal digits.
-fn push_byte(alloc: Global, byte: u8, text: &mut Vec<u8>) -> Result<(), Memory>
-    ensures { OnOk result (text.new.items ≡ text.old.items ++ byte_text byte) }
+/// The name of a reason, and the text of its argument, if it has one.
+type Reason = (&'static [u8], Option<Bytes>);
+
+/// A byte as two hexadecimal digits.
+fn byte_text(alloc: Global, byte: u8) -> Result<Bytes, Memory>
+    ensures { IfOk result (λ text. text ≡ byte_text byte) }
 {
     let digits = hex::encode(alloc, [byte])?;
-    text.extend_from_slice(digits.as_bytes())?;
-    Ok(())
+    Ok(Seq::from_vec(digits.into_bytes()))
 }
 
-/// Appends a byte that no rule has in its place.
-fn push_unsupported(alloc: Global, byte: u8, text: &mut Vec<u8>) -> Result<(), Memory>
-    ensures { OnOk result (text.new.items ≡ text.old.items ++ with_argument (codes "Unsupported") (byte_text byte)) }
+/// Appends an argument, in parentheses.
+fn push_argument(argument: &[u8], text: &mut Vec<u8>) -> Result<(), Memory>
+    ensures { OnOk result (text.new.items ≡ text.old.items ++ (codes "(" ++ argument.now ++ codes ")")) }
 {
-    text.extend_from_slice(b"Unsupported(")?;
-    push_byte(alloc, byte, text)?;
+    text.push(b'(')?;
+    text.extend_from_slice(argument)?;
     text.push(b')')?;
     Ok(())
 }
 
-/// Appends why a core module is refused.
-fn push_module_why(alloc: Global, why: ModuleWhy, text: &mut Vec<u8>) -> Result<(), Memory>
-    ensures { OnOk result (text.new.items ≡ text.old.items ++ module_why_text why) }
+/// The text of a reason: its name, and its argument in parentheses.
+fn reason_text(alloc: Global, name: &[u8], argument: &Option<Bytes>) -> Result<Bytes, Memory>
+    ensures { IfOk result (λ text. MatchOption argument.now (text ≡ name.now) (λ a. text ≡ with_argument name.now a)) }
+{
+    let mut text = Vec::new(alloc);
+    text.extend_from_slice(name)?;
+    let Some(argument) = argument else {
+        return Ok(Seq::from_vec(text));
+    };
+    push_argument(argument.as_slice(), &mut text)?;
+    Ok(Seq::from_vec(text))
+}
+
+/// Why a core module is refused.
+fn module_reason(alloc: Global, why: ModuleWhy) -> Result<Reason, Memory>
+    ensures { IfOk result (λ r. MatchOption r.1 (r.0.now ≡ module_why_text why) (λ a. with_argument r.0.now a ≡ module_why_text why)) }
 {
     match why {
-        ModuleWhy::Truncated => text.extend_from_slice(b"Truncated")?,
-        ModuleWhy::Leb => text.extend_from_slice(b"Leb")?,
-        ModuleWhy::Magic => text.extend_from_slice(b"Magic")?,
-        ModuleWhy::SectionOrder => text.extend_from_slice(b"SectionOrder")?,
-        ModuleWhy::SectionSize => text.extend_from_slice(b"SectionSize")?,
-        ModuleWhy::Utf8 => text.extend_from_slice(b"Utf8")?,
-        ModuleWhy::Float => text.extend_from_slice(b"Float")?,
-        ModuleWhy::Unsupported(byte) => push_unsupported(alloc, byte, text)?,
-        ModuleWhy::Count => text.extend_from_slice(b"Count")?,
-        ModuleWhy::Limit => text.extend_from_slice(b"Limit")?,
+        ModuleWhy::Truncated => Ok((b"Truncated", None)),
+        ModuleWhy::Leb => Ok((b"Leb", None)),
+        ModuleWhy::Magic => Ok((b"Magic", None)),
+        ModuleWhy::SectionOrder => Ok((b"SectionOrder", None)),
+        ModuleWhy::SectionSize => Ok((b"SectionSize", None)),
+        ModuleWhy::Utf8 => Ok((b"Utf8", None)),
+        ModuleWhy::Float => Ok((b"Float", None)),
+        ModuleWhy::Unsupported(byte) => Ok((b"Unsupported", Some(byte_text(alloc, byte)?))),
+        ModuleWhy::Count => Ok((b"Count", None)),
+        ModuleWhy::Limit => Ok((b"Limit", None)),
     }
-    Ok(())
 }
 
-/// Appends why a core module is not valid.
-fn push_valid_why(why: ValidWhy, text: &mut Vec<u8>) -> Result<(), Memory>
-    ensures { OnOk result (text.new.items ≡ text.old.items ++ valid_why_text why) }
+/// The text of why a core module is refused.
+fn module_text(alloc: Global, why: ModuleWhy) -> Result<Bytes, Memory>
+    ensures { IfOk result (λ text. text ≡ module_why_text why) }
+{
+    let (name, argument) = module_reason(alloc, why)?;
+    reason_text(alloc, name, &argument)
+}
+
+/// Why a core module is not valid.
+fn valid_text(why: ValidWhy) -> &'static [u8]
+    ensures { result.now ≡ valid_why_text why }
 {
     match why {
-        ValidWhy::Index => text.extend_from_slice(b"Index")?,
-        ValidWhy::Label => text.extend_from_slice(b"Label")?,
-        ValidWhy::Align => text.extend_from_slice(b"Align")?,
-        ValidWhy::Stack => text.extend_from_slice(b"Stack")?,
-        ValidWhy::Typing => text.extend_from_slice(b"Typing")?,
-        ValidWhy::Name => text.extend_from_slice(b"Name")?,
-        ValidWhy::Limit => text.extend_from_slice(b"Limit")?,
+        ValidWhy::Index => b"Index",
+        ValidWhy::Label => b"Label",
+        ValidWhy::Align => b"Align",
+        ValidWhy::Stack => b"Stack",
+        ValidWhy::Typing => b"Typing",
+        ValidWhy::Name => b"Name",
+        ValidWhy::Limit => b"Limit",
     }
-    Ok(())
 }
 
-/// Appends that a core module of a component is refused.
-fn push_module(alloc: Global, why: ModuleWhy, text: &mut Vec<u8>) -> Result<(), Memory>
-    ensures { OnOk result (text.new.items ≡ text.old.items ++ with_argument (codes "Module") (module_why_text why)) }
+/// Bytes of their own that are these.
+fn owned(alloc: Global, bytes: &[u8]) -> Result<Bytes, Memory>
+    ensures { IfOk result (λ text. text ≡ bytes.now) }
 {
-    text.extend_from_slice(b"Module(")?;
-    push_module_why(alloc, why, text)?;
-    text.push(b')')?;
-    Ok(())
+    let mut text = Vec::new(alloc);
+    text.extend_from_slice(bytes)?;
+    Ok(Seq::from_vec(text))
 }
 
-/// Appends that a core module of a component is not valid.
-fn push_invalid(why: ValidWhy, text: &mut Vec<u8>) -> Result<(), Memory>
-    ensures { OnOk result (text.new.items ≡ text.old.items ++ with_argument (codes "Invalid") (valid_why_text why)) }
-{
-    text.extend_from_slice(b"Invalid(")?;
-    push_valid_why(why, text)?;
-    text.push(b')')?;
-    Ok(())
-}
-
-/// Appends why a component is refused.
-fn push_component_why(alloc: Global, why: ComponentWhy, text: &mut Vec<u8>) -> Result<(), Memory>
-    ensures { OnOk result (text.new.items ≡ text.old.items ++ component_why_text why) }
+/// Why a component is refused.
+fn component_reason(alloc: Global, why: ComponentWhy) -> Result<Reason, Memory>
+    ensures { IfOk result (λ r. MatchOption r.1 (r.0.now ≡ component_why_text why) (λ a. with_argument r.0.now a ≡ component_why_text why)) }
 {
     match why {
-        ComponentWhy::Truncated => text.extend_from_slice(b"Truncated")?,
-        ComponentWhy::Leb => text.extend_from_slice(b"Leb")?,
-        ComponentWhy::Utf8 => text.extend_from_slice(b"Utf8")?,
-        ComponentWhy::Magic => text.extend_from_slice(b"Magic")?,
-        ComponentWhy::SectionSize => text.extend_from_slice(b"SectionSize")?,
-        ComponentWhy::Unsupported(byte) => push_unsupported(alloc, byte, text)?,
-        ComponentWhy::Float => text.extend_from_slice(b"Float")?,
-        ComponentWhy::Limit => text.extend_from_slice(b"Limit")?,
-        ComponentWhy::Module(why) => push_module(alloc, why, text)?,
-        ComponentWhy::Invalid(why) => push_invalid(why, text)?,
+        ComponentWhy::Truncated => Ok((b"Truncated", None)),
+        ComponentWhy::Leb => Ok((b"Leb", None)),
+        ComponentWhy::Utf8 => Ok((b"Utf8", None)),
+        ComponentWhy::Magic => Ok((b"Magic", None)),
+        ComponentWhy::SectionSize => Ok((b"SectionSize", None)),
+        ComponentWhy::Unsupported(byte) => Ok((b"Unsupported", Some(byte_text(alloc, byte)?))),
+        ComponentWhy::Float => Ok((b"Float", None)),
+        ComponentWhy::Limit => Ok((b"Limit", None)),
+        ComponentWhy::Module(why) => Ok((b"Module", Some(module_text(alloc, why)?))),
+        ComponentWhy::Invalid(why) => Ok((b"Invalid", Some(owned(alloc, valid_text(why))?))),
     }
-    Ok(())
 }
 
-/// Appends that an instance has no export of this name.
-fn push_missing(alloc: Global, name: &Name, text: &mut Vec<u8>) -> Result<(), Memory>
-    ensures { OnOk result (text.new.items ≡ text.old.items ++ with_argument (codes "Missing") (name_text name.now)) }
-{
-    text.extend_from_slice(b"Missing(")?;
-    text.extend_from_slice(name_text(alloc, name)?.as_slice())?;
-    text.push(b')')?;
-    Ok(())
-}
-
-/// Appends why a component is not linked.
-fn push_link_why(alloc: Global, why: &LinkWhy, text: &mut Vec<u8>) -> Result<(), Memory>
-    ensures { OnOk result (text.new.items ≡ text.old.items ++ link_why_text why.now) }
+/// Why a component is not linked.
+fn link_reason(alloc: Global, why: &LinkWhy) -> Result<Reason, Memory>
+    ensures { IfOk result (λ r. MatchOption r.1 (r.0.now ≡ link_why_text why.now) (λ a. with_argument r.0.now a ≡ link_why_text why.now)) }
 {
     match why {
-        LinkWhy::RootImport => text.extend_from_slice(b"RootImport")?,
-        LinkWhy::Index => text.extend_from_slice(b"Index")?,
-        LinkWhy::Missing(name) => push_missing(alloc, name, text)?,
-        LinkWhy::Typing => text.extend_from_slice(b"Typing")?,
-        LinkWhy::Canon => text.extend_from_slice(b"Canon")?,
-        LinkWhy::Limit => text.extend_from_slice(b"Limit")?,
+        LinkWhy::RootImport => Ok((b"RootImport", None)),
+        LinkWhy::Index => Ok((b"Index", None)),
+        LinkWhy::Missing(name) => Ok((b"Missing", Some(name_text(alloc, name)?))),
+        LinkWhy::Typing => Ok((b"Typing", None)),
+        LinkWhy::Canon => Ok((b"Canon", None)),
+        LinkWhy::Limit => Ok((b"Limit", None)),
     }
-    Ok(())
 }
 
-/// Appends a byte place, up to the reason that stands behind it.
-fn push_place(alloc: Global, place: usize, text: &mut Vec<u8>) -> Result<(), Memory>
-    ensures { OnOk result (text.new.items ≡ text.old.items ++ codes " at " ++ decimal place ++ codes ": ") }
+/// Why a script is refused.
+fn script_text(why: ScriptWhy) -> &'static [u8]
+    ensures { result.now ≡ script_why_text why }
+{
+    match why {
+        ScriptWhy::Size => b"Size",
+        ScriptWhy::Utf8 => b"Utf8",
+        ScriptWhy::Form => b"Form",
+        ScriptWhy::Fuel => b"Fuel",
+        ScriptWhy::Export => b"Export",
+        ScriptWhy::HostType => b"HostType",
+        ScriptWhy::Value => b"Value",
+    }
+}
+
+/// The line of a refusal: what is refused, the number of its place, and why.
+fn line_of(alloc: Global, front: &[u8], place: usize, why: &[u8]) -> Result<Bytes, Memory>
+    ensures { IfOk result (λ text. text ≡ line (front.now ++ decimal place ++ codes ": " ++ why.now)) }
 {
     let digits = place.to_string(alloc)?;
-    text.extend_from_slice(b" at ")?;
+    let mut text = Vec::new(alloc);
+    text.extend_from_slice(front)?;
     text.extend_from_slice(digits.as_bytes())?;
     text.extend_from_slice(b": ")?;
-    Ok(())
+    text.extend_from_slice(why)?;
+    text.push(b'\n')?;
+    Ok(Seq::from_vec(text))
 }
 
 /// The line for a component file that is refused.
 pub fn refused_line(alloc: Global, refusal: Refusal<ComponentWhy>) -> Result<Bytes, Memory>
     ensures { IfOk result (λ text. text ≡ refused_line refusal) }
 {
-    let mut text = Vec::new(alloc);
-    text.extend_from_slice(b"refused")?;
-    push_place(alloc, refusal.place, &mut text)?;
-    push_component_why(alloc, refusal.why, &mut text)?;
-    text.push(b'\n')?;
-    Ok(Seq::from_vec(text))
+    let (name, argument) = component_reason(alloc, refusal.why)?;
+    let why = reason_text(alloc, name, &argument)?;
+    line_of(alloc, b"refused at ", refusal.place, why.as_slice())
 }
 
 /// The line for a component that is not linked.
 pub fn link_refused_line(alloc: Global, fault: &LinkFault) -> Result<Bytes, Memory>
     ensures { IfOk result (λ text. text ≡ link_refused_line fault.now) }
 {
-    let mut text = Vec::new(alloc);
-    text.extend_from_slice(b"link refused")?;
-    push_place(alloc, fault.place, &mut text)?;
-    push_link_why(alloc, &fault.why, &mut text)?;
-    text.push(b'\n')?;
-    Ok(Seq::from_vec(text))
-}
-
-/// Appends why a script is refused.
-fn push_script_why(why: ScriptWhy, text: &mut Vec<u8>) -> Result<(), Memory>
-    ensures { OnOk result (text.new.items ≡ text.old.items ++ script_why_text why) }
-{
-    match why {
-        ScriptWhy::Size => text.extend_from_slice(b"Size")?,
-        ScriptWhy::Utf8 => text.extend_from_slice(b"Utf8")?,
-        ScriptWhy::Form => text.extend_from_slice(b"Form")?,
-        ScriptWhy::Fuel => text.extend_from_slice(b"Fuel")?,
-        ScriptWhy::Export => text.extend_from_slice(b"Export")?,
-        ScriptWhy::HostType => text.extend_from_slice(b"HostType")?,
-        ScriptWhy::Value => text.extend_from_slice(b"Value")?,
-    }
-    Ok(())
+    let (name, argument) = link_reason(alloc, &fault.why)?;
+    let why = reason_text(alloc, name, &argument)?;
+    line_of(alloc, b"link refused at ", fault.place, why.as_slice())
 }
 
 /// The line for a script file that is refused.
 pub fn script_refused_line(alloc: Global, fault: ScriptFault) -> Result<Bytes, Memory>
     ensures { IfOk result (λ text. text ≡ script_refused_line fault) }
 {
-    let digits = fault.line.to_string(alloc)?;
-    let mut text = Vec::new(alloc);
-    text.extend_from_slice(b"script refused at line ")?;
-    text.extend_from_slice(digits.as_bytes())?;
-    text.extend_from_slice(b": ")?;
-    push_script_why(fault.why, &mut text)?;
-    text.push(b'\n')?;
-    Ok(Seq::from_vec(text))
+    line_of(
+        alloc,
+        b"script refused at line ",
+        fault.line,
+        script_text(fault.why),
+    )
 }
