@@ -1,8 +1,7 @@
 //! What the lines of a paragraph make of something, one after the other.
 
-use crate::table::failing;
-use std::alloc::Global;
-use std::fmt::Write;
+use crate::table::{failing, write_case, write_count};
+use std::alloc::{AllocError, Global};
 use std::test::Fail;
 
 /// Something that lines change.
@@ -12,6 +11,20 @@ pub trait Steps {
 
     /// Something that is as a paragraph's first line says.
     fn begin(alloc: Global, title: &str) -> Result<Self, Fail>;
+}
+
+/// Adds a line to others if something else comes of it than what is wanted.
+fn write_if_other(
+    wrong: &mut String,
+    line: &str,
+    got: &str,
+    wanted: &str,
+) -> Result<(), AllocError> {
+    if got == wanted {
+        Ok(())
+    } else {
+        write_case(wrong, line, got)
+    }
 }
 
 /// Does what a line says, and adds it to others if something else comes of it than what stands behind its last ` = `.
@@ -24,10 +37,23 @@ fn add_differing<S: Steps>(
     let (given, wanted) = line.rsplit_once(" = ").ok_or("no answer")?;
     let mut got = String::new(alloc);
     state.step(alloc, given, &mut got)?;
-    if got.as_str() != wanted {
-        writeln!(wrong, "{line}: {got}")?;
-    }
+    write_if_other(wrong, line, got.as_str(), wanted)?;
     Ok(())
+}
+
+/// Does what lines say, one after the other, and answers how many these are.
+fn add_lines<S: Steps>(
+    alloc: Global,
+    state: &mut S,
+    lines: &str,
+    wrong: &mut String,
+) -> Result<usize, Fail> {
+    let mut there = 0usize;
+    for line in lines.lines() {
+        add_differing(alloc, state, line, wrong)?;
+        there = there.saturating_add(1);
+    }
+    Ok(there)
 }
 
 /// Does what the lines behind the first one say, and answers how many these are.
@@ -38,10 +64,14 @@ fn add_paragraph<S: Steps + Drop>(
 ) -> Result<usize, Fail> {
     let (title, lines) = paragraph.split_once('\n').ok_or("no lines")?;
     let mut state = S::begin(alloc, title)?;
+    add_lines(alloc, &mut state, lines, wrong)
+}
+
+/// Does what paragraphs say, and answers how many lines they have.
+fn compare<S: Steps + Drop>(alloc: Global, text: &str, wrong: &mut String) -> Result<usize, Fail> {
     let mut there = 0usize;
-    for line in lines.lines() {
-        add_differing(alloc, &mut state, line, wrong)?;
-        there = there.saturating_add(1);
+    for paragraph in text.trim_matches('\n').split("\n\n") {
+        there = there.saturating_add(add_paragraph::<S>(alloc, paragraph, wrong)?);
     }
     Ok(there)
 }
@@ -50,13 +80,8 @@ fn add_paragraph<S: Steps + Drop>(
 /// stated.
 fn differing<S: Steps + Drop>(alloc: Global, text: &str, count: usize) -> Result<String, Fail> {
     let mut wrong = String::new(alloc);
-    let mut there = 0usize;
-    for paragraph in text.trim_matches('\n').split("\n\n") {
-        there = there.saturating_add(add_paragraph::<S>(alloc, paragraph, &mut wrong)?);
-    }
-    if there != count {
-        writeln!(wrong, "{there} lines")?;
-    }
+    let there = compare::<S>(alloc, text, &mut wrong)?;
+    write_count(&mut wrong, there, count)?;
     Ok(wrong)
 }
 

@@ -1,6 +1,6 @@
 //! Cases in a text, each with the answer that is wanted, or of which something holds.
 
-use std::alloc::Global;
+use std::alloc::{AllocError, Global};
 use std::fmt::Write;
 use std::test::Fail;
 
@@ -8,6 +8,38 @@ use std::test::Fail;
 pub trait Answers {
     /// The answer.
     fn answer(alloc: Global, given: &str) -> Result<String, Fail>;
+}
+
+/// Adds a case to others, with its answer.
+pub(crate) fn write_case(wrong: &mut String, case: &str, got: &str) -> Result<(), AllocError> {
+    writeln!(wrong, "{case}: {got}")
+}
+
+/// Adds a case to others if its answer is another than wanted, but for line feeds around it.
+fn write_if_other(
+    wrong: &mut String,
+    case: &str,
+    got: &str,
+    wanted: &str,
+) -> Result<(), AllocError> {
+    if got.trim_matches('\n') == wanted.trim_matches('\n') {
+        Ok(())
+    } else {
+        write_case(wrong, case, got)
+    }
+}
+
+/// Adds how many cases there are if these are not as many as stated.
+pub(crate) fn write_count(
+    wrong: &mut String,
+    there: usize,
+    count: usize,
+) -> Result<(), AllocError> {
+    if there == count {
+        Ok(())
+    } else {
+        writeln!(wrong, "{there} cases")
+    }
 }
 
 /// Adds a case to others if its answer is another than wanted, with its answer.
@@ -19,10 +51,24 @@ fn add_differing<T: Answers>(
 ) -> Result<(), Fail> {
     let (given, wanted) = case.rsplit_once(before).ok_or("no answer")?;
     let got = T::answer(alloc, given)?;
-    if got.trim_matches('\n') != wanted.trim_matches('\n') {
-        writeln!(wrong, "{case}: {got}")?;
-    }
+    write_if_other(wrong, case, got.as_str(), wanted)?;
     Ok(())
+}
+
+/// Adds the cases of a text whose answers are others than wanted, each with its answer, and answers how many cases there are.
+pub(crate) fn compare<T: Answers>(
+    alloc: Global,
+    cases: &str,
+    between: &str,
+    before: &str,
+    wrong: &mut String,
+) -> Result<usize, Fail> {
+    let mut there = 0usize;
+    for case in cases.trim_matches('\n').split(between) {
+        add_differing::<T>(alloc, case, before, wrong)?;
+        there = there.saturating_add(1);
+    }
+    Ok(there)
 }
 
 /// The cases whose answers are others than wanted, each with its answer, and how many cases there are if these are not as
@@ -35,14 +81,8 @@ fn differing<T: Answers>(
     count: usize,
 ) -> Result<String, Fail> {
     let mut wrong = String::new(alloc);
-    let mut there = 0usize;
-    for case in cases.trim_matches('\n').split(between) {
-        add_differing::<T>(alloc, case, before, &mut wrong)?;
-        there = there.saturating_add(1);
-    }
-    if there != count {
-        writeln!(wrong, "{there} cases")?;
-    }
+    let there = compare::<T>(alloc, cases, between, before, &mut wrong)?;
+    write_count(&mut wrong, there, count)?;
     Ok(wrong)
 }
 
@@ -79,6 +119,30 @@ pub trait Holds {
     fn holds(alloc: Global, case: &str) -> Result<bool, Fail>;
 }
 
+/// Adds a case to others if it does not hold of it.
+fn add_failed<T: Holds>(alloc: Global, case: &str, wrong: &mut String) -> Result<(), Fail> {
+    if T::holds(alloc, case)? {
+        return Ok(());
+    }
+    writeln!(wrong, "{case}")?;
+    Ok(())
+}
+
+/// Adds the cases of a text of which it does not hold, and answers how many cases there are.
+fn judge<T: Holds>(
+    alloc: Global,
+    cases: &str,
+    between: &str,
+    wrong: &mut String,
+) -> Result<usize, Fail> {
+    let mut there = 0usize;
+    for case in cases.trim_matches('\n').split(between) {
+        add_failed::<T>(alloc, case, wrong)?;
+        there = there.saturating_add(1);
+    }
+    Ok(there)
+}
+
 /// The cases of a text of which it does not hold, and how many cases there are if these are not as many as stated.
 fn failed<T: Holds>(
     alloc: Global,
@@ -87,16 +151,8 @@ fn failed<T: Holds>(
     count: usize,
 ) -> Result<String, Fail> {
     let mut wrong = String::new(alloc);
-    let mut there = 0usize;
-    for case in cases.trim_matches('\n').split(between) {
-        if !T::holds(alloc, case)? {
-            writeln!(wrong, "{case}")?;
-        }
-        there = there.saturating_add(1);
-    }
-    if there != count {
-        writeln!(wrong, "{there} cases")?;
-    }
+    let there = judge::<T>(alloc, cases, between, &mut wrong)?;
+    write_count(&mut wrong, there, count)?;
     Ok(wrong)
 }
 

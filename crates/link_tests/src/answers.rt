@@ -1,9 +1,12 @@
 //! What becomes of components, as text.
+//!
+//! A component, its graph and its fault are each lent to the function that tells of them as the last step, so that they are let
+//! go in one place.
 
-use ca_base::{MemoryOr, Name, ReadError};
-use comp_graph::{Action, CoreExtern, CoreMake, CoreRef, Graph};
+use ca_base::{MemoryOr, ReadError, Refusal};
+use comp_graph::{Action, CoreExtern, CoreMake, CoreRef, Graph, Lift};
 use comp_link::{LinkFault, LinkWhy, link};
-use comp_reader::{Component, read_component};
+use comp_reader::{Component, ComponentWhy, read_component};
 use std::alloc::{AllocError, Global};
 use std::fmt::Write;
 use std::test::Fail;
@@ -13,10 +16,8 @@ const MANY: usize = 256;
 
 /// Writes which definition of which core instance it is.
 fn write_ref(text: &mut String, core: CoreRef) -> Result<(), AllocError> {
-    let instance = core.instance;
-    let index = core.index;
-    write!(text, "{instance}.{index}")?;
-    Ok(())
+    let CoreRef { instance, index } = core;
+    write!(text, "{instance}.{index}")
 }
 
 /// Writes an import.
@@ -32,7 +33,7 @@ fn write_import(text: &mut String, import: CoreExtern) -> Result<(), AllocError>
 }
 
 /// Writes a core instance with its imports, in a line.
-fn write_core(text: &mut String, core: &CoreMake) -> Result<(), AllocError> {
+fn write_core(text: &mut String, core: &CoreMake<'_>) -> Result<(), AllocError> {
     text.push_str("core")?;
     let mut front = " ";
     for import in core.imports() {
@@ -40,92 +41,128 @@ fn write_core(text: &mut String, core: &CoreMake) -> Result<(), AllocError> {
         write_import(text, *import)?;
         front = ", ";
     }
-    text.push_str("\n")?;
+    text.push('\n')
+}
+
+/// Writes each core instance.
+fn write_cores(text: &mut String, cores: &[CoreMake<'_>]) -> Result<(), AllocError> {
+    for core in cores {
+        write_core(text, core)?;
+    }
     Ok(())
+}
+
+/// Writes what begins or is made.
+fn write_action(text: &mut String, action: &Action) -> Result<(), AllocError> {
+    let (word, number) = match action {
+        Action::Begin(number) => ("begin", *number),
+        Action::Make(number) => ("make", *number),
+    };
+    write!(text, " {word} {number}")
 }
 
 /// Writes what is made, in a line.
 fn write_plan(text: &mut String, plan: &[Action]) -> Result<(), AllocError> {
     text.push_str("plan")?;
     for action in plan {
-        match action {
-            Action::Begin(number) => write!(text, " begin {number}")?,
-            Action::Make(number) => write!(text, " make {number}")?,
-        }
+        write_action(text, action)?;
     }
-    text.push_str("\n")?;
-    Ok(())
+    text.push('\n')
 }
 
-/// Writes the exports, a line each.
-fn write_exports(text: &mut String, graph: &Graph) -> Result<(), AllocError> {
+/// Writes an export, in a line.
+fn write_export(text: &mut String, name: &str, lift: Lift) -> Result<(), AllocError> {
+    let instance = lift.instance;
+    write!(text, "export {name} {instance} ")?;
+    write_ref(text, lift.core)?;
+    text.push('\n')
+}
+
+/// Writes each export.
+fn write_exports(text: &mut String, graph: &Graph<'_>) -> Result<(), AllocError> {
     let exports = graph.exports();
     for number in 0..exports.len() {
         let name = exports.as_slice()[number].name.as_str();
-        let lift = graph.lift(number);
-        let instance = lift.instance;
-        write!(text, "export {name} {instance} ")?;
-        write_ref(text, lift.core)?;
-        text.push_str("\n")?;
+        write_export(text, name, graph.lift(number))?;
     }
     Ok(())
 }
 
 /// Writes a graph, or how many core instances it has where there are many.
-fn write_graph(text: &mut String, graph: &Graph) -> Result<(), AllocError> {
+fn write_graph(text: &mut String, graph: &Graph<'_>) -> Result<(), AllocError> {
     let cores = graph.cores();
     if cores.len() == MANY {
-        text.push_str("256 core instances")?;
-        return Ok(());
+        return text.push_str("256 core instances");
     }
     write_plan(text, graph.plan())?;
-    for core in cores {
-        write_core(text, core)?;
-    }
+    write_cores(text, cores)?;
     write_exports(text, graph)
 }
 
-/// The name that is missing, if a reason tells one.
-fn missing_name(why: &LinkWhy) -> Option<&Name> {
-    match why {
-        LinkWhy::Missing(name) => Some(name),
-        _ => None,
-    }
-}
-
-/// Writes why an item is refused, and where.
-fn write_fault(text: &mut String, fault: &LinkFault) -> Result<(), AllocError> {
-    let place = fault.place;
-    if let Some(name) = missing_name(&fault.why) {
-        let name = name.as_str();
-        write!(text, "{place} Missing({name})")?;
-        return Ok(());
-    }
-    let why = &fault.why;
-    write!(text, "{place} {why:?}")?;
-    Ok(())
-}
-
-/// What a component is linked to, or its fault.
-fn linked(alloc: Global, component: &Component) -> Result<String, Fail> {
+/// The text of a graph.
+fn graph_shown(alloc: Global, graph: &Graph<'_>) -> Result<String, AllocError> {
     let mut text = String::new(alloc);
-    match link(alloc, component) {
-        Ok(graph) => write_graph(&mut text, &graph)?,
-        Err(MemoryOr::Memory) => return Err(Fail::new("memory")),
-        Err(MemoryOr::Fault(fault)) => write_fault(&mut text, &fault)?,
-    }
+    write_graph(&mut text, graph)?;
     Ok(text)
 }
 
-/// What becomes of bytes.
-pub(crate) fn answer_of(alloc: Global, bytes: &[u8]) -> Result<String, Fail> {
-    match read_component(alloc, bytes) {
-        Ok(component) => linked(alloc, &component),
-        Err(ReadError::Memory) => Err(Fail::new("memory")),
-        Err(ReadError::Fault(refusal)) => {
-            let place = refusal.place;
-            let why = refusal.why;
-            Ok(format!(in alloc; "not read at {place}: {why:?}")?)
+/// The text of a graph that is let go then.
+fn graph_text(alloc: Global, graph: Graph<'_>) -> Result<String, AllocError> {
+    graph_shown(alloc, &graph)
+}
+
+/// Why an item is refused, and where.
+fn fault_shown(alloc: Global, fault: &LinkFault) -> Result<String, AllocError> {
+    let place = fault.place;
+    match &fault.why {
+        LinkWhy::Missing(name) => {
+            let name = name.as_str();
+            format!(in alloc; "{place} Missing({name})")
         }
+        why => format!(in alloc; "{place} {why:?}"),
+    }
+}
+
+/// The same of a fault that is let go then.
+fn fault_text(alloc: Global, fault: LinkFault) -> Result<String, AllocError> {
+    fault_shown(alloc, &fault)
+}
+
+/// The graph of a component, or its fault.
+fn graph_of(alloc: Global, component: &Component) -> Result<Graph<'_>, MemoryOr<LinkFault>> {
+    link(alloc, component)
+}
+
+/// The text of what a component is linked to, or of its fault.
+fn linked(alloc: Global, component: &Component) -> Result<String, Fail> {
+    match graph_of(alloc, component) {
+        Ok(graph) => Ok(graph_text(alloc, graph)?),
+        Err(MemoryOr::Memory) => Err(Fail::new("memory")),
+        Err(MemoryOr::Fault(fault)) => Ok(fault_text(alloc, fault)?),
+    }
+}
+
+/// The same of a component that is let go then.
+fn told(alloc: Global, component: Component) -> Result<String, Fail> {
+    linked(alloc, &component)
+}
+
+/// The component of bytes, or its refusal.
+fn component_of(alloc: Global, bytes: &[u8]) -> Result<Component, ReadError<ComponentWhy>> {
+    read_component(alloc, bytes)
+}
+
+/// The place and the reason of a refusal.
+fn refusal_text(alloc: Global, refusal: Refusal<ComponentWhy>) -> Result<String, AllocError> {
+    let Refusal { place, why } = refusal;
+    format!(in alloc; "not read at {place}: {why:?}")
+}
+
+/// What becomes of bytes.
+pub fn answer_of(alloc: Global, bytes: &[u8]) -> Result<String, Fail> {
+    match component_of(alloc, bytes) {
+        Ok(component) => told(alloc, component),
+        Err(ReadError::Memory) => Err(Fail::new("memory")),
+        Err(ReadError::Fault(refusal)) => Ok(refusal_text(alloc, refusal)?),
     }
 }

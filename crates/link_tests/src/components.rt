@@ -1,6 +1,6 @@
 //! The components of cases.
 
-use std::alloc::Global;
+use std::alloc::{AllocError, Global};
 use std::test::Fail;
 
 /// The section of a core module that exports a function `f` from two i32 to one, a function `g` from nothing to nothing, a
@@ -38,35 +38,49 @@ fn lines_of(word: &str) -> [&str; 4] {
     }
 }
 
-/// Adds the bytes of a line, so many times.
-fn add_times(alloc: Global, line: &str, bytes: &mut Vec<u8>) -> Result<(), Fail> {
+/// Adds the bytes of hexadecimal text.
+fn add_code(alloc: Global, code: &str, bytes: &mut Vec<u8>) -> Result<(), Fail> {
+    let part = cases::bytes_of(alloc, code)?;
+    bytes.extend_from_slice(&part)?;
+    Ok(())
+}
+
+/// Adds bytes so many times.
+fn add_times(part: &[u8], count: u32, bytes: &mut Vec<u8>) -> Result<(), AllocError> {
+    for _time in 0..count {
+        bytes.extend_from_slice(part)?;
+    }
+    Ok(())
+}
+
+/// Adds the bytes of a number and a text, so many times.
+fn add_repeated(alloc: Global, line: &str, bytes: &mut Vec<u8>) -> Result<(), Fail> {
     let (count, code) = line.split_once(' ').ok_or("no bytes")?;
     let count: u32 = count.parse()?;
     let part = cases::bytes_of(alloc, code)?;
-    for _time in 0..count {
-        bytes.extend_from_slice(&part)?;
+    add_times(&part, count, bytes)?;
+    Ok(())
+}
+
+/// Adds the bytes of the lines that a word stands for, or of hexadecimal text.
+fn add_word(alloc: Global, word: &str, bytes: &mut Vec<u8>) -> Result<(), Fail> {
+    for code in lines_of(word) {
+        add_code(alloc, code, bytes)?;
     }
     Ok(())
 }
 
 /// Adds the bytes of a line.
 fn add_line(alloc: Global, line: &str, bytes: &mut Vec<u8>) -> Result<(), Fail> {
-    let code = match line.split_once(';') {
-        Some((code, _remark)) => code.trim(),
-        None => line.trim(),
-    };
-    if let Some(times) = code.strip_prefix("times ") {
-        return add_times(alloc, times, bytes);
+    let (code, _remark) = line.split_once(';').unwrap_or((line, ""));
+    match code.trim().strip_prefix("times ") {
+        Some(repeated) => add_repeated(alloc, repeated, bytes),
+        None => add_word(alloc, code.trim(), bytes),
     }
-    for part in lines_of(code) {
-        let part = cases::bytes_of(alloc, part)?;
-        bytes.extend_from_slice(&part)?;
-    }
-    Ok(())
 }
 
 /// The bytes of lines.
-pub(crate) fn bytes_of_lines(alloc: Global, lines: &str) -> Result<Vec<u8>, Fail> {
+pub fn bytes_of_lines(alloc: Global, lines: &str) -> Result<Vec<u8>, Fail> {
     let mut bytes = Vec::new(alloc);
     for line in lines.lines() {
         add_line(alloc, line, &mut bytes)?;

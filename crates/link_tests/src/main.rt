@@ -1,0 +1,60 @@
+//! Tests of linking: a program that goes through tables of cases.
+//!
+//! A case is a line that says what it is, lines of the bytes of a component, a line `is`, and the answer that is wanted. What
+//! stands behind a `;` in a line is a remark. `provider` is a section of the core module `PROVIDER`, `lifted` that and the lift of
+//! its function `f`, `adder` a component that exports this lift, and `times N BYTES` are bytes that stand N times. Answers are
+//! derived from the definitions by hand. The file `stdin` names the tables, and the file `stdout` has how many cases are in each.
+//!
+//! - `core`: the arguments of core modules, and inline exports
+//! - `fit`: what imports of core modules ask for
+//! - `alias`: aliases, and how many core instances there may be
+//! - `item`: types, lifts, imports and exports
+//! - `instance`: instances and their functions
+//! - `argument`: arguments of instances
+//! - `type`, `asked`, `said`: instance types, imports that ask for instances, exports that say what they are
+//! - `outer`: aliases of exports of instances, and of what stands further out
+//! - `composed`: components that are linked through others
+//! - `limit`: how many component instances there may be, and levels of components
+//! - `sort`: sorts of core items, what modules hand on, and core instances in component instances
+//! - `inner`: faults of items in component instances, and the order of faults
+//! - `declared`: declarations of instance types, and lifts
+//! - `seen`: what is lacking and what is seen of instances, and aliases of other sorts
+//! - `equal`: types that are equal, and arguments by their names
+//! - `level`: what stands further out, and components that instantiate themselves
+//! - `toolchain`: components that are made of others as toolchains make them
+//!
+//! The module `components` has the bytes of cases, and `answers` the answers as text.
+#![tactic(auto)]
+
+mod answers;
+mod components;
+
+use answers::answer_of;
+use cases::{Answers, Tables, paragraphs_told, run_tables};
+use components::bytes_of_lines;
+use std::alloc::Global;
+use std::test::Fail;
+
+/// Components that are linked.
+struct Linked;
+
+impl Answers for Linked {
+    fn answer(alloc: Global, given: &str) -> Result<String, Fail> {
+        let (_title, lines) = given.split_once('\n').ok_or("no bytes")?;
+        let bytes = bytes_of_lines(alloc, lines)?;
+        answer_of(alloc, &bytes)
+    }
+}
+
+/// The tables, which are of one kind.
+struct LinkTables;
+
+impl Tables for LinkTables {
+    fn told(alloc: Global, _kind: &str, text: &str) -> Result<String, Fail> {
+        paragraphs_told::<Linked>(alloc, text)
+    }
+}
+
+fn main(rt: HostRuntime) -> Result<(), Fail> {
+    run_tables::<LinkTables>(&rt)
+}
