@@ -167,8 +167,7 @@ impl Instances {
 
     /// Remembers a pair that fits.
     fn know(&mut self, pair: Pair) -> Result<(), AllocError>
-        ensures are { (t : Table) (w : World) → AreInstances t w self.old → IsKnown t w pair → AreInstances t w self.new }
-        ensures kept { self.new.of_types ≡ self.old.of_types }
+        ensures { (t : Table) (w : World) → AreInstances t w self.old → IsKnown t w pair → AreInstances t w self.new }
     {
         add(&mut self.known, pair)
     }
@@ -177,7 +176,6 @@ impl Instances {
     fn remember(&mut self, walk: &mut Walk, pair: Pair) -> Result<(), AllocError>
         ensures stack { walk.new.stack.items ≡ walk.old.stack.items }
         ensures agrees { walk.new.agrees ≡ walk.old.agrees }
-        ensures kept { self.new.of_types ≡ self.old.of_types }
         ensures instances { (t : Table) (w : World) → AreInstances t w self.old → IsPassed t w walk.old.agrees pair → AreInstances t w self.new }
         ensures passed { (t : Table) (w : World) → ArePassed t w walk.old → IsPassed t w walk.old.agrees pair → ArePassed t w walk.new }
     {
@@ -235,8 +233,7 @@ impl Instances {
 
     /// One turn of a walk.
     fn turn(&mut self, types: &Types<'_>, walk: &mut Walk) -> Result<Turn, AllocError>
-        ensures is { (w : World) (given : Exports) (asked : Externs) → AreInstances types.now w self.old → IsOn types.now w given asked walk.old → IsTurn types.now w given asked self.new walk.new result }
-        ensures kept { self.new.of_types ≡ self.old.of_types }
+        ensures { (w : World) (given : Exports) (asked : Externs) → AreInstances types.now w self.old → IsOn types.now w given asked walk.old → IsTurn types.now w given asked self.new walk.new result }
     {
         types.are_distinct();
         let Some(frame) = walk.stack.pop() else {
@@ -263,8 +260,7 @@ impl Instances {
         given: InstanceRef,
         asked: InstanceTypeRef,
     ) -> Result<Fit, AllocError>
-        ensures fits { (w : World) (exports : Exports) (externs : Externs) → AreInstances types.now w self.old → IsInstance types.now w given exports → IsInstanceType types.now asked externs → AreInstances types.now w self.new × IfOk result (IsFit types.now (AnInstance exports) (OfInstance externs)) }
-        ensures kept { self.new.of_types ≡ self.old.of_types }
+        ensures { (w : World) (exports : Exports) (externs : Externs) → AreInstances types.now w self.old → IsInstance types.now w given exports → IsInstanceType types.now asked externs → AreInstances types.now w self.new × IfOk result (IsFit types.now (AnInstance exports) (OfInstance externs)) }
     {
         let mut walk = Walk::begin(alloc, given, asked)?;
         // No walk has so many turns.
@@ -285,8 +281,7 @@ impl Instances {
         given: InstanceRef,
         asked: InstanceTypeRef,
     ) -> Result<Fit, AllocError>
-        ensures fits { (w : World) (exports : Exports) (externs : Externs) → AreInstances types.now w self.old → IsInstance types.now w given exports → IsInstanceType types.now asked externs → AreInstances types.now w self.new × IfOk result (IsFit types.now (AnInstance exports) (OfInstance externs)) }
-        ensures kept { self.new.of_types ≡ self.old.of_types }
+        ensures { (w : World) (exports : Exports) (externs : Externs) → AreInstances types.now w self.old → IsInstance types.now w given exports → IsInstanceType types.now asked externs → AreInstances types.now w self.new × IfOk result (IsFit types.now (AnInstance exports) (OfInstance externs)) }
     {
         types.are_distinct();
         if has(&self.known, Pair { given, asked }) {
@@ -304,8 +299,7 @@ impl Instances {
         given: DefinitionRef,
         asked: ExternRef,
     ) -> Result<Fit, AllocError>
-        ensures fits { (w : World) (d : Definition) (x : Extern) → AreInstances types.now w self.old → Stands types.now w given d → IsExtern types.now asked x → AreInstances types.now w self.new × IfOk result (IsFit types.now d x) }
-        ensures kept { self.new.of_types ≡ self.old.of_types }
+        ensures { (w : World) (d : Definition) (x : Extern) → AreInstances types.now w self.old → Stands types.now w given d → IsExtern types.now asked x → AreInstances types.now w self.new × IfOk result (IsFit types.now d x) }
     {
         match compare(types, given, asked) {
             Comparison::Agrees(agrees) => Ok(fit_of(agrees)),
