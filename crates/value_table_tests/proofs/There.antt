@@ -1,0 +1,21 @@
+-- Where each number of a list is below the count of types, the parts are there.
+use Rattle.std.proofs.Common.{◌≡◌, ℕ, Bool, true, false, ◌&&◌, List, [], ◌∷◌, length, refl, Option, Some, None}
+use Rattle.std.specs.List.{list_all}
+use Rattle.std.proofs.lemmas.Bool.{ltb-true}
+use Rattle.ca_types.specs.declared.types.ValType.{ValType}
+use Rattle.laid_types.specs.Layers.{IsThere, AreThere}
+use Rattle.value_table_tests.specs.There.{is_there}
+
+both : (a b : Bool) → (a && b) ≡ true → (a ≡ true) × (b ≡ true)
+both true b h = (refl, h)
+both false b h = absurd cc
+
+one_there : (types : List ValType) (number : Option ℕ) → is_there (length types) number ≡ true → IsThere types number
+one_there types (Some number) h = ltb-true _ _ h
+one_there types None h = tt
+
+pub each_there : (types : List ValType) (numbers : List (Option ℕ)) → list_all (λ x. is_there (length types) x) numbers ≡ true → AreThere types numbers
+each_there types [] h = tt
+each_there types (x ∷ xs) h =
+    let t = both (is_there (length types) x) (list_all (λ x. is_there (length types) x) xs) h in
+    (one_there types x t.0, each_there types xs t.1)
