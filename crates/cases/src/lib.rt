@@ -18,4 +18,4 @@ pub use steps::{Steps, check_steps};
 pub use table::{
     Answers, Holds, check_all_lines, check_all_paragraphs, check_lines, check_paragraphs,
 };
-pub use tables::{Tables, lines_told, paragraphs_told, run_tables};
+pub use tables::{Tables, paragraphs_told, run_tables};

@@ -29,7 +29,7 @@ fn write_if_other(
     }
 }
 
-/// Adds how many cases there are if these are not as many as stated.
+/// Adds how many cases or lines there are if these are not as many as stated.
 pub(crate) fn write_count(
     wrong: &mut String,
     there: usize,
@@ -38,7 +38,7 @@ pub(crate) fn write_count(
     if there == count {
         Ok(())
     } else {
-        writeln!(wrong, "{there} cases")
+        writeln!(wrong, "{there} are there, and {count} are stated")
     }
 }
 

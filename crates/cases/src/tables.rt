@@ -16,27 +16,13 @@ pub trait Tables {
     fn told(alloc: Global, kind: &str, text: &str) -> Result<String, Fail>;
 }
 
-/// The cases of a text whose answers are others than wanted, each with its answer, and then how many cases there are.
-fn told<T: Answers>(
-    alloc: Global,
-    text: &str,
-    between: &str,
-    before: &str,
-) -> Result<String, Fail> {
+/// What is told of a table whose cases are paragraphs, each with its answer behind a line `is`: the cases whose answers are others
+/// than wanted, each with its answer, and then how many cases there are.
+pub fn paragraphs_told<T: Answers>(alloc: Global, text: &str) -> Result<String, Fail> {
     let mut told = String::new(alloc);
-    let there = compare::<T>(alloc, text, between, before, &mut told)?;
+    let there = compare::<T>(alloc, text, "\n\n", "\nis", &mut told)?;
     write!(told, "{there} cases")?;
     Ok(told)
-}
-
-/// What is told of a table whose lines are its cases. The wanted answer stands behind the last of such a mark.
-pub fn lines_told<T: Answers>(alloc: Global, text: &str, before: &str) -> Result<String, Fail> {
-    told::<T>(alloc, text, "\n", before)
-}
-
-/// The same where the cases are paragraphs, each with its answer behind a line `is`.
-pub fn paragraphs_told<T: Answers>(alloc: Global, text: &str) -> Result<String, Fail> {
-    told::<T>(alloc, text, "\n\n", "\nis")
 }
 
 /// Goes through a table, and prints what is told of it.

@@ -1,7 +1,7 @@
 //! Components as trees (Component Model, Explainer.md).
 //!
 //! A component is its items, in file order, each with its place. The reader of the binary format makes the tree, and linking
-//! gives it its meaning. Both stand on this crate alone, so that neither knows of the other.
+//! gives it its meaning. Both stand on this crate, and neither on the other.
 //!
 //! - `items`: components, their items, and canonical functions
 //! - `core_instances`: core instances

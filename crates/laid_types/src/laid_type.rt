@@ -162,7 +162,8 @@ impl<'a> LaidType<'a> {
         entry.holding().handle
     }
 
-    /// Whether values hold a string or a list. What the elements of a stream or a future hold does not count.
+    /// Whether values hold a string or a list, which stand in a memory wherever the value stands (Component Model, CanonicalABI.md,
+    /// "Loading"). What the elements of a stream or a future hold does not count.
     pub fn has_list(&self) -> bool
         ensures { result ≡ has_list self.now }
     {
@@ -170,8 +171,8 @@ impl<'a> LaidType<'a> {
         entry.holding().list
     }
 
-    /// How many types stand in one another in it, itself counted, or 33 where there are more than 32. A type without parts has
-    /// depth 1.
+    /// How many types stand in one another in it (Component Model, Explainer.md, "Type Definitions"), itself counted, or 33 where
+    /// there are more than 32. A type without parts has depth 1.
     pub fn depth(&self) -> u32
         ensures { result ≡ min (depth self.now) 33 }
     {

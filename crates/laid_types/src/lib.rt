@@ -1,5 +1,5 @@
 //! Types of values in a table, each over earlier ones, with what is computed of each once: sizes and alignments, core types, what
-//! its values hold, its parts and where its labels stand.
+//! its values hold, how deep it nests, its parts and where its labels stand.
 //!
 //! Types share parts, and a type can have far more parts than there is memory. What is computed of a type here is computed from what
 //! was computed of its parts. The types are those of `ca_types`, which defines what is computed.

@@ -1,4 +1,5 @@
--- The answers that a room's reallocs give while a plan is followed, and what holds of the room then.
+-- The answers that a room's reallocs give while a plan is followed, and what holds of the room then (Component Model,
+-- CanonicalABI.md, "Storing", "Flat Lowering").
 use Rattle.std.specs.Prelude.{◌≡◌, ◌<◌, ℕ, true, List, [], ◌∷◌, length, Result}
 use Rattle.ca_types.specs.declared.types.ValType.{ValType}
 use Rattle.ca_types.specs.declared.value.Value.{Value}

@@ -1,7 +1,7 @@
--- What a plan comes to in a room. A room is where values are lowered: it has a memory and answers reallocs. `memory` is its
--- memory, `answers` says what it may answer to a realloc and how it is then, and `wrote` how it is after a store. Whatever these two
--- say, a store puts its bytes and no others, a place is an i32, and the memory gets no shorter: each room's calls have that in their
--- contracts.
+-- What a plan comes to in a room (Component Model, CanonicalABI.md, "Storing", "Flat Lowering"). A room is where values are
+-- lowered: it has a memory and answers reallocs. `memory` is its memory, `answers` says what it may answer to a realloc and how it is
+-- then, and `wrote` how it is after a store. Whatever these two say, a store puts its bytes and no others, a place is an i32, and the
+-- memory gets no shorter: each room's calls have that in their contracts.
 use Rattle.std.specs.Prelude.{◌≡◌, ◌≤◌, ◌<◌, ◌+◌, ◌^◌, ◌⊎◌, ℕ, List, ◌++◌, length, take, drop, Result, Ok, Err}
 use Rattle.value_lower.specs.declared.ends.LowerWhy.{LowerWhy}
 use Rattle.value_lower.specs.declared.ends.RoomEnd.{RoomEnd}

@@ -14,8 +14,9 @@ use std::alloc::{AllocError, Global};
 use std::collections::BTreeMap;
 use std::marker::Model;
 
-/// Types of values, each distinct one once, over earlier ones, with what is computed of each. A type's number is its place, so two
-/// types are the same exactly where their numbers are. Contracts see the types, in order of adding.
+/// Types of values (Component Model, Explainer.md, "Type Definitions"), each distinct one once, over earlier ones, with what is
+/// computed of each. A type's number is its place, so two types are the same exactly where their numbers are. Contracts see the
+/// types, in order of adding.
 #[derive(Drop)]
 pub struct ValueTypes<'a> {
     numbers: BTreeMap<ValueKey<'a>, usize>,
