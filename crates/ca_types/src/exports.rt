@@ -1,5 +1,6 @@
 //! What a component exports.
 
+use crate::shared::Shared;
 use crate::types::FuncType;
 use ca_base::{Name, Named, Seq};
 
@@ -8,8 +9,8 @@ use ca_base::{Name, Named, Seq};
 pub struct Export {
     /// The name under which it is called.
     pub name: Name,
-    /// Its type.
-    pub func_type: FuncType,
+    /// Its type, which other exports of the same type share.
+    pub func_type: Shared<FuncType>,
 }
 
 impl Named for Export {

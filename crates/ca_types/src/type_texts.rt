@@ -11,6 +11,9 @@ use crate::types::{Case, Field, ValType};
 use ca_base::{Bytes, Memory, Name, Seq, push_separated};
 use std::alloc::Global;
 
+/// How long a text of a type may be before another type is appended, in bytes.
+const TEXT_LIMIT: usize = 268_435_456;
+
 /// Appends a field's label and type.
 #[cycle(type_text)]
 fn push_field(alloc: Global, field: &Field, to: &mut Vec<u8>) -> Result<(), Memory>
@@ -263,12 +266,16 @@ fn push_end(
     push_element(alloc, element, to)
 }
 
-/// Appends the text of a type.
+/// Appends the text of a type. A type whose parts are shared can have a text that no memory holds, so a text of 256 MiB counts as
+/// one for which there is no memory.
 #[cycle(type_text)]
 #[tactic(auto, using(crate::proofs::TextEquations::text_of_record, crate::proofs::TextEquations::text_of_variant, crate::proofs::TextEquations::text_of_tuple, crate::proofs::TextEquations::text_of_result, crate::proofs::TextEquations::text_of_list, crate::proofs::TextEquations::text_of_option, crate::proofs::TextEquations::text_of_stream, crate::proofs::TextEquations::text_of_future))]
 fn push_type(alloc: Global, val_type: &ValType, to: &mut Vec<u8>) -> Result<(), Memory>
     ensures { OnOk result (to.new.items ≡ to.old.items ++ type_text val_type.now) }
 {
+    if to.len() >= TEXT_LIMIT {
+        return Err(Memory);
+    }
     match val_type {
         ValType::Record(fields) => push_record(alloc, fields, to),
         ValType::Variant(cases) => push_variant(alloc, cases, to),

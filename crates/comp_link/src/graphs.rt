@@ -13,7 +13,6 @@ ghost use Rattle.comp_link.specs.State as state;
 ghost use Rattle.comp_link.specs.State.{IsLive};
 ghost use Rattle.comp_link.specs.Called.{named_behind, IsFuncEntry, AreFuncs, AreLists};
 
-use crate::copying::copied;
 use crate::funcs::FuncLists;
 use crate::linker::{Linker, ROOT};
 use ca_base::{Name, Seq};
@@ -87,7 +86,7 @@ fn func_named(
     };
     let export = Export {
         name: joined(alloc, front, text)?,
-        func_type: copied(alloc, func_type.get())?,
+        func_type: func_type.share()?,
     };
     let lift = Lift {
         instance: lifted.instance,

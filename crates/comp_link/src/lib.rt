@@ -8,12 +8,11 @@
 //! - `core_instances`, `core_aliases`, `lifts`, `aliases`, `types`, `instances`, `imports` and `exports`: what each kind of item makes
 //! - `named` and `seen`: definitions under names, and definitions as they are asked for
 //! - `linker`, of `scope`: linking as it stands, and the index spaces of a component instance
-//! - `graphs`, of `funcs` and `copying`: the graph of what is linked
+//! - `graphs`, of `funcs`: the graph of what is linked
 //! - `link_fault`: why a linking ends without a graph
 #![tactic(auto)]
 
 mod aliases;
-mod copying;
 mod core_aliases;
 mod core_instances;
 mod exports;

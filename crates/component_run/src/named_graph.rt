@@ -62,7 +62,7 @@ impl<'g, 'a> NamedGraph<'g, 'a> {
         ensures { (e : Export) × (slice_get self.now.exports number ≡ Some e) × (result.now ≡ e.func_type) }
     {
         let graph = self.graph;
-        &graph.exports().as_slice()[number].func_type
+        graph.exports().as_slice()[number].func_type.get()
     }
 
     /// What the export of a number lifts.

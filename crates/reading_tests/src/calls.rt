@@ -29,7 +29,7 @@ fn export_of(alloc: Global, name: &str, label: &str) -> Result<Export, AllocErro
     };
     Ok(Export {
         name: Name::new(alloc, name)?,
-        func_type,
+        func_type: Shared::new(alloc, func_type)?,
     })
 }
 
@@ -45,10 +45,11 @@ fn write_param(text: &mut String, param: &Param) -> Result<(), AllocError> {
 /// Writes an export.
 fn write_export(text: &mut String, export: &Export) -> Result<(), AllocError> {
     text.push_str(export.name.as_str())?;
-    for param in export.func_type.params.as_slice() {
+    let func_type = export.func_type.get();
+    for param in func_type.params.as_slice() {
         write_param(text, param)?;
     }
-    if export.func_type.result.is_some() {
+    if func_type.result.is_some() {
         text.push_str(", to something")?;
     }
     Ok(())

@@ -42,10 +42,11 @@ fn name_and_rest(text: &[u8]) -> (&[u8], &[u8])
 fn arguments_of(alloc: Global, export: &Export, text: &[u8]) -> Result<Values, MemoryOr<ScriptWhy>>
     ensures { MayMake (λ values. values) (scripts.arguments_of export.now text.now) result }
 {
-    if func_has_host_type(&export.func_type) {
+    let func_type = export.func_type.get();
+    if func_has_host_type(func_type) {
         return Err(MemoryOr::Fault(ScriptWhy::HostType));
     }
-    match read_arguments(alloc, text, export.func_type.params.as_slice())? {
+    match read_arguments(alloc, text, func_type.params.as_slice())? {
         Some(values) => Ok(values),
         None => Err(MemoryOr::Fault(ScriptWhy::Value)),
     }

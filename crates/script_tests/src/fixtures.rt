@@ -61,7 +61,7 @@ fn func_type(alloc: Global, labels: &str) -> Result<FuncType, AllocError> {
 /// The export of this name and type.
 fn export(alloc: Global, name: &str, labels: &str) -> Result<Export, AllocError> {
     let name = Name::new(alloc, name)?;
-    let func_type = func_type(alloc, labels)?;
+    let func_type = Shared::new(alloc, func_type(alloc, labels)?)?;
     Ok(Export { name, func_type })
 }
 

@@ -74,8 +74,9 @@ impl Text for ExportLines {
         to.extend_from_slice(b"func ")?;
         to.extend_from_slice(name_text(alloc, &item.name)?.as_slice())?;
         to.push(b' ')?;
-        push_params(alloc, item.func_type.params.as_slice(), to)?;
-        push_result(alloc, &item.func_type.result, to)?;
+        let func_type = item.func_type.get();
+        push_params(alloc, func_type.params.as_slice(), to)?;
+        push_result(alloc, &func_type.result, to)?;
         to.push(b'\n')?;
         Ok(())
     }
