@@ -8,7 +8,7 @@
 //! - `lifting`: what is lifted, as text; `answers`: lines of tables, and their answers
 //! - `load_cases`, `fault_cases`: values of a memory, and what stands for none; `list_cases`: several values, and integers
 //! - `flat_cases`: values of core values
-//! - `laid_cases`: what is computed of types; `shared_cases`: types that share parts
+//! - `laid_cases`: what is computed of types; `shared_cases`: types that share parts; `large_cases`: texts that are too large
 #![tactic(auto)]
 
 #[cfg(test)]
@@ -19,6 +19,8 @@ mod fault_cases;
 mod flat_cases;
 #[cfg(test)]
 mod laid_cases;
+#[cfg(test)]
+mod large_cases;
 #[cfg(test)]
 mod lifting;
 #[cfg(test)]

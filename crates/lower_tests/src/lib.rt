@@ -12,7 +12,7 @@
 //! - `plain_cases`, `part_cases`: values without texts and lists in a memory; `place_cases`: the places of values
 //! - `text_cases`, `list_cases`: texts and lists in a memory; `row_cases`: values one after the other
 //! - `flat_cases`: values as core values; `placed_cases`: values at new places
-//! - `large_cases`: types of very many bytes
+//! - `large_cases`: types of very many bytes; `long_lists`: a list of a million numbers, which is lifted again
 #![tactic(auto)]
 
 #[cfg(test)]
@@ -25,6 +25,8 @@ mod large_cases;
 mod lines;
 #[cfg(test)]
 mod list_cases;
+#[cfg(test)]
+mod long_lists;
 #[cfg(test)]
 mod lowering;
 #[cfg(test)]

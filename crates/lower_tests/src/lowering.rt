@@ -67,7 +67,7 @@ fn words_told(alloc: Global, lowered: Result<Words, LowerError<u32>>) -> Result<
 }
 
 /// Whether values of a type hold a handle or an end.
-fn holds(t: &LaidType<'_>) -> bool
+pub(crate) fn holds(t: &LaidType<'_>) -> bool
     ensures { result ≡ (has_handle t.now || has_end t.now) }
 {
     t.has_handle() || t.has_end()
