@@ -104,7 +104,7 @@ module _ (t : Table) (w : World) (given : Exports) (asked : Externs) (old new : 
         passed = λ p has. rw same (passed_less t w old.agrees p (on.passed p (subst (λ (pairs : BTreeSet Pair). has_pair pairs p ≡ true) passed has)));
       }
 
-  pub goes_inside : AreDistinct t.texts t.layers → (known : BTreeSet Pair) → ((p : Pair) → has_pair known p ≡ true → IsKnown t w p) → (i : InstanceRef) (r : InstanceTypeRef)
+  pub goes_inside : AreDistinct t.texts t.values t.layers → (known : BTreeSet Pair) → ((p : Pair) → has_pair known p ≡ true → IsKnown t w p) → (i : InstanceRef) (r : InstanceTypeRef)
       → ((f : Frame) → IsFrame t w frame f → IsStep t w frame f (Compared (Inside i r)))
       → new.stack.items ≡ stack_inside (has_pair known (record { given = i; asked = r }) || has_pair old.passed (record { given = i; asked = r })) rest frame i r
       → new.agrees ≡ old.agrees → new.passed ≡ old.passed → IsOn t w given asked new
@@ -124,7 +124,7 @@ module _ (t : Table) (w : World) (given : Exports) (asked : Externs) (old new : 
       by false e true k is = remembered (on.passed pair k) is
       by false e false k is = rw (two_back new.stack.items rest (behind_one frame) (begun_with i r) is) (turn_inside t w given asked old.agrees frame (reverse rest) on_top i r s)
 
-  pub goes_on : AreDistinct t.texts t.layers → (known : BTreeSet Pair) → ((p : Pair) → has_pair known p ≡ true → IsKnown t w p) → (c : Comparison)
+  pub goes_on : AreDistinct t.texts t.values t.layers → (known : BTreeSet Pair) → ((p : Pair) → has_pair known p ≡ true → IsKnown t w p) → (c : Comparison)
       → ((f : Frame) → IsFrame t w frame f → IsStep t w frame f (Compared c)) → IsBehind known frame c rest old.agrees old.passed new → IsOn t w given asked new
   goes_on apart known are (Agrees b) s behind = goes_compared b s behind.0 behind.1 behind.2
   goes_on apart known are (Inside i r) s behind = goes_inside apart known are i r s behind.0 behind.1 behind.2

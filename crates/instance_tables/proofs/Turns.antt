@@ -30,14 +30,14 @@ use Rattle.instance_tables.proofs.Walking.{whole, with_rest, begins, misses, pas
 
 -- What stands behind a reference is one.
 
-pub type_once : (t : Table) → AreDistinct t.texts t.layers → (r : InstanceTypeRef) (a b : Externs) → IsInstanceType t r a → IsInstanceType t r b → a ≡ b
+pub type_once : (t : Table) → AreDistinct t.texts t.values t.layers → (r : InstanceTypeRef) (a b : Externs) → IsInstanceType t r a → IsInstanceType t r b → a ≡ b
 type_once t apart r a b h k = (same_instances t apart r r a b h k).0 refl
 
-seen_once : (t : Table) → AreDistinct t.texts t.layers → (base : Exports) (o : Option InstanceTypeRef) (a b : Exports) → IsSeen t base o a → IsSeen t base o b → a ≡ b
+seen_once : (t : Table) → AreDistinct t.texts t.values t.layers → (base : Exports) (o : Option InstanceTypeRef) (a b : Exports) → IsSeen t base o a → IsSeen t base o b → a ≡ b
 seen_once t apart base None a b h k = h ∙ sym k
 seen_once t apart base (Some r) a b (x, type, fit, is) (y, other, fits, also) = is ∙ ap (λ (asked : Externs). seen_exports base asked) (type_once t apart r x y type other) ∙ sym also
 
-instance_once : (t : Table) → AreDistinct t.texts t.layers → (w : World) (i : InstanceRef) (a b : Exports) → IsInstance t w i a → IsInstance t w i b → a ≡ b
+instance_once : (t : Table) → AreDistinct t.texts t.values t.layers → (w : World) (i : InstanceRef) (a b : Exports) → IsInstance t w i a → IsInstance t w i b → a ≡ b
 instance_once t apart w i a b h k =
     let same : h.base ≡ k.base = (let both : Some h.base ≡ Some k.base = sym h.stands ∙ k.stands in cc) in
     seen_once t apart k.base i.seen_as a b (subst (λ (base : Exports). IsSeen t base i.seen_as a) same h.seen) k.seen
@@ -60,7 +60,7 @@ pub passed_less : (t : Table) (w : World) (agrees : Bool) (p : Pair) → IsPasse
 passed_less t w agrees p k = record { given = k.given; asked = k.asked; instance = k.instance; type = k.type; says = less_is_said agrees k.given k.asked None true k.says }
 
 -- an instance that is known to be of a type
-pub known_fits : (t : Table) → AreDistinct t.texts t.layers → (w : World) (i : InstanceRef) (r : InstanceTypeRef) (given : Exports) (asked : Externs)
+pub known_fits : (t : Table) → AreDistinct t.texts t.values t.layers → (w : World) (i : InstanceRef) (r : InstanceTypeRef) (given : Exports) (asked : Externs)
     → IsInstance t w i given → IsInstanceType t r asked → IsKnown t w (record { given = i; asked = r }) → FitAll given asked
 known_fits t apart w i r given asked h type k =
     let one : k.given ≡ given = instance_once t apart w i k.given given k.instance h in
@@ -172,7 +172,7 @@ module _ (t : Table) (w : World) (given : Exports) (asked : Externs) (agrees : B
         holds = differs given asked agrees p.f e (drop (ref.done + 1) (in_order p.f.asked)) p.fs rest lacks fits p.holds;
       }
 
-  pub turn_known : AreDistinct t.texts t.layers → (i : InstanceRef) (r : InstanceTypeRef) → IsPassed t w agrees (record { given = i; asked = r })
+  pub turn_known : AreDistinct t.texts t.values t.layers → (i : InstanceRef) (r : InstanceTypeRef) → IsPassed t w agrees (record { given = i; asked = r })
       → ((f : Frame) → IsFrame t w ref f → IsStep t w ref f (Compared (Inside i r))) → IsWalk t w given asked agrees (behind_one ref ∷ stack)
   turn_known apart i r k s =
       let p = top t w given asked agrees ref stack h in

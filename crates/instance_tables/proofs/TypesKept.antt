@@ -22,7 +22,7 @@ use Rattle.instance_tables.proofs.PairOrder.{type_same}
 use Rattle.instance_tables.proofs.Turns.{type_once}
 
 -- an instance that is kept
-pub kept_types : (t : Table) → AreDistinct t.texts t.layers → (w : World) (type : InstanceTypeRef) (base : ℕ) (externs : Externs)
+pub kept_types : (t : Table) → AreDistinct t.texts t.values t.layers → (w : World) (type : InstanceTypeRef) (base : ℕ) (externs : Externs)
     → HasTypes t w type base → IsInstanceType t type externs → (are_types externs ≡ true) × IsInstance t w (record { base = base; seen_as = None }) (types_of externs)
 kept_types t apart w type base externs h asked =
     let same : h.externs ≡ externs = type_once t apart type h.externs externs h.asked asked in (

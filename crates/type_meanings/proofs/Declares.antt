@@ -24,7 +24,7 @@ use Rattle.type_meanings.specs.Meant.{IsFoundAs, IsMeaning, text_of}
 use Rattle.type_meanings.specs.Levels.{IsClosure}
 use Rattle.type_meanings.specs.Declaring.{IsDeclared, told_more}
 use Rattle.type_meanings.specs.References.{type_ref_in, instance_ref_in, ref_of_sort}
-use Rattle.type_meanings.proofs.Lists.{all_more}
+use Rattle.type_tables.proofs.Zips.{all_more}
 use Rattle.type_meanings.proofs.Telling.{told_stands, kept_before}
 
 -- All is the same but one index space.

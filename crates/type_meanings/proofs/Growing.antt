@@ -11,6 +11,7 @@ use Rattle.type_tables.specs.declared.maker.InstanceTypeMaker.{InstanceTypeMaker
 use Rattle.type_tables.specs.Table.{Table, IsType, IsInstanceType, Grows}
 use Rattle.type_tables.specs.Begun.{IsBegun}
 use Rattle.type_tables.proofs.TypesGrow.{type_stays, instance_type_stays, externs_layer_stays, listed_stays}
+use Rattle.type_tables.proofs.Zips.{all_stay}
 use Rattle.type_meanings.specs.declared.levels.Level.{Level}
 use Rattle.type_meanings.specs.declared.levels.Enclosing.{Enclosing}
 use Rattle.type_meanings.specs.declared.so_far.SoFar.{SoFar}
@@ -18,7 +19,7 @@ use Rattle.type_meanings.specs.declared.declaring.Declared.{Declared}
 use Rattle.type_meanings.specs.Meant.{IsFoundAs}
 use Rattle.type_meanings.specs.Levels.{AreTypes, IsSeenAs, IsLevel, AreLevels, IsEnclosing, level_types, level_components, enclosed_types, enclosed_components}
 use Rattle.type_meanings.specs.Declaring.{IsSoFar, IsDeclared}
-use Rattle.type_meanings.proofs.Lists.{all_stay, found_stays}
+use Rattle.type_meanings.proofs.Lists.{found_stays}
 
 module _ (t u : Table) (g : Grows t u) where
   pub types_stay : (refs : List (Option TypeRef)) (types : List (Option Closed)) → AreTypes t refs types → AreTypes u refs types

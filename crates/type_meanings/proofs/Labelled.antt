@@ -1,9 +1,10 @@
--- Labels with value types, which stand for parameters where the references stand for types.
-use Rattle.std.proofs.Common.{cond, ◌≡◌, ◌∙◌, ◌<◌, ◌≤◌, ◌+◌, ℕ, Bool, true, false, List, [], ◌∷◌, ◌++◌, length, map, drop, get_or, refl, ap, sym, append-nil, append_assoc, Option, Some, None}
+-- Labels with the numbers of value types, which stand for parameters where the references stand for types.
+use Rattle.std.proofs.Common.{cond, ◌≡◌, ◌∙◌, ◌<◌, ◌≤◌, ◌+◌, ℕ, Bool, true, false, List, [], ◌∷◌, ◌++◌, length, map, drop, get_or, refl, ap, sym, append-nil, append_assoc, Option, Some, None, arith}
 use Rattle.std.specs.Prelude.{is_none}
-use Rattle.std.proofs.lemmas.List.{drop_all, drop_more, map-append}
+use Rattle.std.proofs.lemmas.List.{drop_all, drop_more}
+use Rattle.std.proofs.lemmas.Option.{slice_get_within}
 use Rattle.std.specs.Option.{option_map, option_and_then}
-use Rattle.std.specs.List.{slice_get}
+use Rattle.std.specs.List.{slice_get, AllZip}
 use Rattle.ca_base.specs.Names.{first_twice}
 use Rattle.ca_types.specs.declared.types.ValType.{ValType}
 use Rattle.ca_types.specs.declared.types.Param.{Param}
@@ -13,43 +14,49 @@ use Rattle.comp_tree.specs.declared.types.FuncType as read_func
 use Rattle.comp_tree.specs.declared.types.ValTypeRef.{ValTypeRef}
 use Rattle.comp_graph.specs.Closed.{Closed, Value, Func, Instance, value_of}
 use Rattle.comp_linking.specs.Types.{absent, meant, all_within, close_val, close_param, close_params, close_result, close_func, func_meaning}
-use Rattle.type_tables.specs.declared.layers.ValueLayer.{ValueLayer}
 use Rattle.type_tables.specs.declared.labels.LabelledType.{LabelledType}
 use Rattle.type_tables.specs.declared.refs.FuncTypeRef.{FuncTypeRef}
 use Rattle.type_tables.specs.declared.refs.TypeRef.{TypeRef}
 use Rattle.type_tables.specs.declared.refs.TypeRef.TheVariants as type_ref
-use Rattle.type_tables.specs.Layered.{val_of}
-use Rattle.type_tables.specs.Labels.{closed_param, closed_func}
-use Rattle.type_tables.specs.Table.{Table, IsFunc, IsType}
+use Rattle.type_tables.specs.Layered.{MayBeValue}
+use Rattle.type_tables.specs.Labels.{IsParam, IsFuncOf}
+use Rattle.type_tables.specs.Table.{Table, IsValue, IsFunc, IsType, Grows}
+use Rattle.type_tables.proofs.ValuesStay.{labelled_stay}
+use Rattle.type_tables.proofs.Zips.{all_more}
 use Rattle.type_meanings.specs.Meant.{IsFoundAs, IsMeaning}
 use Rattle.type_meanings.specs.Levels.{AreTypes}
 use Rattle.type_meanings.specs.References.{value_ref}
 use Rattle.type_meanings.proofs.Lists.{found_at, as_many}
 
--- the type of values of an index
-value_is : (t : Table) (ref : TypeRef) (c : Closed) → IsType t ref c → option_map val_of (value_ref ref) ≡ value_of c
-value_is t (type_ref.Value type) (Value v) h = ap Some (sym h)
+-- the number of a value type: that of an index
+value_is : (t : Table) (ref : TypeRef) (c : Closed) → IsType t ref c → IsFoundAs (IsValue t) (value_ref ref) (value_of c)
+value_is t (type_ref.Value number) (Value v) h = (v, refl, h)
 value_is t (type_ref.Func ref) (Func type) h = refl
 value_is t (type_ref.Instance ref) (Instance externs) h = refl
 value_is t ref c h = absurd h
 
-value_in : (t : Table) (o : Option (Option TypeRef)) (p : Option (Option Closed)) → IsFoundAs (IsFoundAs (IsType t)) o p → option_map val_of (option_and_then (option_and_then value_ref) o) ≡ option_and_then (option_and_then value_of) p
+value_in : (t : Table) (o : Option (Option TypeRef)) (p : Option (Option Closed)) → IsFoundAs (IsFoundAs (IsType t)) o p → IsFoundAs (IsValue t) (option_and_then (option_and_then value_ref) o) (option_and_then (option_and_then value_of) p)
 value_in t None p h = rw h refl
 value_in t (Some None) p h = rw (h.1, h.2) refl
 value_in t (Some (Some ref)) p h = rw (h.1, h.2.1) (value_is t ref h.2.0 h.2.2)
 
-pub value_stands : (t : Table) (refs : List (Option TypeRef)) (closed : List (Option Closed)) (i : ℕ) (r : Option ValueLayer) → AreTypes t refs closed → r ≡ option_and_then (option_and_then value_ref) (slice_get refs i)
-    → option_map val_of r ≡ option_and_then (option_and_then value_of) (slice_get closed i)
-value_stands t refs closed i r h e = ap (λ (o : Option ValueLayer). option_map val_of o) e ∙ value_in t (slice_get refs i) (slice_get closed i) (found_at (IsFoundAs (IsType t)) refs closed i h)
+pub value_stands : (t : Table) (refs : List (Option TypeRef)) (closed : List (Option Closed)) (i : ℕ) (r : Option ℕ) → AreTypes t refs closed → r ≡ option_and_then (option_and_then value_ref) (slice_get refs i)
+    → IsFoundAs (IsValue t) r (option_and_then (option_and_then value_of) (slice_get closed i))
+value_stands t refs closed i r h e = rw e (value_in t (slice_get refs i) (slice_get closed i) (found_at (IsFoundAs (IsType t)) refs closed i h))
+
+-- one that is not there
+pub value_within : (t : Table) (number : ℕ) (found : Option ValType) → IsFoundAs (IsValue t) (Some number) found → number < length t.values
+value_within t number found h = slice_get_within t.values number h.0 h.2
+
+pub value_past : (t : Table) (number count : ℕ) (found : Option ValType) → IsFoundAs (IsValue t) (Some number) found → count ≡ length t.values → count ≤ number → found ≡ None
+value_past t number count found h e past = let within : number < length t.values = value_within t number found h in absurd (omega arith)
 
 -- a parameter without a type, and one with its type
-pub param_open : (closed : List (Option Closed)) (p : read_param.Param) → None ≡ close_val closed p.val_type → None ≡ close_param closed p
-param_open closed p h = ap (λ (o : Option ValType). option_map (λ type. (let q : Param = record { label = p.label; val_type = type } in q)) o) h
+pub param_open : (closed : List (Option Closed)) (p : read_param.Param) → close_val closed p.val_type ≡ None → close_param closed p ≡ None
+param_open closed p h = rw h refl
 
-pub param_closed : (closed : List (Option Closed)) (p : read_param.Param) (l : LabelledType) → l.label.now ≡ p.label → Some (val_of l.val_type) ≡ close_val closed p.val_type → Some (closed_param l) ≡ close_param closed p
-param_closed closed p l e h =
-    ap (λ n. Some (let q : Param = record { label = n; val_type = val_of l.val_type } in q)) e
-    ∙ ap (λ (o : Option ValType). option_map (λ type. (let q : Param = record { label = p.label; val_type = type } in q)) o) h
+pub param_closed : (t : Table) (closed : List (Option Closed)) (p : read_param.Param) (l : LabelledType) → l.label.now ≡ p.label → IsFoundAs (IsValue t) (Some l.val_type) (close_val closed p.val_type) → IsFoundAs (IsParam t.values) (Some l) (close_param closed p)
+param_closed t closed p l e h = rw h.1 (record { label = p.label; val_type = h.0 }, refl, (e, h.2))
 
 -- parameters that close, behind those that are closed already
 abbrev pub params_behind : List Param → Option (List Param) → Option (List Param)
@@ -59,26 +66,41 @@ one_more : (closed : List Param) (p : Param) (o : Option (List Param)) → param
 one_more closed p None = refl
 one_more closed p (Some others) = ap (λ (ps : List Param). Some ps) (sym (append_assoc closed (p ∷ []) others))
 
+none_behind : (o : Option (List Param)) → params_behind [] o ≡ o
+none_behind None = refl
+none_behind (Some others) = refl
+
+-- Labels with numbers stand for the parameters up to a place.
+abbrev pub IsSoFar : Table → List (Option Closed) → List read_param.Param → List LabelledType → ℕ → Type 0
+IsSoFar t types params labels at = (all : List Param) × AllZip (IsParam t.values) labels all × (close_params types params ≡ params_behind all (close_params types (drop at params)))
+
+pub so_far_begins : (t : Table) (types : List (Option Closed)) (params : List read_param.Param) → IsSoFar t types params [] 0
+so_far_begins t types params = ([], tt, sym (none_behind (close_params types params)))
+
 -- no parameter is left
-pub all_closed : (types : List (Option Closed)) (closed : List Param) (params : List read_param.Param) (at : ℕ) → length params ≤ at → params_behind closed (close_params types (drop at params)) ≡ Some closed
-all_closed types closed params at h = rw (drop_all at params h, append-nil closed) refl
+pub so_far_ends : (t : Table) (types : List (Option Closed)) (params : List read_param.Param) (labels : List LabelledType) (at : ℕ) → length params ≤ at → IsSoFar t types params labels at → (all : List Param) × (close_params types params ≡ Some all) × AllZip (IsParam t.values) labels all
+so_far_ends t types params labels at past h = (h.0, h.2 ∙ rw (drop_all at params past, append-nil h.0) refl, h.1)
 
 -- a parameter closes
-pub one_closed : (types : List (Option Closed)) (labels : List LabelledType) (params : List read_param.Param) (d : read_param.Param) (at : ℕ) (l : LabelledType) → at < length params → Some (closed_param l) ≡ close_param types (get_or params at d)
-    → params_behind (map closed_param labels) (close_params types (drop at params)) ≡ params_behind (map closed_param (labels ++ l ∷ [])) (close_params types (drop (at + 1) params))
-one_closed types labels params d at l h e =
-    rw (drop_more params at d h, sym e, map-append closed_param labels (l ∷ [])) (one_more (map closed_param labels) (closed_param l) (close_params types (drop (at + 1) params)))
+pub so_far_more : (t u : Table) (types : List (Option Closed)) (params : List read_param.Param) (labels : List LabelledType) (p : read_param.Param) (at : ℕ) (l : LabelledType) → Grows t u → at < length params → p ≡ get_or params at p
+    → IsFoundAs (IsParam u.values) (Some l) (close_param types p) → IsSoFar t types params labels at → IsSoFar u types params (labels ++ l ∷ []) (at + 1)
+so_far_more t u types params labels p at l g h e found so_far = (
+  so_far.0 ++ found.0 ∷ [],
+  all_more (IsParam u.values) labels so_far.0 l found.0 (labelled_stay t u g labels so_far.0 so_far.1) found.2,
+  so_far.2 ∙ rw (drop_more params at p h, sym e, found.1) (one_more so_far.0 found.0 (close_params types (drop (at + 1) params))),
+)
 
 -- a parameter does not
-pub not_closed : (types : List (Option Closed)) (closed : List Param) (params : List read_param.Param) (d : read_param.Param) (at : ℕ) → at < length params → None ≡ close_param types (get_or params at d) → params_behind closed (close_params types (drop at params)) ≡ None
-not_closed types closed params d at h e = rw (drop_more params at d h, sym e) refl
+pub so_far_open : (t : Table) (types : List (Option Closed)) (params : List read_param.Param) (labels : List LabelledType) (p : read_param.Param) (at : ℕ) → at < length params → p ≡ get_or params at p → close_param types p ≡ None
+    → IsSoFar t types params labels at → close_params types params ≡ None
+so_far_open t types params labels p at h e open_at so_far = so_far.2 ∙ rw (drop_more params at p h, sym e, open_at) refl
 
 -- a result without a type, and one with its type
-pub result_open : (closed : List (Option Closed)) (type : ValTypeRef) → None ≡ close_val closed type → None ≡ close_result closed (Some type)
-result_open closed type h = ap (λ (o : Option ValType). option_map (λ t. Some t) o) h
+pub result_open : (closed : List (Option Closed)) (type : ValTypeRef) → close_val closed type ≡ None → close_result closed (Some type) ≡ None
+result_open closed type h = rw h refl
 
-pub result_closed : (closed : List (Option Closed)) (type : ValTypeRef) (v : ValueLayer) → Some (val_of v) ≡ close_val closed type → Some (Some (val_of v)) ≡ close_result closed (Some type)
-result_closed closed type v h = ap (λ (o : Option ValType). option_map (λ t. Some t) o) h
+pub result_closed : (t : Table) (closed : List (Option Closed)) (type : ValTypeRef) (number : ℕ) → IsFoundAs (IsValue t) (Some number) (close_val closed type) → IsFoundAs (MayBeValue t.values) (Some (Some number)) (close_result closed (Some type))
+result_closed t closed type number h = rw h.1 (Some h.0, refl, h.2)
 
 -- what a function type comes to, by its labels, its parameters and its result
 abbrev joined : Bool → Option (List Param) → Option (Option ValType) → Option Closed
@@ -98,20 +120,23 @@ joined_whole : (distinct : Bool) (params : Option (List Param)) (returned : Opti
     → joined distinct params returned ≡ Some (Func (record { params = ps; result = r }))
 joined_whole distinct params returned ps r h e f = rw (h, e, f) refl
 
-pub params_open : (closed : List (Option Closed)) (type : read_func.FuncType) → None ≡ close_params closed type.params → option_map Func (close_func closed type) ≡ None
-params_open closed type h =
-    params_missing (is_none (first_twice (map (λ p. p.label) type.params))) (close_params closed type.params) (close_result closed type.result) (sym h)
+pub params_open : (closed : List (Option Closed)) (type : read_func.FuncType) → close_params closed type.params ≡ None → option_map Func (close_func closed type) ≡ None
+params_open closed type h = params_missing (is_none (first_twice (map (λ p. p.label) type.params))) (close_params closed type.params) (close_result closed type.result) h
 
-pub returned_open : (closed : List (Option Closed)) (type : read_func.FuncType) → None ≡ close_result closed type.result → option_map Func (close_func closed type) ≡ None
-returned_open closed type h =
-    result_missing (is_none (first_twice (map (λ p. p.label) type.params))) (close_params closed type.params) (close_result closed type.result) (sym h)
+pub returned_open : (closed : List (Option Closed)) (type : read_func.FuncType) → close_result closed type.result ≡ None → option_map Func (close_func closed type) ≡ None
+returned_open closed type h = result_missing (is_none (first_twice (map (λ p. p.label) type.params))) (close_params closed type.params) (close_result closed type.result) h
 
 -- A function type with its types.
-pub func_closed : (t : Table) (closed : List (Option Closed)) (type : read_func.FuncType) (distinct : Bool) (labels : List LabelledType) (returned : Option ValueLayer) (ref : FuncTypeRef)
-    → distinct ≡ is_none (first_twice (map (λ p. p.label) type.params)) → distinct ≡ true → Some (map closed_param labels) ≡ close_params closed type.params → Some (option_map val_of returned) ≡ close_result closed type.result
-    → IsFunc t ref (closed_func labels returned) → IsFoundAs (IsType t) (Some (type_ref.Func ref)) (option_map Func (close_func closed type))
-func_closed t closed type distinct labels returned ref e h p r is =
-    (Func (closed_func labels returned), joined_whole (is_none (first_twice (map (λ p. p.label) type.params))) (close_params closed type.params) (close_result closed type.result) (map closed_param labels) (option_map val_of returned) (sym e ∙ h) (sym p) (sym r), is)
+pub func_closed : (t u v : Table) (closed : List (Option Closed)) (type : read_func.FuncType) (distinct : Bool) (labels : List LabelledType) (returned : Option ℕ) (ref : FuncTypeRef)
+    → Grows t u → distinct ≡ is_none (first_twice (map (λ p. p.label) type.params)) → distinct ≡ true
+    → (all : List Param) × (close_params closed type.params ≡ Some all) × AllZip (IsParam t.values) labels all → IsFoundAs (MayBeValue u.values) (Some returned) (close_result closed type.result)
+    → ((f : FuncType) → IsFuncOf u.values labels returned f → IsFunc v ref f) → IsFoundAs (IsType v) (Some (type_ref.Func ref)) (option_map Func (close_func closed type))
+func_closed t u v closed type distinct labels returned ref g e h p r made =
+    let f : FuncType = record { params = p.0; result = r.0 } in (
+      Func f,
+      joined_whole (is_none (first_twice (map (λ p. p.label) type.params))) (close_params closed type.params) (close_result closed type.result) p.0 r.0 (sym e ∙ h) p.1 r.1,
+      made f (labelled_stay t u g labels p.0 p.2, r.2),
+    )
 
 -- what a function type means: one whose indices are not all there, and one whose indices are
 cond_meant : (t : Table) (within : Bool) (means : Option Closed) → within ≡ false → IsMeaning (IsType t) (record { is_there = false; missing = None; means = None }) (cond within (meant means) absent)

@@ -1,5 +1,5 @@
 -- Two lists that stand for each other, place by place, and what is found in them.
-use Rattle.std.proofs.Common.{◌≡◌, ℕ, zero, suc, List, [], ◌∷◌, ◌++◌, length, map, refl, sym, Option, Some, None}
+use Rattle.std.proofs.Common.{◌≡◌, ℕ, zero, suc, List, [], ◌∷◌, length, map, refl, sym, Option, Some, None}
 use Rattle.std.specs.List.{slice_get, AllZip}
 use Rattle.std.proofs.lemmas.Slice.Zip.{AllZip-long}
 use Rattle.type_meanings.specs.Meant.{IsFoundAs}
@@ -12,23 +12,10 @@ found_at R (x ∷ xs) [] k h = absurd h
 found_at R (x ∷ xs) (y ∷ ys) zero h = (y, refl, h.0)
 found_at R (x ∷ xs) (y ∷ ys) (suc k) h = found_at R xs ys k h.1
 
--- one more at the end
-pub all_more : {A B : Type 0} (R : B → A → Type 0) (xs : List B) (ys : List A) (x : B) (y : A) → AllZip R xs ys → R x y → AllZip R (xs ++ x ∷ []) (ys ++ y ∷ [])
-all_more R [] [] x y h r = (r, tt)
-all_more R [] (z ∷ ys) x y h r = absurd h
-all_more R (z ∷ xs) [] x y h r = absurd h
-all_more R (z ∷ xs) (w ∷ ys) x y h r = (h.0, all_more R xs ys x y h.1 r)
-
 pub as_many : {A B : Type 0} (R : B → A → Type 0) (xs : List B) (ys : List A) → AllZip R xs ys → length xs ≡ length ys
 as_many R xs ys h = sym (AllZip-long R xs ys h)
 
--- What stands for something as the one says stands for it as the other says.
-pub all_stay : {A B : Type 0} (R Q : B → A → Type 0) → ((x : B) (y : A) → R x y → Q x y) → (xs : List B) (ys : List A) → AllZip R xs ys → AllZip Q xs ys
-all_stay R Q f [] [] h = tt
-all_stay R Q f [] (y ∷ ys) h = absurd h
-all_stay R Q f (x ∷ xs) [] h = absurd h
-all_stay R Q f (x ∷ xs) (y ∷ ys) h = (f x y h.0, all_stay R Q f xs ys h.1)
-
+-- What is found as the one says is found as the other says.
 pub found_stays : {A B : Type 0} (R Q : B → A → Type 0) → ((x : B) (y : A) → R x y → Q x y) → (o : Option B) (p : Option A) → IsFoundAs R o p → IsFoundAs Q o p
 found_stays R Q f None p h = h
 found_stays R Q f (Some x) p h = (h.0, h.1, f x h.0 h.2)

@@ -4,16 +4,15 @@ use Rattle.comp_tree.specs.declared.instances.Sort.{Sort}
 use Rattle.comp_tree.specs.declared.instances.Sort.TheVariants as sorts
 use Rattle.comp_tree.specs.declared.externs.ExternDesc.{ExternDesc}
 use Rattle.comp_tree.specs.declared.externs.ExternDesc.TheVariants as desc
-use Rattle.type_tables.specs.declared.layers.ValueLayer.{ValueLayer}
 use Rattle.type_tables.specs.declared.refs.InstanceTypeRef.{InstanceTypeRef}
 use Rattle.type_tables.specs.declared.refs.TypeRef.{TypeRef}
 use Rattle.type_tables.specs.declared.refs.TypeRef.TheVariants as type_ref
 use Rattle.type_tables.specs.declared.refs.ExternRef.{ExternRef}
 use Rattle.type_tables.specs.declared.refs.ExternRef.TheVariants as extern_ref
 
--- the type of values, if it is one
-abbrev pub value_ref : TypeRef → Option ValueLayer
-value_ref (type_ref.Value type) = Some type
+-- the number of the value type, if it is one
+abbrev pub value_ref : TypeRef → Option ℕ
+value_ref (type_ref.Value number) = Some number
 value_ref ref = None
 
 -- the type that an export is, and the type of the instance

@@ -1,78 +1,62 @@
 //! Types of functions.
 
-ghost use Rattle.std.specs.Prelude.{◌≡◌, ℕ, List, map, is_none, Option, IfOk};
-ghost use Rattle.std.specs.List.{list_all, slice_get};
-ghost use Rattle.std.specs.Option.{option_map, option_and_then};
+ghost use Rattle.std.specs.Prelude.{◌≡◌, ◌<◌, List, length, map, is_none, Option, IfOk, IfSome};
+ghost use Rattle.std.specs.List.{AllZip, list_all};
+ghost use Rattle.std.specs.Option.{option_map};
 ghost use Rattle.ca_base.specs.Names.{first_twice};
 ghost use Rattle.comp_graph.specs.Closed as closings;
 ghost use Rattle.comp_graph.specs.Closed.{Closed};
 ghost use Rattle.comp_linking.specs.Types as types_read;
-ghost use Rattle.comp_linking.specs.Types.{close_val, close_param, close_params, close_result, close_func};
-ghost use Rattle.type_tables.specs.Layered.{val_of};
-ghost use Rattle.type_tables.specs.Labels.{closed_param};
-ghost use Rattle.type_tables.specs.Table.{Table, IsType, Grows};
+ghost use Rattle.comp_linking.specs.Types.{close_param, close_params, close_result, close_func};
+ghost use Rattle.laid_types.specs.Layers.{IsThere};
+ghost use Rattle.type_tables.specs.Layered.{MayBeValue};
+ghost use Rattle.type_tables.specs.Labels.{HaveTypes, IsParam};
+ghost use Rattle.type_tables.specs.Table.{IsType, Grows};
 ghost use Rattle.type_meanings.specs.Meant.{IsFoundAs, IsMeaning};
 ghost use Rattle.type_meanings.specs.Levels.{AreTypes, enclosed_types};
-ghost use Rattle.type_meanings.specs.References.{value_ref};
 
 use crate::levels::Enclosing;
 use crate::meant::Meant;
+use crate::values::value_of;
 use ca_base::first_twice;
-use comp_tree::{FuncType, Param, PrimValType, ValTypeRef};
+use comp_tree::{FuncType, Param, ValTypeRef};
 use std::alloc::{AllocError, Global};
-use type_tables::{LabelledType, TypeRef, Types, ValueLayer};
+use type_tables::{LabelledType, TypeRef, Types};
 
-/// A primitive type.
-pub(crate) fn value_layer(val_type: PrimValType) -> ValueLayer
-    ensures { val_of result ≡ types_read.primitive val_type }
+/// A parameter with the number of its type, where it has one.
+fn labelled<'a>(
+    alloc: Global,
+    types: &mut Types<'_>,
+    scope: &Enclosing<'_>,
+    param: &'a Param,
+) -> Result<Option<LabelledType<'a>>, AllocError>
+    ensures ok { IfOk result (λ o. (closed : List (Option Closed)) → AreTypes types.old (enclosed_types scope.now) closed → IsFoundAs (IsParam types.new.values) o (close_param closed param.now)) }
+    ensures there { IfOk result (λ o. IfSome o (λ p. p.val_type < length types.new.values)) }
+    ensures grows { Grows types.old types.new }
 {
-    match val_type {
-        PrimValType::U32 => ValueLayer::U32,
-    }
-}
-
-/// The type of values of an index, where it is one.
-fn value_at(scope: &Enclosing<'_>, index: u32) -> Option<ValueLayer>
-    ensures { result ≡ option_and_then (option_and_then value_ref) (slice_get (enclosed_types scope.now) index) }
-{
-    match scope.type_at(index)?? {
-        TypeRef::Value(val_type) => Some(val_type),
-        TypeRef::Func(_) | TypeRef::Instance(_) => None,
-    }
-}
-
-/// A value type, where an index in it is that of a value type.
-fn value_of(scope: &Enclosing<'_>, val_type: ValTypeRef) -> Option<ValueLayer>
-    ensures { (t : Table) (closed : List (Option Closed)) → AreTypes t (enclosed_types scope.now) closed → option_map val_of result ≡ close_val closed val_type }
-{
-    match val_type {
-        ValTypeRef::Primitive(val_type) => Some(value_layer(val_type)),
-        ValTypeRef::Index(index) => value_at(scope, index),
-    }
-}
-
-/// A parameter with its type, where it has one.
-fn labelled<'a>(scope: &Enclosing<'_>, param: &'a Param) -> Option<LabelledType<'a>>
-    ensures { (t : Table) (closed : List (Option Closed)) → AreTypes t (enclosed_types scope.now) closed → option_map closed_param result ≡ close_param closed param.now }
-{
-    let val_type = value_of(scope, param.val_type)?;
-    Some(LabelledType {
+    let Some(val_type) = value_of(alloc, types, scope, param.val_type)? else {
+        return Ok(None);
+    };
+    Ok(Some(LabelledType {
         label: param.label.as_str(),
         val_type,
-    })
+    }))
 }
 
-/// Parameters with their types, where each has one.
+/// Parameters with the numbers of their types, where each has one.
 fn all_labelled<'a>(
     alloc: Global,
+    types: &mut Types<'_>,
     scope: &Enclosing<'_>,
     params: &'a [Param],
 ) -> Result<Option<Vec<LabelledType<'a>>>, AllocError>
-    ensures { IfOk result (λ o. (t : Table) (closed : List (Option Closed)) → AreTypes t (enclosed_types scope.now) closed → option_map (λ v. map closed_param v.items) o ≡ close_params closed params.now) }
+    ensures ok { IfOk result (λ o. (closed : List (Option Closed)) → AreTypes types.old (enclosed_types scope.now) closed → IsFoundAs (λ v all. AllZip (IsParam types.new.values) v.items all) o (close_params closed params.now)) }
+    ensures there { IfOk result (λ o. IfSome o (λ v. HaveTypes types.new.values v.items)) }
+    ensures grows { Grows types.old types.new }
 {
     let mut all = Vec::new(alloc);
     for param in params {
-        match labelled(scope, param) {
+        match labelled(alloc, types, scope, param)? {
             Some(param) => all.push(param)?,
             None => return Ok(None),
         }
@@ -80,14 +64,24 @@ fn all_labelled<'a>(
     Ok(Some(all))
 }
 
-/// A result with its type, where it has one.
-fn returned_type(scope: &Enclosing<'_>, val_type: Option<ValTypeRef>) -> Option<Option<ValueLayer>>
-    ensures { (t : Table) (closed : List (Option Closed)) → AreTypes t (enclosed_types scope.now) closed → option_map (λ r. option_map val_of r) result ≡ close_result closed val_type }
+/// A result with the number of its type, where it has one.
+fn returned_type(
+    alloc: Global,
+    types: &mut Types<'_>,
+    scope: &Enclosing<'_>,
+    val_type: Option<ValTypeRef>,
+) -> Result<Option<Option<usize>>, AllocError>
+    ensures ok { IfOk result (λ o. (closed : List (Option Closed)) → AreTypes types.old (enclosed_types scope.now) closed → IsFoundAs (MayBeValue types.new.values) o (close_result closed val_type)) }
+    ensures there { IfOk result (λ o. IfSome o (λ r. IsThere types.new.values r)) }
+    ensures grows { Grows types.old types.new }
 {
     let Some(val_type) = val_type else {
-        return Some(None);
+        return Ok(Some(None));
     };
-    Some(Some(value_of(scope, val_type)?))
+    let Some(number) = value_of(alloc, types, scope, val_type)? else {
+        return Ok(None);
+    };
+    Ok(Some(Some(number)))
 }
 
 /// Whether no label stands twice.
@@ -104,17 +98,17 @@ fn closed_func<'a>(
     scope: &Enclosing<'_>,
     func_type: &'a FuncType,
 ) -> Result<Option<TypeRef>, AllocError>
-    ensures ok { IfOk result (λ o. (t : Table) (closed : List (Option Closed)) → AreTypes t (enclosed_types scope.now) closed → IsFoundAs (IsType types.new) o (option_map closings.Func (close_func closed func_type.now))) }
+    ensures ok { IfOk result (λ o. (closed : List (Option Closed)) → AreTypes types.old (enclosed_types scope.now) closed → IsFoundAs (IsType types.new) o (option_map closings.Func (close_func closed func_type.now))) }
     ensures grows { Grows types.old types.new }
 {
     let distinct = labels_are_distinct(alloc, func_type.params.as_slice())?;
     if !distinct {
         return Ok(None);
     }
-    let Some(params) = all_labelled(alloc, scope, func_type.params.as_slice())? else {
+    let Some(params) = all_labelled(alloc, types, scope, func_type.params.as_slice())? else {
         return Ok(None);
     };
-    let Some(returned) = returned_type(scope, func_type.result) else {
+    let Some(returned) = returned_type(alloc, types, scope, func_type.result)? else {
         return Ok(None);
     };
     let func_type = types.func_type(alloc, &params, returned)?;
@@ -162,7 +156,7 @@ pub(crate) fn func_meaning<'a>(
     scope: &Enclosing<'_>,
     func_type: &'a FuncType,
 ) -> Result<Meant<'a, TypeRef>, AllocError>
-    ensures ok { IfOk result (λ m. (t : Table) (closed : List (Option Closed)) → AreTypes t (enclosed_types scope.now) closed → IsMeaning (IsType types.new) m (types_read.func_meaning closed func_type.now)) }
+    ensures ok { IfOk result (λ m. (closed : List (Option Closed)) → AreTypes types.old (enclosed_types scope.now) closed → IsMeaning (IsType types.new) m (types_read.func_meaning closed func_type.now)) }
     ensures grows { Grows types.old types.new }
 {
     if !all_within(scope.type_count(), func_type) {

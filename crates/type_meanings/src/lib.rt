@@ -6,6 +6,7 @@
 //!
 //! - `meant`: what a part of a type comes to
 //! - `levels`: what outer aliases see
+//! - `values`: types of values
 //! - `funcs`: types of functions
 //! - `described`: what imports and exports are to be
 //! - `so_far`: what the declarations of an instance type tell so far
@@ -24,6 +25,7 @@ mod meanings;
 mod meant;
 mod outer;
 mod so_far;
+mod values;
 
 pub use described::wanted;
 pub use levels::Level;

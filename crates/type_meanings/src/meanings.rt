@@ -12,9 +12,10 @@ ghost use Rattle.type_meanings.specs.Levels.{AreLevels, IsEnclosing};
 ghost use Rattle.type_meanings.specs.Declaring.{IsDeclared, decl_makes};
 
 use crate::declaring::Declared;
-use crate::funcs::{func_meaning, value_layer};
+use crate::funcs::func_meaning;
 use crate::levels::{Enclosing, Level, all_enclosing, innermost, within};
 use crate::meant::Meant;
+use crate::values::primitive;
 use comp_tree::{DefType, InstanceDecl};
 use std::alloc::{AllocError, Global};
 use type_tables::{TypeRef, Types};
@@ -32,7 +33,8 @@ fn meaning<'a>(
 {
     match def_type {
         DefType::Value(val_type) => {
-            Ok(Meant::there(Some(TypeRef::Value(value_layer(*val_type)))))
+            let number = primitive(alloc, types, *val_type)?;
+            Ok(Meant::there(Some(TypeRef::Value(number))))
         }
         DefType::Func(func_type) => {
             Ok(func_meaning(alloc, types, &innermost(around), func_type)?)

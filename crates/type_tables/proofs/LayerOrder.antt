@@ -8,15 +8,12 @@ use Rattle.std.specs.BTreeMap.{BTreeMap, Updates}
 use Rattle.std.specs.Map.{update}
 use Rattle.std.proofs.lemmas.Cmp.{tied_itself}
 use Rattle.std.proofs.lemmas.Map.Lookups.{exact_unsigned}
-use Rattle.type_tables.specs.declared.layers.ValueLayer.{ValueLayer}
-use Rattle.type_tables.specs.declared.layers.ValueLayer.TheVariants as value
 use Rattle.type_tables.specs.declared.layers.TypeLayer.{TypeLayer}
 use Rattle.type_tables.specs.declared.layers.TypeLayer.TheVariants as of_type
 use Rattle.type_tables.specs.declared.layers.ExternLayer.{ExternLayer}
 use Rattle.type_tables.specs.declared.layers.ExternLayer.TheVariants as of_extern
 use Rattle.type_tables.specs.declared.layers.Layer.{Layer}
 use Rattle.type_tables.specs.declared.layers.Layer.TheVariants as layer
-use Rattle.type_tables.specs.contracts.layers.ValueLayerOrd.TheImpl as value_order
 use Rattle.type_tables.specs.contracts.layers.TypeLayerOrd.TheImpl as type_order
 use Rattle.type_tables.specs.contracts.layers.ExternLayerOrd.TheImpl as extern_order
 use Rattle.type_tables.specs.contracts.layers.LayerOrd.TheImpl.Laws as laws
@@ -27,11 +24,8 @@ then_equal Less p h = cc
 then_equal Equal p h = (refl, h)
 then_equal Greater p h = cc
 
-value_exact : (x y : ValueLayer) → (value_order.ghosts).cmp x y ≡ Equal → x ≡ y
-value_exact value.U32 value.U32 h = refl
-
 type_exact : (x y : TypeLayer) → (type_order.ghosts).cmp x y ≡ Equal → x ≡ y
-type_exact (of_type.Value x) (of_type.Value y) h = let e = value_exact x y h in cc
+type_exact (of_type.Value x) (of_type.Value y) h = let e = exact_unsigned x y h in cc
 type_exact (of_type.Func x) (of_type.Func y) h = let e = exact_unsigned x y h in cc
 type_exact (of_type.Instance x) (of_type.Instance y) h = let e = exact_unsigned x y h in cc
 type_exact x y h = cc
@@ -42,25 +36,25 @@ extern_exact (of_extern.Type x) (of_extern.Type y) h = let e = type_exact x y h 
 extern_exact (of_extern.Instance x) (of_extern.Instance y) h = let e = exact_unsigned x y h in cc
 extern_exact x y h = cc
 
-option_exact : {A : Type 0} (cmp : A → A → Ordering) → ((x y : A) → cmp x y ≡ Equal → x ≡ y) → (x y : Option A) → option_cmp cmp x y ≡ Equal → x ≡ y
-option_exact cmp exact None None h = refl
-option_exact cmp exact None (Some y) h = cc
-option_exact cmp exact (Some x) None h = cc
-option_exact cmp exact (Some x) (Some y) h = ap (λ z. Some z) (exact x y h)
+option_exact : (x y : Option ℕ) → option_cmp nat_cmp x y ≡ Equal → x ≡ y
+option_exact None None h = refl
+option_exact None (Some y) h = cc
+option_exact (Some x) None h = cc
+option_exact (Some x) (Some y) h = ap (λ z. Some z) (exact_unsigned x y h)
 
 pub layer_exact : (x y : Layer) → layer_cmp x y ≡ Equal → x ≡ y
 layer_exact layer.NoParams layer.NoParams h = refl
 layer_exact (layer.Param label type others) (layer.Param label' type' others') h =
-    let p = then_equal (nat_cmp label label') (ordering_then ((value_order.ghosts).cmp type type') (nat_cmp others others')) h in
-    let q = then_equal ((value_order.ghosts).cmp type type') (nat_cmp others others') p.1 in
+    let p = then_equal (nat_cmp label label') (ordering_then (nat_cmp type type') (nat_cmp others others')) h in
+    let q = then_equal (nat_cmp type type') (nat_cmp others others') p.1 in
     let a = exact_unsigned label label' p.0 in
-    let b = value_exact type type' q.0 in
+    let b = exact_unsigned type type' q.0 in
     let d = exact_unsigned others others' q.1 in
     cc
 layer_exact (layer.Func params returned) (layer.Func params' returned') h =
-    let p = then_equal (nat_cmp params params') (option_cmp (value_order.ghosts).cmp returned returned') h in
+    let p = then_equal (nat_cmp params params') (option_cmp nat_cmp returned returned') h in
     let a = exact_unsigned params params' p.0 in
-    let b = option_exact (value_order.ghosts).cmp value_exact returned returned' p.1 in
+    let b = option_exact returned returned' p.1 in
     cc
 layer_exact layer.NoExterns layer.NoExterns h = refl
 layer_exact (layer.Extern before name item) (layer.Extern before' name' item') h =

@@ -4,5 +4,8 @@ pub mod LayersTold
 pub mod Listings
 pub mod RefsSame
 pub mod TypesGrow
+pub mod TypesKept
 pub mod TypesMade
 pub mod TypesTold
+pub mod ValuesStay
+pub mod Zips

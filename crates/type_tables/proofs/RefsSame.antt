@@ -3,15 +3,12 @@ use Rattle.std.proofs.Common.{◌≡◌, ℕ, Bool, true, false, ◌&&◌, List,
 use Rattle.std.specs.Prelude.{◌==◌}
 use Rattle.std.specs.Cmp.Lexicographic.{pointwise}
 use Rattle.std.proofs.lemmas.Bool.Decides.{Decides-eqb}
-use Rattle.type_tables.specs.declared.layers.ValueLayer.{ValueLayer}
-use Rattle.type_tables.specs.declared.layers.ValueLayer.TheVariants as value
 use Rattle.type_tables.specs.declared.refs.FuncTypeRef.{FuncTypeRef}
 use Rattle.type_tables.specs.declared.refs.InstanceTypeRef.{InstanceTypeRef}
 use Rattle.type_tables.specs.declared.refs.TypeRef.{TypeRef}
 use Rattle.type_tables.specs.declared.refs.TypeRef.TheVariants as type_ref
 use Rattle.type_tables.specs.declared.refs.ExternRef.{ExternRef}
 use Rattle.type_tables.specs.declared.refs.ExternRef.TheVariants as extern_ref
-use Rattle.type_tables.specs.contracts.layers.ValueLayerPartialEq.TheImpl as value_eq
 use Rattle.type_tables.specs.contracts.refs.FuncTypeRefPartialEq.TheImpl as func_eq
 use Rattle.type_tables.specs.contracts.refs.InstanceTypeRefPartialEq.TheImpl as instance_eq
 use Rattle.type_tables.specs.contracts.refs.TypeRefPartialEq.TheImpl as type_eq
@@ -20,9 +17,6 @@ use Rattle.type_tables.specs.contracts.refs.ExternRefPartialEq.TheImpl as extern
 both : (a b : Bool) → (a && b) ≡ true → (a ≡ true) × (b ≡ true)
 both true b h = (refl, h)
 both false b h = cc
-
-value_same : (x y : ValueLayer) → (value_eq.ghosts).eq x y ≡ true → x ≡ y
-value_same value.U32 value.U32 h = refl
 
 func_same : (x y : FuncTypeRef) → (func_eq.ghosts).eq x y ≡ true → x ≡ y
 func_same x y h =
@@ -35,7 +29,7 @@ instance_same x y h =
     ap₂ (λ layer number. (let r : InstanceTypeRef = record { layer = layer; number = number } in r)) ((Decides-eqb x.layer y.layer).0 p.0) ((Decides-eqb x.number y.number).0 p.1)
 
 type_same : (x y : TypeRef) → (type_eq.ghosts).eq x y ≡ true → x ≡ y
-type_same (type_ref.Value x) (type_ref.Value y) h = ap (λ (v : ValueLayer). type_ref.Value v) (value_same x y h)
+type_same (type_ref.Value x) (type_ref.Value y) h = ap (λ (k : ℕ). type_ref.Value k) ((Decides-eqb x y).0 h)
 type_same (type_ref.Func x) (type_ref.Func y) h = ap (λ (r : FuncTypeRef). type_ref.Func r) (func_same x y h)
 type_same (type_ref.Instance x) (type_ref.Instance y) h = ap (λ (r : InstanceTypeRef). type_ref.Instance r) (instance_same x y h)
 type_same x y h = cc

@@ -7,7 +7,6 @@ use Rattle.std.proofs.lemmas.Bool.Decides.{Decides-eqb}
 use Rattle.std.proofs.lemmas.Slice.Eq.{bytes_eq-Decides}
 use Rattle.ca_types.specs.declared.types.FuncType.{FuncType}
 use Rattle.comp_graph.specs.Closed.{Closed, Value, Func, Instance, Extern, OfFunc, OfType, OfInstance, Externs, EmptyType, WithExtern, extern_named, first_of}
-use Rattle.type_tables.specs.declared.layers.ValueLayer.TheVariants as value
 use Rattle.type_tables.specs.declared.layers.TypeLayer.{TypeLayer}
 use Rattle.type_tables.specs.declared.layers.TypeLayer.TheVariants as of_type
 use Rattle.type_tables.specs.contracts.layers.TypeLayerPartialEq.TheImpl as type_eq
@@ -27,37 +26,37 @@ use Rattle.type_tables.proofs.Listings.{named_more}
 use Rattle.type_tables.proofs.LayersTold.{func_one, func_told, externs_one, externs_told, type_one, type_told}
 
 -- What a reference stands for, its layer stands for.
-pub type_in_layer : (t : Table) (ref : TypeRef) (closed : Closed) → IsType t ref closed → IsTypeLayer t.texts t.layers (type_layer ref) closed
+pub type_in_layer : (t : Table) (ref : TypeRef) (closed : Closed) → IsType t ref closed → IsTypeLayer t.texts t.values t.layers (type_layer ref) closed
 type_in_layer t (type_ref.Value type) (Value v) h = h
 type_in_layer t (type_ref.Func ref) (Func type) h = h.0
 type_in_layer t (type_ref.Instance ref) (Instance externs) h = h.0
 type_in_layer t ref closed h = absurd h
 
-pub extern_in_layer : (t : Table) (ref : ExternRef) (extern : Extern) → IsExtern t ref extern → IsExternLayer t.texts t.layers (extern_layer ref) extern
+pub extern_in_layer : (t : Table) (ref : ExternRef) (extern : Extern) → IsExtern t ref extern → IsExternLayer t.texts t.values t.layers (extern_layer ref) extern
 extern_in_layer t (extern_ref.Func ref) (OfFunc type) h = h.0
 extern_in_layer t (extern_ref.Type ref) (OfType closed) h = type_in_layer t ref closed h
 extern_in_layer t (extern_ref.Instance ref) (OfInstance externs) h = h.0
 extern_in_layer t ref extern h = absurd h
 
-module _ (t : Table) (d : AreDistinct t.texts t.layers) where
+module _ (t : Table) (d : AreDistinct t.texts t.values t.layers) where
   pub same_funcs : (a b : FuncTypeRef) (f g : FuncType) → IsFunc t a f → IsFunc t b g → ((a.layer ≡ b.layer → f ≡ g) × (f ≡ g → a.layer ≡ b.layer))
   same_funcs a b f g h k = (
-    λ e. func_told t.texts t.layers a.layer f g h.0 (rw e k.0),
-    λ e. func_one t.texts t.layers d.names d.parts a.layer b.layer f h.0 (rw e k.0),
+    λ e. func_told t.texts t.values t.layers a.layer f g h.0 (rw e k.0),
+    λ e. func_one t.texts t.values t.layers d.names d.values d.parts a.layer b.layer f h.0 (rw e k.0),
   )
 
   pub same_instances : (a b : InstanceTypeRef) (f g : Externs) → IsInstanceType t a f → IsInstanceType t b g → ((a.layer ≡ b.layer → f ≡ g) × (f ≡ g → a.layer ≡ b.layer))
   same_instances a b f g h k = (
-    λ e. externs_told t.texts t.layers a.layer f g h.0 (rw e k.0),
-    λ e. externs_one t.texts t.layers d.names d.parts a.layer b.layer f h.0 (rw e k.0),
+    λ e. externs_told t.texts t.values t.layers a.layer f g h.0 (rw e k.0),
+    λ e. externs_one t.texts t.values t.layers d.names d.values d.parts a.layer b.layer f h.0 (rw e k.0),
   )
 
   pub same_types : (a b : TypeRef) (f g : Closed) → IsType t a f → IsType t b g → ((type_layer a ≡ type_layer b → f ≡ g) × (f ≡ g → type_layer a ≡ type_layer b))
   same_types a b f g h k =
       let x = type_in_layer t a f h in
       let y = type_in_layer t b g k in (
-        λ e. type_told t.texts t.layers (type_layer a) f g x (subst (λ (l : TypeLayer). IsTypeLayer t.texts t.layers l g) (sym e) y),
-        λ e. type_one t.texts t.layers d.names d.parts (type_layer a) (type_layer b) f x (subst (λ (c : Closed). IsTypeLayer t.texts t.layers (type_layer b) c) (sym e) y),
+        λ e. type_told t.texts t.values t.layers (type_layer a) f g x (subst (λ (l : TypeLayer). IsTypeLayer t.texts t.values t.layers l g) (sym e) y),
+        λ e. type_one t.texts t.values t.layers d.names d.values d.parts (type_layer a) (type_layer b) f x (subst (λ (c : Closed). IsTypeLayer t.texts t.values t.layers (type_layer b) c) (sym e) y),
       )
 
 may_first : (t : Table) (o p : Option ExternRef) (x y : Option Extern) → MayBeExtern t o x → MayBeExtern t p y → MayBeExtern t (option_or o p) (first_of x y)
@@ -128,12 +127,12 @@ count_told t entries externs h = same_count t entries (in_order externs) (entrie
 
 -- The test of outer layers.
 layer_itself : (x : TypeLayer) → (type_eq.ghosts).eq x x ≡ true
-layer_itself (of_type.Value value.U32) = refl
+layer_itself (of_type.Value n) = (Decides-eqb n n).1 refl
 layer_itself (of_type.Func n) = (Decides-eqb n n).1 refl
 layer_itself (of_type.Instance n) = (Decides-eqb n n).1 refl
 
 layer_same : (x y : TypeLayer) → (type_eq.ghosts).eq x y ≡ true → x ≡ y
-layer_same (of_type.Value value.U32) (of_type.Value value.U32) h = refl
+layer_same (of_type.Value m) (of_type.Value n) h = ap (λ (k : ℕ). of_type.Value k) ((Decides-eqb m n).0 h)
 layer_same (of_type.Func m) (of_type.Func n) h = ap (λ (k : ℕ). of_type.Func k) ((Decides-eqb m n).0 h)
 layer_same (of_type.Instance m) (of_type.Instance n) h = ap (λ (k : ℕ). of_type.Instance k) ((Decides-eqb m n).0 h)
 layer_same x y h = cc
@@ -156,7 +155,7 @@ module _ (t : Table) (ref : InstanceTypeRef) (entries : List (ℕ × ExternRef))
   listed_at externs h =
       subst (λ (es : List (ℕ × ExternRef)). AreListed t es externs) (same_entries entries h.1.0 (slice_get t.instances ref.number) at h.1.1) h.1.2
 
-  pub named_at : AreDistinct t.texts t.layers → (name : ℕ) (o : Option ExternRef) → o ≡ item_named name entries → (externs : Externs) (text : List ℕ) → IsInstanceType t ref externs → IsName t name text → MayBeExtern t o (extern_named text externs)
+  pub named_at : AreDistinct t.texts t.values t.layers → (name : ℕ) (o : Option ExternRef) → o ≡ item_named name entries → (externs : Externs) (text : List ℕ) → IsInstanceType t ref externs → IsName t name text → MayBeExtern t o (extern_named text externs)
   named_at d name o found externs text h is = rw found (named_told t d.names name text is entries externs (listed_at externs h))
 
   pub entry_at : (k : ℕ) (o : Option (ℕ × ExternRef)) → o ≡ slice_get entries k → (externs : Externs) → IsInstanceType t ref externs → MayBeEntry t o (slice_get (in_order externs) k)

@@ -6,4 +6,4 @@ use Rattle.type_tables.specs.Table.{Table, AreListed}
 
 -- The exports so far.
 abbrev pub IsBegun : Table → InstanceTypeMaker → Externs → Type 0
-IsBegun t maker externs = IsExternsLayer t.texts t.layers maker.layer externs × AreListed t maker.externs externs
+IsBegun t maker externs = IsExternsLayer t.texts t.values t.layers maker.layer externs × AreListed t maker.externs externs

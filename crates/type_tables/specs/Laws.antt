@@ -1,5 +1,6 @@
 -- What holds of tables of types (Component Model, Explainer.md, "Type Definitions").
 use Rattle.std.specs.Prelude.{◌≡◌, ◌<◌, ℕ, List, length}
+use Rattle.ca_types.specs.declared.types.ValType.{ValType}
 use Rattle.ca_types.specs.declared.types.FuncType.{FuncType}
 use Rattle.comp_graph.specs.Closed.{Closed, Extern, Externs}
 use Rattle.type_tables.specs.declared.layers.TypeLayer.{TypeLayer}
@@ -11,16 +12,16 @@ use Rattle.type_tables.specs.declared.refs.ExternRef.{ExternRef}
 use Rattle.type_tables.specs.Layered.{IsTypeLayer}
 use Rattle.type_tables.specs.Table.{Table, AreDistinct, IsFunc, IsType, IsExtern, IsInstanceType, Grows}
 
--- Where no text and no layer stands twice, two layers that stand for one type are one, and a layer stands for one type.
+-- Where no text, no value type and no layer stands twice, two layers that stand for one type are one, and a layer stands for one type.
 abbrev pub OneLayer : Type 0
 OneLayer =
-    (texts : List (List ℕ)) (layers : List Layer) → AreDistinct texts layers →
-    (x y : TypeLayer) (type : Closed) → IsTypeLayer texts layers x type → IsTypeLayer texts layers y type → x ≡ y
+    (texts : List (List ℕ)) (values : List ValType) (layers : List Layer) → AreDistinct texts values layers →
+    (x y : TypeLayer) (type : Closed) → IsTypeLayer texts values layers x type → IsTypeLayer texts values layers y type → x ≡ y
 
 abbrev pub OneType : Type 0
 OneType =
-    (texts : List (List ℕ)) (layers : List Layer) →
-    (x : TypeLayer) (type other : Closed) → IsTypeLayer texts layers x type → IsTypeLayer texts layers x other → type ≡ other
+    (texts : List (List ℕ)) (values : List ValType) (layers : List Layer) →
+    (x : TypeLayer) (type other : Closed) → IsTypeLayer texts values layers x type → IsTypeLayer texts values layers x other → type ≡ other
 
 -- What a reference stands for it stands for also once the table has grown.
 abbrev pub FuncsStay : Type 0

@@ -1,15 +1,12 @@
 -- What numbers of layers stand for (Component Model, Explainer.md, "Type Definitions"): the closed types of comp_linking, layer
--- by layer. A layer stands on others by their numbers, and names are told by their numbers among the texts.
-use Rattle.std.specs.Prelude.{◌≡◌, ℕ, List, [], ◌∷◌, Option, Some}
-use Rattle.std.specs.Option.{option_map}
+-- by layer. A layer stands on others by their numbers, names are told by their numbers among the texts, and types of values by
+-- their numbers among the value types.
+use Rattle.std.specs.Prelude.{◌≡◌, ℕ, List, [], ◌∷◌, Option, Some, None}
 use Rattle.std.specs.List.{slice_get}
 use Rattle.ca_types.specs.declared.types.ValType.{ValType}
-use Rattle.ca_types.specs.declared.types.ValType.TheVariants as val_type
 use Rattle.ca_types.specs.declared.types.Param.{Param}
 use Rattle.ca_types.specs.declared.types.FuncType.{FuncType}
 use Rattle.comp_graph.specs.Closed.{Closed, Value, Func, Instance, Extern, OfFunc, OfType, OfInstance, Externs, EmptyType, WithExtern}
-use Rattle.type_tables.specs.declared.layers.ValueLayer.{ValueLayer}
-use Rattle.type_tables.specs.declared.layers.ValueLayer.TheVariants as value
 use Rattle.type_tables.specs.declared.layers.TypeLayer.{TypeLayer}
 use Rattle.type_tables.specs.declared.layers.TypeLayer.TheVariants as of_type
 use Rattle.type_tables.specs.declared.layers.ExternLayer.{ExternLayer}
@@ -17,23 +14,25 @@ use Rattle.type_tables.specs.declared.layers.ExternLayer.TheVariants as of_exter
 use Rattle.type_tables.specs.declared.layers.Layer.{Layer}
 use Rattle.type_tables.specs.declared.layers.Layer.TheVariants as layer
 
--- the closed value type
-abbrev pub val_of : ValueLayer → ValType
-val_of value.U32 = val_type.U32
+-- The number of a value type that may be absent: it is there exactly where the type is.
+abbrev pub MayBeValue : List ValType → Option ℕ → Option ValType → Type 0
+MayBeValue values None None = Unit {0}
+MayBeValue values (Some number) (Some type) = slice_get values number ≡ Some type
+MayBeValue values number type = ⊥
 
-module _ (texts : List (List ℕ)) (layers : List Layer) where
+module _ (texts : List (List ℕ)) (values : List ValType) (layers : List Layer) where
   -- The layer of this number stands for these parameters: none, or one before others.
   abbrev pub IsParams : ℕ → List Param → Type 0
   IsParams number [] = slice_get layers number ≡ Some layer.NoParams
   IsParams number (param ∷ params) =
-      (label : ℕ) × (type : ValueLayer) × (others : ℕ) × (slice_get layers number ≡ Some (layer.Param label type others))
-      × (slice_get texts label ≡ Some param.label) × (param.val_type ≡ val_of type) × IsParams others params
+      (label : ℕ) × (type : ℕ) × (others : ℕ) × (slice_get layers number ≡ Some (layer.Param label type others))
+      × (slice_get texts label ≡ Some param.label) × (slice_get values type ≡ Some param.val_type) × IsParams others params
 
   -- It stands for this function type.
   abbrev pub IsFuncLayer : ℕ → FuncType → Type 0
   IsFuncLayer number type =
-      (params : ℕ) × (returned : Option ValueLayer) × (slice_get layers number ≡ Some (layer.Func params returned))
-      × IsParams params type.params × (type.result ≡ option_map val_of returned)
+      (params : ℕ) × (returned : Option ℕ) × (slice_get layers number ≡ Some (layer.Func params returned))
+      × IsParams params type.params × MayBeValue values returned type.result
 
   -- It stands for these exports of a type of instances: none, or one behind others.
   abbrev mutual
@@ -50,7 +49,7 @@ module _ (texts : List (List ℕ)) (layers : List Layer) where
     IsExternLayer item extern = ⊥
 
     pub IsTypeLayer : TypeLayer → Closed → Type 0
-    IsTypeLayer (of_type.Value type) (Value closed) = closed ≡ val_of type
+    IsTypeLayer (of_type.Value number) (Value type) = slice_get values number ≡ Some type
     IsTypeLayer (of_type.Func number) (Func type) = IsFuncLayer number type
     IsTypeLayer (of_type.Instance number) (Instance externs) = IsExternsLayer number externs
     IsTypeLayer type closed = ⊥

@@ -1,4 +1,5 @@
 pub mod Begun
+pub mod Kept
 pub mod Labels
 pub mod Laws
 pub mod Layered

@@ -1,132 +1,82 @@
-//! Labels with value types, which function types are made of.
+//! Labels with the numbers of value types, which function types are made of.
 
-ghost use Rattle.std.specs.Prelude.{◌≡◌, IfOk, IsTrue, map};
-ghost use Rattle.std.specs.Option.{option_map};
-ghost use Rattle.type_tables.specs.Layered.{val_of};
-ghost use Rattle.type_tables.specs.Labels.{closed_param, closed_func};
+ghost use Rattle.std.specs.Prelude.{◌<◌, length, IfOk};
+ghost use Rattle.std.specs.List.{AllZip};
+ghost use Rattle.laid_types.specs.Layers.{IsThere};
+ghost use Rattle.type_tables.specs.Layered.{MayBeValue};
+ghost use Rattle.type_tables.specs.Labels.{HaveTypes, AreValues, IsParam, IsFuncOf};
 
-use crate::layers::ValueLayer;
 use ca_base::{Name, Seq};
 use ca_types::{FuncType, Param, Shared, ValType};
 use std::alloc::{AllocError, Global};
+use value_tables::ValueTypes;
 
-/// A parameter, with its closed type.
+/// A parameter, with the number of its type.
 #[derive(Clone, Copy)]
 pub struct LabelledType<'a> {
     /// The label under which it is passed.
     pub label: &'a str,
-    /// The type of its values.
-    pub val_type: ValueLayer,
+    /// The number of the type of its values.
+    pub val_type: usize,
 }
 
-/// The value type. It fails for want of memory alone, as do the other functions here.
-fn closed_val(alloc: Global, val_type: ValueLayer) -> Result<Shared<ValType>, AllocError>
-    ensures { IfOk result (λ t. t ≡ val_of val_type) }
-{
-    match val_type {
-        ValueLayer::U32 => Shared::new(alloc, ValType::U32),
-    }
-}
-
-/// The parameter.
-fn closed_param(alloc: Global, param: &LabelledType<'_>) -> Result<Param, AllocError>
-    ensures { IfOk result (λ p. p ≡ closed_param param.now) }
+/// The parameter. It fails for want of memory alone, as do the other functions here.
+fn closed_param(
+    alloc: Global,
+    values: &ValueTypes<'_>,
+    param: &LabelledType<'_>,
+) -> Result<Param, AllocError>
+    requires { param.now.val_type < length values.now }
+    ensures { IfOk result (λ p. IsParam values.now param.now p) }
 {
     Ok(Param {
         label: Name::new(alloc, param.label)?,
-        val_type: closed_val(alloc, param.val_type)?,
+        val_type: values.share(param.val_type)?,
     })
 }
 
 /// The parameters.
-fn closed_params(alloc: Global, params: &[LabelledType<'_>]) -> Result<Seq<Param>, AllocError>
-    ensures { IfOk result (λ ps. ps ≡ map closed_param params.now) }
+fn closed_params(
+    alloc: Global,
+    values: &ValueTypes<'_>,
+    params: &[LabelledType<'_>],
+) -> Result<Seq<Param>, AllocError>
+    requires { HaveTypes values.now params.now }
+    ensures { IfOk result (λ all. AllZip (IsParam values.now) params.now all) }
 {
     let mut closed = Seq::new(alloc);
     for param in params {
-        closed.push(closed_param(alloc, param)?)?;
+        closed.push(closed_param(alloc, values, param)?)?;
     }
     Ok(closed)
 }
 
 /// The result.
 fn closed_result(
-    alloc: Global,
-    returned: Option<ValueLayer>,
+    values: &ValueTypes<'_>,
+    returned: Option<usize>,
 ) -> Result<Option<Shared<ValType>>, AllocError>
-    ensures { IfOk result (λ r. r ≡ option_map val_of returned) }
+    requires { IsThere values.now returned }
+    ensures { IfOk result (λ r. MayBeValue values.now returned r) }
 {
     match returned {
-        Some(val_type) => Ok(Some(closed_val(alloc, val_type)?)),
+        Some(number) => Ok(Some(values.share(number)?)),
         None => Ok(None),
     }
 }
 
-/// The function type.
+/// The function type, whose parts are shared with the value types.
 pub(crate) fn closed_func(
     alloc: Global,
+    values: &ValueTypes<'_>,
     params: &[LabelledType<'_>],
-    returned: Option<ValueLayer>,
+    returned: Option<usize>,
 ) -> Result<FuncType, AllocError>
-    ensures { IfOk result (λ f. f ≡ closed_func params.now returned) }
+    requires { AreValues values.now params.now returned }
+    ensures { IfOk result (λ f. IsFuncOf values.now params.now returned f) }
 {
     Ok(FuncType {
-        params: closed_params(alloc, params)?,
-        result: closed_result(alloc, returned)?,
+        params: closed_params(alloc, values, params)?,
+        result: closed_result(values, returned)?,
     })
-}
-
-/// Whether a value type is this one.
-fn is_closed_val(val_type: &ValType, asked: ValueLayer) -> bool
-    ensures { IsTrue result → val_type.now ≡ val_of asked }
-{
-    match (val_type, asked) {
-        (ValType::U32, ValueLayer::U32) => true,
-        (_, ValueLayer::U32) => false,
-    }
-}
-
-/// Whether a parameter is this one.
-fn is_closed_param(param: &Param, asked: &LabelledType<'_>) -> bool
-    ensures { IsTrue result → param.now ≡ closed_param asked.now }
-{
-    param.label.as_str() == asked.label && is_closed_val(param.val_type.get(), asked.val_type)
-}
-
-/// Whether parameters are these.
-fn are_closed_params(params: &[Param], asked: &[LabelledType<'_>]) -> bool
-    ensures { IsTrue result → params.now ≡ map closed_param asked.now }
-{
-    if params.len() != asked.len() {
-        return false;
-    }
-    for at in 0..params.len() {
-        if !is_closed_param(&params[at], &asked[at]) {
-            return false;
-        }
-    }
-    true
-}
-
-/// Whether a result is this one.
-fn is_closed_result(returned: &Option<Shared<ValType>>, asked: Option<ValueLayer>) -> bool
-    ensures { IsTrue result → returned.now ≡ option_map val_of asked }
-{
-    match (returned, asked) {
-        (Some(val_type), Some(asked)) => is_closed_val(val_type.get(), asked),
-        (None, None) => true,
-        (_, _) => false,
-    }
-}
-
-/// Whether a function type is the one of these parameters and this result.
-pub(crate) fn is_closed_func(
-    func_type: &FuncType,
-    params: &[LabelledType<'_>],
-    returned: Option<ValueLayer>,
-) -> bool
-    ensures { IsTrue result → func_type.now ≡ closed_func params.now returned }
-{
-    are_closed_params(func_type.params.as_slice(), params)
-        && is_closed_result(&func_type.result, returned)
 }

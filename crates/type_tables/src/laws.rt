@@ -2,7 +2,7 @@
 
 ghost use Rattle.type_tables.specs.Laws.{OneLayer, OneType, FuncsStay, TypesStay, ExternsStay, InstanceTypesStay, FuncsStand, InstanceTypesStand};
 
-/// Where no text and no layer stands twice, two layers that stand for one type are one. A layer stands for one type.
+/// Where no text, no value type and no layer stands twice, two layers that stand for one type are one. A layer stands for one type.
 pub fn numbers_say_equal()
     ensures layer { OneLayer }
     ensures closed { OneType }

@@ -7,18 +7,11 @@ use std::alloc::{AllocError, Global};
 use std::collections::BTreeMap;
 use std::marker::Model;
 
-/// A value type.
-#[derive(Clone, Copy, PartialEq, Eq, PartialOrd, Ord)]
-pub enum ValueLayer {
-    /// An unsigned 32-bit integer.
-    U32,
-}
-
-/// The outer layer of a type, over the numbers of the layers that it stands on.
+/// The outer layer of a type, over the numbers of the layers that it stands on, and of value types.
 #[derive(Clone, Copy, PartialEq, Eq, PartialOrd, Ord)]
 pub enum TypeLayer {
     /// A value type.
-    Value(ValueLayer),
+    Value(usize),
     /// A function type.
     Func(usize),
     /// A type of instances.
@@ -36,7 +29,8 @@ pub enum ExternLayer {
     Instance(usize),
 }
 
-/// A layer of a function type or of a type of instances, over the numbers of the layers that it stands on, and of names.
+/// A layer of a function type or of a type of instances, over the numbers of the layers that it stands on, of names, and of value
+/// types.
 #[derive(Clone, Copy, PartialEq, Eq, PartialOrd, Ord)]
 pub enum Layer {
     /// No parameters.
@@ -46,7 +40,7 @@ pub enum Layer {
         /// Its label.
         label: usize,
         /// The type of its values.
-        val_type: ValueLayer,
+        val_type: usize,
         /// The parameters behind it.
         others: usize,
     },
@@ -55,7 +49,7 @@ pub enum Layer {
         /// Its parameters.
         params: usize,
         /// The type of its result, if it has one.
-        returned: Option<ValueLayer>,
+        returned: Option<usize>,
     },
     /// No exports.
     NoExterns,

@@ -1,10 +1,10 @@
-//! Numbers in place of trees: types of functions and of instances, in tables, where a type is told by numbers, and two types
-//! are the same exactly where their numbers are. The trees are the closed types of `comp_graph`.
+//! Numbers in place of trees: types of functions and of instances, in tables, over types of values, where a type is told by
+//! numbers, and two types are the same exactly where their numbers are. The trees are the closed types of `comp_graph`.
 //!
 //! - `listing`: what stands under names, in order
 //! - `layers`: the layers of types, each once, by number
 //! - `refs`: references into a table of types
-//! - `labels`: labels with value types, which function types are made of
+//! - `labels`: labels with the numbers of value types, which function types are made of
 //! - `types`: the table of types
 //! - `maker`: types of instances, made export by export
 //! - `asked`: what a type of instances asks for
@@ -22,7 +22,7 @@ mod types;
 
 pub use asked::{asked_at, asked_count, asked_named};
 pub use labels::LabelledType;
-pub use layers::{ExternLayer, Layer, Layers, TypeLayer, ValueLayer};
+pub use layers::{ExternLayer, Layer, Layers, TypeLayer};
 pub use listing::Listing;
 pub use maker::InstanceTypeMaker;
 pub use refs::{ExternRef, FuncTypeRef, InstanceTypeRef, TypeRef};

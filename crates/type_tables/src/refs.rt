@@ -3,7 +3,7 @@
 ghost use Rattle.std.specs.Prelude.{◌≡◌, IsTrue};
 ghost use Rattle.type_tables.specs.Layering.{type_layer, extern_layer};
 
-use crate::layers::{ExternLayer, TypeLayer, ValueLayer};
+use crate::layers::{ExternLayer, TypeLayer};
 
 /// A function type of a table.
 #[derive(Clone, Copy, PartialEq)]
@@ -26,8 +26,8 @@ pub struct InstanceTypeRef {
 /// A closed type.
 #[derive(Clone, Copy, PartialEq)]
 pub enum TypeRef {
-    /// A value type.
-    Value(ValueLayer),
+    /// A value type, by its number.
+    Value(usize),
     /// A function type.
     Func(FuncTypeRef),
     /// A type of instances.

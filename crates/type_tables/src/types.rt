@@ -1,54 +1,59 @@
 //! The table of types.
 
-ghost use Rattle.std.specs.Prelude.{◌≡◌, ◌<◌, ◌+◌, ◌∷◌, ◌↔◌, ℕ, List, map, length, Some, None, IfOk, IfSome, IsTrue};
-ghost use Rattle.std.specs.List.{slice_get};
+ghost use Rattle.std.specs.Prelude.{◌≡◌, ◌<◌, ◌∷◌, ◌↔◌, ℕ, List, length, Some, None, IfOk, IfSome, IsTrue};
+ghost use Rattle.std.specs.List.{slice_get, AllZip};
 ghost use Rattle.std.specs.Option.{MatchOption};
 ghost use Rattle.ca_types.specs.declared.types.FuncType.{FuncType};
 ghost use Rattle.ca_types.specs.declared.types.Param.{Param};
 ghost use Rattle.comp_graph.specs.Closed.{Closed, Externs, extern_named};
-ghost use Rattle.type_tables.specs.Layered.{IsParams};
-ghost use Rattle.type_tables.specs.Labels.{closed_param, closed_func};
-ghost use Rattle.type_tables.specs.Table.{no_types, IsName, IsFunc, IsType, IsInstanceType, MayBeExtern, MayBeEntry, in_order, Grows, AreDistinct};
+ghost use Rattle.laid_types.specs.Layers.{AreThere, type_of, part_numbers};
+ghost use Rattle.type_tables.specs.Layered.{IsParams, IsFuncLayer};
+ghost use Rattle.type_tables.specs.Labels.{AreValues, IsParam, IsFuncOf};
+ghost use Rattle.type_tables.specs.Table.{no_types, IsName, IsValue, IsFunc, IsType, IsInstanceType, MayBeExtern, MayBeEntry, in_order, Grows, AreDistinct};
 
-use crate::labels::{LabelledType, closed_func, is_closed_func};
-use crate::layers::{Layer, Layers, ValueLayer};
+use crate::labels::{LabelledType, closed_func};
+use crate::layers::{Layer, Layers};
 use crate::listing::Listing;
 use crate::refs::{ExternRef, FuncTypeRef, InstanceTypeRef, TypeRef, are_same};
 use ca_types::{FuncType, Shared};
+use laid_types::ValTypeLayer;
 use std::alloc::{AllocError, Global};
 use std::collections::BTreeMap;
 use std::marker::Model;
-use value_tables::Names;
+use value_tables::{Names, ValueTypes};
 
 /// Types, each layer of them once: two types are the same exactly where the numbers of their layers are. A type that is in
-/// another one stands there by its number, so nothing here nests. Contracts see the texts of names, the layers, and of the
-/// types that were made the function types and the listings of exports.
+/// another one stands there by its number, so nothing here nests. Contracts see the texts of names, the types of values, the
+/// layers, and of the types that were made the function types and the listings of exports.
 #[derive(Drop)]
 pub struct Types<'a> {
     names: Names<'a>,
+    values: ValueTypes<'a>,
     layers: Layers,
     funcs: Vec<Shared<FuncType>>,
     instances: Vec<Listing<ExternRef>>,
-    /// The number of the function type of a layer, so that a type that is made twice is kept once.
+    /// The number of the function type of a layer.
     func_numbers: BTreeMap<usize, usize>,
-    /// The same of the listing of exports of a layer.
+    /// The number of a listing of exports of a layer, so that a type that is made twice is kept once.
     instance_numbers: BTreeMap<usize, usize>,
 }
 
 impl<'a> Model for Types<'a> {
     ghost use Rattle.std.specs.Coded.{codes};
+    ghost use Rattle.ca_types.specs.contracts.types.ValType as val_type;
     ghost use Rattle.ca_types.specs.contracts.types.FuncType as func_type;
     ghost use Rattle.type_tables.specs.contracts.layers.Layer as layer;
     ghost use Rattle.type_tables.specs.contracts.refs.ExternRef as extern_ref;
-    ghost use Rattle.type_tables.specs.Table.{Table, AreDistinct};
+    ghost use Rattle.type_tables.specs.Table.{Table};
+    ghost use Rattle.type_tables.specs.Kept.{IsKept};
 
     ghost Value = { Table };
 
-    ghost coded = { Prim.hlevel (codes, func_type.the_row.coded, layer.the_row.coded, extern_ref.the_row.coded) };
+    ghost coded = { Prim.hlevel (codes, val_type.the_row.coded, func_type.the_row.coded, layer.the_row.coded, extern_ref.the_row.coded) };
 
-    ghost view = { λ t. record { texts = t.names; layers = t.layers; funcs = t.funcs.items; instances = t.instances.items } };
+    ghost view = { λ t. record { texts = t.names; values = t.values; layers = t.layers; funcs = t.funcs.items; instances = t.instances.items } };
 
-    ghost invariant = { λ t. AreDistinct t.names t.layers };
+    ghost invariant = { λ t. IsKept t.func_numbers (record { texts = t.names; values = t.values; layers = t.layers; funcs = t.funcs.items; instances = t.instances.items }) };
 }
 
 impl<'a> Types<'a> {
@@ -58,6 +63,7 @@ impl<'a> Types<'a> {
     {
         Types {
             names: Names::new(alloc),
+            values: ValueTypes::new(alloc),
             layers: Layers::new(alloc),
             funcs: Vec::new(alloc),
             instances: Vec::new(alloc),
@@ -82,28 +88,59 @@ impl<'a> Types<'a> {
         self.names.text(number)
     }
 
-    /// Makes a function type, with its parameters in order and its result.
+    /// The number of the value type of a layer, whose parts are there. It is added where it is not there.
+    pub fn value_type(
+        &mut self,
+        alloc: Global,
+        layer: &ValTypeLayer<'_, 'a>,
+    ) -> Result<usize, AllocError>
+        requires { AreThere self.old.values (part_numbers layer.now) }
+        ensures ok { IfOk result (λ number. IsValue self.new number (type_of self.old.values layer.now)) }
+        ensures grows { Grows self.old self.new }
+    {
+        Ok(self.values.number_of(alloc, layer)?)
+    }
+
+    /// How many value types there are.
+    pub fn value_count(&self) -> usize
+        ensures { result ≡ length self.now.values }
+    {
+        self.values.len()
+    }
+
+    /// Makes a function type, with its parameters in order and its result, each by the number of its value type, which is there.
     pub fn func_type(
         &mut self,
         alloc: Global,
         params: &[LabelledType<'a>],
-        returned: Option<ValueLayer>,
+        returned: Option<usize>,
     ) -> Result<FuncTypeRef, AllocError>
-        ensures ok { IfOk result (λ ref. IsFunc self.new ref (closed_func params.now returned)) }
+        requires { AreValues self.old.values params.now returned }
+        ensures ok { IfOk result (λ ref. (type : FuncType) → IsFuncOf self.old.values params.now returned type → IsFunc self.new ref type) }
         ensures grows { Grows self.old self.new }
     {
-        let others = self.params(params)?;
-        let layer = self.layer(Layer::Func {
-            params: others,
-            returned,
-        })?;
+        let layer = self.func_layer(params, returned)?;
         let number = self.func_number(alloc, layer, params, returned)?;
         Ok(FuncTypeRef { layer, number })
     }
 
+    /// The number of the layer of a function type.
+    fn func_layer(
+        &mut self,
+        params: &[LabelledType<'a>],
+        returned: Option<usize>,
+    ) -> Result<usize, AllocError>
+        ensures ok { IfOk result (λ number. (type : FuncType) → IsFuncOf self.old.values params.now returned type → IsFuncLayer self.new.texts self.new.values self.new.layers number type) }
+        ensures grows { Grows self.old self.new }
+    {
+        let params = self.params(params)?;
+        let number = self.layer(Layer::Func { params, returned })?;
+        Ok(number)
+    }
+
     /// The number of the layer of some parameters.
     fn params(&mut self, params: &[LabelledType<'a>]) -> Result<usize, AllocError>
-        ensures ok { IfOk result (λ number. IsParams self.new.texts self.new.layers number (map closed_param params.now)) }
+        ensures ok { IfOk result (λ number. (all : List Param) → AllZip (IsParam self.old.values) params.now all → IsParams self.new.texts self.new.values self.new.layers number all) }
         ensures grows { Grows self.old self.new }
     {
         let mut others = self.layer(Layer::NoParams)?;
@@ -117,7 +154,7 @@ impl<'a> Types<'a> {
 
     /// The number of the layer of a parameter before others.
     fn param(&mut self, param: &LabelledType<'a>, others: usize) -> Result<usize, AllocError>
-        ensures ok { IfOk result (λ number. (params : List Param) → IsParams self.old.texts self.old.layers others params → IsParams self.new.texts self.new.layers number (closed_param param.now ∷ params)) }
+        ensures ok { IfOk result (λ number. (first : Param) (all : List Param) → IsParam self.old.values param.now first → IsParams self.old.texts self.old.values self.old.layers others all → IsParams self.new.texts self.new.values self.new.layers number (first ∷ all)) }
         ensures grows { Grows self.old self.new }
     {
         let label = self.name(param.label)?;
@@ -137,41 +174,42 @@ impl<'a> Types<'a> {
         Ok(self.layers.number_of(layer)?)
     }
 
-    /// The number of the function type that has this layer. It is added where it is not there.
+    /// The number of the function type of a layer. The type is added where it is not there.
     fn func_number(
         &mut self,
         alloc: Global,
         layer: usize,
         params: &[LabelledType<'a>],
-        returned: Option<ValueLayer>,
+        returned: Option<usize>,
     ) -> Result<usize, AllocError>
-        ensures ok { IfOk result (λ number. slice_get self.new.funcs number ≡ Some (closed_func params.now returned)) }
+        requires there { AreValues self.old.values params.now returned }
+        requires layer { (type : FuncType) → IsFuncOf self.old.values params.now returned type → IsFuncLayer self.old.texts self.old.values self.old.layers layer type }
+        ensures ok { IfOk result (λ number. (type : FuncType) → IsFuncOf self.old.values params.now returned type → IsFunc self.new (record { layer = layer; number = number }) type) }
         ensures grows { Grows self.old self.new }
     {
-        if let Some(number) = self.kept_func(layer, params, returned) {
+        if let Some(number) = self.kept_func(layer) {
             return Ok(number);
         }
-        let func_type = closed_func(alloc, params, returned)?;
+        let func_type = closed_func(alloc, &self.values, params, returned)?;
         let number = self.add_func(alloc, func_type)?;
-        self.func_numbers.insert(layer, number)?;
+        self.keep_func(layer, number)?;
         Ok(number)
     }
 
     /// The number of the function type of a layer, if it is there.
-    fn kept_func(
-        &self,
-        layer: usize,
-        params: &[LabelledType<'a>],
-        returned: Option<ValueLayer>,
-    ) -> Option<usize>
-        ensures { IfSome result (λ number. slice_get self.now.funcs number ≡ Some (closed_func params.now returned)) }
+    fn kept_func(&self, layer: usize) -> Option<usize>
+        ensures { IfSome result (λ number. (type : FuncType) → IsFuncLayer self.now.texts self.now.values self.now.layers layer type → IsFunc self.now (record { layer = layer; number = number }) type) }
     {
-        let number = self.func_numbers.get(&layer).copied()?;
-        let func_type = self.funcs.get(number)?;
-        if !is_closed_func(func_type.get(), params, returned) {
-            return None;
-        }
-        Some(number)
+        self.func_numbers.get(&layer).copied()
+    }
+
+    /// Keeps the number of the function type of a layer.
+    fn keep_func(&mut self, layer: usize, number: usize) -> Result<(), AllocError>
+        requires { (type : FuncType) × IsFunc self.old (record { layer = layer; number = number }) type }
+        ensures { self.new ≡ self.old }
+    {
+        self.func_numbers.insert(layer, number)?;
+        Ok(())
     }
 
     /// Adds a function type, and answers its number.
@@ -224,9 +262,9 @@ impl<'a> Types<'a> {
         Ok(number)
     }
 
-    /// No text and no layer stands twice.
+    /// No text, no value type and no layer stands twice.
     pub fn are_distinct(&self)
-        ensures { AreDistinct self.now.texts self.now.layers }
+        ensures { AreDistinct self.now.texts self.now.values self.now.layers }
     {
         let _ = &self.layers;
     }

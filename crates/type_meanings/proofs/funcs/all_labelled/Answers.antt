@@ -1,22 +1,32 @@
-use Rattle.std.proofs.Common.{◌∙◌, ap, sym, map}
-use Rattle.comp_linking.specs.Types.{close_param}
-use Rattle.type_tables.specs.Labels.{closed_param}
-use Rattle.type_meanings.proofs.Labelled.{all_closed, one_closed, not_closed}
+use Rattle.type_tables.proofs.TypesGrow.{grows_trans}
+use Rattle.type_tables.proofs.ValuesStay.{have_types_more}
+use Rattle.type_meanings.specs.Levels.{enclosed_types}
+use Rattle.type_meanings.proofs.Growing.{types_stay}
+use Rattle.type_meanings.proofs.Labelled.{so_far_more, so_far_ends, so_far_open}
 use Rattle.type_meanings.proofs.funcs.all_labelled.Goals as goal
 
-pub returns-in-None : goal.returns-in-None
-returns-in-None c = λ t closed h.
-    sym (c.loop-param.invariant t closed h
-    ∙ not_closed closed (map closed_param c.loop-param.all.items) c.args.params.now c.param-item.result c.loop-param.param-index c.loop-param-test.true
-    (c.in-None.ensures t closed h ∙ ap (close_param closed) c.param-item.is))
+pub returns-in-None-clause-ok : goal.returns-in-None-clause-ok
+returns-in-None-clause-ok c = λ closed h.
+    let kept = c.loop-param.invariant in
+    let stays = types_stay c.args.types.now c.loop-param.types kept.0 (enclosed_types c.args.scope.now) closed h in
+    so_far_open c.loop-param.types closed c.args.params.now c.loop-param.all.items c.param-item.result c.loop-param.param-index c.loop-param-test.true c.param-item.is
+    (rw c.in-None.is at (c.in_ok-param.ensures.ok closed stays)) (kept.2 closed h)
 
 pub loop-param-preserved : goal.loop-param-preserved
-loop-param-preserved c = λ t closed h.
-    rw c.in_ok-push-in-Some.ensures.items
-    (c.loop-param.invariant t closed h
-    ∙ one_closed closed c.loop-param.all.items c.args.params.now c.param-item.result c.loop-param.param-index c.in-Some.param c.loop-param-test.true
-    (c.in-Some.ensures t closed h ∙ ap (close_param closed) c.param-item.is))
+loop-param-preserved c =
+    let first = c.args.types.now in
+    let old = c.loop-param.types in
+    let new = c.labelled.new.types in
+    let kept = c.loop-param.invariant in
+    let grows = c.labelled.ensures.grows in (
+      grows_trans first old new kept.0 grows,
+      rw c.in_ok-push-in-Some.ensures.items (have_types_more old new grows c.loop-param.all.items c.in-Some.param kept.1 (rw c.in-Some.is at c.in_ok-param.ensures.there)),
+      λ closed h. (let stays = types_stay first old kept.0 (enclosed_types c.args.scope.now) closed h in
+          rw c.in_ok-push-in-Some.ensures.items
+          (so_far_more old new closed c.args.params.now c.loop-param.all.items c.param-item.result c.loop-param.param-index c.in-Some.param grows c.loop-param-test.true c.param-item.is
+          (rw c.in-Some.is at (c.in_ok-param.ensures.ok closed stays)) (kept.2 closed h))),
+    )
 
-pub returns : goal.returns
-returns c = λ t closed h.
-    sym (c.loop-param.invariant t closed h ∙ all_closed closed (map closed_param c.loop-param.all.items) c.args.params.now c.loop-param.param-index c.loop-param-test.false)
+pub returns-clause-ok : goal.returns-clause-ok
+returns-clause-ok c = λ closed h.
+    so_far_ends c.loop-param.types closed c.args.params.now c.loop-param.all.items c.loop-param.param-index c.loop-param-test.false (c.loop-param.invariant.2 closed h)

@@ -1,12 +1,5 @@
-use Rattle.std.proofs.Common.{◌∙◌, ap, sym}
-use Rattle.comp_linking.specs.Types.{close_result}
-use Rattle.type_meanings.proofs.Labelled.{result_open, result_closed}
+use Rattle.type_meanings.proofs.Labelled.{result_closed}
 use Rattle.type_meanings.proofs.funcs.returned_type.Goals as goal
 
-pub returns-in_err-value_of : goal.returns-in_err-value_of
-returns-in_err-value_of c = λ t closed h.
-    rw c.from_residual.ensures (result_open closed c.in-Some.val_type (c.in_err-value_of.ensures t closed h) ∙ ap (close_result closed) (sym c.in-Some.is))
-
-pub returns : goal.returns
-returns c = λ t closed h.
-    result_closed closed c.in-Some.val_type c.in_ok-value_of.field-0 (c.in_ok-value_of.ensures t closed h) ∙ ap (close_result closed) (sym c.in-Some.is)
+pub returns-clause-ok : goal.returns-clause-ok
+returns-clause-ok c = λ closed h. rw c.in-Some.is (result_closed c.value_of.new.types closed c.in-Some.val_type c.in-Some-2.number (rw c.in-Some-2.is at (c.in_ok-number.ensures.ok closed h)))

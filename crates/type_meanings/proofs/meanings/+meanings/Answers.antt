@@ -29,7 +29,7 @@ declare-returns-in_ok-add_export-in-Export-clause-ok t c = λ closures levels d 
 pub meaning-returns-in_ok-func_meaning-in-Func-clause-ok : goal.meaning-returns-in_ok-func_meaning-in-Func-clause-ok
 meaning-returns-in_ok-func_meaning-in-Func-clause-ok t c = λ closures levels a.
     let known : AreTypes c.args.types.now _ (types_around levels) = rw c.innermost.ensures (innermost_types c.args.types.now closures c.args.around.now levels a) in
-    rw (c.in-Func.is, meaning_of_func c.in-Func.func_type levels) (c.in_ok-func_meaning-in-Func.ensures.ok c.args.types.now (types_around levels) known)
+    rw (c.in-Func.is, meaning_of_func c.in-Func.func_type levels) (c.in_ok-func_meaning-in-Func.ensures.ok (types_around levels) known)
 
 pub instance_meaning-loop-decl-init : goal.instance_meaning-loop-decl-init
 instance_meaning-loop-decl-init t c = (c.in_ok-declared.ensures.grows, λ closures levels a. c.in_ok-declared.ensures.ok closures)

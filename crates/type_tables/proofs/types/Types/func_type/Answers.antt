@@ -1,6 +1,13 @@
-use Rattle.type_tables.proofs.TypesMade.{func_more}
+use Rattle.type_tables.proofs.ValuesStay.{values_stay, func_of_stays, func_of_stood}
 use Rattle.type_tables.proofs.types.Types.func_type.Goals as goal
 
+pub func_number-requires-clause-there : goal.func_number-requires-clause-there
+func_number-requires-clause-there c = values_stay c.args.self.now c.func_layer.new.self c.func_layer.ensures.grows c.args.params.now c.args.returned c.requires
+
+pub func_number-requires-clause-layer : goal.func_number-requires-clause-layer
+func_number-requires-clause-layer c = λ type h.
+    c.in_ok-layer.ensures.ok type (func_of_stood c.args.self.now c.func_layer.new.self c.func_layer.ensures.grows c.args.params.now c.args.returned type c.requires h)
+
 pub returns-clause-ok : goal.returns-clause-ok
-returns-clause-ok c =
-    func_more c.params.new.self c.layer.new.self c.func_number.new.self c.args.params.now c.args.returned c.in_ok-others.others c.in_ok-layer.layer c.in_ok-number.number c.in_ok-others.ensures.ok c.layer.ensures.grows c.func_number.ensures.grows c.in_ok-layer.ensures.ok c.in_ok-number.ensures.ok
+returns-clause-ok c = λ type h.
+    c.in_ok-number.ensures.ok type (func_of_stays c.args.self.now c.func_layer.new.self c.func_layer.ensures.grows c.args.params.now c.args.returned type h)
