@@ -134,9 +134,9 @@ names_called [] = refl
 names_called (c ∷ cs) = ap (λ (ns : List (List ℕ)). c.name ∷ ns) (names_called cs)
 
 pub root_names_are_distinct : RootNamesAreDistinct
-root_names_are_distinct c l links = let h = any_sound c l links in exports_distinct AnyModule l.cores (exports_at l 0) (exports_sound AnyModule l 0 h)
+root_names_are_distinct reach c l links = let h = any_sound reach c l links in exports_distinct AnyModule l.cores (exports_at l 0) (exports_sound AnyModule l 0 h)
 
 pub names_are_distinct : NamesAreDistinct
-names_are_distinct c l links none =
-    let h = any_sound c l links in
+names_are_distinct reach c l links none =
+    let h = any_sound reach c l links in
     subst AreDistinct (sym (names_called (callables (exports_at l 0)))) (callables_distinct AnyModule l.cores (exports_at l 0) none (exports_sound AnyModule l 0 h))

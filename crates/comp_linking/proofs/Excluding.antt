@@ -21,6 +21,7 @@ use Rattle.comp_tree.specs.declared.instances.AliasTarget.TheVariants as target
 use Rattle.comp_tree.specs.declared.externs.ExternDesc.{ExternDesc}
 use Rattle.comp_tree.specs.declared.externs.ExternDesc.TheVariants as desc
 use Rattle.comp_tree.specs.declared.externs.Export as read
+use Rattle.comp_tree.specs.declared.types.DefType.{DefType}
 use Rattle.comp_tree.specs.declared.items.Canon.TheVariants.{Lift}
 use Rattle.comp_tree.specs.declared.items.Item.{Item, out-Item}
 use Rattle.comp_tree.specs.declared.items.Item.TheOpen.{Item-F}
@@ -29,9 +30,10 @@ use Rattle.comp_linking.specs.declared.fault.LinkWhy.{LinkWhy}
 use Rattle.comp_linking.specs.declared.fault.LinkWhy.TheVariants as why
 use Rattle.comp_graph.specs.Closed.{Closed, Extern, OfFunc, OfType, OfInstance, func_of}
 use Rattle.comp_linking.specs.Definitions.{CoreItem, Func, CoreExport, core_named, CoreFits, Closure, Definition, AFunc, AType, AComponent, AnInstance, AModule, Exports, EmptyInstance, WithExport, export_names, export_named, Fits, lacks}
+use Rattle.comp_linking.specs.Runs.{reaches, runs_type, runs_lift}
 use Rattle.comp_linking.specs.Types.{Meaning, found, meaning_of, desc_meaning}
 use Rattle.comp_linking.specs.Spaces.{Spaces, Linking, core_size, size_of, core_item_at, definition_at, IsOfSort, levels_at, outer_at}
-use Rattle.comp_linking.specs.Items.{AnyByRecursion, first_told, argument_named, import_found, argument_lacking, import_lacks, FindsOther, IsThere, FindsItem, core_instance_has, IsInline, core_instance_makes, AreNamed, named_have, instance_has, instance_makes, IsCoreOf, alias_has, alias_makes, type_has, lifts, lift_has, lift_makes, wanted, IsOfTypes, IsRootImport, lacking, DoesNotFit, import_has, IsImported, import_makes, said, IsSaid, export_has, IsExported, export_makes, has_case, makes_case}
+use Rattle.comp_linking.specs.Items.{AnyByRecursion, first_told, argument_named, import_found, argument_lacking, import_lacks, FindsOther, IsThere, FindsItem, core_instance_has, IsInline, core_instance_makes, AreNamed, named_have, instance_has, instance_makes, IsCoreOf, alias_has, alias_makes, type_has, type_makes, lifts, lift_has, lift_makes, wanted, IsOfTypes, IsRootImport, lacking, DoesNotFit, import_has, IsImported, import_makes, said, IsSaid, export_has, IsExported, export_makes, has_case, makes_case}
 use Rattle.comp_linking.specs.Linked.{Begins}
 use Rattle.comp_linking.specs.Laws.{MakesExcludesReasons, BeginsExcludesReasons, MakesExcludesBegins}
 use Rattle.comp_linking.proofs.Lists.{some_all, some_zip, none_told, match_at, map_some, then_some, not_there, mapped_there}
@@ -157,29 +159,30 @@ alias_excludes l n s sort (target.Outer up index) new why.Limit k h = h
 
 -- Types.
 
-type_excludes : (meaning : Meaning Closed) (closed : Closed) (w : LinkWhy) → IsWhole meaning → meaning.means ≡ Some closed → type_has meaning w → ⊥
-type_excludes meaning closed why.Index whole is h = true_false meaning.is_there (whole closed is).0 h
-type_excludes meaning closed (why.Missing name) whole is h = both_of meaning.missing name h (whole closed is).1
-type_excludes meaning closed why.Typing whole is h = both_of meaning.means closed is h
-type_excludes meaning closed why.RootImport whole is h = h
-type_excludes meaning closed why.Canon whole is h = h
-type_excludes meaning closed why.Limit whole is h = h
+type_excludes : (l : Linking) (n : ℕ) (s : Spaces) (type : DefType) (meaning : Meaning Closed) (new : Linking) (w : LinkWhy) → IsWhole meaning → type_makes l n s type meaning new → type_has l.reach type meaning w → ⊥
+type_excludes l n s type meaning new why.Index whole (closed, is, within, made) h = true_false meaning.is_there (whole closed is).0 h
+type_excludes l n s type meaning new (why.Missing name) whole (closed, is, within, made) h = both_of meaning.missing name h (whole closed is).1
+type_excludes l n s type meaning new why.Typing whole (closed, is, within, made) h = both_of meaning.means closed is h
+type_excludes l n s type meaning new why.Limit whole (closed, is, within, made) h = true_false (reaches l.reach (runs_type type)) within h
+type_excludes l n s type meaning new why.RootImport whole k h = h
+type_excludes l n s type meaning new why.Canon whole k h = h
 
 -- Lifts.
 
-lift_excludes : (l : Linking) (n : ℕ) (s : Spaces) (f t : ℕ) (new : Linking) (w : LinkWhy) → lift_makes l n s f t new → lift_has s f t w → ⊥
-lift_excludes l n s f t new why.Index (ref, of_core, type, is, of_type, flat, made) (inl none) = both_of (slice_get s.core_funcs f) (Func ref of_core) is none
-lift_excludes l n s f t new why.Index (ref, of_core, type, is, of_type, flat, made) (inr none) =
+lift_excludes : (l : Linking) (n : ℕ) (s : Spaces) (f t : ℕ) (new : Linking) (w : LinkWhy) → lift_makes l n s f t new → lift_has l.reach s f t w → ⊥
+lift_excludes l n s f t new why.Index (ref, of_core, type, is, of_type, flat, within, made) (inl none) = both_of (slice_get s.core_funcs f) (Func ref of_core) is none
+lift_excludes l n s f t new why.Index (ref, of_core, type, is, of_type, flat, within, made) (inr none) =
     let p = then_some func_of (slice_get s.types t) type of_type in both_of (slice_get s.types t) p.0 p.1 none
-lift_excludes l n s f t new why.Typing (ref, of_core, type, is, of_type, flat, made) h =
+lift_excludes l n s f t new why.Typing (ref, of_core, type, is, of_type, flat, within, made) h =
     let p = then_some func_of (slice_get s.types t) type of_type in
     both_of (func_of p.0) type p.2 (match_at (λ type. func_of type ≡ None) (slice_get s.types t) p.0 p.1 h)
-lift_excludes l n s f t new why.Canon (ref, of_core, type, is, of_type, flat, made) h =
+lift_excludes l n s f t new why.Canon (ref, of_core, type, is, of_type, flat, within, made) h =
     let k = match_at (λ type. MatchOption (slice_get s.core_funcs f) ⊥ (λ item. lifts type item ≡ false)) (option_and_then func_of (slice_get s.types t)) type of_type h in
     true_false (lifts type (Func ref of_core)) flat (match_at (λ item. lifts type item ≡ false) (slice_get s.core_funcs f) (Func ref of_core) is k)
+lift_excludes l n s f t new why.Limit (ref, of_core, type, is, of_type, flat, within, made) h =
+    true_false (reaches l.reach (runs_lift type)) within (match_at (λ type. reaches l.reach (runs_lift type) ≡ false) (option_and_then func_of (slice_get s.types t)) type of_type h)
 lift_excludes l n s f t new why.RootImport k h = h
 lift_excludes l n s f t new (why.Missing name) k h = h
-lift_excludes l n s f t new why.Limit k h = h
 
 -- Imports.
 
@@ -274,7 +277,7 @@ case_excludes l n s (Item-F.Component c) new w k h = h
 case_excludes l n s (Item-F.Instance i) new w k h = instance_excludes l n s i new w k h
 case_excludes l n s (Item-F.Alias alias) new w k h = alias_excludes l n s alias.sort alias.target new w k h
 case_excludes l n s (Item-F.Type type) new w k h =
-    type_excludes (meaning_of type (levels_at l (n ∷ s.around))) k.0 w (whole_meaning type (levels_at l (n ∷ s.around))) k.1 h
+    type_excludes l n s type (meaning_of type (levels_at l (n ∷ s.around))) new w (whole_meaning type (levels_at l (n ∷ s.around))) k h
 case_excludes l n s (Item-F.Canon (Lift f t)) new w k h = lift_excludes l n s f t new w k h
 case_excludes l n s (Item-F.Import i) new w k h = import_excludes l n s i.name i.desc new w k h
 case_excludes l n s (Item-F.Export e) new w k h = export_excludes l n s e new w k h

@@ -5,6 +5,8 @@ use Rattle.std.specs.Option.{option_and_then, MatchOption}
 use Rattle.std.specs.List.{slice_get}
 use Rattle.ca_base.specs.Names.{is_among}
 use Rattle.ca_types.specs.declared.types.FuncType.{FuncType}
+use Rattle.wasm_module.specs.declared.types.FuncType as core
+use Rattle.comp_tree.specs.declared.types.DefType.{DefType}
 use Rattle.comp_tree.specs.declared.instances.Sort.{Sort}
 use Rattle.comp_tree.specs.declared.instances.AliasTarget.{AliasTarget}
 use Rattle.comp_tree.specs.declared.instances.AliasTarget.TheVariants as target
@@ -12,17 +14,18 @@ use Rattle.comp_tree.specs.declared.externs.ExternDesc.{ExternDesc}
 use Rattle.comp_tree.specs.declared.externs.Export as read
 use Rattle.comp_linking.specs.declared.fault.LinkWhy.TheVariants as why
 use Rattle.comp_graph.specs.Closed.{Closed, Extern, OfFunc, OfType, OfInstance, func_of}
-use Rattle.comp_linking.specs.Definitions.{CoreItem, Func, Table, Memory, Global, core_named, Lifted, Definition, AFunc, AType, AnInstance, Exports, export_names, export_named, lacks, seen_as, types_of}
+use Rattle.comp_linking.specs.Definitions.{CoreRef, CoreItem, Func, Table, Memory, Global, core_named, Lifted, Definition, AFunc, AnInstance, Exports, export_names, export_named, lacks, seen_as, types_of}
 use Rattle.comp_graph.specs.Graph.{is_flat}
+use Rattle.comp_linking.specs.Runs.{reaches, runs_type, runs_lift}
 use Rattle.comp_linking.specs.Types.{Meaning}
 use Rattle.comp_linking.specs.Spaces.{Spaces, Linking, size_of, definition_at, IsOfSort, with_core_item, with_definition, with_spaces, outer_at}
-use Rattle.comp_linking.specs.Items.{IsCoreOf, alias_has, alias_makes, type_has, lifts, lift_has, lift_makes, wanted, IsOfTypes, lacking, DoesNotFit, import_has, with_import, IsImported, import_makes, said, IsSaid, export_has, with_export, IsExported, export_makes}
+use Rattle.comp_linking.specs.Items.{IsCoreOf, alias_has, alias_makes, type_has, type_makes, lifts, lift_has, lift_makes, wanted, IsOfTypes, lacking, DoesNotFit, import_has, with_import, IsImported, import_makes, said, IsSaid, export_has, with_export, IsExported, export_makes}
 use Rattle.comp_linking.specs.Tests.{is_core_of, is_of_sort, fits, root_may_import}
 use Rattle.comp_linking.specs.Computed.{after, there_or, Outcome, Makes, core_aliased, alias_outcome, type_outcome, lifted_to, lifted_of, lift_outcome, root_given, as_asked, import_outcome, said_is_there, said_lacks, as_said, export_outcome}
 use Rattle.comp_linking.proofs.Lists.{match_at, match_some, then_some}
 use Rattle.comp_linking.proofs.Excluding.{both_of, true_false}
 use Rattle.comp_linking.proofs.Telling.{less, not_less, fails, core_of_told, sort_told, fits_told, root_refused, root_taken, root_types}
-use Rattle.comp_linking.proofs.Sounding.{Clear, First, Sound, clear_root, clear_index, clear_missing, clear_typing, sound_if, sound_there, sound_behind, sound_missing, sound_checked, sound_found, match_in, match_none}
+use Rattle.comp_linking.proofs.Sounding.{Clear, First, Sound, clear_root, clear_index, clear_missing, clear_typing, clear_canon, sound_if, sound_there, sound_behind, sound_missing, sound_checked, sound_found, match_in, match_none}
 use Rattle.comp_linking.proofs.CoreOutcomes.{MakesBy}
 
 -- Aliases.
@@ -71,22 +74,22 @@ alias_sound l n s sort (target.Outer up index) =
 
 -- Types.
 
-abbrev TypeMakes : Linking → ℕ → Spaces → Meaning Closed → Linking → Type 0
-TypeMakes l n s meaning new = (closed : Closed) × (meaning.means ≡ Some closed) × (new ≡ with_spaces l n (with_definition s (AType closed)))
-
-pub type_sound : (l : Linking) (n : ℕ) (s : Spaces) (meaning : Meaning Closed) → Sound (type_has meaning) (MakesBy (TypeMakes l n s meaning)) (type_outcome l n s meaning)
-type_sound l n s meaning =
-    let P = type_has meaning in
-    let Q = MakesBy (TypeMakes l n s meaning) in
+pub type_sound : (l : Linking) (n : ℕ) (s : Spaces) (type : DefType) (meaning : Meaning Closed) → Sound (type_has l.reach type meaning) (MakesBy (type_makes l n s type meaning)) (type_outcome l n s type meaning)
+type_sound l n s type meaning =
+    let P = type_has l.reach type meaning in
+    let Q = MakesBy (type_makes l n s type meaning) in
     let root = clear_root P (λ h. h) in
     sound_if P Q meaning.is_there why.Index _ root (λ absent. absent) (λ there.
     (let index = clear_index P root (λ h. true_false meaning.is_there there h) in
     sound_missing P Q meaning.missing _ index (λ name is. is) (λ none.
-    sound_there P Q meaning.means why.Typing _ (clear_missing P index (λ name h. both_of meaning.missing name h none)) (λ none. none) (λ closed is. (closed, is, refl)))))
+    (let missing = clear_missing P index (λ name h. both_of meaning.missing name h none) in
+    sound_there P Q meaning.means why.Typing _ missing (λ none. none) (λ closed is.
+    (let canon = clear_canon P (clear_typing P missing (λ none. both_of meaning.means closed is none)) (λ h. h) in
+    sound_if P Q (reaches l.reach (runs_type type)) why.Limit _ canon (λ past. past) (λ within. (closed, is, within, refl))))))))
 
 -- Lifts.
 
-not_lifted : (l : Linking) (n : ℕ) (s : Spaces) (f t : ℕ) (type : FuncType) (item : CoreItem) → slice_get s.core_funcs f ≡ Some item → option_and_then func_of (slice_get s.types t) ≡ Some type → Clear (lift_has s f t) 4 → lifts type item ≡ false → First (lift_has s f t) why.Canon
+not_lifted : (l : Linking) (n : ℕ) (s : Spaces) (f t : ℕ) (type : FuncType) (item : CoreItem) → slice_get s.core_funcs f ≡ Some item → option_and_then func_of (slice_get s.types t) ≡ Some type → Clear (lift_has l.reach s f t) 4 → lifts type item ≡ false → First (lift_has l.reach s f t) why.Canon
 not_lifted l n s f t type item there is clear h = record {
   has =
       match_in (λ type. MatchOption (slice_get s.core_funcs f) ⊥ (λ item. lifts type item ≡ false)) (option_and_then func_of (slice_get s.types t)) type is
@@ -94,25 +97,35 @@ not_lifted l n s f t type item there is clear h = record {
   clear = clear;
 }
 
+-- a core function of the flat type has no reason of canonical functions
+flat_lifts : (l : Linking) (s : Spaces) (f t : ℕ) (type : FuncType) (ref : CoreRef) (of_core : core.FuncType) → slice_get s.core_funcs f ≡ Some (Func ref of_core) → option_and_then func_of (slice_get s.types t) ≡ Some type → is_flat type of_core ≡ true → lift_has l.reach s f t why.Canon → ⊥
+flat_lifts l s f t type ref of_core there is flat h =
+    let k = match_at (λ type. MatchOption (slice_get s.core_funcs f) ⊥ (λ item. lifts type item ≡ false)) (option_and_then func_of (slice_get s.types t)) type is h in
+    true_false (lifts type (Func ref of_core)) flat (match_at (λ item. lifts type item ≡ false) (slice_get s.core_funcs f) (Func ref of_core) there k)
+
 -- what the lift of these indices makes is this function
 abbrev LiftMakes : Linking → ℕ → Spaces → ℕ → ℕ → Lifted → Type 0
 LiftMakes l n s f t lifted = lift_makes l n s f t (with_spaces l n (with_definition s (AFunc lifted)))
 
-lifted_sound : (l : Linking) (n : ℕ) (s : Spaces) (f t : ℕ) (type : FuncType) (item : CoreItem) → slice_get s.core_funcs f ≡ Some item → option_and_then func_of (slice_get s.types t) ≡ Some type → Clear (lift_has s f t) 4
-    → Sound (lift_has s f t) (LiftMakes l n s f t) (lifted_to n type item)
+lifted_sound : (l : Linking) (n : ℕ) (s : Spaces) (f t : ℕ) (type : FuncType) (item : CoreItem) → slice_get s.core_funcs f ≡ Some item → option_and_then func_of (slice_get s.types t) ≡ Some type → Clear (lift_has l.reach s f t) 4
+    → Sound (lift_has l.reach s f t) (LiftMakes l n s f t) (lifted_to l.reach n type item)
 lifted_sound l n s f t type (Func ref of_core) there is clear =
-    sound_if (lift_has s f t) (LiftMakes l n s f t) (is_flat type of_core) why.Canon _ clear (λ other. (not_lifted l n s f t type (Func ref of_core) there is clear other).has)
-    (λ flat. (ref, of_core, type, there, is, flat, refl))
+    let P = lift_has l.reach s f t in
+    let Q = LiftMakes l n s f t in
+    sound_if P Q (is_flat type of_core) why.Canon _ clear (λ other. (not_lifted l n s f t type (Func ref of_core) there is clear other).has)
+    (λ flat. (let canon = clear_canon P clear (λ h. flat_lifts l s f t type ref of_core there is flat h) in
+    sound_if P Q (reaches l.reach (runs_lift type)) why.Limit _ canon (λ past. match_in (λ type. reaches l.reach (runs_lift type) ≡ false) (option_and_then func_of (slice_get s.types t)) type is past)
+    (λ within. (ref, of_core, type, there, is, flat, within, refl))))
 lifted_sound l n s f t type (Table ref limits) there is clear = not_lifted l n s f t type (Table ref limits) there is clear refl
 lifted_sound l n s f t type (Memory ref limits) there is clear = not_lifted l n s f t type (Memory ref limits) there is clear refl
 lifted_sound l n s f t type (Global ref of_core) there is clear = not_lifted l n s f t type (Global ref of_core) there is clear refl
 
-pub lift_sound : (l : Linking) (n : ℕ) (s : Spaces) (f t : ℕ) → Sound (lift_has s f t) (MakesBy (lift_makes l n s f t)) (lift_outcome l n s f t)
+pub lift_sound : (l : Linking) (n : ℕ) (s : Spaces) (f t : ℕ) → Sound (lift_has l.reach s f t) (MakesBy (lift_makes l n s f t)) (lift_outcome l n s f t)
 lift_sound l n s f t =
-    let P = lift_has s f t in
+    let P = lift_has l.reach s f t in
     let Q = LiftMakes l n s f t in
     let root = clear_root P (λ h. h) in
-    sound_behind P (MakesBy (lift_makes l n s f t)) (lifted_of n s f t) _ (
+    sound_behind P (MakesBy (lift_makes l n s f t)) (lifted_of l.reach n s f t) _ (
     sound_there P Q (slice_get s.core_funcs f) why.Index _ root (λ none. inl none) (λ item there.
     sound_there P Q (slice_get s.types t) why.Index _ root (λ none. inr none) (λ type is.
     (let index = clear_index P root (λ h. elim h [

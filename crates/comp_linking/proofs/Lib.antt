@@ -28,3 +28,4 @@ pub mod SoundSpaces
 pub mod Sounding
 pub mod Soundness
 pub mod Telling
+pub mod Widening

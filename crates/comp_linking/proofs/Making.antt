@@ -81,7 +81,7 @@ alias_once l n s sort (target.Outer up index) a b (d, is, made) (d', is', made')
 -- Lifts.
 
 lift_once : (l : Linking) (n : ℕ) (s : Spaces) (f t : ℕ) (a b : Linking) → lift_makes l n s f t a → lift_makes l n s f t b → a ≡ b
-lift_once l n s f t a b (ref, of_core, type, is, of_type, flat, made) (ref', of_core', type', is', of_type', flat', made') =
+lift_once l n s f t a b (ref, of_core, type, is, of_type, flat, within, made) (ref', of_core', type', is', of_type', flat', within', made') =
     let refs : ref ≡ ref' = cc in
     let types : type ≡ type' = cc in
     made ∙ (ap₂ (λ (ref : CoreRef) (type : FuncType). with_spaces l n (with_definition s (AFunc (record { instance = n; core = ref; func_type = type })))) refs types ∙ sym made')
@@ -120,7 +120,7 @@ case_once l n s (Item-F.CoreInstance c) a b h k = core_instance_once l n s c a b
 case_once l n s (Item-F.Component c) a b h k = h ∙ sym k
 case_once l n s (Item-F.Instance i) a b h k = instance_once l n s i a b h k
 case_once l n s (Item-F.Alias alias) a b h k = alias_once l n s alias.sort alias.target a b h k
-case_once l n s (Item-F.Type type) a b (closed, is, made) (closed', is', made') =
+case_once l n s (Item-F.Type type) a b (closed, is, within, made) (closed', is', within', made') =
     both_made (λ closed. with_spaces l n (with_definition s (AType closed))) closed closed' a b (one_value _ closed closed' is is') made made'
 case_once l n s (Item-F.Canon (Lift f t)) a b h k = lift_once l n s f t a b h k
 case_once l n s (Item-F.Import i) a b h k = import_once l n s i.name i.desc a b h k

@@ -9,6 +9,8 @@ use Rattle.comp_graph.specs.declared.graph.Lift.{Lift}
 use Rattle.comp_graph.specs.Graph.{Graph, LiftsCore, IsCallable, AreImported}
 use Rattle.comp_tree.specs.declared.items.Item.{Item, out-Item}
 use Rattle.comp_tree.specs.declared.items.Component.{Component}
+use Rattle.comp_linking.specs.declared.reach.Reach.{Reach}
+use Rattle.comp_linking.specs.declared.reach.Reach.TheVariants.{Runs}
 use Rattle.comp_linking.specs.Definitions.{Closure, AFunc, AnInstance, Exports, EmptyInstance, WithExport}
 use Rattle.comp_linking.specs.Spaces.{CoreMake, Spaces, Linking, new_spaces, with_definition}
 use Rattle.comp_linking.specs.Linked.{Begins, begun, exports_or, exports_at, with_instance, Links, no_items, item_links, instance_links, root_begun, Callable, funcs_behind, callables, export_of, lift_of, IsLinked}
@@ -95,11 +97,11 @@ module _ (R : ModuleTree → Type 0) where
       let ended = instance_reached m inner k s (length m.scopes) inner_reached.more inner_reached.longer inner_reached.sound spaces in
       through m (with_instance inner k s (length m.scopes)) end ended (links_reached (with_instance inner k s (length m.scopes)) k others end (λ x y. has x (stands_behind placed others y)) ended.sound behind)
 
-  root_sound : IsLinkingSound R root_begun
-  root_sound = record { scopes = (sound_new R [] None [] tt, tt); imported = tt; modules_have = tt }
+  root_sound : (reach : Reach) → IsLinkingSound R (root_begun reach)
+  root_sound reach = record { scopes = (sound_new R [] None [] tt, tt); imported = tt; modules_have = tt }
 
-  pub linked_sound : (c : Component) (l : Linking) → ModulesHave R c.items → Links root_begun 0 c.items l → IsLinkingSound R l
-  linked_sound c l has links = (links_reached root_begun 0 c.items l has root_sound links).sound
+  pub linked_sound : (reach : Reach) (c : Component) (l : Linking) → ModulesHave R c.items → Links (root_begun reach) 0 c.items l → IsLinkingSound R l
+  linked_sound reach c l has links = (links_reached (root_begun reach) 0 c.items l has (root_sound reach) links).sound
 
   -- The functions of a graph.
   pub root_callables : (l : Linking) → IsLinkingSound R l → AllByRecursion (λ (c : Callable). IsFuncSound l.cores c.func) (callables (exports_at l 0))
@@ -109,24 +111,24 @@ module _ (R : ModuleTree → Type 0) where
 abbrev pub AnyModule : ModuleTree → Type 0
 AnyModule m = Unit {0}
 
-pub any_sound : (c : Component) (l : Linking) → Links root_begun 0 c.items l → IsLinkingSound AnyModule l
-any_sound c l links = linked_sound AnyModule c l (λ m k. tt) links
+pub any_sound : (reach : Reach) (c : Component) (l : Linking) → Links (root_begun reach) 0 c.items l → IsLinkingSound AnyModule l
+any_sound reach c l links = linked_sound AnyModule reach c l (λ m k. tt) links
 
 pub graphs_are_imported : GraphsAreImported
-graphs_are_imported c g (l, links, is) = subst (λ (g : Graph). AreImported [] g.cores) (sym is) (any_sound c l links).imported
+graphs_are_imported reach c g (l, links, is) = subst (λ (g : Graph). AreImported [] g.cores) (sym is) (any_sound reach c l links).imported
 
 pub graphs_are_callable : GraphsAreCallable
-graphs_are_callable c g (l, links, is) = subst IsCallable (sym is) (all_callable l.cores (callables (exports_at l 0)) (root_callables AnyModule l (any_sound c l links)))
+graphs_are_callable c g (l, links, is) = subst IsCallable (sym is) (all_callable l.cores (callables (exports_at l 0)) (root_callables AnyModule l (any_sound Runs c l links)))
 
 pub labels_are_distinct : LabelsAreDistinct
-labels_are_distinct c g (l, links, is) =
+labels_are_distinct reach c g (l, links, is) =
     subst (λ (g : Graph). AllByRecursion (λ (e : Export). HasDistinctLabels e.func_type) g.exports) (sym is)
     (all_mapped export_of (λ (e : Export). HasDistinctLabels e.func_type) (callables (exports_at l 0))
-    (all_weaker (λ (c : Callable). IsFuncSound l.cores c.func) (λ (c : Callable). HasDistinctLabels c.func.func_type) (λ c k. k.1) (callables (exports_at l 0)) (root_callables AnyModule l (any_sound c l links))))
+    (all_weaker (λ (c : Callable). IsFuncSound l.cores c.func) (λ (c : Callable). HasDistinctLabels c.func.func_type) (λ c k. k.1) (callables (exports_at l 0)) (root_callables AnyModule l (any_sound reach c l links))))
 
 -- Each core instance is of a module that has what all have that stand in the component.
-pub modules_have : (R : ModuleTree → Type 0) (c : Component) (g : Graph) → IsLinked c g → ModulesHave R c.items → AllByRecursion (λ (core : CoreMake). R core.of_module) g.cores
-modules_have R c g (l, links, is) has = subst (λ (g : Graph). AllByRecursion (λ (core : CoreMake). R core.of_module) g.cores) (sym is) (linked_sound R c l has links).modules_have
+pub modules_have : (R : ModuleTree → Type 0) (reach : Reach) (c : Component) (g : Graph) → IsLinked reach c g → ModulesHave R c.items → AllByRecursion (λ (core : CoreMake). R core.of_module) g.cores
+modules_have R reach c g (l, links, is) has = subst (λ (g : Graph). AllByRecursion (λ (core : CoreMake). R core.of_module) g.cores) (sym is) (linked_sound R reach c l has links).modules_have
 
 pub modules_stand : ModulesStand
-modules_stand c g linked = modules_have (λ m. StandsIn m c.items) c g linked (λ m k. k)
+modules_stand reach c g linked = modules_have (λ m. StandsIn m c.items) reach c g linked (λ m k. k)

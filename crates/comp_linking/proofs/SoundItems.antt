@@ -170,7 +170,7 @@ module _ (R : ModuleTree → Type 0) where
       (if_weaker (AreSpacesSound R l.cores) (λ s. IsLevelApart (level_of s)) (level_apart l.cores) (slice_get l.scopes n) (all_at (AreSpacesSound R l.cores) l.scopes n h.scopes)))) numbers
 
   lift_reached : (l : Linking) (n : ℕ) (s : Spaces) (f t : ℕ) (new : Linking) → IsLinkingSound R l → AreSpacesSound R l.cores s → lift_makes l n s f t new → IsReached R l new
-  lift_reached l n s f t new h k (ref, of_core, type, is, of_type, flat, made) =
+  lift_reached l n s f t new h k (ref, of_core, type, is, of_type, flat, within, made) =
       defined_reached l n s (AFunc (record { instance = n; core = ref; func_type = type })) new h k made (
         lifts_item l.cores type (record { instance = n; core = ref }) of_core (holds_at (IsItem l.cores) (slice_get s.core_funcs f) (Func ref of_core) (all_at (IsItem l.cores) s.core_funcs f k.core.funcs_there) is) flat,
         holds_at HasDistinctLabels (option_and_then func_of (slice_get s.types t)) type (if_found func_of IsApart HasDistinctLabels of_func_apart (slice_get s.types t) (all_at IsApart s.types t k.defined.types_apart)) of_type,
@@ -209,7 +209,7 @@ module _ (R : ModuleTree → Type 0) where
   case_reached l n s (Item-F.Component c) new has h k made = defined_reached l n s (AComponent (record { items = c.items; around = n ∷ s.around })) new h k made has
   case_reached l n s (Item-F.Instance i) new has h k makes = instance_reached l n s i new h k makes
   case_reached l n s (Item-F.Alias alias) new has h k makes = alias_reached l n s alias.sort alias.target new h k makes
-  case_reached l n s (Item-F.Type type) new has h k (closed, means, made) =
+  case_reached l n s (Item-F.Type type) new has h k (closed, means, within, made) =
       defined_reached l n s (AType closed) new h k made
       (holds_at IsApart (meaning_of type (levels_at l (n ∷ s.around))).means closed (meaning_apart type (levels_at l (n ∷ s.around)) (levels_apart l (n ∷ s.around) h)) means)
   case_reached l n s (Item-F.Canon (Lift f t)) new has h k makes = lift_reached l n s f t new h k makes

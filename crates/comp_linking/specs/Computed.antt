@@ -21,6 +21,7 @@ use Rattle.comp_tree.specs.declared.instances.AliasTarget.{AliasTarget}
 use Rattle.comp_tree.specs.declared.instances.AliasTarget.TheVariants as target
 use Rattle.comp_tree.specs.declared.externs.ExternDesc.{ExternDesc}
 use Rattle.comp_tree.specs.declared.externs.Export as read
+use Rattle.comp_tree.specs.declared.types.DefType.{DefType}
 use Rattle.comp_tree.specs.declared.items.Canon.TheVariants.{Lift}
 use Rattle.comp_tree.specs.declared.items.Item.{Item, out-Item}
 use Rattle.comp_tree.specs.declared.items.Item.TheOpen.{Item-F}
@@ -31,6 +32,8 @@ use Rattle.comp_linking.specs.declared.fault.LinkFault.{LinkFault}
 use Rattle.comp_graph.specs.Closed.{Closed, Extern, OfInstance, func_of}
 use Rattle.comp_linking.specs.Definitions.{CoreItem, Func, CoreExport, core_named, Lifted, Closure, Definition, AFunc, AType, AComponent, AnInstance, AModule, Exports, EmptyInstance, WithExport, export_names, export_named, lacks, seen_as, types_of}
 use Rattle.comp_graph.specs.Graph.{is_flat}
+use Rattle.comp_linking.specs.declared.reach.Reach.{Reach}
+use Rattle.comp_linking.specs.Runs.{reaches, runs_type, runs_lift}
 use Rattle.comp_linking.specs.Types.{Meaning, meaning_of}
 use Rattle.comp_linking.specs.Spaces.{Spaces, Linking, core_size, size_of, core_item_at, definition_at, with_core_item, with_core_instance, with_definition, with_spaces, levels_at, outer_at}
 use Rattle.comp_linking.specs.Items.{instance_limit, argument_named, core_made, wanted, lacking, with_import, said, with_export}
@@ -147,29 +150,34 @@ alias_outcome l n s sort (target.Outer up index) =
 
 -- Types.
 
-abbrev pub type_outcome : Linking → ℕ → Spaces → Meaning Closed → Result Outcome LinkWhy
-type_outcome l n s meaning =
+abbrev pub type_outcome : Linking → ℕ → Spaces → DefType → Meaning Closed → Result Outcome LinkWhy
+type_outcome l n s type meaning =
     only_if meaning.is_there why.Index (
     none_missing meaning.missing (
-    after (there_or why.Typing meaning.means) (λ closed. Ok (one_more l n s (AType closed)))))
+    after (there_or why.Typing meaning.means) (λ closed.
+    only_if (reaches l.reach (runs_type type)) why.Limit (
+    Ok (one_more l n s (AType closed))))))
 
 -- Lifts.
 
 -- the lift of a core item to a function of a type, in the component instance of this number
-abbrev pub lifted_to : ℕ → FuncType → CoreItem → Result Lifted LinkWhy
-lifted_to n type (Func ref of_core) = only_if (is_flat type of_core) why.Canon (Ok (record { instance = n; core = ref; func_type = type }))
-lifted_to n type item = Err why.Canon
+abbrev pub lifted_to : Reach → ℕ → FuncType → CoreItem → Result Lifted LinkWhy
+lifted_to reach n type (Func ref of_core) =
+    only_if (is_flat type of_core) why.Canon (
+    only_if (reaches reach (runs_lift type)) why.Limit (
+    Ok (record { instance = n; core = ref; func_type = type })))
+lifted_to reach n type item = Err why.Canon
 
 -- the lift of the core function of an index to a function of the type of an index
-abbrev pub lifted_of : ℕ → Spaces → ℕ → ℕ → Result Lifted LinkWhy
-lifted_of n s f t =
+abbrev pub lifted_of : Reach → ℕ → Spaces → ℕ → ℕ → Result Lifted LinkWhy
+lifted_of reach n s f t =
     after (there_or why.Index (slice_get s.core_funcs f)) (λ item.
     after (there_or why.Index (slice_get s.types t)) (λ type.
     after (there_or why.Typing (func_of type)) (λ of_func.
-    lifted_to n of_func item)))
+    lifted_to reach n of_func item)))
 
 abbrev pub lift_outcome : Linking → ℕ → Spaces → ℕ → ℕ → Result Outcome LinkWhy
-lift_outcome l n s f t = after (lifted_of n s f t) (λ lifted. Ok (one_more l n s (AFunc lifted)))
+lift_outcome l n s f t = after (lifted_of l.reach n s f t) (λ lifted. Ok (one_more l n s (AFunc lifted)))
 
 -- Imports.
 
@@ -229,7 +237,7 @@ outcome_case l n s (Item-F.CoreInstance c) = core_instance_outcome l n s c
 outcome_case l n s (Item-F.Component c) = Ok (one_more l n s (AComponent (record { items = c.items; around = n ∷ s.around })))
 outcome_case l n s (Item-F.Instance i) = instance_outcome l n s i
 outcome_case l n s (Item-F.Alias alias) = alias_outcome l n s alias.sort alias.target
-outcome_case l n s (Item-F.Type type) = type_outcome l n s (meaning_of type (levels_at l (n ∷ s.around)))
+outcome_case l n s (Item-F.Type type) = type_outcome l n s type (meaning_of type (levels_at l (n ∷ s.around)))
 outcome_case l n s (Item-F.Canon (Lift f t)) = lift_outcome l n s f t
 outcome_case l n s (Item-F.Import i) = import_outcome l n s i.name (wanted s i.desc) i.desc s.arguments
 outcome_case l n s (Item-F.Export e) = export_outcome l n s e
@@ -267,10 +275,10 @@ abbrev pub run_within : ℕ → Run
 run_within zero = run (λ l n items. Ok l)
 run_within (suc budget) = run (run_within budget)
 
--- What a component is linked to, or its fault.
+-- What a component is linked to, or its fault, where linking goes so far.
 abbrev pub answer_of : Result Linking LinkFault → Result Graph LinkFault
 answer_of (Ok l) = Ok (graph_of l)
 answer_of (Err fault) = Err fault
 
-abbrev pub linked : Component → Result Graph LinkFault
-linked c = answer_of (run_within instance_limit root_begun 0 c.items)
+abbrev pub linked : Reach → Component → Result Graph LinkFault
+linked reach c = answer_of (run_within instance_limit (root_begun reach) 0 c.items)

@@ -26,6 +26,7 @@ use Rattle.comp_tree.specs.declared.instances.AliasTarget.TheVariants as target
 use Rattle.comp_tree.specs.declared.externs.ExternDesc.{ExternDesc}
 use Rattle.comp_tree.specs.declared.externs.ExternDesc.TheVariants as desc
 use Rattle.comp_tree.specs.declared.externs.Export as read
+use Rattle.comp_tree.specs.declared.types.DefType.{DefType}
 use Rattle.comp_tree.specs.declared.items.Canon.TheVariants.{Lift}
 use Rattle.comp_tree.specs.declared.items.Item.{Item, out-Item}
 use Rattle.comp_tree.specs.declared.items.Item.TheOpen.{Item-F}
@@ -36,6 +37,8 @@ use Rattle.comp_graph.specs.Closed.{Closed, first_of, Extern, OfInstance, func_o
 use Rattle.comp_linking.specs.Definitions.{CoreRef, CoreItem, Func, extern_of, CoreExport, core_named, exports_of, CoreFits, Definition, AFunc, AType, AComponent, AnInstance, AModule, Exports, EmptyInstance, WithExport, export_names, export_named, Fits, lacks, seen_as, types_of}
 use Rattle.comp_graph.specs.Graph.{is_flat}
 pub use Rattle.comp_graph.specs.Graph.{instance_limit}
+use Rattle.comp_linking.specs.declared.reach.Reach.{Reach}
+use Rattle.comp_linking.specs.Runs.{reaches, runs_type, runs_lift}
 use Rattle.comp_linking.specs.Types.{Meaning, meaning_of, desc_meaning}
 use Rattle.comp_linking.specs.Spaces.{Spaces, Make, Linking, core_size, size_of, core_item_at, definition_at, IsOfCoreSort, IsOfSort, with_core_item, with_core_instance, with_definition, with_spaces, levels_at, outer_at}
 
@@ -110,6 +113,7 @@ core_made l n s m imports = record {
   scopes = set l.scopes n (with_core_instance s (exports_of m (length l.cores)));
   cores = l.cores ++ record { of_module = m; imports = map extern_of imports; owner = n } ∷ [];
   plan = l.plan ++ Make (length l.cores) ∷ [];
+  reach = l.reach;
 }
 
 abbrev pub core_instance_makes : Linking → ℕ → Spaces → CoreInstance → Linking → Type 0
@@ -184,31 +188,40 @@ alias_makes l n s sort (target.CoreInstanceExport instance name) new =
 alias_makes l n s sort (target.Outer up index) new =
     (d : Definition) × (outer_at l (n ∷ s.around) sort up index ≡ Some d) × (new ≡ with_spaces l n (with_definition s d))
 
--- Types: what keeps a type from a meaning.
-abbrev pub type_has : Meaning Closed → LinkWhy → Type 0
-type_has meaning why.Index = meaning.is_there ≡ false
-type_has meaning (why.Missing name) = meaning.missing ≡ Some name
-type_has meaning why.Typing = meaning.means ≡ None
-type_has meaning why = ⊥
+-- Types: what keeps a type from a meaning, or that it is past the reach.
+abbrev pub type_has : Reach → DefType → Meaning Closed → LinkWhy → Type 0
+type_has reach type meaning why.Index = meaning.is_there ≡ false
+type_has reach type meaning (why.Missing name) = meaning.missing ≡ Some name
+type_has reach type meaning why.Typing = meaning.means ≡ None
+type_has reach type meaning why.Limit = reaches reach (runs_type type) ≡ false
+type_has reach type meaning why = ⊥
 
--- Lifts: an index that is not there, a type that is none of functions, or a core item that is no function of the flat type.
+abbrev pub type_makes : Linking → ℕ → Spaces → DefType → Meaning Closed → Linking → Type 0
+type_makes l n s type meaning new =
+    (closed : Closed) × (meaning.means ≡ Some closed) × (reaches l.reach (runs_type type) ≡ true)
+    × (new ≡ with_spaces l n (with_definition s (AType closed)))
+
+-- Lifts: an index that is not there, a type that is none of functions, a core item that is no function of the flat type, or that
+-- the lift is past the reach.
 abbrev pub lifts : FuncType → CoreItem → Bool
 lifts type (Func f of_core) = is_flat type of_core
 lifts type item = false
 
-abbrev pub lift_has : Spaces → ℕ → ℕ → LinkWhy → Type 0
-lift_has s f t why.Index = (slice_get s.core_funcs f ≡ None) ⊎ (slice_get s.types t ≡ None)
-lift_has s f t why.Typing = MatchOption (slice_get s.types t) ⊥ (λ type. func_of type ≡ None)
-lift_has s f t why.Canon =
+abbrev pub lift_has : Reach → Spaces → ℕ → ℕ → LinkWhy → Type 0
+lift_has reach s f t why.Index = (slice_get s.core_funcs f ≡ None) ⊎ (slice_get s.types t ≡ None)
+lift_has reach s f t why.Typing = MatchOption (slice_get s.types t) ⊥ (λ type. func_of type ≡ None)
+lift_has reach s f t why.Canon =
     MatchOption (option_and_then func_of (slice_get s.types t)) ⊥
     (λ type. MatchOption (slice_get s.core_funcs f) ⊥ (λ item. lifts type item ≡ false))
-lift_has s f t why = ⊥
+lift_has reach s f t why.Limit =
+    MatchOption (option_and_then func_of (slice_get s.types t)) ⊥ (λ type. reaches reach (runs_lift type) ≡ false)
+lift_has reach s f t why = ⊥
 
 abbrev pub lift_makes : Linking → ℕ → Spaces → ℕ → ℕ → Linking → Type 0
 lift_makes l n s f t new =
     (ref : CoreRef) × (of_core : core.FuncType) × (type : FuncType)
     × (slice_get s.core_funcs f ≡ Some (Func ref of_core)) × (option_and_then func_of (slice_get s.types t) ≡ Some type)
-    × (is_flat type of_core ≡ true)
+    × (is_flat type of_core ≡ true) × (reaches l.reach (runs_lift type) ≡ true)
     × (new ≡ with_spaces l n (with_definition s (AFunc (record { instance = n; core = ref; func_type = type }))))
 
 -- Imports.
@@ -307,8 +320,8 @@ has_case l n s (Item-F.CoreInstance c) why = core_instance_has l s c why
 has_case l n s (Item-F.Component c) why = ⊥
 has_case l n s (Item-F.Instance i) why = instance_has l s i why
 has_case l n s (Item-F.Alias alias) why = alias_has l n s alias.sort alias.target why
-has_case l n s (Item-F.Type type) why = type_has (meaning_of type (levels_at l (n ∷ s.around))) why
-has_case l n s (Item-F.Canon (Lift f t)) why = lift_has s f t why
+has_case l n s (Item-F.Type type) why = type_has l.reach type (meaning_of type (levels_at l (n ∷ s.around))) why
+has_case l n s (Item-F.Canon (Lift f t)) why = lift_has l.reach s f t why
 has_case l n s (Item-F.Import i) why = import_has s i.name i.desc why
 has_case l n s (Item-F.Export e) why = export_has s e why
 
@@ -322,8 +335,7 @@ makes_case l n s (Item-F.CoreInstance c) new = core_instance_makes l n s c new
 makes_case l n s (Item-F.Component c) new = new ≡ with_spaces l n (with_definition s (AComponent (record { items = c.items; around = n ∷ s.around })))
 makes_case l n s (Item-F.Instance i) new = instance_makes l n s i new
 makes_case l n s (Item-F.Alias alias) new = alias_makes l n s alias.sort alias.target new
-makes_case l n s (Item-F.Type type) new =
-    (closed : Closed) × ((meaning_of type (levels_at l (n ∷ s.around))).means ≡ Some closed) × (new ≡ with_spaces l n (with_definition s (AType closed)))
+makes_case l n s (Item-F.Type type) new = type_makes l n s type (meaning_of type (levels_at l (n ∷ s.around))) new
 makes_case l n s (Item-F.Canon (Lift f t)) new = lift_makes l n s f t new
 makes_case l n s (Item-F.Import i) new = import_makes l n s i.name i.desc new
 makes_case l n s (Item-F.Export e) new = export_makes l n s e new

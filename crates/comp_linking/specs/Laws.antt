@@ -18,6 +18,8 @@ use Rattle.comp_linking.specs.Spaces.{Spaces, Linking}
 use Rattle.comp_linking.specs.Items.{instance_limit, item_has, item_makes}
 use Rattle.comp_linking.specs.Linked.{IsFirst, Begins, exports_at, Links, IsRefusedAt, root_begun, graph_of, IsLinked, IsLinkRefused}
 use Rattle.comp_linking.specs.Distinct.{HasDistinctLabels, HasNoHash}
+use Rattle.comp_linking.specs.declared.reach.Reach.{Reach}
+use Rattle.comp_linking.specs.declared.reach.Reach.TheVariants.{Runs, Whole}
 use Rattle.comp_linking.specs.Standing.{StandsIn}
 use Rattle.comp_linking.specs.Same.{same_func, same_closed}
 use Rattle.comp_linking.specs.Tests.{fits}
@@ -70,13 +72,18 @@ OneFault = (l : Linking) (n : ℕ) (items : List (Placed Item)) (a b : LinkFault
 
 -- A component has one graph, or one fault, and not both.
 abbrev pub OneGraph : Type 0
-OneGraph = (c : Component) (g h : Graph) → IsLinked c g → IsLinked c h → g ≡ h
+OneGraph = (reach : Reach) (c : Component) (g h : Graph) → IsLinked reach c g → IsLinked reach c h → g ≡ h
 
 abbrev pub LinkedIsNotRefused : Type 0
-LinkedIsNotRefused = (c : Component) (g : Graph) (fault : LinkFault) → IsLinked c g → IsLinkRefused c fault → ⊥
+LinkedIsNotRefused =
+    (reach : Reach) (c : Component) (g : Graph) (fault : LinkFault) → IsLinked reach c g → IsLinkRefused reach c fault → ⊥
 
 abbrev pub OneRefusal : Type 0
-OneRefusal = (c : Component) (a b : LinkFault) → IsLinkRefused c a → IsLinkRefused c b → a ≡ b
+OneRefusal = (reach : Reach) (c : Component) (a b : LinkFault) → IsLinkRefused reach c a → IsLinkRefused reach c b → a ≡ b
+
+-- What is linked where linking leads to a run is linked to the same graph over all that is read.
+abbrev pub RunsAreLinked : Type 0
+RunsAreLinked = (c : Component) (g : Graph) → IsLinked Runs c g → IsLinked Whole c g
 
 -- there are at most as many component instances as there may be, and as many core instances
 abbrev pub IsFew : Linking → Type 0
@@ -87,33 +94,38 @@ FewInstances = (l : Linking) (n : ℕ) (items : List (Placed Item)) (last : Link
 
 -- the graph of a component
 abbrev pub GraphsAreFew : Type 0
-GraphsAreFew = (c : Component) (g : Graph) → IsLinked c g → (g.instance_count ≤ instance_limit) × (length g.cores ≤ instance_limit)
+GraphsAreFew =
+    (reach : Reach) (c : Component) (g : Graph) → IsLinked reach c g → (g.instance_count ≤ instance_limit) × (length g.cores ≤ instance_limit)
 
 -- The core instances of a graph have the imports that their modules ask for, of core instances before them.
 abbrev pub GraphsAreImported : Type 0
-GraphsAreImported = (c : Component) (g : Graph) → IsLinked c g → AreImported [] g.cores
+GraphsAreImported = (reach : Reach) (c : Component) (g : Graph) → IsLinked reach c g → AreImported [] g.cores
 
--- The exports of a graph can be called: the core function of each lift is there, and of the flat type.
+-- The exports of a graph that is linked to be run can be called: the core function of each lift is there, and of the flat type.
 abbrev pub GraphsAreCallable : Type 0
-GraphsAreCallable = (c : Component) (g : Graph) → IsLinked c g → IsCallable g
+GraphsAreCallable = (c : Component) (g : Graph) → IsLinked Runs c g → IsCallable g
 
 -- No two parameters of an export have one label.
 abbrev pub LabelsAreDistinct : Type 0
-LabelsAreDistinct = (c : Component) (g : Graph) → IsLinked c g → AllByRecursion (λ (e : Export). HasDistinctLabels e.func_type) g.exports
+LabelsAreDistinct =
+    (reach : Reach) (c : Component) (g : Graph) → IsLinked reach c g → AllByRecursion (λ (e : Export). HasDistinctLabels e.func_type) g.exports
 
 -- The names of the root's exports are distinct. The functions that can be called are those among them, and those of instances
 -- among them under `name#function`: where no name of the root has a `#`, no two of them have one name. Else they may: the root
 -- may export a function `a#b`, and an instance `a` with a function `b`.
 abbrev pub RootNamesAreDistinct : Type 0
-RootNamesAreDistinct = (c : Component) (l : Linking) → Links root_begun 0 c.items l → AreDistinct (export_names (exports_at l 0))
+RootNamesAreDistinct =
+    (reach : Reach) (c : Component) (l : Linking) → Links (root_begun reach) 0 c.items l → AreDistinct (export_names (exports_at l 0))
 
 abbrev pub NamesAreDistinct : Type 0
 NamesAreDistinct =
-    (c : Component) (l : Linking) → Links root_begun 0 c.items l → AllByRecursion HasNoHash (export_names (exports_at l 0)) → AreDistinct (names (graph_of l).exports)
+    (reach : Reach) (c : Component) (l : Linking) → Links (root_begun reach) 0 c.items l → AllByRecursion HasNoHash (export_names (exports_at l 0))
+    → AreDistinct (names (graph_of l).exports)
 
 -- Each core instance is of a module that stands in the component. So it has what all modules of the component have.
 abbrev pub ModulesStand : Type 0
-ModulesStand = (c : Component) (g : Graph) → IsLinked c g → AllByRecursion (λ (core : CoreMake). StandsIn core.of_module c.items) g.cores
+ModulesStand =
+    (reach : Reach) (c : Component) (g : Graph) → IsLinked reach c g → AllByRecursion (λ (core : CoreMake). StandsIn core.of_module c.items) g.cores
 
 -- What is computed of an item is what it makes or begins, or its first reason.
 abbrev pub IsOutcome : Linking → ℕ → Spaces → Item → Outcome → Type 0
@@ -130,13 +142,14 @@ ReasonComputed =
 
 -- What is computed of a component is its graph, or its fault. So each component has exactly one graph or exactly one fault.
 abbrev pub GraphComputed : Type 0
-GraphComputed = (c : Component) (g : Graph) → (linked c ≡ Ok g) ↔ IsLinked c g
+GraphComputed = (reach : Reach) (c : Component) (g : Graph) → (linked reach c ≡ Ok g) ↔ IsLinked reach c g
 
 abbrev pub FaultComputed : Type 0
-FaultComputed = (c : Component) (fault : LinkFault) → (linked c ≡ Err fault) ↔ IsLinkRefused c fault
+FaultComputed = (reach : Reach) (c : Component) (fault : LinkFault) → (linked reach c ≡ Err fault) ↔ IsLinkRefused reach c fault
 
 abbrev pub LinkedOrRefused : Type 0
-LinkedOrRefused = (c : Component) → ((g : Graph) × IsLinked c g) ⊎ ((fault : LinkFault) × IsLinkRefused c fault)
+LinkedOrRefused =
+    (reach : Reach) (c : Component) → ((g : Graph) × IsLinked reach c g) ⊎ ((fault : LinkFault) × IsLinkRefused reach c fault)
 
 -- The tests say whether types are the same, and whether a definition is what is asked for.
 abbrev pub FuncsCompared : Type 0

@@ -5,6 +5,7 @@ pub mod Examples
 pub mod Items
 pub mod Laws
 pub mod Linked
+pub mod Runs
 pub mod Same
 pub mod Spaces
 pub mod Standing

@@ -1,48 +1,50 @@
-//! Examples of the definitions, worked out by hand.
+//! Examples of the definitions, worked out by hand. They come to the same however far linking goes, since all types in them are
+//! u32.
 
 ghost use Rattle.std.specs.Prelude.{◌≡◌, [], ◌∷◌, Ok, codes};
 ghost use Rattle.comp_tree.specs.declared.instances.Sort.TheVariants as sorts;
 ghost use Rattle.comp_tree.specs.declared.externs.ExternDesc.TheVariants as desc;
 ghost use Rattle.comp_tree.specs.declared.items.Item.TheVariants as plain;
 ghost use Rattle.comp_linking.specs.declared.fault.LinkWhy.TheVariants as why;
+ghost use Rattle.comp_linking.specs.declared.reach.Reach.{Reach};
 ghost use Rattle.comp_linking.specs.Computed.{linked};
 ghost use Rattle.comp_linking.specs.Examples.{root, fault, u32, import, outer, export_type, instantiate, wanting, giving_both, nesting, begins, of_one, make, make_with_absent, lifting, lifting_twice, callable_as};
 
 /// Faults of one item: an import of the root that is a function, also where its index is not there; an outer alias that goes
 /// past the root; and an export of a name that was exported.
 pub fn faults()
-    ensures root_import { linked (root (import (desc.Func 0) ∷ [])) ≡ fault 0 why.RootImport }
-    ensures too_far { linked (root (outer sorts.Type 1 0 ∷ [])) ≡ fault 0 why.Index }
-    ensures twice { linked (root (plain.Type u32 ∷ export_type (codes "a") ∷ export_type (codes "a") ∷ [])) ≡ fault 2 why.Typing }
+    ensures root_import { (reach : Reach) → linked reach (root (import (desc.Func 0) ∷ [])) ≡ fault 0 why.RootImport }
+    ensures too_far { (reach : Reach) → linked reach (root (outer sorts.Type 1 0 ∷ [])) ≡ fault 0 why.Index }
+    ensures twice { (reach : Reach) → linked reach (root (plain.Type u32 ∷ export_type (codes "a") ∷ export_type (codes "a") ∷ [])) ≡ fault 2 why.Typing }
 {}
 
 /// A component that is never instantiated is linked, although it imports what nothing gives. Where it is instantiated, its
 /// import is refused, at the import's place.
 pub fn imports()
-    ensures never_instantiated { linked (root (wanting ∷ [])) ≡ begins (0 ∷ []) }
-    ensures instantiated { linked (root (wanting ∷ instantiate ∷ [])) ≡ fault 11 (why.Missing (codes "in")) }
+    ensures never_instantiated { (reach : Reach) → linked reach (root (wanting ∷ [])) ≡ begins (0 ∷ []) }
+    ensures instantiated { (reach : Reach) → linked reach (root (wanting ∷ instantiate ∷ [])) ≡ fault 11 (why.Missing (codes "in")) }
 {}
 
 /// An instance that exports more than an import asks for is seen with what is asked for alone.
 pub fn seen()
-    ensures asked { linked (giving_both (codes "a")) ≡ begins (0 ∷ 1 ∷ []) }
-    ensures not_asked { linked (giving_both (codes "b")) ≡ fault 12 (why.Missing (codes "b")) }
+    ensures asked { (reach : Reach) → linked reach (giving_both (codes "a")) ≡ begins (0 ∷ 1 ∷ []) }
+    ensures not_asked { (reach : Reach) → linked reach (giving_both (codes "b")) ≡ fault 12 (why.Missing (codes "b")) }
 {}
 
 /// A component that instantiates itself is refused where the 257th instance would begin.
 pub fn too_many()
-    ensures { linked (root (nesting ∷ instantiate ∷ [])) ≡ fault 11 why.Limit }
+    ensures { (reach : Reach) → linked reach (root (nesting ∷ instantiate ∷ [])) ≡ fault 11 why.Limit }
 {}
 
 /// A function of a core instance that is lifted and exported can be called. An argument of a core instance is to be there, also
 /// where no import is of it.
 pub fn core_instances()
-    ensures lifted { linked (root lifting) ≡ Ok (callable_as (codes "run" ∷ [])) }
-    ensures absent { linked (root (plain.CoreModule of_one ∷ make_with_absent ∷ [])) ≡ fault 1 why.Index }
+    ensures lifted { (reach : Reach) → linked reach (root lifting) ≡ Ok (callable_as (codes "run" ∷ [])) }
+    ensures absent { (reach : Reach) → linked reach (root (plain.CoreModule of_one ∷ make_with_absent ∷ [])) ≡ fault 1 why.Index }
 {}
 
 /// A function that is exported as `a#run`, and a function `run` of an instance that is exported as `a`, can be called under one
 /// name.
 pub fn one_name()
-    ensures { linked (root lifting_twice) ≡ Ok (callable_as (codes "a#run" ∷ codes "a#run" ∷ [])) }
+    ensures { (reach : Reach) → linked reach (root lifting_twice) ≡ Ok (callable_as (codes "a#run" ∷ codes "a#run" ∷ [])) }
 {}

@@ -3,6 +3,7 @@
 //! and `specs/Computed` computes the same.
 //!
 //! - `fault`: why an item is refused, and where
+//! - `reach`, of `runs`: how far linking goes, and whether a type or a lift is within reach
 //! - `laws`: what holds of every linking
 //! - `examples`: the definitions on small components
 #![tactic(auto)]
@@ -10,5 +11,8 @@
 pub mod examples;
 mod fault;
 pub mod laws;
+mod reach;
+mod runs;
 
 pub use fault::{LinkFault, LinkWhy};
+pub use reach::Reach;

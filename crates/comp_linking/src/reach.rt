@@ -1,0 +1,41 @@
+//! How far linking goes.
+
+ghost use Rattle.std.specs.Prelude.{◌≡◌};
+ghost use Rattle.comp_linking.specs.Runs.{reaches};
+ghost use Rattle.comp_linking.specs.Runs as running;
+
+use crate::runs::{runs_lift, runs_type};
+use ca_types::FuncType;
+use comp_tree::DefType;
+
+/// How far linking goes. It is the tool's own, and no section of the standard has it.
+#[derive(Clone, Copy)]
+pub enum Reach {
+    /// As far as what is linked can be run: an item is refused as `LinkWhy::Limit` that holds a type or a lift which cannot be
+    /// run yet.
+    Runs,
+    /// Over all that is read.
+    Whole,
+}
+
+impl Reach {
+    /// Whether a type, as it is written, is within reach. Calls nest as deep as instance types do.
+    pub fn has_type(self, def_type: &DefType) -> bool
+        ensures { result ≡ reaches self (running.runs_type def_type.now) }
+    {
+        match self {
+            Reach::Runs => runs_type(def_type),
+            Reach::Whole => true,
+        }
+    }
+
+    /// Whether the lift of a core function to a function of this type is within reach.
+    pub fn has_lift(self, func_type: &FuncType) -> bool
+        ensures { result ≡ reaches self (running.runs_lift func_type.now) }
+    {
+        match self {
+            Reach::Runs => runs_lift(func_type),
+            Reach::Whole => true,
+        }
+    }
+}
