@@ -28,13 +28,14 @@ same_world w = record { components = λ number x h. h; bases = λ number x h. h;
 -- a state stays where the tables behind it have grown
 pub state_stays : (bases more : List Exports) (k m : Linker) (l : Linking)
     → Grows k.types m.types → WorldStays (world_of bases k) (world_of more m) → AreInstances m.types (world_of more m) m.instances
-    → m.scopes ≡ k.scopes → m.cores ≡ k.cores → m.plan ≡ k.plan → IsState bases k l → IsState more m l
-state_stays bases more k m l types world instances scopes cores plan h = record {
+    → m.scopes ≡ k.scopes → m.cores ≡ k.cores → m.plan ≡ k.plan → m.reach ≡ k.reach → IsState bases k l → IsState more m l
+state_stays bases more k m l types world instances scopes cores plan reach h = record {
   instances = instances;
   scopes = subst (λ (v : Linker). AllZip (IsKept m.types (world_of more m)) v.scopes.items l.scopes) (ap (λ scopes. record k { scopes = scopes }) (sym scopes))
       (zips_weaker (IsKept k.types (world_of bases k)) (IsKept m.types (world_of more m)) (kept_stays k.types m.types (world_of bases k) (world_of more m) types world) k.scopes.items l.scopes h.scopes);
   cores = h.cores ∙ ap (λ cores. cores.items) (sym cores);
   plan = h.plan ∙ ap (λ plan. plan.items) (sym plan);
+  reach = h.reach ∙ sym reach;
 }
 
 -- more types
@@ -47,6 +48,7 @@ types_grow bases k m l grows same h = subst (λ (v : Linker). IsState bases v l)
       scopes = zips_weaker (IsKept k.types (world_of bases k)) (IsKept m.types (world_of bases k)) (kept_stays k.types m.types (world_of bases k) (world_of bases k) grows (same_world (world_of bases k))) k.scopes.items l.scopes h.scopes;
       cores = h.cores;
       plan = h.plan;
+      reach = h.reach;
     }
 
 pub at_grows : (bases : List Exports) (k m : Linker) (n : ℕ) (l : Linking) (s : Spaces) → Grows k.types m.types → m ≡ record k { types = m.types } → IsAt bases k n l s → IsAt bases m n l s
@@ -83,6 +85,7 @@ scope_set bases k n l s next old new is within becomes at = record {
       (kept_whole k.types (world_of bases k) new next (becomes (scope_is bases k n l s old is within at)));
   cores = at.state.cores;
   plan = at.state.plan;
+  reach = at.state.reach;
 }
 
 pub ended_set : (k : Linker) (n : ℕ) (old new : Scope) → old ≡ get_or k.scopes.items n old → n < length k.scopes.items → new.ended ≡ old.ended → ended (record k { scopes = with_item k.scopes n new }) ≡ ended k
@@ -96,6 +99,7 @@ scope_ended bases k n l old new is within types components over h = record {
   scopes = zips_reset (IsKept k.types (world_of bases k)) k.scopes.items l.scopes n new h.scopes (λ s there. kept s (zips_read (IsKept k.types (world_of bases k)) k.scopes.items l.scopes n old s is within h.scopes there));
   cores = h.cores;
   plan = h.plan;
+  reach = h.reach;
 }
   where
     kept : (s : Spaces) → IsKept k.types (world_of bases k) old s → IsKept k.types (world_of bases k) new s
@@ -134,7 +138,7 @@ components_more bases k m n l s c same is at = subst (λ (v : Linker). IsAt base
     }
 
     state : IsState bases (record k { components = m.components }) l
-    state = state_stays bases bases k (record k { components = m.components }) l (grows_refl k.types) stays (instances_stay k.types k.types (world_of bases k) world (grows_refl k.types) stays k.instances refl at.state.instances) refl refl refl at.state
+    state = state_stays bases bases k (record k { components = m.components }) l (grows_refl k.types) stays (instances_stay k.types k.types (world_of bases k) world (grows_refl k.types) stays k.instances refl at.state.instances) refl refl refl refl at.state
 
 pub modules_more : (bases : List Exports) (k m : Linker) (n : ℕ) (l : Linking) (s : Spaces) (made : ModuleTree)
     → m ≡ record k { modules = m.modules } → m.modules.items ≡ k.modules.items ++ made ∷ [] → IsAt bases k n l s → IsAt bases m n l s
@@ -151,13 +155,13 @@ modules_more bases k m n l s made same is at = subst (λ (v : Linker). IsAt base
     }
 
     state : IsState bases (record k { modules = m.modules }) l
-    state = state_stays bases bases k (record k { modules = m.modules }) l (grows_refl k.types) stays (instances_stay k.types k.types (world_of bases k) world (grows_refl k.types) stays k.instances refl at.state.instances) refl refl refl at.state
+    state = state_stays bases bases k (record k { modules = m.modules }) l (grows_refl k.types) stays (instances_stay k.types k.types (world_of bases k) world (grows_refl k.types) stays k.instances refl at.state.instances) refl refl refl refl at.state
 
 -- one instance more
 pub instance_more : (bases : List Exports) (k m : Linker) (l : Linking) (exports : Exports)
     → m ≡ record k { instances = m.instances } → AreInstances k.types (with_base (world_of bases k) exports) m.instances → IsState bases k l → IsState (bases ++ exports ∷ []) m l
 instance_more bases k m l exports same instances h = subst (λ (v : Linker). IsState (bases ++ exports ∷ []) v l) (sym same)
-    (state_stays bases (bases ++ exports ∷ []) k (record k { instances = m.instances }) l (grows_refl k.types) (more_bases (world_of bases k) exports) instances refl refl refl h)
+    (state_stays bases (bases ++ exports ∷ []) k (record k { instances = m.instances }) l (grows_refl k.types) (more_bases (world_of bases k) exports) instances refl refl refl refl h)
 
 -- an instance that was there, or is one more
 pub instance_given : (bases : List Exports) (k m : Linker) (l : Linking) (i : InstanceRef) (exports : Exports)
@@ -165,7 +169,7 @@ pub instance_given : (bases : List Exports) (k m : Linker) (l : Linking) (i : In
 instance_given bases k m l i exports same gives h = subst (λ (v : Linker). IsThere v l i exports) (sym same) (by gives)
   where
     by : GivesInstance k.types (world_of bases k) m.instances i exports → IsThere (record k { instances = m.instances }) l i exports
-    by (inl has) = record { bases = bases; state = record { instances = has.are; scopes = h.scopes; cores = h.cores; plan = h.plan }; instance = has.is }
+    by (inl has) = record { bases = bases; state = record { instances = has.are; scopes = h.scopes; cores = h.cores; plan = h.plan; reach = h.reach }; instance = has.is }
     by (inr has) = record {
       bases = bases ++ exports ∷ [];
       state = instance_more bases k (record k { instances = m.instances }) l exports refl has.are h;

@@ -1,5 +1,5 @@
 -- Linking as it stands (Component Model, Explainer.md, "Index Spaces"): the component instances that have begun, with their index
--- spaces as references into tables, the core instances, and the plan. What stands behind the references is told by the lists
+-- spaces as references into tables, the core instances, the plan, and how far linking goes. What stands behind the references is told by the lists
 -- of exports that the instances so far have.
 use Rattle.std.specs.Prelude.{◌≡◌, ℕ, Bool, false, List, map, Option, Some, None}
 use Rattle.std.specs.List.{slice_get, AllZip}
@@ -71,6 +71,7 @@ pub record IsState (bases : List Exports) (k : Linker) (l : Linking) : Type 0 wh
   pub scopes : AllZip (IsKept k.types (world_of bases k)) k.scopes.items l.scopes
   pub cores : l.cores ≡ k.cores.items
   pub plan : l.plan ≡ k.plan.items
+  pub reach : l.reach ≡ k.reach
 
 -- It does so for some exports.
 abbrev pub Stands : Linker → Linking → Type 0

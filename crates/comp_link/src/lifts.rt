@@ -13,20 +13,21 @@ ghost use Rattle.comp_link.specs.Told.{IsTold};
 use crate::link_fault::ItemError;
 use crate::linker::Linker;
 use ca_base::MemoryOr;
-use comp_linking::LinkWhy;
+use comp_linking::{LinkWhy, Reach};
 use comp_tree::CoreSort;
 use core_exports::{CoreItem, is_flat};
 use instance_tables::{DefinitionRef, LiftedRef};
 use type_tables::{FuncTypeRef, TypeRef, Types};
 
-/// The lift of a core item to a function of this type, in the component instance of this number.
+/// The lift of a core item to a function of this type, in the component instance of this number, where linking goes so far.
 fn lifted_to(
     types: &Types<'_>,
+    reach: Reach,
     n: usize,
     item: &CoreItem<'_>,
     func_type: FuncTypeRef,
 ) -> Result<LiftedRef, ItemError>
-    ensures { (f : FuncType) → IsFunc types.now func_type f → IsTold (IsLifted types.now) result (lifted_to n f item.now) }
+    ensures { (f : FuncType) → IsFunc types.now func_type f → IsTold (IsLifted types.now) result (lifted_to reach n f item.now) }
 {
     let Some(of_core) = item.func_type() else {
         return Err(MemoryOr::Fault(LinkWhy::Canon));
@@ -36,6 +37,9 @@ fn lifted_to(
     };
     if !is_flat(closed.get(), of_core) {
         return Err(MemoryOr::Fault(LinkWhy::Canon));
+    }
+    if !reach.has_lift(closed.get()) {
+        return Err(MemoryOr::Fault(LinkWhy::Limit));
     }
     Ok(LiftedRef {
         instance: n,
@@ -52,7 +56,7 @@ fn lifted(
     func_type: u32,
 ) -> Result<LiftedRef, ItemError>
     requires { n < length linker.now.scopes.items }
-    ensures { (bases : List Exports) (l : Linking) (s : Spaces) → IsAt bases linker.now n l s → IsTold (IsLifted linker.now.types) result (lifted_of n s core_func func_type) }
+    ensures { (bases : List Exports) (l : Linking) (s : Spaces) → IsAt bases linker.now n l s → IsTold (IsLifted linker.now.types) result (lifted_of l.reach n s core_func func_type) }
 {
     let scope = linker.scope(n);
     let Some(item) = scope.core_item(CoreSort::Func, core_func) else {
@@ -64,7 +68,7 @@ fn lifted(
     let TypeRef::Func(of_func) = of_type else {
         return Err(MemoryOr::Fault(LinkWhy::Typing));
     };
-    lifted_to(&linker.types, n, &item, of_func)
+    lifted_to(&linker.types, linker.reach, n, &item, of_func)
 }
 
 /// Links a lift.

@@ -21,6 +21,7 @@ use crate::scope::{Scope, Standing};
 use ca_base::{Name, Seq};
 use ca_types::Shared;
 use comp_graph::{Action, CoreExtern, CoreMake};
+use comp_linking::Reach;
 use comp_tree::Component;
 use core_exports::{CoreExports, CoreItem, CoreModule, InlineExports};
 use instance_tables::{DefinitionRef, Fit, InstanceRef, Instances};
@@ -50,12 +51,14 @@ pub struct Linker<'a> {
     pub cores: Vec<CoreMake<'a>>,
     /// What is made, in file order.
     pub plan: Vec<Action>,
+    /// How far linking goes.
+    pub reach: Reach,
 }
 
 impl<'a> Linker<'a> {
-    /// The root begins. It fails for want of memory alone, as do all calls here that fail.
-    pub fn new(alloc: Global) -> Result<Linker<'a>, AllocError>
-        ensures ok { IfOk result (λ k. IsState [] k root_begun) }
+    /// The root begins, where linking goes so far. It fails for want of memory alone, as do all calls here that fail.
+    pub fn new(alloc: Global, reach: Reach) -> Result<Linker<'a>, AllocError>
+        ensures ok { IfOk result (λ k. IsState [] k (root_begun reach)) }
         ensures there { IfOk result (λ k. length k.scopes.items ≡ 1) }
         ensures live { IfOk result (λ k. IsLive k 0) }
     {
@@ -72,6 +75,7 @@ impl<'a> Linker<'a> {
             scopes,
             cores: Vec::new(alloc),
             plan,
+            reach,
         })
     }
 

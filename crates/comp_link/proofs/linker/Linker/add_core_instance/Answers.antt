@@ -23,6 +23,7 @@ returns-clause-ok c bases l s items at imports =
           (λ h. subst (λ (es : List CoreExport). IsScope k.types w c.add_core_instance.new.self (with_core_instance s es)) exports (c.in_ok-add_core_instance.ensures.adds k.types w s h)) at).scopes;
       cores = rw (at.state.cores, c.in_ok-push.ensures.items, made) refl;
       plan = rw (at.state.plan, c.in_ok-push-2.ensures.items, number) refl;
+      reach = at.state.reach;
     }
 
 pub returns-clause-live : goal.returns-clause-live

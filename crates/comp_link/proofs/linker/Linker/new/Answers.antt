@@ -18,6 +18,7 @@ returns-clause-ok c =
           (sym (c.in_ok-push-2.ensures.items ∙ ap (λ (before : List Scope). before ++ c.new-3.result ∷ []) c.new-scopes.ensures.items)) (kept_whole c.new-4.result w c.new-3.result (new_spaces None []) root, tt);
       cores = sym c.new-8.ensures.items;
       plan = sym (c.in_ok-push.ensures.items ∙ ap (λ (before : List Action). before ++ Begin 0 ∷ []) c.new-plan.ensures.items);
+      reach = refl;
     }
 
 pub returns-clause-live : goal.returns-clause-live
