@@ -1,4 +1,4 @@
--- What a type means has distinct labels and names, where all types around it have.
+-- What a type means is apart, where all types around it are.
 use Rattle.std.proofs.Common.{◌≡◌, ℕ, Bool, true, false, cond, List, [], ◌∷◌, ◌++◌, map, refl, sym, ap, subst, Option, Some, None}
 use Rattle.std.specs.Prelude.{IfSome}
 use Rattle.std.specs.Option.{option_map}
@@ -20,7 +20,7 @@ use Rattle.comp_linking.specs.Definitions.{Closure}
 use Rattle.comp_linking.specs.Spaces.{Level}
 use Rattle.comp_linking.specs.Types.{Meaning, absent, desc_meaning, Declared, nothing_declared, own_level, type_in, instance_in, with_declared, kept_if, told, of_sort, of_export, from_instance, outer_type, outer_component, with_component, with_type, with_outer, declared_as, with_alias, extended, under_name, with_export, declared_by, instance_meaning, InLevels, types_around, type_step, decl_step, meaning_of}
 use Rattle.comp_linking.proofs.Holding.{all_push, all_at, if_weaker, if_mapped}
-use Rattle.comp_linking.proofs.Apart.{IsApart, IsExternApart, AreApart, IsKnownApart, AreKnownApart, func_meaning_apart, found_apart, desc_apart, named_apart}
+use Rattle.comp_linking.proofs.Apart.{IsApart, IsExternApart, AreApart, IsKnownApart, AreKnownApart, value_meaning_apart, func_meaning_apart, found_apart, desc_apart, named_apart}
 
 abbrev pub IsLevelApart : Level → Type 0
 IsLevelApart level = AllByRecursion IsKnownApart level.types
@@ -138,6 +138,10 @@ with_export_apart d name (desc.Instance index) h =
     under_apart (declared_as d sorts.Instance extern) d.so_far.means name extern.means (as_apart d sorts.Instance extern h k) h.so_far k
 
 -- By induction on types and declarations.
+around_apart : (levels : List Level) → AreLevelsApart levels → AllByRecursion IsKnownApart (types_around levels)
+around_apart [] k = tt
+around_apart (level ∷ around) k = k.0
+
 abbrev Keeps : (List Level → Declared → Declared) → Type 0
 Keeps decl = (around : List Level) (d : Declared) → AreLevelsApart around → IsDeclaredApart d → IsDeclaredApart (decl around d)
 
@@ -176,8 +180,8 @@ abbrev decl_layer : InstanceDecl-F TypeAnd DeclAnd → InstanceDecl-F DefType In
 decl_layer y = map-InstanceDecl TypeAnd DeclAnd DefType InstanceDecl (λ e. e.0) (λ e. e.0) y
 
 type_stepped : (y : DefType-F TypeAnd DeclAnd) → Gives (type_step (map-DefType DefType InstanceDecl InLevels (List Level → Declared → Declared) folded_type folded_decl (type_layer y)))
-type_stepped (DefType-F.Value type) levels k = tt
-type_stepped (DefType-F.Func type) levels k = func_meaning_apart (types_around levels) type
+type_stepped (DefType-F.Value type) levels k = value_meaning_apart (types_around levels) type
+type_stepped (DefType-F.Func type) levels k = func_meaning_apart (types_around levels) type (around_apart levels k)
 type_stepped (DefType-F.Instance decls) levels k =
     instance_apart (declared_by levels nothing_declared (map folded_decl (map (λ (e : DeclAnd). e.0) decls))) (decls_apart levels nothing_declared decls k (record { types = tt; instances = tt; so_far = (tt, refl) }))
 

@@ -33,7 +33,7 @@ use Rattle.comp_linking.specs.Definitions.{CoreItem, Func, CoreExport, core_name
 use Rattle.comp_linking.specs.Runs.{reaches, runs_type, runs_lift}
 use Rattle.comp_linking.specs.Types.{Meaning, found, meaning_of, desc_meaning}
 use Rattle.comp_linking.specs.Spaces.{Spaces, Linking, core_size, size_of, core_item_at, definition_at, IsOfSort, levels_at, outer_at}
-use Rattle.comp_linking.specs.Items.{AnyByRecursion, first_told, argument_named, import_found, argument_lacking, import_lacks, FindsOther, IsThere, FindsItem, core_instance_has, IsInline, core_instance_makes, AreNamed, named_have, instance_has, instance_makes, IsCoreOf, alias_has, alias_makes, type_has, type_makes, lifts, lift_has, lift_makes, wanted, IsOfTypes, IsRootImport, lacking, DoesNotFit, import_has, IsImported, import_makes, said, IsSaid, export_has, IsExported, export_makes, has_case, makes_case}
+use Rattle.comp_linking.specs.Items.{AnyByRecursion, first_told, argument_named, import_found, argument_lacking, import_lacks, FindsOther, IsThere, FindsItem, core_instance_has, IsInline, core_instance_makes, AreNamed, named_have, instance_has, instance_makes, IsCoreOf, alias_has, alias_makes, type_has, StandsFor, type_makes, lifts, lift_has, lift_makes, wanted, IsOfTypes, IsRootImport, lacking, DoesNotFit, import_has, IsImported, import_makes, said, IsSaid, export_has, IsExported, export_makes, has_case, makes_case}
 use Rattle.comp_linking.specs.Linked.{Begins}
 use Rattle.comp_linking.specs.Laws.{MakesExcludesReasons, BeginsExcludesReasons, MakesExcludesBegins}
 use Rattle.comp_linking.proofs.Lists.{some_all, some_zip, none_told, match_at, map_some, then_some, not_there, mapped_there}
@@ -160,10 +160,11 @@ alias_excludes l n s sort (target.Outer up index) new why.Limit k h = h
 -- Types.
 
 type_excludes : (l : Linking) (n : ℕ) (s : Spaces) (type : DefType) (meaning : Meaning Closed) (new : Linking) (w : LinkWhy) → IsWhole meaning → type_makes l n s type meaning new → type_has l.reach type meaning w → ⊥
-type_excludes l n s type meaning new why.Index whole (closed, is, within, made) h = true_false meaning.is_there (whole closed is).0 h
-type_excludes l n s type meaning new (why.Missing name) whole (closed, is, within, made) h = both_of meaning.missing name h (whole closed is).1
-type_excludes l n s type meaning new why.Typing whole (closed, is, within, made) h = both_of meaning.means closed is h
-type_excludes l n s type meaning new why.Limit whole (closed, is, within, made) h = true_false (reaches l.reach (runs_type type)) within h
+type_excludes l n s type meaning new why.Index whole (closed, is, within, made) h = true_false meaning.is_there (whole closed is.0).0 h
+type_excludes l n s type meaning new (why.Missing name) whole (closed, is, within, made) h = both_of meaning.missing name h (whole closed is.0).1
+type_excludes l n s type meaning new why.Typing whole (closed, is, within, made) h = both_of meaning.means closed is.0 h
+type_excludes l n s type meaning new why.Limit whole (closed, is, within, made) (inl deep) = true_false meaning.deep deep is.1
+type_excludes l n s type meaning new why.Limit whole (closed, is, within, made) (inr past) = true_false (reaches l.reach (runs_type type)) within past
 type_excludes l n s type meaning new why.RootImport whole k h = h
 type_excludes l n s type meaning new why.Canon whole k h = h
 

@@ -19,7 +19,7 @@ use Rattle.comp_graph.specs.Graph.{is_flat}
 use Rattle.comp_linking.specs.Runs.{reaches, runs_type, runs_lift}
 use Rattle.comp_linking.specs.Types.{Meaning}
 use Rattle.comp_linking.specs.Spaces.{Spaces, Linking, size_of, definition_at, IsOfSort, with_core_item, with_definition, with_spaces, outer_at}
-use Rattle.comp_linking.specs.Items.{IsCoreOf, alias_has, alias_makes, type_has, type_makes, lifts, lift_has, lift_makes, wanted, IsOfTypes, lacking, DoesNotFit, import_has, with_import, IsImported, import_makes, said, IsSaid, export_has, with_export, IsExported, export_makes}
+use Rattle.comp_linking.specs.Items.{IsCoreOf, alias_has, alias_makes, type_has, StandsFor, type_makes, lifts, lift_has, lift_makes, wanted, IsOfTypes, lacking, DoesNotFit, import_has, with_import, IsImported, import_makes, said, IsSaid, export_has, with_export, IsExported, export_makes}
 use Rattle.comp_linking.specs.Tests.{is_core_of, is_of_sort, fits, root_may_import}
 use Rattle.comp_linking.specs.Computed.{after, there_or, Outcome, Makes, core_aliased, alias_outcome, type_outcome, lifted_to, lifted_of, lift_outcome, root_given, as_asked, import_outcome, said_is_there, said_lacks, as_said, export_outcome}
 use Rattle.comp_linking.proofs.Lists.{match_at, match_some, then_some}
@@ -72,6 +72,15 @@ alias_sound l n s sort (target.Outer up index) =
     let Q = MakesBy (alias_makes l n s sort (target.Outer up index)) in
     sound_there P Q (outer_at l (n ∷ s.around) sort up index) why.Index _ (clear_root P (λ h. h)) (λ none. none) (λ d there. (d, there, refl))
 
+-- tests that are turned
+not_false : (b : Bool) → not b ≡ false → b ≡ true
+not_false true h = refl
+not_false false h = let no : true ≡ false = h in cc
+
+not_true : (b : Bool) → not b ≡ true → b ≡ false
+not_true true h = let no : false ≡ true = h in cc
+not_true false h = refl
+
 -- Types.
 
 pub type_sound : (l : Linking) (n : ℕ) (s : Spaces) (type : DefType) (meaning : Meaning Closed) → Sound (type_has l.reach type meaning) (MakesBy (type_makes l n s type meaning)) (type_outcome l n s type meaning)
@@ -84,8 +93,10 @@ type_sound l n s type meaning =
     sound_missing P Q meaning.missing _ index (λ name is. is) (λ none.
     (let missing = clear_missing P index (λ name h. both_of meaning.missing name h none) in
     sound_there P Q meaning.means why.Typing _ missing (λ none. none) (λ closed is.
-    (let canon = clear_canon P (clear_typing P missing (λ none. both_of meaning.means closed is none)) (λ h. h) in
-    sound_if P Q (reaches l.reach (runs_type type)) why.Limit _ canon (λ past. past) (λ within. (closed, is, within, refl))))))))
+    (let typed = clear_canon P (clear_typing P missing (λ none. both_of meaning.means closed is none)) (λ h. h) in
+    sound_if P Q (not meaning.deep) why.Limit _ typed (λ deep. inl (not_false meaning.deep deep)) (λ shallow.
+    sound_if P Q (reaches l.reach (runs_type type)) why.Limit _ typed (λ past. inr past)
+    (λ within. (closed, (is, not_true meaning.deep shallow), within, refl)))))))))
 
 -- Lifts.
 
@@ -138,14 +149,6 @@ lift_sound l n s f t =
     (clear_typing P missing (λ h. both_of (func_of type) of_func found (match_at (λ type. func_of type ≡ None) (slice_get s.types t) type is h))))))))
 
 -- Imports.
-
-not_false : (b : Bool) → not b ≡ false → b ≡ true
-not_false true h = refl
-not_false false h = let no : true ≡ false = h in cc
-
-not_true : (b : Bool) → not b ≡ true → b ≡ false
-not_true true h = let no : false ≡ true = h in cc
-not_true false h = refl
 
 abbrev ImportMakes : Linking → ℕ → Spaces → List ℕ → ExternDesc → Outcome → Type 0
 ImportMakes l n s name asked = MakesBy (import_makes l n s name asked)

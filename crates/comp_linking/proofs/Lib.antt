@@ -1,6 +1,8 @@
 pub mod Apart
 pub mod ApartMeanings
 pub mod CoreOutcomes
+pub mod DepthSamples
+pub mod Depths
 pub mod DistinctNames
 pub mod Excluding
 pub mod Few
@@ -28,4 +30,5 @@ pub mod SoundSpaces
 pub mod Sounding
 pub mod Soundness
 pub mod Telling
+pub mod ValueSamples
 pub mod Widening

@@ -121,7 +121,7 @@ case_once l n s (Item-F.Component c) a b h k = h ∙ sym k
 case_once l n s (Item-F.Instance i) a b h k = instance_once l n s i a b h k
 case_once l n s (Item-F.Alias alias) a b h k = alias_once l n s alias.sort alias.target a b h k
 case_once l n s (Item-F.Type type) a b (closed, is, within, made) (closed', is', within', made') =
-    both_made (λ closed. with_spaces l n (with_definition s (AType closed))) closed closed' a b (one_value _ closed closed' is is') made made'
+    both_made (λ closed. with_spaces l n (with_definition s (AType closed))) closed closed' a b (one_value _ closed closed' is.0 is'.0) made made'
 case_once l n s (Item-F.Canon (Lift f t)) a b h k = lift_once l n s f t a b h k
 case_once l n s (Item-F.Import i) a b h k = import_once l n s i.name i.desc a b h k
 case_once l n s (Item-F.Export e) a b h k = export_once l n s e a b h k

@@ -1,8 +1,12 @@
 -- A type that has a meaning has all its indices, and misses no name.
 use Rattle.std.proofs.Common.{◌≡◌, ℕ, Bool, true, false, ◌&&◌, cond, List, [], ◌∷◌, length, map, refl, sym, subst, Option, Some, None}
+use Rattle.std.specs.Prelude.{nat_le}
 use Rattle.std.specs.Option.{option_map}
 use Rattle.std.specs.List.{slice_get}
 use Rattle.ca_base.specs.Names.{is_among}
+use Rattle.ca_types.specs.declared.types.ValType.{ValType}
+use Rattle.ca_types.specs.declared.types.ValType.TheVariants as leaves
+use Rattle.laid_types.specs.Depth.{depth}
 use Rattle.comp_tree.specs.declared.instances.Sort.{Sort}
 use Rattle.comp_tree.specs.declared.instances.Sort.TheVariants as sorts
 use Rattle.comp_tree.specs.declared.instances.AliasTarget.{AliasTarget}
@@ -10,6 +14,7 @@ use Rattle.comp_tree.specs.declared.instances.AliasTarget.TheVariants as target
 use Rattle.comp_tree.specs.declared.externs.ExternDesc.{ExternDesc}
 use Rattle.comp_tree.specs.declared.externs.ExternDesc.TheVariants as desc
 use Rattle.comp_tree.specs.declared.types.FuncType as read_func
+use Rattle.comp_tree.specs.declared.types.DefValType.{DefValType}
 use Rattle.comp_tree.specs.declared.types.DefType.{DefType, roll-DefType}
 use Rattle.comp_tree.specs.declared.types.InstanceDecl.{InstanceDecl}
 use Rattle.comp_tree.specs.declared.types.DefType.TheViews.{roll-InstanceDecl}
@@ -18,7 +23,10 @@ use Rattle.comp_tree.specs.declared.types.DefType.TheFolds.{fold-DefType, fold-I
 use Rattle.comp_graph.specs.Closed.{Closed, Value, Func, Instance, Extern, OfFunc, OfType, OfInstance, Externs, first_of, extern_named, externs_of, func_of}
 use Rattle.comp_linking.specs.Definitions.{Closure}
 use Rattle.comp_linking.specs.Spaces.{Level}
-use Rattle.comp_linking.specs.Types.{Meaning, absent, meant, found, primitive, all_within, close_func, func_meaning, desc_meaning, Declared, nothing_declared, own_level, with_declared, kept_if, and_told, told, of_export, exported, from_instance, outer_type, outer_component, with_component, with_type, with_outer, declared_as, with_alias, sort_of, extended, with_export, declared_by, instance_meaning, InLevels, types_around, type_step, decl_step, meaning_of}
+use Rattle.comp_linking.specs.Meaning.{Meaning, absent, meant, too_deep, found, kept_if, and_told}
+use Rattle.comp_linking.specs.Shallow.{depth_limit}
+use Rattle.comp_linking.specs.ValueTypes.{parts_within, close_def, capped, value_meaning}
+use Rattle.comp_linking.specs.Types.{all_within, close_func, func_meaning, desc_meaning, Declared, nothing_declared, own_level, with_declared, told, of_export, exported, from_instance, outer_type, outer_component, with_component, with_type, with_outer, declared_as, with_alias, sort_of, extended, with_export, declared_by, instance_meaning, InLevels, types_around, type_step, decl_step, meaning_of}
 
 -- where it has a meaning, all is there and nothing is missing
 abbrev pub IsWhole : {A : Type 0} → Meaning A → Type 0
@@ -29,6 +37,9 @@ whole_absent a e = cc
 
 whole_meant : {A : Type 0} (means : Option A) → IsWhole (meant means)
 whole_meant means a e = (refl, refl)
+
+whole_deep : {A : Type 0} (in_place : A) → IsWhole (too_deep in_place)
+whole_deep in_place a e = (refl, refl)
 
 whole_found : {A B : Type 0} (f : A → Option B) (o : Option (Option A)) → IsWhole (found f o)
 whole_found f None a e = cc
@@ -46,6 +57,14 @@ whole_cond false x y h k = k
 whole_func : (types : List (Option Closed)) (type : read_func.FuncType) → IsWhole (func_meaning types type)
 whole_func types type =
     whole_cond (all_within (length types) type) (meant (option_map Func (close_func types type))) absent (whole_meant (option_map Func (close_func types type))) whole_absent
+
+whole_capped : (type : Option ValType) → IsWhole (capped type)
+whole_capped None = whole_meant None
+whole_capped (Some type) =
+    whole_cond (nat_le (depth type) depth_limit) (meant (Some (Value type))) (too_deep (Value leaves.Bool)) (whole_meant (Some (Value type))) (whole_deep (Value leaves.Bool))
+
+whole_value : (types : List (Option Closed)) (type : DefValType) → IsWhole (value_meaning types type)
+whole_value types type = whole_cond (parts_within (length types) type) (capped (close_def types type)) absent (whole_capped (close_def types type)) whole_absent
 
 -- what is told behind what was told
 kept_some : {A B : Type 0} (b : Option B) (a : Option A) (x : A) → kept_if b a ≡ Some x → (y : B) × (b ≡ Some y) × (a ≡ Some x)
@@ -185,7 +204,7 @@ abbrev step_whole : (y : DefType-F TypeAnd DeclAnd) → Type 0
 step_whole y = (levels : List Level) → IsWhole (type_step (map-DefType DefType InstanceDecl InLevels (List Level → Declared → Declared) folded_type folded_decl (type_layer y)) levels)
 
 type_stepped : (y : DefType-F TypeAnd DeclAnd) → step_whole y
-type_stepped (DefType-F.Value type) levels = whole_meant (Some (Value (primitive type)))
+type_stepped (DefType-F.Value type) levels = whole_value (types_around levels) type
 type_stepped (DefType-F.Func type) levels = whole_func (types_around levels) type
 type_stepped (DefType-F.Instance decls) levels =
     whole_instance (declared_by levels nothing_declared (map folded_decl (map (λ (e : DeclAnd). e.0) decls))) (whole_decls levels nothing_declared decls (λ a e. (refl, refl)))

@@ -9,6 +9,8 @@ use Rattle.comp_tree.specs.declared.externs.ExternDesc.{ExternDesc}
 use Rattle.comp_tree.specs.declared.externs.ExternDesc.TheVariants as desc
 use Rattle.comp_tree.specs.declared.types.FuncType.{FuncType}
 use Rattle.comp_tree.specs.declared.types.PrimValType.TheVariants.{U32}
+use Rattle.comp_tree.specs.declared.types.DefValType.{DefValType}
+use Rattle.comp_tree.specs.declared.types.DefValType.TheVariants as value
 use Rattle.comp_tree.specs.declared.types.DefType.TheOpen.{DefType-F, InstanceDecl-F}
 use Rattle.comp_tree.specs.declared.types.DefType.TheViews.{rolls-Func, rolls-Export, rolls-Instance, rolls-Type, rolls-Value}
 use Rattle.comp_tree.specs.declared.types.DefType.TheFolds.{fold-InstanceDecl, fold-roll-DefType, fold-roll-InstanceDecl}
@@ -24,17 +26,23 @@ use Rattle.comp_linking.specs.declared.fault.LinkWhy.TheVariants as why
 use Rattle.comp_graph.specs.Closed.{Value, Instance, OfType, EmptyType, WithExtern}
 use Rattle.comp_linking.specs.declared.reach.Reach.{Reach}
 use Rattle.comp_linking.specs.declared.reach.Reach.TheVariants.{Runs, Whole}
-use Rattle.comp_linking.specs.Runs.{reaches, runs_func, all_true, type_runs, decl_runs, runs_type, runs_decl}
+use Rattle.comp_linking.specs.Runs.{reaches, runs_def, runs_func, all_true, type_runs, decl_runs, runs_type, runs_decl}
 use Rattle.comp_linking.specs.Spaces.{Level}
 use Rattle.comp_linking.specs.Types.{meant, InLevels, Declared, nothing_declared, declared_by, instance_meaning, own_level, with_type, with_export, func_meaning, types_around, type_step, decl_step, meaning_of}
+use Rattle.comp_linking.specs.ValueTypes.{value_meaning}
 use Rattle.comp_linking.specs.Linked.{root_begun}
 use Rattle.comp_linking.specs.Computed.{Run, run, run_within, answer_of, linked}
 use Rattle.comp_linking.specs.Same.{same_val}
+use Rattle.comp_linking.proofs.Depths.{leaf_depth}
 use Rattle.comp_linking.proofs.SameValues.{val_told}
 use Rattle.comp_linking.specs.Examples.{root, fault, u32, of_types, import, outer, export_type, wanting, instantiate, giving_both, begins, of_one, make_with_absent, lifting, lifting_twice, callable_as}
 
+pub value_rolled : (type : DefValType) (levels : List Level) → meaning_of (plain_type.Value type) levels ≡ value_meaning (types_around levels) type
+value_rolled type levels =
+    ap (λ t. meaning_of t levels) (sym (rolls-Value type)) ∙ ap (λ (f : InLevels). f levels) (fold-roll-DefType InLevels (List Level → Declared → Declared) type_step decl_step (DefType-F.Value type))
+
 u32_rolled : (levels : List Level) → meaning_of u32 levels ≡ meant (Some (Value val_type.U32))
-u32_rolled levels = ap (λ t. meaning_of t levels) (sym (rolls-Value U32)) ∙ ap (λ (f : InLevels). f levels) (fold-roll-DefType InLevels (List Level → Declared → Declared) type_step decl_step (DefType-F.Value U32))
+u32_rolled levels = value_rolled (value.Primitive U32) levels ∙ rw (leaf_depth U32) refl
 
 abbrev folded_decl : InstanceDecl → List Level → Declared → Declared
 folded_decl = fold-InstanceDecl InLevels (List Level → Declared → Declared) type_step decl_step
@@ -69,12 +77,15 @@ func_rolled type levels =
     ap (λ t. meaning_of t levels) (sym (rolls-Func type)) ∙ ap (λ (f : InLevels). f levels) (fold-roll-DefType InLevels (List Level → Declared → Declared) type_step decl_step (DefType-F.Func type))
 
 -- Whatever of these types is written, it runs; and what runs is within each reach.
-within : (reach : Reach) → reaches reach true ≡ true
+pub within : (reach : Reach) → reaches reach true ≡ true
 within Runs = refl
 within Whole = refl
 
+pub value_runs : (type : DefValType) → runs_type (plain_type.Value type) ≡ runs_def type
+value_runs type = ap runs_type (sym (rolls-Value type)) ∙ fold-roll-DefType Bool Bool type_runs decl_runs (DefType-F.Value type)
+
 u32_runs : runs_type u32 ≡ true
-u32_runs = ap runs_type (sym (rolls-Value U32)) ∙ fold-roll-DefType Bool Bool type_runs decl_runs (DefType-F.Value U32)
+u32_runs = value_runs (value.Primitive U32)
 
 func_runs : (type : FuncType) → runs_type (plain_type.Func type) ≡ runs_func type
 func_runs type = ap runs_type (sym (rolls-Func type)) ∙ fold-roll-DefType Bool Bool type_runs decl_runs (DefType-F.Func type)
@@ -97,6 +108,9 @@ one_runs = instance_runs (plain_type.Type u32 ∷ plain_type.Export (codes "a") 
 ruleset layers = (outs-CoreModule, outs-CoreInstance, outs-Canon, outs-U32, func_rolled, outs-Import, outs-Alias, outs-Export, outs-Type, outs-Instance, outs-Component, u32_rolled, no_exports, one_export, u32_same, within, u32_runs, func_runs, none_runs, one_runs)
 
 -- what is computed, whatever is computed of the components that begin, or of those that begin inside these
+pub linked_so_far : (reach : Reach) (c : Component) (r : Result Graph LinkFault) → ((inside : Run) → answer_of (run inside (root_begun reach) 0 c.items) ≡ r) → linked reach c ≡ r
+linked_so_far reach c r h = h (run_within 255)
+
 pub linked_by : (c : Component) (r : Result Graph LinkFault) → ((inside : Run) (reach : Reach) → answer_of (run inside (root_begun reach) 0 c.items) ≡ r) → (reach : Reach) → linked reach c ≡ r
 linked_by c r h reach = h (run_within 255) reach
 

@@ -15,8 +15,9 @@ use Rattle.comp_linking.specs.Definitions.{Closure, AFunc, AnInstance, Exports, 
 use Rattle.comp_linking.specs.Spaces.{CoreMake, Spaces, Linking, new_spaces, with_definition}
 use Rattle.comp_linking.specs.Linked.{Begins, begun, exports_or, exports_at, with_instance, Links, no_items, item_links, instance_links, root_begun, Callable, funcs_behind, callables, export_of, lift_of, IsLinked}
 use Rattle.comp_linking.specs.Distinct.{HasDistinctLabels}
+use Rattle.comp_linking.specs.Shallow.{HasShallowTypes}
 use Rattle.comp_linking.specs.Standing.{StandsIn, stands_behind}
-use Rattle.comp_linking.specs.Laws.{GraphsAreImported, GraphsAreCallable, LabelsAreDistinct, ModulesStand}
+use Rattle.comp_linking.specs.Laws.{GraphsAreImported, GraphsAreCallable, LabelsAreDistinct, TypesAreShallow, ModulesStand}
 use Rattle.comp_linking.proofs.Holding.{all_push, all_both, all_at, all_mapped, all_weaker, holds_at}
 use Rattle.comp_linking.proofs.Modules.{ModulesHave, shape_has}
 use Rattle.comp_linking.proofs.Soundness.{IsFuncSound, AreSound, AreSpacesSound, IsLinkingSound}
@@ -124,7 +125,13 @@ pub labels_are_distinct : LabelsAreDistinct
 labels_are_distinct reach c g (l, links, is) =
     subst (λ (g : Graph). AllByRecursion (λ (e : Export). HasDistinctLabels e.func_type) g.exports) (sym is)
     (all_mapped export_of (λ (e : Export). HasDistinctLabels e.func_type) (callables (exports_at l 0))
-    (all_weaker (λ (c : Callable). IsFuncSound l.cores c.func) (λ (c : Callable). HasDistinctLabels c.func.func_type) (λ c k. k.1) (callables (exports_at l 0)) (root_callables AnyModule l (any_sound reach c l links))))
+    (all_weaker (λ (c : Callable). IsFuncSound l.cores c.func) (λ (c : Callable). HasDistinctLabels c.func.func_type) (λ c k. k.1.0) (callables (exports_at l 0)) (root_callables AnyModule l (any_sound reach c l links))))
+
+pub types_are_shallow : TypesAreShallow
+types_are_shallow reach c g (l, links, is) =
+    subst (λ (g : Graph). AllByRecursion (λ (e : Export). HasShallowTypes e.func_type) g.exports) (sym is)
+    (all_mapped export_of (λ (e : Export). HasShallowTypes e.func_type) (callables (exports_at l 0))
+    (all_weaker (λ (c : Callable). IsFuncSound l.cores c.func) (λ (c : Callable). HasShallowTypes c.func.func_type) (λ c k. k.1.1) (callables (exports_at l 0)) (root_callables AnyModule l (any_sound reach c l links))))
 
 -- Each core instance is of a module that has what all have that stand in the component.
 pub modules_have : (R : ModuleTree → Type 0) (reach : Reach) (c : Component) (g : Graph) → IsLinked reach c g → ModulesHave R c.items → AllByRecursion (λ (core : CoreMake). R core.of_module) g.cores

@@ -32,10 +32,9 @@ use Rattle.comp_linking.specs.Definitions.{CoreItem, Func, Table, Memory, Global
 use Rattle.comp_linking.specs.Spaces.{CoreMake, Spaces, Linking, Level, level_of, listed_level, levels_at, core_item_at, definition_at, with_core_item, with_core_instance, with_definition, with_spaces, outer_definition, outer_at}
 use Rattle.comp_linking.specs.Types.{meaning_of}
 use Rattle.comp_linking.specs.Items.{argument_named, import_found, FindsItem, IsInline, core_instance_makes, instance_makes, alias_makes, lift_makes, wanted, IsImported, import_makes, said, IsExported, export_makes, makes_case}
-use Rattle.comp_linking.specs.Distinct.{HasDistinctLabels}
 use Rattle.comp_linking.proofs.Holding.{all_push, all_set, all_weaker, all_mapped, all_flat, all_at, all_second, zip_weaker, holds_at, if_weaker, if_mapped, if_found, if_cond, last_there}
 use Rattle.comp_linking.proofs.Kept.{lifts_item, imported_behind}
-use Rattle.comp_linking.proofs.Apart.{IsApart, IsExternApart, IsKnownApart, of_func_apart, desc_apart}
+use Rattle.comp_linking.proofs.Apart.{IsFuncApart, IsApart, IsExternApart, IsKnownApart, of_func_apart, desc_apart}
 use Rattle.comp_linking.proofs.ApartMeanings.{IsLevelApart, AreLevelsApart, meaning_apart}
 use Rattle.comp_linking.proofs.Modules.{ShapeHas}
 use Rattle.comp_linking.proofs.Soundness.{AreThere, IsSound, AreSound, AreSpacesSound, IsLinkingSound}
@@ -173,7 +172,7 @@ module _ (R : ModuleTree → Type 0) where
   lift_reached l n s f t new h k (ref, of_core, type, is, of_type, flat, within, made) =
       defined_reached l n s (AFunc (record { instance = n; core = ref; func_type = type })) new h k made (
         lifts_item l.cores type (record { instance = n; core = ref }) of_core (holds_at (IsItem l.cores) (slice_get s.core_funcs f) (Func ref of_core) (all_at (IsItem l.cores) s.core_funcs f k.core.funcs_there) is) flat,
-        holds_at HasDistinctLabels (option_and_then func_of (slice_get s.types t)) type (if_found func_of IsApart HasDistinctLabels of_func_apart (slice_get s.types t) (all_at IsApart s.types t k.defined.types_apart)) of_type,
+        holds_at IsFuncApart (option_and_then func_of (slice_get s.types t)) type (if_found func_of IsApart IsFuncApart of_func_apart (slice_get s.types t) (all_at IsApart s.types t k.defined.types_apart)) of_type,
       )
 
   -- Imports and exports.
@@ -211,7 +210,7 @@ module _ (R : ModuleTree → Type 0) where
   case_reached l n s (Item-F.Alias alias) new has h k makes = alias_reached l n s alias.sort alias.target new h k makes
   case_reached l n s (Item-F.Type type) new has h k (closed, means, within, made) =
       defined_reached l n s (AType closed) new h k made
-      (holds_at IsApart (meaning_of type (levels_at l (n ∷ s.around))).means closed (meaning_apart type (levels_at l (n ∷ s.around)) (levels_apart l (n ∷ s.around) h)) means)
+      (holds_at IsApart (meaning_of type (levels_at l (n ∷ s.around))).means closed (meaning_apart type (levels_at l (n ∷ s.around)) (levels_apart l (n ∷ s.around) h)) means.0)
   case_reached l n s (Item-F.Canon (Lift f t)) new has h k makes = lift_reached l n s f t new h k makes
   case_reached l n s (Item-F.Import i) new has h k makes = import_reached l n s i.name i.desc new h k makes
   case_reached l n s (Item-F.Export e) new has h k makes = export_reached l n s e new h k makes

@@ -1,5 +1,5 @@
--- Sound definitions: each function lifts a core function that is there and of the flat type, no two labels or names in it are
--- equal, and each module has what those of the component have. Sound spaces hold sound definitions and core items that are there.
+-- Sound definitions: each function lifts a core function that is there and of the flat type, types are apart, no two names of an
+-- instance are equal, and each module has what those of the component have. Sound spaces hold sound definitions and core items that are there.
 use Rattle.std.proofs.Common.{◌≡◌, false, List, []}
 use Rattle.std.specs.Prelude.{IfSome}
 use Rattle.std.specs.List.{AllByRecursion}
@@ -10,8 +10,7 @@ use Rattle.comp_graph.specs.Graph.{LiftsCore, IsItem, AreImported}
 use Rattle.comp_graph.specs.Closed.{Closed}
 use Rattle.comp_linking.specs.Definitions.{CoreItem, CoreExport, Lifted, Closure, Definition, AFunc, AType, AComponent, AnInstance, AModule, Exports, EmptyInstance, WithExport, export_names}
 use Rattle.comp_linking.specs.Spaces.{CoreMake, Spaces, Linking}
-use Rattle.comp_linking.specs.Distinct.{HasDistinctLabels}
-use Rattle.comp_linking.proofs.Apart.{IsApart}
+use Rattle.comp_linking.proofs.Apart.{IsFuncApart, IsApart}
 use Rattle.comp_linking.proofs.Modules.{ModulesHave}
 
 -- the lift of a function
@@ -19,7 +18,7 @@ abbrev pub lift_for : Lifted → Lift
 lift_for f = record { instance = f.instance; core = f.core }
 
 abbrev pub IsFuncSound : List CoreMake → Lifted → Type 0
-IsFuncSound cores f = LiftsCore cores f.func_type (lift_for f) × HasDistinctLabels f.func_type
+IsFuncSound cores f = LiftsCore cores f.func_type (lift_for f) × IsFuncApart f.func_type
 
 abbrev pub AreThere : List CoreMake → List CoreExport → Type 0
 AreThere cores exports = AllByRecursion (λ (e : CoreExport). IsItem cores e.item) exports

@@ -155,8 +155,9 @@ type_outcome l n s type meaning =
     only_if meaning.is_there why.Index (
     none_missing meaning.missing (
     after (there_or why.Typing meaning.means) (λ closed.
+    only_if (not meaning.deep) why.Limit (
     only_if (reaches l.reach (runs_type type)) why.Limit (
-    Ok (one_more l n s (AType closed))))))
+    Ok (one_more l n s (AType closed)))))))
 
 -- Lifts.
 

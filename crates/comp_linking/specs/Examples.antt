@@ -1,6 +1,6 @@
 -- Small components, whose graphs and faults the laws `examples` have. Items stand at the places 0, 1 and so on, and those of a
 -- component inside at 10, 11 and so on.
-use Rattle.std.specs.Prelude.{ℕ, ◌+◌, List, [], ◌∷◌, length, map, None, Some, Result, Ok, Err, pos, codes}
+use Rattle.std.specs.Prelude.{ℕ, zero, suc, ◌+◌, List, [], ◌∷◌, length, map, None, Some, Result, Ok, Err, pos, codes}
 use Rattle.ca_base.specs.declared.placed.Placed.{Placed}
 use Rattle.ca_types.specs.declared.types.ValType.TheVariants as val_type
 use Rattle.wasm_module.specs.declared.types.ValType.TheVariants.{I32}
@@ -21,6 +21,8 @@ use Rattle.comp_tree.specs.declared.externs.ExternDesc.{ExternDesc}
 use Rattle.comp_tree.specs.declared.externs.ExternDesc.TheVariants as desc
 use Rattle.comp_tree.specs.declared.types.ValTypeRef.TheVariants as type_ref
 use Rattle.comp_tree.specs.declared.types.PrimValType.TheVariants.{U32}
+use Rattle.comp_tree.specs.declared.types.DefValType.TheVariants as value
+use Rattle.comp_tree.specs.declared.types.Field.{Field}
 use Rattle.comp_tree.specs.declared.types.DefType.TheViews as def_type
 use Rattle.comp_tree.specs.declared.types.DefType.TheVariants as plain_type
 use Rattle.comp_tree.specs.declared.types.DefType.{DefType}
@@ -34,7 +36,7 @@ use Rattle.comp_linking.specs.declared.fault.LinkWhy.{LinkWhy}
 use Rattle.comp_linking.specs.declared.fault.LinkFault.{LinkFault}
 use Rattle.comp_linking.specs.Spaces.{Begin, Make}
 
-abbrev placed_from : ℕ → List Item → List (Placed Item)
+abbrev pub placed_from : ℕ → List Item → List (Placed Item)
 placed_from at [] = []
 placed_from at (item ∷ items) = record { place = at; item = item } ∷ placed_from (at + 1) items
 
@@ -50,7 +52,7 @@ fault place w = Err (record { place = place; why = w })
 
 -- Types: of u32, and of instances whose exports of these names are the type u32.
 abbrev pub u32 : DefType
-u32 = plain_type.Value U32
+u32 = plain_type.Value (value.Primitive U32)
 
 abbrev pub exports_u32 : List (List ℕ) → List InstanceDecl
 exports_u32 [] = []
@@ -58,6 +60,24 @@ exports_u32 (name ∷ names) = plain_type.Export name (desc.TypeEq 0) ∷ export
 
 abbrev pub of_types : List (List ℕ) → DefType
 of_types names = def_type.Instance (plain_type.Type u32 ∷ exports_u32 names)
+
+-- Value types: a list of the type of an index, and a record whose fields have these labels and are of the type of an index.
+abbrev pub list_of : ℕ → Item
+list_of index = plain.Type (plain_type.Value (value.List (type_ref.Index index)))
+
+abbrev field_of : ℕ → List ℕ → Field
+field_of index label = record { label = label; val_type = type_ref.Index index }
+
+abbrev pub record_of : List (List ℕ) → ℕ → Item
+record_of labels index = plain.Type (plain_type.Value (value.Record (map (field_of index) labels)))
+
+-- so many lists, the first of the type of an index, each further one of the list before
+abbrev pub lists_of : ℕ → ℕ → List Item
+lists_of index zero = []
+lists_of index (suc more) = list_of index ∷ lists_of (suc index) more
+
+abbrev pub lists : ℕ → Component
+lists count = root (plain.Type u32 ∷ lists_of 0 count)
 
 -- Items.
 

@@ -188,17 +188,21 @@ alias_makes l n s sort (target.CoreInstanceExport instance name) new =
 alias_makes l n s sort (target.Outer up index) new =
     (d : Definition) × (outer_at l (n ∷ s.around) sort up index ≡ Some d) × (new ≡ with_spaces l n (with_definition s d))
 
--- Types: what keeps a type from a meaning, or that it is past the reach.
+-- Types: what keeps a type from a meaning, that a value type in it is too deep, or that it is past the reach.
 abbrev pub type_has : Reach → DefType → Meaning Closed → LinkWhy → Type 0
 type_has reach type meaning why.Index = meaning.is_there ≡ false
 type_has reach type meaning (why.Missing name) = meaning.missing ≡ Some name
 type_has reach type meaning why.Typing = meaning.means ≡ None
-type_has reach type meaning why.Limit = reaches reach (runs_type type) ≡ false
+type_has reach type meaning why.Limit = (meaning.deep ≡ true) ⊎ (reaches reach (runs_type type) ≡ false)
 type_has reach type meaning why = ⊥
+
+-- what a type stands for
+abbrev pub StandsFor : Meaning Closed → Closed → Type 0
+StandsFor meaning closed = (meaning.means ≡ Some closed) × (meaning.deep ≡ false)
 
 abbrev pub type_makes : Linking → ℕ → Spaces → DefType → Meaning Closed → Linking → Type 0
 type_makes l n s type meaning new =
-    (closed : Closed) × (meaning.means ≡ Some closed) × (reaches l.reach (runs_type type) ≡ true)
+    (closed : Closed) × StandsFor meaning closed × (reaches l.reach (runs_type type) ≡ true)
     × (new ≡ with_spaces l n (with_definition s (AType closed)))
 
 -- Lifts: an index that is not there, a type that is none of functions, a core item that is no function of the flat type, or that

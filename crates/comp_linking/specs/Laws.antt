@@ -20,6 +20,7 @@ use Rattle.comp_linking.specs.Linked.{IsFirst, Begins, exports_at, Links, IsRefu
 use Rattle.comp_linking.specs.Distinct.{HasDistinctLabels, HasNoHash}
 use Rattle.comp_linking.specs.declared.reach.Reach.{Reach}
 use Rattle.comp_linking.specs.declared.reach.Reach.TheVariants.{Runs, Whole}
+use Rattle.comp_linking.specs.Shallow.{HasShallowTypes}
 use Rattle.comp_linking.specs.Standing.{StandsIn}
 use Rattle.comp_linking.specs.Same.{same_func, same_closed}
 use Rattle.comp_linking.specs.Tests.{fits}
@@ -109,6 +110,11 @@ GraphsAreCallable = (c : Component) (g : Graph) → IsLinked Runs c g → IsCall
 abbrev pub LabelsAreDistinct : Type 0
 LabelsAreDistinct =
     (reach : Reach) (c : Component) (g : Graph) → IsLinked reach c g → AllByRecursion (λ (e : Export). HasDistinctLabels e.func_type) g.exports
+
+-- The types of parameters and results of an export nest at most 32 types.
+abbrev pub TypesAreShallow : Type 0
+TypesAreShallow =
+    (reach : Reach) (c : Component) (g : Graph) → IsLinked reach c g → AllByRecursion (λ (e : Export). HasShallowTypes e.func_type) g.exports
 
 -- The names of the root's exports are distinct. The functions that can be called are those among them, and those of instances
 -- among them under `name#function`: where no name of the root has a `#`, no two of them have one name. Else they may: the root

@@ -5,9 +5,12 @@ pub mod Examples
 pub mod Items
 pub mod Laws
 pub mod Linked
+pub mod Meaning
 pub mod Runs
 pub mod Same
+pub mod Shallow
 pub mod Spaces
 pub mod Standing
 pub mod Tests
 pub mod Types
+pub mod ValueTypes

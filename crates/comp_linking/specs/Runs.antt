@@ -2,7 +2,7 @@
 -- and can be linked, so linking that is to lead to a run refuses, as `Limit`, the first item that holds what cannot be run yet. A
 -- type can be run where each value type that is written in it is u32, in functions and in instance types. An index, an alias and
 -- an export stand for what is held elsewhere. A lift can be run where the parameters and the result of its function are u32.
-use Rattle.std.specs.Prelude.{Bool, true, ◌&&◌, List, [], ◌∷◌, Option, Some, None}
+use Rattle.std.specs.Prelude.{Bool, true, false, ◌&&◌, List, [], ◌∷◌, Option, Some, None}
 use Rattle.std.specs.List.{list_all}
 use Rattle.std.specs.Option.{option_map_or}
 use Rattle.ca_types.specs.declared.types.FuncType.{FuncType}
@@ -11,6 +11,8 @@ use Rattle.comp_tree.specs.declared.types.PrimValType.{PrimValType}
 use Rattle.comp_tree.specs.declared.types.PrimValType.TheVariants as prim
 use Rattle.comp_tree.specs.declared.types.ValTypeRef.{ValTypeRef}
 use Rattle.comp_tree.specs.declared.types.ValTypeRef.TheVariants as type_ref
+use Rattle.comp_tree.specs.declared.types.DefValType.{DefValType}
+use Rattle.comp_tree.specs.declared.types.DefValType.TheVariants as written
 use Rattle.comp_tree.specs.declared.types.FuncType as read_func
 use Rattle.comp_tree.specs.declared.types.DefType.{DefType, fold-DefType}
 use Rattle.comp_tree.specs.declared.types.DefType.TheOpen.{DefType-F, InstanceDecl-F}
@@ -28,10 +30,15 @@ reaches Whole runs = true
 
 abbrev pub runs_primitive : PrimValType → Bool
 runs_primitive prim.U32 = true
+runs_primitive type = false
 
 abbrev pub runs_value : ValTypeRef → Bool
 runs_value (type_ref.Primitive type) = runs_primitive type
 runs_value (type_ref.Index index) = true
+
+abbrev pub runs_def : DefValType → Bool
+runs_def (written.Primitive type) = runs_primitive type
+runs_def type = false
 
 abbrev pub runs_result : Option ValTypeRef → Bool
 runs_result None = true
@@ -46,7 +53,7 @@ all_true [] = true
 all_true (b ∷ bs) = b && all_true bs
 
 abbrev pub type_runs : DefType-F Bool Bool → Bool
-type_runs (DefType-F.Value type) = runs_primitive type
+type_runs (DefType-F.Value type) = runs_def type
 type_runs (DefType-F.Func type) = runs_func type
 type_runs (DefType-F.Instance decls) = all_true decls
 

@@ -1,13 +1,11 @@
 -- What a type means (Component Model, Explainer.md, "Type Definitions"): the closed type, where all its indices are there, all
 -- names that it looks up are found, and all that it names is of the wanted sort. What keeps it from a meaning is told by
--- its reason: an index that is not there, the first name that is missing, or the rest. A declaration of an instance type adds
--- an index also where it has no meaning, so that each reason is looked for over the whole type.
-use Rattle.std.specs.Prelude.{ℕ, Bool, true, false, ◌&&◌, nat_lt, is_none, cond, List, [], ◌∷◌, ◌++◌, length, map, Option, Some, None}
+-- its reason. A declaration of an instance type adds an index also where it has no meaning, so that each reason is looked for
+-- over the whole type.
+use Rattle.std.specs.Prelude.{ℕ, Bool, ◌&&◌, is_none, cond, List, [], ◌∷◌, ◌++◌, length, map, Option, Some, None}
 use Rattle.std.specs.Option.{option_map, option_and_then}
 use Rattle.std.specs.List.{slice_get, list_all}
 use Rattle.ca_base.specs.Names.{first_twice, is_among}
-use Rattle.ca_types.specs.declared.types.ValType.{ValType}
-use Rattle.ca_types.specs.declared.types.ValType.TheVariants as val_type
 use Rattle.ca_types.specs.declared.types.Param.{Param}
 use Rattle.ca_types.specs.declared.types.FuncType.{FuncType}
 use Rattle.comp_tree.specs.declared.instances.Sort.{Sort}
@@ -16,85 +14,50 @@ use Rattle.comp_tree.specs.declared.instances.AliasTarget.{AliasTarget}
 use Rattle.comp_tree.specs.declared.instances.AliasTarget.TheVariants as target
 use Rattle.comp_tree.specs.declared.externs.ExternDesc.{ExternDesc}
 use Rattle.comp_tree.specs.declared.externs.ExternDesc.TheVariants as desc
-use Rattle.comp_tree.specs.declared.types.PrimValType.{PrimValType}
-use Rattle.comp_tree.specs.declared.types.PrimValType.TheVariants as prim
-use Rattle.comp_tree.specs.declared.types.ValTypeRef.{ValTypeRef}
-use Rattle.comp_tree.specs.declared.types.ValTypeRef.TheVariants as type_ref
 use Rattle.comp_tree.specs.declared.types.Param as read_param
 use Rattle.comp_tree.specs.declared.types.FuncType as read_func
 use Rattle.comp_tree.specs.declared.types.DefType.{DefType, fold-DefType}
 use Rattle.comp_tree.specs.declared.types.DefType.TheOpen.{DefType-F, InstanceDecl-F}
-use Rattle.comp_graph.specs.Closed.{Closed, Value, Func, Instance, Extern, OfFunc, OfType, OfInstance, Externs, EmptyType, WithExtern, extern_named, first_of, externs_of, func_of, value_of}
+use Rattle.comp_graph.specs.Closed.{Closed, Func, Instance, Extern, OfFunc, OfType, OfInstance, Externs, EmptyType, WithExtern, extern_named, externs_of, func_of}
 use Rattle.comp_linking.specs.Definitions.{Closure}
 use Rattle.comp_linking.specs.Spaces.{Level}
+pub use Rattle.comp_linking.specs.Meaning.{Meaning, absent, meant, lacking_name, found, kept_if, and_told}
+pub use Rattle.comp_linking.specs.ValueTypes.{primitive, is_within, held_within, close_val, close_held, close_all, value_meaning}
 
--- what a part of a type comes to: whether all its indices are there, the first name that is missing, and its meaning
-pub record Meaning (A : Type 0) : Type 0 where
-  pub is_there : Bool
-  pub missing : Option (List ℕ)
-  pub means : Option A
-
--- one that is not there, and one that stands for this or has no meaning
-abbrev pub absent : {A : Type 0} → Meaning A
-absent = record { is_there = false; missing = None; means = None }
-
-abbrev pub meant : {A : Type 0} → Option A → Meaning A
-meant means = record { is_there = true; missing = None; means = means }
-
--- what is made of one that is there
-abbrev pub found : {A B : Type 0} → (A → Option B) → Option (Option A) → Meaning B
-found f None = absent
-found f (Some a) = meant (option_and_then f a)
-
--- the closed type of a value type over these types
-abbrev pub primitive : PrimValType → ValType
-primitive prim.U32 = val_type.U32
-
-abbrev pub is_within : ℕ → ValTypeRef → Bool
-is_within count (type_ref.Primitive type) = true
-is_within count (type_ref.Index index) = nat_lt index count
-
-abbrev pub result_within : ℕ → Option ValTypeRef → Bool
-result_within count None = true
-result_within count (Some type) = is_within count type
+-- Functions.
 
 abbrev pub all_within : ℕ → read_func.FuncType → Bool
-all_within count type = list_all (λ p. is_within count p.val_type) type.params && result_within count type.result
-
-abbrev pub close_val : List (Option Closed) → ValTypeRef → Option ValType
-close_val types (type_ref.Primitive type) = Some (primitive type)
-close_val types (type_ref.Index index) = option_and_then (option_and_then value_of) (slice_get types index)
+all_within count type = list_all (λ p. is_within count p.val_type) type.params && held_within count type.result
 
 abbrev pub close_param : List (Option Closed) → read_param.Param → Option Param
 close_param types p = option_map (λ type. record { label = p.label; val_type = type }) (close_val types p.val_type)
 
 abbrev pub close_params : List (Option Closed) → List read_param.Param → Option (List Param)
-close_params types [] = Some []
-close_params types (p ∷ params) =
-    option_and_then (λ closed. option_map (λ others. closed ∷ others) (close_params types params)) (close_param types p)
-
-abbrev pub close_result : List (Option Closed) → Option ValTypeRef → Option (Option ValType)
-close_result types None = Some None
-close_result types (Some type) = option_map (λ t. Some t) (close_val types type)
+close_params types params = close_all (close_param types) params
 
 -- A function type has its labels distinct.
 abbrev pub close_func : List (Option Closed) → read_func.FuncType → Option FuncType
 close_func types type =
     cond (is_none (first_twice (map (λ p. p.label) type.params)))
-    (option_and_then (λ params. option_map (λ returned. record { params = params; result = returned }) (close_result types type.result))
+    (option_and_then (λ params. option_map (λ returned. record { params = params; result = returned }) (close_held types type.result))
     (close_params types type.params))
     None
 
 abbrev pub func_meaning : List (Option Closed) → read_func.FuncType → Meaning Closed
 func_meaning types type = cond (all_within (length types) type) (meant (option_map Func (close_func types type))) absent
 
--- what an import or an export is to be, over these types
+-- Imports and exports.
+
+-- what one is to be, over these types
 abbrev pub desc_meaning : List (Option Closed) → ExternDesc → Meaning Extern
 desc_meaning types (desc.Func index) = found (λ type. option_map OfFunc (func_of type)) (slice_get types index)
 desc_meaning types (desc.TypeEq index) = found (λ type. Some (OfType type)) (slice_get types index)
 desc_meaning types (desc.Instance index) = found (λ type. option_map OfInstance (externs_of type)) (slice_get types index)
 
--- The index spaces of an instance type that a declaration can name, what of it is told so far, and its exports so far, where all of it has a meaning.
+-- Instance types.
+
+-- The index spaces of an instance type that a declaration can name, what of it is told so far, and its exports so far, where all of
+-- it has a meaning.
 pub record Declared : Type 0 where
   pub types : List (Option Closed)
   pub components : List (Option Closure)
@@ -124,18 +87,7 @@ with_declared d sorts.Instance e = record d { instances = d.instances ++ instanc
 with_declared d sorts.Component e = record d { components = d.components ++ None ∷ [] }
 with_declared d (sorts.Core sort) e = d
 
--- A declaration behind others: what it tells comes behind what was told, and without a meaning the whole has none.
-abbrev pub kept_if : {A B : Type 0} → Option B → Option A → Option A
-kept_if None a = None
-kept_if (Some b) a = a
-
-abbrev pub and_told : {A B : Type 0} → Meaning A → Meaning B → Meaning A
-and_told before now = record {
-  is_there = before.is_there && now.is_there;
-  missing = first_of before.missing now.missing;
-  means = kept_if now.means before.means;
-}
-
+-- a declaration behind others
 abbrev pub told : {B : Type 0} → Declared → Meaning B → Declared
 told d now = record d { so_far = and_told d.so_far now }
 
@@ -148,7 +100,7 @@ of_sort sort extern = None
 
 -- An alias of an instance's export in an instance type. An instance without a meaning has no export that is known to be missing.
 abbrev pub of_export : Sort → List ℕ → Option Extern → Meaning Extern
-of_export sort name None = record { is_there = true; missing = Some name; means = None }
+of_export sort name None = lacking_name name
 of_export sort name (Some extern) = meant (of_sort sort extern)
 
 abbrev pub exported : Sort → List ℕ → Option Externs → Meaning Extern
@@ -217,7 +169,12 @@ declared_by around d [] = d
 declared_by around d (decl ∷ decls) = declared_by around (decl around d) decls
 
 abbrev pub instance_meaning : Declared → Meaning Closed
-instance_meaning d = record { is_there = d.so_far.is_there; missing = d.so_far.missing; means = option_map Instance d.so_far.means }
+instance_meaning d = record {
+  is_there = d.so_far.is_there;
+  missing = d.so_far.missing;
+  deep = d.so_far.deep;
+  means = option_map Instance d.so_far.means;
+}
 
 -- what a type means in these levels, of which the first is where it stands
 abbrev pub InLevels : Type 0
@@ -228,7 +185,7 @@ types_around [] = []
 types_around (level ∷ around) = level.types
 
 abbrev pub type_step : DefType-F InLevels (List Level → Declared → Declared) → InLevels
-type_step (DefType-F.Value type) levels = meant (Some (Value (primitive type)))
+type_step (DefType-F.Value type) levels = value_meaning (types_around levels) type
 type_step (DefType-F.Func type) levels = func_meaning (types_around levels) type
 type_step (DefType-F.Instance decls) levels = instance_meaning (declared_by levels nothing_declared decls)
 

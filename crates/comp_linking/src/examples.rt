@@ -1,5 +1,4 @@
-//! Examples of the definitions, worked out by hand. They come to the same however far linking goes, since all types in them are
-//! u32.
+//! Examples of the definitions, worked out by hand. Those whose types are all u32 come to the same however far linking goes.
 
 ghost use Rattle.std.specs.Prelude.{◌≡◌, [], ◌∷◌, Ok, codes};
 ghost use Rattle.comp_tree.specs.declared.instances.Sort.TheVariants as sorts;
@@ -7,8 +6,9 @@ ghost use Rattle.comp_tree.specs.declared.externs.ExternDesc.TheVariants as desc
 ghost use Rattle.comp_tree.specs.declared.items.Item.TheVariants as plain;
 ghost use Rattle.comp_linking.specs.declared.fault.LinkWhy.TheVariants as why;
 ghost use Rattle.comp_linking.specs.declared.reach.Reach.{Reach};
+ghost use Rattle.comp_linking.specs.declared.reach.Reach.TheVariants.{Runs, Whole};
 ghost use Rattle.comp_linking.specs.Computed.{linked};
-ghost use Rattle.comp_linking.specs.Examples.{root, fault, u32, import, outer, export_type, instantiate, wanting, giving_both, nesting, begins, of_one, make, make_with_absent, lifting, lifting_twice, callable_as};
+ghost use Rattle.comp_linking.specs.Examples.{root, fault, u32, list_of, record_of, lists, import, outer, export_type, instantiate, wanting, giving_both, nesting, begins, of_one, make, make_with_absent, lifting, lifting_twice, callable_as};
 
 /// Faults of one item: an import of the root that is a function, also where its index is not there; an outer alias that goes
 /// past the root; and an export of a name that was exported.
@@ -16,6 +16,22 @@ pub fn faults()
     ensures root_import { (reach : Reach) → linked reach (root (import (desc.Func 0) ∷ [])) ≡ fault 0 why.RootImport }
     ensures too_far { (reach : Reach) → linked reach (root (outer sorts.Type 1 0 ∷ [])) ≡ fault 0 why.Index }
     ensures twice { (reach : Reach) → linked reach (root (plain.Type u32 ∷ export_type (codes "a") ∷ export_type (codes "a") ∷ [])) ≡ fault 2 why.Typing }
+{}
+
+/// A record over a list of lists is linked, and a list is past what can be run. A record without fields is refused, and one with a
+/// label twice; where an index is not there, that is told first.
+pub fn value_types()
+    ensures made { linked Whole (root (plain.Type u32 ∷ list_of 0 ∷ list_of 1 ∷ record_of (codes "a" ∷ codes "b" ∷ []) 2 ∷ [])) ≡ begins (0 ∷ []) }
+    ensures past { linked Runs (root (plain.Type u32 ∷ list_of 0 ∷ [])) ≡ fault 1 why.Limit }
+    ensures empty { (reach : Reach) → linked reach (root (record_of [] 0 ∷ [])) ≡ fault 0 why.Typing }
+    ensures twice { (reach : Reach) → linked reach (root (plain.Type u32 ∷ record_of (codes "a" ∷ codes "a" ∷ []) 0 ∷ [])) ≡ fault 1 why.Typing }
+    ensures not_there { (reach : Reach) → linked reach (root (record_of (codes "a" ∷ codes "a" ∷ []) 0 ∷ [])) ≡ fault 0 why.Index }
+{}
+
+/// Types nest at most 32 types in one another: behind u32 and 31 lists, each of the type before, one more list is refused.
+pub fn depths()
+    ensures within { linked Whole (lists 31) ≡ begins (0 ∷ []) }
+    ensures beyond { linked Whole (lists 32) ≡ fault 32 why.Limit }
 {}
 
 /// A component that is never instantiated is linked, although it imports what nothing gives. Where it is instantiated, its

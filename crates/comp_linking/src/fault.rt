@@ -12,11 +12,13 @@ pub enum LinkWhy {
     /// No export or argument has this name, which is looked up: an export of an instance or a core instance, an argument of
     /// a component, a module that a core module imports from, or an export that is asked for of what is passed.
     Missing(Name),
-    /// A name or a label stands twice where it may not, or what is there is of another sort or type than what is asked for.
+    /// A name or a label stands twice where it may not, or what is there is of another sort or type than what is asked for; a
+    /// record, variant, tuple, enum or flags type is empty, or flags have more than 32 labels (Component Model, Explainer.md,
+    /// "Type Definitions").
     Typing,
     /// The core function of a lift does not have the flat type of the function (Component Model, CanonicalABI.md).
     Canon,
-    /// There are more than 256 component instances, or more than 256 core instances.
+    /// There are more than 256 component instances, more than 256 core instances, or more than 32 value types in one another.
     Limit,
 }
 

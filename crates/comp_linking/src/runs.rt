@@ -7,14 +7,22 @@ ghost use Rattle.comp_graph.specs.Graph as graph;
 ghost use Rattle.comp_linking.specs.Runs as running;
 
 use ca_types::{FuncType, Param, Shared, ValType};
-use comp_tree::{DefType, InstanceDecl, PrimValType, ValTypeRef};
+use comp_tree::{DefType, DefValType, InstanceDecl, PrimValType, ValTypeRef};
 
 /// Whether values of a primitive type can be run.
 fn runs_primitive(val_type: PrimValType) -> bool
     ensures { result ≡ running.runs_primitive val_type }
 {
+    matches!(val_type, PrimValType::U32)
+}
+
+/// Whether values of a type that is defined can be run.
+fn runs_def(val_type: &DefValType) -> bool
+    ensures { result ≡ running.runs_def val_type.now }
+{
     match val_type {
-        PrimValType::U32 => true,
+        DefValType::Primitive(primitive) => runs_primitive(*primitive),
+        _ => false,
     }
 }
 
@@ -57,7 +65,7 @@ pub fn runs_type(def_type: &DefType) -> bool
     ensures { result ≡ running.runs_type def_type.now }
 {
     match def_type {
-        DefType::Value(val_type) => runs_primitive(*val_type),
+        DefType::Value(val_type) => runs_def(val_type),
         DefType::Func(func_type) => runs_func(func_type),
         DefType::Instance(decls) => {
             for decl in decls.as_slice() {

@@ -20,4 +20,6 @@ pub use core_instances::{CoreArgument, CoreInlineExport, CoreInstance, CoreSort}
 pub use externs::{Export, ExternDesc, Import};
 pub use instances::{Alias, AliasTarget, Instance, NamedDefinition, Sort};
 pub use items::{Canon, Component, Item};
-pub use types::{DefType, FuncType, InstanceDecl, Param, PrimValType, ValTypeRef};
+pub use types::{
+    Case, DefType, DefValType, Field, FuncType, InstanceDecl, Param, PrimValType, ValTypeRef,
+};
