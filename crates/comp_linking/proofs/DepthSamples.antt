@@ -31,7 +31,7 @@ use Rattle.comp_linking.proofs.Samples.{value_rolled}
 use Rattle.comp_linking.proofs.ValueSamples.{list_depth}
 
 -- so many lists on one another over u32
-abbrev nested : ℕ → ValType
+abbrev pub nested : ℕ → ValType
 nested zero = leaves.U32
 nested (suc n) = val_type.List (nested n)
 
@@ -40,7 +40,7 @@ nested_depth zero = leaf_depth U32
 nested_depth (suc n) = list_depth (nested n) ∙ ap suc (nested_depth n)
 
 -- the types behind so many lists, and what is linked then
-abbrev known : ℕ → List Closed
+abbrev pub known : ℕ → List Closed
 known zero = Value leaves.U32 ∷ []
 known (suc n) = known n ++ Value (nested (suc n)) ∷ []
 
@@ -50,11 +50,11 @@ spaces n = record (new_spaces None []) { types = known n }
 abbrev so_far : ℕ → Linking
 so_far n = record { scopes = spaces n ∷ []; cores = []; plan = Begin 0 ∷ []; reach = Whole }
 
-known_length : (n : ℕ) → length (known n) ≡ suc n
+pub known_length : (n : ℕ) → length (known n) ≡ suc n
 known_length zero = refl
 known_length (suc n) = let longer = length-append (known n) (Value (nested (suc n)) ∷ []) in let before = known_length n in omega (arith, longer, before)
 
-known_last : (n : ℕ) → slice_get (known n) n ≡ Some (Value (nested n))
+pub known_last : (n : ℕ) → slice_get (known n) n ≡ Some (Value (nested n))
 known_last zero = refl
 known_last (suc n) = subst (λ (i : ℕ). slice_get (known (suc n)) i ≡ Some (Value (nested (suc n)))) (known_length n) (last_there (known n) (Value (nested (suc n))))
 
@@ -67,7 +67,7 @@ is_known : (n : ℕ) → nat_lt n (length (map Some (known n))) ≡ true
 is_known n = let mapped = length-map (known n) Some in let longer = known_length n in grind (arith, nat_tests)
 
 -- A list of the last type.
-list_meaning : (n : ℕ) → value_meaning (map Some (known n)) (value.List (type_ref.Index n)) ≡ capped (Some (nested (suc n)))
+pub list_meaning : (n : ℕ) → value_meaning (map Some (known n)) (value.List (type_ref.Index n)) ≡ capped (Some (nested (suc n)))
 list_meaning n = rw (is_known n, mapped_at (known n) n (Value (nested n)) (known_last n)) refl
 
 -- a list of the type of an index, as it is written
@@ -79,13 +79,13 @@ list_outcome n meaning e =
     ap (outcome_case (so_far n) 0 (spaces n)) (outs-Type (list_type n))
     ∙ ap (type_outcome (so_far n) 0 (spaces n) (list_type n)) (value_rolled (value.List (type_ref.Index n)) (levels_at (so_far n) (0 ∷ [])) ∙ list_meaning n ∙ e)
 
-shallow_list : (n : ℕ) → suc (suc n) ≤ depth_limit → capped (Some (nested (suc n))) ≡ meant (Some (Value (nested (suc n))))
+pub shallow_list : (n : ℕ) → suc (suc n) ≤ depth_limit → capped (Some (nested (suc n))) ≡ meant (Some (Value (nested (suc n))))
 shallow_list n h = rw (within) refl
   where
     within : nat_le (depth (nested (suc n))) depth_limit ≡ true
     within = let deep = nested_depth (suc n) in grind (arith, nat_tests)
 
-deep_list : (n : ℕ) → suc (suc n) ≡ suc depth_limit → capped (Some (nested (suc n))) ≡ too_deep (Value leaves.Bool)
+pub deep_list : (n : ℕ) → suc (suc n) ≡ suc depth_limit → capped (Some (nested (suc n))) ≡ too_deep (Value leaves.Bool)
 deep_list n h = rw (beyond) refl
   where
     beyond : nat_le (depth (nested (suc n))) depth_limit ≡ false

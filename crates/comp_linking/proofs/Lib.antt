@@ -9,6 +9,7 @@ pub mod Few
 pub mod Fitting
 pub mod Following
 pub mod Holding
+pub mod InstanceSamples
 pub mod ItemOutcomes
 pub mod Kept
 pub mod Lengths

@@ -44,20 +44,20 @@ value_rolled type levels =
 u32_rolled : (levels : List Level) → meaning_of u32 levels ≡ meant (Some (Value val_type.U32))
 u32_rolled levels = value_rolled (value.Primitive U32) levels ∙ rw (leaf_depth U32) refl
 
-abbrev folded_decl : InstanceDecl → List Level → Declared → Declared
+abbrev pub folded_decl : InstanceDecl → List Level → Declared → Declared
 folded_decl = fold-InstanceDecl InLevels (List Level → Declared → Declared) type_step decl_step
 
-instance_rolled : (decls : List InstanceDecl) (levels : List Level) → meaning_of (def_type.Instance decls) levels ≡ instance_meaning (declared_by levels nothing_declared (map folded_decl decls))
+pub instance_rolled : (decls : List InstanceDecl) (levels : List Level) → meaning_of (def_type.Instance decls) levels ≡ instance_meaning (declared_by levels nothing_declared (map folded_decl decls))
 instance_rolled decls levels =
     ap (λ t. meaning_of t levels) (sym (rolls-Instance decls))
     ∙ ap (λ (f : InLevels). f levels) (fold-roll-DefType InLevels (List Level → Declared → Declared) type_step decl_step (DefType-F.Instance decls))
 
-type_rolled : (type : DefType) (around : List Level) (d : Declared) → folded_decl (plain_type.Type type) around d ≡ with_type d (meaning_of type (own_level d ∷ around))
+pub type_rolled : (type : DefType) (around : List Level) (d : Declared) → folded_decl (plain_type.Type type) around d ≡ with_type d (meaning_of type (own_level d ∷ around))
 type_rolled type around d =
     ap (λ (f : List Level → Declared → Declared). f around d)
     (ap folded_decl (sym (rolls-Type type)) ∙ fold-roll-InstanceDecl InLevels (List Level → Declared → Declared) type_step decl_step (InstanceDecl-F.Type type))
 
-export_rolled : (name : List ℕ) (asked : ExternDesc) (around : List Level) (d : Declared) → folded_decl (plain_type.Export name asked) around d ≡ with_export d name asked
+pub export_rolled : (name : List ℕ) (asked : ExternDesc) (around : List Level) (d : Declared) → folded_decl (plain_type.Export name asked) around d ≡ with_export d name asked
 export_rolled name asked around d =
     ap (λ (f : List Level → Declared → Declared). f around d)
     (ap folded_decl (sym (rolls-Export name asked)) ∙ fold-roll-InstanceDecl InLevels (List Level → Declared → Declared) type_step decl_step (InstanceDecl-F.Export name asked))

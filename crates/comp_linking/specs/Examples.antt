@@ -79,6 +79,15 @@ lists_of index (suc more) = list_of index ∷ lists_of (suc index) more
 abbrev pub lists : ℕ → Component
 lists count = root (plain.Type u32 ∷ lists_of 0 count)
 
+-- the same types in an instance type, and behind them these declarations
+abbrev pub lists_declared : ℕ → ℕ → List InstanceDecl → List InstanceDecl
+lists_declared index zero others = others
+lists_declared index (suc more) others =
+    plain_type.Type (plain_type.Value (value.List (type_ref.Index index))) ∷ lists_declared (suc index) more others
+
+abbrev pub of_lists : ℕ → List InstanceDecl → Component
+of_lists count others = root (plain.Type (def_type.Instance (plain_type.Type u32 ∷ lists_declared 0 count others)) ∷ [])
+
 -- Items.
 
 abbrev pub import : ExternDesc → Item

@@ -3,12 +3,13 @@
 ghost use Rattle.std.specs.Prelude.{◌≡◌, [], ◌∷◌, Ok, codes};
 ghost use Rattle.comp_tree.specs.declared.instances.Sort.TheVariants as sorts;
 ghost use Rattle.comp_tree.specs.declared.externs.ExternDesc.TheVariants as desc;
+ghost use Rattle.comp_tree.specs.declared.types.DefType.TheVariants as plain_type;
 ghost use Rattle.comp_tree.specs.declared.items.Item.TheVariants as plain;
 ghost use Rattle.comp_linking.specs.declared.fault.LinkWhy.TheVariants as why;
 ghost use Rattle.comp_linking.specs.declared.reach.Reach.{Reach};
 ghost use Rattle.comp_linking.specs.declared.reach.Reach.TheVariants.{Runs, Whole};
 ghost use Rattle.comp_linking.specs.Computed.{linked};
-ghost use Rattle.comp_linking.specs.Examples.{root, fault, u32, list_of, record_of, lists, import, outer, export_type, instantiate, wanting, giving_both, nesting, begins, of_one, make, make_with_absent, lifting, lifting_twice, callable_as};
+ghost use Rattle.comp_linking.specs.Examples.{root, fault, u32, list_of, record_of, lists, of_lists, import, outer, export_type, instantiate, wanting, giving_both, nesting, begins, of_one, make, make_with_absent, lifting, lifting_twice, callable_as};
 
 /// Faults of one item: an import of the root that is a function, also where its index is not there; an outer alias that goes
 /// past the root; and an export of a name that was exported.
@@ -32,6 +33,16 @@ pub fn value_types()
 pub fn depths()
     ensures within { linked Whole (lists 31) ≡ begins (0 ∷ []) }
     ensures beyond { linked Whole (lists 32) ≡ fault 32 why.Limit }
+{}
+
+/// In an instance type all other reasons come first, also those of an export of a type that is too deep: it is no type of
+/// functions.
+pub fn depths_in_instance_types()
+    ensures within { linked (of_lists 31 []) ≡ begins (0 ∷ []) }
+    ensures beyond { linked (of_lists 32 []) ≡ fault 0 why.Limit }
+    ensures exported { linked (of_lists 32 (plain_type.Export (codes "a") (desc.TypeEq 32) ∷ [])) ≡ fault 0 why.Limit }
+    ensures no_function { linked (of_lists 32 (plain_type.Export (codes "a") (desc.Func 32) ∷ [])) ≡ fault 0 why.Typing }
+    ensures not_there { linked (of_lists 32 (plain_type.Export (codes "a") (desc.TypeEq 33) ∷ [])) ≡ fault 0 why.Index }
 {}
 
 /// A component that is never instantiated is linked, although it imports what nothing gives. Where it is instantiated, its
