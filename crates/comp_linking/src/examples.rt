@@ -38,11 +38,11 @@ pub fn depths()
 /// In an instance type all other reasons come first, also those of an export of a type that is too deep: it is no type of
 /// functions.
 pub fn depths_in_instance_types()
-    ensures within { linked (of_lists 31 []) ≡ begins (0 ∷ []) }
-    ensures beyond { linked (of_lists 32 []) ≡ fault 0 why.Limit }
-    ensures exported { linked (of_lists 32 (plain_type.Export (codes "a") (desc.TypeEq 32) ∷ [])) ≡ fault 0 why.Limit }
-    ensures no_function { linked (of_lists 32 (plain_type.Export (codes "a") (desc.Func 32) ∷ [])) ≡ fault 0 why.Typing }
-    ensures not_there { linked (of_lists 32 (plain_type.Export (codes "a") (desc.TypeEq 33) ∷ [])) ≡ fault 0 why.Index }
+    ensures within { linked Whole (of_lists 31 []) ≡ begins (0 ∷ []) }
+    ensures beyond { linked Whole (of_lists 32 []) ≡ fault 0 why.Limit }
+    ensures exported { linked Whole (of_lists 32 (plain_type.Export (codes "a") (desc.TypeEq 32) ∷ [])) ≡ fault 0 why.Limit }
+    ensures no_function { linked Whole (of_lists 32 (plain_type.Export (codes "a") (desc.Func 32) ∷ [])) ≡ fault 0 why.Typing }
+    ensures not_there { linked Whole (of_lists 32 (plain_type.Export (codes "a") (desc.TypeEq 33) ∷ [])) ≡ fault 0 why.Index }
 {}
 
 /// A component that is never instantiated is linked, although it imports what nothing gives. Where it is instantiated, its
