@@ -1,7 +1,8 @@
 -- Instances of the types that an instance type asks for (Component Model, Explainer.md, "Import and Export Definitions"), by the
 -- number of the type.
-use Rattle.std.specs.Prelude.{◌≡◌, ℕ, Bool, true, false, List, [], ◌∷◌, Option, Some}
+use Rattle.std.specs.Prelude.{◌≡◌, ℕ, Bool, true, false, List, [], ◌∷◌, Option, Some, None}
 use Rattle.std.specs.List.{slice_get}
+use Rattle.std.specs.Option.{option_map}
 use Rattle.std.specs.declared.cmp.Ordering.{Ordering}
 use Rattle.std.specs.BTreeMap.{BTreeMap, get}
 use Rattle.comp_graph.specs.Closed.{Externs}
@@ -12,6 +13,7 @@ use Rattle.type_tables.specs.declared.refs.ExternRef.{ExternRef}
 use Rattle.type_tables.specs.declared.refs.ExternRef.TheVariants as extern_ref
 use Rattle.type_tables.specs.contracts.refs.InstanceTypeRefOrd.TheImpl as order
 use Rattle.type_tables.specs.Table.{Table, IsInstanceType}
+use Rattle.instance_tables.specs.declared.references.InstanceRef.{InstanceRef}
 use Rattle.instance_tables.specs.declared.references.DefinitionRef.{DefinitionRef}
 use Rattle.instance_tables.specs.declared.references.DefinitionRef.TheVariants as definition_ref
 use Rattle.instance_tables.specs.References.{World}
@@ -33,6 +35,18 @@ type_cmp = (order.ghosts).cmp
 -- what a map by instance types has at one
 abbrev pub base_of : BTreeMap InstanceTypeRef ℕ → InstanceTypeRef → Option ℕ
 base_of bases type = get type_cmp bases type
+
+-- the instance of a base, as it is
+abbrev pub instance_of : Option ℕ → Option InstanceRef
+instance_of base = option_map (λ base. record { base = base; seen_as = None }) base
+
+-- the instance that is kept for an instance type
+abbrev pub kept_for : BTreeMap InstanceTypeRef ℕ → InstanceTypeRef → Option InstanceRef
+kept_for bases type = instance_of (base_of bases type)
+
+-- What is kept stays.
+abbrev pub StayKept : BTreeMap InstanceTypeRef ℕ → BTreeMap InstanceTypeRef ℕ → Type 0
+StayKept old new = (type : InstanceTypeRef) (i : InstanceRef) → kept_for old type ≡ Some i → kept_for new type ≡ Some i
 
 -- The exports of this number are the types that an instance type asks for, which asks for nothing else.
 pub record HasTypes (t : Table) (w : World) (type : InstanceTypeRef) (base : ℕ) : Type 0 where

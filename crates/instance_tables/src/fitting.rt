@@ -167,7 +167,8 @@ impl Instances {
 
     /// Remembers a pair that fits.
     fn know(&mut self, pair: Pair) -> Result<(), AllocError>
-        ensures { (t : Table) (w : World) → AreInstances t w self.old → IsKnown t w pair → AreInstances t w self.new }
+        ensures are { (t : Table) (w : World) → AreInstances t w self.old → IsKnown t w pair → AreInstances t w self.new }
+        ensures kept { self.new.of_types ≡ self.old.of_types }
     {
         add(&mut self.known, pair)
     }
@@ -176,6 +177,7 @@ impl Instances {
     fn remember(&mut self, walk: &mut Walk, pair: Pair) -> Result<(), AllocError>
         ensures stack { walk.new.stack.items ≡ walk.old.stack.items }
         ensures agrees { walk.new.agrees ≡ walk.old.agrees }
+        ensures kept { self.new.of_types ≡ self.old.of_types }
         ensures instances { (t : Table) (w : World) → AreInstances t w self.old → IsPassed t w walk.old.agrees pair → AreInstances t w self.new }
         ensures passed { (t : Table) (w : World) → ArePassed t w walk.old → IsPassed t w walk.old.agrees pair → ArePassed t w walk.new }
     {
@@ -233,7 +235,8 @@ impl Instances {
 
     /// One turn of a walk.
     fn turn(&mut self, types: &Types<'_>, walk: &mut Walk) -> Result<Turn, AllocError>
-        ensures { (w : World) (given : Exports) (asked : Externs) → AreInstances types.now w self.old → IsOn types.now w given asked walk.old → IsTurn types.now w given asked self.new walk.new result }
+        ensures is { (w : World) (given : Exports) (asked : Externs) → AreInstances types.now w self.old → IsOn types.now w given asked walk.old → IsTurn types.now w given asked self.new walk.new result }
+        ensures kept { self.new.of_types ≡ self.old.of_types }
     {
         types.are_distinct();
         let Some(frame) = walk.stack.pop() else {
@@ -260,7 +263,8 @@ impl Instances {
         given: InstanceRef,
         asked: InstanceTypeRef,
     ) -> Result<Fit, AllocError>
-        ensures { (w : World) (exports : Exports) (externs : Externs) → AreInstances types.now w self.old → IsInstance types.now w given exports → IsInstanceType types.now asked externs → AreInstances types.now w self.new × IfOk result (IsFit types.now (AnInstance exports) (OfInstance externs)) }
+        ensures fits { (w : World) (exports : Exports) (externs : Externs) → AreInstances types.now w self.old → IsInstance types.now w given exports → IsInstanceType types.now asked externs → AreInstances types.now w self.new × IfOk result (IsFit types.now (AnInstance exports) (OfInstance externs)) }
+        ensures kept { self.new.of_types ≡ self.old.of_types }
     {
         let mut walk = Walk::begin(alloc, given, asked)?;
         // No walk has so many turns.
@@ -281,7 +285,8 @@ impl Instances {
         given: InstanceRef,
         asked: InstanceTypeRef,
     ) -> Result<Fit, AllocError>
-        ensures { (w : World) (exports : Exports) (externs : Externs) → AreInstances types.now w self.old → IsInstance types.now w given exports → IsInstanceType types.now asked externs → AreInstances types.now w self.new × IfOk result (IsFit types.now (AnInstance exports) (OfInstance externs)) }
+        ensures fits { (w : World) (exports : Exports) (externs : Externs) → AreInstances types.now w self.old → IsInstance types.now w given exports → IsInstanceType types.now asked externs → AreInstances types.now w self.new × IfOk result (IsFit types.now (AnInstance exports) (OfInstance externs)) }
+        ensures kept { self.new.of_types ≡ self.old.of_types }
     {
         types.are_distinct();
         if has(&self.known, Pair { given, asked }) {
@@ -299,7 +304,8 @@ impl Instances {
         given: DefinitionRef,
         asked: ExternRef,
     ) -> Result<Fit, AllocError>
-        ensures { (w : World) (d : Definition) (x : Extern) → AreInstances types.now w self.old → Stands types.now w given d → IsExtern types.now asked x → AreInstances types.now w self.new × IfOk result (IsFit types.now d x) }
+        ensures fits { (w : World) (d : Definition) (x : Extern) → AreInstances types.now w self.old → Stands types.now w given d → IsExtern types.now asked x → AreInstances types.now w self.new × IfOk result (IsFit types.now d x) }
+        ensures kept { self.new.of_types ≡ self.old.of_types }
     {
         match compare(types, given, asked) {
             Comparison::Agrees(agrees) => Ok(fit_of(agrees)),

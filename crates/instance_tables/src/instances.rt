@@ -41,6 +41,7 @@ impl Instances {
         ensures ok { IfOk result (λ i. (t : Table) (w : World) (exports : Exports) → AreInstances t w self.old → IsListing t w listing exports → IsInstance t (with_base w exports) i exports) }
         ensures stand { IfOk result (λ i. (t : Table) (w : World) (exports : Exports) → AreInstances t w self.old → IsListing t w listing exports → AreInstances t (with_base w exports) self.new) }
         ensures err { OnErr result ((t : Table) (w : World) → AreInstances t w self.old → AreInstances t w self.new) }
+        ensures kept { self.new.of_types ≡ self.old.of_types }
     {
         let base = self.bases.len();
         self.bases.push(listing)?;

@@ -1,13 +1,13 @@
 //! Instances whose exports are the types that a type of instances asks for: one for each type.
 
-ghost use Rattle.std.specs.Prelude.{◌≡◌, ◌++◌, ℕ, List, Option, IfOk, OnOk, OnErr, IsTrue};
+ghost use Rattle.std.specs.Prelude.{◌≡◌, ◌++◌, ℕ, List, Option, Some, None, IfOk, OnOk, OnErr, IsTrue};
 ghost use Rattle.comp_graph.specs.Closed.{Externs};
 ghost use Rattle.comp_linking.specs.Definitions as definitions;
 ghost use Rattle.comp_linking.specs.Tests as tests;
 ghost use Rattle.type_tables.specs.Table.{Table, IsInstanceType};
 ghost use Rattle.instance_tables.specs.References.{World, IsListing, with_base};
 ghost use Rattle.instance_tables.specs.Instances.{AreInstances, HasInstance, GivesInstance};
-ghost use Rattle.instance_tables.specs.OfTypes.{is_type, type_listed, base_of};
+ghost use Rattle.instance_tables.specs.OfTypes.{is_type, type_listed, base_of, kept_for, StayKept};
 
 use crate::instances::Instances;
 use crate::references::{DefinitionRef, InstanceRef};
@@ -88,6 +88,8 @@ impl Instances {
         listing: Listing<DefinitionRef>,
     ) -> Result<InstanceRef, AllocError>
         ensures ok { IfOk result (λ i. (t : Table) (w : World) (externs : Externs) → AreInstances t w self.old → IsInstanceType t instance_type externs → IsTrue (tests.are_types externs) → IsListing t w listing (definitions.types_of externs) → HasInstance t (with_base w (definitions.types_of externs)) self.new i (definitions.types_of externs)) }
+        ensures kept { IfOk result (λ i. kept_for self.new.of_types instance_type ≡ Some i) }
+        ensures stay { base_of self.old.of_types instance_type ≡ None → StayKept self.old.of_types self.new.of_types }
         ensures err { OnErr result ((t : Table) (w : World) → AreInstances t w self.old → AreInstances t w self.new) }
     {
         let base = self.bases.len();
@@ -109,6 +111,9 @@ impl Instances {
         instance_type: InstanceTypeRef,
     ) -> Result<InstanceRef, AllocError>
         ensures ok { IfOk result (λ i. (w : World) (externs : Externs) → AreInstances types.now w self.old → IsInstanceType types.now instance_type externs → IsTrue (tests.are_types externs) → GivesInstance types.now w self.new i (definitions.types_of externs)) }
+        // What is answered is kept, and what was kept stays.
+        ensures kept { IfOk result (λ i. kept_for self.new.of_types instance_type ≡ Some i) }
+        ensures stay { StayKept self.old.of_types self.new.of_types }
         ensures err { OnErr result ((w : World) → AreInstances types.now w self.old → AreInstances types.now w self.new) }
     {
         types.are_distinct();
