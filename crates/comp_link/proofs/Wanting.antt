@@ -149,11 +149,14 @@ module _ (l : Linking) (n : ℕ) (s : Spaces) (name : List ℕ) (meaning : Meani
 -- Types.
 
 module _ (l : Linking) (n : ℕ) (s : Spaces) (type : DefType) (meaning : Meaning Closed) (closed : Closed) (there : meaning.is_there ≡ true) (none : meaning.missing ≡ None) (is : meaning.means ≡ Some closed) where
-  pub type_made : reaches l.reach (runs_type type) ≡ true → type_outcome l n s type meaning ≡ Ok (one_more l n s (AType closed))
-  type_made within = rw (there, none, is, within) refl
+  pub type_made : meaning.deep ≡ false → reaches l.reach (runs_type type) ≡ true → type_outcome l n s type meaning ≡ Ok (one_more l n s (AType closed))
+  type_made shallow within = rw (there, none, is, shallow, within) refl
 
-  pub type_past : reaches l.reach (runs_type type) ≡ false → type_outcome l n s type meaning ≡ Err why.Limit
-  type_past past = rw (there, none, is, past) refl
+  pub type_deep : meaning.deep ≡ true → type_outcome l n s type meaning ≡ Err why.Limit
+  type_deep deep = rw (there, none, is, deep) refl
+
+  pub type_past : meaning.deep ≡ false → reaches l.reach (runs_type type) ≡ false → type_outcome l n s type meaning ≡ Err why.Limit
+  type_past shallow past = rw (there, none, is, shallow, past) refl
 
 -- What the root imports.
 

@@ -107,6 +107,9 @@ fn type_definition<'a>(
     let Some(closed) = meant.means else {
         return Err(MemoryOr::Fault(LinkWhy::Typing));
     };
+    if meant.deep {
+        return Err(MemoryOr::Fault(LinkWhy::Limit));
+    }
     if !linker.reach.has_type(def_type) {
         return Err(MemoryOr::Fault(LinkWhy::Limit));
     }
