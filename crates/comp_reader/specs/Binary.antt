@@ -29,6 +29,7 @@ use Rattle.comp_tree.specs.declared.instances.Alias.{Alias}
 use Rattle.comp_tree.specs.declared.externs.ExternDesc.{ExternDesc}
 use Rattle.comp_tree.specs.declared.externs.ExternDesc.TheVariants as descs
 use Rattle.comp_tree.specs.declared.types.PrimValType.TheVariants.{U32}
+use Rattle.comp_tree.specs.declared.types.DefValType.TheVariants as values
 use Rattle.comp_tree.specs.declared.types.ValTypeRef.{ValTypeRef}
 use Rattle.comp_tree.specs.declared.types.ValTypeRef.TheVariants.{Primitive, Index}
 use Rattle.comp_tree.specs.declared.types.Param.{Param}
@@ -293,7 +294,7 @@ type_of inner = do
     type ← func_type
     Give (Func type))
       (Choose (b == 0x42) (inner place)
-      (Choose (b == 0x79) (Give (Value U32)) (refused_type place b)))
+      (Choose (b == 0x79) (Give (Value (values.Primitive U32))) (refused_type place b)))
 
 -- the declarations of an instance type, in which types are of this grammar
 unfoldable pub declarations : Grammar ComponentWhy DefType → Grammar ComponentWhy DefType

@@ -11,7 +11,7 @@ use crate::fault::{ComponentWhy, refused_type, unsupported};
 use crate::func_types::read_func_type;
 use crate::names::read_extern_name;
 use ca_base::{Kind, ReadError, Refusal, Seq, Window};
-use comp_tree::{DefType, InstanceDecl, Item, PrimValType};
+use comp_tree::{DefType, DefValType, InstanceDecl, Item, PrimValType};
 use std::alloc::Global;
 
 /// How many components may be open at a place, and how many instance types.
@@ -37,7 +37,7 @@ fn read_def_type(
         return read_instance_type(alloc, more, place, window);
     }
     if byte == 0x79 {
-        return Ok(DefType::Value(PrimValType::U32));
+        return Ok(DefType::Value(DefValType::Primitive(PrimValType::U32)));
     }
     Err(ReadError::Fault(refused_type(place, byte)))
 }
