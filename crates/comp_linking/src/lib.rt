@@ -4,6 +4,7 @@
 //!
 //! - `fault`: why an item is refused, and where
 //! - `reach`, of `runs`: how far linking goes, and whether a type or a lift is within reach
+//! - `well_made`: what a type needs as it is written
 //! - `laws`: what holds of every linking
 //! - `examples`: the definitions on small components
 #![tactic(auto)]
@@ -13,6 +14,8 @@ mod fault;
 pub mod laws;
 mod reach;
 mod runs;
+mod well_made;
 
 pub use fault::{LinkFault, LinkWhy};
 pub use reach::Reach;
+pub use well_made::{all_within, is_well_made, parts_within};
