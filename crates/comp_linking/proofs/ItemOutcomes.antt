@@ -19,7 +19,7 @@ use Rattle.comp_graph.specs.Graph.{is_flat}
 use Rattle.comp_linking.specs.Runs.{reaches, runs_type, runs_lift}
 use Rattle.comp_linking.specs.Types.{Meaning}
 use Rattle.comp_linking.specs.Spaces.{Spaces, Linking, size_of, definition_at, IsOfSort, with_core_item, with_definition, with_spaces, outer_at}
-use Rattle.comp_linking.specs.Items.{IsCoreOf, alias_has, alias_makes, type_has, StandsFor, type_makes, lifts, lift_has, lift_makes, wanted, IsOfTypes, lacking, DoesNotFit, import_has, with_import, IsImported, import_makes, said, IsSaid, export_has, with_export, IsExported, export_makes}
+use Rattle.comp_linking.specs.Items.{IsCoreOf, alias_has, alias_makes, type_has, type_makes, lifts, lift_has, lift_makes, wanted, IsOfTypes, lacking, DoesNotFit, import_has, with_import, IsImported, import_makes, said, IsSaid, export_has, with_export, IsExported, export_makes}
 use Rattle.comp_linking.specs.Tests.{is_core_of, is_of_sort, fits, root_may_import}
 use Rattle.comp_linking.specs.Computed.{after, there_or, Outcome, Makes, core_aliased, alias_outcome, type_outcome, lifted_to, lifted_of, lift_outcome, root_given, as_asked, import_outcome, said_is_there, said_lacks, as_said, export_outcome}
 use Rattle.comp_linking.proofs.Lists.{match_at, match_some, then_some}

@@ -16,7 +16,7 @@ use crate::layers::{Layer, Layers};
 use crate::listing::Listing;
 use crate::refs::{ExternRef, FuncTypeRef, InstanceTypeRef, TypeRef, are_same};
 use ca_types::{FuncType, Shared};
-use laid_types::ValTypeLayer;
+use laid_types::{LaidType, ValTypeLayer};
 use std::alloc::{AllocError, Global};
 use std::collections::BTreeMap;
 use std::marker::Model;
@@ -106,6 +106,13 @@ impl<'a> Types<'a> {
         ensures { result ≡ length self.now.values }
     {
         self.values.len()
+    }
+
+    /// The value type of a number, with what is computed of it.
+    pub fn value(&self, number: usize) -> Option<LaidType<'_>>
+        ensures { result ≡ slice_get self.now.values number }
+    {
+        self.values.get(number)
     }
 
     /// Makes a function type, with its parameters in order and its result, each by the number of its value type, which is there.
