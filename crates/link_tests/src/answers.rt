@@ -5,7 +5,7 @@
 
 use ca_base::{MemoryOr, ReadError, Refusal};
 use comp_graph::{Action, CoreExtern, CoreMake, CoreRef, Graph, Lift};
-use comp_link::{LinkFault, LinkWhy, link};
+use comp_link::{LinkFault, LinkWhy, Reach, link};
 use comp_reader::{Component, ComponentWhy, read_component};
 use std::alloc::{AllocError, Global};
 use std::fmt::Write;
@@ -128,23 +128,38 @@ fn fault_text(alloc: Global, fault: LinkFault) -> Result<String, AllocError> {
     fault_shown(alloc, &fault)
 }
 
-/// The graph of a component, or its fault.
-fn graph_of(alloc: Global, component: &Component) -> Result<Graph<'_>, MemoryOr<LinkFault>> {
-    link(alloc, component)
+/// The graph of a component, where linking goes so far, or its fault.
+fn graph_of(
+    alloc: Global,
+    component: &Component,
+    reach: Reach,
+) -> Result<Graph<'_>, MemoryOr<LinkFault>> {
+    link(alloc, component, reach)
 }
 
-/// The text of what a component is linked to, or of its fault.
-fn linked(alloc: Global, component: &Component) -> Result<String, Fail> {
-    match graph_of(alloc, component) {
+/// The text of what a component is linked to, where linking goes so far, or of its fault.
+fn linked(alloc: Global, component: &Component, reach: Reach) -> Result<String, Fail> {
+    match graph_of(alloc, component, reach) {
         Ok(graph) => Ok(graph_text(alloc, graph)?),
         Err(MemoryOr::Memory) => Err(Fail::new("memory")),
         Err(MemoryOr::Fault(fault)) => Ok(fault_text(alloc, fault)?),
     }
 }
 
+/// The same where linking goes over all that is read, and a line more where linking that leads to a run comes to something else.
+fn both_linked(alloc: Global, component: &Component) -> Result<String, Fail> {
+    let mut text = linked(alloc, component, Reach::Whole)?;
+    let run = linked(alloc, component, Reach::Runs)?;
+    if run.as_str() != text.as_str() {
+        text.push_str("\nto be run: ")?;
+        text.push_str(run.as_str())?;
+    }
+    Ok(text)
+}
+
 /// The same of a component that is let go then.
 fn told(alloc: Global, component: Component) -> Result<String, Fail> {
-    linked(alloc, &component)
+    both_linked(alloc, &component)
 }
 
 /// The component of bytes, or its refusal.

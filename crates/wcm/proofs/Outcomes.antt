@@ -9,42 +9,43 @@ use Rattle.script_reader.specs.declared.fault.ScriptFault.{ScriptFault}
 use Rattle.script_reader.specs.Script.{Script, script}
 use Rattle.wcm.specs.declared.answer.Answer.{Answer}
 use Rattle.comp_graph.specs.Graph.{Graph}
+use Rattle.comp_linking.specs.declared.reach.Reach.TheVariants.{Runs}
 use Rattle.comp_linking.specs.Linked.{IsLinked}
 use Rattle.comp_linking.specs.Laws.{LinkedOrRefused}
 use Rattle.wcm.specs.Laws.{ScriptsAreSound, OneOutcome}
 use Rattle.abi_machine.specs.Laws.{EachRunEnds}
 use Rattle.command_words.specs.Words.{Command, Run, Check, Show, command_of, component_file}
-use Rattle.wcm.specs.Outcome.{component_limit, too_long, refused_answer, link_refused_answer, script_refused_answer, accepted_answer, shown_answer, run_answer, IsUsage, ScriptAnswers, LinkAnswers, FileAnswers, HeldScriptAnswers, GraphAnswers, HeldAnswers, CommandAnswers, DecidesAlone, IsScriptTold, IsCommandTold}
+use Rattle.wcm.specs.Outcome.{component_limit, too_long, refused_answer, link_refused_answer, script_refused_answer, accepted_answer, shown_answer, run_answer, reach_of, IsUsage, ScriptAnswers, LinkAnswers, FileAnswers, HeldScriptAnswers, GraphAnswers, HeldAnswers, CommandAnswers, DecidesAlone, IsScriptTold, IsCommandTold}
 use Rattle.wcm.proofs.Rows.{usage_answer}
 use Rattle.wcm.proofs.Rows as only
 
 module _ (reading : OneReading) (links : LinkedOrRefused) (sound : ScriptsAreSound) (ends : EachRunEnds) where
-  by_script : (bytes text : List ℕ) (c : Component) (g : Graph) (r : Result Script ScriptFault) → IsComponent bytes c → IsLinked c g → script g.exports text ≡ r → (a : Answer) × ScriptAnswers g text a
+  by_script : (bytes text : List ℕ) (c : Component) (g : Graph) (r : Result Script ScriptFault) → IsComponent bytes c → IsLinked Runs c g → script g.exports text ≡ r → (a : Answer) × ScriptAnswers g text a
   by_script bytes text c g (Err fault) i l h = (script_refused_answer fault, inl (fault, h, refl))
   by_script bytes text c g (Ok s) i l h =
       let run = ends g s (sound bytes text c g s i l h) in
       (run_answer run.0 run.1, inr (s, h, (run.0, run.1, run.2, refl)))
 
-  by_held_script : (bytes : List ℕ) (c : Component) (g : Graph) (o : Option (List ℕ)) → IsComponent bytes c → IsLinked c g → IsSome o → (a : Answer) × HeldScriptAnswers g o a
+  by_held_script : (bytes : List ℕ) (c : Component) (g : Graph) (o : Option (List ℕ)) → IsComponent bytes c → IsLinked Runs c g → IsSome o → (a : Answer) × HeldScriptAnswers g o a
   by_held_script bytes c g None i l told = cc
   by_held_script bytes c g (Some text) i l told = by_script bytes text c g (script g.exports text) i l refl
 
   -- the answer of a command behind a graph
-  by_command : (bytes : List ℕ) (command : Command) (held : List ℕ → Option (List ℕ)) (c : Component) (g : Graph) → IsComponent bytes c → IsLinked c g → IsScriptTold command held → (a : Answer) × GraphAnswers command held g a
+  by_command : (bytes : List ℕ) (command : Command) (held : List ℕ → Option (List ℕ)) (c : Component) (g : Graph) → IsComponent bytes c → IsLinked (reach_of command) c g → IsScriptTold command held → (a : Answer) × GraphAnswers command held g a
   by_command bytes (Run f s) held c g i l told = by_held_script bytes c g (held s) i l told
   by_command bytes (Check f) held c g i l told = (accepted_answer, refl)
   by_command bytes (Show f) held c g i l told = (shown_answer g, refl)
 
-  by_link : (bytes : List ℕ) (command : Command) (held : List ℕ → Option (List ℕ)) (c : Component) → IsComponent bytes c → IsScriptTold command held → (a : Answer) × LinkAnswers c a (λ g. GraphAnswers command held g a)
+  by_link : (bytes : List ℕ) (command : Command) (held : List ℕ → Option (List ℕ)) (c : Component) → IsComponent bytes c → IsScriptTold command held → (a : Answer) × LinkAnswers (reach_of command) c a (λ g. GraphAnswers command held g a)
   by_link bytes command held c i told =
-      elim (links c) [
+      elim (links (reach_of command) c) [
         | inl good ↦
             let a = by_command bytes command held c good.0 i good.1 told in
             (a.0, inr (good.0, good.1, a.1))
         | inr bad ↦ (link_refused_answer bad.0, inl (bad.0, bad.1, refl))
       ]
 
-  by_file : (bytes : List ℕ) (command : Command) (held : List ℕ → Option (List ℕ)) → IsScriptTold command held → (a : Answer) × FileAnswers bytes a (λ g. GraphAnswers command held g a)
+  by_file : (bytes : List ℕ) (command : Command) (held : List ℕ → Option (List ℕ)) → IsScriptTold command held → (a : Answer) × FileAnswers (reach_of command) bytes a (λ g. GraphAnswers command held g a)
   by_file bytes command held told =
       elim (cases_lt component_limit (length bytes)) [
         | inl long ↦ (refused_answer too_long, inl (too_long, inl (long, refl), refl))
@@ -56,7 +57,7 @@ module _ (reading : OneReading) (links : LinkedOrRefused) (sound : ScriptsAreSou
         ]
       ]
 
-  by_held : (held_file : Option (List ℕ)) (command : Command) (held : List ℕ → Option (List ℕ)) → MatchOption held_file ⊥ (λ bytes. DecidesAlone bytes ⊎ IsScriptTold command held) → (a : Answer) × HeldAnswers held_file a (λ g. GraphAnswers command held g a)
+  by_held : (held_file : Option (List ℕ)) (command : Command) (held : List ℕ → Option (List ℕ)) → MatchOption held_file ⊥ (λ bytes. DecidesAlone (reach_of command) bytes ⊎ IsScriptTold command held) → (a : Answer) × HeldAnswers (reach_of command) held_file a (λ g. GraphAnswers command held g a)
   by_held None command held told = absurd told
   by_held (Some bytes) command held told =
       elim told [

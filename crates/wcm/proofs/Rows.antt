@@ -19,13 +19,14 @@ use Rattle.trace_show.specs.declared.label.Label.{Label}
 use Rattle.abi_machine.specs.declared.run_end.RunEnd.{RunEnd}
 use Rattle.abi_machine.specs.declared.run_end.RunEnd.TheVariants as ends
 use Rattle.comp_graph.specs.Graph.{Graph}
+use Rattle.comp_linking.specs.declared.reach.Reach.{Reach}
 use Rattle.comp_linking.specs.Linked.{IsLinked, IsLinkRefused}
 use Rattle.abi_machine.specs.World.{first_world}
 use Rattle.wcm.specs.Status.{status_of, IsBehindGraph}
 use Rattle.wcm.specs.Laws.{IsSameOutcome}
 use Rattle.command_words.specs.Words.{Command, Run, Check, Show, command_of, component_file}
 use Rattle.wcm.specs.Gives.{ScriptGives, GraphGives, CommandGives}
-use Rattle.wcm.specs.Outcome.{Outcome, IsUsage, DecidesAlone, IsScriptTold, IsCommandTold, IsTold, IsComponentTold, IsComponentFile, IsRefusedFile, RunAnswers, ScriptAnswers, LinkAnswers, FileAnswers, HeldScriptAnswers, GraphAnswers, HeldAnswers, CommandAnswers, run_answer, refused_answer, link_refused_answer, script_refused_answer, accepted_answer, shown_answer, asks_of_graph, NamesRefused, NamesLinkRefused, NamesLinked, NamesAccepted, NamesGraph, NamesScriptRefused, NamesRun, NamesTrap, NamesDone}
+use Rattle.wcm.specs.Outcome.{Outcome, reach_of, IsUsage, DecidesAlone, IsScriptTold, IsCommandTold, IsTold, IsComponentTold, IsComponentFile, IsRefusedFile, RunAnswers, ScriptAnswers, LinkAnswers, FileAnswers, HeldScriptAnswers, GraphAnswers, HeldAnswers, CommandAnswers, run_answer, refused_answer, link_refused_answer, script_refused_answer, accepted_answer, shown_answer, asks_of_graph, NamesRefused, NamesLinkRefused, NamesLinked, NamesAccepted, NamesGraph, NamesScriptRefused, NamesRun, NamesTrap, NamesDone}
 use Rattle.comp_linking.proofs.Following as following
 use Rattle.comp_linking.proofs.Following.{one_graph, linked_is_not_refused}
 use Rattle.abi_machine.proofs.Worlds.{one_run}
@@ -114,22 +115,22 @@ one_of_graph (Run file script) held g a b h k = one_of_held_script g (held scrip
 one_of_graph (Check file) held g a b h k = h ∙ sym k
 one_of_graph (Show file) held g a b h k = h ∙ sym k
 
-one_of_link : (c : Component) (command : Command) (held : List ℕ → Option (List ℕ)) (a b : Answer) → LinkAnswers c a (λ g. GraphAnswers command held g a) → LinkAnswers c b (λ g. GraphAnswers command held g b) → a ≡ b
+one_of_link : (c : Component) (command : Command) (held : List ℕ → Option (List ℕ)) (a b : Answer) → LinkAnswers (reach_of command) c a (λ g. GraphAnswers command held g a) → LinkAnswers (reach_of command) c b (λ g. GraphAnswers command held g b) → a ≡ b
 one_of_link c command held a b h k =
     elim h [
       | inl bad ↦ elim k [
-        | inl worse ↦ bad.2 ∙ (ap (λ (f : LinkFault). link_refused_answer f) (following.one_refusal c bad.0 worse.0 bad.1 worse.1) ∙ sym worse.2)
-        | inr good ↦ absurd (linked_is_not_refused c good.0 bad.0 good.1 bad.1)
+        | inl worse ↦ bad.2 ∙ (ap (λ (f : LinkFault). link_refused_answer f) (following.one_refusal (reach_of command) c bad.0 worse.0 bad.1 worse.1) ∙ sym worse.2)
+        | inr good ↦ absurd (linked_is_not_refused (reach_of command) c good.0 bad.0 good.1 bad.1)
       ]
       | inr good ↦ elim k [
-        | inl bad ↦ absurd (linked_is_not_refused c good.0 bad.0 good.1 bad.1)
+        | inl bad ↦ absurd (linked_is_not_refused (reach_of command) c good.0 bad.0 good.1 bad.1)
         | inr better ↦
-            let same : better.0 ≡ good.0 = one_graph c better.0 good.0 better.1 good.1 in
+            let same : better.0 ≡ good.0 = one_graph (reach_of command) c better.0 good.0 better.1 good.1 in
             one_of_graph command held good.0 a b good.2 (subst (λ (g : Graph). GraphAnswers command held g b) same better.2)
       ]
     ]
 
-one_of_file : (bytes : List ℕ) (command : Command) (held : List ℕ → Option (List ℕ)) (a b : Answer) → FileAnswers bytes a (λ g. GraphAnswers command held g a) → FileAnswers bytes b (λ g. GraphAnswers command held g b) → a ≡ b
+one_of_file : (bytes : List ℕ) (command : Command) (held : List ℕ → Option (List ℕ)) (a b : Answer) → FileAnswers (reach_of command) bytes a (λ g. GraphAnswers command held g a) → FileAnswers (reach_of command) bytes b (λ g. GraphAnswers command held g b) → a ≡ b
 one_of_file bytes command held a b h k =
     elim h [
       | inl bad ↦ elim k [
@@ -140,11 +141,11 @@ one_of_file bytes command held a b h k =
         | inl bad ↦ absurd (component_or_not bytes good.0 bad.0 good.1 bad.1)
         | inr better ↦
             let same : better.0 ≡ good.0 = one_component bytes better.0 good.0 better.1 good.1 in
-            one_of_link good.0 command held a b good.2 (subst (λ (c : Component). LinkAnswers c b (λ g. GraphAnswers command held g b)) same better.2)
+            one_of_link good.0 command held a b good.2 (subst (λ (c : Component). LinkAnswers (reach_of command) c b (λ g. GraphAnswers command held g b)) same better.2)
       ]
     ]
 
-one_of_held : (held_file : Option (List ℕ)) (command : Command) (held : List ℕ → Option (List ℕ)) (a b : Answer) → HeldAnswers held_file a (λ g. GraphAnswers command held g a) → HeldAnswers held_file b (λ g. GraphAnswers command held g b) → a ≡ b
+one_of_held : (held_file : Option (List ℕ)) (command : Command) (held : List ℕ → Option (List ℕ)) (a b : Answer) → HeldAnswers (reach_of command) held_file a (λ g. GraphAnswers command held g a) → HeldAnswers (reach_of command) held_file b (λ g. GraphAnswers command held g b) → a ≡ b
 one_of_held None command held a b h k = absurd h
 one_of_held (Some bytes) command held a b h k = one_of_file bytes command held a b h k
 
@@ -163,13 +164,13 @@ one_answer words held command a b e h k =
     subst (λ (o : Option Command). MatchOption o ((b.status ≡ a.status) × (b.out ≡ a.out)) (λ command. b ≡ a)) e (one_outcome words held a b h k)
 
 -- A file that decides alone is of no component that is linked.
-decided : (bytes : List ℕ) (c : Component) (g : Graph) → IsComponentFile bytes c → IsLinked c g → DecidesAlone bytes → ⊥
-decided bytes c g i l d =
+decided : (reach : Reach) (bytes : List ℕ) (c : Component) (g : Graph) → IsComponentFile bytes c → IsLinked reach c g → DecidesAlone reach bytes → ⊥
+decided reach bytes c g i l d =
     elim d [
       | inl bad ↦ component_or_not bytes c bad.0 i bad.1
       | inr bad ↦
           let same : bad.0 ≡ c = one_component bytes bad.0 c bad.2 i in
-          linked_is_not_refused c g bad.1 l (subst (λ (d : Component). IsLinkRefused d bad.1) same bad.3)
+          linked_is_not_refused reach c g bad.1 l (subst (λ (d : Component). IsLinkRefused reach d bad.1) same bad.3)
     ]
 
 -- what is given behind a graph, where what the command asks for is told
@@ -183,20 +184,20 @@ given_graph (Check file) held g a h i = h
 given_graph (Show file) held g a h i = h
 
 -- what a component file gives is its answer, where the files that the command asks for are told
-given_file : (bytes : List ℕ) (command : Command) (held : List ℕ → Option (List ℕ)) (a : Answer) → FileAnswers bytes a (λ g. GraphGives command held g a) → DecidesAlone bytes ⊎ IsScriptTold command held → FileAnswers bytes a (λ g. GraphAnswers command held g a)
+given_file : (bytes : List ℕ) (command : Command) (held : List ℕ → Option (List ℕ)) (a : Answer) → FileAnswers (reach_of command) bytes a (λ g. GraphGives command held g a) → DecidesAlone (reach_of command) bytes ⊎ IsScriptTold command held → FileAnswers (reach_of command) bytes a (λ g. GraphAnswers command held g a)
 given_file bytes command held a h told =
     elim h [
       | inl bad ↦ inl bad
       | inr good ↦ elim good.2 [
         | inl bad ↦ inr (good.0, good.1, inl bad)
         | inr linked ↦ elim told [
-          | inl alone ↦ absurd (decided bytes good.0 linked.0 good.1 linked.1 alone)
+          | inl alone ↦ absurd (decided (reach_of command) bytes good.0 linked.0 good.1 linked.1 alone)
           | inr script ↦ inr (good.0, good.1, inr (linked.0, linked.1, given_graph command held linked.0 a linked.2 script))
         ]
       ]
     ]
 
-given_held : (held_file : Option (List ℕ)) (command : Command) (held : List ℕ → Option (List ℕ)) (a : Answer) → IfSome held_file (λ bytes. FileAnswers bytes a (λ g. GraphGives command held g a)) → MatchOption held_file ⊥ (λ bytes. DecidesAlone bytes ⊎ IsScriptTold command held) → HeldAnswers held_file a (λ g. GraphAnswers command held g a)
+given_held : (held_file : Option (List ℕ)) (command : Command) (held : List ℕ → Option (List ℕ)) (a : Answer) → IfSome held_file (λ bytes. FileAnswers (reach_of command) bytes a (λ g. GraphGives command held g a)) → MatchOption held_file ⊥ (λ bytes. DecidesAlone (reach_of command) bytes ⊎ IsScriptTold command held) → HeldAnswers (reach_of command) held_file a (λ g. GraphAnswers command held g a)
 given_held None command held a h told = absurd told
 given_held (Some bytes) command held a h told = given_file bytes command held a h told
 
@@ -219,11 +220,16 @@ pub usage_of : (words : List (List ℕ)) (held : List ℕ → Option (List ℕ))
 usage_of words held text e =
     subst (λ (o : Option Command). MatchOption o (IsUsage (usage_answer text)) (λ command. CommandAnswers command held (usage_answer text))) (sym e) (record { status = refl; out = refl })
 
--- what is held as the component file that words name in two ways
+-- the command that words name in two ways
+same_command : (words : List (List ℕ)) (c d : Command) → command_of words ≡ Some c → command_of words ≡ Some d → c ≡ d
+same_command words c d e f =
+    let both : ◌≡◌ {A = Option Command} (Some c) (Some d) = sym e ∙ f in
+    cc
+
+-- what is held as the component file that they name so
 same_bytes : (words : List (List ℕ)) (held : List ℕ → Option (List ℕ)) (c d : Command) (bytes other : List ℕ) → command_of words ≡ Some c → command_of words ≡ Some d → held (component_file c) ≡ Some bytes → held (component_file d) ≡ Some other → bytes ≡ other
 same_bytes words held c d bytes other e f h k =
-    let both : ◌≡◌ {A = Option Command} (Some c) (Some d) = sym e ∙ f in
-    let name : c ≡ d = cc in
+    let name : c ≡ d = same_command words c d e f in
     let same : ◌≡◌ {A = Option (List ℕ)} (Some bytes) (Some other) = sym h ∙ (ap (λ (command : Command). held (component_file command)) name ∙ k) in
     cc
 
@@ -241,7 +247,9 @@ refused_or_linked words held command g n m =
 link_or_linked : (words : List (List ℕ)) (held : List ℕ → Option (List ℕ)) (command : Command) (g : Graph) → NamesLinkRefused words held → NamesLinked words held command g → ⊥
 link_or_linked words held command g n m =
     let same : n.bytes ≡ m.bytes = same_bytes words held n.command command n.bytes m.bytes n.words_name m.words_name n.holds m.holds in
-    decided m.bytes m.component g m.read m.linked (inr (n.component, n.fault, subst (λ (x : List ℕ). IsComponentFile x n.component) same n.read, n.refused))
+    let named : n.command ≡ command = same_command words n.command command n.words_name m.words_name in
+    let refused : IsLinkRefused (reach_of command) n.component n.fault = subst (λ (c : Command). IsLinkRefused (reach_of c) n.component n.fault) named n.refused in
+    decided (reach_of command) m.bytes m.component g m.read m.linked (inr (n.component, n.fault, subst (λ (x : List ℕ). IsComponentFile x n.component) same n.read, refused))
 
 -- what came of the component file
 data CameOfFile (words : List (List ℕ)) (held : List ℕ → Option (List ℕ)) (s : Status) : Type 0 where
@@ -254,7 +262,7 @@ behind_graph (Run file script) held g a h = h.0
 behind_graph (Check file) held g a h = subst (λ (b : Answer). IsBehindGraph b.status) (sym h) tt
 behind_graph (Show file) held g a h = subst (λ (b : Answer). IsBehindGraph b.status) (sym h) tt
 
-came_of_file : (words : List (List ℕ)) (held : List ℕ → Option (List ℕ)) (command : Command) (o : Option (List ℕ)) (a : Answer) → command_of words ≡ Some command → held (component_file command) ≡ o → IsSome o → IfSome o (λ bytes. FileAnswers bytes a (λ g. GraphGives command held g a)) → CameOfFile words held a.status
+came_of_file : (words : List (List ℕ)) (held : List ℕ → Option (List ℕ)) (command : Command) (o : Option (List ℕ)) (a : Answer) → command_of words ≡ Some command → held (component_file command) ≡ o → IsSome o → IfSome o (λ bytes. FileAnswers (reach_of command) bytes a (λ g. GraphGives command held g a)) → CameOfFile words held a.status
 came_of_file words held command None a e h told gives = cc
 came_of_file words held command (Some bytes) a e h told gives =
     elim gives [
@@ -317,7 +325,7 @@ came_graph words held (Run f s) g a n answers = came_held_script words held f s 
 came_graph words held (Check f) g a n answers = OfGraph (ap (λ (b : Answer). b.status) answers) (record { command = Check f; graph = g; named = n; asks = refl })
 came_graph words held (Show f) g a n answers = OfGraph (ap (λ (b : Answer). b.status) answers) (record { command = Show f; graph = g; named = n; asks = refl })
 
-came_held : (words : List (List ℕ)) (held : List ℕ → Option (List ℕ)) (command : Command) (o : Option (List ℕ)) (a : Answer) → command_of words ≡ Some command → held (component_file command) ≡ o → HeldAnswers o a (λ g. GraphAnswers command held g a) → Came words held a.status
+came_held : (words : List (List ℕ)) (held : List ℕ → Option (List ℕ)) (command : Command) (o : Option (List ℕ)) (a : Answer) → command_of words ≡ Some command → held (component_file command) ≡ o → HeldAnswers (reach_of command) o a (λ g. GraphAnswers command held g a) → Came words held a.status
 came_held words held command None a e h answers = absurd answers
 came_held words held command (Some bytes) a e h answers =
     elim answers [
@@ -378,8 +386,8 @@ of_trap words held s k (OfRun ends.Fuel e n) = cc
 -- the outcome of words that name a component that is linked
 linked_outcome : (words : List (List ℕ)) (held : List ℕ → Option (List ℕ)) (command : Command) (g : Graph) (a : Answer) → NamesLinked words held command g → GraphAnswers command held g a → Outcome words held a
 linked_outcome words held command g a n h =
-    let file : FileAnswers n.bytes a (λ g. GraphAnswers command held g a) = inr (n.component, n.read, inr (g, n.linked, h)) in
-    of_answers words held command a n.words_name (subst (λ (o : Option (List ℕ)). HeldAnswers o a (λ g. GraphAnswers command held g a)) (sym n.holds) file)
+    let file : FileAnswers (reach_of command) n.bytes a (λ g. GraphAnswers command held g a) = inr (n.component, n.read, inr (g, n.linked, h)) in
+    of_answers words held command a n.words_name (subst (λ (o : Option (List ℕ)). HeldAnswers (reach_of command) o a (λ g. GraphAnswers command held g a)) (sym n.holds) file)
 
 -- such an outcome is the answer
 linked_answer : (words : List (List ℕ)) (held : List ℕ → Option (List ℕ)) (command : Command) (g : Graph) (a b : Answer) → NamesLinked words held command g → GraphAnswers command held g b → Outcome words held a → a ≡ b

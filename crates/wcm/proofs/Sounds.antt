@@ -7,6 +7,7 @@ use Rattle.core_machine.specs.Instantiation.{InRange}
 use Rattle.ca_types.specs.declared.exports.Export.{Export}
 use Rattle.comp_tree.specs.declared.items.Component.{Component}
 use Rattle.comp_graph.specs.Graph.{CoreMake, Graph, IsCallable}
+use Rattle.comp_linking.specs.declared.reach.Reach.TheVariants.{Runs}
 use Rattle.comp_linking.specs.Standing.{StandsIn}
 use Rattle.comp_linking.specs.Laws.{GraphsAreImported, GraphsAreCallable, ModulesStand}
 use Rattle.script_reader.specs.declared.fault.ScriptFault.{ScriptFault}
@@ -28,20 +29,20 @@ all_in_range c [] fit stand = tt
 all_in_range c (core ∷ cores) fit stand = ((fit core.of_module stand.0).range, all_in_range c cores fit stand.1)
 
 pub linked_graphs_are_sound : GraphsAreImported → ModulesStand → LinkedGraphsAreSound
-linked_graphs_are_sound imported stand bytes c g read links =
+linked_graphs_are_sound imported stand reach bytes c g read links =
     let fit = component_typed bytes c read in
-    let stands = stand c g links in
-    record { valid = all_typed c g.cores fit stands; in_range = all_in_range c g.cores fit stands; imported = imported c g links }
+    let stands = stand reach c g links in
+    record { valid = all_typed c g.cores fit stands; in_range = all_in_range c g.cores fit stands; imported = imported reach c g links }
 
 pub scripts_are_sound : LinkedGraphsAreSound → GraphsAreCallable → ScriptsCallExports → CallsAreSound → ScriptsAreSound
 scripts_are_sound sound callable called calls bytes text c g script read links h =
-    calls g script.items (sound bytes c g read links) (callable c g links) (called g.exports text script h)
+    calls g script.items (sound Runs bytes c g read links) (callable c g links) (called g.exports text script h)
 
 -- The graph of a component, as scripts call it.
-pub sound_of : LinkedGraphsAreSound → (g : Graph) → IsOfComponent g → SoundGraph g
-sound_of sound g of = sound of.1.0 of.0 g of.1.1 of.2
+pub sound_of : LinkedGraphsAreSound → (g : Graph) → IsOfComponent Runs g → SoundGraph g
+sound_of sound g of = sound Runs of.1.0 of.0 g of.1.1 of.2
 
-pub callable_of : GraphsAreCallable → (g : Graph) → IsOfComponent g → IsCallable g
+pub callable_of : GraphsAreCallable → (g : Graph) → IsOfComponent Runs g → IsCallable g
 callable_of callable g of = callable of.0 g of.2
 
 -- What is read as a script for a graph.

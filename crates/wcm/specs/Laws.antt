@@ -6,6 +6,8 @@ use Rattle.comp_reader.specs.Binary.{IsComponent}
 use Rattle.script_reader.specs.Script.{Script, IsScript}
 use Rattle.wcm.specs.declared.answer.Answer.{Answer}
 use Rattle.comp_graph.specs.Graph.{Graph}
+use Rattle.comp_linking.specs.declared.reach.Reach.{Reach}
+use Rattle.comp_linking.specs.declared.reach.Reach.TheVariants.{Runs}
 use Rattle.comp_linking.specs.Linked.{IsLinked}
 use Rattle.wcm.specs.Outcome.{IsTold, Outcome}
 use Rattle.abi_machine.specs.Laws.{SoundGraph, Sound}
@@ -13,13 +15,15 @@ use Rattle.command_words.specs.Words.{command_of}
 
 -- The graph of a component that is read and linked is sound.
 abbrev pub LinkedGraphsAreSound : Type 0
-LinkedGraphsAreSound = (bytes : List ℕ) (c : Component) (g : Graph) → IsComponent bytes c → IsLinked c g → SoundGraph g
+LinkedGraphsAreSound =
+    (reach : Reach) (bytes : List ℕ) (c : Component) (g : Graph) → IsComponent bytes c → IsLinked reach c g → SoundGraph g
 
--- A script that is read for a component that is read and linked is sound: so it has exactly one run (`specs/Laws` of abi_machine).
+-- A script that is read for a component that is read, and linked to be run, is sound: so it has exactly one run (`specs/Laws` of
+-- abi_machine).
 abbrev pub ScriptsAreSound : Type 0
 ScriptsAreSound =
     (bytes text : List ℕ) (c : Component) (g : Graph) (script : Script)
-    → IsComponent bytes c → IsLinked c g → IsScript g.exports text script → Sound g script.items
+    → IsComponent bytes c → IsLinked Runs c g → IsScript g.exports text script → Sound g script.items
 
 -- two answers are the same, but for the text for the error output where the words are no command
 abbrev pub IsSameOutcome : List (List ℕ) → Answer → Answer → Type 0

@@ -6,6 +6,8 @@ ghost use Rattle.script_reader.specs.Script.{IsScript, IsScriptRefused, CallsExp
 ghost use Rattle.comp_graph.specs.Graph.{IsCallable};
 ghost use Rattle.abi_machine.specs.Laws.{SoundGraph};
 ghost use Rattle.wcm.specs.Gives.{CommandGives, GraphGives, ScriptGives};
+ghost use Rattle.comp_linking.specs.declared.reach.Reach.TheVariants.{Runs};
+ghost use Rattle.wcm.specs.Outcome as outcome;
 ghost use Rattle.wcm.specs.Outcome.{IsRead, IsOfComponent, LinkAnswers, RunAnswers, IsComponentFile, IsRefusedFile, accepted_answer, shown_answer};
 ghost use Rattle.wcm.specs.Stops.{StopsFor};
 ghost use Rattle.wcm.specs.Status.{IsAnswered, IsBehindGraph};
@@ -20,7 +22,7 @@ use ca_io::{FileError, Files, read_all};
 use ca_types::Exports;
 use command_words::Command;
 use comp_graph::Graph;
-use comp_link::link;
+use comp_link::{Reach, link};
 use comp_linking::laws::graphs_are_sound;
 use comp_reader::{Component, ComponentWhy, read_component};
 use component_run::{run_script, trace_text};
@@ -196,7 +198,7 @@ fn script_answer<F: Files>(
     script: &str,
     files: &mut F,
 ) -> Result<Answer, Stop>
-    requires linked { IsOfComponent graph.now }
+    requires linked { IsOfComponent Runs graph.now }
     ensures file { IfOk result (λ a. ScriptGives graph.now (F.held files.old script.now) a) }
     ensures same { (other : List ℕ) → F.held files.new other ≡ F.held files.old other }
     ensures cause { StopsFor (F.faults files.old) (F.faults files.new) result }
@@ -219,7 +221,7 @@ fn graph_answer<F: Files>(
     graph: &Graph,
     files: &mut F,
 ) -> Result<Answer, Stop>
-    requires linked { IsOfComponent graph.now }
+    requires linked { IsOfComponent (outcome.reach_of (said command)) graph.now }
     ensures file { IfOk result (λ a. GraphGives (said command.entry) (F.held files.old) graph.now a) }
     ensures status { IfOk result (λ a. IsBehindGraph a.status) }
     ensures same { (other : List ℕ) → F.held files.new other ≡ F.held files.old other }
@@ -232,6 +234,17 @@ fn graph_answer<F: Files>(
     }
 }
 
+/// How far a command links: `run` within what can be run, `check` and `show` over all that is read.
+fn reach_of(command: &Command) -> Reach
+    ensures { result ≡ outcome.reach_of (said command.now) }
+{
+    match command {
+        Command::Run { .. } => Reach::Runs,
+        Command::Check { .. } => Reach::Whole,
+        Command::Show { .. } => Reach::Whole,
+    }
+}
+
 /// The answer of a command for its component.
 fn link_answer<F: Files>(
     alloc: Global,
@@ -240,12 +253,12 @@ fn link_answer<F: Files>(
     files: &mut F,
 ) -> Result<Answer, Stop>
     requires read { IsRead component.now }
-    ensures file { IfOk result (λ a. LinkAnswers component.now a (λ g. GraphGives (said command.entry) (F.held files.old) g a)) }
+    ensures file { IfOk result (λ a. LinkAnswers (outcome.reach_of (said command.entry)) component.now a (λ g. GraphGives (said command.entry) (F.held files.old) g a)) }
     ensures status { IfOk result (λ a. IsAnswered a.status) }
     ensures same { (other : List ℕ) → F.held files.new other ≡ F.held files.old other }
     ensures cause { StopsFor (F.faults files.old) (F.faults files.new) result }
 {
-    match link(alloc, component) {
+    match link(alloc, component, reach_of(&command)) {
         Ok(graph) => graph_answer(alloc, command, &graph, files),
         Err(MemoryOr::Memory) => Err(Stop::Memory),
         Err(MemoryOr::Fault(fault)) => {

@@ -15,7 +15,7 @@ pub fn linked_graphs_are_sound()
     graphs_are_sound();
 }
 
-/// A script that is read for a component that is read and linked is sound.
+/// A script that is read for a component that is read, and linked to be run, is sound.
 pub fn scripts_are_sound()
     ensures { ScriptsAreSound }
 {

@@ -1,7 +1,7 @@
 //! Cases of components that are made of others, in the form of `top_tests_cases`: runs, and what `show` and `check` tell.
 
 /// How many cases there are.
-pub const NESTED_COUNT: u32 = 29;
+pub const NESTED_COUNT: u32 = 31;
 
 /// The cases.
 pub const NESTED_CASES: &str = "
@@ -361,5 +361,15 @@ bytes 01 66 07 05 01 40 00 01 00 08 06 01 00 00 00 00 00 05 04 01 00 00 00
 words wcm check add.wasm
 status LinkRefused
 err link refused at 138: Canon
+
+# run links the same as check
+component 00 61 73 6D 0D 00 01 00 07 0C 01 42 02 01 79 04 00 01 74 03 00 00 0A 0A 01 00 05 74 79 70 65 73 05 00 04 22 00 61 73 6D 0D 00
+bytes 01 00 07 0C 01 42 02 01 79 04 00 01 74 03 00 00 0A 0A 01 00 05 74 79 70 65 73 05 00 05 0C 01 00 00 01 05 74 79 70 65 73 05 00
+status Done
+out done
+
+component 00 61 73 6D 0D 00 01 00 07 14 01 42 02 01 40 02 01 61 79 01 62 79 00 79 04 00 01 66 01 00 0A 06 01 00 01 65 05 00
+status LinkRefused
+err link refused at 33: RootImport
 
 ";
