@@ -18,7 +18,8 @@ pub enum LinkWhy {
     Typing,
     /// The core function of a lift does not have the flat type of the function (Component Model, CanonicalABI.md).
     Canon,
-    /// There are more than 256 component instances, more than 256 core instances, or more than 32 value types in one another.
+    /// There are more than 256 component instances, more than 256 core instances, or more than 32 value types in one another; or
+    /// the item holds what is past the reach (`Reach`).
     Limit,
 }
 
