@@ -60,7 +60,7 @@ components_more t closures old new d x y h r e a b n s = record {
 
 -- All is the same but what is told.
 pub one_told : {A B : Type 0} (t : Table) (closures : List Closure) (R : B → A → Type 0) (old new : Declared) (d : types_read.Declared) (r : Meant B) (now : Meaning A) → IsDeclared t closures old d → IsMeaning R r now
-    → new.so_far ≡ told_more old.so_far r.is_there r.missing (is_some r.means) → new.types ≡ old.types → new.components ≡ old.components → new.instances ≡ old.instances → new.names ≡ old.names → IsDeclared t closures new (told d now)
+    → new.so_far ≡ told_more old.so_far r.is_there r.missing r.deep (is_some r.means) → new.types ≡ old.types → new.components ≡ old.components → new.instances ≡ old.instances → new.names ≡ old.names → IsDeclared t closures new (told d now)
 one_told t closures R old new d r now h k e a b c n = record {
   types = rw a h.types;
   components = rw b h.components;
@@ -105,14 +105,14 @@ type_again (Some c) = refl
 
 pub type_declared : (t : Table) (closures : List Closure) (old mid new : Declared) (d : types_read.Declared) (r : Meant TypeRef) (e : Meaning Closed) → IsDeclared t closures old d → IsMeaning (IsType t) r e
     → mid.types.items ≡ old.types.items ++ r.means ∷ [] → mid.components ≡ old.components → mid.instances ≡ old.instances → mid.names ≡ old.names → mid.so_far ≡ old.so_far
-    → new.so_far ≡ told_more mid.so_far r.is_there r.missing (is_some r.means) → new.types ≡ mid.types → new.components ≡ mid.components → new.instances ≡ mid.instances → new.names ≡ mid.names → IsDeclared t closures new (with_type d e)
+    → new.so_far ≡ told_more mid.so_far r.is_there r.missing r.deep (is_some r.means) → new.types ≡ mid.types → new.components ≡ mid.components → new.instances ≡ mid.instances → new.names ≡ mid.names → IsDeclared t closures new (with_type d e)
 type_declared t closures old mid new d r e h k a1 a2 a3 a4 a5 =
     one_told t closures (IsType t) mid new (with_declared d sorts.Type (option_map OfType e.means)) r e
     (types_more t closures old mid d r.means (type_in (option_map OfType e.means)) h (rw (type_again e.means) k.means) a1 a2 a3 a4 a5) k
 
 pub component_declared : (t : Table) (closures : List Closure) (old mid new : Declared) (d : types_read.Declared) (r : Meant ℕ) (e : Meaning Closure) → IsDeclared t closures old d → IsMeaning (IsClosure closures) r e
     → mid.components.items ≡ old.components.items ++ r.means ∷ [] → mid.types ≡ old.types → mid.instances ≡ old.instances → mid.names ≡ old.names → mid.so_far ≡ old.so_far
-    → new.so_far ≡ told_more mid.so_far r.is_there r.missing (is_some r.means) → new.types ≡ mid.types → new.components ≡ mid.components → new.instances ≡ mid.instances → new.names ≡ mid.names → IsDeclared t closures new (with_component d e)
+    → new.so_far ≡ told_more mid.so_far r.is_there r.missing r.deep (is_some r.means) → new.types ≡ mid.types → new.components ≡ mid.components → new.instances ≡ mid.instances → new.names ≡ mid.names → IsDeclared t closures new (with_component d e)
 component_declared t closures old mid new d r e h k a1 a2 a3 a4 a5 =
     one_told t closures (IsClosure closures) mid new (record d { components = d.components ++ e.means ∷ [] }) r e (components_more t closures old mid d r.means e.means h k.means a1 a2 a3 a4 a5) k
 
@@ -132,9 +132,9 @@ not_new false x y e = e
 pub export_declared : (t : Table) (closures : List Closure) (mid new : Declared) (defined : types_read.Declared) (before : Option Externs) (name : List ℕ) (extern : Option Extern) (is_new : Bool) → IsDeclared t closures mid defined
     → extended name extern defined.so_far.means ≡ extended name extern before
     → is_new ≡ not (has mid.names name) → ((q : List ℕ) → has new.names q ≡ (bytes_eq name q || has mid.names q))
-    → IsFoundAs (IsBegun t) new.so_far.means (cond is_new (extended name extern defined.so_far.means) None) → new.so_far.is_there ≡ mid.so_far.is_there → new.so_far.missing ≡ mid.so_far.missing
+    → IsFoundAs (IsBegun t) new.so_far.means (cond is_new (extended name extern defined.so_far.means) None) → new.so_far.is_there ≡ mid.so_far.is_there → new.so_far.missing ≡ mid.so_far.missing → new.so_far.deep ≡ mid.so_far.deep
     → new.types ≡ mid.types → new.components ≡ mid.components → new.instances ≡ mid.instances → IsDeclared t closures new (under_name defined before name extern)
-export_declared t closures mid new defined before name extern is_new h same fresh all means there missing a b c = record {
+export_declared t closures mid new defined before name extern is_new h same fresh all means there missing deep a b c = record {
   types = rw a h.types;
   components = rw b h.components;
   instances = rw c h.instances;
@@ -142,6 +142,7 @@ export_declared t closures mid new defined before name extern is_new h same fres
   so_far = record {
     is_there = there ∙ h.so_far.is_there;
     missing = ap (λ (o : Option (Bor (List ℕ))). option_map text_of o) missing ∙ h.so_far.missing;
+    deep = deep ∙ h.so_far.deep;
     means = subst (λ (o : Option Externs). IsFoundAs (IsBegun t) new.so_far.means o)
         (ap (λ r. cond r (extended name extern defined.so_far.means) None) (fresh ∙ ap not (h.names name)) ∙ not_new (is_among name defined.names) (extended name extern defined.so_far.means) (extended name extern before) same) means;
   };
@@ -184,11 +185,11 @@ lacks_of t None h = refl
 lacks_of t (Some x) h = absurd h
 
 pub export_there : (t : Table) (sort : Sort) (name : List ℕ) (all : Externs) (item : ExternRef) (means : Option ExternRef) → MayBeExtern t (Some item) (extern_named name all) → means ≡ ref_of_sort sort item
-    → IsMeaning (IsExtern t) (record { is_there = true; missing = None; means = means }) (exported sort name (Some all))
+    → IsMeaning (IsExtern t) (record { is_there = true; missing = None; deep = false; means = means }) (exported sort name (Some all))
 export_there t sort name all item means h e =
     let p = found_of t item (extern_named name all) h in
-    rw (p.1, e) (record { is_there = refl; missing = refl; means = sort_found t sort item p.0 p.2 })
+    rw (p.1, e) (record { is_there = refl; missing = refl; deep = refl; means = sort_found t sort item p.0 p.2 })
 
 pub export_missing : (t : Table) (sort : Sort) (name : Bor (List ℕ)) (all : Externs) → MayBeExtern t None (extern_named name.now all)
-    → IsMeaning (IsExtern t) (record { is_there = true; missing = Some name; means = None }) (exported sort name.now (Some all))
-export_missing t sort name all h = rw (lacks_of t (extern_named name.now all) h) (record { is_there = refl; missing = refl; means = refl })
+    → IsMeaning (IsExtern t) (record { is_there = true; missing = Some name; deep = false; means = None }) (exported sort name.now (Some all))
+export_missing t sort name all h = rw (lacks_of t (extern_named name.now all) h) (record { is_there = refl; missing = refl; deep = refl; means = refl })

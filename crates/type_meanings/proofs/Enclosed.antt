@@ -21,37 +21,37 @@ use Rattle.type_meanings.specs.Declaring.{IsDeclared}
 use Rattle.type_meanings.proofs.Lists.{found_at, all_of_images}
 
 -- what is named of a level: it is not there, or it is found
-named_absent : {A B : Type 0} (R : B → A → Type 0) (o : Option (Option A)) → o ≡ None → IsMeaning R (record { is_there = false; missing = None; means = None }) (found (λ a. Some a) o)
-named_absent R o h = rw h (record { is_there = refl; missing = refl; means = refl })
+named_absent : {A B : Type 0} (R : B → A → Type 0) (o : Option (Option A)) → o ≡ None → IsMeaning R (record { is_there = false; missing = None; deep = false; means = None }) (found (λ a. Some a) o)
+named_absent R o h = rw h (record { is_there = refl; missing = refl; deep = refl; means = refl })
 
 kept : {A : Type 0} (o : Option A) → option_and_then (λ a. Some a) o ≡ o
 kept None = refl
 kept (Some a) = refl
 
-named_found : {A B : Type 0} (R : B → A → Type 0) (b : Option B) (o : Option (Option A)) → IsFoundAs (IsFoundAs R) (Some b) o → IsMeaning R (record { is_there = true; missing = None; means = b }) (found (λ a. Some a) o)
-named_found R b o h = rw (h.1, kept h.0) (record { is_there = refl; missing = refl; means = h.2 })
+named_found : {A B : Type 0} (R : B → A → Type 0) (b : Option B) (o : Option (Option A)) → IsFoundAs (IsFoundAs R) (Some b) o → IsMeaning R (record { is_there = true; missing = None; deep = false; means = b }) (found (λ a. Some a) o)
+named_found R b o h = rw (h.1, kept h.0) (record { is_there = refl; missing = refl; deep = refl; means = h.2 })
 
 module _ (t : Table) (closures : List Closure) where
   pub type_absent : (index : ℕ) (level : Enclosing) (l : Option spaces.Level) → IsFoundAs (IsEnclosing t closures) (Some level) l → slice_get (enclosed_types level) index ≡ None
-      → IsMeaning (IsType t) (record { is_there = false; missing = None; means = None }) (outer_type index l)
+      → IsMeaning (IsType t) (record { is_there = false; missing = None; deep = false; means = None }) (outer_type index l)
   type_absent index level l h e =
       let p = rw e at (found_at (IsFoundAs (IsType t)) (enclosed_types level) h.0.types index h.2.types) in
       rw h.1 (named_absent (IsType t) (slice_get h.0.types index) p)
 
   pub type_named : (index : ℕ) (level : Enclosing) (l : Option spaces.Level) (b : Option TypeRef) → IsFoundAs (IsEnclosing t closures) (Some level) l → slice_get (enclosed_types level) index ≡ Some b
-      → IsMeaning (IsType t) (record { is_there = true; missing = None; means = b }) (outer_type index l)
+      → IsMeaning (IsType t) (record { is_there = true; missing = None; deep = false; means = b }) (outer_type index l)
   type_named index level l b h e =
       let p = rw e at (found_at (IsFoundAs (IsType t)) (enclosed_types level) h.0.types index h.2.types) in
       rw h.1 (named_found (IsType t) b (slice_get h.0.types index) p)
 
   pub component_absent : (index : ℕ) (level : Enclosing) (l : Option spaces.Level) → IsFoundAs (IsEnclosing t closures) (Some level) l → slice_get (enclosed_components level) index ≡ None
-      → IsMeaning (IsClosure closures) (record { is_there = false; missing = None; means = None }) (outer_component index l)
+      → IsMeaning (IsClosure closures) (record { is_there = false; missing = None; deep = false; means = None }) (outer_component index l)
   component_absent index level l h e =
       let p = rw e at (found_at (IsFoundAs (IsClosure closures)) (enclosed_components level) h.0.components index h.2.components) in
       rw h.1 (named_absent (IsClosure closures) (slice_get h.0.components index) p)
 
   pub component_named : (index : ℕ) (level : Enclosing) (l : Option spaces.Level) (b : Option ℕ) → IsFoundAs (IsEnclosing t closures) (Some level) l → slice_get (enclosed_components level) index ≡ Some b
-      → IsMeaning (IsClosure closures) (record { is_there = true; missing = None; means = b }) (outer_component index l)
+      → IsMeaning (IsClosure closures) (record { is_there = true; missing = None; deep = false; means = b }) (outer_component index l)
   component_named index level l b h e =
       let p = rw e at (found_at (IsFoundAs (IsClosure closures)) (enclosed_components level) h.0.components index h.2.components) in
       rw h.1 (named_found (IsClosure closures) b (slice_get h.0.components index) p)

@@ -3,21 +3,27 @@ use Rattle.std.proofs.Common.{◌≡◌, ◌∙◌, ◌<◌, ◌+◌, ℕ, List,
 use Rattle.std.proofs.lemmas.List.{map-append}
 use Rattle.ca_base.proofs.Seen.{take_one}
 use Rattle.comp_tree.specs.declared.externs.ExternDesc.{ExternDesc}
+use Rattle.comp_tree.specs.declared.types.DefValType.{DefValType}
 use Rattle.comp_tree.specs.declared.types.FuncType as read_func
 use Rattle.comp_tree.specs.declared.types.DefType.{DefType}
 use Rattle.comp_tree.specs.declared.types.InstanceDecl.{InstanceDecl}
 use Rattle.comp_tree.specs.declared.types.DefType.TheVariants as type_leaves
-use Rattle.comp_tree.specs.declared.types.DefType.TheViews.{rolls-Func, rolls-Type, rolls-Export}
+use Rattle.comp_tree.specs.declared.types.DefType.TheViews.{rolls-Value, rolls-Func, rolls-Type, rolls-Export}
 use Rattle.comp_tree.specs.declared.types.DefType.TheOpen.{DefType-F, InstanceDecl-F}
 use Rattle.comp_tree.specs.declared.types.DefType.TheFolds.{fold-roll-DefType, fold-roll-InstanceDecl}
 use Rattle.comp_linking.specs.Spaces.{Level}
-use Rattle.comp_linking.specs.Types.{Declared, InLevels, meaning_of, type_step, decl_step, func_meaning, types_around, declared_by, nothing_declared, with_type, with_export, own_level}
+use Rattle.comp_linking.specs.Types.{Declared, InLevels, meaning_of, type_step, decl_step, func_meaning, value_meaning, types_around, declared_by, nothing_declared, with_type, with_export, own_level}
 use Rattle.type_meanings.specs.Declaring.{decl_makes}
 
 pub meaning_of_func : (type : read_func.FuncType) (levels : List Level) → meaning_of (type_leaves.Func type) levels ≡ func_meaning (types_around levels) type
 meaning_of_func type levels =
     ap (λ (x : DefType). meaning_of x levels) (sym (rolls-Func type))
     ∙ ap (λ (f : InLevels). f levels) (fold-roll-DefType InLevels (List Level → Declared → Declared) type_step decl_step (DefType-F.Func type))
+
+pub meaning_of_value : (type : DefValType) (levels : List Level) → meaning_of (type_leaves.Value type) levels ≡ value_meaning (types_around levels) type
+meaning_of_value type levels =
+    ap (λ (x : DefType). meaning_of x levels) (sym (rolls-Value type))
+    ∙ ap (λ (f : InLevels). f levels) (fold-roll-DefType InLevels (List Level → Declared → Declared) type_step decl_step (DefType-F.Value type))
 
 -- Declarations, one behind the others.
 pub one_behind : (levels : List Level) (d : Declared) (decls : List (List Level → Declared → Declared)) (decl : List Level → Declared → Declared) → declared_by levels d (decls ++ decl ∷ []) ≡ decl levels (declared_by levels d decls)

@@ -41,6 +41,7 @@ module _ (t u : Table) (g : Grows t u) where
   so_far_stays s m h = record {
     is_there = h.is_there;
     missing = h.missing;
+    deep = h.deep;
     means = found_stays (IsBegun t) (IsBegun u) begun_stays s.means m.means h.means;
   }
 

@@ -1,7 +1,6 @@
 -- Labels with the numbers of value types, which stand for parameters where the references stand for types.
-use Rattle.std.proofs.Common.{cond, ◌≡◌, ◌∙◌, ◌<◌, ◌≤◌, ◌+◌, ℕ, Bool, true, false, List, [], ◌∷◌, ◌++◌, length, map, drop, get_or, refl, ap, sym, append-nil, append_assoc, Option, Some, None, arith}
+use Rattle.std.proofs.Common.{cond, ◌≡◌, ◌∙◌, ◌<◌, ◌≤◌, ℕ, Bool, true, false, List, length, map, refl, sym, Option, Some, None, arith}
 use Rattle.std.specs.Prelude.{is_none}
-use Rattle.std.proofs.lemmas.List.{drop_all, drop_more}
 use Rattle.std.proofs.lemmas.Option.{slice_get_within}
 use Rattle.std.specs.Option.{option_map, option_and_then}
 use Rattle.std.specs.List.{slice_get, AllZip}
@@ -13,7 +12,7 @@ use Rattle.comp_tree.specs.declared.types.Param as read_param
 use Rattle.comp_tree.specs.declared.types.FuncType as read_func
 use Rattle.comp_tree.specs.declared.types.ValTypeRef.{ValTypeRef}
 use Rattle.comp_graph.specs.Closed.{Closed, Value, Func, Instance, value_of}
-use Rattle.comp_linking.specs.Types.{absent, meant, all_within, close_val, close_param, close_params, close_result, close_func, func_meaning}
+use Rattle.comp_linking.specs.Types.{meant, close_val, close_param, close_params, close_held, close_func}
 use Rattle.type_tables.specs.declared.labels.LabelledType.{LabelledType}
 use Rattle.type_tables.specs.declared.refs.FuncTypeRef.{FuncTypeRef}
 use Rattle.type_tables.specs.declared.refs.TypeRef.{TypeRef}
@@ -22,11 +21,10 @@ use Rattle.type_tables.specs.Layered.{MayBeValue}
 use Rattle.type_tables.specs.Labels.{IsParam, IsFuncOf}
 use Rattle.type_tables.specs.Table.{Table, IsValue, IsFunc, IsType, Grows}
 use Rattle.type_tables.proofs.ValuesStay.{labelled_stay}
-use Rattle.type_tables.proofs.Zips.{all_more}
 use Rattle.type_meanings.specs.Meant.{IsFoundAs, IsMeaning}
 use Rattle.type_meanings.specs.Levels.{AreTypes}
 use Rattle.type_meanings.specs.References.{value_ref}
-use Rattle.type_meanings.proofs.Lists.{found_at, as_many}
+use Rattle.type_meanings.proofs.Lists.{found_at}
 
 -- the number of a value type: that of an index
 value_is : (t : Table) (ref : TypeRef) (c : Closed) → IsType t ref c → IsFoundAs (IsValue t) (value_ref ref) (value_of c)
@@ -58,49 +56,16 @@ param_open closed p h = rw h refl
 pub param_closed : (t : Table) (closed : List (Option Closed)) (p : read_param.Param) (l : LabelledType) → l.label.now ≡ p.label → IsFoundAs (IsValue t) (Some l.val_type) (close_val closed p.val_type) → IsFoundAs (IsParam t.values) (Some l) (close_param closed p)
 param_closed t closed p l e h = rw h.1 (record { label = p.label; val_type = h.0 }, refl, (e, h.2))
 
--- parameters that close, behind those that are closed already
-abbrev pub params_behind : List Param → Option (List Param) → Option (List Param)
-params_behind closed o = option_map (λ others. closed ++ others) o
+-- what a parameter stands for, as the table grows
+pub param_stays : (t u : Table) → Grows t u → (l : LabelledType) (p : Param) → IsParam t.values l p → IsParam u.values l p
+param_stays t u g l p h = (h.0, g.values l.val_type p.val_type h.1)
 
-one_more : (closed : List Param) (p : Param) (o : Option (List Param)) → params_behind closed (option_map (λ others. p ∷ others) o) ≡ params_behind (closed ++ p ∷ []) o
-one_more closed p None = refl
-one_more closed p (Some others) = ap (λ (ps : List Param). Some ps) (sym (append_assoc closed (p ∷ []) others))
+-- a part that may not be there, without a type, and one with its type
+pub held_open : (closed : List (Option Closed)) (type : ValTypeRef) → close_val closed type ≡ None → close_held closed (Some type) ≡ None
+held_open closed type h = rw h refl
 
-none_behind : (o : Option (List Param)) → params_behind [] o ≡ o
-none_behind None = refl
-none_behind (Some others) = refl
-
--- Labels with numbers stand for the parameters up to a place.
-abbrev pub IsSoFar : Table → List (Option Closed) → List read_param.Param → List LabelledType → ℕ → Type 0
-IsSoFar t types params labels at = (all : List Param) × AllZip (IsParam t.values) labels all × (close_params types params ≡ params_behind all (close_params types (drop at params)))
-
-pub so_far_begins : (t : Table) (types : List (Option Closed)) (params : List read_param.Param) → IsSoFar t types params [] 0
-so_far_begins t types params = ([], tt, sym (none_behind (close_params types params)))
-
--- no parameter is left
-pub so_far_ends : (t : Table) (types : List (Option Closed)) (params : List read_param.Param) (labels : List LabelledType) (at : ℕ) → length params ≤ at → IsSoFar t types params labels at → (all : List Param) × (close_params types params ≡ Some all) × AllZip (IsParam t.values) labels all
-so_far_ends t types params labels at past h = (h.0, h.2 ∙ rw (drop_all at params past, append-nil h.0) refl, h.1)
-
--- a parameter closes
-pub so_far_more : (t u : Table) (types : List (Option Closed)) (params : List read_param.Param) (labels : List LabelledType) (p : read_param.Param) (at : ℕ) (l : LabelledType) → Grows t u → at < length params → p ≡ get_or params at p
-    → IsFoundAs (IsParam u.values) (Some l) (close_param types p) → IsSoFar t types params labels at → IsSoFar u types params (labels ++ l ∷ []) (at + 1)
-so_far_more t u types params labels p at l g h e found so_far = (
-  so_far.0 ++ found.0 ∷ [],
-  all_more (IsParam u.values) labels so_far.0 l found.0 (labelled_stay t u g labels so_far.0 so_far.1) found.2,
-  so_far.2 ∙ rw (drop_more params at p h, sym e, found.1) (one_more so_far.0 found.0 (close_params types (drop (at + 1) params))),
-)
-
--- a parameter does not
-pub so_far_open : (t : Table) (types : List (Option Closed)) (params : List read_param.Param) (labels : List LabelledType) (p : read_param.Param) (at : ℕ) → at < length params → p ≡ get_or params at p → close_param types p ≡ None
-    → IsSoFar t types params labels at → close_params types params ≡ None
-so_far_open t types params labels p at h e open_at so_far = so_far.2 ∙ rw (drop_more params at p h, sym e, open_at) refl
-
--- a result without a type, and one with its type
-pub result_open : (closed : List (Option Closed)) (type : ValTypeRef) → close_val closed type ≡ None → close_result closed (Some type) ≡ None
-result_open closed type h = rw h refl
-
-pub result_closed : (t : Table) (closed : List (Option Closed)) (type : ValTypeRef) (number : ℕ) → IsFoundAs (IsValue t) (Some number) (close_val closed type) → IsFoundAs (MayBeValue t.values) (Some (Some number)) (close_result closed (Some type))
-result_closed t closed type number h = rw h.1 (Some h.0, refl, h.2)
+pub held_closed : (t : Table) (closed : List (Option Closed)) (type : ValTypeRef) (number : ℕ) → IsFoundAs (IsValue t) (Some number) (close_val closed type) → IsFoundAs (MayBeValue t.values) (Some (Some number)) (close_held closed (Some type))
+held_closed t closed type number h = rw h.1 (Some h.0, refl, h.2)
 
 -- what a function type comes to, by its labels, its parameters and its result
 abbrev joined : Bool → Option (List Param) → Option (Option ValType) → Option Closed
@@ -121,36 +86,23 @@ joined_whole : (distinct : Bool) (params : Option (List Param)) (returned : Opti
 joined_whole distinct params returned ps r h e f = rw (h, e, f) refl
 
 pub params_open : (closed : List (Option Closed)) (type : read_func.FuncType) → close_params closed type.params ≡ None → option_map Func (close_func closed type) ≡ None
-params_open closed type h = params_missing (is_none (first_twice (map (λ p. p.label) type.params))) (close_params closed type.params) (close_result closed type.result) h
+params_open closed type h = params_missing (is_none (first_twice (map (λ p. p.label) type.params))) (close_params closed type.params) (close_held closed type.result) h
 
-pub returned_open : (closed : List (Option Closed)) (type : read_func.FuncType) → close_result closed type.result ≡ None → option_map Func (close_func closed type) ≡ None
-returned_open closed type h = result_missing (is_none (first_twice (map (λ p. p.label) type.params))) (close_params closed type.params) (close_result closed type.result) h
+pub returned_open : (closed : List (Option Closed)) (type : read_func.FuncType) → close_held closed type.result ≡ None → option_map Func (close_func closed type) ≡ None
+returned_open closed type h = result_missing (is_none (first_twice (map (λ p. p.label) type.params))) (close_params closed type.params) (close_held closed type.result) h
 
 -- A function type with its types.
 pub func_closed : (t u v : Table) (closed : List (Option Closed)) (type : read_func.FuncType) (distinct : Bool) (labels : List LabelledType) (returned : Option ℕ) (ref : FuncTypeRef)
     → Grows t u → distinct ≡ is_none (first_twice (map (λ p. p.label) type.params)) → distinct ≡ true
-    → (all : List Param) × (close_params closed type.params ≡ Some all) × AllZip (IsParam t.values) labels all → IsFoundAs (MayBeValue u.values) (Some returned) (close_result closed type.result)
+    → (all : List Param) × (close_params closed type.params ≡ Some all) × AllZip (IsParam t.values) labels all → IsFoundAs (MayBeValue u.values) (Some returned) (close_held closed type.result)
     → ((f : FuncType) → IsFuncOf u.values labels returned f → IsFunc v ref f) → IsFoundAs (IsType v) (Some (type_ref.Func ref)) (option_map Func (close_func closed type))
 func_closed t u v closed type distinct labels returned ref g e h p r made =
     let f : FuncType = record { params = p.0; result = r.0 } in (
       Func f,
-      joined_whole (is_none (first_twice (map (λ p. p.label) type.params))) (close_params closed type.params) (close_result closed type.result) p.0 r.0 (sym e ∙ h) p.1 r.1,
+      joined_whole (is_none (first_twice (map (λ p. p.label) type.params))) (close_params closed type.params) (close_held closed type.result) p.0 r.0 (sym e ∙ h) p.1 r.1,
       made f (labelled_stay t u g labels p.0 p.2, r.2),
     )
 
--- what a function type means: one whose indices are not all there, and one whose indices are
-cond_meant : (t : Table) (within : Bool) (means : Option Closed) → within ≡ false → IsMeaning (IsType t) (record { is_there = false; missing = None; means = None }) (cond within (meant means) absent)
-cond_meant t within means h = rw h (record { is_there = refl; missing = refl; means = refl })
-
-cond_there : (t : Table) (within : Bool) (o : Option TypeRef) (means : Option Closed) → within ≡ true → IsFoundAs (IsType t) o means → IsMeaning (IsType t) (record { is_there = true; missing = None; means = o }) (cond within (meant means) absent)
-cond_there t within o means h is = rw h (record { is_there = refl; missing = refl; means = is })
-
-pub func_absent : (t u : Table) (refs : List (Option TypeRef)) (closed : List (Option Closed)) (type : read_func.FuncType) (n : ℕ) (b : Bool) → AreTypes t refs closed → n ≡ length refs → b ≡ all_within n type → b ≡ false
-    → IsMeaning (IsType u) (record { is_there = false; missing = None; means = None }) (func_meaning closed type)
-func_absent t u refs closed type n b h e is outside =
-    cond_meant u (all_within (length closed) type) (option_map Func (close_func closed type)) (ap (λ k. all_within k type) (sym (e ∙ as_many (IsFoundAs (IsType t)) refs closed h)) ∙ sym is ∙ outside)
-
-pub func_means : (t u : Table) (refs : List (Option TypeRef)) (closed : List (Option Closed)) (type : read_func.FuncType) (n : ℕ) (b : Bool) (o : Option TypeRef) → AreTypes t refs closed → n ≡ length refs → b ≡ all_within n type → b ≡ true
-    → IsFoundAs (IsType u) o (option_map Func (close_func closed type)) → IsMeaning (IsType u) (record { is_there = true; missing = None; means = o }) (func_meaning closed type)
-func_means t u refs closed type n b o h e is inside found =
-    cond_there u (all_within (length closed) type) o (option_map Func (close_func closed type)) (ap (λ k. all_within k type) (sym (e ∙ as_many (IsFoundAs (IsType t)) refs closed h)) ∙ sym is ∙ inside) found
+-- what a function type with this means, where its indices are there
+pub func_stands : (t : Table) (o : Option TypeRef) (means : Option Closed) → IsFoundAs (IsType t) o means → IsMeaning (IsType t) (record { is_there = true; missing = None; deep = false; means = o }) (meant means)
+func_stands t o means h = record { is_there = refl; missing = refl; deep = refl; means = h }

@@ -1,3 +1,4 @@
+pub mod Closing
 pub mod Declares
 pub mod Descriptions
 pub mod Enclosed
@@ -5,4 +6,6 @@ pub mod Folded
 pub mod Growing
 pub mod Labelled
 pub mod Lists
+pub mod Made
 pub mod Telling
+pub mod Within

@@ -1,6 +1,6 @@
 -- An instance type whose declarations are read (Component Model, Explainer.md, "Type Definitions"), beside its definition: the index
 -- spaces so far, the names of its exports so far, and what its declarations tell.
-use Rattle.std.specs.Prelude.{◌≡◌, ℕ, Bool, ◌&&◌, cond, List, Option, None}
+use Rattle.std.specs.Prelude.{◌≡◌, ℕ, Bool, ◌&&◌, ◌||◌, cond, List, Option, None}
 use Rattle.std.specs.Option.{option_map}
 use Rattle.std.specs.List.{AllZip}
 use denote.Ref.{Bor}
@@ -23,19 +23,21 @@ use Rattle.type_meanings.specs.Levels.{IsClosure, AreTypes}
 pub record IsSoFar (t : Table) (s : SoFar) (meaning : Meaning Externs) : Type 0 where
   pub is_there : s.is_there ≡ meaning.is_there
   pub missing : option_map text_of s.missing ≡ meaning.missing
+  pub deep : s.deep ≡ meaning.deep
   pub means : IsFoundAs (IsBegun t) s.means meaning.means
 
 -- what one more declaration tells behind it
-abbrev pub told_more : SoFar → Bool → Option (Bor (List ℕ)) → Bool → SoFar
-told_more s is_there missing has_meaning = record {
+abbrev pub told_more : SoFar → Bool → Option (Bor (List ℕ)) → Bool → Bool → SoFar
+told_more s is_there missing deep has_meaning = record {
   is_there = s.is_there && is_there;
   missing = first_of s.missing missing;
+  deep = s.deep || deep;
   means = cond has_meaning s.means None;
 }
 
 -- what an instance type means whose declarations have told this
 abbrev pub as_instance : Meaning Externs → Meaning Closed
-as_instance m = record { is_there = m.is_there; missing = m.missing; means = option_map Instance m.means }
+as_instance m = record { is_there = m.is_there; missing = m.missing; deep = m.deep; means = option_map Instance m.means }
 
 -- The instance type so far.
 pub record IsDeclared (t : Table) (closures : List Closure) (d : Declared) (defined : types_read.Declared) : Type 0 where

@@ -1,4 +1,5 @@
 pub mod Declaring
 pub mod Levels
 pub mod Meant
+pub mod Numbered
 pub mod References

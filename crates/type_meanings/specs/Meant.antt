@@ -14,9 +14,10 @@ IsFoundAs {A} R (Some b) found = (a : A) × (found ≡ Some a) × R b a
 abbrev pub text_of : Bor (List ℕ) → List ℕ
 text_of name = name.now
 
--- What a part of a type comes to: its indices are there and its names are missing as it is defined, and what it means stands for
--- what is defined, as R says.
+-- What a part of a type comes to: its indices are there, its names are missing and it is too deep as it is defined, and what it means
+-- stands for what is defined, as R says.
 pub record IsMeaning {A B : Type 0} (R : B → A → Type 0) (m : Meant B) (meaning : Meaning A) : Type 0 where
   pub is_there : m.is_there ≡ meaning.is_there
   pub missing : option_map text_of m.missing ≡ meaning.missing
+  pub deep : m.deep ≡ meaning.deep
   pub means : IsFoundAs R m.means meaning.means

@@ -49,6 +49,7 @@ fn exported<'a>(
         None => Meant {
             is_there: true,
             missing: Some(name),
+            deep: false,
             means: None,
         },
     }

@@ -6,7 +6,10 @@
 //!
 //! - `meant`: what a part of a type comes to
 //! - `levels`: what outer aliases see
-//! - `values`: types of values
+//! - `values`: the numbers of parts of types
+//! - `numbered`: the numbers of fields, cases and places
+//! - `value_layers`: the types of values that are written, over the numbers of their parts
+//! - `value_meanings`: types of values
 //! - `funcs`: types of functions
 //! - `described`: what imports and exports are to be
 //! - `so_far`: what the declarations of an instance type tell so far
@@ -23,8 +26,11 @@ mod funcs;
 mod levels;
 mod meanings;
 mod meant;
+mod numbered;
 mod outer;
 mod so_far;
+mod value_layers;
+mod value_meanings;
 mod values;
 
 pub use described::wanted;

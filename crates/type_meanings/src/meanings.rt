@@ -15,7 +15,7 @@ use crate::declaring::Declared;
 use crate::funcs::func_meaning;
 use crate::levels::{Enclosing, Level, all_enclosing, innermost, within};
 use crate::meant::Meant;
-use crate::values::primitive;
+use crate::value_meanings::value_meaning;
 use comp_tree::{DefType, InstanceDecl};
 use std::alloc::{AllocError, Global};
 use type_tables::{TypeRef, Types};
@@ -33,8 +33,7 @@ fn meaning<'a>(
 {
     match def_type {
         DefType::Value(val_type) => {
-            let number = primitive(alloc, types, *val_type)?;
-            Ok(Meant::there(Some(TypeRef::Value(number))))
+            Ok(value_meaning(alloc, types, &innermost(around), val_type)?)
         }
         DefType::Func(func_type) => {
             Ok(func_meaning(alloc, types, &innermost(around), func_type)?)

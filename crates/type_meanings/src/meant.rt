@@ -1,6 +1,6 @@
 //! What a part of a type comes to.
 
-ghost use Rattle.std.specs.Prelude.{◌≡◌, true, false, None};
+ghost use Rattle.std.specs.Prelude.{◌≡◌, true, false, None, Some};
 
 use ca_base::Name;
 
@@ -11,6 +11,8 @@ pub struct Meant<'a, T> {
     pub is_there: bool,
     /// The first name that is missing.
     pub missing: Option<&'a Name>,
+    /// Whether a value type in it is too deep. Such a one has a meaning all the same.
+    pub deep: bool,
     /// Its meaning, where it has one.
     pub means: Option<T>,
 }
@@ -18,23 +20,37 @@ pub struct Meant<'a, T> {
 impl<'a, T> Meant<'a, T> {
     /// One that is not there.
     pub(crate) fn absent() -> Meant<'a, T>
-        ensures { result ≡ record { is_there = false; missing = None; means = None } }
+        ensures { result ≡ record { is_there = false; missing = None; deep = false; means = None } }
     {
         Meant {
             is_there: false,
             missing: None,
+            deep: false,
             means: None,
         }
     }
 
     /// One that stands for this, or has no meaning.
     pub(crate) fn there(means: Option<T>) -> Meant<'a, T>
-        ensures { result ≡ record { is_there = true; missing = None; means = means } }
+        ensures { result ≡ record { is_there = true; missing = None; deep = false; means = means } }
     {
         Meant {
             is_there: true,
             missing: None,
+            deep: false,
             means,
+        }
+    }
+
+    /// One that is too deep, with what stands in its place.
+    pub(crate) fn too_deep(in_place: T) -> Meant<'a, T>
+        ensures { result ≡ record { is_there = true; missing = None; deep = true; means = Some in_place } }
+    {
+        Meant {
+            is_there: true,
+            missing: None,
+            deep: true,
+            means: Some(in_place),
         }
     }
 }

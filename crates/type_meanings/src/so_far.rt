@@ -23,6 +23,8 @@ pub(crate) struct SoFar<'a> {
     pub(crate) is_there: bool,
     /// The first name that is missing.
     pub(crate) missing: Option<&'a Name>,
+    /// Whether a value type in them is too deep.
+    pub(crate) deep: bool,
     /// The exports, where all have a meaning.
     pub(crate) means: Option<InstanceTypeMaker>,
 }
@@ -37,18 +39,26 @@ impl<'a> SoFar<'a> {
         Ok(SoFar {
             is_there: true,
             missing: None,
+            deep: false,
             means: Some(maker),
         })
     }
 
     /// What one more declaration tells.
-    pub(crate) fn tell(&mut self, is_there: bool, missing: Option<&'a Name>, has_meaning: bool)
-        ensures { self.new ≡ told_more self.old is_there missing.entry has_meaning }
+    pub(crate) fn tell(
+        &mut self,
+        is_there: bool,
+        missing: Option<&'a Name>,
+        deep: bool,
+        has_meaning: bool,
+    )
+        ensures { self.new ≡ told_more self.old is_there missing.entry deep has_meaning }
     {
         self.is_there = self.is_there && is_there;
         if self.missing.is_none() {
             self.missing = missing;
         }
+        self.deep = self.deep || deep;
         if !has_meaning {
             self.means = None;
         }
@@ -65,6 +75,7 @@ impl<'a> SoFar<'a> {
         ensures ok { OnOk result ((name : List ℕ) (extern : Option Extern) (others : Option Externs) → IsFoundAs (IsBegun types.old) self.old.means others → IsName types.old number name → IsFoundAs (IsExtern types.old) item extern → IsFoundAs (IsBegun types.new) self.new.means (cond is_new (types_read.extended name extern others) None)) }
         ensures is_there { self.new.is_there ≡ self.old.is_there }
         ensures missing { self.new.missing ≡ self.old.missing }
+        ensures deep { self.new.deep ≡ self.old.deep }
         ensures grows { Grows types.old types.new }
     {
         let before = self.means.take();
@@ -83,6 +94,7 @@ impl<'a> SoFar<'a> {
         Ok(Meant {
             is_there: self.is_there,
             missing: self.missing,
+            deep: self.deep,
             means,
         })
     }

@@ -1,14 +1,15 @@
-//! Types of values.
+//! The numbers of parts of types.
 
-ghost use Rattle.std.specs.Prelude.{◌≡◌, [], List, Option, IfOk};
+ghost use Rattle.std.specs.Prelude.{◌≡◌, [], List, Option, IfOk, IfSome};
 ghost use Rattle.std.specs.List.{slice_get};
 ghost use Rattle.std.specs.Option.{option_and_then};
 ghost use Rattle.ca_types.specs.declared.types.ValType.{ValType};
 ghost use Rattle.comp_graph.specs.Closed as closings;
 ghost use Rattle.comp_graph.specs.Closed.{Closed};
 ghost use Rattle.comp_linking.specs.Types as types_read;
-ghost use Rattle.comp_linking.specs.Types.{close_val};
+ghost use Rattle.comp_linking.specs.Types.{close_val, close_held};
 ghost use Rattle.laid_types.specs.Layers.{IsThere, type_of, part_numbers};
+ghost use Rattle.type_tables.specs.Layered.{MayBeValue};
 ghost use Rattle.type_tables.specs.Table.{IsValue, Grows};
 ghost use Rattle.type_meanings.specs.Meant.{IsFoundAs};
 ghost use Rattle.type_meanings.specs.Levels.{AreTypes, enclosed_types};
@@ -26,7 +27,17 @@ fn layer_of<'s, 'a>(val_type: PrimValType) -> ValTypeLayer<'s, 'a>
     ensures parts { part_numbers result ≡ [] }
 {
     match val_type {
+        PrimValType::Bool => ValTypeLayer::Bool,
+        PrimValType::S8 => ValTypeLayer::S8,
+        PrimValType::U8 => ValTypeLayer::U8,
+        PrimValType::S16 => ValTypeLayer::S16,
+        PrimValType::U16 => ValTypeLayer::U16,
+        PrimValType::S32 => ValTypeLayer::S32,
         PrimValType::U32 => ValTypeLayer::U32,
+        PrimValType::S64 => ValTypeLayer::S64,
+        PrimValType::U64 => ValTypeLayer::U64,
+        PrimValType::Char => ValTypeLayer::Char,
+        PrimValType::String => ValTypeLayer::String,
     }
 }
 
@@ -65,7 +76,7 @@ fn value_at(types: &Types<'_>, scope: &Enclosing<'_>, index: u32) -> Option<usiz
     Some(number)
 }
 
-/// The number of a value type, where an index in it is that of a value type.
+/// The number of a part, where its index is that of a value type.
 pub(crate) fn value_of(
     alloc: Global,
     types: &mut Types<'_>,
@@ -80,4 +91,24 @@ pub(crate) fn value_of(
         ValTypeRef::Primitive(val_type) => Ok(Some(primitive(alloc, types, val_type)?)),
         ValTypeRef::Index(index) => Ok(value_at(&*types, scope, index)),
     }
+}
+
+/// The same where there may be no part.
+pub(crate) fn held_of(
+    alloc: Global,
+    types: &mut Types<'_>,
+    scope: &Enclosing<'_>,
+    val_type: Option<ValTypeRef>,
+) -> Result<Option<Option<usize>>, AllocError>
+    ensures ok { IfOk result (λ o. (closed : List (Option Closed)) → AreTypes types.old (enclosed_types scope.now) closed → IsFoundAs (MayBeValue types.new.values) o (close_held closed val_type)) }
+    ensures there { IfOk result (λ o. IfSome o (λ part. IsThere types.new.values part)) }
+    ensures grows { Grows types.old types.new }
+{
+    let Some(val_type) = val_type else {
+        return Ok(Some(None));
+    };
+    let Some(number) = value_of(alloc, types, scope, val_type)? else {
+        return Ok(None);
+    };
+    Ok(Some(Some(number)))
 }

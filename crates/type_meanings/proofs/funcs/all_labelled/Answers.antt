@@ -1,15 +1,18 @@
 use Rattle.type_tables.proofs.TypesGrow.{grows_trans}
 use Rattle.type_tables.proofs.ValuesStay.{have_types_more}
+use Rattle.comp_linking.specs.Types.{close_param}
+use Rattle.type_tables.specs.Labels.{IsParam}
 use Rattle.type_meanings.specs.Levels.{enclosed_types}
 use Rattle.type_meanings.proofs.Growing.{types_stay}
-use Rattle.type_meanings.proofs.Labelled.{so_far_more, so_far_ends, so_far_open}
+use Rattle.type_meanings.proofs.Labelled.{param_stays}
+use Rattle.type_meanings.proofs.Closing.{found_more, found_ends, found_open}
 use Rattle.type_meanings.proofs.funcs.all_labelled.Goals as goal
 
 pub returns-in-None-clause-ok : goal.returns-in-None-clause-ok
 returns-in-None-clause-ok c = λ closed h.
     let kept = c.loop-param.invariant in
     let stays = types_stay c.args.types.now c.loop-param.types kept.0 (enclosed_types c.args.scope.now) closed h in
-    so_far_open c.loop-param.types closed c.args.params.now c.loop-param.all.items c.param-item.result c.loop-param.param-index c.loop-param-test.true c.param-item.is
+    found_open (IsParam c.loop-param.types.values) (close_param closed) c.args.params.now c.loop-param.all.items c.param-item.result c.param-item.result c.loop-param.param-index c.loop-param-test.true c.param-item.is
     (rw c.in-None.is at (c.in_ok-param.ensures.ok closed stays)) (kept.2 closed h)
 
 pub loop-param-preserved : goal.loop-param-preserved
@@ -23,10 +26,10 @@ loop-param-preserved c =
       rw c.in_ok-push-in-Some.ensures.items (have_types_more old new grows c.loop-param.all.items c.in-Some.param kept.1 (rw c.in-Some.is at c.in_ok-param.ensures.there)),
       λ closed h. (let stays = types_stay first old kept.0 (enclosed_types c.args.scope.now) closed h in
           rw c.in_ok-push-in-Some.ensures.items
-          (so_far_more old new closed c.args.params.now c.loop-param.all.items c.param-item.result c.loop-param.param-index c.in-Some.param grows c.loop-param-test.true c.param-item.is
+          (found_more (IsParam old.values) (IsParam new.values) (param_stays old new grows) (close_param closed) c.args.params.now c.loop-param.all.items c.param-item.result c.param-item.result c.loop-param.param-index c.in-Some.param c.loop-param-test.true c.param-item.is
           (rw c.in-Some.is at (c.in_ok-param.ensures.ok closed stays)) (kept.2 closed h))),
     )
 
 pub returns-clause-ok : goal.returns-clause-ok
 returns-clause-ok c = λ closed h.
-    so_far_ends c.loop-param.types closed c.args.params.now c.loop-param.all.items c.loop-param.param-index c.loop-param-test.false (c.loop-param.invariant.2 closed h)
+    found_ends (IsParam c.loop-param.types.values) (close_param closed) c.args.params.now c.loop-param.all.items c.loop-param.param-index c.loop-param-test.false (c.loop-param.invariant.2 closed h)

@@ -8,7 +8,7 @@ use Rattle.type_meanings.specs.Levels.{IsEnclosing, AreTypes}
 use Rattle.type_meanings.specs.Declaring.{IsDeclared, decl_makes}
 use Rattle.type_meanings.proofs.Growing.{declared_stays, enclosing_stay}
 use Rattle.type_meanings.proofs.Enclosed.{one_inside, innermost_types}
-use Rattle.type_meanings.proofs.Folded.{type_makes, export_makes, meaning_of_func, one_more}
+use Rattle.type_meanings.proofs.Folded.{type_makes, export_makes, meaning_of_value, meaning_of_func, one_more}
 use Rattle.type_meanings.proofs.meanings.+meanings.Goals as goal
 
 pub declare-returns-in_ok-add_type-in-Type-clause-ok : goal.declare-returns-in_ok-add_type-in-Type-clause-ok
@@ -28,8 +28,13 @@ declare-returns-in_ok-add_export-in-Export-clause-ok t c = λ closures levels d 
 
 pub meaning-returns-in_ok-func_meaning-in-Func-clause-ok : goal.meaning-returns-in_ok-func_meaning-in-Func-clause-ok
 meaning-returns-in_ok-func_meaning-in-Func-clause-ok t c = λ closures levels a.
-    let known : AreTypes c.args.types.now _ (types_around levels) = rw c.innermost.ensures (innermost_types c.args.types.now closures c.args.around.now levels a) in
+    let known : AreTypes c.args.types.now _ (types_around levels) = rw c.innermost-in-Func.ensures (innermost_types c.args.types.now closures c.args.around.now levels a) in
     rw (c.in-Func.is, meaning_of_func c.in-Func.func_type levels) (c.in_ok-func_meaning-in-Func.ensures.ok (types_around levels) known)
+
+pub meaning-returns-in_ok-value_meaning-in-Value-clause-ok : goal.meaning-returns-in_ok-value_meaning-in-Value-clause-ok
+meaning-returns-in_ok-value_meaning-in-Value-clause-ok t c = λ closures levels a.
+    let known : AreTypes c.args.types.now _ (types_around levels) = rw c.innermost.ensures (innermost_types c.args.types.now closures c.args.around.now levels a) in
+    rw (c.in-Value.is, meaning_of_value c.in-Value.val_type levels) (c.in_ok-value_meaning-in-Value.ensures.ok (types_around levels) known)
 
 pub instance_meaning-loop-decl-init : goal.instance_meaning-loop-decl-init
 instance_meaning-loop-decl-init t c = (c.in_ok-declared.ensures.grows, λ closures levels a. c.in_ok-declared.ensures.ok closures)

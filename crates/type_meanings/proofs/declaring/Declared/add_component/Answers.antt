@@ -11,4 +11,4 @@ returns c = λ t closures d e h k.
     let mid : Declared = record { types = old.types; components = c.push.new.self; instances = old.instances; names = old.names; so_far = old.so_far } in
     let new : Declared = record { types = old.types; components = c.push.new.self; instances = old.instances; names = old.names; so_far = c.tell.new.self } in
     component_declared t closures old mid new d meant e h k c.in_ok-push.ensures.items refl refl refl refl
-    (c.tell.ensures ∙ ap (told_more old.so_far meant.is_there meant.missing) c.is_some.ensures) refl refl refl refl
+    (c.tell.ensures ∙ ap (told_more old.so_far meant.is_there meant.missing meant.deep) c.is_some.ensures) refl refl refl refl

@@ -30,4 +30,4 @@ returns-clause-ok c = λ closures d h.
     (declared_stays types grown c.in_ok-extend.ensures.grows closures mid (declared_as d sort extern) known) (export_same d sort extern name)
     (c.in_ok-is_new.ensures.new ∙ ap (λ (n : List ℕ). not (has mid.names n)) c.as_str-2.ensures) all
     (c.in_ok-extend.ensures.ok name extern.means (declared_as d sort extern).so_far.means known.so_far.means number meant.means)
-    c.in_ok-extend.ensures.is_there c.in_ok-extend.ensures.missing refl refl refl
+    c.in_ok-extend.ensures.is_there c.in_ok-extend.ensures.missing c.in_ok-extend.ensures.deep refl refl refl

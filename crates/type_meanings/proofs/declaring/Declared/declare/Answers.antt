@@ -12,4 +12,4 @@ returns c = λ t closures d e h k.
     let meant = c.args.meant.now in
     let new : Declared = record { types = mid.types; components = mid.components; instances = mid.instances; names = mid.names; so_far = c.tell.new.self } in
     one_told t closures (IsExtern t) mid new (with_declared d c.args.sort e.means) meant e (c.in_ok-add.ensures t closures d e.means h k.means) k
-    (c.tell.ensures ∙ ap (told_more mid.so_far meant.is_there meant.missing) c.is_some.ensures) refl refl refl refl
+    (c.tell.ensures ∙ ap (told_more mid.so_far meant.is_there meant.missing meant.deep) c.is_some.ensures) refl refl refl refl
