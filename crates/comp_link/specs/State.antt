@@ -1,6 +1,6 @@
 -- Linking as it stands (Component Model, Explainer.md, "Index Spaces"): the component instances that have begun, with their index
--- spaces as references into tables, the core instances, the plan, and how far linking goes. What stands behind the references is told by the lists
--- of exports that the instances so far have.
+-- spaces as references into tables, the core instances, the plan, and how far linking goes. What stands behind the references is
+-- told by the lists of exports that the instances so far have.
 use Rattle.std.specs.Prelude.{◌≡◌, ℕ, Bool, false, List, map, Option, Some, None}
 use Rattle.std.specs.List.{slice_get, AllZip}
 use Rattle.wasm_module.specs.declared.module.ModuleTree.{ModuleTree}

@@ -6,7 +6,8 @@
 //! and the reason. Only want of memory keeps it from either.
 //!
 //! - `linking`: from a component to its graph, item by item
-//! - `core_instances`, `core_aliases`, `lifts`, `aliases`, `types`, `instances`, `imports` and `exports`: what each kind of item makes
+//! - `core_instances`, `core_aliases`, `lifts`, `aliases`, `types`, `instances`, `imports` and `exports`: what each kind of item
+//!   makes
 //! - `named` and `seen`: definitions under names, and definitions as they are asked for
 //! - `linker`, of `scope`: linking as it stands, and the index spaces of a component instance
 //! - `graphs`, of `funcs`: the graph of what is linked

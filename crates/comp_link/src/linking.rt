@@ -1,11 +1,14 @@
 //! Linking: from a component to its graph, or to the first item that is refused.
 
 ghost use Rattle.std.specs.Prelude.{◌≡◌, ◌<◌, ◌≤◌, ◌+◌, ◌∷◌, List, length, Some, Ok, IfOk, IfErr, OnOk};
+ghost use Rattle.std.specs.List.{AllByRecursion};
 ghost use Rattle.ca_base.specs.Faults.{IfFault};
+ghost use Rattle.ca_types.specs.declared.exports.Export.{Export};
 ghost use Rattle.comp_graph.specs.Graph.{instance_limit, core_instance_limit};
 ghost use Rattle.comp_linking.specs.Definitions.{Exports, AComponent, AModule};
 ghost use Rattle.comp_linking.specs.Spaces.{Spaces, Linking};
 ghost use Rattle.comp_linking.specs.Linked.{begun, with_instance, IsLinked, IsLinkRefused};
+ghost use Rattle.comp_linking.specs.Shallow.{HasShallowTypes};
 ghost use Rattle.comp_linking.specs.Computed.{Outcome, after, one_more, item_outcome, run_within, step};
 ghost use Rattle.instance_tables.specs.References.{IsInstance};
 ghost use Rattle.comp_link.specs.State.{world_of, IsState, IsAt, IsMade, IsLive, StayLive, ended};
@@ -27,6 +30,7 @@ use crate::types::link_type;
 use ca_base::{MemoryOr, Placed, Seq};
 use ca_types::Shared;
 use comp_graph::Graph;
+use comp_linking::laws::graphs_are_sound;
 use comp_linking::{LinkFault, LinkWhy, Reach};
 use comp_tree::{Canon, Component, Item};
 use core_exports::CoreModule;
@@ -223,7 +227,10 @@ pub fn link<'a>(
     ensures refused { IfErr result (λ e. IfFault e (λ fault. IsLinkRefused reach component.now fault)) }
     // There are at most 256 component instances, and at most 256 core instances.
     ensures few { IfOk result (λ g. (g.instance_count ≤ instance_limit) × (length g.cores ≤ core_instance_limit)) }
+    // The types of values of what can be called nest at most 32 types in one another.
+    ensures shallow { IfOk result (λ g. AllByRecursion (λ (e : Export). HasShallowTypes e.func_type) g.exports) }
 {
+    graphs_are_sound();
     let mut linker = Linker::new(alloc, reach)?;
     let items = component.items.as_slice();
     link_items(alloc, &mut linker, ROOT, items, INSTANCE_LIMIT)?;

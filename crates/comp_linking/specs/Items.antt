@@ -206,7 +206,7 @@ type_makes l n s type meaning new =
     × (new ≡ with_spaces l n (with_definition s (AType closed)))
 
 -- Lifts: an index that is not there, a type that is none of functions, a core item that is no function of the flat type, or that
--- the lift is past the reach.
+-- the lift is past the reach. The flat type is that of functions over u32, and no function over other types has one here.
 abbrev pub lifts : FuncType → CoreItem → Bool
 lifts type (Func f of_core) = is_flat type of_core
 lifts type item = false

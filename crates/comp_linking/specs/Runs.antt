@@ -1,5 +1,5 @@
 -- How far linking goes. No section of the standard says this, it is the tool's own: what can be run may be less than what is read
--- and can be linked, so linking that is to lead to a run refuses, as `Limit`, the first item that holds what cannot be run yet. A
+-- and can be linked, so linking that is to lead to a run refuses, as `Limit`, the first item that holds what cannot be run. A
 -- type can be run where each value type that is written in it is u32, in functions and in instance types. An index, an alias and
 -- an export stand for what is held elsewhere. A lift can be run where the parameters and the result of its function are u32.
 use Rattle.std.specs.Prelude.{Bool, true, false, ◌&&◌, List, [], ◌∷◌, Option, Some, None}

@@ -139,7 +139,7 @@ abbrev pub with_spaces : Linking → ℕ → Spaces → Linking
 with_spaces l n s = record l { scopes = set l.scopes n s }
 
 -- What an outer alias sees of a level: its types, each with its meaning, and its components. A type without a meaning stands in an
--- instance type that is refused.
+-- instance type that is refused, and there `bool` may stand in the place of one that is too deep.
 pub record Level : Type 0 where
   pub types : List (Option Closed)
   pub components : List (Option Closure)

@@ -16,7 +16,8 @@ pub enum LinkWhy {
     /// record, variant, tuple, enum or flags type is empty, or flags have more than 32 labels (Component Model, Explainer.md,
     /// "Type Definitions").
     Typing,
-    /// The core function of a lift does not have the flat type of the function (Component Model, CanonicalABI.md).
+    /// The core function of a lift does not have the flat type of the function (Component Model, CanonicalABI.md), or the function
+    /// has other values than unsigned 32-bit integers: of such alone the flat type is known here.
     Canon,
     /// There are more than 256 component instances, more than 256 core instances, or more than 32 value types in one another; or
     /// the item holds what is past the reach (`Reach`).

@@ -12,7 +12,7 @@ use comp_tree::DefType;
 #[derive(Clone, Copy)]
 pub enum Reach {
     /// As far as what is linked can be run: an item is refused as `LinkWhy::Limit` that holds a type or a lift which cannot be
-    /// run yet.
+    /// run.
     Runs,
     /// Over all that is read.
     Whole,

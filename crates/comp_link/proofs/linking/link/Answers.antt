@@ -37,3 +37,6 @@ returns-clause-ok c =
     linked_told c.args.reach c.args.component.now c.link_items.new.linker
     (subst (λ (items : List (Placed Item)). IsTold (λ _ last. Stands c.link_items.new.linker last) done (run_within instance_limit (root_begun c.args.reach) 0 items)) c.as_slice-items.ensures
     (c.in_ok-link_items.ensures.told [] (root_begun c.args.reach) c.in_ok-linker.ensures.ok c.in_ok-linker.ensures.live)) _ c.in_ok-graph_of.ensures
+
+pub returns-clause-shallow : goal.returns-clause-shallow
+returns-clause-shallow c = c.graphs_are_sound.ensures.shallow c.args.reach c.args.component.now _ (returns-clause-ok c)
