@@ -8,7 +8,7 @@
 //! - `item_cases`: the items of whole components, read and refused
 //! - `cut_cases`: sections that end within their items
 //! - `depth_cases`: components and instance types in others
-//! - `answers`, `items` and `types`: answers as texts
+//! - `answers`, `items`, `types` and `value_types`: answers as texts
 //! - `calls`: the calls that the others do not make, and the law
 #![tactic(auto)]
 
@@ -30,3 +30,5 @@ mod reading_cases;
 mod refusal_cases;
 #[cfg(test)]
 mod types;
+#[cfg(test)]
+mod value_types;

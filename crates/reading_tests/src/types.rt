@@ -1,40 +1,18 @@
 //! The types of components as text.
 
-use comp_tree::{Alias, AliasTarget, DefType, FuncType, InstanceDecl, Param, ValTypeRef};
+use crate::value_types::{write_def_val_type, write_held, write_labelled};
+use comp_tree::{Alias, AliasTarget, DefType, FuncType, InstanceDecl};
 use std::alloc::AllocError;
 use std::fmt::Write;
-
-/// Writes a value type.
-fn write_val_type(text: &mut String, val_type: ValTypeRef) -> Result<(), AllocError> {
-    match val_type {
-        ValTypeRef::Primitive(primitive) => write!(text, "{primitive:?}"),
-        ValTypeRef::Index(index) => write!(text, "type {index}"),
-    }
-}
-
-/// Writes a parameter.
-fn write_param(text: &mut String, param: &Param) -> Result<(), AllocError> {
-    write!(text, " {}: ", param.label.as_str())?;
-    write_val_type(text, param.val_type)?;
-    text.push(',')
-}
-
-/// Writes a result, if there is one.
-fn write_result(text: &mut String, returned: Option<ValTypeRef>) -> Result<(), AllocError> {
-    match returned {
-        Some(val_type) => write_val_type(text, val_type),
-        None => text.push_str("nothing"),
-    }
-}
 
 /// Writes a function type.
 fn write_func_type(text: &mut String, func_type: &FuncType) -> Result<(), AllocError> {
     text.push_str("function type from")?;
     for param in func_type.params.as_slice() {
-        write_param(text, param)?;
+        write_labelled(text, &param.label, Some(param.val_type))?;
     }
     text.push_str(" to ")?;
-    write_result(text, func_type.result)
+    write_held(text, func_type.result)
 }
 
 /// Writes what an alias stands for.
@@ -70,7 +48,7 @@ fn write_decls(text: &mut String, decls: &[InstanceDecl]) -> Result<(), AllocErr
 #[cycle(types)]
 pub(crate) fn write_type(text: &mut String, def_type: &DefType) -> Result<(), AllocError> {
     match def_type {
-        DefType::Value(primitive) => write!(text, "value type {primitive:?}"),
+        DefType::Value(val_type) => write_def_val_type(text, val_type),
         DefType::Func(func_type) => write_func_type(text, func_type),
         DefType::Instance(decls) => write_decls(text, decls.as_slice()),
     }
