@@ -30,6 +30,20 @@ extern_of (Table t limits) = extern.Table t
 extern_of (Memory m limits) = extern.Memory m
 extern_of (Global g type) = extern.Global g
 
+-- which core instance's definition an item is
+abbrev pub core_of : CoreItem → CoreRef
+core_of (Func core type) = core
+core_of (Table core limits) = core
+core_of (Memory core limits) = core
+core_of (Global core type) = core
+
+-- its type, where it is a function
+abbrev pub func_part : CoreItem → Option core.FuncType
+func_part (Func core type) = Some type
+func_part (Table core limits) = None
+func_part (Memory core limits) = None
+func_part (Global core type) = None
+
 -- The index spaces of tables and memories of a module: their limits.
 abbrev pub table_space : ModuleTree → List Limits
 table_space m = imported_tables m.imports ++ m.tables

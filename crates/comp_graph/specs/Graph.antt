@@ -1,7 +1,7 @@
 -- Graphs: what a component is linked to (Component Model, Explainer.md, "Instance Definitions"; CanonicalABI.md, `canon lift`).
 -- Component instances begin and core instances are made of core modules, in file order, and the exports can be called: each
--- lifts a core function of an instance. So far each value type is u32, and no lift has options.
-use Rattle.std.specs.Prelude.{◌≡◌, ℕ, Bool, true, false, ◌&&◌, ◌==◌, nat_le, List, [], ◌∷◌, ◌++◌, length, map, Option, None, Some}
+-- lifts a core function of an instance. What can be run so far is over u32 alone, and without options.
+use Rattle.std.specs.Prelude.{◌≡◌, ℕ, Bool, true, false, ◌&&◌, ◌==◌, nat_le, List, [], ◌∷◌, ◌++◌, length, map, Option, None, Some, IfSome, IsSome}
 use Rattle.std.specs.List.{slice_get, list_all, AllByRecursion, AllZip}
 use Rattle.std.specs.Option.{option_and_then, option_map, option_map_or}
 use Rattle.ca_base.specs.Names.{first_named}
@@ -18,8 +18,10 @@ use Rattle.wasm_module.specs.Spaces.{global_space, type_of_func}
 use Rattle.comp_graph.specs.declared.graph.CoreRef.{CoreRef}
 use Rattle.comp_graph.specs.declared.graph.CoreExtern.{CoreExtern}
 use Rattle.comp_graph.specs.declared.graph.Action.{Action}
+use Rattle.comp_graph.specs.declared.graph.Options.{Options}
 use Rattle.comp_graph.specs.declared.graph.Lift.{Lift}
 use Rattle.comp_graph.specs.CoreItems.{CoreItem, Func, Table, Memory, Global, extern_of, table_space, memory_space, CoreFits}
+use Rattle.comp_graph.specs.Needs.{lifted_type, realloc_type, post_return_type, needs_memory, needs_realloc}
 
 -- a core instance: its module, what its module's imports are, in order, and the component instance that makes it
 pub record CoreMake : Type 0 where
@@ -43,10 +45,15 @@ instance_limit = 256
 abbrev pub core_instance_limit : ℕ
 core_instance_limit = 256
 
--- a function: the component instance that lifts it, the core function that it lifts, and its type
+-- no memory and no functions
+abbrev pub no_options : Options
+no_options = record { memory = None; realloc = None; post_return = None }
+
+-- a function: the component instance that lifts it, the core function that it lifts, what else the lift uses, and its type
 pub record Lifted : Type 0 where
   pub instance : ℕ
   pub core : CoreRef
+  pub options : Options
   pub func_type : FuncType
 
 -- the names of exports
@@ -55,7 +62,7 @@ names exports = map (λ e. e.name) exports
 
 -- the function of the export of a number
 abbrev pub lifted_as : Option Export → Option Lift → Option Lifted
-lifted_as (Some e) (Some lift) = Some (record { instance = lift.instance; core = lift.core; func_type = e.func_type })
+lifted_as (Some e) (Some lift) = Some (record { instance = lift.instance; core = lift.core; options = lift.options; func_type = e.func_type })
 lifted_as e lift = None
 
 abbrev pub func_at : Graph → ℕ → Option Lifted
@@ -98,11 +105,12 @@ is_flat type of_core =
     && length of_core.params == length type.params && list_all is_i32 of_core.params
     && length of_core.results == result_count type.result && list_all is_i32 of_core.results
 
--- the core function of a lift is there and has the flat type
+-- the core function of a lift is there and has the flat type, and the lift uses nothing else
 pub record LiftsCore (cores : List CoreMake) (func_type : FuncType) (lift : Lift) : Type 0 where
   pub type : core.FuncType
   pub there : core_type cores lift.core ≡ Some type
   pub flat : is_flat func_type type ≡ true
+  pub plain : lift.options ≡ no_options
 
 -- what a graph needs so that its exports can be called
 abbrev pub IsCallable : Graph → Type 0
@@ -113,6 +121,15 @@ pub record IsIn (cores : List CoreMake) (f : CoreRef) (P : ModuleTree → Type 0
   pub core : CoreMake
   pub there : slice_get cores f.instance ≡ Some core
   pub holds : P core.of_module
+
+-- The core function of a lift is there, and so is what else it uses, with the types that lifts to this function type ask for.
+pub record IsLiftThere (cores : List CoreMake) (func_type : FuncType) (lift : Lift) : Type 0 where
+  pub core : core_type cores lift.core ≡ Some (lifted_type func_type)
+  pub memory : IfSome lift.options.memory (λ f. IsIn cores f (λ m. IsSome (slice_get (memory_space m) f.index)))
+  pub realloc : IfSome lift.options.realloc (λ f. core_type cores f ≡ Some realloc_type)
+  pub post_return : IfSome lift.options.post_return (λ f. core_type cores f ≡ Some (post_return_type func_type))
+  pub memory_given : needs_memory func_type ≡ true → IsSome lift.options.memory
+  pub realloc_given : needs_realloc func_type ≡ true → IsSome lift.options.realloc
 
 abbrev pub IsItem : List CoreMake → CoreItem → Type 0
 IsItem cores (Func f type) = IsIn cores f (λ m. type_of_func m f.index ≡ Some type)

@@ -1,3 +1,4 @@
 pub mod Closed
 pub mod CoreItems
 pub mod Graph
+pub mod Needs

@@ -41,6 +41,18 @@ pub enum Action {
     Make(usize),
 }
 
+/// What a canonical function uses of core instances (Component Model, CanonicalABI.md, "Canonical ABI Options"). All texts are
+/// in UTF-8.
+#[derive(Clone, Copy)]
+pub struct Options {
+    /// The memory where what is passed in memory stands.
+    pub memory: Option<CoreRef>,
+    /// The core function that gives places in the memory.
+    pub realloc: Option<CoreRef>,
+    /// The core function that is called when the result was lifted.
+    pub post_return: Option<CoreRef>,
+}
+
 /// The core function that a function lifts (Component Model, CanonicalABI.md, `canon lift`).
 #[derive(Clone, Copy)]
 pub struct Lift {
@@ -48,6 +60,8 @@ pub struct Lift {
     pub instance: usize,
     /// The core function.
     pub core: CoreRef,
+    /// What else the lift uses.
+    pub options: Options,
 }
 
 /// A core instance that is made of a module. Contracts see the module in place of what is valid.

@@ -9,4 +9,4 @@
 
 mod graph;
 
-pub use graph::{Action, CoreExtern, CoreMake, CoreRef, Graph, Lift};
+pub use graph::{Action, CoreExtern, CoreMake, CoreRef, Graph, Lift, Options};

@@ -22,6 +22,7 @@ use Rattle.comp_tree.specs.declared.instances.AliasTarget.TheVariants as target
 use Rattle.comp_tree.specs.declared.externs.ExternDesc.{ExternDesc}
 use Rattle.comp_tree.specs.declared.externs.Export as read
 use Rattle.comp_tree.specs.declared.types.DefType.{DefType}
+use Rattle.comp_tree.specs.declared.items.CanonOption.{CanonOption}
 use Rattle.comp_tree.specs.declared.items.Canon.TheVariants.{Lift}
 use Rattle.comp_tree.specs.declared.items.Item.{Item, out-Item}
 use Rattle.comp_tree.specs.declared.items.Item.TheOpen.{Item-F}
@@ -31,12 +32,12 @@ use Rattle.comp_linking.specs.declared.fault.LinkWhy.TheVariants as why
 use Rattle.comp_linking.specs.declared.fault.LinkFault.{LinkFault}
 use Rattle.comp_graph.specs.Closed.{Closed, Extern, OfInstance, func_of}
 use Rattle.comp_linking.specs.Definitions.{CoreItem, Func, CoreExport, core_named, Lifted, Closure, Definition, AFunc, AType, AComponent, AnInstance, AModule, Exports, EmptyInstance, WithExport, export_names, export_named, lacks, seen_as, types_of}
-use Rattle.comp_graph.specs.Graph.{is_flat}
 use Rattle.comp_linking.specs.declared.reach.Reach.{Reach}
 use Rattle.comp_linking.specs.Runs.{reaches, runs_type, runs_lift}
+use Rattle.comp_linking.specs.Canons.{Given, given_by, stand_once, is_option_there, can_be_lifted}
 use Rattle.comp_linking.specs.Types.{Meaning, meaning_of}
 use Rattle.comp_linking.specs.Spaces.{Spaces, Linking, core_size, size_of, core_item_at, definition_at, with_core_item, with_core_instance, with_definition, with_spaces, levels_at, outer_at}
-use Rattle.comp_linking.specs.Items.{instance_limit, argument_named, core_made, wanted, lacking, with_import, said, with_export}
+use Rattle.comp_linking.specs.Items.{instance_limit, argument_named, core_made, lifted_with, wanted, lacking, with_import, said, with_export}
 use Rattle.comp_linking.specs.Linked.{begun, with_instance, root_begun, graph_of}
 use Rattle.comp_linking.specs.Tests.{are_distinct, all_fit, is_core_of, is_of_sort, fits, root_may_import}
 
@@ -161,24 +162,25 @@ type_outcome l n s type meaning =
 
 -- Lifts.
 
--- the lift of a core item to a function of a type, in the component instance of this number
-abbrev pub lifted_to : Reach → ℕ → FuncType → CoreItem → Result Lifted LinkWhy
-lifted_to reach n type (Func ref of_core) =
-    only_if (is_flat type of_core) why.Canon (
-    only_if (reaches reach (runs_lift type)) why.Limit (
-    Ok (record { instance = n; core = ref; func_type = type })))
-lifted_to reach n type item = Err why.Canon
+-- the lift of a core item to a function of a type, with what options give, in the component instance of this number
+abbrev pub lifted_to : Reach → ℕ → FuncType → CoreItem → List CanonOption → Given → Result Lifted LinkWhy
+lifted_to reach n type item options given =
+    only_if (stand_once options) why.Canon (
+    only_if (can_be_lifted type item given) why.Canon (
+    only_if (reaches reach (runs_lift options type)) why.Limit (
+    Ok (lifted_with n type item given))))
 
--- the lift of the core function of an index to a function of the type of an index
-abbrev pub lifted_of : Reach → ℕ → Spaces → ℕ → ℕ → Result Lifted LinkWhy
-lifted_of reach n s f t =
+-- the lift of the core function of an index, with options, to a function of the type of an index
+abbrev pub lifted_of : Reach → ℕ → Spaces → ℕ → List CanonOption → ℕ → Result Lifted LinkWhy
+lifted_of reach n s f options t =
     after (there_or why.Index (slice_get s.core_funcs f)) (λ item.
+    only_if (list_all (is_option_there s) options) why.Index (
     after (there_or why.Index (slice_get s.types t)) (λ type.
     after (there_or why.Typing (func_of type)) (λ of_func.
-    lifted_to reach n of_func item)))
+    lifted_to reach n of_func item options (given_by s options)))))
 
-abbrev pub lift_outcome : Linking → ℕ → Spaces → ℕ → ℕ → Result Outcome LinkWhy
-lift_outcome l n s f t = after (lifted_of l.reach n s f t) (λ lifted. Ok (one_more l n s (AFunc lifted)))
+abbrev pub lift_outcome : Linking → ℕ → Spaces → ℕ → List CanonOption → ℕ → Result Outcome LinkWhy
+lift_outcome l n s f options t = after (lifted_of l.reach n s f options t) (λ lifted. Ok (one_more l n s (AFunc lifted)))
 
 -- Imports.
 
@@ -239,7 +241,7 @@ outcome_case l n s (Item-F.Component c) = Ok (one_more l n s (AComponent (record
 outcome_case l n s (Item-F.Instance i) = instance_outcome l n s i
 outcome_case l n s (Item-F.Alias alias) = alias_outcome l n s alias.sort alias.target
 outcome_case l n s (Item-F.Type type) = type_outcome l n s type (meaning_of type (levels_at l (n ∷ s.around)))
-outcome_case l n s (Item-F.Canon (Lift f t)) = lift_outcome l n s f t
+outcome_case l n s (Item-F.Canon (Lift f options t)) = lift_outcome l n s f options t
 outcome_case l n s (Item-F.Import i) = import_outcome l n s i.name (wanted s i.desc) i.desc s.arguments
 outcome_case l n s (Item-F.Export e) = export_outcome l n s e
 

@@ -9,7 +9,7 @@ use Rattle.wasm_module.specs.declared.module.ExportDesc.TheVariants as offered
 use Rattle.wasm_module.specs.declared.module.ModuleTree.{ModuleTree}
 use Rattle.wasm_module.specs.Expr.{Plain, End}
 use Rattle.comp_graph.specs.declared.graph.Lift as graph
-use Rattle.comp_graph.specs.Graph.{Graph}
+use Rattle.comp_graph.specs.Graph.{Graph, no_options}
 use Rattle.comp_tree.specs.declared.core_instances.CoreSort.TheVariants as core_sort
 use Rattle.comp_tree.specs.declared.core_instances.CoreInstance.TheVariants as made_core
 use Rattle.comp_tree.specs.declared.instances.Sort.{Sort}
@@ -163,7 +163,7 @@ lifting_before items =
     ∷ make
     ∷ plain.Alias (record { sort = sorts.Core core_sort.Func; target = target.CoreInstanceExport 0 (codes "one") })
     ∷ plain.Type (plain_type.Func (record { params = []; result = Some (type_ref.Primitive U32) }))
-    ∷ plain.Canon (Lift 0 0)
+    ∷ plain.Canon (Lift 0 [] 0)
     ∷ items
 
 -- and exported; or exported as `a#run`, and as `run` of an instance that is exported as `a`
@@ -180,7 +180,7 @@ lifting_twice =
 
 -- the graph of that core instance, whose function can be called under these names
 abbrev lifts_for : List (List ℕ) → List graph.Lift
-lifts_for names = map (λ (name : List ℕ). record { instance = 0; core = record { instance = 0; index = 0 } }) names
+lifts_for names = map (λ (name : List ℕ). record { instance = 0; core = record { instance = 0; index = 0 }; options = no_options }) names
 
 abbrev pub callable_as : List (List ℕ) → Graph
 callable_as names = record {

@@ -27,18 +27,20 @@ use Rattle.comp_tree.specs.declared.externs.ExternDesc.{ExternDesc}
 use Rattle.comp_tree.specs.declared.externs.ExternDesc.TheVariants as desc
 use Rattle.comp_tree.specs.declared.externs.Export as read
 use Rattle.comp_tree.specs.declared.types.DefType.{DefType}
+use Rattle.comp_tree.specs.declared.items.CanonOption.{CanonOption}
 use Rattle.comp_tree.specs.declared.items.Canon.TheVariants.{Lift}
 use Rattle.comp_tree.specs.declared.items.Item.{Item, out-Item}
 use Rattle.comp_tree.specs.declared.items.Item.TheOpen.{Item-F}
 use Rattle.comp_tree.specs.declared.items.Component.{Component}
 use Rattle.comp_linking.specs.declared.fault.LinkWhy.{LinkWhy}
 use Rattle.comp_linking.specs.declared.fault.LinkWhy.TheVariants as why
+use Rattle.comp_graph.specs.CoreItems.{core_of}
 use Rattle.comp_graph.specs.Closed.{Closed, first_of, Extern, OfInstance, func_of, AreTypes}
 use Rattle.comp_linking.specs.Definitions.{CoreRef, CoreItem, Func, extern_of, CoreExport, core_named, exports_of, CoreFits, Definition, AFunc, AType, AComponent, AnInstance, AModule, Exports, EmptyInstance, WithExport, export_names, export_named, Fits, lacks, seen_as, types_of}
-use Rattle.comp_graph.specs.Graph.{is_flat}
 pub use Rattle.comp_graph.specs.Graph.{instance_limit}
 use Rattle.comp_linking.specs.declared.reach.Reach.{Reach}
 use Rattle.comp_linking.specs.Runs.{reaches, runs_type, runs_lift}
+use Rattle.comp_linking.specs.Canons.{IsOptionThere, StandOnce, Given, given_by, options_of, CanBeLifted}
 use Rattle.comp_linking.specs.Types.{Meaning, meaning_of, desc_meaning}
 use Rattle.comp_linking.specs.Spaces.{Spaces, Make, Linking, core_size, size_of, core_item_at, definition_at, IsOfCoreSort, IsOfSort, with_core_item, with_core_instance, with_definition, with_spaces, levels_at, outer_at}
 
@@ -205,28 +207,31 @@ type_makes l n s type meaning new =
     (closed : Closed) × StandsFor meaning closed × (reaches l.reach (runs_type type) ≡ true)
     × (new ≡ with_spaces l n (with_definition s (AType closed)))
 
--- Lifts: an index that is not there, a type that is none of functions, a core item that is no function of the flat type, or that
--- the lift is past the reach. The flat type is that of functions over u32, and no function over other types has one here.
-abbrev pub lifts : FuncType → CoreItem → Bool
-lifts type (Func f of_core) = is_flat type of_core
-lifts type item = false
+-- Lifts: an index that is not there, also of an option; a type that is none of functions; an option twice, or a core item that
+-- cannot be lifted with the options; or that the lift is past the reach.
+abbrev pub lift_has : Reach → Spaces → ℕ → List CanonOption → ℕ → LinkWhy → Type 0
+lift_has reach s f options t why.Index =
+    (slice_get s.core_funcs f ≡ None) ⊎ AnyByRecursion (λ o. IsOptionThere s o → ⊥) options ⊎ (slice_get s.types t ≡ None)
+lift_has reach s f options t why.Typing = MatchOption (slice_get s.types t) ⊥ (λ type. func_of type ≡ None)
+lift_has reach s f options t why.Canon =
+    (StandOnce options → ⊥)
+    ⊎ MatchOption (option_and_then func_of (slice_get s.types t)) ⊥
+    (λ type. MatchOption (slice_get s.core_funcs f) ⊥ (λ item. CanBeLifted type item (given_by s options) → ⊥))
+lift_has reach s f options t why.Limit =
+    MatchOption (option_and_then func_of (slice_get s.types t)) ⊥ (λ type. reaches reach (runs_lift options type) ≡ false)
+lift_has reach s f options t why = ⊥
 
-abbrev pub lift_has : Reach → Spaces → ℕ → ℕ → LinkWhy → Type 0
-lift_has reach s f t why.Index = (slice_get s.core_funcs f ≡ None) ⊎ (slice_get s.types t ≡ None)
-lift_has reach s f t why.Typing = MatchOption (slice_get s.types t) ⊥ (λ type. func_of type ≡ None)
-lift_has reach s f t why.Canon =
-    MatchOption (option_and_then func_of (slice_get s.types t)) ⊥
-    (λ type. MatchOption (slice_get s.core_funcs f) ⊥ (λ item. lifts type item ≡ false))
-lift_has reach s f t why.Limit =
-    MatchOption (option_and_then func_of (slice_get s.types t)) ⊥ (λ type. reaches reach (runs_lift type) ≡ false)
-lift_has reach s f t why = ⊥
+-- the function that a core item is lifted to, in the component instance of a number
+abbrev pub lifted_with : ℕ → FuncType → CoreItem → Given → Lifted
+lifted_with n type item given = record { instance = n; core = core_of item; options = options_of given; func_type = type }
 
-abbrev pub lift_makes : Linking → ℕ → Spaces → ℕ → ℕ → Linking → Type 0
-lift_makes l n s f t new =
-    (ref : CoreRef) × (of_core : core.FuncType) × (type : FuncType)
-    × (slice_get s.core_funcs f ≡ Some (Func ref of_core)) × (option_and_then func_of (slice_get s.types t) ≡ Some type)
-    × (is_flat type of_core ≡ true) × (reaches l.reach (runs_lift type) ≡ true)
-    × (new ≡ with_spaces l n (with_definition s (AFunc (record { instance = n; core = ref; func_type = type }))))
+abbrev pub lift_makes : Linking → ℕ → Spaces → ℕ → List CanonOption → ℕ → Linking → Type 0
+lift_makes l n s f options t new =
+    (item : CoreItem) × (type : FuncType)
+    × (slice_get s.core_funcs f ≡ Some item) × AllByRecursion (IsOptionThere s) options
+    × (option_and_then func_of (slice_get s.types t) ≡ Some type)
+    × StandOnce options × CanBeLifted type item (given_by s options) × (reaches l.reach (runs_lift options type) ≡ true)
+    × (new ≡ with_spaces l n (with_definition s (AFunc (lifted_with n type item (given_by s options)))))
 
 -- Imports.
 
@@ -325,7 +330,7 @@ has_case l n s (Item-F.Component c) why = ⊥
 has_case l n s (Item-F.Instance i) why = instance_has l s i why
 has_case l n s (Item-F.Alias alias) why = alias_has l n s alias.sort alias.target why
 has_case l n s (Item-F.Type type) why = type_has l.reach type (meaning_of type (levels_at l (n ∷ s.around))) why
-has_case l n s (Item-F.Canon (Lift f t)) why = lift_has l.reach s f t why
+has_case l n s (Item-F.Canon (Lift f options t)) why = lift_has l.reach s f options t why
 has_case l n s (Item-F.Import i) why = import_has s i.name i.desc why
 has_case l n s (Item-F.Export e) why = export_has s e why
 
@@ -340,7 +345,7 @@ makes_case l n s (Item-F.Component c) new = new ≡ with_spaces l n (with_defini
 makes_case l n s (Item-F.Instance i) new = instance_makes l n s i new
 makes_case l n s (Item-F.Alias alias) new = alias_makes l n s alias.sort alias.target new
 makes_case l n s (Item-F.Type type) new = type_makes l n s type (meaning_of type (levels_at l (n ∷ s.around))) new
-makes_case l n s (Item-F.Canon (Lift f t)) new = lift_makes l n s f t new
+makes_case l n s (Item-F.Canon (Lift f options t)) new = lift_makes l n s f options t new
 makes_case l n s (Item-F.Import i) new = import_makes l n s i.name i.desc new
 makes_case l n s (Item-F.Export e) new = export_makes l n s e new
 

@@ -1,12 +1,12 @@
 -- What holds of all linkings: an item makes one thing or has a reason, and not both; items lead to one linking, or one of them
 -- is refused, for one reason; instances stay few; and graphs are sound.
 use Rattle.std.specs.Prelude.{◌≡◌, ◌≤◌, ◌↔◌, ◌⊎◌, ℕ, true, List, [], length, Ok, Err}
-use Rattle.std.specs.List.{AllByRecursion}
+use Rattle.std.specs.List.{AllByRecursion, AllZip}
 use Rattle.ca_base.specs.Names.{AreDistinct}
 use Rattle.ca_base.specs.declared.placed.Placed.{Placed}
 use Rattle.ca_types.specs.declared.types.FuncType.{FuncType}
 use Rattle.ca_types.specs.declared.exports.Export.{Export}
-use Rattle.comp_graph.specs.Graph.{Graph, CoreMake, names, IsCallable, AreImported}
+use Rattle.comp_graph.specs.Graph.{Graph, CoreMake, names, IsLiftThere, IsCallable, AreImported}
 use Rattle.comp_tree.specs.declared.items.Item.{Item}
 use Rattle.comp_tree.specs.declared.items.Component.{Component}
 use Rattle.comp_linking.specs.declared.fault.LinkWhy.{LinkWhy}
@@ -105,6 +105,11 @@ GraphsAreImported = (reach : Reach) (c : Component) (g : Graph) → IsLinked rea
 -- The exports of a graph that is linked to be run can be called: the core function of each lift is there, and of the flat type.
 abbrev pub GraphsAreCallable : Type 0
 GraphsAreCallable = (c : Component) (g : Graph) → IsLinked Runs c g → IsCallable g
+
+-- The lift of each export is there: its core function, its memory and its other core functions, with the types that it needs.
+abbrev pub LiftsAreThere : Type 0
+LiftsAreThere =
+    (reach : Reach) (c : Component) (g : Graph) → IsLinked reach c g → AllZip (λ (e : Export) lift. IsLiftThere g.cores e.func_type lift) g.exports g.lifts
 
 -- No two parameters of an export have one label.
 abbrev pub LabelsAreDistinct : Type 0

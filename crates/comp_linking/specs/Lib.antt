@@ -1,3 +1,4 @@
+pub mod Canons
 pub mod Computed
 pub mod Definitions
 pub mod Distinct

@@ -132,7 +132,7 @@ abbrev pub export_of : Callable → Export
 export_of c = record { name = c.name; func_type = c.func.func_type }
 
 abbrev pub lift_of : Callable → Lift
-lift_of c = record { instance = c.func.instance; core = c.func.core }
+lift_of c = record { instance = c.func.instance; core = c.func.core; options = c.func.options }
 
 abbrev pub graph_of : Linking → Graph
 graph_of l = record {

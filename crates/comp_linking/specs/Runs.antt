@@ -1,12 +1,14 @@
 -- How far linking goes. No section of the standard says this, it is the tool's own: what can be run may be less than what is read
 -- and can be linked, so linking that is to lead to a run refuses, as `Limit`, the first item that holds what cannot be run. A
 -- type can be run where each value type that is written in it is u32, in functions and in instance types. An index, an alias and
--- an export stand for what is held elsewhere. A lift can be run where the parameters and the result of its function are u32.
+-- an export stand for what is held elsewhere. A lift can be run where it has no options, and the parameters and the result of its
+-- function are u32.
 use Rattle.std.specs.Prelude.{Bool, true, false, ◌&&◌, List, [], ◌∷◌, Option, Some, None}
 use Rattle.std.specs.List.{list_all}
 use Rattle.std.specs.Option.{option_map_or}
 use Rattle.ca_types.specs.declared.types.FuncType.{FuncType}
 use Rattle.comp_graph.specs.Graph.{is_u32}
+use Rattle.comp_tree.specs.declared.items.CanonOption.{CanonOption}
 use Rattle.comp_tree.specs.declared.types.PrimValType.{PrimValType}
 use Rattle.comp_tree.specs.declared.types.PrimValType.TheVariants as prim
 use Rattle.comp_tree.specs.declared.types.ValTypeRef.{ValTypeRef}
@@ -68,7 +70,12 @@ runs_type = fold-DefType Bool Bool type_runs decl_runs
 abbrev pub runs_decl : InstanceDecl → Bool
 runs_decl = fold-InstanceDecl Bool Bool type_runs decl_runs
 
--- Lifts, by the types of their functions.
+-- Lifts, by their options and the types of their functions.
 
-abbrev pub runs_lift : FuncType → Bool
-runs_lift type = list_all (λ p. is_u32 p.val_type) type.params && option_map_or is_u32 type.result true
+abbrev pub runs_options : List CanonOption → Bool
+runs_options [] = true
+runs_options (o ∷ options) = false
+
+abbrev pub runs_lift : List CanonOption → FuncType → Bool
+runs_lift options type =
+    runs_options options && list_all (λ p. is_u32 p.val_type) type.params && option_map_or is_u32 type.result true

@@ -6,7 +6,7 @@ ghost use Rattle.comp_linking.specs.Runs as running;
 
 use crate::runs::{runs_lift, runs_type};
 use ca_types::FuncType;
-use comp_tree::DefType;
+use comp_tree::{CanonOption, DefType};
 
 /// How far linking goes. It is the tool's own, and no section of the standard has it.
 #[derive(Clone, Copy)]
@@ -29,12 +29,12 @@ impl Reach {
         }
     }
 
-    /// Whether the lift of a core function to a function of this type is within reach.
-    pub fn has_lift(self, func_type: &FuncType) -> bool
-        ensures { result ≡ reaches self (running.runs_lift func_type.now) }
+    /// Whether the lift of a core function, with these options, to a function of this type is within reach.
+    pub fn has_lift(self, options: &[CanonOption], func_type: &FuncType) -> bool
+        ensures { result ≡ reaches self (running.runs_lift options.now func_type.now) }
     {
         match self {
-            Reach::Runs => runs_lift(func_type),
+            Reach::Runs => runs_lift(options, func_type),
             Reach::Whole => true,
         }
     }

@@ -7,7 +7,7 @@ ghost use Rattle.comp_graph.specs.Graph as graph;
 ghost use Rattle.comp_linking.specs.Runs as running;
 
 use ca_types::{FuncType, Param, Shared, ValType};
-use comp_tree::{DefType, DefValType, InstanceDecl, PrimValType, ValTypeRef};
+use comp_tree::{CanonOption, DefType, DefValType, InstanceDecl, PrimValType, ValTypeRef};
 
 /// Whether values of a primitive type can be run.
 fn runs_primitive(val_type: PrimValType) -> bool
@@ -104,9 +104,10 @@ fn result_is_u32(returned: &Option<Shared<ValType>>) -> bool
     }
 }
 
-/// Whether a lift to a function of this type can be run: its parameters and its result are u32.
-pub fn runs_lift(func_type: &FuncType) -> bool
-    ensures { result ≡ running.runs_lift func_type.now }
+/// Whether a lift with these options to a function of this type can be run: it has no options, and its parameters and its result
+/// are u32.
+pub fn runs_lift(options: &[CanonOption], func_type: &FuncType) -> bool
+    ensures { result ≡ running.runs_lift options.now func_type.now }
 {
-    are_u32(func_type.params.as_slice()) && result_is_u32(&func_type.result)
+    options.is_empty() && are_u32(func_type.params.as_slice()) && result_is_u32(&func_type.result)
 }

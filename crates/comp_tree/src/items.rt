@@ -7,13 +7,28 @@ use crate::types::DefType;
 use ca_base::{Placed, Seq};
 use wasm_valid::Valid;
 
-/// A function that the Canonical ABI makes (Component Model, Binary.md, `canon`).
+/// An option of a canonical function (Component Model, Binary.md, `canonopt`).
 #[derive(Clone, Copy)]
+pub enum CanonOption {
+    /// Texts are in UTF-8.
+    Utf8,
+    /// What is passed in memory stands in the memory of this index.
+    Memory(u32),
+    /// The core function of this index gives places in the memory.
+    Realloc(u32),
+    /// The core function of this index is called when the result was lifted.
+    PostReturn(u32),
+}
+
+/// A function that the Canonical ABI makes (Component Model, Binary.md, `canon`).
+#[derive(Drop)]
 pub enum Canon {
-    /// The lift of a core function to a function, without options.
+    /// The lift of a core function to a function.
     Lift {
         /// The index of the core function.
         core_func: u32,
+        /// The options, in order.
+        options: Seq<CanonOption>,
         /// The index of the function's type.
         func_type: u32,
     },

@@ -19,7 +19,7 @@ mod types;
 pub use core_instances::{CoreArgument, CoreInlineExport, CoreInstance, CoreSort};
 pub use externs::{Export, ExternDesc, Import};
 pub use instances::{Alias, AliasTarget, Instance, NamedDefinition, Sort};
-pub use items::{Canon, Component, Item};
+pub use items::{Canon, CanonOption, Component, Item};
 pub use types::{
     Case, DefType, DefValType, Field, FuncType, InstanceDecl, Param, PrimValType, ValTypeRef,
 };

@@ -38,6 +38,7 @@ pub record IsInstance (t : Table) (w : World) (instance : InstanceRef) (exports 
 pub record IsLifted (t : Table) (ref : LiftedRef) (f : Lifted) : Type 0 where
   pub instance : f.instance ≡ ref.instance
   pub core : f.core ≡ ref.core
+  pub options : f.options ≡ ref.options
   pub func_type : IsFunc t ref.func_type f.func_type
 
 -- a reference stands for a definition

@@ -8,7 +8,7 @@ ghost use Rattle.type_tables.specs.Table.{Table};
 ghost use Rattle.type_tables.specs.Table.{IsExtern};
 ghost use Rattle.instance_tables.specs.References.{World, Stands, seen_ref, func_ref, type_ref, instance_ref};
 
-use comp_graph::CoreRef;
+use comp_graph::{CoreRef, Options};
 use type_tables::{ExternRef, FuncTypeRef, InstanceTypeRef, TypeRef};
 
 /// A function.
@@ -18,6 +18,8 @@ pub struct LiftedRef {
     pub instance: usize,
     /// The core function that it lifts.
     pub core: CoreRef,
+    /// What else the lift uses.
+    pub options: Options,
     /// Its type.
     pub func_type: FuncTypeRef,
 }

@@ -1,6 +1,7 @@
 pub mod Begun
 pub mod Kept
 pub mod Labels
+pub mod Laid
 pub mod Laws
 pub mod Layered
 pub mod Layering

@@ -5,6 +5,7 @@
 //! - `layers`: the layers of types, each once, by number
 //! - `refs`: references into a table of types
 //! - `labels`: labels with the numbers of value types, which function types are made of
+//! - `laid_func`: what lifts ask of a function type
 //! - `types`: the table of types
 //! - `maker`: types of instances, made export by export
 //! - `asked`: what a type of instances asks for
@@ -13,6 +14,7 @@
 
 mod asked;
 mod labels;
+mod laid_func;
 pub mod laws;
 mod layers;
 mod listing;
@@ -22,6 +24,7 @@ mod types;
 
 pub use asked::{asked_at, asked_count, asked_named};
 pub use labels::LabelledType;
+pub use laid_func::LaidFunc;
 pub use layers::{ExternLayer, Layer, Layers, TypeLayer};
 pub use listing::Listing;
 pub use maker::InstanceTypeMaker;
