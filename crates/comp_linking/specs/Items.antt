@@ -3,13 +3,12 @@
 -- Export Definitions"; CanonicalABI.md, `canon lift`). At one item the reasons come in the order in which `LinkWhy` has them.
 -- The instantiation of a component makes more than one item can say; its own reasons are here, and what its component's items
 -- make stands in `Linked`.
-use Rattle.std.specs.Prelude.{◌≡◌, ◌<◌, ◌≤◌, ◌⊎◌, ℕ, Bool, true, false, cond, List, [], ◌∷◌, ◌++◌, length, map, set, Option, Some, None}
+use Rattle.std.specs.Prelude.{◌≡◌, ◌<◌, ◌≤◌, ◌⊎◌, ℕ, true, false, cond, List, [], ◌∷◌, ◌++◌, length, map, set, Option, Some, None}
 use Rattle.std.specs.Option.{option_map, option_and_then, MatchOption}
 use Rattle.std.specs.List.{slice_get, AllByRecursion, AllZip}
 use Rattle.std.specs.Str.{bytes_eq}
 use Rattle.ca_base.specs.Names.{AreDistinct, is_among}
 use Rattle.ca_types.specs.declared.types.FuncType.{FuncType}
-use Rattle.wasm_module.specs.declared.types.FuncType as core
 use Rattle.wasm_module.specs.declared.module.Import.{Import}
 use Rattle.wasm_module.specs.declared.module.ModuleTree.{ModuleTree}
 use Rattle.comp_tree.specs.declared.core_instances.CoreArgument.{CoreArgument}
@@ -36,7 +35,7 @@ use Rattle.comp_linking.specs.declared.fault.LinkWhy.{LinkWhy}
 use Rattle.comp_linking.specs.declared.fault.LinkWhy.TheVariants as why
 use Rattle.comp_graph.specs.CoreItems.{core_of}
 use Rattle.comp_graph.specs.Closed.{Closed, first_of, Extern, OfInstance, func_of, AreTypes}
-use Rattle.comp_linking.specs.Definitions.{CoreRef, CoreItem, Func, extern_of, CoreExport, core_named, exports_of, CoreFits, Definition, AFunc, AType, AComponent, AnInstance, AModule, Exports, EmptyInstance, WithExport, export_names, export_named, Fits, lacks, seen_as, types_of}
+use Rattle.comp_linking.specs.Definitions.{CoreItem, extern_of, CoreExport, core_named, exports_of, CoreFits, Lifted, Definition, AFunc, AType, AComponent, AnInstance, AModule, Exports, EmptyInstance, WithExport, export_names, export_named, Fits, lacks, seen_as, types_of}
 pub use Rattle.comp_graph.specs.Graph.{instance_limit}
 use Rattle.comp_linking.specs.declared.reach.Reach.{Reach}
 use Rattle.comp_linking.specs.Runs.{reaches, runs_type, runs_lift}
