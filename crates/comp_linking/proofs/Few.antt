@@ -52,7 +52,7 @@ case_few l n s (Item-F.Component c) new made h = few_made l n _ new made h
 case_few l n s (Item-F.Instance i) new made h = instance_few l n s i new made h
 case_few l n s (Item-F.Alias alias) new made h = alias_few l n s alias.sort alias.target new made h
 case_few l n s (Item-F.Type type) new (closed, is, within, made) h = few_made l n _ new made h
-case_few l n s (Item-F.Canon (Lift f t)) new (ref, of_core, type, is, of_type, flat, within, made) h = few_made l n _ new made h
+case_few l n s (Item-F.Canon (Lift f options t)) new (item, type, is, there, of_type, once, fits, within, made) h = few_made l n _ new made h
 case_few l n s (Item-F.Import i) new (extern, d, is, fresh, imported, made) h = few_made l n _ new made h
 case_few l n s (Item-F.Export e) new (d, x, is, fresh, exported, made) h = few_made l n _ new made h
 

@@ -1,6 +1,6 @@
 -- What holds of each item of a list, and of what an option has.
 use Rattle.std.proofs.Common.{◌≡◌, ℕ, zero, suc, Bool, true, false, cond, List, [], ◌∷◌, ◌++◌, length, map, set, refl, subst, Option, Some, None}
-use Rattle.std.specs.Prelude.{IfSome}
+use Rattle.std.specs.Prelude.{IfSome, IsSome}
 use Rattle.std.specs.Option.{option_map, option_and_then}
 use Rattle.std.specs.List.{slice_get, flat_map, AllByRecursion, AllZip}
 
@@ -59,6 +59,18 @@ if_weaker P Q f (Some x) h = f x h
 pub if_mapped : {A B : Type 0} (f : A → B) (P : B → Type 0) (o : Option A) → IfSome o (λ x. P (f x)) → IfSome (option_map f o) P
 if_mapped f P None h = tt
 if_mapped f P (Some x) h = h
+
+pub if_both : {A : Type 0} (P Q R : A → Type 0) → ((x : A) → P x → Q x → R x) → (o : Option A) → IfSome o P → IfSome o Q → IfSome o R
+if_both P Q R f None h k = tt
+if_both P Q R f (Some x) h k = f x h k
+
+pub if_each : {A B : Type 0} (f : A → Option B) (P : B → Type 0) → ((x : A) → IfSome (f x) P) → (o : Option A) → IfSome (option_and_then f o) P
+if_each f P each None = tt
+if_each f P each (Some x) = each x
+
+pub mapped_some : {A B : Type 0} (f : A → B) (o : Option A) → IsSome o → IsSome (option_map f o)
+mapped_some f None h = h
+mapped_some f (Some x) h = refl
 
 pub if_then : {A B : Type 0} (f : A → Option B) (P : B → Type 0) (o : Option A) → IfSome o (λ x. IfSome (f x) P) → IfSome (option_and_then f o) P
 if_then f P None h = tt

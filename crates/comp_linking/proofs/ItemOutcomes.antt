@@ -2,29 +2,30 @@
 use Rattle.std.proofs.Common.{◌≡◌, ◌⊎◌, inl, inr, ℕ, Bool, true, false, not, nat_lt, List, ◌∷◌, refl, sym, ap, subst, arith, Option, Some, None}
 use Rattle.std.specs.Prelude.{Ok}
 use Rattle.std.specs.Option.{option_and_then, MatchOption}
-use Rattle.std.specs.List.{slice_get}
+use Rattle.std.specs.List.{slice_get, list_all, AllByRecursion}
 use Rattle.ca_base.specs.Names.{is_among}
 use Rattle.ca_types.specs.declared.types.FuncType.{FuncType}
-use Rattle.wasm_module.specs.declared.types.FuncType as core
 use Rattle.comp_tree.specs.declared.types.DefType.{DefType}
 use Rattle.comp_tree.specs.declared.instances.Sort.{Sort}
 use Rattle.comp_tree.specs.declared.instances.AliasTarget.{AliasTarget}
 use Rattle.comp_tree.specs.declared.instances.AliasTarget.TheVariants as target
 use Rattle.comp_tree.specs.declared.externs.ExternDesc.{ExternDesc}
 use Rattle.comp_tree.specs.declared.externs.Export as read
+use Rattle.comp_tree.specs.declared.items.CanonOption.{CanonOption}
 use Rattle.comp_linking.specs.declared.fault.LinkWhy.TheVariants as why
 use Rattle.comp_graph.specs.Closed.{Closed, Extern, OfFunc, OfType, OfInstance, func_of}
-use Rattle.comp_linking.specs.Definitions.{CoreRef, CoreItem, Func, Table, Memory, Global, core_named, Lifted, Definition, AFunc, AnInstance, Exports, export_names, export_named, lacks, seen_as, types_of}
-use Rattle.comp_graph.specs.Graph.{is_flat}
+use Rattle.comp_linking.specs.Definitions.{CoreItem, core_named, Lifted, Definition, AFunc, AnInstance, Exports, export_names, export_named, lacks, seen_as, types_of}
 use Rattle.comp_linking.specs.Runs.{reaches, runs_type, runs_lift}
+use Rattle.comp_linking.specs.Canons.{IsOptionThere, given_by, CanBeLifted, stand_once, is_option_there, can_be_lifted}
 use Rattle.comp_linking.specs.Types.{Meaning}
 use Rattle.comp_linking.specs.Spaces.{Spaces, Linking, size_of, definition_at, IsOfSort, with_core_item, with_definition, with_spaces, outer_at}
-use Rattle.comp_linking.specs.Items.{IsCoreOf, alias_has, alias_makes, type_has, type_makes, lifts, lift_has, lift_makes, wanted, IsOfTypes, lacking, DoesNotFit, import_has, with_import, IsImported, import_makes, said, IsSaid, export_has, with_export, IsExported, export_makes}
+use Rattle.comp_linking.specs.Items.{AnyByRecursion, IsCoreOf, alias_has, alias_makes, type_has, type_makes, lift_has, lift_makes, wanted, IsOfTypes, lacking, DoesNotFit, import_has, with_import, IsImported, import_makes, said, IsSaid, export_has, with_export, IsExported, export_makes}
 use Rattle.comp_linking.specs.Tests.{is_core_of, is_of_sort, fits, root_may_import}
 use Rattle.comp_linking.specs.Computed.{after, there_or, Outcome, Makes, core_aliased, alias_outcome, type_outcome, lifted_to, lifted_of, lift_outcome, root_given, as_asked, import_outcome, said_is_there, said_lacks, as_said, export_outcome}
-use Rattle.comp_linking.proofs.Lists.{match_at, match_some, then_some}
+use Rattle.comp_linking.proofs.Lists.{some_all, match_at, match_some, then_some}
 use Rattle.comp_linking.proofs.Excluding.{both_of, true_false}
-use Rattle.comp_linking.proofs.Telling.{less, not_less, fails, core_of_told, sort_told, fits_told, root_refused, root_taken, root_types}
+use Rattle.comp_linking.proofs.Telling.{less, not_less, fails, all_pass_or, core_of_told, sort_told, fits_told, root_refused, root_taken, root_types}
+use Rattle.comp_linking.proofs.Lifting.{once_told, option_told, lifted_told}
 use Rattle.comp_linking.proofs.Sounding.{Clear, First, Sound, clear_root, clear_index, clear_missing, clear_typing, clear_canon, sound_if, sound_there, sound_behind, sound_missing, sound_checked, sound_found, match_in, match_none}
 use Rattle.comp_linking.proofs.CoreOutcomes.{MakesBy}
 
@@ -100,53 +101,63 @@ type_sound l n s type meaning =
 
 -- Lifts.
 
-not_lifted : (l : Linking) (n : ℕ) (s : Spaces) (f t : ℕ) (type : FuncType) (item : CoreItem) → slice_get s.core_funcs f ≡ Some item → option_and_then func_of (slice_get s.types t) ≡ Some type → Clear (lift_has l.reach s f t) 4 → lifts type item ≡ false → First (lift_has l.reach s f t) why.Canon
-not_lifted l n s f t type item there is clear h = record {
-  has =
-      match_in (λ type. MatchOption (slice_get s.core_funcs f) ⊥ (λ item. lifts type item ≡ false)) (option_and_then func_of (slice_get s.types t)) type is
-      (match_in (λ item. lifts type item ≡ false) (slice_get s.core_funcs f) item there h);
-  clear = clear;
-}
-
--- a core function of the flat type has no reason of canonical functions
-flat_lifts : (l : Linking) (s : Spaces) (f t : ℕ) (type : FuncType) (ref : CoreRef) (of_core : core.FuncType) → slice_get s.core_funcs f ≡ Some (Func ref of_core) → option_and_then func_of (slice_get s.types t) ≡ Some type → is_flat type of_core ≡ true → lift_has l.reach s f t why.Canon → ⊥
-flat_lifts l s f t type ref of_core there is flat h =
-    let k = match_at (λ type. MatchOption (slice_get s.core_funcs f) ⊥ (λ item. lifts type item ≡ false)) (option_and_then func_of (slice_get s.types t)) type is h in
-    true_false (lifts type (Func ref of_core)) flat (match_at (λ item. lifts type item ≡ false) (slice_get s.core_funcs f) (Func ref of_core) there k)
-
 -- what the lift of these indices makes is this function
-abbrev LiftMakes : Linking → ℕ → Spaces → ℕ → ℕ → Lifted → Type 0
-LiftMakes l n s f t lifted = lift_makes l n s f t (with_spaces l n (with_definition s (AFunc lifted)))
+abbrev LiftMakes : Linking → ℕ → Spaces → ℕ → List CanonOption → ℕ → Lifted → Type 0
+LiftMakes l n s f options t lifted = lift_makes l n s f options t (with_spaces l n (with_definition s (AFunc lifted)))
 
-lifted_sound : (l : Linking) (n : ℕ) (s : Spaces) (f t : ℕ) (type : FuncType) (item : CoreItem) → slice_get s.core_funcs f ≡ Some item → option_and_then func_of (slice_get s.types t) ≡ Some type → Clear (lift_has l.reach s f t) 4
-    → Sound (lift_has l.reach s f t) (LiftMakes l n s f t) (lifted_to l.reach n type item)
-lifted_sound l n s f t type (Func ref of_core) there is clear =
-    let P = lift_has l.reach s f t in
-    let Q = LiftMakes l n s f t in
-    sound_if P Q (is_flat type of_core) why.Canon _ clear (λ other. (not_lifted l n s f t type (Func ref of_core) there is clear other).has)
-    (λ flat. (let canon = clear_canon P clear (λ h. flat_lifts l s f t type ref of_core there is flat h) in
-    sound_if P Q (reaches l.reach (runs_lift type)) why.Limit _ canon (λ past. match_in (λ type. reaches l.reach (runs_lift type) ≡ false) (option_and_then func_of (slice_get s.types t)) type is past)
-    (λ within. (ref, of_core, type, there, is, flat, within, refl))))
-lifted_sound l n s f t type (Table ref limits) there is clear = not_lifted l n s f t type (Table ref limits) there is clear refl
-lifted_sound l n s f t type (Memory ref limits) there is clear = not_lifted l n s f t type (Memory ref limits) there is clear refl
-lifted_sound l n s f t type (Global ref of_core) there is clear = not_lifted l n s f t type (Global ref of_core) there is clear refl
+-- a core item that cannot be lifted
+abbrev Unfit : Spaces → List CanonOption → FuncType → CoreItem → Type 0
+Unfit s options type item = CanBeLifted type item (given_by s options) → ⊥
 
-pub lift_sound : (l : Linking) (n : ℕ) (s : Spaces) (f t : ℕ) → Sound (lift_has l.reach s f t) (MakesBy (lift_makes l n s f t)) (lift_outcome l n s f t)
-lift_sound l n s f t =
-    let P = lift_has l.reach s f t in
-    let Q = LiftMakes l n s f t in
+abbrev UnfitAt : Spaces → ℕ → List CanonOption → FuncType → Type 0
+UnfitAt s f options type = MatchOption (slice_get s.core_funcs f) ⊥ (Unfit s options type)
+
+lifted_sound : (l : Linking) (n : ℕ) (s : Spaces) (f : ℕ) (options : List CanonOption) (t : ℕ) (type : FuncType) (item : CoreItem) → slice_get s.core_funcs f ≡ Some item → AllByRecursion (IsOptionThere s) options
+    → option_and_then func_of (slice_get s.types t) ≡ Some type → Clear (lift_has l.reach s f options t) 4
+    → Sound (lift_has l.reach s f options t) (LiftMakes l n s f options t) (lifted_to l.reach n type item options (given_by s options))
+lifted_sound l n s f options t type item there are is clear =
+    let P = lift_has l.reach s f options t in
+    let Q = LiftMakes l n s f options t in
+    let given = given_by s options in
+    sound_if P Q (stand_once options) why.Canon _ clear (λ twice. inl (fails (stand_once options) (once_told options) twice)) (λ once.
+    sound_if P Q (can_be_lifted type item given) why.Canon _ clear
+    (λ other. inr (match_in (UnfitAt s f options) (option_and_then func_of (slice_get s.types t)) type is
+    (match_in (Unfit s options type) (slice_get s.core_funcs f) item there (fails (can_be_lifted type item given) (lifted_told type item given) other)))) (λ fits.
+    (let canon = clear_canon P clear (λ h. elim h [
+      | inl twice ↦ twice ((once_told options).0 once)
+      | inr unfit ↦
+          match_at (Unfit s options type) (slice_get s.core_funcs f) item there
+          (match_at (UnfitAt s f options) (option_and_then func_of (slice_get s.types t)) type is unfit) ((lifted_told type item given).0 fits)
+    ]) in
+    sound_if P Q (reaches l.reach (runs_lift options type)) why.Limit _ canon
+    (λ past. match_in (λ type. reaches l.reach (runs_lift options type) ≡ false) (option_and_then func_of (slice_get s.types t)) type is past)
+    (λ within. (item, type, there, are, is, (once_told options).0 once, (lifted_told type item given).0 fits, within, refl)))))
+
+-- options that are there, or not
+options_told : (s : Spaces) (options : List CanonOption)
+    → (list_all (is_option_there s) options ≡ true → AllByRecursion (IsOptionThere s) options) × (list_all (is_option_there s) options ≡ false → AnyByRecursion (λ o. IsOptionThere s o → ⊥) options)
+options_told s options =
+    all_pass_or (is_option_there s) (IsOptionThere s) (λ o. IsOptionThere s o → ⊥) (λ o h. (option_told s o).0 h) (λ o h. fails (is_option_there s o) (option_told s o) h) options
+
+pub lift_sound : (l : Linking) (n : ℕ) (s : Spaces) (f : ℕ) (options : List CanonOption) (t : ℕ) → Sound (lift_has l.reach s f options t) (MakesBy (lift_makes l n s f options t)) (lift_outcome l n s f options t)
+lift_sound l n s f options t =
+    let P = lift_has l.reach s f options t in
+    let Q = LiftMakes l n s f options t in
     let root = clear_root P (λ h. h) in
-    sound_behind P (MakesBy (lift_makes l n s f t)) (lifted_of l.reach n s f t) _ (
+    sound_behind P (MakesBy (lift_makes l n s f options t)) (lifted_of l.reach n s f options t) _ (
     sound_there P Q (slice_get s.core_funcs f) why.Index _ root (λ none. inl none) (λ item there.
-    sound_there P Q (slice_get s.types t) why.Index _ root (λ none. inr none) (λ type is.
+    sound_if P Q (list_all (is_option_there s) options) why.Index _ root (λ absent. inr (inl ((options_told s options).1 absent))) (λ all.
+    (let are = (options_told s options).0 all in
+    sound_there P Q (slice_get s.types t) why.Index _ root (λ none. inr (inr none)) (λ type is.
     (let index = clear_index P root (λ h. elim h [
       | inl none ↦ both_of (slice_get s.core_funcs f) item there none
-      | inr none ↦ both_of (slice_get s.types t) type is none
+      | inr (inl absent) ↦ some_all (IsOptionThere s) (λ o. IsOptionThere s o → ⊥) (λ o h k. k h) options are absent
+      | inr (inr none) ↦ both_of (slice_get s.types t) type is none
     ]) in
     let missing = clear_missing P index (λ name h. h) in
     sound_there P Q (func_of type) why.Typing _ missing (λ none. match_in (λ type. func_of type ≡ None) (slice_get s.types t) type is none) (λ of_func found.
-    lifted_sound l n s f t of_func item there (found_then func_of (slice_get s.types t) type of_func is found)
-    (clear_typing P missing (λ h. both_of (func_of type) of_func found (match_at (λ type. func_of type ≡ None) (slice_get s.types t) type is h))))))))
+    lifted_sound l n s f options t of_func item there are (found_then func_of (slice_get s.types t) type of_func is found)
+    (clear_typing P missing (λ h. both_of (func_of type) of_func found (match_at (λ type. func_of type ≡ None) (slice_get s.types t) type is h))))))))))
 
 -- Imports.
 

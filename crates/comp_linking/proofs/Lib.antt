@@ -7,12 +7,15 @@ pub mod DistinctNames
 pub mod Excluding
 pub mod Few
 pub mod Fitting
+pub mod FlatLifts
 pub mod Following
 pub mod Holding
 pub mod InstanceSamples
 pub mod ItemOutcomes
 pub mod Kept
 pub mod Lengths
+pub mod Lifting
+pub mod LiftsThere
 pub mod Lists
 pub mod Making
 pub mod Meanings

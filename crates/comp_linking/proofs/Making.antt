@@ -16,15 +16,17 @@ use Rattle.comp_tree.specs.declared.instances.AliasTarget.{AliasTarget}
 use Rattle.comp_tree.specs.declared.instances.AliasTarget.TheVariants as target
 use Rattle.comp_tree.specs.declared.externs.ExternDesc.{ExternDesc}
 use Rattle.comp_tree.specs.declared.externs.Export as read
+use Rattle.comp_tree.specs.declared.items.CanonOption.{CanonOption}
 use Rattle.comp_tree.specs.declared.items.Canon.TheVariants.{Lift}
 use Rattle.comp_tree.specs.declared.items.Item.{Item, out-Item}
 use Rattle.comp_tree.specs.declared.items.Item.TheOpen.{Item-F}
 use Rattle.comp_tree.specs.declared.items.Component.{Component}
 use Rattle.comp_graph.specs.Closed.{Extern, OfFunc, OfType, OfInstance}
-use Rattle.comp_linking.specs.Definitions.{CoreRef, CoreItem, CoreExport, Definition, AFunc, AType, AnInstance, Exports, EmptyInstance, WithExport, seen_as}
+use Rattle.comp_linking.specs.Definitions.{CoreItem, CoreExport, Definition, AFunc, AType, AnInstance, Exports, EmptyInstance, WithExport, seen_as}
+use Rattle.comp_linking.specs.Canons.{given_by}
 use Rattle.comp_linking.specs.Types.{Meaning}
 use Rattle.comp_linking.specs.Spaces.{Spaces, Linking, definition_at, with_spaces, with_core_item, with_core_instance, with_definition}
-use Rattle.comp_linking.specs.Items.{FindsItem, IsInline, core_made, core_instance_makes, AreNamed, instance_makes, alias_makes, lift_makes, IsImported, with_import, import_makes, said, IsExported, with_export, export_makes, makes_case}
+use Rattle.comp_linking.specs.Items.{FindsItem, IsInline, core_made, core_instance_makes, AreNamed, instance_makes, alias_makes, lifted_with, lift_makes, IsImported, with_import, import_makes, said, IsExported, with_export, export_makes, makes_case}
 use Rattle.comp_linking.specs.Laws.{MakesOnce, BeginsOnce}
 use Rattle.comp_linking.proofs.Lists.{same_zip}
 
@@ -80,11 +82,11 @@ alias_once l n s sort (target.Outer up index) a b (d, is, made) (d', is', made')
 
 -- Lifts.
 
-lift_once : (l : Linking) (n : ℕ) (s : Spaces) (f t : ℕ) (a b : Linking) → lift_makes l n s f t a → lift_makes l n s f t b → a ≡ b
-lift_once l n s f t a b (ref, of_core, type, is, of_type, flat, within, made) (ref', of_core', type', is', of_type', flat', within', made') =
-    let refs : ref ≡ ref' = cc in
-    let types : type ≡ type' = cc in
-    made ∙ (ap₂ (λ (ref : CoreRef) (type : FuncType). with_spaces l n (with_definition s (AFunc (record { instance = n; core = ref; func_type = type })))) refs types ∙ sym made')
+lift_once : (l : Linking) (n : ℕ) (s : Spaces) (f : ℕ) (options : List CanonOption) (t : ℕ) (a b : Linking) → lift_makes l n s f options t a → lift_makes l n s f options t b → a ≡ b
+lift_once l n s f options t a b (item, type, is, there, of_type, once, fits, within, made) (item', type', is', there', of_type', once', fits', within', made') =
+    let items : item ≡ item' = one_value _ item item' is is' in
+    let types : type ≡ type' = one_value _ type type' of_type of_type' in
+    made ∙ (ap₂ (λ (item : CoreItem) (type : FuncType). with_spaces l n (with_definition s (AFunc (lifted_with n type item (given_by s options))))) items types ∙ sym made')
 
 -- Imports and exports.
 
@@ -122,7 +124,7 @@ case_once l n s (Item-F.Instance i) a b h k = instance_once l n s i a b h k
 case_once l n s (Item-F.Alias alias) a b h k = alias_once l n s alias.sort alias.target a b h k
 case_once l n s (Item-F.Type type) a b (closed, is, within, made) (closed', is', within', made') =
     both_made (λ closed. with_spaces l n (with_definition s (AType closed))) closed closed' a b (one_value _ closed closed' is.0 is'.0) made made'
-case_once l n s (Item-F.Canon (Lift f t)) a b h k = lift_once l n s f t a b h k
+case_once l n s (Item-F.Canon (Lift f options t)) a b h k = lift_once l n s f options t a b h k
 case_once l n s (Item-F.Import i) a b h k = import_once l n s i.name i.desc a b h k
 case_once l n s (Item-F.Export e) a b h k = export_once l n s e a b h k
 

@@ -70,7 +70,7 @@ case_name l n s (Item-F.Component c) a b h k = absurd h
 case_name l n s (Item-F.Instance i) a b h k = instance_name l s i a b h k
 case_name l n s (Item-F.Alias alias) a b h k = alias_name l n s alias.sort alias.target a b h k
 case_name l n s (Item-F.Type type) a b h k = cc (h, k)
-case_name l n s (Item-F.Canon (Lift f t)) a b h k = absurd h
+case_name l n s (Item-F.Canon (Lift f options t)) a b h k = absurd h
 case_name l n s (Item-F.Import i) a b h k =
     match_same (λ (given : Exports). lacking (export_named i.name given) i.name (wanted s i.desc).means ≡ Some a) (λ (given : Exports). lacking (export_named i.name given) i.name (wanted s i.desc).means ≡ Some b) a b
     (λ given h k. told_once (lacking (export_named i.name given) i.name (wanted s i.desc).means) a b h k) s.arguments h k

@@ -47,7 +47,7 @@ case_sound l n s (Item-F.Instance i) = sound_map _ _ (CaseComes l n s (Item-F.In
 case_sound l n s (Item-F.Alias alias) = sound_map _ _ (CaseComes l n s (Item-F.Alias alias)) _ (only_makes l n s (Item-F.Alias alias) _ (λ new h. h)) (alias_sound l n s alias.sort alias.target)
 case_sound l n s (Item-F.Type type) =
     sound_map _ _ (CaseComes l n s (Item-F.Type type)) _ (only_makes l n s (Item-F.Type type) _ (λ new h. h)) (type_sound l n s type (meaning_of type (levels_at l (n ∷ s.around))))
-case_sound l n s (Item-F.Canon (Lift f t)) = sound_map _ _ (CaseComes l n s (Item-F.Canon (Lift f t))) _ (only_makes l n s (Item-F.Canon (Lift f t)) _ (λ new h. h)) (lift_sound l n s f t)
+case_sound l n s (Item-F.Canon (Lift f options t)) = sound_map _ _ (CaseComes l n s (Item-F.Canon (Lift f options t))) _ (only_makes l n s (Item-F.Canon (Lift f options t)) _ (λ new h. h)) (lift_sound l n s f options t)
 case_sound l n s (Item-F.Import i) = sound_map _ _ (CaseComes l n s (Item-F.Import i)) _ (only_makes l n s (Item-F.Import i) _ (λ new h. h)) (import_sound l n s i.name i.desc)
 case_sound l n s (Item-F.Export e) = sound_map _ _ (CaseComes l n s (Item-F.Export e)) _ (only_makes l n s (Item-F.Export e) _ (λ new h. h)) (export_sound l n s e)
 

@@ -3,7 +3,7 @@ use Rattle.std.proofs.Common.{◌≡◌, ◌∙◌, sym, ap, refl, ℕ, Bool, tr
 use Rattle.std.specs.Prelude.{Ok, Result, codes}
 use Rattle.ca_types.specs.declared.types.ValType.TheVariants as val_type
 use Rattle.ca_types.specs.declared.types.ValType.TheViews.{outs-U32}
-use Rattle.comp_graph.specs.Graph.{Graph}
+use Rattle.comp_graph.specs.Graph.{Graph, no_options}
 use Rattle.comp_tree.specs.declared.instances.Sort.TheVariants as sorts
 use Rattle.comp_tree.specs.declared.externs.ExternDesc.{ExternDesc}
 use Rattle.comp_tree.specs.declared.externs.ExternDesc.TheVariants as desc
@@ -18,6 +18,7 @@ use Rattle.comp_tree.specs.declared.types.DefType.{DefType}
 use Rattle.comp_tree.specs.declared.types.DefType.TheViews as def_type
 use Rattle.comp_tree.specs.declared.types.DefType.TheVariants as plain_type
 use Rattle.comp_tree.specs.declared.types.InstanceDecl.{InstanceDecl}
+use Rattle.comp_tree.specs.declared.items.CanonOption.TheVariants as option
 use Rattle.comp_tree.specs.declared.items.Item.TheVariants as plain
 use Rattle.comp_tree.specs.declared.items.Item.TheViews.{outs-CoreModule, outs-CoreInstance, outs-Canon, outs-Import, outs-Alias, outs-Export, outs-Type, outs-Instance, outs-Component}
 use Rattle.comp_tree.specs.declared.items.Component.{Component}
@@ -34,8 +35,9 @@ use Rattle.comp_linking.specs.Linked.{root_begun}
 use Rattle.comp_linking.specs.Computed.{Run, run, run_within, answer_of, linked}
 use Rattle.comp_linking.specs.Same.{same_val}
 use Rattle.comp_linking.proofs.Depths.{leaf_depth}
+use Rattle.comp_linking.proofs.FlatLifts.{u32_flat, u32_holds_no_list}
 use Rattle.comp_linking.proofs.SameValues.{val_told}
-use Rattle.comp_linking.specs.Examples.{root, fault, u32, of_types, import, outer, export_type, wanting, instantiate, giving_both, begins, of_one, make_with_absent, lifting, lifting_twice, callable_as}
+use Rattle.comp_linking.specs.Examples.{root, fault, u32, of_types, import, outer, export_type, wanting, instantiate, giving_both, begins, of_one, make_with_absent, lifting, lifting_twice, with_memory, callable_as}
 
 pub value_rolled : (type : DefValType) (levels : List Level) → meaning_of (plain_type.Value type) levels ≡ value_meaning (types_around levels) type
 value_rolled type levels =
@@ -105,7 +107,7 @@ none_runs = instance_runs (plain_type.Type u32 ∷ []) ∙ simp (type_decl_runs,
 one_runs : runs_type (of_types (codes "a" ∷ [])) ≡ true
 one_runs = instance_runs (plain_type.Type u32 ∷ plain_type.Export (codes "a") (desc.TypeEq 0) ∷ []) ∙ simp (type_decl_runs, export_decl_runs, u32_runs) refl
 
-ruleset layers = (outs-CoreModule, outs-CoreInstance, outs-Canon, outs-U32, func_rolled, outs-Import, outs-Alias, outs-Export, outs-Type, outs-Instance, outs-Component, u32_rolled, no_exports, one_export, u32_same, within, u32_runs, func_runs, none_runs, one_runs)
+ruleset layers = (outs-CoreModule, outs-CoreInstance, outs-Canon, outs-U32, func_rolled, outs-Import, outs-Alias, outs-Export, outs-Type, outs-Instance, outs-Component, u32_rolled, no_exports, one_export, u32_same, within, u32_runs, func_runs, none_runs, one_runs, u32_flat, u32_holds_no_list)
 
 -- what is computed, whatever is computed of the components that begin, or of those that begin inside these
 pub linked_so_far : (reach : Reach) (c : Component) (r : Result Graph LinkFault) → ((inside : Run) → answer_of (run inside (root_begun reach) 0 c.items) ≡ r) → linked reach c ≡ r
@@ -142,11 +144,20 @@ pub asked : (inside : Run) (reach : Reach) → answer_of (run (run inside) (root
 asked inside reach = simp layers refl
 
 -- core instances
-pub lifts_one : (inside : Run) (reach : Reach) → answer_of (run inside (root_begun reach) 0 (root lifting).items) ≡ Ok (callable_as (codes "run" ∷ []))
+pub lifts_one : (inside : Run) (reach : Reach) → answer_of (run inside (root_begun reach) 0 (root (lifting [])).items) ≡ Ok (callable_as no_options (codes "run" ∷ []))
 lifts_one inside reach = simp layers refl
 
-pub lifts_twice : (inside : Run) (reach : Reach) → answer_of (run inside (root_begun reach) 0 (root lifting_twice).items) ≡ Ok (callable_as (codes "a#run" ∷ codes "a#run" ∷ []))
+pub lifts_twice : (inside : Run) (reach : Reach) → answer_of (run inside (root_begun reach) 0 (root lifting_twice).items) ≡ Ok (callable_as no_options (codes "a#run" ∷ codes "a#run" ∷ []))
 lifts_twice inside reach = simp layers refl
+
+pub lifts_with_memory : (inside : Run) → answer_of (run inside (root_begun Whole) 0 (root (lifting (option.Memory 0 ∷ []))).items) ≡ Ok (callable_as with_memory (codes "run" ∷ []))
+lifts_with_memory inside = simp layers refl
+
+pub past_runs : (inside : Run) → answer_of (run inside (root_begun Runs) 0 (root (lifting (option.Memory 0 ∷ []))).items) ≡ fault 5 why.Limit
+past_runs inside = simp layers refl
+
+pub memory_twice : (inside : Run) (reach : Reach) → answer_of (run inside (root_begun reach) 0 (root (lifting (option.Memory 0 ∷ option.Memory 0 ∷ []))).items) ≡ fault 5 why.Canon
+memory_twice inside reach = simp layers refl
 
 pub absent_argument : (inside : Run) (reach : Reach) → answer_of (run inside (root_begun reach) 0 (root (plain.CoreModule of_one ∷ make_with_absent ∷ [])).items) ≡ fault 1 why.Index
 absent_argument inside reach = simp layers refl

@@ -1,61 +1,77 @@
--- Sound definitions: each function lifts a core function that is there and of the flat type, types are apart, no two names of an
--- instance are equal, and each module has what those of the component have. Sound spaces hold sound definitions and core items that are there.
-use Rattle.std.proofs.Common.{◌≡◌, false, List, []}
+-- Sound definitions: what each function lifts with is there, with the types that it needs, and can be run where linking leads to
+-- a run; types are apart, no two names of an instance are equal, and each module has what those of the component have. Sound spaces
+-- hold sound definitions and core items that are there.
+use Rattle.std.proofs.Common.{◌≡◌, true, false, List, []}
 use Rattle.std.specs.Prelude.{IfSome}
 use Rattle.std.specs.List.{AllByRecursion}
 use Rattle.ca_base.specs.Names.{is_among}
 use Rattle.wasm_module.specs.declared.module.ModuleTree.{ModuleTree}
 use Rattle.comp_graph.specs.declared.graph.Lift.{Lift}
-use Rattle.comp_graph.specs.Graph.{LiftsCore, IsItem, AreImported}
+use Rattle.comp_graph.specs.Graph.{CoreMake, no_options, IsLiftThere, IsItem, AreImported}
 use Rattle.comp_graph.specs.Closed.{Closed}
-use Rattle.comp_linking.specs.Definitions.{CoreItem, CoreExport, Lifted, Closure, Definition, AFunc, AType, AComponent, AnInstance, AModule, Exports, EmptyInstance, WithExport, export_names}
-use Rattle.comp_linking.specs.Spaces.{CoreMake, Spaces, Linking}
+use Rattle.comp_linking.specs.declared.reach.Reach.{Reach}
+use Rattle.comp_linking.specs.declared.reach.Reach.TheVariants.{Runs}
+use Rattle.comp_linking.specs.Runs.{runs_lift}
+use Rattle.comp_linking.specs.Definitions.{CoreItem, Memory, CoreExport, Lifted, Closure, Definition, AFunc, AType, AComponent, AnInstance, AModule, Exports, EmptyInstance, WithExport, export_names}
+use Rattle.comp_linking.specs.Spaces.{Spaces, Linking}
 use Rattle.comp_linking.proofs.Apart.{IsFuncApart, IsApart}
 use Rattle.comp_linking.proofs.Modules.{ModulesHave}
 
 -- the lift of a function
 abbrev pub lift_for : Lifted → Lift
-lift_for f = record { instance = f.instance; core = f.core }
+lift_for f = record { instance = f.instance; core = f.core; options = f.options }
 
-abbrev pub IsFuncSound : List CoreMake → Lifted → Type 0
-IsFuncSound cores f = LiftsCore cores f.func_type (lift_for f) × IsFuncApart f.func_type
+-- a function that can be run, where linking leads to a run
+abbrev pub CanRun : Reach → Lifted → Type 0
+CanRun reach f = reach ≡ Runs → (f.options ≡ no_options) × (runs_lift [] f.func_type ≡ true)
+
+pub record IsFuncSound (reach : Reach) (cores : List CoreMake) (f : Lifted) : Type 0 where
+  pub there : IsLiftThere cores f.func_type (lift_for f)
+  pub apart : IsFuncApart f.func_type
+  pub runs : CanRun reach f
+
+-- a memory that is there
+abbrev pub IsMemoryThere : List CoreMake → CoreItem → Type 0
+IsMemoryThere cores (Memory memory limits) = IsItem cores (Memory memory limits)
+IsMemoryThere cores item = ⊥
 
 abbrev pub AreThere : List CoreMake → List CoreExport → Type 0
 AreThere cores exports = AllByRecursion (λ (e : CoreExport). IsItem cores e.item) exports
 
 abbrev mutual
-  pub IsSound : (ModuleTree → Type 0) → List CoreMake → Definition → Type 0
-  IsSound R cores (AFunc f) = IsFuncSound cores f
-  IsSound R cores (AType type) = IsApart type
-  IsSound R cores (AComponent c) = ModulesHave R c.items
-  IsSound R cores (AnInstance exports) = AreSound R cores exports
-  IsSound R cores (AModule m) = R m
+  pub IsSound : (ModuleTree → Type 0) → Reach → List CoreMake → Definition → Type 0
+  IsSound R reach cores (AFunc f) = IsFuncSound reach cores f
+  IsSound R reach cores (AType type) = IsApart type
+  IsSound R reach cores (AComponent c) = ModulesHave R c.items
+  IsSound R reach cores (AnInstance exports) = AreSound R reach cores exports
+  IsSound R reach cores (AModule m) = R m
 
-  pub AreSound : (ModuleTree → Type 0) → List CoreMake → Exports → Type 0
-  AreSound R cores EmptyInstance = Unit {0}
-  AreSound R cores (WithExport others name d) = AreSound R cores others × IsSound R cores d × (is_among name (export_names others) ≡ false)
+  pub AreSound : (ModuleTree → Type 0) → Reach → List CoreMake → Exports → Type 0
+  AreSound R reach cores EmptyInstance = Unit {0}
+  AreSound R reach cores (WithExport others name d) = AreSound R reach cores others × IsSound R reach cores d × (is_among name (export_names others) ≡ false)
 
 pub record AreCoreSound (R : ModuleTree → Type 0) (cores : List CoreMake) (modules : List ModuleTree) (instances : List (List CoreExport)) (funcs tables memories globals : List CoreItem) : Type 0 where
   pub modules_have : AllByRecursion R modules
   pub instances_there : AllByRecursion (AreThere cores) instances
   pub funcs_there : AllByRecursion (IsItem cores) funcs
   pub tables_there : AllByRecursion (IsItem cores) tables
-  pub memories_there : AllByRecursion (IsItem cores) memories
+  pub memories_there : AllByRecursion (IsMemoryThere cores) memories
   pub globals_there : AllByRecursion (IsItem cores) globals
 
-pub record AreDefinedSound (R : ModuleTree → Type 0) (cores : List CoreMake) (components : List Closure) (instances : List Exports) (funcs : List Lifted) (types : List Closed) : Type 0 where
+pub record AreDefinedSound (R : ModuleTree → Type 0) (reach : Reach) (cores : List CoreMake) (components : List Closure) (instances : List Exports) (funcs : List Lifted) (types : List Closed) : Type 0 where
   pub components_have : AllByRecursion (λ (c : Closure). ModulesHave R c.items) components
-  pub instances_sound : AllByRecursion (AreSound R cores) instances
-  pub funcs_sound : AllByRecursion (IsFuncSound cores) funcs
+  pub instances_sound : AllByRecursion (AreSound R reach cores) instances
+  pub funcs_sound : AllByRecursion (IsFuncSound reach cores) funcs
   pub types_apart : AllByRecursion IsApart types
 
-pub record AreSpacesSound (R : ModuleTree → Type 0) (cores : List CoreMake) (s : Spaces) : Type 0 where
+pub record AreSpacesSound (R : ModuleTree → Type 0) (reach : Reach) (cores : List CoreMake) (s : Spaces) : Type 0 where
   pub core : AreCoreSound R cores s.core_modules s.core_instances s.core_funcs s.core_tables s.core_memories s.core_globals
-  pub defined : AreDefinedSound R cores s.components s.instances s.funcs s.types
-  pub exports_sound : AreSound R cores s.exports
-  pub arguments_sound : IfSome s.arguments (AreSound R cores)
+  pub defined : AreDefinedSound R reach cores s.components s.instances s.funcs s.types
+  pub exports_sound : AreSound R reach cores s.exports
+  pub arguments_sound : IfSome s.arguments (AreSound R reach cores)
 
-pub record IsLinkingSound (R : ModuleTree → Type 0) (l : Linking) : Type 0 where
-  pub scopes : AllByRecursion (AreSpacesSound R l.cores) l.scopes
+pub record IsLinkingSound (R : ModuleTree → Type 0) (reach : Reach) (l : Linking) : Type 0 where
+  pub of_reach : l.reach ≡ reach
+  pub scopes : AllByRecursion (AreSpacesSound R reach l.cores) l.scopes
   pub imported : AreImported [] l.cores
   pub modules_have : AllByRecursion (λ (core : CoreMake). R core.of_module) l.cores

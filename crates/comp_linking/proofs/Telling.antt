@@ -41,7 +41,7 @@ less a b h = grind (arith, nat_tests)
 pub not_less : (a b : ℕ) → nat_lt a b ≡ false → b ≤ a
 not_less a b h = grind (arith, nat_tests)
 
-at_most : (a b : ℕ) → Decides (nat_le a b) (a ≤ b)
+pub at_most : (a b : ℕ) → Decides (nat_le a b) (a ≤ b)
 at_most a b = (to a b, from a b)
   where
     to : (a b : ℕ) → nat_le a b ≡ true → a ≤ b
@@ -94,7 +94,7 @@ types_self : (a : List ValType) → same_types a a ≡ true
 types_self [] = refl
 types_self (t ∷ ts) = rw ((type_told t t).1 refl) (types_self ts)
 
-core_func_told : (a b : core.FuncType) → Decides (same_core_func a b) (a ≡ b)
+pub core_func_told : (a b : core.FuncType) → Decides (same_core_func a b) (a ≡ b)
 core_func_told a b = (same, λ e. subst (λ (b : core.FuncType). same_core_func a b ≡ true) e (and (same_types a.params a.params) (same_types a.results a.results) (types_self a.params) (types_self a.results)))
   where
     same : same_core_func a b ≡ true → a ≡ b

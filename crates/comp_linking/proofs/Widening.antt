@@ -43,7 +43,7 @@ case_whole l n s (Item-F.Component c) new made = ap whole made
 case_whole l n s (Item-F.Instance i) new makes = instance_whole l n s i new makes
 case_whole l n s (Item-F.Alias alias) new makes = alias_whole l n s alias.sort alias.target new makes
 case_whole l n s (Item-F.Type type) new (closed, is, within, made) = (closed, is, refl, ap whole made)
-case_whole l n s (Item-F.Canon (Lift f t)) new (ref, of_core, type, is, of_type, flat, within, made) = (ref, of_core, type, is, of_type, flat, refl, ap whole made)
+case_whole l n s (Item-F.Canon (Lift f options t)) new (item, type, is, there, of_type, once, fits, within, made) = (item, type, is, there, of_type, once, fits, refl, ap whole made)
 case_whole l n s (Item-F.Import i) new (extern, d, is, fresh, imported, made) = (extern, d, is, fresh, imported, ap whole made)
 case_whole l n s (Item-F.Export e) new (d, x, is, fresh, exported, made) = (d, x, is, fresh, exported, ap whole made)
 

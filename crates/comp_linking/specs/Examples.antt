@@ -8,8 +8,10 @@ use Rattle.wasm_module.specs.declared.instr.Instr.TheVariants.{I32Const}
 use Rattle.wasm_module.specs.declared.module.ExportDesc.TheVariants as offered
 use Rattle.wasm_module.specs.declared.module.ModuleTree.{ModuleTree}
 use Rattle.wasm_module.specs.Expr.{Plain, End}
+use Rattle.comp_graph.specs.declared.graph.Options.{Options}
 use Rattle.comp_graph.specs.declared.graph.Lift as graph
 use Rattle.comp_graph.specs.Graph.{Graph, no_options}
+use Rattle.comp_tree.specs.declared.core_instances.CoreSort.{CoreSort}
 use Rattle.comp_tree.specs.declared.core_instances.CoreSort.TheVariants as core_sort
 use Rattle.comp_tree.specs.declared.core_instances.CoreInstance.TheVariants as made_core
 use Rattle.comp_tree.specs.declared.instances.Sort.{Sort}
@@ -27,6 +29,7 @@ use Rattle.comp_tree.specs.declared.types.DefType.TheViews as def_type
 use Rattle.comp_tree.specs.declared.types.DefType.TheVariants as plain_type
 use Rattle.comp_tree.specs.declared.types.DefType.{DefType}
 use Rattle.comp_tree.specs.declared.types.InstanceDecl.{InstanceDecl}
+use Rattle.comp_tree.specs.declared.items.CanonOption.{CanonOption}
 use Rattle.comp_tree.specs.declared.items.Canon.TheVariants.{Lift}
 use Rattle.comp_tree.specs.declared.items.Item.{Item}
 use Rattle.comp_tree.specs.declared.items.Item.TheVariants as plain
@@ -138,7 +141,7 @@ begins numbers = Ok (record { plan = map (λ n. Begin n) numbers; instance_count
 abbrev pub nesting : Item
 nesting = inside (outer sorts.Component 1 0 ∷ instantiate ∷ [])
 
--- Core modules: one of nothing, and one that exports its function, which gives an i32.
+-- Core modules: one of nothing, and one that exports its function, which gives an i32, and its memory.
 abbrev of_nothing : ModuleTree
 of_nothing = record { types = []; imports = []; funcs = []; tables = []; memories = []; globals = []; exports = []; start = None; element_segments = []; data_segments = [] }
 
@@ -146,7 +149,8 @@ abbrev pub of_one : ModuleTree
 of_one = record of_nothing {
   types = record { params = []; results = I32 ∷ [] } ∷ [];
   funcs = record { type_index = 0; locals = []; body = Plain (I32Const (pos 1)) End } ∷ [];
-  exports = record { name = codes "one"; desc = offered.Func 0 } ∷ [];
+  memories = record { min = 1; max = None } ∷ [];
+  exports = record { name = codes "one"; desc = offered.Func 0 } ∷ record { name = codes "memory"; desc = offered.Memory 0 } ∷ [];
 }
 
 -- the instantiation of the first module, without arguments, and with an argument that is not there, of which no import is
@@ -156,37 +160,45 @@ make = plain.CoreInstance (made_core.Instantiate 0 [])
 abbrev pub make_with_absent : Item
 make_with_absent = plain.CoreInstance (made_core.Instantiate 0 (record { name = codes "in"; instance = 0 } ∷ []))
 
--- the function of that module, lifted to a function that gives a u32
-abbrev lifting_before : List Item → List Item
-lifting_before items =
+-- what that core instance exports
+abbrev core_export : CoreSort → List ℕ → Item
+core_export sort name = plain.Alias (record { sort = sorts.Core sort; target = target.CoreInstanceExport 0 name })
+
+-- the function of that module, lifted with options to a function that gives a u32
+abbrev lifting_before : List CanonOption → List Item → List Item
+lifting_before options items =
     plain.CoreModule of_one
     ∷ make
-    ∷ plain.Alias (record { sort = sorts.Core core_sort.Func; target = target.CoreInstanceExport 0 (codes "one") })
+    ∷ core_export core_sort.Func (codes "one")
+    ∷ core_export core_sort.Memory (codes "memory")
     ∷ plain.Type (plain_type.Func (record { params = []; result = Some (type_ref.Primitive U32) }))
-    ∷ plain.Canon (Lift 0 [] 0)
+    ∷ plain.Canon (Lift 0 options 0)
     ∷ items
 
 -- and exported; or exported as `a#run`, and as `run` of an instance that is exported as `a`
-abbrev pub lifting : List Item
-lifting = lifting_before (plain.Export (record { name = codes "run"; sort = sorts.Func; index = 0; desc = None }) ∷ [])
+abbrev pub lifting : List CanonOption → List Item
+lifting options = lifting_before options (plain.Export (record { name = codes "run"; sort = sorts.Func; index = 0; desc = None }) ∷ [])
 
 abbrev pub lifting_twice : List Item
 lifting_twice =
-    lifting_before
+    lifting_before []
     (plain.Instance (made.Inline (record { name = codes "run"; sort = sorts.Func; index = 0 } ∷ []))
     ∷ plain.Export (record { name = codes "a#run"; sort = sorts.Func; index = 0; desc = None })
     ∷ plain.Export (record { name = codes "a"; sort = sorts.Instance; index = 0; desc = None })
     ∷ [])
 
--- the graph of that core instance, whose function can be called under these names
-abbrev lifts_for : List (List ℕ) → List graph.Lift
-lifts_for names = map (λ (name : List ℕ). record { instance = 0; core = record { instance = 0; index = 0 }; options = no_options }) names
+-- the graph of that core instance, whose function can be called under these names, and is lifted with its memory or with nothing
+abbrev pub with_memory : Options
+with_memory = record no_options { memory = Some (record { instance = 0; index = 0 }) }
 
-abbrev pub callable_as : List (List ℕ) → Graph
-callable_as names = record {
+abbrev lifts_for : Options → List (List ℕ) → List graph.Lift
+lifts_for options names = map (λ (name : List ℕ). record { instance = 0; core = record { instance = 0; index = 0 }; options = options }) names
+
+abbrev pub callable_as : Options → List (List ℕ) → Graph
+callable_as options names = record {
   plan = Begin 0 ∷ Make 0 ∷ [];
   instance_count = 1;
   cores = record { of_module = of_one; imports = []; owner = 0 } ∷ [];
   exports = map (λ name. record { name = name; func_type = record { params = []; result = Some val_type.U32 } }) names;
-  lifts = lifts_for names;
+  lifts = lifts_for options names;
 }

@@ -4,12 +4,14 @@ ghost use Rattle.std.specs.Prelude.{◌≡◌, [], ◌∷◌, Ok, codes};
 ghost use Rattle.comp_tree.specs.declared.instances.Sort.TheVariants as sorts;
 ghost use Rattle.comp_tree.specs.declared.externs.ExternDesc.TheVariants as desc;
 ghost use Rattle.comp_tree.specs.declared.types.DefType.TheVariants as plain_type;
+ghost use Rattle.comp_tree.specs.declared.items.CanonOption.TheVariants as option;
 ghost use Rattle.comp_tree.specs.declared.items.Item.TheVariants as plain;
+ghost use Rattle.comp_graph.specs.Graph.{no_options};
 ghost use Rattle.comp_linking.specs.declared.fault.LinkWhy.TheVariants as why;
 ghost use Rattle.comp_linking.specs.declared.reach.Reach.{Reach};
 ghost use Rattle.comp_linking.specs.declared.reach.Reach.TheVariants.{Runs, Whole};
 ghost use Rattle.comp_linking.specs.Computed.{linked};
-ghost use Rattle.comp_linking.specs.Examples.{root, fault, u32, list_of, record_of, lists, of_lists, import, outer, export_type, instantiate, wanting, giving_both, nesting, begins, of_one, make, make_with_absent, lifting, lifting_twice, callable_as};
+ghost use Rattle.comp_linking.specs.Examples.{root, fault, u32, list_of, record_of, lists, of_lists, import, outer, export_type, instantiate, wanting, giving_both, nesting, begins, of_one, make, make_with_absent, lifting, lifting_twice, with_memory, callable_as};
 
 /// Faults of one item: an import of the root that is a function, also where its index is not there; an outer alias that goes
 /// past the root; and an export of a name that was exported.
@@ -66,12 +68,19 @@ pub fn too_many()
 /// A function of a core instance that is lifted and exported can be called. An argument of a core instance is to be there, also
 /// where no import is of it.
 pub fn core_instances()
-    ensures lifted { (reach : Reach) → linked reach (root lifting) ≡ Ok (callable_as (codes "run" ∷ [])) }
+    ensures lifted { (reach : Reach) → linked reach (root (lifting [])) ≡ Ok (callable_as no_options (codes "run" ∷ [])) }
     ensures absent { (reach : Reach) → linked reach (root (plain.CoreModule of_one ∷ make_with_absent ∷ [])) ≡ fault 1 why.Index }
+{}
+
+/// A lift with a memory is linked, and is past what can be run. With the memory twice it is refused.
+pub fn options()
+    ensures made { linked Whole (root (lifting (option.Memory 0 ∷ []))) ≡ Ok (callable_as with_memory (codes "run" ∷ [])) }
+    ensures past { linked Runs (root (lifting (option.Memory 0 ∷ []))) ≡ fault 5 why.Limit }
+    ensures twice { (reach : Reach) → linked reach (root (lifting (option.Memory 0 ∷ option.Memory 0 ∷ []))) ≡ fault 5 why.Canon }
 {}
 
 /// A function that is exported as `a#run`, and a function `run` of an instance that is exported as `a`, can be called under one
 /// name.
 pub fn one_name()
-    ensures { (reach : Reach) → linked reach (root lifting_twice) ≡ Ok (callable_as (codes "a#run" ∷ codes "a#run" ∷ [])) }
+    ensures { (reach : Reach) → linked reach (root lifting_twice) ≡ Ok (callable_as no_options (codes "a#run" ∷ codes "a#run" ∷ [])) }
 {}

@@ -48,8 +48,9 @@ pub fn instances_stay_few()
 {}
 
 /// The core instances of a graph have the imports that their modules ask for, of core instances before them. The exports of one
-/// that is linked to be run can be called. What a lift uses is there, with the types that it needs. No two parameters of an export have one label, and its types nest at most 32 types in
-/// one another. Each core instance is of a module that stands in the component.
+/// that is linked to be run can be called. What a lift uses is there, with the types that it needs. No two parameters of an export
+/// have one label, and its types nest at most 32 types in one another. Each core instance is of a module that stands in the
+/// component.
 pub fn graphs_are_sound()
     ensures imported { GraphsAreImported }
     ensures callable { GraphsAreCallable }

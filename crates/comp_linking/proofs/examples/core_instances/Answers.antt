@@ -5,7 +5,7 @@ use Rattle.comp_linking.proofs.Samples.{linked_by, lifts_one, absent_argument}
 use Rattle.comp_linking.proofs.examples.core_instances.Goals as goal
 
 pub returns-clause-lifted : goal.returns-clause-lifted
-returns-clause-lifted c = linked_by (root lifting) _ lifts_one
+returns-clause-lifted c = linked_by (root (lifting [])) _ lifts_one
 
 pub returns-clause-absent : goal.returns-clause-absent
 returns-clause-absent c = linked_by (root (plain.CoreModule of_one ∷ make_with_absent ∷ [])) _ absent_argument
