@@ -16,8 +16,9 @@ pub enum LinkWhy {
     /// record, variant, tuple, enum or flags type is empty, or flags have more than 32 labels (Component Model, Explainer.md,
     /// "Type Definitions").
     Typing,
-    /// The core function of a lift does not have the flat type of the function (Component Model, CanonicalABI.md), or the function
-    /// has other values than unsigned 32-bit integers: of such alone the flat type is known here.
+    /// An option of a lift stands twice; a core function that the lift uses is of another type than it needs; or something passes
+    /// in memory, or asks for a place there, and no memory is given, or no function that gives places (Component Model,
+    /// CanonicalABI.md, "Canonical ABI Options", "Flattening" and `canon lift`).
     Canon,
     /// There are more than 256 component instances, more than 256 core instances, or more than 32 value types in one another; or
     /// the item holds what is past the reach (`Reach`).
