@@ -53,7 +53,7 @@ flat type of_core h =
 
 -- A function of a callable graph lifts a core function of the flat type.
 abbrev lift_of : Lifted → Lift
-lift_of f = record { instance = f.instance; core = f.core }
+lift_of f = record { instance = f.instance; core = f.core; options = f.options }
 
 zip_both : {A B : Type 0} (R : A → B → Type 0) (xs : List A) (ys : List B) (n : ℕ) (x : A) (y : B) → AllZip R xs ys → slice_get xs n ≡ Some x → slice_get ys n ≡ Some y → R x y
 zip_both R [] [] n x y h a b = cc
@@ -69,7 +69,7 @@ lifts_at : (g : Graph) (number : ℕ) (e : Option Export) (lift : Option Lift) (
 lifts_at g number None lift f callable a b h = cc
 lifts_at g number (Some e) None f callable a b h = cc
 lifts_at g number (Some e) (Some lift) f callable a b h =
-    let same : (let l : Lifted = record { instance = lift.instance; core = lift.core; func_type = e.func_type } in l) ≡ f = cc in
+    let same : (let l : Lifted = record { instance = lift.instance; core = lift.core; options = lift.options; func_type = e.func_type } in l) ≡ f = cc in
     subst (λ (f : Lifted). LiftsCore g.cores f.func_type (lift_of f)) same (zip_both (λ e lift. LiftsCore g.cores e.func_type lift) g.exports g.lifts number e lift callable a b)
 
 named_lifts : (g : Graph) (name : List ℕ) (f : Lifted) → IsCallable g → func_named g name ≡ Some f → LiftsCore g.cores f.func_type (lift_of f)

@@ -29,7 +29,7 @@ use Rattle.comp_graph.specs.declared.graph.CoreExtern.{CoreExtern}
 use Rattle.comp_graph.specs.declared.graph.CoreExtern.TheVariants as extern
 use Rattle.comp_graph.specs.declared.graph.Action.TheVariants.{Begin, Make}
 use Rattle.comp_graph.specs.declared.graph.Lift.{Lift}
-use Rattle.comp_graph.specs.Graph.{CoreMake, Graph}
+use Rattle.comp_graph.specs.Graph.{CoreMake, Graph, no_options}
 use Rattle.script_reader.specs.declared.script.Item.{Item}
 use Rattle.script_reader.specs.declared.script.Item.TheVariants as item
 use Rattle.trace_show.specs.declared.label.Label.{Label}
@@ -180,7 +180,7 @@ graph_of cores exports lifts = record {
 }
 
 abbrev pub lifts : ℕ → ℕ → Lift
-lifts instance index = record { instance = 0; core = record { instance = instance; index = index } }
+lifts instance index = record { instance = 0; core = record { instance = instance; index = index }; options = no_options }
 
 -- core instances of modules without imports, and the functions of the first one
 abbrev pub plain_graph : List ModuleTree → Graph

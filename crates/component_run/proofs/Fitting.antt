@@ -53,7 +53,7 @@ pub record At (g : Graph) (number : ℕ) (f : Lifted) : Type 0 where
 
 at_of : (o : Option Export) (l : Option Lift) (f : Lifted) → lifted_as o l ≡ Some f → (e : Export) × (lift : Lift) × (o ≡ Some e) × (l ≡ Some lift) × (f.core ≡ lift.core) × (f.func_type ≡ e.func_type)
 at_of (Some e) (Some lift) f h =
-    let same : record { instance = lift.instance; core = lift.core; func_type = e.func_type } ≡ f = some_inj h in
+    let same : record { instance = lift.instance; core = lift.core; options = lift.options; func_type = e.func_type } ≡ f = some_inj h in
     (e, lift, refl, refl, ap (λ (f : Lifted). f.core) (sym same), ap (λ (f : Lifted). f.func_type) (sym same))
 at_of (Some e) None f h = cc
 at_of None l f h = cc
@@ -118,7 +118,7 @@ has_function g name e callable h =
     let found = found_by_name (λ (e : Export). e.name) g.exports name ∙ h in
     let number = then_some (λ (k : ℕ). slice_get g.exports k) (first_named name (names g.exports)) e found in
     let c = lifted_there g.exports g.lifts number.0 e (zip_lengths _ g.exports g.lifts callable) number.2 in
-    let f : Lifted = record { instance = c.0.instance; core = c.0.core; func_type = e.func_type } in
+    let f : Lifted = record { instance = c.0.instance; core = c.0.core; options = c.0.options; func_type = e.func_type } in
     (f, ap (option_and_then (graph.func_at g)) number.1 ∙ (ap (λ (o : Option Export). lifted_as o (slice_get g.lifts number.0)) number.2 ∙ ap (λ (o : Option Lift). lifted_as (Some e) o) c.1), refl)
 
 -- the parts of a test of several
