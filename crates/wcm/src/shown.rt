@@ -12,10 +12,16 @@ use comp_graph::Graph;
 use std::alloc::Global;
 use trace_show::name_text;
 
-/// Appends the text of a type.
+/// How many bytes there may be before the text of a type: types share parts, so a small file may have more text than memory holds.
+const TEXT_LIMIT: usize = 268_435_456;
+
+/// Appends the text of a type. Where there is too much text already, that is want of memory.
 fn push_type(alloc: Global, val_type: &ValType, text: &mut Vec<u8>) -> Result<(), Memory>
     ensures { OnOk result (text.new.items ≡ text.old.items ++ type_text val_type.now) }
 {
+    if text.len() >= TEXT_LIMIT {
+        return Err(Memory);
+    }
     text.extend_from_slice(type_text(alloc, val_type)?.as_slice())?;
     Ok(())
 }
