@@ -89,9 +89,42 @@ def func_type(labels):
     return section(7, vec([b"\x40" + params + b"\x01\x00"]))
 
 
+def lifts(func_types, core_func=0, options=()):
+    """Lifts of a core function to the types of these indices, each with these options."""
+    return section(8, vec(b"\x00\x00" + u32(core_func) + vec(options) + u32(index) for index in func_types))
+
+
 def lift():
     """The lift of core function 0 to type 0."""
-    return section(8, vec([b"\x00\x00" + u32(0) + b"\x00" + u32(0)]))
+    return lifts([0])
+
+
+def placing_module():
+    """A core module with a memory `m`, a function `f` of an i32, and a function `r` that gives places in the memory."""
+    return (
+        MODULE
+        + section(1, vec([b"\x60\x01\x7f\x00", b"\x60\x04\x7f\x7f\x7f\x7f\x01\x7f"]))
+        + section(3, vec([u32(0), u32(1)]))
+        + section(5, vec([b"\x00\x01"]))
+        + section(7, vec([name("f") + b"\x00\x00", name("r") + b"\x00\x01", name("m") + b"\x02\x00"]))
+        + section(10, vec([b"\x02\x00\x0b", b"\x04\x00\x41\x08\x0b"]))
+    )
+
+
+def placing():
+    """An instance of that module, its `f` and `r` as core functions 0 and 1, and its `m` as core memory 0."""
+    aliased = [b"\x00\x00\x01" + u32(0) + name("f"), b"\x00\x00\x01" + u32(0) + name("r"), b"\x00\x02\x01" + u32(0) + name("m")]
+    return section(1, placing_module()) + instance() + section(6, vec(aliased))
+
+
+def record(labels, val_type=b"\x79"):
+    """A record type with a field of this type under each label."""
+    return b"\x72" + vec(name(label) + val_type for label in labels)
+
+
+def tuple_of(val_types):
+    """A tuple type of these types."""
+    return b"\x6f" + vec(val_types)
 
 
 def exports(names):

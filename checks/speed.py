@@ -38,6 +38,9 @@ class Case(NamedTuple):
     make: Callable
     # Whether twice the number is within the limits of the formats.
     doubles: bool = True
+    # What is done with the component, and the status that is wanted.
+    command: str = "run"
+    status: int = 0
 
 
 def module_exports(count):
@@ -196,6 +199,45 @@ def components(count):
     return formats.component(*parts, *[formats.instantiated(count - 1) for _ in range(255)]), b"", 1
 
 
+def doubling():
+    """31 types, each a tuple of the one before, twice: as a tree the last has 2 to the 30th leaves."""
+    return [b"\x77"] + [formats.tuple_of([formats.u32(index)] * 2) for index in range(30)]
+
+
+def over_doubled(count):
+    """So many types of functions over a type that doubles 30 times, each with a label of its own."""
+    made = [b"\x40" + formats.vec([formats.name(text) + formats.u32(30)]) + b"\x01\x00" for text in formats.short_names(count, 4)]
+    return formats.component(formats.types(doubling() + made)), b"", 1
+
+
+def small_tuples(count):
+    """So many types, each a tuple of two earlier ones, no two of them equal."""
+    made = [b"\x7d", b"\x79"] + [formats.tuple_of([formats.u32(index % 2), formats.u32(index // 2 % 2)]) for index in range(4)]
+    parts = [formats.u32(index) for index in range(6)]
+    made += [formats.tuple_of([parts[index // 6 ** place % 6] for place in range(8)]) for index in range(count)]
+    return formats.component(formats.types(made)), b"", 1
+
+
+def fields(count):
+    """A record, an enum and a tuple, each of so many parts."""
+    names = formats.short_names(count, 4)
+    made = [formats.record(names), b"\x6d" + formats.vec(map(formats.name, names)), formats.tuple_of([b"\x79"] * count)]
+    return formats.component(formats.types(made)), b"", 1
+
+
+def lifted_again(count):
+    """A function type of so many parameters, and as many lifts to it."""
+    parts = [formats.placing(), formats.func_type(formats.short_names(count, 4))]
+    options = [b"\x03" + formats.u32(0), b"\x04" + formats.u32(1)]
+    return formats.component(*parts, formats.lifts([0] * count, options=options)), b"", 1
+
+
+def options_again(count):
+    """A lift with so many options, all of one kind: it is refused."""
+    parts = [formats.placing(), formats.func_type(["a"])]
+    return formats.component(*parts, formats.lifts([0], options=[b"\x00"] * count)), b"", 0
+
+
 CASES = [
     Case("exports of a core module", 400_000, module_exports),
     Case("labels of a function type", 400_000, labels),
@@ -215,13 +257,19 @@ CASES = [
     Case("components, and 255 instances of the last one", 400_000, components),
     Case("types of instances and of functions in a component with 255 instances", 4_000, types_again),
     Case("instances in a component with 255 instances", 6_000, instances_again),
+    Case("functions over a type that doubles 30 times", 400_000, over_doubled, command="check"),
+    Case("types of tuples", 400_000, small_tuples, command="check"),
+    Case("parts of a record, an enum and a tuple", 300_000, fields, command="check"),
+    Case("lifts to a function of as many parameters", 400_000, lifted_again, command="check"),
+    Case("options of a lift", 4_000_000, options_again, command="check", status=10),
     Case("calls of a script, for a component with 1,000 exports", 60_000, calls, doubles=False),
 ]
 
 
-def seconds(program, made):
-    """The shorter time of two runs that are done, or why there is none."""
-    component, script, lines = made
+def seconds(program, case, size):
+    """The shorter time of two runs that come to what is wanted, or why there is none."""
+    component, script, lines = case.make(size)
+    files = ["file.wasm", "script.txt"] if case.command == "run" else ["file.wasm"]
     best = None
     with tempfile.TemporaryDirectory() as folder:
         (Path(folder) / "file.wasm").write_bytes(component)
@@ -230,7 +278,7 @@ def seconds(program, made):
             with open(Path(folder) / "out", "wb") as out:
                 began = time.monotonic()
                 done = subprocess.run(
-                    [program, "run", "file.wasm", "script.txt"],
+                    [program, case.command, *files],
                     cwd=folder,
                     stdin=subprocess.DEVNULL,
                     stdout=out,
@@ -239,7 +287,7 @@ def seconds(program, made):
                 )
                 took = time.monotonic() - began
             written = (Path(folder) / "out").read_bytes().count(b"\n")
-            if done.returncode != 0 or written != lines:
+            if done.returncode != case.status or written != lines:
                 raise ValueError(f"status {done.returncode}, {written} lines, {done.stderr!r}")
             best = took if best is None else min(best, took)
     return best
@@ -250,7 +298,7 @@ def check(program, case, factor):
     number = max(2, int(case.number * factor))
     sizes = (number, 2 * number) if case.doubles else (number // 2, number)
     try:
-        small, large = (seconds(program, case.make(size)) for size in sizes)
+        small, large = (seconds(program, case, size) for size in sizes)
     except (ValueError, subprocess.TimeoutExpired) as why:
         print(f"failed: {number:,} {case.title}: {why}")
         return False
