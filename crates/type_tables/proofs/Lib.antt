@@ -1,3 +1,4 @@
+pub mod FuncsLaid
 pub mod LayerOrder
 pub mod LayersAdded
 pub mod LayersTold

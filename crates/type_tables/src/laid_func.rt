@@ -1,7 +1,25 @@
 //! What is kept of a function type, so that no lift goes over its parameters.
 
+ghost use Rattle.std.specs.Prelude.{◌≡◌, take, IfOk, Option};
+ghost use Rattle.std.specs.List.{AllZip};
+ghost use Rattle.ca_types.specs.declared.types.FuncType.{FuncType};
+ghost use Rattle.ca_types.specs.declared.types.ValType.{ValType};
+ghost use Rattle.ca_types.specs.Flat.{flat_params, flat_payload};
+ghost use Rattle.comp_graph.specs.Needs.{hold_list};
+ghost use Rattle.laid_types.specs.Layers.{IsThere};
+ghost use Rattle.laid_types.specs.Lists.{held_list};
+ghost use Rattle.type_tables.specs.Labels.{HaveTypes, AreValues, IsParam, IsFuncOf};
+ghost use Rattle.type_tables.specs.Laid.{IsLaid};
+ghost use Rattle.type_tables.specs.Layered.{MayBeValue};
+
+use crate::labels::LabelledType;
 use ca_base::Seq;
 use ca_types::CoreType;
+use std::alloc::{AllocError, Global};
+use value_tables::ValueTypes;
+
+/// How many core types are kept: one more than a function may have parameters, so that "too many" can be told.
+const MOST_KEPT: usize = 17;
 
 /// What lifts ask of a function type (Component Model, CanonicalABI.md, "Flattening").
 #[derive(Drop)]
@@ -14,4 +32,82 @@ pub struct LaidFunc {
     pub params_hold_list: bool,
     /// Whether the result holds a string or a list.
     pub result_holds_list: bool,
+}
+
+impl LaidFunc {
+    /// What lifts ask of the function type of parameters and a result, each by the number of its value type. It fails for want of
+    /// memory alone.
+    pub(crate) fn of(
+        alloc: Global,
+        values: &ValueTypes<'_>,
+        params: &[LabelledType<'_>],
+        returned: Option<usize>,
+    ) -> Result<LaidFunc, AllocError>
+        requires { AreValues values.now params.now returned }
+        ensures { IfOk result (λ laid. (type : FuncType) → IsFuncOf values.now params.now returned type → IsLaid laid type) }
+    {
+        Ok(LaidFunc {
+            params: flat_params(alloc, values, params)?,
+            returned: flat_result(alloc, values, returned)?,
+            params_hold_list: hold_list(values, params),
+            result_holds_list: holds_list(values, returned),
+        })
+    }
+}
+
+/// The first core types of the parameters.
+fn flat_params(
+    alloc: Global,
+    values: &ValueTypes<'_>,
+    params: &[LabelledType<'_>],
+) -> Result<Seq<CoreType>, AllocError>
+    requires { HaveTypes values.now params.now }
+    ensures { IfOk result (λ types. (type : FuncType) → AllZip (IsParam values.now) params.now type.params → types ≡ take 17 (flat_params type)) }
+{
+    let mut types = Vec::new(alloc);
+    for param in params {
+        types.extend_from_slice(values.value(param.val_type).flat())?;
+        types.truncate(MOST_KEPT);
+    }
+    Ok(Seq::from_vec(types))
+}
+
+/// The first core types of the result.
+fn flat_result(
+    alloc: Global,
+    values: &ValueTypes<'_>,
+    returned: Option<usize>,
+) -> Result<Seq<CoreType>, AllocError>
+    requires { IsThere values.now returned }
+    ensures { IfOk result (λ types. (type : Option ValType) → MayBeValue values.now returned type → types ≡ take 17 (flat_payload type)) }
+{
+    let mut types = Vec::new(alloc);
+    if let Some(number) = returned {
+        types.extend_from_slice(values.value(number).flat())?;
+    }
+    Ok(Seq::from_vec(types))
+}
+
+/// Whether a parameter holds a string or a list.
+fn hold_list(values: &ValueTypes<'_>, params: &[LabelledType<'_>]) -> bool
+    requires { HaveTypes values.now params.now }
+    ensures { (type : FuncType) → AllZip (IsParam values.now) params.now type.params → result ≡ hold_list type }
+{
+    for param in params {
+        if values.value(param.val_type).has_list() {
+            return true;
+        }
+    }
+    false
+}
+
+/// Whether the result holds a string or a list.
+fn holds_list(values: &ValueTypes<'_>, returned: Option<usize>) -> bool
+    requires { IsThere values.now returned }
+    ensures { (type : Option ValType) → MayBeValue values.now returned type → result ≡ held_list type }
+{
+    match returned {
+        Some(number) => values.value(number).has_list(),
+        None => false,
+    }
 }

@@ -6,6 +6,7 @@
 //! - `refs`: references into a table of types
 //! - `labels`: labels with the numbers of value types, which function types are made of
 //! - `laid_func`: what lifts ask of a function type
+//! - `kept_func`: function types, each with what lifts ask of it
 //! - `types`: the table of types
 //! - `maker`: types of instances, made export by export
 //! - `asked`: what a type of instances asks for
@@ -13,6 +14,7 @@
 #![tactic(auto)]
 
 mod asked;
+mod kept_func;
 mod labels;
 mod laid_func;
 pub mod laws;

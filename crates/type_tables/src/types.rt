@@ -9,9 +9,12 @@ ghost use Rattle.comp_graph.specs.Closed.{Closed, Externs, extern_named};
 ghost use Rattle.laid_types.specs.Layers.{AreThere, type_of, part_numbers};
 ghost use Rattle.type_tables.specs.Layered.{IsParams, IsFuncLayer};
 ghost use Rattle.type_tables.specs.Labels.{AreValues, IsParam, IsFuncOf};
+ghost use Rattle.type_tables.specs.Laid.{IsLaid};
 ghost use Rattle.type_tables.specs.Table.{no_types, IsName, IsValue, IsFunc, IsType, IsInstanceType, MayBeExtern, MayBeEntry, in_order, Grows, AreDistinct};
 
-use crate::labels::{LabelledType, closed_func};
+use crate::kept_func::KeptFunc;
+use crate::labels::LabelledType;
+use crate::laid_func::LaidFunc;
 use crate::layers::{Layer, Layers};
 use crate::listing::Listing;
 use crate::refs::{ExternRef, FuncTypeRef, InstanceTypeRef, TypeRef, are_same};
@@ -30,7 +33,7 @@ pub struct Types<'a> {
     names: Names<'a>,
     values: ValueTypes<'a>,
     layers: Layers,
-    funcs: Vec<Shared<FuncType>>,
+    funcs: Vec<KeptFunc>,
     instances: Vec<Listing<ExternRef>>,
     /// The number of the function type of a layer.
     func_numbers: BTreeMap<usize, usize>,
@@ -197,8 +200,8 @@ impl<'a> Types<'a> {
         if let Some(number) = self.kept_func(layer) {
             return Ok(number);
         }
-        let func_type = closed_func(alloc, &self.values, params, returned)?;
-        let number = self.add_func(alloc, func_type)?;
+        let func_type = KeptFunc::of(alloc, &self.values, params, returned)?;
+        let number = self.add_func(func_type)?;
         self.keep_func(layer, number)?;
         Ok(number)
     }
@@ -220,12 +223,11 @@ impl<'a> Types<'a> {
     }
 
     /// Adds a function type, and answers its number.
-    fn add_func(&mut self, alloc: Global, func_type: FuncType) -> Result<usize, AllocError>
+    fn add_func(&mut self, func_type: KeptFunc) -> Result<usize, AllocError>
         ensures ok { IfOk result (λ number. slice_get self.new.funcs number ≡ Some func_type) }
         ensures grows { Grows self.old self.new }
     {
         let number = self.funcs.len();
-        let func_type = Shared::new(alloc, func_type)?;
         self.funcs.push(func_type)?;
         Ok(number)
     }
@@ -305,7 +307,16 @@ impl<'a> Types<'a> {
     pub fn func_at(&self, func_type: FuncTypeRef) -> Option<&Shared<FuncType>>
         ensures { (f : FuncType) → IsFunc self.now func_type f → MatchOption result ⊥ (λ t. t.now ≡ f) }
     {
-        self.funcs.get(func_type.number)
+        let kept = self.funcs.get(func_type.number)?;
+        Some(kept.func_type())
+    }
+
+    /// What lifts ask of a function type, where its number is there. It is computed once, where the type is added.
+    pub fn laid_func(&self, func_type: FuncTypeRef) -> Option<&LaidFunc>
+        ensures { (f : FuncType) → IsFunc self.now func_type f → MatchOption result ⊥ (λ laid. IsLaid laid.now f) }
+    {
+        let kept = self.funcs.get(func_type.number)?;
+        Some(kept.laid())
     }
 
     /// The export of a name: of equal names the first.
