@@ -50,7 +50,7 @@ module _ (t u : Table) (v w : World) (types : Grows t u) (world : WorldStays v w
       by (Some r) (asked, type, fit, is) = (asked, instance_type_stays t u types r asked type, fit, is)
 
   pub stands_stays : (ref : DefinitionRef) (d : Definition) → Stands t v ref d → Stands u w ref d
-  stands_stays (definition_ref.Func ref) (AFunc f) h = record { instance = h.instance; core = h.core; func_type = func_stays t u types ref.func_type f.func_type h.func_type }
+  stands_stays (definition_ref.Func ref) (AFunc f) h = record { instance = h.instance; core = h.core; options = h.options; func_type = func_stays t u types ref.func_type f.func_type h.func_type }
   stands_stays (definition_ref.Type ref) (AType type) h = type_stays t u types ref type h
   stands_stays (definition_ref.Component number) (AComponent c) h = world.components number c h
   stands_stays (definition_ref.Instance i) (AnInstance exports) h = instance_stays i exports h
