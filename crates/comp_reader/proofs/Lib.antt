@@ -1,3 +1,2 @@
 mod Depth
-mod Options
 mod Whole

@@ -8,7 +8,8 @@ use Rattle.ca_base.proofs.Whole.{whole_decided}
 use Rattle.comp_tree.specs.declared.items.Component.{Component}
 use Rattle.comp_reader.specs.declared.fault.ComponentWhy.{ComponentWhy}
 use Rattle.comp_reader.specs.declared.fault.ComponentWhy.TheVariants.{Truncated}
-use Rattle.comp_reader.specs.Binary.{reasons, component, component_of, component_within, file, file_end}
+use Rattle.comp_reader.specs.Binary.{component, component_of, component_within, file, file_end}
+use Rattle.comp_reader.specs.Reasons.{reasons}
 use Rattle.comp_reader.specs.Laws.{OneReading}
 
 pub matches_whole : (bytes : List ℕ) (c : Component) (t : Span ComponentWhy) → Matches component (file bytes) c t → t ≡ file_end bytes

@@ -1,11 +1,11 @@
 -- The binary format of components (Component Model, Binary.md), as far as it is read: sections of core modules, core
--- instances, components, instances, aliases, types of functions over u32 and of instances, lifts without options, imports
--- and exports of functions, types and instances, and custom sections; any number of them, in any order. Components may
--- hold others, and instance types too; at most 16 of either are open at a place.
-use Rattle.std.specs.Prelude.{ℕ, zero, suc, if◌then◌else◌, ◌^◌, ℤ, pos, nat_abs, int_le, int_lt, ◌&&◌, Bool, true, false, List, [], ◌∷◌, length, ◌==◌, ◌||◌, Option, Some, None}
+-- instances, components, instances, aliases, types of values, functions and instances, lifts, imports and exports of
+-- functions, types and instances, and custom sections; any number of them, in any order. Components may hold others, and
+-- instance types too; at most 16 of either are open at a place.
+use Rattle.std.specs.Prelude.{ℕ, zero, suc, ◌&&◌, Bool, true, false, List, [], ◌∷◌, length, ◌==◌, ◌||◌, Option, Some, None}
 use Rattle.ca_base.specs.Span.{Span}
-use Rattle.ca_base.specs.Grammar.{Grammar, Give, Refuse, Here, Left, Next, Byte, Sized, Choose, ◌>>=◌, Matches, Refuses}
-use Rattle.ca_base.specs.Items.{byte_of, NumberReasons, Reasons, fixed, marker, u32, s33, name, custom, sized, vec, placed, placed_vec, to_the_end, joined, at_end}
+use Rattle.ca_base.specs.Grammar.{Grammar, Give, Refuse, Here, Left, Byte, Sized, Choose, ◌>>=◌, Matches, Refuses}
+use Rattle.ca_base.specs.Items.{fixed, marker, u32, name, custom, sized, vec, placed, placed_vec, to_the_end, joined, at_end}
 use Rattle.ca_base.specs.declared.refusal.Refusal.{Refusal}
 use Rattle.ca_base.specs.declared.placed.Placed.{Placed}
 use Rattle.wasm_module.specs.declared.fault.ModuleWhy.TheVariants as module_why
@@ -28,28 +28,20 @@ use Rattle.comp_tree.specs.declared.instances.AliasTarget.TheVariants.{InstanceE
 use Rattle.comp_tree.specs.declared.instances.Alias.{Alias}
 use Rattle.comp_tree.specs.declared.externs.ExternDesc.{ExternDesc}
 use Rattle.comp_tree.specs.declared.externs.ExternDesc.TheVariants as descs
-use Rattle.comp_tree.specs.declared.types.PrimValType.TheVariants.{U32}
-use Rattle.comp_tree.specs.declared.types.DefValType.TheVariants as values
-use Rattle.comp_tree.specs.declared.types.ValTypeRef.{ValTypeRef}
-use Rattle.comp_tree.specs.declared.types.ValTypeRef.TheVariants.{Primitive, Index}
-use Rattle.comp_tree.specs.declared.types.Param.{Param}
-use Rattle.comp_tree.specs.declared.types.FuncType.{FuncType}
 use Rattle.comp_tree.specs.declared.types.DefType.{DefType}
 use Rattle.comp_tree.specs.declared.types.DefType.TheVariants.{Value, Func, Instance}
 use Rattle.comp_tree.specs.declared.types.InstanceDecl.{InstanceDecl}
 use Rattle.comp_tree.specs.declared.types.InstanceDecl.TheVariants as decl
+use Rattle.comp_tree.specs.declared.items.CanonOption.{CanonOption}
+use Rattle.comp_tree.specs.declared.items.CanonOption.TheVariants as option
 use Rattle.comp_tree.specs.declared.items.Canon.TheVariants.{Lift}
 use Rattle.comp_tree.specs.declared.items.Item.{Item}
 use Rattle.comp_tree.specs.declared.items.Item.TheVariants as item
 use Rattle.comp_tree.specs.declared.items.Component.{Component}
 use Rattle.comp_reader.specs.declared.fault.ComponentWhy.{ComponentWhy}
-use Rattle.comp_reader.specs.declared.fault.ComponentWhy.TheVariants.{Truncated, Leb, Utf8, Magic, SectionSize, Unsupported, Float, Limit, Module, Invalid}
-
-abbrev pub numbers : NumberReasons ComponentWhy
-numbers = record { leb = Leb; utf8 = Utf8 }
-
-abbrev pub reasons : Reasons ComponentWhy
-reasons = record { unsupported = Unsupported; section_size = SectionSize }
+use Rattle.comp_reader.specs.declared.fault.ComponentWhy.TheVariants.{Truncated, Magic, Limit, Module, Invalid}
+use Rattle.comp_reader.specs.Reasons.{numbers, reasons, unsupported}
+use Rattle.comp_reader.specs.Types.{def_val_type, func_type}
 
 -- a module that has this first fault, or none
 abbrev pub validated : ModuleTree → Option ValidFault → Grammar ComponentWhy ModuleTree
@@ -68,10 +60,6 @@ core_module = do
   read ← module_file
   tree ← validated read.tree (untyped read.tree read.places)
   Give (item.CoreModule tree)
-
--- A byte that no rule has in its place.
-abbrev pub unsupported : {A : Type 0} → ℕ → ℕ → Grammar ComponentWhy A
-unsupported place b = Refuse place (Unsupported b)
 
 -- Sorts: 00 to 03, 11 and 12 for what stands in core modules and what they and their instances are; behind 00 a core sort,
 -- 01, 03, 04 and 05 for functions, types, components and instances.
@@ -223,50 +211,6 @@ extern_desc = do
         Give (descs.Instance type))
       (unsupported place b)))
 
--- a byte at this place that is a type of floats, or has no rule there
-abbrev pub refused_type : {A : Type 0} → ℕ → ℕ → Grammar ComponentWhy A
-refused_type place b = Refuse place (if b == 0x76 || b == 0x75 then Float else Unsupported b)
-
--- whether a number is an index
-abbrev pub is_index : ℤ → Bool
-is_index n = int_le (pos 0) n && int_lt n (pos (2 ^ 32))
-
--- A value type: the index of a type as s33, or the byte of a primitive one, 79 for u32. As s33 the latter are negative.
--- 76 and 75 are those of floats.
-unfoldable pub val_type : Grammar ComponentWhy ValTypeRef
-val_type = do
-  place ← Here
-  first ← Next
-  n ← s33 numbers
-  Choose (is_index n) (Give (Index (nat_abs n)))
-      (Choose (byte_of first == 0x79) (Give (Primitive U32)) (refused_type place (byte_of first)))
-
--- a parameter: its label, and its type
-unfoldable pub param : Grammar ComponentWhy Param
-param = do
-  label ← name numbers
-  type ← val_type
-  Give (record { label = label; val_type = type })
-
--- a result: 00 and its type, or 01 00 for none
-unfoldable pub func_result : Grammar ComponentWhy (Option ValTypeRef)
-func_result = do
-  place ← Here
-  b ← Byte
-  Choose (b == 0) (do
-    type ← val_type
-    Give (Some type))
-      (Choose (b == 1) (do
-        _ ← marker reasons 0
-        Give None) (Refuse place (Unsupported b)))
-
--- what stands behind the 40 of a function type: its parameters and its result
-unfoldable pub func_type : Grammar ComponentWhy FuncType
-func_type = do
-  params ← vec numbers param
-  returned ← func_result
-  Give (record { params = params; result = returned })
-
 -- A declaration of an instance type, in which types are of this grammar: 01 a type, 02 an alias, 04 an export.
 unfoldable pub instance_decl : Grammar ComponentWhy DefType → Grammar ComponentWhy InstanceDecl
 instance_decl inner = do
@@ -284,8 +228,8 @@ instance_decl inner = do
         Give (decl.Export export wanted))
       (unsupported place b)))
 
--- A type, where instance types are of this grammar at the place of their 42: 40 a function, 42 an instance, 79 the value
--- type u32.
+-- A type, where instance types are of this grammar at the place of their 42: 40 a function, 42 an instance, and else a type
+-- of values.
 unfoldable pub type_of : (ℕ → Grammar ComponentWhy DefType) → Grammar ComponentWhy DefType
 type_of inner = do
   place ← Here
@@ -293,8 +237,9 @@ type_of inner = do
   Choose (b == 0x40) (do
     type ← func_type
     Give (Func type))
-      (Choose (b == 0x42) (inner place)
-      (Choose (b == 0x79) (Give (Value (values.Primitive U32))) (refused_type place b)))
+      (Choose (b == 0x42) (inner place) (do
+        type ← def_val_type place b
+        Give (Value type)))
 
 -- the declarations of an instance type, in which types are of this grammar
 unfoldable pub declarations : Grammar ComponentWhy DefType → Grammar ComponentWhy DefType
@@ -320,12 +265,23 @@ type_item = do
   type ← def_type depth_limit
   Give (item.Type type)
 
--- No option is read.
-unfoldable pub option : Grammar ComponentWhy (Unit {0})
-option = do
+-- an option of a canonical function: 00 texts in UTF-8, 03 a memory, 04 a function that gives places in it, 05 a function that
+-- is called when the result was lifted
+unfoldable pub canon_option : Grammar ComponentWhy CanonOption
+canon_option = do
   place ← Here
   b ← Byte
-  Refuse place (Unsupported b)
+  Choose (b == 0) (Give option.Utf8)
+      (Choose (b == 3) (do
+        index ← u32 numbers
+        Give (option.Memory index))
+      (Choose (b == 4) (do
+        index ← u32 numbers
+        Give (option.Realloc index))
+      (Choose (b == 5) (do
+        index ← u32 numbers
+        Give (option.PostReturn index))
+      (unsupported place b))))
 
 -- a canonical function: 00 00 the lift of a core function, with options, to a type
 unfoldable pub canon : Grammar ComponentWhy Item
@@ -333,9 +289,9 @@ canon = do
   _ ← marker reasons 0
   _ ← marker reasons 0
   index ← u32 numbers
-  _ ← vec numbers option
+  options ← vec numbers canon_option
   type ← u32 numbers
-  Give (item.Canon (Lift index type))
+  Give (item.Canon (Lift index options type))
 
 -- an import: its name, and what it is to be
 unfoldable pub import : Grammar ComponentWhy Item

@@ -1,2 +1,4 @@
 pub mod Binary
 pub mod Laws
+pub mod Reasons
+pub mod Types

@@ -1,27 +1,46 @@
 //! Canonical functions.
 
-ghost use Rattle.std.specs.Prelude.{[]};
-ghost use Rattle.ca_base.specs.Grammar.{Reads};
-ghost use Rattle.ca_base.specs.Items.{vec};
-ghost use Rattle.comp_reader.specs.Binary.{numbers, option};
-
 use crate::fault::{ComponentWhy, unsupported};
-use ca_base::{Kind, ReadError, Refusal, Window};
-use comp_tree::{Canon, Item};
+use ca_base::{Kind, ReadError, Window, read_vec};
+use comp_tree::{Canon, CanonOption, Item};
 use std::alloc::Global;
 
-/// Reads options (Component Model, Binary.md, `opts`), of which none is read: the first one is refused.
-#[tactic(auto, using(crate::proofs::Options::no_options, crate::proofs::Options::option_refused, crate::proofs::Options::option_cut))]
-fn read_options(window: &mut Window<ComponentWhy>) -> Result<(), Refusal<ComponentWhy>>
-    ensures { Reads (λ _. []) (vec numbers option) window.old window.new result }
-{
-    let count = window.u32()?;
-    if count == 0 {
-        return Ok(());
+/// Options of canonical functions (Component Model, Binary.md, `canonopt`).
+struct CanonOptions;
+
+impl Kind for CanonOptions {
+    ghost use Rattle.comp_reader.specs.Binary.{canon_option};
+
+    type Why = ComponentWhy;
+
+    type Item = CanonOption;
+
+    ghost grammar = { canon_option };
+
+    #[tactic(auto, unfolding(crate::specs::Binary::canon_option))]
+    fn read(
+        _alloc: Global,
+        window: &mut Window<ComponentWhy>,
+    ) -> Result<CanonOption, ReadError<ComponentWhy>> {
+        let place = window.at();
+        let byte = window.byte()?;
+        if byte == 0 {
+            return Ok(CanonOption::Utf8);
+        }
+        if byte == 3 {
+            let memory = window.u32()?;
+            return Ok(CanonOption::Memory(memory));
+        }
+        if byte == 4 {
+            let realloc = window.u32()?;
+            return Ok(CanonOption::Realloc(realloc));
+        }
+        if byte == 5 {
+            let post_return = window.u32()?;
+            return Ok(CanonOption::PostReturn(post_return));
+        }
+        Err(ReadError::Fault(unsupported(place, byte)))
     }
-    let place = window.at();
-    let byte = window.byte()?;
-    Err(unsupported(place, byte))
 }
 
 /// Canonical functions (Component Model, Binary.md, `canon`).
@@ -38,16 +57,17 @@ impl Kind for Canons {
 
     #[tactic(auto, unfolding(crate::specs::Binary::canon))]
     fn read(
-        _alloc: Global,
+        alloc: Global,
         window: &mut Window<ComponentWhy>,
     ) -> Result<Item, ReadError<ComponentWhy>> {
         window.marker(0)?;
         window.marker(0)?;
         let core_func = window.u32()?;
-        read_options(window)?;
+        let options = read_vec::<CanonOptions>(alloc, window)?;
         let func_type = window.u32()?;
         Ok(Item::Canon(Canon::Lift {
             core_func,
+            options,
             func_type,
         }))
     }

@@ -6,12 +6,13 @@ ghost use Rattle.ca_base.specs.Grammar.{MayRead, times};
 ghost use Rattle.comp_reader.specs.Binary.{def_type, instance_type, declarations, instance_decl};
 
 use crate::aliases::read_alias;
+use crate::def_val_types::read_def_val_type;
 use crate::externs::read_extern_desc;
-use crate::fault::{ComponentWhy, refused_type, unsupported};
+use crate::fault::{ComponentWhy, unsupported};
 use crate::func_types::read_func_type;
 use crate::names::read_extern_name;
 use ca_base::{Kind, ReadError, Refusal, Seq, Window};
-use comp_tree::{DefType, DefValType, InstanceDecl, Item, PrimValType};
+use comp_tree::{DefType, InstanceDecl, Item};
 use std::alloc::Global;
 
 /// How many components may be open at a place, and how many instance types.
@@ -36,10 +37,8 @@ fn read_def_type(
     if byte == 0x42 {
         return read_instance_type(alloc, more, place, window);
     }
-    if byte == 0x79 {
-        return Ok(DefType::Value(DefValType::Primitive(PrimValType::U32)));
-    }
-    Err(ReadError::Fault(refused_type(place, byte)))
+    let val_type = read_def_val_type(alloc, place, byte, window)?;
+    Ok(DefType::Value(val_type))
 }
 
 /// Reads what stands behind the 42 of an instance type at this place, where so many may be opened, itself one of them.

@@ -35,7 +35,7 @@ pub enum ComponentWhy {
 }
 
 impl NumberReason for ComponentWhy {
-    ghost use Rattle.comp_reader.specs.Binary.{numbers};
+    ghost use Rattle.comp_reader.specs.Reasons.{numbers};
 
     ghost numbers = { numbers };
 
@@ -49,7 +49,7 @@ impl NumberReason for ComponentWhy {
 }
 
 impl Reason for ComponentWhy {
-    ghost use Rattle.comp_reader.specs.Binary.{reasons};
+    ghost use Rattle.comp_reader.specs.Reasons.{reasons};
 
     ghost reasons = { reasons };
 

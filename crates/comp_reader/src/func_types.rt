@@ -1,37 +1,20 @@
-//! Types of values and of functions.
+//! Types of functions.
 
-ghost use Rattle.std.specs.Prelude.{◌≡◌};
 ghost use Rattle.ca_base.specs.Grammar.{Reads, MayRead};
-ghost use Rattle.comp_reader.specs.Binary.{val_type, func_result, func_type};
+ghost use Rattle.comp_reader.specs.Types.{func_result, func_type};
 
-use crate::fault::{ComponentWhy, refused_type, unsupported};
+use crate::fault::{ComponentWhy, unsupported};
 use crate::names::read_name;
+use crate::val_types::read_val_type;
 use ca_base::{Kind, ReadError, Refusal, Window, read_vec};
-use comp_tree::{FuncType, Param, PrimValType, ValTypeRef};
+use comp_tree::{FuncType, Param, ValTypeRef};
 use std::alloc::Global;
 
-/// Reads a value type (Component Model, Binary.md, `valtype`).
-#[tactic(auto, unfolding(crate::specs::Binary::val_type))]
-fn read_val_type(window: &mut Window<ComponentWhy>) -> Result<ValTypeRef, Refusal<ComponentWhy>>
-    ensures { Reads (λ t. t) val_type window.old window.new result }
-{
-    let place = window.at();
-    let first = window.next().unwrap_or(0);
-    let number = window.s33()?;
-    if 0 <= number && number < 1 << 32 {
-        return Ok(ValTypeRef::Index(number as u32));
-    }
-    if first == 0x79 {
-        return Ok(ValTypeRef::Primitive(PrimValType::U32));
-    }
-    Err(refused_type(place, first))
-}
-
-/// Parameters.
+/// Parameters (Component Model, Binary.md, `labelvaltype`).
 struct Params;
 
 impl Kind for Params {
-    ghost use Rattle.comp_reader.specs.Binary.{param};
+    ghost use Rattle.comp_reader.specs.Types.{param};
 
     type Why = ComponentWhy;
 
@@ -39,7 +22,7 @@ impl Kind for Params {
 
     ghost grammar = { param };
 
-    #[tactic(auto, unfolding(crate::specs::Binary::param))]
+    #[tactic(auto, unfolding(crate::specs::Types::param))]
     fn read(
         alloc: Global,
         window: &mut Window<ComponentWhy>,
@@ -51,7 +34,7 @@ impl Kind for Params {
 }
 
 /// Reads the result of a function (Component Model, Binary.md, `resultlist`).
-#[tactic(auto, unfolding(crate::specs::Binary::func_result))]
+#[tactic(auto, unfolding(crate::specs::Types::func_result))]
 fn read_result(
     window: &mut Window<ComponentWhy>,
 ) -> Result<Option<ValTypeRef>, Refusal<ComponentWhy>>
@@ -71,7 +54,7 @@ fn read_result(
 }
 
 /// Reads the parameters and the result of a function type (Component Model, Binary.md, `functype`).
-#[tactic(auto, unfolding(crate::specs::Binary::func_type))]
+#[tactic(auto, unfolding(crate::specs::Types::func_type))]
 pub(crate) fn read_func_type(
     alloc: Global,
     window: &mut Window<ComponentWhy>,

@@ -6,7 +6,7 @@
 //! - `reading`: the reading of a whole component
 //! - `sections`: the sections by their ids, and components that hold others
 //! - `core_modules`, `core_instances`, `instances`, `aliases`, `def_types`, `canons`, `externs`: the items, a kind for each
-//! - `func_types`, `sorts`, `names`: what stands in them
+//! - `val_types`, `def_val_types`, `func_types`, `sorts`, `names`: what stands in them
 //! - `fault`: why bytes are refused
 //! - `laws`: that bytes are one component, or are refused in one way
 #![tactic(auto)]
@@ -16,6 +16,7 @@ mod canons;
 mod core_instances;
 mod core_modules;
 mod def_types;
+mod def_val_types;
 mod externs;
 mod fault;
 mod func_types;
@@ -25,6 +26,7 @@ mod names;
 mod reading;
 mod sections;
 mod sorts;
+mod val_types;
 
 pub use comp_tree::Component;
 pub use fault::ComponentWhy;

@@ -1,11 +1,12 @@
-//! Names, and those of imports and exports.
+//! Names, labels, and names of imports and exports.
 
 ghost use Rattle.ca_base.specs.Grammar.{MayRead};
 ghost use Rattle.ca_base.specs.Items.{name};
-ghost use Rattle.comp_reader.specs.Binary.{numbers, extern_name};
+ghost use Rattle.comp_reader.specs.Binary.{extern_name};
+ghost use Rattle.comp_reader.specs.Reasons.{numbers};
 
 use crate::fault::{ComponentWhy, unsupported};
-use ca_base::{Name, ReadError, Window};
+use ca_base::{Kind, Name, ReadError, Window};
 use std::alloc::Global;
 
 /// Reads a name, and keeps it.
@@ -18,6 +19,27 @@ pub(crate) fn read_name(
     let text = window.name()?;
     let kept = Name::new(alloc, text)?;
     Ok(kept)
+}
+
+/// Labels, as those of flags and enums (Component Model, Binary.md, `label'`).
+pub(crate) struct Labels;
+
+impl Kind for Labels {
+    ghost use Rattle.ca_base.specs.Items.{name};
+    ghost use Rattle.comp_reader.specs.Reasons.{numbers};
+
+    type Why = ComponentWhy;
+
+    type Item = Name;
+
+    ghost grammar = { name numbers };
+
+    fn read(
+        alloc: Global,
+        window: &mut Window<ComponentWhy>,
+    ) -> Result<Name, ReadError<ComponentWhy>> {
+        read_name(alloc, window)
+    }
 }
 
 /// Reads the name of an import or an export (Component Model, Binary.md, `importname'`, `exportname'`).
