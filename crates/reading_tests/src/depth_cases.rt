@@ -350,7 +350,7 @@ a type of floats in an instance type in a component | sections | 04 0F 00 61 73 
 a core module that its section in a component cuts off | sections | 04 0D 00 61 73 6D 0D 00 01 00 01 03 00 61 73 | 23 Module(Truncated)
 a core module that passes the end of its component | sections | 04 0C 00 61 73 6D 0D 00 01 00 01 08 00 61 73 6D | 22 SectionSize
 a component in the place of a core module in a component | sections | 04 12 00 61 73 6D 0D 00 01 00 01 08 00 61 73 6D 0D 00 01 00 | 24 Module(Magic)
-a fault behind a component | sections | 04 08 00 61 73 6D 0D 00 01 00 07 02 01 7F | 21 Unsupported(127)
+a fault behind a component | sections | 04 08 00 61 73 6D 0D 00 01 00 07 02 01 41 | 21 Unsupported(65)
 ";
 
 #[test]

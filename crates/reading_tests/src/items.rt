@@ -3,8 +3,8 @@
 use crate::types::{write_alias, write_type};
 use ca_base::{Name, Placed};
 use comp_tree::{
-    Canon, Component, CoreArgument, CoreInlineExport, CoreInstance, Export, ExternDesc, Import,
-    Instance, Item, NamedDefinition,
+    Canon, CanonOption, Component, CoreArgument, CoreInlineExport, CoreInstance, Export,
+    ExternDesc, Import, Instance, Item, NamedDefinition,
 };
 use std::alloc::AllocError;
 use std::fmt::{Debug, Write};
@@ -126,16 +126,38 @@ fn write_export(text: &mut String, export: &Export) -> Result<(), AllocError> {
     write_desc(text, export.desc)
 }
 
+/// Writes an option of a canonical function.
+fn write_option(text: &mut String, option: CanonOption) -> Result<(), AllocError> {
+    match option {
+        CanonOption::Utf8 => text.push_str(", utf8"),
+        CanonOption::Memory(index) => write!(text, ", memory {index}"),
+        CanonOption::Realloc(index) => write!(text, ", realloc {index}"),
+        CanonOption::PostReturn(index) => write!(text, ", post-return {index}"),
+    }
+}
+
+/// Writes the options of a canonical function.
+fn write_options(text: &mut String, options: &[CanonOption]) -> Result<(), AllocError> {
+    for option in options {
+        write_option(text, *option)?;
+    }
+    Ok(())
+}
+
 /// Writes a canonical function.
-fn write_canon(text: &mut String, canon: Canon) -> Result<(), AllocError> {
+fn write_canon(text: &mut String, canon: &Canon) -> Result<(), AllocError> {
     match canon {
         Canon::Lift {
             core_func,
+            options,
             func_type,
-        } => write!(
-            text,
-            "lift of core function {core_func} at type {func_type}"
-        ),
+        } => {
+            write!(
+                text,
+                "lift of core function {core_func} at type {func_type}"
+            )?;
+            write_options(text, options.as_slice())
+        }
     }
 }
 
@@ -168,7 +190,7 @@ fn write_placed(text: &mut String, placed: &Placed<Item>) -> Result<(), AllocErr
         Item::Instance(made) => write_instance(text, made),
         Item::Alias(alias) => write_alias(text, alias),
         Item::Type(def_type) => write_type(text, def_type),
-        Item::Canon(canon) => write_canon(text, *canon),
+        Item::Canon(canon) => write_canon(text, canon),
         Item::Import(import) => write_import(text, import),
         Item::Export(export) => write_export(text, export),
     }

@@ -65,7 +65,7 @@ an alias whose name has 2^32 - 1 bytes | sections | 06 0A 01 00 00 01 00 FF FF F
 an alias that the file cuts off | sections | 06 08 01 00 00 01 00 02 61 | 17 Truncated
 the type of 32-bit floats | sections | 07 02 01 76 | 11 Float
 the type of 64-bit floats | sections | 07 02 01 75 | 11 Float
-the type of booleans | sections | 07 02 01 7F | 11 Unsupported(127)
+the type of error contexts | sections | 07 02 01 64 | 11 Unsupported(100)
 a second type that is one of floats | sections | 07 03 02 79 76 | 12 Float
 a function without parameters and result | sections | 07 02 01 40 | 12 SectionSize
 a number of parameters whose fifth byte is too large | sections | 07 07 01 40 80 80 80 80 10 | 16 Leb
@@ -76,7 +76,7 @@ a label that is not UTF-8 | sections | 07 08 01 40 01 01 FF 79 01 00 | 14 Utf8
 a label of 2^32 - 1 bytes | sections | 07 08 01 40 01 FF FF FF FF 0F | 18 SectionSize
 a parameter without a type | sections | 07 05 01 40 01 01 61 | 15 SectionSize
 a parameter of 32-bit floats | sections | 07 08 01 40 01 01 61 76 01 00 | 15 Float
-a parameter of strings | sections | 07 08 01 40 01 01 61 73 01 00 | 15 Unsupported(115)
+a parameter of error contexts | sections | 07 08 01 40 01 01 61 64 01 00 | 15 Unsupported(100)
 a parameter whose type is an index that its section cuts off | sections | 07 06 01 40 01 01 61 80 | 16 SectionSize
 a parameter whose type is an index with too large a fifth byte | sections | 07 0A 01 40 01 01 61 80 80 80 80 10 | 19 Leb
 a parameter whose primitive type is written in two bytes | sections | 07 09 01 40 01 01 61 F9 7F 01 00 | 15 Unsupported(249)
@@ -91,8 +91,8 @@ a lift that is not one of a function | sections | 08 03 01 00 01 | 12 Unsupporte
 the index of a core function whose fifth byte is too large | sections | 08 08 01 00 00 80 80 80 80 10 | 17 Leb
 a number of options whose fifth byte is too large | sections | 08 09 01 00 00 00 80 80 80 80 10 | 18 Leb
 2^32 - 1 options | sections | 08 09 01 00 00 00 FF FF FF FF 0F | 19 SectionSize
-an option of text in UTF-8 | sections | 08 07 01 00 00 00 01 00 00 | 15 Unsupported(0)
-two options, of which the first is a memory | sections | 08 09 01 00 00 00 02 03 00 00 00 | 15 Unsupported(3)
+an option of text in UTF-16 | sections | 08 07 01 00 00 00 01 01 00 | 15 Unsupported(1)
+two options, of which the second says that the lift is async | sections | 08 09 01 00 00 00 02 03 00 06 00 | 17 Unsupported(6)
 an option that is cut off | sections | 08 05 01 00 00 00 01 00 | 15 SectionSize
 a lift without a type | sections | 08 05 01 00 00 00 00 00 | 15 SectionSize
 the index of a type whose fifth byte is too large | sections | 08 0A 01 00 00 00 00 80 80 80 80 10 | 19 Leb
