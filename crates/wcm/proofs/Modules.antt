@@ -38,8 +38,9 @@ use Rattle.comp_tree.specs.declared.items.Canon.{Canon}
 use Rattle.comp_tree.specs.declared.items.Canon.TheVariants.{Lift}
 use Rattle.comp_reader.specs.declared.fault.ComponentWhy.{ComponentWhy}
 use Rattle.comp_reader.specs.declared.fault.ComponentWhy.TheVariants.{Unsupported}
-use Rattle.comp_reader.specs.Binary.{numbers, reasons, validated, unsupported, module_file, core_module, core_argument, core_inline_export, core_instance, argument, inline_export, instance, alias_item, type_item, canon, import, export, custom_items, module_items, component_items, plain_payload, payload, is_section, component_of, component_within, depth_limit, IsComponent}
+use Rattle.comp_reader.specs.Binary.{validated, module_file, core_module, core_argument, core_inline_export, core_instance, argument, inline_export, instance, alias_item, type_item, canon, import, export, custom_items, module_items, component_items, plain_payload, payload, is_section, component_of, component_within, depth_limit, IsComponent}
 use Rattle.comp_reader.specs.Binary as file
+use Rattle.comp_reader.specs.Reasons.{numbers, reasons, unsupported}
 use Rattle.comp_linking.specs.Standing.{StandsIn, stands_first, stands_inside, stands_behind}
 
 -- a module that is typed, and whose memories are in range
@@ -200,7 +201,7 @@ type_gives s x t m = subst ItemTyped (sym m.3.0) (type_typed m.0)
 
 canon_gives : Gives ItemTyped canon
 unfolding canon
-canon_gives s x t m = subst ItemTyped (sym m.3.3.3.3.3.0) (canon_typed (Lift m.3.3.0 m.3.3.3.3.0))
+canon_gives s x t m = subst ItemTyped (sym m.3.3.3.3.3.0) (canon_typed (Lift m.3.3.0 m.3.3.3.0 m.3.3.3.3.0))
 
 import_gives : Gives ItemTyped import
 unfolding import
