@@ -4,7 +4,7 @@
 //! go in one place.
 
 use ca_base::{MemoryOr, ReadError, Refusal};
-use comp_graph::{Action, CoreExtern, CoreMake, CoreRef, Graph, Lift};
+use comp_graph::{Action, CoreExtern, CoreMake, CoreRef, Graph, Lift, Options};
 use comp_link::{LinkFault, LinkWhy, Reach, link};
 use comp_reader::{Component, ComponentWhy, read_component};
 use std::alloc::{AllocError, Global};
@@ -70,11 +70,30 @@ fn write_plan(text: &mut String, plan: &[Action]) -> Result<(), AllocError> {
     text.push('\n')
 }
 
+/// Writes a definition that a lift uses behind what it is used as, if there is one.
+fn write_used(text: &mut String, word: &str, used: Option<CoreRef>) -> Result<(), AllocError> {
+    match used {
+        Some(core) => {
+            write!(text, " {word} ")?;
+            write_ref(text, core)
+        }
+        None => Ok(()),
+    }
+}
+
+/// Writes what a lift uses beside its core function.
+fn write_options(text: &mut String, options: Options) -> Result<(), AllocError> {
+    write_used(text, "memory", options.memory)?;
+    write_used(text, "realloc", options.realloc)?;
+    write_used(text, "post-return", options.post_return)
+}
+
 /// Writes an export, in a line.
 fn write_export(text: &mut String, name: &str, lift: Lift) -> Result<(), AllocError> {
     let instance = lift.instance;
     write!(text, "export {name} {instance} ")?;
     write_ref(text, lift.core)?;
+    write_options(text, lift.options)?;
     text.push('\n')
 }
 
@@ -146,15 +165,23 @@ fn linked(alloc: Global, component: &Component, reach: Reach) -> Result<String, 
     }
 }
 
-/// The same where linking goes over all that is read, and a line more where linking that leads to a run comes to something else.
-fn both_linked(alloc: Global, component: &Component) -> Result<String, Fail> {
-    let mut text = linked(alloc, component, Reach::Whole)?;
-    let run = linked(alloc, component, Reach::Runs)?;
-    if run.as_str() != text.as_str() {
-        text.push_str("\nto be run: ")?;
-        text.push_str(run.as_str())?;
+/// What linking over all that is read comes to, and a line more where linking that leads to a run comes to something else.
+/// Neither has line feeds around it.
+fn both_text(alloc: Global, whole: &str, run: &str) -> Result<String, AllocError> {
+    let whole = whole.trim_matches('\n');
+    let run = run.trim_matches('\n');
+    if run == whole {
+        String::from_str(alloc, whole)
+    } else {
+        format!(in alloc; "{whole}\nto be run: {run}")
     }
-    Ok(text)
+}
+
+/// The same of a component.
+fn both_linked(alloc: Global, component: &Component) -> Result<String, Fail> {
+    let whole = linked(alloc, component, Reach::Whole)?;
+    let run = linked(alloc, component, Reach::Runs)?;
+    Ok(both_text(alloc, whole.as_str(), run.as_str())?)
 }
 
 /// The same of a component that is let go then.

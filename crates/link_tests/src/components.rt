@@ -28,12 +28,43 @@ const ADDER: &str = "04 93 01 00 61 73 6D 0D 00 01 00";
 /// An export `f` of function 0.
 const EXPORTED: &str = "0B 07 01 00 01 66 01 00 00";
 
+/// The section of a core module that exports a memory `m` of one page, and functions, each under the name of its type: what it
+/// takes, a `>`, and what it gives, `i` for i32 and `l` for i64, with a number behind it where there are more than four. The
+/// body of each is `unreachable`. From 0 on they are `>`, `>i`, `>l`, `>ii`, `i>`, `i>i`, `l>`, `l>l`, `ii>`, `ii>i`, `il>`,
+/// `li>`, `iii>i`, `ili>`, `ill>`, `iil>`, `lli>`, `iiii>i`, `iiii>`, `iiii>l`, `iiil>i`, `i5>i`, `i8>`, `i16>i` and `i17>i`.
+const FUNCTIONS: &str = "
+01 F5 03 00 61 73 6D 01 00 00 00 01 B3 01 19 60 00 00 60 00 01 7F 60 00 01 7E 60 00 02 7F 7F 60
+01 7F 00 60 01 7F 01 7F 60 01 7E 00 60 01 7E 01 7E 60 02 7F 7F 00 60 02 7F 7F 01 7F 60 02 7F 7E
+00 60 02 7E 7F 00 60 03 7F 7F 7F 01 7F 60 03 7F 7E 7F 00 60 03 7F 7E 7E 00 60 03 7F 7F 7E 00 60
+03 7E 7E 7F 00 60 04 7F 7F 7F 7F 01 7F 60 04 7F 7F 7F 7F 00 60 04 7F 7F 7F 7F 01 7E 60 04 7F 7F
+7F 7E 01 7F 60 05 7F 7F 7F 7F 7F 01 7F 60 08 7F 7F 7F 7F 7F 7F 7F 7F 00 60 10 7F 7F 7F 7F 7F 7F
+7F 7F 7F 7F 7F 7F 7F 7F 7F 7F 01 7F 60 11 7F 7F 7F 7F 7F 7F 7F 7F 7F 7F 7F 7F 7F 7F 7F 7F 7F 01
+7F 03 1A 19 00 01 02 03 04 05 06 07 08 09 0A 0B 0C 0D 0E 0F 10 11 12 13 14 15 16 17 18 05 03 01
+00 01 07 AC 01 1A 01 3E 00 00 02 3E 69 00 01 02 3E 6C 00 02 03 3E 69 69 00 03 02 69 3E 00 04 03
+69 3E 69 00 05 02 6C 3E 00 06 03 6C 3E 6C 00 07 03 69 69 3E 00 08 04 69 69 3E 69 00 09 03 69 6C
+3E 00 0A 03 6C 69 3E 00 0B 05 69 69 69 3E 69 00 0C 04 69 6C 69 3E 00 0D 04 69 6C 6C 3E 00 0E 04
+69 69 6C 3E 00 0F 04 6C 6C 69 3E 00 10 06 69 69 69 69 3E 69 00 11 05 69 69 69 69 3E 00 12 06 69
+69 69 69 3E 6C 00 13 06 69 69 69 6C 3E 69 00 14 04 69 35 3E 69 00 15 03 69 38 3E 00 16 05 69 31
+36 3E 69 00 17 05 69 31 37 3E 69 00 18 01 6D 02 00 0A 65 19 03 00 00 0B 03 00 00 0B 03 00 00 0B
+03 00 00 0B 03 00 00 0B 03 00 00 0B 03 00 00 0B 03 00 00 0B 03 00 00 0B 03 00 00 0B 03 00 00 0B
+03 00 00 0B 03 00 00 0B 03 00 00 0B 03 00 00 0B 03 00 00 0B 03 00 00 0B 03 00 00 0B 03 00 00 0B
+03 00 00 0B 03 00 00 0B 03 00 00 0B 03 00 00 0B 03 00 00 0B 03 00 00 0B
+";
+
+/// An instance of `FUNCTIONS`, its `m` as core memory 0, and its `iiii>i`, of the type of a realloc, as core function 0.
+const ALLOCATING: &str = "
+02 04 01 00 00 00
+06 12 02 00 02 01 00 01 6D 00 00 01 00 06 69 69 69 69 3E 69
+";
+
 /// The code of a word that stands for some lines.
 fn lines_of(word: &str) -> [&str; 4] {
     match word {
         "provider" => [PROVIDER, "", "", ""],
         "lifted" => [PROVIDER, LIFTED, "", ""],
         "adder" => [ADDER, PROVIDER, LIFTED, EXPORTED],
+        "functions" => [FUNCTIONS, "", "", ""],
+        "allocating" => [FUNCTIONS, ALLOCATING, "", ""],
         _ => [word, "", "", ""],
     }
 }

@@ -2,10 +2,11 @@
 //!
 //! A case is a line that says what it is, lines of the bytes of a component, a line `is`, and the answer that is wanted. What
 //! stands behind a `;` in a line is a remark. `provider` is a section of the core module `PROVIDER`, `lifted` that and the lift of
-//! its function `f`, `adder` a component that exports this lift, and `times N BYTES` are bytes that stand N times. Answers are
-//! derived from the definitions by hand. Each component is linked over all that is read, and as far as can be run; where the second
-//! comes to something else, the answer has a line `to be run` for it. The file `stdin` names the tables, and the file `stdout` has
-//! how many cases are in each.
+//! its function `f`, `adder` a component that exports this lift, `functions` is a section of the core module `FUNCTIONS`,
+//! `allocating` that and an instance of it, with a memory and a realloc, and `times N BYTES` are bytes that stand N times. Answers
+//! are derived from the definitions by hand. Each component is linked over all that is read, and as far as can be run; where the
+//! second comes to something else, the answer has a line `to be run` for it. The file `stdin` names the tables, and the file
+//! `stdout` has how many cases are in each.
 //!
 //! - `core`: the arguments of core modules, and inline exports
 //! - `fit`: what imports of core modules ask for
@@ -24,6 +25,10 @@
 //! - `equal`: types that are equal, and arguments by their names
 //! - `level`: what stands further out, and components that instantiate themselves
 //! - `toolchain`: components that are made of others as toolchains make them
+//! - `value`: types of values, well made and not, and which of them are equal
+//! - `depth`: how deep types of values may be
+//! - `lift`: lifts to functions over each type of values
+//! - `canon`: the options of lifts
 //!
 //! The module `components` has the bytes of cases, and `answers` the answers as text.
 #![tactic(auto)]
