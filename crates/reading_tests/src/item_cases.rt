@@ -110,6 +110,120 @@ is
 13 instance type of value type U32; function type from to nothing; alias of Type 0, 1 levels up; export f: Func(1); end
 33 instance type of instance type of export g: Instance(2); end; alias of Func h of instance 0; end
 
+every primitive type
+00 61 73 6D 0D 00 01 00 ; 0: the preamble
+07 0C 0B ; 8: eleven types
+7F ; 11: bool
+7E ; 12: s8
+7D ; 13: u8
+7C ; 14: s16
+7B ; 15: u16
+7A ; 16: s32
+79 ; 17: u32
+78 ; 18: s64
+77 ; 19: u64
+74 ; 20: char
+73 ; 21: string
+is
+11 value type Bool
+12 value type S8
+13 value type U8
+14 value type S16
+15 value type U16
+16 value type S32
+17 value type U32
+18 value type S64
+19 value type U64
+20 value type Char
+21 value type String
+
+types of values of every other kind
+00 61 73 6D 0D 00 01 00 ; 0: the preamble
+07 3F 0B ; 8: eleven types
+72 02 01 61 7F 02 C3 A9 00 ; 11: a record of `a`, a bool, and `é` of type 0
+71 03 01 61 01 7E 00 01 62 00 00 00 01 01 00 ; 20: a variant of `a` with an s8, `b` without a payload, and the empty label with type 1
+70 7C ; 35: a list of s16
+6F 03 7B 02 7A ; 37: a tuple of u16, type 2 and s32
+6E 02 01 61 01 62 ; 42: flags `a` and `b`
+6D 03 01 61 00 01 62 ; 48: an enum of `a`, the empty label and `b`
+6B 78 ; 55: an option of s64
+6A 01 77 01 06 ; 57: a result of u64 or type 6
+6A 01 74 00 ; 62: a result of char or nothing
+6A 00 01 73 ; 66: a result of nothing or string
+6A 00 00 ; 70: a result of nothing or nothing
+is
+11 record type of a: Bool, é: type 0,
+20 variant type of a: S8, b: nothing, : type 1,
+35 list type of S16
+37 tuple type of U16, type 2, S32,
+42 flags type of a, b,
+48 enum type of a, , b,
+55 option type of S64
+57 result type of U64 or type 6
+62 result type of Char or nothing
+66 result type of nothing or String
+70 result type of nothing or nothing
+
+types of values that linking refuses, and numbers that have more bytes than they need
+00 61 73 6D 0D 00 01 00 ; 0: the preamble
+07 36 0C ; 8: twelve types
+72 00 ; 11: a record of no fields
+71 80 00 ; 13: a variant of no cases
+6F 00 ; 16: a tuple of no places
+6E 80 80 80 80 00 ; 18: no flags
+6D 00 ; 24: an enum of no labels
+72 82 00 81 00 61 79 01 61 FF 00 ; 26: a record of `a`, a u32, and `a` of type 127
+6D 02 01 61 01 61 ; 37: an enum of `a` and `a`
+70 07 ; 43: a list of its own number
+70 3F ; 45: a list of type 63
+6B C0 00 ; 47: an option of type 64
+70 80 80 80 80 00 ; 50: a list of type 0
+6F 02 FF FF FF FF 0F 73 ; 56: a tuple of type 2^32 - 1 and string
+is
+11 record type of
+13 variant type of
+16 tuple type of
+18 flags type of
+24 enum type of
+26 record type of a: U32, a: type 127,
+37 enum type of a, a,
+43 list type of type 7
+45 list type of type 63
+47 option type of type 64
+50 list type of type 0
+56 tuple type of type 4294967295, String,
+
+types of values in functions and in instance types
+00 61 73 6D 0D 00 01 00 ; 0: the preamble
+07 28 02 ; 8: two types
+40 03 01 61 73 01 62 07 00 7D 00 74 ; 11: a function type from `a`, a string, `b` of type 7 and the empty label, a u8, to char
+42 05 01 72 01 01 61 7D 01 6B 00 01 6A 00 00 04 00 01 74 03 00 01 01 40 00 00 03 ; 23: an instance type of five declarations
+is
+11 function type from a: String, b: type 7, : U8, to Char
+23 instance type of record type of a: U8,; option type of type 0; result type of nothing or nothing; export t: TypeEq(1); function type from to type 3; end
+
+flags of 33 labels
+00 61 73 6D 0D 00 01 00 ; 0: the preamble
+07 45 01 ; 8: a type
+6E 21 01 66 01 66 01 66 01 66 01 66 01 66 01 66 01 66 01 66 01 66 01 66 01 66 01 66 01 66 01 66 01 66 01 66 01 66 01 66 01 66 01 66 01 66 01 66 01 66 01 66 01 66 01 66 01 66 01 66 01 66 01 66 01 66 01 66 ; 11: 33 times `f`
+is
+11 flags type of f, f, f, f, f, f, f, f, f, f, f, f, f, f, f, f, f, f, f, f, f, f, f, f, f, f, f, f, f, f, f, f, f,
+
+lifts with options
+00 61 73 6D 0D 00 01 00 ; 0: the preamble
+08 2C 05 ; 8: five canonical functions
+00 00 00 01 00 01 ; 11: the lift of core function 0 to type 1, in UTF-8
+00 00 03 04 05 80 01 04 02 03 00 00 04 ; 17: that of core function 3 to type 4, with every option
+00 00 00 03 00 00 00 00 ; 30: one with UTF-8 three times
+00 00 00 02 03 07 03 81 00 00 ; 38: one with memories 7 and 1
+00 00 00 80 00 00 ; 48: one with none
+is
+11 lift of core function 0 at type 1, utf8
+17 lift of core function 3 at type 4, post-return 128, realloc 2, memory 0, utf8
+30 lift of core function 0 at type 0, utf8, utf8, utf8
+38 lift of core function 0 at type 0, memory 7, memory 1
+48 lift of core function 0 at type 0
+
 sections without instances and imports
 00 61 73 6D 0D 00 01 00 ; 0: the preamble
 05 01 00 ; 8: no instances
@@ -222,14 +336,125 @@ an export that is to be a resource | sections | 0B 09 01 00 01 74 03 00 01 03 01
 a section of values | sections | 0C 01 00 | 8 Unsupported(12)
 an instance that the file cuts off | sections | 05 02 01 | 11 Truncated
 an import that the file cuts off | sections | 0A 06 01 00 01 61 01 | 15 Truncated
+a type of own handles | sections | 07 03 01 69 00 | 11 Unsupported(105)
+a type of borrowed handles | sections | 07 03 01 68 00 | 11 Unsupported(104)
+a type of streams | sections | 07 03 01 66 00 | 11 Unsupported(102)
+a type of futures | sections | 07 03 01 65 00 | 11 Unsupported(101)
+a type of error contexts | sections | 07 02 01 64 | 11 Unsupported(100)
+a type of lists of a fixed length | sections | 07 04 01 67 79 04 | 11 Unsupported(103)
+a type of maps | sections | 07 04 01 63 79 79 | 11 Unsupported(99)
+a type 6C, between those of options and enums | sections | 07 03 01 6C 79 | 11 Unsupported(108)
+an index in the place of a type | sections | 07 03 02 79 00 | 12 Unsupported(0)
+a primitive type in two bytes | sections | 07 03 01 F9 7F | 11 Unsupported(249)
+a list type in two bytes | sections | 07 04 01 F0 7F 79 | 11 Unsupported(240)
+a type of own handles in an instance type | sections | 07 06 01 42 01 01 69 00 | 14 Unsupported(105)
+a type of streams in an instance type | sections | 07 06 01 42 01 01 66 00 | 14 Unsupported(102)
+a list without a type | sections | 07 02 01 70 | 12 SectionSize
+a list of 32-bit floats | sections | 07 03 01 70 76 | 12 Float
+a list of 64-bit floats | sections | 07 03 01 70 75 | 12 Float
+a list of a primitive type in two bytes | sections | 07 04 01 70 F3 7F | 12 Unsupported(243)
+a list of floats in two bytes | sections | 07 04 01 70 F6 7F | 12 Unsupported(246)
+a list of the index -1 in five bytes | sections | 07 07 01 70 FF FF FF FF 7F | 12 Unsupported(255)
+a list of the index -2^32 | sections | 07 07 01 70 80 80 80 80 70 | 12 Unsupported(128)
+a list of lists, written in one type | sections | 07 04 01 70 70 79 | 12 Unsupported(112)
+a list of records, written in one type | sections | 07 04 01 70 72 00 | 12 Unsupported(114)
+a list of functions, written in one type | sections | 07 06 01 70 40 00 01 00 | 12 Unsupported(64)
+a list of instances, written in one type | sections | 07 04 01 70 42 00 | 12 Unsupported(66)
+a list of own handles | sections | 07 04 01 70 69 00 | 12 Unsupported(105)
+a list of error contexts | sections | 07 03 01 70 64 | 12 Unsupported(100)
+a list of an index whose fifth byte is too large | sections | 07 07 01 70 80 80 80 80 10 | 16 Leb
+a list of an index whose fifth byte goes on | sections | 07 08 01 70 80 80 80 80 80 00 | 16 Leb
+a list of a negative index whose fifth byte is too small | sections | 07 07 01 70 80 80 80 80 6F | 16 Leb
+a list of an index that its section cuts off | sections | 07 03 01 70 80 | 13 SectionSize
+an option without a type | sections | 07 02 01 6B | 12 SectionSize
+an option of 64-bit floats | sections | 07 03 01 6B 75 | 12 Float
+an option of streams | sections | 07 04 01 6B 66 00 | 12 Unsupported(102)
+an option of an option, written in one type | sections | 07 04 01 6B 6B 79 | 12 Unsupported(107)
+a byte behind an option | sections | 07 04 01 6B 79 00 | 13 SectionSize
+a record without a count | sections | 07 02 01 72 | 12 SectionSize
+a number of fields whose fifth byte is too large | sections | 07 07 01 72 80 80 80 80 10 | 16 Leb
+2^32 - 1 fields | sections | 07 07 01 72 FF FF FF FF 0F | 17 SectionSize
+a field without a label | sections | 07 03 01 72 01 | 13 SectionSize
+a field without a type | sections | 07 05 01 72 01 01 61 | 15 SectionSize
+a field whose label is not UTF-8 | sections | 07 07 01 72 01 02 61 FF 79 | 15 Utf8
+a field whose label is not UTF-8, before a type of floats | sections | 07 06 01 72 01 01 C3 76 | 14 Utf8
+the length of a field's label whose fifth byte is too large | sections | 07 08 01 72 01 80 80 80 80 10 | 17 Leb
+a field of 32-bit floats | sections | 07 06 01 72 01 01 61 76 | 15 Float
+a second field of borrowed handles | sections | 07 09 01 72 02 01 61 79 01 62 68 | 18 Unsupported(104)
+a byte behind a record | sections | 07 04 01 72 00 00 | 13 SectionSize
+a record of floats in an instance type | sections | 07 09 01 42 01 01 72 01 01 61 76 | 18 Float
+a variant without a count | sections | 07 02 01 71 | 12 SectionSize
+a number of cases whose fifth byte is too large | sections | 07 07 01 71 80 80 80 80 10 | 16 Leb
+2^32 - 1 cases | sections | 07 07 01 71 FF FF FF FF 0F | 17 SectionSize
+a case with nothing behind its label | sections | 07 05 01 71 01 01 61 | 15 SectionSize
+a case whose label is not UTF-8 | sections | 07 07 01 71 01 01 80 00 00 | 14 Utf8
+a case that neither has a payload nor has none | sections | 07 08 01 71 01 01 61 02 79 00 | 15 Unsupported(2)
+a payload without a byte before it | sections | 07 07 01 71 01 01 61 79 00 | 15 Unsupported(121)
+a case without a payload that ends with another byte | sections | 07 07 01 71 01 01 61 00 01 | 16 Unsupported(1)
+a case with a payload that ends with another byte | sections | 07 08 01 71 01 01 61 01 79 01 | 17 Unsupported(1)
+a case that refines another one | sections | 07 0C 01 71 02 01 61 00 00 01 62 00 01 00 | 20 Unsupported(1)
+a case without its last byte | sections | 07 07 01 71 01 01 61 01 79 | 17 SectionSize
+a payload of 32-bit floats | sections | 07 08 01 71 01 01 61 01 76 00 | 16 Float
+a payload of futures | sections | 07 08 01 71 01 01 61 01 65 00 | 16 Unsupported(101)
+a payload of an index whose fifth byte is too large | sections | 07 0B 01 71 01 01 61 01 80 80 80 80 20 | 20 Leb
+a tuple without a count | sections | 07 02 01 6F | 12 SectionSize
+a number of places whose fifth byte is too large | sections | 07 07 01 6F 80 80 80 80 10 | 16 Leb
+2^32 - 1 places | sections | 07 07 01 6F FF FF FF FF 0F | 17 SectionSize
+a place of floats behind another one | sections | 07 05 01 6F 02 79 75 | 14 Float
+a place of futures | sections | 07 05 01 6F 01 65 00 | 13 Unsupported(101)
+one place of two | sections | 07 04 01 6F 02 79 | 14 SectionSize
+flags without a count | sections | 07 02 01 6E | 12 SectionSize
+2^32 - 1 flags | sections | 07 07 01 6E FF FF FF FF 0F | 17 SectionSize
+a flag that is not UTF-8 | sections | 07 07 01 6E 02 01 61 01 FF | 16 Utf8
+the length of a flag whose fifth byte is too large | sections | 07 08 01 6E 01 80 80 80 80 10 | 17 Leb
+one flag of two | sections | 07 05 01 6E 02 01 61 | 15 SectionSize
+an enum without a count | sections | 07 02 01 6D | 12 SectionSize
+2^32 - 1 cases of an enum | sections | 07 07 01 6D FF FF FF FF 0F | 17 SectionSize
+a case of an enum that is not UTF-8 | sections | 07 06 01 6D 01 02 C0 80 | 14 Utf8
+a case of an enum of 2^32 - 1 bytes | sections | 07 08 01 6D 01 FF FF FF FF 0F | 18 SectionSize
+a byte behind an enum | sections | 07 06 01 6D 01 01 61 00 | 15 SectionSize
+a result without anything | sections | 07 02 01 6A | 12 SectionSize
+a result whose success is neither 00 nor 01 | sections | 07 04 01 6A 02 00 | 12 Unsupported(2)
+a result whose failure is neither 00 nor 01 | sections | 07 04 01 6A 00 02 | 13 Unsupported(2)
+a success without a byte before it | sections | 07 04 01 6A 79 00 | 12 Unsupported(121)
+a success of 32-bit floats | sections | 07 05 01 6A 01 76 00 | 13 Float
+a failure of 64-bit floats | sections | 07 06 01 6A 01 79 01 75 | 15 Float
+a success of borrowed handles | sections | 07 06 01 6A 01 68 00 00 | 13 Unsupported(104)
+a result without its failure | sections | 07 04 01 6A 01 79 | 14 SectionSize
+a failure without its type | sections | 07 04 01 6A 00 01 | 14 SectionSize
+a failure of an index whose fifth byte is too large | sections | 07 09 01 6A 00 01 FF FF FF FF 10 | 18 Leb
+a parameter of own handles | sections | 07 08 01 40 01 01 61 69 01 00 | 15 Unsupported(105)
+a result of streams | sections | 07 05 01 40 00 00 66 | 14 Unsupported(102)
+a result of a primitive type in two bytes | sections | 07 06 01 40 00 00 F4 7F | 14 Unsupported(244)
+an option of text in UTF-16 | sections | 08 07 01 00 00 00 01 01 00 | 15 Unsupported(1)
+an option of text in Latin-1 or UTF-16 | sections | 08 07 01 00 00 00 01 02 00 | 15 Unsupported(2)
+an option of asynchronous lifts | sections | 08 07 01 00 00 00 01 06 00 | 15 Unsupported(6)
+a callback | sections | 08 08 01 00 00 00 01 07 00 00 | 15 Unsupported(7)
+an option 08 | sections | 08 07 01 00 00 00 01 08 00 | 15 Unsupported(8)
+a third option that is a callback | sections | 08 0B 01 00 00 00 03 00 03 00 07 00 00 | 18 Unsupported(7)
+an option of a memory without its index | sections | 08 06 01 00 00 00 01 03 | 16 SectionSize
+an option of a realloc without its index | sections | 08 06 01 00 00 00 01 04 | 16 SectionSize
+an option of a post-return without its index | sections | 08 06 01 00 00 00 01 05 | 16 SectionSize
+the index of a memory whose fifth byte is too large | sections | 08 0C 01 00 00 00 01 03 80 80 80 80 10 00 | 20 Leb
+the index of a realloc whose fifth byte is too large | sections | 08 0C 01 00 00 00 01 04 80 80 80 80 10 00 | 20 Leb
+the index of a post-return whose fifth byte goes on | sections | 08 0D 01 00 00 00 01 05 80 80 80 80 80 00 00 | 20 Leb
+one option of two | sections | 08 06 01 00 00 00 02 00 | 16 SectionSize
+a lift with options without a type | sections | 08 08 01 00 00 00 02 00 03 00 | 18 SectionSize
+a byte behind a lift with options | sections | 08 08 01 00 00 00 01 00 00 00 | 17 SectionSize
+a list that the file cuts off | sections | 07 03 01 70 | 12 Truncated
+a record that the file cuts off | sections | 07 06 01 72 01 01 61 | 15 Truncated
+an option of a lift that the file cuts off | sections | 08 08 01 00 00 00 01 03 | 16 Truncated
+a list of floats in a component | sections | 04 0D 00 61 73 6D 0D 00 01 00 07 03 01 70 76 | 22 Float
+a case that ends with another byte in a component | sections | 04 11 00 61 73 6D 0D 00 01 00 07 07 01 71 01 01 61 00 03 | 26 Unsupported(3)
+a variant that passes its section in a component | sections | 04 0F 00 61 73 6D 0D 00 01 00 07 05 01 71 01 01 61 07 01 00 | 25 SectionSize
 ";
 
 #[test]
 fn items_are_read(rt: HostRuntime) -> Result<(), Fail> {
-    check_paragraphs::<InLines>(rt.alloc(), READ, 7)
+    check_paragraphs::<InLines>(rt.alloc(), READ, 13)
 }
 
 #[test]
 fn items_are_refused(rt: HostRuntime) -> Result<(), Fail> {
-    check_lines::<InLine>(rt.alloc(), REFUSED, "| ", 100)
+    check_lines::<InLine>(rt.alloc(), REFUSED, "| ", 211)
 }
