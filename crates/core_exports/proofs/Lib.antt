@@ -1,4 +1,5 @@
 pub mod Behind
+pub mod FirstTypes
 pub mod Fit
 pub mod Named
 pub mod Passed

@@ -1,4 +1,4 @@
 pub mod Held
-pub mod Items
+pub mod Kinds
 pub mod Module
 pub mod Source

@@ -5,10 +5,9 @@ ghost use Rattle.std.specs.List.{slice_get};
 ghost use Rattle.wasm_module.specs.declared.module.ModuleTree.{ModuleTree};
 ghost use Rattle.comp_graph.specs.declared.graph.CoreRef.{CoreRef};
 ghost use Rattle.comp_graph.specs.CoreItems as items;
-ghost use Rattle.comp_graph.specs.CoreItems.{extern_of};
+ghost use Rattle.comp_graph.specs.CoreItems.{core_of, extern_of, func_part};
 ghost use Rattle.comp_linking.specs.Tests as tests;
 ghost use Rattle.comp_linking.specs.Tests.{is_of_core_sort, is_core_of, core_fits};
-ghost use Rattle.core_exports.specs.Items.{core_of, func_part};
 
 use comp_graph::{CoreExtern, CoreRef};
 use comp_tree::{CoreSort, Sort};
@@ -177,6 +176,14 @@ impl<'a> CoreItem<'a> {
             Held::Global(global_type) => fits_global(global_type, desc),
         }
     }
+}
+
+/// The item of an index.
+pub fn item_at<'a>(items: &[CoreItem<'a>], index: u32) -> Option<CoreItem<'a>>
+    ensures { result ≡ slice_get items.now index }
+{
+    let item = items.get(index as usize)?;
+    Some(item.again())
 }
 
 /// Whether a function of this type is what is asked for.

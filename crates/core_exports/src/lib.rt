@@ -9,7 +9,8 @@
 //! - `inline_exports` and `exports`: what core instances export
 //! - `arguments` and `imports`: what a core module that is instantiated is passed for its imports
 //! - `aliases`: what an alias of an export of a core instance stands for
-//! - `flat`: whether the core function of a lift has the flat type
+//! - `options`: the options of lifts, and what they give
+//! - `needs`: whether core items can be lifted with it
 //! - `names`: names that stand twice, and names that are not there
 #![tactic(auto)]
 
@@ -18,16 +19,18 @@ mod arguments;
 mod core_item;
 mod core_module;
 mod exports;
-mod flat;
 mod imports;
 mod inline_exports;
 mod names;
+mod needs;
+mod options;
 
 pub use aliases::aliased;
-pub use core_item::CoreItem;
+pub use core_item::{CoreItem, item_at};
 pub use core_module::CoreModule;
 pub use exports::CoreExports;
-pub use flat::is_flat;
 pub use imports::{externs_of, imports_passed};
 pub use inline_exports::{InlineExport, InlineExports};
 pub use names::{are_distinct, missing};
+pub use needs::can_be_lifted;
+pub use options::{Given, are_there, stand_once};

@@ -1,0 +1,39 @@
+-- The first core types of a function type tell what its lift needs.
+use Rattle.std.proofs.Common.{◌≡◌, ◌<◌, ◌≤◌, ℕ, Bool, true, false, List, length, take, map, refl, ap, ◌∙◌, arith}
+use Rattle.std.specs.Prelude.{nat_le, nat_lt}
+use Rattle.std.proofs.lemmas.List.{length-take, take_all}
+use Rattle.std.proofs.lemmas.Bool.{leb-true, leb-false, lt-leb}
+use Rattle.std.proofs.lemmas.Bool.Decides.{nat_tests}
+use Rattle.ca_types.specs.declared.core_type.CoreType.{CoreType}
+use Rattle.ca_types.specs.declared.types.FuncType.{FuncType}
+use Rattle.ca_types.specs.Flat.{at_most, flat_params, flat_payload}
+use Rattle.comp_graph.specs.Needs.{core_val, lifted_type}
+use Rattle.type_tables.specs.declared.laid_func.LaidFunc.{LaidFunc}
+use Rattle.type_tables.specs.Laid.{IsLaid}
+
+-- whether there are more than so many
+more_than : (n m : ℕ) (ts : List CoreType) → n < m → nat_lt n (length (take m ts)) ≡ nat_lt n (length ts)
+more_than n m ts h = let e = length-take m ts in grind (arith, nat_tests)
+
+-- which are passed, where at most so many are
+first_passed : (n m : ℕ) (ts : List CoreType) → n < m → at_most n (take m ts) ≡ at_most n ts
+first_passed n m ts h = by (nat_le (length ts) n) refl
+  where
+    by : (b : Bool) → nat_le (length ts) n ≡ b → at_most n (take m ts) ≡ at_most n ts
+    by true e = let few : length ts ≤ m = omega (arith, leb-true (length ts) n e) in ap (at_most n) (take_all m ts few)
+    by false e =
+        let many : n < length ts = leb-false (length ts) n e in
+        let long : n < length (take m ts) = omega (arith, length-take m ts) in
+        rw (lt-leb (length (take m ts)) n long, e) refl
+
+pub params_are : (laid : LaidFunc) (f : FuncType) → IsLaid laid f → map core_val (at_most 16 laid.params) ≡ (lifted_type f).params
+params_are laid f h = ap (λ (ts : List CoreType). map core_val (at_most 16 ts)) h.params ∙ ap (map core_val) (first_passed 16 17 (flat_params f) (omega arith))
+
+pub results_are : (laid : LaidFunc) (f : FuncType) → IsLaid laid f → map core_val (at_most 1 laid.returned) ≡ (lifted_type f).results
+results_are laid f h = ap (λ (ts : List CoreType). map core_val (at_most 1 ts)) h.returned ∙ ap (map core_val) (first_passed 1 17 (flat_payload f.result) (omega arith))
+
+pub many_params : (laid : LaidFunc) (f : FuncType) → IsLaid laid f → nat_lt 16 (length laid.params) ≡ nat_lt 16 (length (flat_params f))
+many_params laid f h = ap (λ (ts : List CoreType). nat_lt 16 (length ts)) h.params ∙ more_than 16 17 (flat_params f) (omega arith)
+
+pub many_results : (laid : LaidFunc) (f : FuncType) → IsLaid laid f → nat_lt 1 (length laid.returned) ≡ nat_lt 1 (length (flat_payload f.result))
+many_results laid f h = ap (λ (ts : List CoreType). nat_lt 1 (length ts)) h.returned ∙ more_than 1 17 (flat_payload f.result) (omega arith)

@@ -1,0 +1,166 @@
+//! What lifts need, and whether core items can be lifted with what is given.
+
+ghost use Rattle.std.specs.Prelude.{◌≡◌, map, true};
+ghost use Rattle.std.specs.Option.{option_map_or};
+ghost use Rattle.ca_types.specs.declared.types.FuncType.{FuncType};
+ghost use Rattle.ca_types.specs.Flat.{at_most};
+ghost use Rattle.wasm_module.specs.SameTypes.{same_type, same_types};
+ghost use Rattle.comp_graph.specs.Needs as needs;
+ghost use Rattle.comp_graph.specs.Needs.{core_val, lifted_type, realloc_type, post_return_type};
+ghost use Rattle.comp_linking.specs.Canons as canons;
+ghost use Rattle.comp_linking.specs.Canons.{is_of_core_type};
+ghost use Rattle.type_tables.specs.Laid.{IsLaid};
+
+use crate::core_item::CoreItem;
+use crate::options::Given;
+use ca_types::CoreType;
+use type_tables::LaidFunc;
+use wasm_module::{ValType, are_same};
+
+/// How many core values are passed as core parameters; more are passed in memory.
+const PARAM_LIMIT: usize = 16;
+
+/// How many core values are passed as core results; more are passed in memory.
+const RESULT_LIMIT: usize = 1;
+
+/// Whether a type of core values is a flat type.
+fn is_flat_type(val_type: ValType, flat: CoreType) -> bool
+    ensures { result ≡ same_type val_type (core_val flat) }
+{
+    match flat {
+        CoreType::I32 => val_type.is_same(ValType::I32),
+        CoreType::I64 => val_type.is_same(ValType::I64),
+    }
+}
+
+/// Whether types of core values are flat types.
+fn are_flat_types(val_types: &[ValType], flat: &[CoreType]) -> bool
+    ensures { result ≡ same_types val_types.now (map core_val flat.now) }
+{
+    if val_types.len() != flat.len() {
+        return false;
+    }
+    for at in 0..val_types.len() {
+        if !is_flat_type(val_types[at], flat[at]) {
+            return false;
+        }
+    }
+    true
+}
+
+/// Whether types of core values are those in which values of flat types are passed: of more than so many it is one place in memory.
+fn are_passed(val_types: &[ValType], flat: &[CoreType], most: usize) -> bool
+    ensures { result ≡ same_types val_types.now (map core_val (at_most most flat.now)) }
+{
+    if flat.len() <= most {
+        return are_flat_types(val_types, flat);
+    }
+    are_same(val_types, &[ValType::I32])
+}
+
+/// Whether types of core values are those of the parameters of what is lifted.
+#[tactic(auto, using(crate::proofs::FirstTypes::params_are))]
+fn are_params(laid: &LaidFunc, val_types: &[ValType]) -> bool
+    ensures { (f : FuncType) → IsLaid laid.now f → result ≡ same_types val_types.now (lifted_type f).params }
+{
+    are_passed(val_types, laid.params.as_slice(), PARAM_LIMIT)
+}
+
+/// Whether types of core values are those of the results of what is lifted.
+#[tactic(auto, using(crate::proofs::FirstTypes::results_are))]
+fn are_results(laid: &LaidFunc, val_types: &[ValType]) -> bool
+    ensures { (f : FuncType) → IsLaid laid.now f → result ≡ same_types val_types.now (lifted_type f).results }
+{
+    are_passed(val_types, laid.returned.as_slice(), RESULT_LIMIT)
+}
+
+/// Whether an item is a core function of the type of what is lifted.
+fn is_lifted(laid: &LaidFunc, item: &CoreItem<'_>) -> bool
+    ensures { (f : FuncType) → IsLaid laid.now f → result ≡ is_of_core_type (lifted_type f) item.now }
+{
+    match item.func_type() {
+        Some(of_core) => {
+            are_params(laid, of_core.params.as_slice())
+                && are_results(laid, of_core.results.as_slice())
+        }
+        None => false,
+    }
+}
+
+/// Whether an item is a core function of the type of those that give places in memory.
+fn is_realloc(item: &CoreItem<'_>) -> bool
+    ensures { result ≡ is_of_core_type realloc_type item.now }
+{
+    let place = ValType::I32;
+    match item.func_type() {
+        Some(of_core) => {
+            are_same(of_core.params.as_slice(), &[place, place, place, place])
+                && are_same(of_core.results.as_slice(), &[place])
+        }
+        None => false,
+    }
+}
+
+/// Whether an item is a core function of the type of those that are called when the result was lifted.
+fn is_post_return(laid: &LaidFunc, item: &CoreItem<'_>) -> bool
+    ensures { (f : FuncType) → IsLaid laid.now f → result ≡ is_of_core_type (post_return_type f) item.now }
+{
+    match item.func_type() {
+        Some(of_core) => {
+            are_results(laid, of_core.params.as_slice())
+                && are_same(of_core.results.as_slice(), &[])
+        }
+        None => false,
+    }
+}
+
+/// Whether what is to give places in memory can do so, where it is given.
+fn realloc_fits(given: &Given<'_>) -> bool
+    ensures { result ≡ option_map_or (is_of_core_type realloc_type) given.now.realloc true }
+{
+    match &given.realloc {
+        Some(item) => is_realloc(item),
+        None => true,
+    }
+}
+
+/// Whether what is to be called when the result was lifted can be called so, where it is given.
+fn post_return_fits(laid: &LaidFunc, given: &Given<'_>) -> bool
+    ensures { (f : FuncType) → IsLaid laid.now f → result ≡ option_map_or (is_of_core_type (post_return_type f)) given.now.post_return true }
+{
+    match &given.post_return {
+        Some(item) => is_post_return(laid, item),
+        None => true,
+    }
+}
+
+/// Whether the lift passes something in memory.
+#[tactic(auto, using(crate::proofs::FirstTypes::many_params, crate::proofs::FirstTypes::many_results))]
+fn needs_memory(laid: &LaidFunc) -> bool
+    ensures { (f : FuncType) → IsLaid laid.now f → result ≡ needs.needs_memory f }
+{
+    laid.params.len() > PARAM_LIMIT
+        || laid.returned.len() > RESULT_LIMIT
+        || laid.params_hold_list
+        || laid.result_holds_list
+}
+
+/// Whether the lift asks for places in memory.
+#[tactic(auto, using(crate::proofs::FirstTypes::many_params))]
+fn needs_realloc(laid: &LaidFunc) -> bool
+    ensures { (f : FuncType) → IsLaid laid.now f → result ≡ needs.needs_realloc f }
+{
+    laid.params.len() > PARAM_LIMIT || laid.params_hold_list
+}
+
+/// Whether a core item can be lifted to a function of a type, with what options give (Component Model, CanonicalABI.md, `canon
+/// lift`). It takes no longer for a function of many parameters.
+pub fn can_be_lifted(laid: &LaidFunc, item: &CoreItem<'_>, given: &Given<'_>) -> bool
+    ensures { (f : FuncType) → IsLaid laid.now f → result ≡ canons.can_be_lifted f item.now given.now }
+{
+    is_lifted(laid, item)
+        && realloc_fits(given)
+        && post_return_fits(laid, given)
+        && (!needs_memory(laid) || given.memory.is_some())
+        && (!needs_realloc(laid) || given.realloc.is_some())
+}
