@@ -211,7 +211,7 @@ def over_doubled(count):
 
 
 def small_tuples(count):
-    """So many types, each a tuple of two earlier ones, no two of them equal."""
+    """So many tuples of eight earlier types, no two of them equal."""
     made = [b"\x7d", b"\x79"] + [formats.tuple_of([formats.u32(index % 2), formats.u32(index // 2 % 2)]) for index in range(4)]
     parts = [formats.u32(index) for index in range(6)]
     made += [formats.tuple_of([parts[index // 6 ** place % 6] for place in range(8)]) for index in range(count)]
