@@ -148,18 +148,6 @@ lists_grow t instances old new i entries are puts told = λ other others found. 
 pub listed_there : (old new : FuncLists) (i : InstanceRef) (entries : List (ℕ × LiftedRef)) → Updates instance_cmp old.lists new.lists i (Some entries) → IsSome (listed_at new i)
 listed_there old new i entries puts = subst (λ (o : Option (List (ℕ × LiftedRef))). IsSome o) (sym puts.1) refl
 
--- A function, as it can be called.
-pub func_made : (t : Table) (entry : ℕ × LiftedRef) (front text : List ℕ) (e : List ℕ × Lifted) (c : Callable)
-    → IsFuncEntry t entry e → slice_get t.texts entry.0 ≡ Some text
-    → c.name ≡ front ++ text → c.func.instance ≡ entry.1.instance → c.func.core ≡ entry.1.core → ((f : FuncType) → IsFunc t entry.1.func_type f → c.func.func_type ≡ f) → c ∷ [] ≡ named_behind front e
-func_made t entry front text e c (named, lifted) there name instance core type =
-    let same : text ≡ e.0 = (let both : Some text ≡ Some e.0 = sym there ∙ named in cc) in
-    let n : c.name ≡ front ++ e.0 = name ∙ ap (λ text. front ++ text) same in
-    let a : c.func.instance ≡ e.1.instance = instance ∙ sym lifted.instance in
-    let b : c.func.core ≡ e.1.core = core ∙ sym lifted.core in
-    let k : c.func.func_type ≡ e.1.func_type = type e.1.func_type lifted.func_type in
-    λ x. (let made : Callable = record { name = n x; func = record { instance = a x; core = b x; func_type = k x } } in made) ∷ []
-
 -- An export of the root that can be called.
 pub called_func : (t : Table) (w : World) (number : ℕ) (ref : DefinitionRef) (r : LiftedRef) (e : List ℕ × Definition) (funcs old : List Callable) → func_ref ref ≡ Some r → IsEntry t w (number, ref) e
     → ((f : List ℕ × Lifted) → IsFuncEntry t (number, r) f → funcs ≡ old ++ named_behind [] f) → funcs ≡ old ++ called e

@@ -26,7 +26,7 @@ kept_whole t w scope s h = record { types = h.types; components = h.components; 
 
 module _ (t u : Table) (v w : World) (types : Grows t u) (world : WorldStays v w) where
   lifted_stays : (ref : LiftedRef) (f : Lifted) → IsLifted t ref f → IsLifted u ref f
-  lifted_stays ref f h = record { instance = h.instance; core = h.core; func_type = func_stays t u types ref.func_type f.func_type h.func_type }
+  lifted_stays ref f h = record { instance = h.instance; core = h.core; options = h.options; func_type = func_stays t u types ref.func_type f.func_type h.func_type }
 
   given_stays : (o : Option InstanceRef) (given : Option Exports) → AreGiven t v o given → AreGiven u w o given
   given_stays None None h = tt

@@ -56,7 +56,7 @@ case_sets l n s (Item-F.Component c) new e = set_by l n _ new e
 case_sets l n s (Item-F.Instance i) new h = instance_sets l n s i new h
 case_sets l n s (Item-F.Alias alias) new h = alias_sets l n s alias.sort alias.target new h
 case_sets l n s (Item-F.Type type) new (closed, is, within, e) = set_by l n _ new e
-case_sets l n s (Item-F.Canon (Lift f t)) new (ref, of_core, type, is, of_type, flat, within, e) = set_by l n _ new e
+case_sets l n s (Item-F.Canon (Lift f options t)) new (item, type, is, there, of_type, once, lifts, within, e) = set_by l n _ new e
 case_sets l n s (Item-F.Import i) new (extern, d, is, fresh, imported, e) = set_by l n _ new e
 case_sets l n s (Item-F.Export x) new (d, y, is, fresh, exported, e) = set_by l n _ new e
 

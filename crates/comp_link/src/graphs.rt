@@ -34,13 +34,14 @@ impl Model for Callable {
     ghost use Rattle.std.specs.Coded.{codes};
     ghost use Rattle.ca_types.specs.contracts.types.FuncType as type_row;
     ghost use Rattle.comp_graph.specs.contracts.graph.CoreRef as core_row;
+    ghost use Rattle.comp_graph.specs.contracts.graph.Options as options_row;
     ghost use Rattle.comp_linking.specs.Linked as linked;
 
     ghost Value = { linked.Callable };
 
-    ghost coded = { Prim.hlevel (codes, type_row.the_row.coded, core_row.the_row.coded) };
+    ghost coded = { Prim.hlevel (codes, type_row.the_row.coded, core_row.the_row.coded, options_row.the_row.coded) };
 
-    ghost view = { λ c. record { name = c.export.name; func = record { instance = c.lift.instance; core = c.lift.core; func_type = c.export.func_type } } };
+    ghost view = { λ c. record { name = c.export.name; func = record { instance = c.lift.instance; core = c.lift.core; options = c.lift.options; func_type = c.export.func_type } } };
 }
 
 impl Callable {
@@ -91,6 +92,7 @@ fn func_named(
     let lift = Lift {
         instance: lifted.instance,
         core: lifted.core,
+        options: lifted.options,
     };
     Ok(Some(Callable { export, lift }))
 }

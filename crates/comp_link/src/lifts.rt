@@ -14,61 +14,73 @@ use crate::link_fault::ItemError;
 use crate::linker::Linker;
 use ca_base::MemoryOr;
 use comp_linking::{LinkWhy, Reach};
-use comp_tree::CoreSort;
-use core_exports::{CoreItem, is_flat};
+use comp_tree::{CanonOption, CoreSort};
+use core_exports::{CoreItem, Given, are_there, can_be_lifted, stand_once};
 use instance_tables::{DefinitionRef, LiftedRef};
 use type_tables::{FuncTypeRef, TypeRef, Types};
 
-/// The lift of a core item to a function of this type, in the component instance of this number, where linking goes so far.
+/// The lift of a core item to a function of this type, with what options give, in the component instance of this number, where
+/// linking goes so far.
 fn lifted_to(
     types: &Types<'_>,
     reach: Reach,
     n: usize,
     item: &CoreItem<'_>,
+    options: &[CanonOption],
+    given: &Given<'_>,
     func_type: FuncTypeRef,
 ) -> Result<LiftedRef, ItemError>
-    ensures { (f : FuncType) → IsFunc types.now func_type f → IsTold (IsLifted types.now) result (lifted_to reach n f item.now) }
+    ensures { (f : FuncType) → IsFunc types.now func_type f → IsTold (IsLifted types.now) result (lifted_to reach n f item.now options.now given.now) }
 {
-    let Some(of_core) = item.func_type() else {
+    if !stand_once(options) {
+        return Err(MemoryOr::Fault(LinkWhy::Canon));
+    }
+    let Some(laid) = types.laid_func(func_type) else {
         return Err(MemoryOr::Fault(LinkWhy::Canon));
     };
+    if !can_be_lifted(laid, item, given) {
+        return Err(MemoryOr::Fault(LinkWhy::Canon));
+    }
     let Some(closed) = types.func_at(func_type) else {
         return Err(MemoryOr::Fault(LinkWhy::Canon));
     };
-    if !is_flat(closed.get(), of_core) {
-        return Err(MemoryOr::Fault(LinkWhy::Canon));
-    }
-    if !reach.has_lift(closed.get()) {
+    if !reach.has_lift(options, closed.get()) {
         return Err(MemoryOr::Fault(LinkWhy::Limit));
     }
     Ok(LiftedRef {
         instance: n,
         core: item.core(),
+        options: given.options(),
         func_type,
     })
 }
 
-/// The lift of the core function of an index to a function of the type of an index.
+/// The lift of the core function of an index, with options, to a function of the type of an index.
 fn lifted(
     linker: &Linker<'_>,
     n: usize,
     core_func: u32,
+    options: &[CanonOption],
     func_type: u32,
 ) -> Result<LiftedRef, ItemError>
     requires { n < length linker.now.scopes.items }
-    ensures { (bases : List Exports) (l : Linking) (s : Spaces) → IsAt bases linker.now n l s → IsTold (IsLifted linker.now.types) result (lifted_of l.reach n s core_func func_type) }
+    ensures { (bases : List Exports) (l : Linking) (s : Spaces) → IsAt bases linker.now n l s → IsTold (IsLifted linker.now.types) result (lifted_of l.reach n s core_func options.now func_type) }
 {
     let scope = linker.scope(n);
     let Some(item) = scope.core_item(CoreSort::Func, core_func) else {
         return Err(MemoryOr::Fault(LinkWhy::Index));
     };
+    if !are_there(options, &scope.core_memories, &scope.core_funcs) {
+        return Err(MemoryOr::Fault(LinkWhy::Index));
+    }
     let Some(of_type) = scope.type_at(func_type) else {
         return Err(MemoryOr::Fault(LinkWhy::Index));
     };
     let TypeRef::Func(of_func) = of_type else {
         return Err(MemoryOr::Fault(LinkWhy::Typing));
     };
-    lifted_to(&linker.types, linker.reach, n, &item, of_func)
+    let given = Given::by(options, &scope.core_memories, &scope.core_funcs);
+    lifted_to(&linker.types, linker.reach, n, &item, options, &given, of_func)
 }
 
 /// Links a lift.
@@ -76,14 +88,15 @@ pub fn link_lift(
     linker: &mut Linker<'_>,
     n: usize,
     core_func: u32,
+    options: &[CanonOption],
     func_type: u32,
 ) -> Result<(), ItemError>
     requires { n < length linker.old.scopes.items }
-    ensures made { (bases : List Exports) (l : Linking) (s : Spaces) → IsAt bases linker.old n l s → IsTold (λ _ outcome. IsMade linker.new outcome) result (lift_outcome l n s core_func func_type) }
+    ensures made { (bases : List Exports) (l : Linking) (s : Spaces) → IsAt bases linker.old n l s → IsTold (λ _ outcome. IsMade linker.new outcome) result (lift_outcome l n s core_func options.now func_type) }
     ensures scopes { OnOk result (length linker.new.scopes.items ≡ length linker.old.scopes.items) }
     ensures live { OnOk result (ended linker.new ≡ ended linker.old) }
 {
-    let lifted = lifted(linker, n, core_func, func_type)?;
+    let lifted = lifted(linker, n, core_func, options, func_type)?;
     linker.add(n, DefinitionRef::Func(lifted))?;
     Ok(())
 }

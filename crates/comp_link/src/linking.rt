@@ -103,9 +103,10 @@ fn link_item<'a>(
         Item::Canon(
             Canon::Lift {
                 core_func,
+                options,
                 func_type,
             },
-        ) => next(link_lift(linker, n, *core_func, *func_type)),
+        ) => next(link_lift(linker, n, *core_func, options.as_slice(), *func_type)),
         Item::Import(import) => next(link_import(alloc, linker, n, import)),
         Item::Export(export) => next(link_export(alloc, linker, n, export)),
     }

@@ -18,7 +18,7 @@ ghost use Rattle.comp_link.specs.State.{IsModule, IsScope, IsKept, AreGiven};
 use ca_base::{Name, Seq, adds};
 use ca_types::Shared;
 use comp_tree::{Component, CoreSort, Sort};
-use core_exports::{CoreExports, CoreItem};
+use core_exports::{CoreExports, CoreItem, item_at};
 use instance_tables::{DefinitionRef, InstanceRef, LiftedRef};
 use std::alloc::{AllocError, Global};
 use std::collections::BTreeSet;
@@ -384,14 +384,6 @@ impl<'a> Scope<'a> {
         self.add(definition)?;
         Ok(())
     }
-}
-
-/// The core item of an index.
-fn item_at<'a>(items: &[CoreItem<'a>], index: u32) -> Option<CoreItem<'a>>
-    ensures { result ≡ slice_get items.now index }
-{
-    let item = items.get(index as usize)?;
-    Some(item.again())
 }
 
 /// The item of an index, which is copied.
