@@ -18,7 +18,8 @@ use Rattle.ca_types.specs.declared.types.Param.{Param}
 use Rattle.ca_types.specs.declared.types.FuncType.{FuncType}
 use Rattle.ca_types.specs.declared.exports.Export.{Export}
 use Rattle.comp_graph.specs.declared.graph.Lift.{Lift}
-use Rattle.comp_graph.specs.Graph.{Lifted, Graph, lifted_as, func_at, func_named, is_i32, is_u32, result_count, flat_limit, is_flat, LiftsCore, IsCallable}
+use Rattle.comp_graph.specs.Graph.{Lifted, Graph, lifted_as, func_at, func_named, is_i32, is_u32, result_count, is_flat, LiftsCore, IsCallable}
+use Rattle.comp_graph.specs.Needs.{flat_param_limit}
 use Rattle.abi_machine.specs.World.{Starting, Running}
 use Rattle.abi_machine.specs.Machine.{lowered}
 use Rattle.abi_machine.specs.Kept.{IsOfGraph, StateKept}
@@ -34,7 +35,7 @@ record IsFlat (type : FuncType) (of_core : core.FuncType) : Type 0 where
 
 flat : (type : FuncType) (of_core : core.FuncType) → is_flat type of_core ≡ true → IsFlat type of_core
 flat type of_core h =
-    let few : Bool = nat_le (length type.params) flat_limit in
+    let few : Bool = nat_le (length type.params) flat_param_limit in
     let us : Bool = list_all (λ (p : Param). is_u32 p.val_type) type.params in
     let u : Bool = option_map_or is_u32 type.result true in
     let cp : Bool = nat_eq (length of_core.params) (length type.params) in

@@ -3,10 +3,10 @@
 -- lifts a core function of an instance. What can be run so far is over u32 alone, and without options.
 use Rattle.std.specs.Prelude.{◌≡◌, ℕ, Bool, true, false, ◌&&◌, ◌==◌, nat_le, List, [], ◌∷◌, ◌++◌, length, map, Option, None, Some, IfSome, IsSome}
 use Rattle.std.specs.List.{slice_get, list_all, AllByRecursion, AllZip}
-use Rattle.std.specs.Option.{option_and_then, option_map, option_map_or}
+use Rattle.std.specs.Option.{option_and_then, option_map_or}
 use Rattle.ca_base.specs.Names.{first_named}
 use Rattle.ca_types.specs.declared.types.ValType.{ValType, out-ValType}
-use Rattle.ca_types.specs.declared.types.ValType.TheOpen.{ValType-F, Field-F, Case-F}
+use Rattle.ca_types.specs.declared.types.ValType.TheOpen.{ValType-F}
 use Rattle.ca_types.specs.declared.types.FuncType.{FuncType}
 use Rattle.ca_types.specs.declared.exports.Export.{Export}
 use Rattle.wasm_module.specs.declared.types.ValType as core_val
@@ -21,7 +21,7 @@ use Rattle.comp_graph.specs.declared.graph.Action.{Action}
 use Rattle.comp_graph.specs.declared.graph.Options.{Options}
 use Rattle.comp_graph.specs.declared.graph.Lift.{Lift}
 use Rattle.comp_graph.specs.CoreItems.{CoreItem, Func, Table, Memory, Global, extern_of, table_space, memory_space, CoreFits}
-use Rattle.comp_graph.specs.Needs.{lifted_type, realloc_type, post_return_type, needs_memory, needs_realloc}
+use Rattle.comp_graph.specs.Needs.{flat_param_limit, lifted_type, realloc_type, post_return_type, needs_memory, needs_realloc}
 
 -- a core instance: its module, what its module's imports are, in order, and the component instance that makes it
 pub record CoreMake : Type 0 where
@@ -92,15 +92,11 @@ abbrev pub result_count : Option ValType → ℕ
 result_count None = 0
 result_count (Some type) = 1
 
--- how many parameters are passed as core parameters; more are passed in memory
-abbrev pub flat_limit : ℕ
-flat_limit = 16
-
 -- The core type is that of the lift of a function of this type without options: an i32 for each parameter and for the
 -- result, which are u32. Without a memory no parameters are passed in it.
 abbrev pub is_flat : FuncType → core.FuncType → Bool
 is_flat type of_core =
-    nat_le (length type.params) flat_limit
+    nat_le (length type.params) flat_param_limit
     && list_all (λ p. is_u32 p.val_type) type.params && option_map_or is_u32 type.result true
     && length of_core.params == length type.params && list_all is_i32 of_core.params
     && length of_core.results == result_count type.result && list_all is_i32 of_core.results

@@ -1,6 +1,6 @@
 -- What a lift needs of core definitions (Component Model, CanonicalABI.md, "Flattening" and `canon lift`): the types of the core
 -- functions that it uses, and when it uses a memory and a function that gives places in it.
-use Rattle.std.specs.Prelude.{ℕ, Bool, ◌||◌, nat_lt, List, [], ◌∷◌, length, map}
+use Rattle.std.specs.Prelude.{ℕ, Bool, ◌||◌, nat_lt, [], ◌∷◌, length, map}
 use Rattle.ca_types.specs.declared.core_type.CoreType.{CoreType}
 use Rattle.ca_types.specs.declared.core_type.CoreType.TheVariants as flat_type
 use Rattle.ca_types.specs.declared.core_type.CoreFunc.{CoreFunc}

@@ -2,7 +2,7 @@
 //!
 //! Linking makes a graph, and what runs a component reads it: which component instances begin and which core modules are
 //! instantiated, in which order, what their imports are, and which functions can be called. `specs/Graph` says what a graph is
-//! and when its functions can be called, and `specs/CoreItems` what core instances have.
+//! and when its functions can be called, `specs/CoreItems` what core instances have, and `specs/Needs` what lifts need of them.
 //!
 //! - `graph`: the graph
 #![tactic(auto)]

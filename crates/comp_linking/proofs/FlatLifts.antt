@@ -19,8 +19,8 @@ use Rattle.ca_types.specs.Flat.{flat, flat_step, flat_case, flat_field, flat_par
 use Rattle.laid_types.specs.Lists.{has_list, list_step, held_list}
 use Rattle.comp_graph.specs.declared.graph.Lift.{Lift}
 use Rattle.comp_graph.specs.declared.graph.Options.{Options}
-use Rattle.comp_graph.specs.Needs.{core_val, lifted_type, hold_list, needs_memory}
-use Rattle.comp_graph.specs.Graph.{CoreMake, no_options, is_i32, is_u32, is_u32_case, result_count, flat_limit, is_flat, LiftsCore, IsLiftThere}
+use Rattle.comp_graph.specs.Needs.{flat_param_limit, core_val, lifted_type, hold_list, needs_memory}
+use Rattle.comp_graph.specs.Graph.{CoreMake, no_options, is_i32, is_u32, is_u32_case, result_count, is_flat, LiftsCore, IsLiftThere}
 use Rattle.comp_linking.specs.Runs.{runs_lift}
 use Rattle.comp_linking.proofs.SameValues.{never, both, and}
 use Rattle.comp_linking.proofs.Telling.{not_less}
@@ -70,30 +70,30 @@ equal a b h = grind (arith, nat_tests)
 kept_flat : (most : ℕ) (types : List CoreType) → length types ≤ most → at_most most types ≡ types
 kept_flat most types h = rw (is_at_most (length types) most h) refl
 
-few : (b hold held : Bool) (count : ℕ) → ((nat_lt flat_limit count || b || hold || held) ≡ true → ⊥) → count ≤ flat_limit
-few b hold held count none = by (nat_lt flat_limit count) refl
+few : (b hold held : Bool) (count : ℕ) → ((nat_lt flat_param_limit count || b || hold || held) ≡ true → ⊥) → count ≤ flat_param_limit
+few b hold held count none = by (nat_lt flat_param_limit count) refl
   where
-    by : (more : Bool) → nat_lt flat_limit count ≡ more → count ≤ flat_limit
+    by : (more : Bool) → nat_lt flat_param_limit count ≡ more → count ≤ flat_param_limit
     by true e = absurd (none (rw e refl))
-    by false e = not_less flat_limit count e
+    by false e = not_less flat_param_limit count e
 
 result_fits : (returned : Option ValType) → result_count returned ≤ 1
 result_fits None = omega arith
 result_fits (Some type) = omega arith
 
 -- a core type of so many parameters and results, all i32
-flat_is : (type : FuncType) → list_all (λ p. is_u32 p.val_type) type.params ≡ true → option_map_or is_u32 type.result true ≡ true → length type.params ≤ flat_limit
+flat_is : (type : FuncType) → list_all (λ p. is_u32 p.val_type) type.params ≡ true → option_map_or is_u32 type.result true ≡ true → length type.params ≤ flat_param_limit
     → (params results : List CoreType) → AreI32 (length type.params) params → AreI32 (result_count type.result) results
     → is_flat type (record { params = map core_val params; results = map core_val results }) ≡ true
 flat_is type us u low params results p r =
-    let a = nat_le (length type.params) flat_limit in
+    let a = nat_le (length type.params) flat_param_limit in
     let b = list_all (λ (p : Param). is_u32 p.val_type) type.params in
     let c = option_map_or is_u32 type.result true in
     let d = length (map core_val params) == length type.params in
     let e = list_all is_i32 (map core_val params) in
     let f = length (map core_val results) == result_count type.result in
     let g = list_all is_i32 (map core_val results) in
-    let first = and (a && b) c (and a b (is_at_most (length type.params) flat_limit low) us) u in
+    let first = and (a && b) c (and a b (is_at_most (length type.params) flat_param_limit low) us) u in
     let second = and (a && b && c && d) e (and (a && b && c) d first (equal (length (map core_val params)) (length type.params) (length-map params core_val ∙ p.so_many))) p.i32 in
     and (a && b && c && d && e && f) g (and (a && b && c && d && e) f second (equal (length (map core_val results)) (result_count type.result) (length-map results core_val ∙ r.so_many))) r.i32
 
@@ -101,11 +101,11 @@ lifted_flat : (type : FuncType) → list_all (λ p. is_u32 p.val_type) type.para
 lifted_flat type us u none =
     let params = params_flat type.params us in
     let results = result_flat type.result u in
-    let low : length (flat_params type) ≤ flat_limit = few (nat_lt 1 (length (flat_payload type.result))) (hold_list type) (held_list type.result) (length (flat_params type)) none in
+    let low : length (flat_params type) ≤ flat_param_limit = few (nat_lt 1 (length (flat_payload type.result))) (hold_list type) (held_list type.result) (length (flat_params type)) none in
     let count : length (flat_params type) ≡ length type.params = params.so_many in
     let one : length (flat_payload type.result) ≤ 1 = (let same = results.so_many in let fits = result_fits type.result in omega (arith, same, fits)) in
-    flat_is type us u (omega (arith, low, count)) (at_most flat_limit (flat_params type)) (at_most 1 (flat_payload type.result))
-    (subst (AreI32 (length type.params)) (sym (kept_flat flat_limit (flat_params type) low)) params)
+    flat_is type us u (omega (arith, low, count)) (at_most flat_param_limit (flat_params type)) (at_most 1 (flat_payload type.result))
+    (subst (AreI32 (length type.params)) (sym (kept_flat flat_param_limit (flat_params type) low)) params)
     (subst (AreI32 (result_count type.result)) (sym (kept_flat 1 (flat_payload type.result) one)) results)
 
 pub lifts_core : (cores : List CoreMake) (type : FuncType) (lift : Lift) → IsLiftThere cores type lift → lift.options ≡ no_options → runs_lift [] type ≡ true → LiftsCore cores type lift

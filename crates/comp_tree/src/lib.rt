@@ -3,7 +3,7 @@
 //! A component is its items, in file order, each with its place. The reader of the binary format makes the tree, and linking
 //! gives it its meaning. Both stand on this crate, and neither on the other.
 //!
-//! - `items`: components, their items, and canonical functions
+//! - `items`: components, their items, and canonical functions with their options
 //! - `core_instances`: core instances
 //! - `instances`: instances and aliases
 //! - `types`: types as they are written

@@ -25,7 +25,8 @@ use Rattle.value_reader.specs.Laws.{SoundValuesAreSmall}
 use Rattle.comp_graph.specs.declared.graph.CoreRef.{CoreRef}
 use Rattle.comp_graph.specs.declared.graph.Lift.{Lift}
 use Rattle.comp_graph.specs.Graph as graph
-use Rattle.comp_graph.specs.Graph.{CoreMake, Graph, Lifted, lifted_as, func_named, names, core_type, is_i32, is_u32, is_u32_case, result_count, flat_limit, is_flat, LiftsCore, IsCallable}
+use Rattle.comp_graph.specs.Graph.{CoreMake, Graph, Lifted, lifted_as, func_named, names, core_type, is_i32, is_u32, is_u32_case, result_count, is_flat, LiftsCore, IsCallable}
+use Rattle.comp_graph.specs.Needs.{flat_param_limit}
 use Rattle.script_reader.specs.declared.script.Call.{Call}
 use Rattle.script_reader.specs.declared.script.Item.TheVariants as item
 use Rattle.script_reader.specs.Script.{export_named, CallsExport}
@@ -139,7 +140,7 @@ pub record Flat (type : FuncType) (of_core : core.FuncType) : Type 0 where
 
 pub flat : (type : FuncType) (of_core : core.FuncType) → is_flat type of_core ≡ true → Flat type of_core
 flat type of_core h =
-    let low = nat_le (length type.params) flat_limit in
+    let low = nat_le (length type.params) flat_param_limit in
     let us = list_all (λ (p : Param). is_u32 p.val_type) type.params in
     let u = option_map_or is_u32 type.result true in
     let cp = nat_eq (length of_core.params) (length type.params) in

@@ -94,7 +94,8 @@ fn is_there(option: CanonOption, memories: usize, funcs: usize) -> bool
     }
 }
 
-/// Whether what options name is there, among these core memories and core functions.
+/// Whether what options name is there, among these core memories and core functions (Component Model, Explainer.md, "Canonical
+/// Definitions").
 pub fn are_there(options: &[CanonOption], memories: &[CoreItem<'_>], funcs: &[CoreItem<'_>]) -> bool
     ensures { (s : Spaces) → s.core_memories ≡ memories.now → s.core_funcs ≡ funcs.now → result ≡ list_all (is_option_there s) options.now }
 {
@@ -106,8 +107,8 @@ pub fn are_there(options: &[CanonOption], memories: &[CoreItem<'_>], funcs: &[Co
     true
 }
 
-/// What the options of a canonical function give it: the memory, the core function that gives places in it, and the core function
-/// that is called when the result was lifted.
+/// What the options of a canonical function give it (Component Model, CanonicalABI.md, "Canonical ABI Options"): the memory, the
+/// core function that gives places in it, and the core function that is called when the result was lifted.
 #[derive(Drop)]
 pub struct Given<'a> {
     pub(crate) memory: Option<CoreItem<'a>>,

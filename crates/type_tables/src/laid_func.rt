@@ -18,7 +18,7 @@ use ca_types::CoreType;
 use std::alloc::{AllocError, Global};
 use value_tables::ValueTypes;
 
-/// How many core types are kept: one more than a function may have parameters, so that "too many" can be told.
+/// How many core types are kept: one more than are passed as core parameters, so that "too many" can be told.
 const MOST_KEPT: usize = 17;
 
 /// What lifts ask of a function type (Component Model, CanonicalABI.md, "Flattening").
