@@ -80,7 +80,15 @@ fn lifted(
         return Err(MemoryOr::Fault(LinkWhy::Typing));
     };
     let given = Given::by(options, &scope.core_memories, &scope.core_funcs);
-    lifted_to(&linker.types, linker.reach, n, &item, options, &given, of_func)
+    lifted_to(
+        &linker.types,
+        linker.reach,
+        n,
+        &item,
+        options,
+        &given,
+        of_func,
+    )
 }
 
 /// Links a lift.

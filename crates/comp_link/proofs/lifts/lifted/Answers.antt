@@ -33,7 +33,7 @@ returns-in_default-type_at c =
     λ bases l s at.
     let scope = c.scope-scope.ensures bases l s at in
     let are : list_all (is_option_there s) c.args.options.now ≡ true =
-        sym (c.are_there.ensures s (scope.core_memories ∙ sym c.deref.ensures.value) (scope.core_funcs ∙ sym c.deref-2.ensures.value)) ∙ c.if-not-are_there.false in
+    sym (c.are_there.ensures s (scope.core_memories ∙ sym c.deref.ensures.value) (scope.core_funcs ∙ sym c.deref-2.ensures.value)) ∙ c.if-not-are_there.false in
     reason_is why.Index (lifted_of l.reach c.args.n s c.args.core_func c.args.options.now c.args.func_type)
     (no_type l.reach c.args.n s c.args.core_func c.args.options.now c.args.func_type c.in-Some.item (sym (c.in-Some.ensures c.args.linker.now.types (world_of bases c.args.linker.now) s scope)) are
     (c.in_default-type_at.ensures c.args.linker.now.types (world_of bases c.args.linker.now) s (kept_whole c.args.linker.now.types (world_of bases c.args.linker.now) c.scope-scope.result.now s scope)))
@@ -43,7 +43,7 @@ returns-in_default-of_type c =
     λ bases l s at.
     let scope = c.scope-scope.ensures bases l s at in
     let are : list_all (is_option_there s) c.args.options.now ≡ true =
-        sym (c.are_there.ensures s (scope.core_memories ∙ sym c.deref.ensures.value) (scope.core_funcs ∙ sym c.deref-2.ensures.value)) ∙ c.if-not-are_there.false in
+    sym (c.are_there.ensures s (scope.core_memories ∙ sym c.deref.ensures.value) (scope.core_funcs ∙ sym c.deref-2.ensures.value)) ∙ c.if-not-are_there.false in
     let type = c.in-Some-type_at.ensures c.args.linker.now.types (world_of bases c.args.linker.now) s (kept_whole c.args.linker.now.types (world_of bases c.args.linker.now) c.scope-scope.result.now s scope) in
     reason_is why.Typing (lifted_of l.reach c.args.n s c.args.core_func c.args.options.now c.args.func_type)
     (other_type l.reach c.args.n s c.args.core_func c.args.options.now c.args.func_type c.in-Some.item (sym (c.in-Some.ensures c.args.linker.now.types (world_of bases c.args.linker.now) s scope)) are
@@ -54,7 +54,7 @@ returns c =
     λ bases l s at.
     let scope = c.scope-scope.ensures bases l s at in
     let are : list_all (is_option_there s) c.args.options.now ≡ true =
-        sym (c.are_there.ensures s (scope.core_memories ∙ sym c.deref.ensures.value) (scope.core_funcs ∙ sym c.deref-2.ensures.value)) ∙ c.if-not-are_there.false in
+    sym (c.are_there.ensures s (scope.core_memories ∙ sym c.deref.ensures.value) (scope.core_funcs ∙ sym c.deref-2.ensures.value)) ∙ c.if-not-are_there.false in
     let type = c.in-Some-type_at.ensures c.args.linker.now.types (world_of bases c.args.linker.now) s (kept_whole c.args.linker.now.types (world_of bases c.args.linker.now) c.scope-scope.result.now s scope) in
     let f = of_func_type c.args.linker.now.types c.in-Func.of_func type.0 (subst (λ (ref : TypeRef). IsType c.args.linker.now.types ref type.0) c.in-Func.is type.2) in
     let given = c.by-given.ensures s (scope.core_memories ∙ sym c.deref-3.ensures.value) (scope.core_funcs ∙ sym c.deref-4.ensures.value) in
