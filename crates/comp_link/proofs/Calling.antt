@@ -9,12 +9,11 @@ use Rattle.std.proofs.lemmas.List.{take_more, take_all}
 use Rattle.std.proofs.lemmas.Grind.{flat_map-append}
 use Rattle.std.proofs.lemmas.Option.{get_or_from_slice_get}
 use Rattle.std.proofs.lemmas.Slice.Zip.{AllZip-long}
-use Rattle.ca_types.specs.declared.types.FuncType.{FuncType}
 use Rattle.comp_linking.specs.Definitions.{Lifted, Definition, AFunc, AType, AComponent, AnInstance, AModule, Exports, EmptyInstance, WithExport}
 use Rattle.comp_graph.specs.Graph.{Graph}
 use Rattle.comp_linking.specs.Spaces.{Spaces, Linking}
 use Rattle.comp_linking.specs.Linked.{Callable, funcs_behind, called, callables, export_of, lift_of, exports_or, exports_at, graph_of}
-use Rattle.type_tables.specs.Table.{Table, IsFunc}
+use Rattle.type_tables.specs.Table.{Table}
 use Rattle.instance_tables.specs.declared.references.LiftedRef.{LiftedRef}
 use Rattle.instance_tables.specs.declared.references.InstanceRef.{InstanceRef}
 use Rattle.instance_tables.specs.declared.references.DefinitionRef.{DefinitionRef}

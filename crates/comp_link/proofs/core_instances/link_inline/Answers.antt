@@ -1,4 +1,4 @@
-use Rattle.std.proofs.Common.{◌≡◌, List, refl, subst}
+use Rattle.std.proofs.Common.{◌≡◌, List, subst}
 use Rattle.std.proofs.lemmas.Result.{err_from_is_err_and}
 use Rattle.comp_linking.specs.Definitions.{CoreExport}
 use Rattle.comp_linking.specs.Spaces.{with_core_instance, with_spaces}

@@ -1,4 +1,3 @@
-use Rattle.std.proofs.Common.{refl}
 use Rattle.std.proofs.lemmas.Result.{err_from_is_err_and}
 use Rattle.comp_linking.specs.Definitions.{AFunc}
 use Rattle.comp_linking.specs.Spaces.{with_definition, with_spaces}
