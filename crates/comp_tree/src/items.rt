@@ -32,6 +32,13 @@ pub enum Canon {
         /// The index of the function's type.
         func_type: u32,
     },
+    /// The core function that a function is lowered to.
+    Lower {
+        /// The index of the function.
+        func: u32,
+        /// The options, in order.
+        options: Seq<CanonOption>,
+    },
 }
 
 /// An item of a component. Each one adds an index to the space of its sort. Custom sections are no items.
