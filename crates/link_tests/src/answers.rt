@@ -4,7 +4,9 @@
 //! go in one place.
 
 use ca_base::{MemoryOr, ReadError, Refusal};
-use comp_graph::{Action, CoreExtern, CoreMake, CoreRef, Graph, Lift, Options};
+use comp_graph::{
+    Action, CanonFunc, CoreExtern, CoreMake, CoreRef, FuncRef, Graph, Lift, Lower, Options,
+};
 use comp_link::{LinkFault, LinkWhy, Reach, link};
 use comp_reader::{Component, ComponentWhy, read_component};
 use std::alloc::{AllocError, Global};
@@ -20,10 +22,24 @@ fn write_ref(text: &mut String, core: CoreRef) -> Result<(), AllocError> {
     write!(text, "{instance}.{index}")
 }
 
+/// Writes which core function it is.
+fn write_func(text: &mut String, func: FuncRef) -> Result<(), AllocError> {
+    match func {
+        FuncRef::Instance(core) => write_ref(text, core),
+        FuncRef::Canon(number) => write!(text, "lower {number}"),
+    }
+}
+
+/// Writes an import that is a function.
+fn write_func_import(text: &mut String, func: FuncRef) -> Result<(), AllocError> {
+    text.push_str("func ")?;
+    write_func(text, func)
+}
+
 /// Writes an import.
 fn write_import(text: &mut String, import: CoreExtern) -> Result<(), AllocError> {
     let (word, core) = match import {
-        CoreExtern::Func(core) => ("func ", core),
+        CoreExtern::Func(func) => return write_func_import(text, func),
         CoreExtern::Table(core) => ("table ", core),
         CoreExtern::Memory(core) => ("memory ", core),
         CoreExtern::Global(core) => ("global ", core),
@@ -70,31 +86,67 @@ fn write_plan(text: &mut String, plan: &[Action]) -> Result<(), AllocError> {
     text.push('\n')
 }
 
-/// Writes a definition that a lift uses behind what it is used as, if there is one.
-fn write_used(text: &mut String, word: &str, used: Option<CoreRef>) -> Result<(), AllocError> {
+/// Writes the memory that is used, if there is one.
+fn write_memory(text: &mut String, used: Option<CoreRef>) -> Result<(), AllocError> {
     match used {
         Some(core) => {
-            write!(text, " {word} ")?;
+            text.push_str(" memory ")?;
             write_ref(text, core)
         }
         None => Ok(()),
     }
 }
 
-/// Writes what a lift uses beside its core function.
+/// Writes a core function that is used behind what it is used as, if there is one.
+fn write_used(text: &mut String, word: &str, used: Option<FuncRef>) -> Result<(), AllocError> {
+    match used {
+        Some(func) => {
+            write!(text, " {word} ")?;
+            write_func(text, func)
+        }
+        None => Ok(()),
+    }
+}
+
+/// Writes what a lift or a lower uses beside its function.
 fn write_options(text: &mut String, options: Options) -> Result<(), AllocError> {
-    write_used(text, "memory", options.memory)?;
+    write_memory(text, options.memory)?;
     write_used(text, "realloc", options.realloc)?;
     write_used(text, "post-return", options.post_return)
 }
 
-/// Writes an export, in a line.
-fn write_export(text: &mut String, name: &str, lift: Lift) -> Result<(), AllocError> {
+/// Writes what a function lifts, to the end of the line.
+fn write_lift(text: &mut String, lift: Lift) -> Result<(), AllocError> {
     let instance = lift.instance;
-    write!(text, "export {name} {instance} ")?;
-    write_ref(text, lift.core)?;
+    write!(text, "{instance} ")?;
+    write_func(text, lift.core)?;
     write_options(text, lift.options)?;
     text.push('\n')
+}
+
+/// Writes a function that is lowered, in a line.
+fn write_lower(text: &mut String, lower: &Lower) -> Result<(), AllocError> {
+    let instance = lower.instance;
+    write!(text, "lower {instance}")?;
+    write_options(text, lower.options)?;
+    text.push_str(" of ")?;
+    write_lift(text, lower.lift)
+}
+
+/// Writes each core function that the Canonical ABI makes.
+fn write_canons(text: &mut String, canons: &[CanonFunc]) -> Result<(), AllocError> {
+    for canon in canons {
+        match canon {
+            CanonFunc::Lower(lower) => write_lower(text, lower)?,
+        }
+    }
+    Ok(())
+}
+
+/// Writes an export, in a line.
+fn write_export(text: &mut String, name: &str, lift: Lift) -> Result<(), AllocError> {
+    write!(text, "export {name} ")?;
+    write_lift(text, lift)
 }
 
 /// Writes each export.
@@ -115,6 +167,7 @@ fn write_graph(text: &mut String, graph: &Graph<'_>) -> Result<(), AllocError> {
     }
     write_plan(text, graph.plan())?;
     write_cores(text, cores)?;
+    write_canons(text, graph.canons())?;
     write_exports(text, graph)
 }
 

@@ -29,6 +29,12 @@
 //! - `depth`: how deep types of values may be
 //! - `lift`: lifts to functions over each type of values
 //! - `canon`: the options of lifts
+//! - `lower`: functions that are lowered, their types and options, and what uses the core functions
+//!
+//! Answers tell a definition of a core instance as `INSTANCE.INDEX`, and a core function that a function is lowered to as
+//! `lower N`, where N is its number in the order of linking, from 0 on. Behind the lines of core instances there is a line
+//! `lower INSTANCE OPTIONS of LIFT` for each of these: the component instance that lowers the function, what it uses, told as
+//! behind an export, and what the function lifts, told as an export tells it behind its name.
 //!
 //! The module `components` has the bytes of cases, and `answers` the answers as text.
 #![tactic(auto)]
