@@ -1,4 +1,5 @@
-//! Examples of the definitions, worked out by hand. Those whose types are all u32 come to the same however far linking goes.
+//! Examples of the definitions, worked out by hand. Those whose types are all u32, and which lower nothing, come to the same
+//! however far linking goes.
 
 ghost use Rattle.std.specs.Prelude.{◌≡◌, [], ◌∷◌, Ok, codes};
 ghost use Rattle.comp_tree.specs.declared.instances.Sort.TheVariants as sorts;
