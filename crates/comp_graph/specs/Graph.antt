@@ -35,9 +35,8 @@ pub record CoreMake : Type 0 where
   pub imports : List CoreExtern
   pub owner : ℕ
 
--- What is made, in file order; how many component instances begin; the core instances, in order of making; the core functions
--- that the Canonical ABI makes, in file order; the functions that can be called, in order, and of each the core function that it
--- lifts.
+-- What is made, in file order; how many component instances begin; the core instances, and the core functions that the Canonical
+-- ABI makes, each in order of making; the functions that can be called, in order, and of each the core function that it lifts.
 pub record Graph : Type 0 where
   pub plan : List Action
   pub instance_count : ℕ
@@ -158,11 +157,6 @@ pub record IsLowerThere (cores : List CoreMake) (canons : List CanonFunc) (l : L
 abbrev pub IsCanonThere : List CoreMake → List CanonFunc → CanonFunc → Type 0
 IsCanonThere cores canons (canon_func.Lower l) = IsLowerThere cores canons l
 
--- So it is for each of them behind some others: each stands on those before it alone.
-abbrev pub AreCanonsThere : List CoreMake → List CanonFunc → List CanonFunc → Type 0
-AreCanonsThere cores before [] = Unit {0}
-AreCanonsThere cores before (f ∷ canons) = IsCanonThere cores before f × AreCanonsThere cores (before ++ f ∷ []) canons
-
 abbrev pub IsItem : List CoreMake → List CanonFunc → CoreItem → Type 0
 IsItem cores canons (Func (func_ref.Instance f) type) = IsIn cores f (λ m. type_of_func m f.index ≡ Some type)
 IsItem cores canons (Func (func_ref.Canon number) type) = option_map canon_type (slice_get canons number) ≡ Some type
@@ -182,3 +176,16 @@ pub record HasImports (before : List CoreMake) (canons : List CanonFunc) (core :
 abbrev pub AreImported : List CanonFunc → List CoreMake → List CoreMake → Type 0
 AreImported canons before [] = Unit {0}
 AreImported canons before (core ∷ cores) = HasImports before canons core × AreImported canons (before ++ core ∷ []) cores
+
+-- Core instances and core functions of the Canonical ABI that are made one behind the other: each stands on those alone that were
+-- made before it.
+pub data AreMade : List CoreMake → List CanonFunc → Type 0 where
+  none_made : AreMade [] []
+  instance_made : (cores : List CoreMake) (canons : List CanonFunc) (core : CoreMake)
+      → AreMade cores canons → HasImports cores canons core → AreMade (cores ++ core ∷ []) canons
+  canon_made : (cores : List CoreMake) (canons : List CanonFunc) (f : CanonFunc)
+      → AreMade cores canons → IsCanonThere cores canons f → AreMade cores (canons ++ f ∷ [])
+
+-- the type of the function that a core function of the Canonical ABI calls
+abbrev pub called_type : CanonFunc → FuncType
+called_type (canon_func.Lower l) = l.func_type

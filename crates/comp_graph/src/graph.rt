@@ -25,7 +25,7 @@ pub struct CoreRef {
 pub enum FuncRef {
     /// A function of a core instance.
     Instance(CoreRef),
-    /// The function that the canonical definition of this number makes, in file order.
+    /// The function that the canonical definition of this number makes, in order of making.
     Canon(usize),
 }
 
@@ -52,7 +52,7 @@ pub enum Action {
     Make(usize),
 }
 
-/// What a canonical function uses of core instances (Component Model, CanonicalABI.md, "Canonical ABI Options"). All texts are
+/// What a canonical function uses of core definitions (Component Model, CanonicalABI.md, "Canonical ABI Options"). All texts are
 /// in UTF-8.
 #[derive(Clone, Copy)]
 pub struct Options {
@@ -185,8 +185,8 @@ impl<'a> Model for Graph<'a> {
 }
 
 impl<'a> Graph<'a> {
-    /// The graph of so many component instances, these core instances in order of making, these core functions that the Canonical
-    /// ABI makes, in file order, and these exports with the core function of each.
+    /// The graph of so many component instances, these core instances and these core functions that the Canonical ABI makes, each
+    /// in order of making, and these exports with the core function of each.
     pub fn new(
         plan: Seq<Action>,
         instance_count: usize,
@@ -233,7 +233,7 @@ impl<'a> Graph<'a> {
         &self.cores
     }
 
-    /// The core functions that the Canonical ABI makes, in file order.
+    /// The core functions that the Canonical ABI makes, in order of making.
     pub fn canons(&self) -> &[CanonFunc]
         ensures { result.now ≡ self.now.canons }
     {

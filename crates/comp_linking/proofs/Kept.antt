@@ -15,7 +15,7 @@ use Rattle.comp_graph.specs.declared.graph.Lower as graph
 use Rattle.comp_graph.specs.declared.graph.CanonFunc.{CanonFunc}
 use Rattle.comp_graph.specs.declared.graph.CanonFunc.TheVariants.{Lower}
 use Rattle.comp_graph.specs.CoreItems.{CoreItem, Func, Table, Memory, Global, table_space, memory_space}
-use Rattle.comp_graph.specs.Graph.{CoreMake, canon_type, core_type, IsMemoryThere, IsLiftThere, IsLowerThere, IsCanonThere, AreCanonsThere, IsIn, IsItem, HasImports, AreImported}
+use Rattle.comp_graph.specs.Graph.{CoreMake, canon_type, core_type, IsMemoryThere, IsLiftThere, IsIn, IsItem, HasImports, AreImported}
 use Rattle.comp_graph.specs.Needs.{lifted_type, realloc_type, post_return_type}
 use Rattle.comp_linking.proofs.Holding.{all_weaker, if_weaker, kept_at}
 
@@ -75,25 +75,7 @@ kept_lift cores more canons others func_type lift h = record {
   realloc_given = h.realloc_given;
 }
 
--- One core instance more. What the Canonical ABI makes stands on it as before.
-kept_lower : (cores more : List CoreMake) (canons others : List CanonFunc) (l : graph.Lower) → IsLowerThere cores canons l → IsLowerThere (cores ++ more) (canons ++ others) l
-kept_lower cores more canons others l h = record {
-  lift = kept_lift cores more canons others l.func_type l.lift h.lift;
-  memory = kept_memory cores more l.options.memory h.memory;
-  realloc = kept_func cores more canons others realloc_type l.options.realloc h.realloc;
-  post_return = h.post_return;
-  memory_given = h.memory_given;
-  realloc_given = h.realloc_given;
-}
-
-kept_canon : (cores more : List CoreMake) (canons others : List CanonFunc) (f : CanonFunc) → IsCanonThere cores canons f → IsCanonThere (cores ++ more) (canons ++ others) f
-kept_canon cores more canons others (Lower l) h = kept_lower cores more canons others l h
-
-pub kept_canons : (cores more : List CoreMake) (before canons : List CanonFunc) → AreCanonsThere cores before canons → AreCanonsThere (cores ++ more) before canons
-kept_canons cores more before [] h = tt
-kept_canons cores more before (f ∷ canons) h =
-    (subst (λ (before : List CanonFunc). IsCanonThere (cores ++ more) before f) (append-nil before) (kept_canon cores more before [] f h.0), kept_canons cores more (before ++ f ∷ []) canons h.1)
-
+-- One core instance more.
 pub imported_behind : (canons : List CanonFunc) (before cores : List CoreMake) (core : CoreMake) → AreImported canons before cores → HasImports (before ++ cores) canons core → AreImported canons before (cores ++ core ∷ [])
 imported_behind canons before [] core h k = (subst (λ (cores : List CoreMake). HasImports cores canons core) (append-nil before) k, tt)
 imported_behind canons before (first ∷ cores) core h k =
@@ -113,8 +95,3 @@ kept_imports before canons others core h = record {
 pub kept_imported : (canons others : List CanonFunc) (before cores : List CoreMake) → AreImported canons before cores → AreImported (canons ++ others) before cores
 kept_imported canons others before [] h = tt
 kept_imported canons others before (core ∷ cores) h = (kept_imports before canons others core h.0, kept_imported canons others (before ++ core ∷ []) cores h.1)
-
-pub canon_behind : (cores : List CoreMake) (before canons : List CanonFunc) (f : CanonFunc) → AreCanonsThere cores before canons → IsCanonThere cores (before ++ canons) f → AreCanonsThere cores before (canons ++ f ∷ [])
-canon_behind cores before [] f h k = (subst (λ (canons : List CanonFunc). IsCanonThere cores canons f) (append-nil before) k, tt)
-canon_behind cores before (first ∷ canons) f h k =
-    (h.0, canon_behind cores (before ++ first ∷ []) canons f h.1 (subst (λ (canons : List CanonFunc). IsCanonThere cores canons f) (sym (append_assoc before (first ∷ []) canons)) k))

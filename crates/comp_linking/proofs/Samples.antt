@@ -1,5 +1,5 @@
 -- Small components, item by item: items are taken by their outer layers, and types by their folds.
-use Rattle.std.proofs.Common.{◌≡◌, ◌∙◌, sym, ap, refl, ℕ, Bool, true, map, List, [], ◌∷◌, Some}
+use Rattle.std.proofs.Common.{◌≡◌, ◌∙◌, sym, ap, refl, ℕ, Bool, true, false, map, List, [], ◌∷◌, Some}
 use Rattle.std.specs.Prelude.{Ok, Result, codes}
 use Rattle.ca_types.specs.declared.core_type.CoreType.{CoreType}
 use Rattle.ca_types.specs.declared.core_type.CoreType.TheVariants.{I32}
@@ -10,7 +10,9 @@ use Rattle.ca_types.specs.declared.types.ValType.TheFolds.{fold-roll-ValType}
 use Rattle.ca_types.specs.Ends.{end_case, end_field}
 use Rattle.ca_types.specs.Flat.{flat, flat_step, flat_case, flat_field}
 use Rattle.laid_types.specs.Lists.{has_list, list_step}
+use Rattle.wasm_module.specs.declared.types.ValType.TheVariants as core
 use Rattle.comp_graph.specs.Graph.{Graph, no_options}
+use Rattle.comp_graph.specs.Needs.{lifted_type, lowered_type, needs_memory, lift_needs_realloc, lower_needs_realloc}
 use Rattle.comp_tree.specs.declared.instances.Sort.TheVariants as sorts
 use Rattle.comp_tree.specs.declared.externs.ExternDesc.{ExternDesc}
 use Rattle.comp_tree.specs.declared.externs.ExternDesc.TheVariants as desc
@@ -44,7 +46,7 @@ use Rattle.comp_linking.specs.Same.{same_val}
 use Rattle.comp_linking.proofs.Depths.{leaf_depth}
 use Rattle.comp_linking.proofs.FlatLifts.{u32_flat, u32_holds_no_list}
 use Rattle.comp_linking.proofs.SameValues.{val_told}
-use Rattle.comp_linking.specs.Examples.{root, fault, u32, of_types, import, outer, export_type, wanting, instantiate, giving_both, begins, of_one, make_with_absent, lifting, lifting_twice, with_memory, callable_as, lowering, lowering_string, passing, passed}
+use Rattle.comp_linking.specs.Examples.{root, fault, u32, of_types, import, outer, export_type, wanting, instantiate, giving_both, begins, of_one, make_with_absent, lifting, lifting_twice, with_memory, callable_as, lowering, lowering_string, taking_string, giving_string, passing, passed}
 
 pub value_rolled : (type : DefValType) (levels : List Level) → meaning_of (plain_type.Value type) levels ≡ value_meaning (types_around levels) type
 value_rolled type levels =
@@ -193,3 +195,19 @@ no_realloc inside = simp (layers, string_flat, string_holds_list) refl
 
 pub post_return : (inside : Run) (reach : Reach) → answer_of (run inside (root_begun reach) 0 (root (lowering 0 (option.PostReturn 0 ∷ []))).items) ≡ fault 6 why.Canon
 post_return inside reach = simp layers refl
+
+-- what lifts and lowers of functions of strings need
+pub string_needs_memory : needs_memory taking_string ≡ true
+string_needs_memory = simp (string_flat, string_holds_list) refl
+
+pub string_needs_no_place : lower_needs_realloc taking_string ≡ false
+string_needs_no_place = refl
+
+pub string_needs_place : lift_needs_realloc taking_string ≡ true
+string_needs_place = simp (string_flat, string_holds_list) refl
+
+pub string_lowered : lowered_type giving_string ≡ record { params = core.I32 ∷ []; results = [] }
+string_lowered = rw string_flat refl
+
+pub string_lifted : lifted_type giving_string ≡ record { params = []; results = core.I32 ∷ [] }
+string_lifted = rw string_flat refl

@@ -7,7 +7,7 @@ use Rattle.ca_types.specs.declared.exports.Export.{Export}
 use Rattle.wasm_module.specs.declared.module.ModuleTree.{ModuleTree}
 use Rattle.comp_graph.specs.declared.graph.Lift.{Lift}
 use Rattle.comp_graph.specs.declared.graph.CanonFunc.{CanonFunc}
-use Rattle.comp_graph.specs.Graph.{Graph, LiftsCore, IsLiftThere, AreCanonsThere, IsCallable, AreImported}
+use Rattle.comp_graph.specs.Graph.{Graph, LiftsCore, IsLiftThere, IsCallable, AreImported, AreMade, none_made, called_type}
 use Rattle.comp_tree.specs.declared.items.Item.{Item, out-Item}
 use Rattle.comp_tree.specs.declared.items.Component.{Component}
 use Rattle.comp_linking.specs.declared.reach.Reach.{Reach}
@@ -18,7 +18,7 @@ use Rattle.comp_linking.specs.Linked.{Begins, begun, exports_or, exports_at, wit
 use Rattle.comp_linking.specs.Distinct.{HasDistinctLabels}
 use Rattle.comp_linking.specs.Shallow.{HasShallowTypes}
 use Rattle.comp_linking.specs.Standing.{StandsIn, stands_behind}
-use Rattle.comp_linking.specs.Laws.{GraphsAreImported, GraphsAreCallable, LiftsAreThere, CanonsAreThere, LabelsAreDistinct, TypesAreShallow, ModulesStand}
+use Rattle.comp_linking.specs.Laws.{GraphsAreImported, GraphsAreCallable, LiftsAreThere, GraphsAreMade, LabelsAreDistinct, TypesAreShallow, LoweredTypesAreSound, ModulesStand}
 use Rattle.comp_linking.proofs.Holding.{all_push, all_both, all_at, all_mapped, all_weaker, holds_at}
 use Rattle.comp_linking.proofs.FlatLifts.{lifts_core}
 use Rattle.comp_linking.proofs.Modules.{ModulesHave, shape_has}
@@ -73,7 +73,8 @@ module _ (R : ModuleTree → Type 0) (reach : Reach) where
     of_reach = h.of_reach;
     scopes = all_push (AreSpacesSound R reach l.cores l.canons) l.scopes (new_spaces (Some arguments) c.around) h.scopes (sound_new R reach l.cores l.canons (Some arguments) c.around k);
     imported = h.imported;
-    lowered = h.lowered;
+    made = h.made;
+    called = h.called;
     plain = h.plain;
     modules_have = h.modules_have;
   }
@@ -112,7 +113,7 @@ module _ (R : ModuleTree → Type 0) (reach : Reach) where
       through m (with_instance inner k s (length m.scopes)) end ended (links_reached (with_instance inner k s (length m.scopes)) k others end (λ x y. has x (stands_behind placed others y)) ended.sound behind)
 
   root_sound : IsLinkingSound R reach (root_begun reach)
-  root_sound = record { of_reach = refl; scopes = (sound_new R reach [] [] None [] tt, tt); imported = tt; lowered = tt; plain = λ runs. refl; modules_have = tt }
+  root_sound = record { of_reach = refl; scopes = (sound_new R reach [] [] None [] tt, tt); imported = tt; made = none_made; called = tt; plain = λ runs. refl; modules_have = tt }
 
   pub linked_sound : (c : Component) (l : Linking) → ModulesHave R c.items → Links (root_begun reach) 0 c.items l → IsLinkingSound R reach l
   linked_sound c l has links = (links_reached (root_begun reach) 0 c.items l has root_sound links).sound
@@ -146,8 +147,12 @@ lifts_are_there reach c g (l, links, is) =
     subst (λ (g : Graph). AllZip (λ (e : Export) (lift : Lift). IsLiftThere g.cores g.canons e.func_type lift) g.exports g.lifts) (sym is)
     (all_there reach l.cores l.canons (callables (exports_at l 0)) (root_callables AnyModule reach l (any_sound reach c l links)))
 
-pub canons_are_there : CanonsAreThere
-canons_are_there reach c g (l, links, is) = subst (λ (g : Graph). AreCanonsThere g.cores [] g.canons) (sym is) (any_sound reach c l links).lowered
+pub graphs_are_made : GraphsAreMade
+graphs_are_made reach c g (l, links, is) = subst (λ (g : Graph). AreMade g.cores g.canons) (sym is) (any_sound reach c l links).made
+
+pub lowered_types_are_sound : LoweredTypesAreSound
+lowered_types_are_sound reach c g (l, links, is) =
+    subst (λ (g : Graph). AllByRecursion (λ (f : CanonFunc). HasDistinctLabels (called_type f) × HasShallowTypes (called_type f)) g.canons) (sym is) (any_sound reach c l links).called
 
 pub labels_are_distinct : LabelsAreDistinct
 labels_are_distinct reach c g (l, links, is) =

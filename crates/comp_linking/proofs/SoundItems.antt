@@ -14,7 +14,7 @@ use Rattle.wasm_module.specs.Spaces.{type_of_func, global_space}
 use Rattle.comp_graph.specs.CoreItems.{table_space, memory_space}
 use Rattle.comp_graph.specs.declared.graph.FuncRef.TheVariants as func_ref
 use Rattle.comp_graph.specs.declared.graph.CanonFunc.{CanonFunc}
-use Rattle.comp_graph.specs.Graph.{canon_type, IsItem, IsCanonThere, HasImports}
+use Rattle.comp_graph.specs.Graph.{canon_type, IsItem, IsCanonThere, HasImports, instance_made, canon_made, called_type}
 use Rattle.comp_graph.specs.Needs.{lowered_type}
 use Rattle.comp_tree.specs.declared.core_instances.CoreArgument.{CoreArgument}
 use Rattle.comp_tree.specs.declared.core_instances.CoreInlineExport.{CoreInlineExport}
@@ -42,7 +42,7 @@ use Rattle.comp_linking.specs.Types.{meaning_of}
 use Rattle.comp_linking.specs.Items.{argument_named, import_found, FindsItem, IsInline, core_instance_makes, instance_makes, alias_makes, lifted_with, lift_makes, lowered_with, lower_makes, wanted, IsImported, import_makes, said, IsExported, export_makes, makes_case}
 use Rattle.comp_linking.proofs.Holding.{all_push, all_set, all_weaker, all_mapped, all_flat, all_at, all_second, zip_weaker, holds_at, if_weaker, if_mapped, if_found, if_each, if_cond, last_there}
 use Rattle.comp_linking.proofs.SameValues.{never}
-use Rattle.comp_linking.proofs.Kept.{kept_canons, imported_behind, kept_imported, canon_behind}
+use Rattle.comp_linking.proofs.Kept.{imported_behind, kept_imported}
 use Rattle.comp_linking.proofs.Apart.{IsFuncApart, IsApart, IsExternApart, IsKnownApart, of_func_apart, desc_apart}
 use Rattle.comp_linking.proofs.ApartMeanings.{IsLevelApart, AreLevelsApart, meaning_apart}
 use Rattle.comp_linking.proofs.Modules.{ShapeHas}
@@ -91,7 +91,7 @@ pub record IsReached (R : ModuleTree → Type 0) (reach : Reach) (l new : Linkin
 
 module _ (R : ModuleTree → Type 0) (reach : Reach) where
   pub with_spaces_sound : (l : Linking) (n : ℕ) (s : Spaces) → IsLinkingSound R reach l → AreSpacesSound R reach l.cores l.canons s → IsLinkingSound R reach (with_spaces l n s)
-  with_spaces_sound l n s h k = record { of_reach = h.of_reach; scopes = all_set (AreSpacesSound R reach l.cores l.canons) l.scopes n s h.scopes k; imported = h.imported; lowered = h.lowered; plain = h.plain; modules_have = h.modules_have }
+  with_spaces_sound l n s h k = record { of_reach = h.of_reach; scopes = all_set (AreSpacesSound R reach l.cores l.canons) l.scopes n s h.scopes k; imported = h.imported; made = h.made; called = h.called; plain = h.plain; modules_have = h.modules_have }
 
   made_reached : (l : Linking) (n : ℕ) (s : Spaces) (new : Linking) → new ≡ with_spaces l n s → IsLinkingSound R reach l → AreSpacesSound R reach l.cores l.canons s → IsReached R reach l new
   made_reached l n s new e h k = subst (IsReached R reach l) (sym e) (record { sound = with_spaces_sound l n s h k; more = []; longer = sym (append-nil l.cores); others = []; wider = sym (append-nil l.canons) })
@@ -115,7 +115,8 @@ module _ (R : ModuleTree → Type 0) (reach : Reach) where
               (all_weaker (AreSpacesSound R reach l.cores l.canons) (AreSpacesSound R reach longer l.canons) (more_cores R reach l.cores (core ∷ []) l.canons) l.scopes h.scopes)
               (sound_core_instance R reach longer l.canons s (exports_of m (length l.cores)) (more_cores R reach l.cores (core ∷ []) l.canons s k) (exports_of_there longer l.canons core (length l.cores) (last_there l.cores core)));
           imported = imported_behind l.canons [] l.cores core h.imported has_imports;
-          lowered = kept_canons l.cores (core ∷ []) [] l.canons h.lowered;
+          made = instance_made l.cores l.canons core h.made has_imports;
+          called = h.called;
           plain = h.plain;
           modules_have = all_push (λ (core : CoreMake). R core.of_module) l.cores core h.modules_have (holds_at R (slice_get s.core_modules index) m (all_at R s.core_modules index k.core.modules_have) is);
         };
@@ -213,7 +214,8 @@ module _ (R : ModuleTree → Type 0) (reach : Reach) where
               (all_weaker (AreSpacesSound R reach l.cores l.canons) (AreSpacesSound R reach l.cores longer) (more_canons R reach l.cores l.canons (canon ∷ [])) l.scopes h.scopes)
               (sound_core_item R reach l.cores longer s item (more_canons R reach l.cores l.canons (canon ∷ []) s k) item_is);
           imported = kept_imported l.canons (canon ∷ []) [] l.cores h.imported;
-          lowered = canon_behind l.cores [] l.canons canon h.lowered canon_there;
+          made = canon_made l.cores l.canons canon h.made canon_there;
+          called = all_push (λ (f : CanonFunc). IsFuncApart (called_type f)) l.canons canon h.called func_sound.apart;
           plain = λ runs. never (subst (λ (reach : Reach). reaches reach runs_lower ≡ true) (h.of_reach ∙ runs) within);
           modules_have = h.modules_have;
         };

@@ -9,7 +9,7 @@ use Rattle.ca_base.specs.Names.{is_among}
 use Rattle.wasm_module.specs.declared.module.ModuleTree.{ModuleTree}
 use Rattle.comp_graph.specs.declared.graph.Lift.{Lift}
 use Rattle.comp_graph.specs.declared.graph.CanonFunc.{CanonFunc}
-use Rattle.comp_graph.specs.Graph.{CoreMake, no_options, IsLiftThere, AreCanonsThere, IsItem, AreImported}
+use Rattle.comp_graph.specs.Graph.{CoreMake, no_options, IsLiftThere, IsItem, AreImported, AreMade, called_type}
 use Rattle.comp_graph.specs.Closed.{Closed}
 use Rattle.comp_linking.specs.declared.reach.Reach.{Reach}
 use Rattle.comp_linking.specs.declared.reach.Reach.TheVariants.{Runs}
@@ -76,6 +76,7 @@ pub record IsLinkingSound (R : ModuleTree → Type 0) (reach : Reach) (l : Linki
   pub of_reach : l.reach ≡ reach
   pub scopes : AllByRecursion (AreSpacesSound R reach l.cores l.canons) l.scopes
   pub imported : AreImported l.canons [] l.cores
-  pub lowered : AreCanonsThere l.cores [] l.canons
+  pub made : AreMade l.cores l.canons
+  pub called : AllByRecursion (λ (f : CanonFunc). IsFuncApart (called_type f)) l.canons
   pub plain : reach ≡ Runs → l.canons ≡ []
   pub modules_have : AllByRecursion (λ (core : CoreMake). R core.of_module) l.cores

@@ -3,6 +3,7 @@
 use Rattle.std.specs.Prelude.{ℕ, zero, suc, ◌+◌, List, [], ◌∷◌, length, map, None, Some, Result, Ok, Err, pos, codes}
 use Rattle.ca_base.specs.declared.placed.Placed.{Placed}
 use Rattle.ca_types.specs.declared.types.ValType.TheVariants as val_type
+use Rattle.ca_types.specs.declared.types.FuncType.{FuncType}
 use Rattle.wasm_module.specs.declared.types.ValType.TheVariants.{I32}
 use Rattle.wasm_module.specs.declared.instr.Instr.TheVariants.{I32Const}
 use Rattle.wasm_module.specs.declared.module.ExportDesc.TheVariants as offered
@@ -255,3 +256,10 @@ passed = record {
   exports = [];
   lifts = [];
 }
+
+-- a function of a string, and one that gives a string, which is two core values
+abbrev pub taking_string : FuncType
+taking_string = record { params = record { label = codes "a"; val_type = val_type.String } ∷ []; result = None }
+
+abbrev pub giving_string : FuncType
+giving_string = record { params = []; result = Some val_type.String }

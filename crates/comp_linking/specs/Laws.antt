@@ -6,7 +6,8 @@ use Rattle.ca_base.specs.Names.{AreDistinct}
 use Rattle.ca_base.specs.declared.placed.Placed.{Placed}
 use Rattle.ca_types.specs.declared.types.FuncType.{FuncType}
 use Rattle.ca_types.specs.declared.exports.Export.{Export}
-use Rattle.comp_graph.specs.Graph.{Graph, CoreMake, names, IsLiftThere, IsCallable, AreCanonsThere, AreImported}
+use Rattle.comp_graph.specs.declared.graph.CanonFunc.{CanonFunc}
+use Rattle.comp_graph.specs.Graph.{Graph, CoreMake, names, IsLiftThere, IsCallable, AreImported, AreMade, called_type}
 use Rattle.comp_tree.specs.declared.items.Item.{Item}
 use Rattle.comp_tree.specs.declared.items.Component.{Component}
 use Rattle.comp_linking.specs.declared.fault.LinkWhy.{LinkWhy}
@@ -98,8 +99,8 @@ abbrev pub GraphsAreFew : Type 0
 GraphsAreFew =
     (reach : Reach) (c : Component) (g : Graph) → IsLinked reach c g → (g.instance_count ≤ instance_limit) × (length g.cores ≤ instance_limit)
 
--- The core instances of a graph have the imports that their modules ask for, of core instances before them and of the Canonical
--- ABI.
+-- The core instances of a graph have the imports that their modules ask for, of core instances before them and of core functions of
+-- the Canonical ABI.
 abbrev pub GraphsAreImported : Type 0
 GraphsAreImported = (reach : Reach) (c : Component) (g : Graph) → IsLinked reach c g → AreImported g.canons [] g.cores
 
@@ -113,9 +114,11 @@ abbrev pub LiftsAreThere : Type 0
 LiftsAreThere =
     (reach : Reach) (c : Component) (g : Graph) → IsLinked reach c g → AllZip (λ (e : Export) lift. IsLiftThere g.cores g.canons e.func_type lift) g.exports g.lifts
 
--- What is lowered is there, with its memory and its core functions, and stands on what is lowered before it alone.
-abbrev pub CanonsAreThere : Type 0
-CanonsAreThere = (reach : Reach) (c : Component) (g : Graph) → IsLinked reach c g → AreCanonsThere g.cores [] g.canons
+-- Core instances and core functions of the Canonical ABI are made one behind the other, in some order: each core instance has the
+-- imports that its module asks for, and what is lowered is there, with the memory and the core functions that the lower uses, of what
+-- was made before it.
+abbrev pub GraphsAreMade : Type 0
+GraphsAreMade = (reach : Reach) (c : Component) (g : Graph) → IsLinked reach c g → AreMade g.cores g.canons
 
 -- No two parameters of an export have one label.
 abbrev pub LabelsAreDistinct : Type 0
@@ -126,6 +129,12 @@ LabelsAreDistinct =
 abbrev pub TypesAreShallow : Type 0
 TypesAreShallow =
     (reach : Reach) (c : Component) (g : Graph) → IsLinked reach c g → AllByRecursion (λ (e : Export). HasShallowTypes e.func_type) g.exports
+
+-- So it is for the functions that are lowered.
+abbrev pub LoweredTypesAreSound : Type 0
+LoweredTypesAreSound =
+    (reach : Reach) (c : Component) (g : Graph) → IsLinked reach c g
+    → AllByRecursion (λ (f : CanonFunc). HasDistinctLabels (called_type f) × HasShallowTypes (called_type f)) g.canons
 
 -- The names of the root's exports are distinct. The functions that can be called are those among them, and those of instances
 -- among them under `name#function`: where no name of the root has a `#`, no two of them have one name. Else they may: the root

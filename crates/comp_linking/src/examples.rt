@@ -1,18 +1,20 @@
 //! Examples of the definitions, worked out by hand. Those whose types are all u32, and which lower nothing, come to the same
 //! however far linking goes.
 
-ghost use Rattle.std.specs.Prelude.{◌≡◌, [], ◌∷◌, Ok, codes};
+ghost use Rattle.std.specs.Prelude.{◌≡◌, true, false, [], ◌∷◌, Ok, codes};
+ghost use Rattle.wasm_module.specs.declared.types.ValType.TheVariants.{I32};
 ghost use Rattle.comp_tree.specs.declared.instances.Sort.TheVariants as sorts;
 ghost use Rattle.comp_tree.specs.declared.externs.ExternDesc.TheVariants as desc;
 ghost use Rattle.comp_tree.specs.declared.types.DefType.TheVariants as plain_type;
 ghost use Rattle.comp_tree.specs.declared.items.CanonOption.TheVariants as option;
 ghost use Rattle.comp_tree.specs.declared.items.Item.TheVariants as plain;
 ghost use Rattle.comp_graph.specs.Graph.{no_options};
+ghost use Rattle.comp_graph.specs.Needs.{lifted_type, lowered_type, needs_memory, lift_needs_realloc, lower_needs_realloc};
 ghost use Rattle.comp_linking.specs.declared.fault.LinkWhy.TheVariants as why;
 ghost use Rattle.comp_linking.specs.declared.reach.Reach.{Reach};
 ghost use Rattle.comp_linking.specs.declared.reach.Reach.TheVariants.{Runs, Whole};
 ghost use Rattle.comp_linking.specs.Computed.{linked};
-ghost use Rattle.comp_linking.specs.Examples.{root, fault, u32, list_of, record_of, lists, of_lists, import, outer, export_type, instantiate, wanting, giving_both, nesting, begins, of_one, make, make_with_absent, lifting, lifting_twice, with_memory, callable_as, lowering, lowering_string, passing, passed};
+ghost use Rattle.comp_linking.specs.Examples.{root, fault, u32, list_of, record_of, lists, of_lists, import, outer, export_type, instantiate, wanting, giving_both, nesting, begins, of_one, make, make_with_absent, lifting, lifting_twice, with_memory, callable_as, lowering, lowering_string, taking_string, giving_string, passing, passed};
 
 /// Faults of one item: an import of the root that is a function, also where its index is not there; an outer alias that goes
 /// past the root; and an export of a name that was exported.
@@ -94,10 +96,20 @@ pub fn lowers()
     ensures not_there { (reach : Reach) → linked reach (root (lowering 1 [])) ≡ fault 6 why.Index }
 {}
 
-/// A function that gives a string is not lowered without a memory, nor with a memory alone, as the string needs a place in it. No
-/// function is called when a result was lifted that a lower gives.
+/// A function that gives a string is not lowered without a memory, nor with a memory alone, as the string needs a place in it. A
+/// lower with a `post-return` is refused.
 pub fn options_of_lowers()
     ensures no_memory { linked Whole (root (lowering_string [])) ≡ fault 6 why.Canon }
     ensures no_realloc { linked Whole (root (lowering_string (option.Memory 0 ∷ []))) ≡ fault 6 why.Canon }
     ensures post_return { (reach : Reach) → linked reach (root (lowering 0 (option.PostReturn 0 ∷ []))) ≡ fault 6 why.Canon }
+{}
+
+/// A lower of a function that takes a string needs a memory alone, where its lift needs a place in it too. The core function to
+/// which a function that gives a string is lowered takes the place of the result, where that which is lifted gives it.
+pub fn types_of_lowers()
+    ensures memory { needs_memory taking_string ≡ true }
+    ensures no_place { lower_needs_realloc taking_string ≡ false }
+    ensures lifted_place { lift_needs_realloc taking_string ≡ true }
+    ensures lowered { lowered_type giving_string ≡ record { params = I32 ∷ []; results = [] } }
+    ensures lifted { lifted_type giving_string ≡ record { params = []; results = I32 ∷ [] } }
 {}

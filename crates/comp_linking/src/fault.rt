@@ -17,8 +17,8 @@ pub enum LinkWhy {
     /// "Type Definitions").
     Typing,
     /// An option of a lift or of a lower stands twice; a core function that it uses is of another type than it needs; a lower has
-    /// a function that is called when a result was lifted; or something passes in memory, or asks for a place there, and no memory
-    /// is given, or no function that gives places (Component Model, CanonicalABI.md, "Canonical ABI Options", "Flattening", `canon
+    /// a `post-return`; or something passes in memory, or asks for a place there, and no memory is given, or no function that
+    /// gives places (Component Model, CanonicalABI.md, "Canonical ABI Options", "Flattening", `canon
     /// lift` and `canon lower`).
     Canon,
     /// There are more than 256 component instances, more than 256 core instances, or more than 32 value types in one another; or

@@ -1,6 +1,6 @@
 //! What holds of every linking.
 
-ghost use Rattle.comp_linking.specs.Laws.{MakesExcludesReasons, BeginsExcludesReasons, MakesExcludesBegins, MakesOnce, BeginsOnce, OneName, OneFirst, OneLinking, LinksExcludesFaults, OneFault, OneGraph, LinkedIsNotRefused, OneRefusal, RunsAreLinked, FewInstances, GraphsAreFew, GraphsAreImported, GraphsAreCallable, LiftsAreThere, CanonsAreThere, LabelsAreDistinct, TypesAreShallow, RootNamesAreDistinct, NamesAreDistinct, ModulesStand, OutcomeComputed, ReasonComputed, GraphComputed, FaultComputed, LinkedOrRefused, FuncsCompared, ClosedCompared, FitsTested};
+ghost use Rattle.comp_linking.specs.Laws.{MakesExcludesReasons, BeginsExcludesReasons, MakesExcludesBegins, MakesOnce, BeginsOnce, OneName, OneFirst, OneLinking, LinksExcludesFaults, OneFault, OneGraph, LinkedIsNotRefused, OneRefusal, RunsAreLinked, FewInstances, GraphsAreFew, GraphsAreImported, GraphsAreCallable, LiftsAreThere, GraphsAreMade, LabelsAreDistinct, TypesAreShallow, LoweredTypesAreSound, RootNamesAreDistinct, NamesAreDistinct, ModulesStand, OutcomeComputed, ReasonComputed, GraphComputed, FaultComputed, LinkedOrRefused, FuncsCompared, ClosedCompared, FitsTested};
 
 /// An item that makes something, or begins an instance of a component, has no reason against it, and none does both.
 pub fn items_make_or_are_refused()
@@ -56,9 +56,10 @@ pub fn graphs_are_sound()
     ensures imported { GraphsAreImported }
     ensures callable { GraphsAreCallable }
     ensures lifts { LiftsAreThere }
-    ensures canons { CanonsAreThere }
+    ensures made { GraphsAreMade }
     ensures labels { LabelsAreDistinct }
     ensures shallow { TypesAreShallow }
+    ensures lowered { LoweredTypesAreSound }
     ensures modules { ModulesStand }
 {}
 

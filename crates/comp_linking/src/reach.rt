@@ -11,8 +11,8 @@ use comp_tree::{CanonOption, DefType};
 /// How far linking goes. It is the tool's own, and no section of the standard has it.
 #[derive(Clone, Copy)]
 pub enum Reach {
-    /// As far as what is linked can be run: an item is refused as `LinkWhy::Limit` that holds a type or a lift which cannot be
-    /// run, or that lowers a function.
+    /// As far as what is linked can be run: an item is refused as `LinkWhy::Limit` that holds a type, a lift or a lower which
+    /// cannot be run.
     Runs,
     /// Over all that is read.
     Whole,
