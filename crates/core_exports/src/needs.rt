@@ -1,4 +1,4 @@
-//! What lifts need, and whether core items can be lifted with what is given.
+//! What lifts and lowers need, and whether core items can be lifted, and functions lowered, with what is given.
 
 ghost use Rattle.std.specs.Prelude.{◌≡◌, map, true};
 ghost use Rattle.std.specs.Option.{option_map_or};
@@ -18,10 +18,10 @@ use type_tables::LaidFunc;
 use wasm_module::{ValType, are_same};
 
 /// How many core values are passed as core parameters; more are passed in memory.
-const PARAM_LIMIT: usize = 16;
+pub(crate) const PARAM_LIMIT: usize = 16;
 
 /// How many core values are passed as core results; more are passed in memory.
-const RESULT_LIMIT: usize = 1;
+pub(crate) const RESULT_LIMIT: usize = 1;
 
 /// Whether a type of core values is a flat type.
 fn is_flat_type(val_type: ValType, flat: CoreType) -> bool
@@ -79,10 +79,7 @@ fn is_lifted(laid: &LaidFunc, item: &CoreItem<'_>) -> bool
     ensures { (f : FuncType) → IsLaid laid.now f → result ≡ is_of_core_type (lifted_type f) item.now }
 {
     match item.func_type() {
-        Some(of_core) => {
-            are_params(laid, of_core.params.as_slice())
-                && are_results(laid, of_core.results.as_slice())
-        }
+        Some(of_core) => { are_params(laid, of_core.params) && are_results(laid, of_core.results) }
         None => false,
     }
 }
@@ -94,8 +91,8 @@ fn is_realloc(item: &CoreItem<'_>) -> bool
     let place = ValType::I32;
     match item.func_type() {
         Some(of_core) => {
-            are_same(of_core.params.as_slice(), &[place, place, place, place])
-                && are_same(of_core.results.as_slice(), &[place])
+            are_same(of_core.params, &[place, place, place, place])
+                && are_same(of_core.results, &[place])
         }
         None => false,
     }
@@ -106,10 +103,7 @@ fn is_post_return(laid: &LaidFunc, item: &CoreItem<'_>) -> bool
     ensures { (f : FuncType) → IsLaid laid.now f → result ≡ is_of_core_type (post_return_type f) item.now }
 {
     match item.func_type() {
-        Some(of_core) => {
-            are_results(laid, of_core.params.as_slice())
-                && are_same(of_core.results.as_slice(), &[])
-        }
+        Some(of_core) => { are_results(laid, of_core.params) && are_same(of_core.results, &[]) }
         None => false,
     }
 }
@@ -134,7 +128,7 @@ fn post_return_fits(laid: &LaidFunc, given: &Given<'_>) -> bool
     }
 }
 
-/// Whether the lift passes something in memory.
+/// Whether the lift or the lower passes something in memory.
 #[tactic(auto, using(crate::proofs::FirstTypes::many_params, crate::proofs::FirstTypes::many_results))]
 fn needs_memory(laid: &LaidFunc) -> bool
     ensures { (f : FuncType) → IsLaid laid.now f → result ≡ needs.needs_memory f }
@@ -147,8 +141,8 @@ fn needs_memory(laid: &LaidFunc) -> bool
 
 /// Whether the lift asks for places in memory.
 #[tactic(auto, using(crate::proofs::FirstTypes::many_params))]
-fn needs_realloc(laid: &LaidFunc) -> bool
-    ensures { (f : FuncType) → IsLaid laid.now f → result ≡ needs.needs_realloc f }
+fn lift_needs_realloc(laid: &LaidFunc) -> bool
+    ensures { (f : FuncType) → IsLaid laid.now f → result ≡ needs.lift_needs_realloc f }
 {
     laid.params.len() > PARAM_LIMIT || laid.params_hold_list
 }
@@ -162,5 +156,16 @@ pub fn can_be_lifted(laid: &LaidFunc, item: &CoreItem<'_>, given: &Given<'_>) ->
         && realloc_fits(given)
         && post_return_fits(laid, given)
         && (!needs_memory(laid) || given.memory.is_some())
-        && (!needs_realloc(laid) || given.realloc.is_some())
+        && (!lift_needs_realloc(laid) || given.realloc.is_some())
+}
+
+/// Whether a function of a type can be lowered with what options give (Component Model, CanonicalABI.md, `canon lower`). It takes
+/// no longer for a function of many parameters.
+pub fn can_be_lowered(laid: &LaidFunc, given: &Given<'_>) -> bool
+    ensures { (f : FuncType) → IsLaid laid.now f → result ≡ canons.can_be_lowered f given.now }
+{
+    realloc_fits(given)
+        && given.post_return.is_none()
+        && (!needs_memory(laid) || given.memory.is_some())
+        && (!laid.result_holds_list || given.realloc.is_some())
 }
