@@ -2,7 +2,7 @@
 
 ghost use Rattle.std.specs.Prelude.{◌≡◌, true, Some, None, MatchOption};
 ghost use Rattle.std.specs.List.{slice_get};
-ghost use Rattle.ca_types.specs.declared.types.FuncType.{FuncType};
+ghost use Rattle.ca_types.specs.declared.types.FuncType as lifted;
 ghost use Rattle.wasm_module.specs.declared.module.ModuleTree.{ModuleTree};
 ghost use Rattle.comp_graph.specs.declared.graph.CoreRef.{CoreRef};
 ghost use Rattle.comp_graph.specs.declared.graph.FuncRef.{FuncRef};
@@ -63,6 +63,7 @@ impl<'a> Model for CoreItem<'a> {
 }
 
 /// The type of a core function.
+#[derive(Clone, Copy)]
 pub(crate) struct CoreFunc<'r> {
     /// The types of its parameters.
     pub params: &'r [ValType],
@@ -82,7 +83,7 @@ impl<'a> CoreItem<'a> {
 
     /// The core function to which the canonical definition of this number lowers a function.
     pub fn lowered(number: usize, laid: &LaidFunc) -> CoreItem<'a>
-        ensures { (f : FuncType) → IsLaid laid.now f → result ≡ items.Func (func_ref.Canon number) (lowered_type f) }
+        ensures { (f : lifted.FuncType) → IsLaid laid.now f → result ≡ items.Func (func_ref.Canon number) (lowered_type f) }
     {
         CoreItem {
             held: Held::Made(number, LoweredType::of(laid)),
