@@ -2,19 +2,10 @@
 use Rattle.std.proofs.Common.{◌≡◌, ◌<◌, ◌≤◌, ◌+◌, ℕ, zero, suc, Bool, true, false, ◌&&◌, List, [], ◌∷◌, length, drop, get_or, refl, ap, arith, Some, None}
 use Rattle.std.specs.List.{slice_get}
 use Rattle.std.proofs.lemmas.List.{drop_all, drop_more}
-use Rattle.wasm_module.specs.declared.types.ValType.{ValType}
-use Rattle.wasm_module.specs.declared.types.FuncType.{FuncType}
 use Rattle.wasm_module.specs.declared.module.Import.{Import}
-use Rattle.wasm_module.specs.declared.module.ImportDesc.{ImportDesc}
 use Rattle.wasm_module.specs.declared.module.ModuleTree.{ModuleTree}
-use Rattle.comp_graph.specs.declared.graph.FuncRef.{FuncRef}
-use Rattle.comp_linking.specs.Definitions.{CoreItem, Func}
+use Rattle.comp_linking.specs.Definitions.{CoreItem}
 use Rattle.comp_linking.specs.Tests.{core_fits, all_fit}
-
--- a core function of these types fits what it fits by its type
-pub func_fits : (m : ModuleTree) (item : CoreItem) (f : FuncRef) (type : FuncType) (desc : ImportDesc) (params results : List ValType) → Func f type ≡ item → params ≡ type.params → results ≡ type.results
-    → core_fits m (Func f (record { params = params; results = results })) desc ≡ core_fits m item desc
-func_fits m item f type desc params results e p r = rw (p, r) (ap (λ (i : CoreItem). core_fits m i desc) e)
 
 pub none_fit : (m : ModuleTree) (imports : List Import) (at : ℕ) (items : List CoreItem) → length imports ≤ at → all_fit m (drop at imports) items ≡ true
 none_fit m imports at items h = rw (drop_all at imports h) refl

@@ -220,17 +220,26 @@ impl<'a> CoreItem<'a> {
     pub fn fits(&self, tree: &ModuleTree, desc: ImportDesc) -> bool
         ensures { result ≡ core_fits tree.now self.now desc }
     {
-        match &self.held {
-            Held::Func(_, func_type) => fits_func(
+        match (&self.held, desc) {
+            (Held::Func(_, func_type), ImportDesc::Func(index)) => is_type(
                 tree,
+                index,
                 func_type.params.as_slice(),
                 func_type.results.as_slice(),
-                desc,
             ),
-            Held::Made(_, made) => fits_func(tree, made.params(), made.results(), desc),
-            Held::Table(_, limits) => fits_table(*limits, desc),
-            Held::Memory(_, limits) => fits_memory(*limits, desc),
-            Held::Global(_, global_type) => fits_global(*global_type, desc),
+            (Held::Made(_, made), ImportDesc::Func(index)) => {
+                is_type(tree, index, made.params(), made.results())
+            }
+            (Held::Table(_, limits), ImportDesc::Table(asked)) => {
+                is_within(*limits, asked.limits())
+            }
+            (Held::Memory(_, limits), ImportDesc::Memory(asked)) => {
+                is_within(*limits, asked.limits())
+            }
+            (Held::Global(_, global_type), ImportDesc::Global(asked)) => {
+                is_global(*global_type, asked)
+            }
+            (_, _) => false,
         }
     }
 }
@@ -241,46 +250,6 @@ pub fn item_at<'a>(items: &[CoreItem<'a>], index: u32) -> Option<CoreItem<'a>>
 {
     let item = items.get(index as usize)?;
     Some(item.again())
-}
-
-/// Whether a function with these types of parameters and of results is what is asked for.
-fn fits_func(tree: &ModuleTree, params: &[ValType], results: &[ValType], desc: ImportDesc) -> bool
-    ensures { (f : FuncRef) → result ≡ core_fits tree.now (items.Func f (record { params = params.now; results = results.now })) desc }
-{
-    match desc {
-        ImportDesc::Func(index) => is_type(tree, index, params, results),
-        ImportDesc::Table(_) | ImportDesc::Memory(_) | ImportDesc::Global(_) => false,
-    }
-}
-
-/// Whether a table of these limits is what is asked for.
-fn fits_table(limits: Limits, desc: ImportDesc) -> bool
-    ensures { (tree : ModuleTree) → (core : CoreRef) → result ≡ core_fits tree (items.Table core limits) desc }
-{
-    match desc {
-        ImportDesc::Table(asked) => is_within(limits, asked.limits()),
-        ImportDesc::Func(_) | ImportDesc::Memory(_) | ImportDesc::Global(_) => false,
-    }
-}
-
-/// Whether a memory of these limits is what is asked for.
-fn fits_memory(limits: Limits, desc: ImportDesc) -> bool
-    ensures { (tree : ModuleTree) → (core : CoreRef) → result ≡ core_fits tree (items.Memory core limits) desc }
-{
-    match desc {
-        ImportDesc::Memory(asked) => is_within(limits, asked.limits()),
-        ImportDesc::Func(_) | ImportDesc::Table(_) | ImportDesc::Global(_) => false,
-    }
-}
-
-/// Whether a global of this type is what is asked for.
-fn fits_global(global_type: GlobalType, desc: ImportDesc) -> bool
-    ensures { (tree : ModuleTree) → (core : CoreRef) → result ≡ core_fits tree (items.Global core global_type) desc }
-{
-    match desc {
-        ImportDesc::Global(asked) => is_global(global_type, asked),
-        ImportDesc::Func(_) | ImportDesc::Table(_) | ImportDesc::Memory(_) => false,
-    }
 }
 
 /// Whether a function type is that of these types of parameters and of results.

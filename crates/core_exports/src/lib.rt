@@ -4,6 +4,7 @@
 //! which takes no room for what its module exports. A look-up by name takes as long as a map's. What `comp_linking` defines
 //! is what contracts speak of.
 //!
+//! - `few_types`: the types of the core values in which values are passed
 //! - `lowered`: the types of core functions to which functions are lowered
 //! - `core_item`: core definitions with their types, and what imports ask for
 //! - `core_module`: core modules, with their index spaces and their exports by name
@@ -20,6 +21,7 @@ mod arguments;
 mod core_item;
 mod core_module;
 mod exports;
+mod few_types;
 mod imports;
 mod inline_exports;
 mod lowered;

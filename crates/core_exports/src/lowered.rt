@@ -1,11 +1,12 @@
 //! The types of core functions to which functions are lowered.
 
-ghost use Rattle.std.specs.Prelude.{◌≡◌, ◌≤◌, ◌<◌, ◌++◌, ◌∷◌, [], length, map, option_to_list};
+ghost use Rattle.std.specs.Prelude.{◌≡◌, ◌++◌, map, option_to_list};
 ghost use Rattle.ca_types.specs.declared.types.FuncType.{FuncType};
 ghost use Rattle.ca_types.specs.Flat.{at_most, out_place, returned};
 ghost use Rattle.comp_graph.specs.Needs.{core_val, lowered_type};
 ghost use Rattle.type_tables.specs.Laid.{IsLaid};
 
+use crate::few_types::{FewTypes, passed, val_type_of};
 use crate::needs::{PARAM_LIMIT, RESULT_LIMIT};
 use ca_types::CoreType;
 use std::marker::Model;
@@ -13,106 +14,11 @@ use std::slice;
 use type_tables::LaidFunc;
 use wasm_module::ValType;
 
-/// At most 17 types of core values: those of parameters, and of one place in memory behind them. Contracts see the types.
-#[derive(Drop)]
-struct FewTypes {
-    types: [ValType; 17],
-    count: u8,
-}
-
-impl Model for FewTypes {
-    ghost use Rattle.std.specs.Prelude.{◌≤◌, List, take};
-    ghost use Rattle.std.specs.Coded.{coded_list};
-    ghost use Rattle.wasm_module.specs.contracts.types.ValType as val_type;
-    ghost use Rattle.wasm_module.specs.declared.types.ValType.{ValType};
-
-    ghost Value = { List ValType };
-
-    ghost coded = { coded_list val_type.the_row.coded };
-
-    ghost view = { λ f. take f.count f.types };
-
-    ghost invariant = { λ f. f.count ≤ 17 };
-}
-
-impl FewTypes {
-    /// None.
-    fn new() -> FewTypes
-        ensures { result ≡ [] }
-    {
-        FewTypes {
-            types: [ValType::I32; 17],
-            count: 0,
-        }
-    }
-
-    /// Adds one.
-    fn push(&mut self, val_type: ValType)
-        requires { length self.old < 17 }
-        ensures { self.new ≡ self.old ++ val_type ∷ [] }
-    {
-        self.types[self.count as usize] = val_type;
-        self.count += 1;
-    }
-
-    /// The types.
-    fn as_slice(&self) -> &[ValType]
-        ensures { result.now ≡ self.now }
-    {
-        &self.types[..self.count as usize]
-    }
-
-    /// The same types.
-    fn again(&self) -> FewTypes
-        ensures { result ≡ self.now }
-    {
-        FewTypes {
-            types: self.types,
-            count: self.count,
-        }
-    }
-}
-
-/// The type of core values that a flat type is.
-fn val_type_of(flat: CoreType) -> ValType
-    ensures { result ≡ core_val flat }
-{
-    match flat {
-        CoreType::I32 => ValType::I32,
-        CoreType::I64 => ValType::I64,
-    }
-}
-
-/// The types of core values that flat types are.
-fn val_types_of(flat: &[CoreType]) -> FewTypes
-    requires { length flat.now ≤ 16 }
-    ensures { result ≡ map core_val flat.now }
-{
-    let mut types = FewTypes::new();
-    for core_type in flat {
-        types.push(val_type_of(*core_type));
-    }
-    types
-}
-
-/// The types in which values of flat types are passed as parameters: of more than 16 it is one place in memory.
-fn passed(flat: &[CoreType]) -> FewTypes
-    ensures types { result ≡ map core_val (at_most 16 flat.now) }
-    ensures few { length result ≤ 16 }
-{
-    if flat.len() <= PARAM_LIMIT {
-        return val_types_of(flat);
-    }
-    let mut place = FewTypes::new();
-    place.push(ValType::I32);
-    place
-}
-
 /// The types of parameters, and of the place in memory of a result of more than one core value.
 fn lowered_params(params: &[CoreType], result_types: &[CoreType]) -> FewTypes
     ensures { result ≡ map core_val (at_most 16 params.now ++ out_place 1 result_types.now) }
 {
-    let mut types = passed(params);
+    let mut types = passed(params, PARAM_LIMIT);
     if result_types.len() > RESULT_LIMIT {
         types.push(ValType::I32);
     }

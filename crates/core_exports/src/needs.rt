@@ -1,19 +1,18 @@
 //! What lifts and lowers need, and whether core items can be lifted, and functions lowered, with what is given.
 
-ghost use Rattle.std.specs.Prelude.{◌≡◌, map, true};
+ghost use Rattle.std.specs.Prelude.{◌≡◌, true};
 ghost use Rattle.std.specs.Option.{option_map_or};
 ghost use Rattle.ca_types.specs.declared.types.FuncType.{FuncType};
-ghost use Rattle.ca_types.specs.Flat.{at_most};
-ghost use Rattle.wasm_module.specs.SameTypes.{same_type, same_types};
+ghost use Rattle.wasm_module.specs.SameTypes.{same_types};
 ghost use Rattle.comp_graph.specs.Needs as needs;
-ghost use Rattle.comp_graph.specs.Needs.{core_val, lifted_type, realloc_type, post_return_type};
+ghost use Rattle.comp_graph.specs.Needs.{lifted_type, realloc_type, post_return_type};
 ghost use Rattle.comp_linking.specs.Canons as canons;
 ghost use Rattle.comp_linking.specs.Canons.{is_of_core_type};
 ghost use Rattle.type_tables.specs.Laid.{IsLaid};
 
 use crate::core_item::CoreItem;
+use crate::few_types::passed;
 use crate::options::Given;
-use ca_types::CoreType;
 use type_tables::LaidFunc;
 use wasm_module::{ValType, are_same};
 
@@ -23,47 +22,13 @@ pub(crate) const PARAM_LIMIT: usize = 16;
 /// How many core values are passed as core results; more are passed in memory.
 pub(crate) const RESULT_LIMIT: usize = 1;
 
-/// Whether a type of core values is a flat type.
-fn is_flat_type(val_type: ValType, flat: CoreType) -> bool
-    ensures { result ≡ same_type val_type (core_val flat) }
-{
-    match flat {
-        CoreType::I32 => val_type.is_same(ValType::I32),
-        CoreType::I64 => val_type.is_same(ValType::I64),
-    }
-}
-
-/// Whether types of core values are flat types.
-fn are_flat_types(val_types: &[ValType], flat: &[CoreType]) -> bool
-    ensures { result ≡ same_types val_types.now (map core_val flat.now) }
-{
-    if val_types.len() != flat.len() {
-        return false;
-    }
-    for at in 0..val_types.len() {
-        if !is_flat_type(val_types[at], flat[at]) {
-            return false;
-        }
-    }
-    true
-}
-
-/// Whether types of core values are those in which values of flat types are passed: of more than so many it is one place in memory.
-fn are_passed(val_types: &[ValType], flat: &[CoreType], most: usize) -> bool
-    ensures { result ≡ same_types val_types.now (map core_val (at_most most flat.now)) }
-{
-    if flat.len() <= most {
-        return are_flat_types(val_types, flat);
-    }
-    are_same(val_types, &[ValType::I32])
-}
-
 /// Whether types of core values are those of the parameters of what is lifted.
 #[tactic(auto, using(crate::proofs::FirstTypes::params_are))]
 fn are_params(laid: &LaidFunc, val_types: &[ValType]) -> bool
     ensures { (f : FuncType) → IsLaid laid.now f → result ≡ same_types val_types.now (lifted_type f).params }
 {
-    are_passed(val_types, laid.params.as_slice(), PARAM_LIMIT)
+    let params = passed(laid.params.as_slice(), PARAM_LIMIT);
+    are_same(val_types, params.as_slice())
 }
 
 /// Whether types of core values are those of the results of what is lifted.
@@ -71,7 +36,8 @@ fn are_params(laid: &LaidFunc, val_types: &[ValType]) -> bool
 fn are_results(laid: &LaidFunc, val_types: &[ValType]) -> bool
     ensures { (f : FuncType) → IsLaid laid.now f → result ≡ same_types val_types.now (lifted_type f).results }
 {
-    are_passed(val_types, laid.returned.as_slice(), RESULT_LIMIT)
+    let results = passed(laid.returned.as_slice(), RESULT_LIMIT);
+    are_same(val_types, results.as_slice())
 }
 
 /// Whether an item is a core function of the type of what is lifted.
