@@ -1,4 +1,4 @@
-//! The definitions of core instances.
+//! The definitions of core instances, and the core functions that lowers make.
 
 ghost use Rattle.std.specs.Prelude.{◌≡◌, true, Some, None, MatchOption};
 ghost use Rattle.std.specs.List.{slice_get};
