@@ -1,36 +1,46 @@
-//! The definitions of core instances.
+//! The definitions of core instances, and the core functions that lowers make.
 
 ghost use Rattle.std.specs.Prelude.{◌≡◌, true, Some, None, MatchOption};
 ghost use Rattle.std.specs.List.{slice_get};
+ghost use Rattle.ca_types.specs.declared.types.FuncType as lifted;
 ghost use Rattle.wasm_module.specs.declared.module.ModuleTree.{ModuleTree};
 ghost use Rattle.comp_graph.specs.declared.graph.CoreRef.{CoreRef};
+ghost use Rattle.comp_graph.specs.declared.graph.FuncRef.{FuncRef};
+ghost use Rattle.comp_graph.specs.declared.graph.FuncRef.TheVariants as func_ref;
 ghost use Rattle.comp_graph.specs.CoreItems as items;
-ghost use Rattle.comp_graph.specs.CoreItems.{core_of, extern_of, func_part};
+ghost use Rattle.comp_graph.specs.CoreItems.{core_func_of, core_memory_of, extern_of, func_part};
+ghost use Rattle.comp_graph.specs.Needs.{lowered_type};
 ghost use Rattle.comp_linking.specs.Tests as tests;
 ghost use Rattle.comp_linking.specs.Tests.{is_of_core_sort, is_core_of, core_fits};
+ghost use Rattle.type_tables.specs.Laid.{IsLaid};
 
-use comp_graph::{CoreExtern, CoreRef};
+use crate::lowered::LoweredType;
+use comp_graph::{CoreExtern, CoreRef, FuncRef};
 use comp_tree::{CoreSort, Sort};
 use std::marker::Model;
-use wasm_module::{FuncType, GlobalType, ImportDesc, Limits, ModuleTree, Mutability, are_same};
+use type_tables::LaidFunc;
+use wasm_module::{
+    FuncType, GlobalType, ImportDesc, Limits, ModuleTree, Mutability, ValType, are_same,
+};
 
-/// What a definition of a core instance is, with the type that its module gives it.
-#[derive(Clone, Copy)]
+/// What a core definition is, with its type: that which the module of its core instance gives it.
+#[derive(Drop)]
 enum Held<'a> {
-    /// A function of this type.
-    Func(&'a FuncType),
+    /// A function of a core instance.
+    Func(CoreRef, &'a FuncType),
+    /// The core function that the canonical definition of this number makes.
+    Made(usize, LoweredType),
     /// A table.
-    Table(Limits),
+    Table(CoreRef, Limits),
     /// A memory.
-    Memory(Limits),
+    Memory(CoreRef, Limits),
     /// A global.
-    Global(GlobalType),
+    Global(CoreRef, GlobalType),
 }
 
-/// A definition of a core instance, with its type.
+/// A definition of a core instance, or a core function that the Canonical ABI makes, with its type.
 #[derive(Drop)]
 pub struct CoreItem<'a> {
-    core: CoreRef,
     held: Held<'a>,
 }
 
@@ -40,25 +50,43 @@ impl<'a> Model for CoreItem<'a> {
     ghost use Rattle.wasm_module.specs.contracts.types.Limits as limits;
     ghost use Rattle.wasm_module.specs.contracts.types.GlobalType as global_type;
     ghost use Rattle.comp_graph.specs.contracts.graph.CoreRef as core_ref;
+    ghost use Rattle.comp_graph.specs.contracts.graph.FuncRef as func_ref;
     ghost use Rattle.comp_graph.specs.CoreItems as items;
 
     ghost Value = { items.CoreItem };
 
-    ghost coded = { Prim.hlevel (codes, func_type.the_row.coded, limits.the_row.coded, global_type.the_row.coded, core_ref.the_row.coded) };
+    ghost coded = { Prim.hlevel (codes, func_type.the_row.coded, limits.the_row.coded, global_type.the_row.coded, core_ref.the_row.coded, func_ref.the_row.coded) };
 
     ghost use Rattle.core_exports.specs.Held.{item_held};
 
-    ghost view = { λ i. item_held i.core i.held };
+    ghost view = { λ i. item_held i.held };
+}
+
+/// The type of a core function.
+#[derive(Clone, Copy)]
+pub(crate) struct CoreFunc<'r> {
+    /// The types of its parameters.
+    pub params: &'r [ValType],
+    /// The types of its results.
+    pub results: &'r [ValType],
 }
 
 impl<'a> CoreItem<'a> {
-    /// A function of this type.
+    /// A function of a core instance, of this type.
     pub fn func(core: CoreRef, func_type: &'a FuncType) -> CoreItem<'a>
-        ensures { result ≡ items.Func core func_type.now }
+        ensures { result ≡ items.Func (func_ref.Instance core) func_type.now }
     {
         CoreItem {
-            core,
-            held: Held::Func(func_type),
+            held: Held::Func(core, func_type),
+        }
+    }
+
+    /// The core function to which the canonical definition of this number lowers a function.
+    pub fn lowered(number: usize, laid: &LaidFunc) -> CoreItem<'a>
+        ensures { (f : lifted.FuncType) → IsLaid laid.now f → result ≡ items.Func (func_ref.Canon number) (lowered_type f) }
+    {
+        CoreItem {
+            held: Held::Made(number, LoweredType::of(laid)),
         }
     }
 
@@ -67,8 +95,7 @@ impl<'a> CoreItem<'a> {
         ensures { result ≡ items.Table core limits }
     {
         CoreItem {
-            core,
-            held: Held::Table(limits),
+            held: Held::Table(core, limits),
         }
     }
 
@@ -77,8 +104,7 @@ impl<'a> CoreItem<'a> {
         ensures { result ≡ items.Memory core limits }
     {
         CoreItem {
-            core,
-            held: Held::Memory(limits),
+            held: Held::Memory(core, limits),
         }
     }
 
@@ -87,8 +113,7 @@ impl<'a> CoreItem<'a> {
         ensures { result ≡ items.Global core global_type }
     {
         CoreItem {
-            core,
-            held: Held::Global(global_type),
+            held: Held::Global(core, global_type),
         }
     }
 
@@ -96,21 +121,25 @@ impl<'a> CoreItem<'a> {
     pub fn again(&self) -> CoreItem<'a>
         ensures { result ≡ self.now }
     {
-        CoreItem {
-            core: self.core,
-            held: self.held,
-        }
+        let held = match &self.held {
+            Held::Func(core, func_type) => Held::Func(*core, *func_type),
+            Held::Made(number, made) => Held::Made(*number, made.again()),
+            Held::Table(core, limits) => Held::Table(*core, *limits),
+            Held::Memory(core, limits) => Held::Memory(*core, *limits),
+            Held::Global(core, global_type) => Held::Global(*core, *global_type),
+        };
+        CoreItem { held }
     }
 
     /// Its sort, which is that of functions, tables, memories or globals.
     pub fn sort(&self) -> CoreSort
         ensures { is_of_core_sort self.now result ≡ true }
     {
-        match self.held {
-            Held::Func(_) => CoreSort::Func,
-            Held::Table(_) => CoreSort::Table,
-            Held::Memory(_) => CoreSort::Memory,
-            Held::Global(_) => CoreSort::Global,
+        match &self.held {
+            Held::Func(_, _) | Held::Made(_, _) => CoreSort::Func,
+            Held::Table(_, _) => CoreSort::Table,
+            Held::Memory(_, _) => CoreSort::Memory,
+            Held::Global(_, _) => CoreSort::Global,
         }
     }
 
@@ -118,11 +147,11 @@ impl<'a> CoreItem<'a> {
     fn is_of_core(&self, sort: CoreSort) -> bool
         ensures { result ≡ is_of_core_sort self.now sort }
     {
-        match self.held {
-            Held::Func(_) => sort == CoreSort::Func,
-            Held::Table(_) => sort == CoreSort::Table,
-            Held::Memory(_) => sort == CoreSort::Memory,
-            Held::Global(_) => sort == CoreSort::Global,
+        match &self.held {
+            Held::Func(_, _) | Held::Made(_, _) => sort == CoreSort::Func,
+            Held::Table(_, _) => sort == CoreSort::Table,
+            Held::Memory(_, _) => sort == CoreSort::Memory,
+            Held::Global(_, _) => sort == CoreSort::Global,
         }
     }
 
@@ -140,28 +169,50 @@ impl<'a> CoreItem<'a> {
     pub fn core_extern(&self) -> CoreExtern
         ensures { result ≡ extern_of self.now }
     {
-        match self.held {
-            Held::Func(_) => CoreExtern::Func(self.core),
-            Held::Table(_) => CoreExtern::Table(self.core),
-            Held::Memory(_) => CoreExtern::Memory(self.core),
-            Held::Global(_) => CoreExtern::Global(self.core),
+        match &self.held {
+            Held::Func(core, _) => CoreExtern::Func(FuncRef::Instance(*core)),
+            Held::Made(number, _) => CoreExtern::Func(FuncRef::Canon(*number)),
+            Held::Table(core, _) => CoreExtern::Table(*core),
+            Held::Memory(core, _) => CoreExtern::Memory(*core),
+            Held::Global(core, _) => CoreExtern::Global(*core),
         }
     }
 
-    /// Which core instance's definition it is.
-    pub fn core(&self) -> CoreRef
-        ensures { result ≡ core_of self.now }
+    /// Which core function it is, where it is one.
+    pub fn core_func(&self) -> Option<FuncRef>
+        ensures { result ≡ core_func_of self.now }
     {
-        self.core
+        match &self.held {
+            Held::Func(core, _) => Some(FuncRef::Instance(*core)),
+            Held::Made(number, _) => Some(FuncRef::Canon(*number)),
+            Held::Table(_, _) | Held::Memory(_, _) | Held::Global(_, _) => None,
+        }
+    }
+
+    /// Which memory it is, where it is one.
+    pub fn core_memory(&self) -> Option<CoreRef>
+        ensures { result ≡ core_memory_of self.now }
+    {
+        match &self.held {
+            Held::Memory(core, _) => Some(*core),
+            Held::Func(_, _) | Held::Made(_, _) | Held::Table(_, _) | Held::Global(_, _) => None,
+        }
     }
 
     /// Its type, where it is a function.
-    pub fn func_type(&self) -> Option<&'a FuncType>
-        ensures { MatchOption result (func_part self.now ≡ None) (λ t. func_part self.now ≡ Some t.now) }
+    pub(crate) fn func_type(&self) -> Option<CoreFunc<'_>>
+        ensures { MatchOption result (func_part self.now ≡ None) (λ t. func_part self.now ≡ Some (record { params = t.params.now; results = t.results.now })) }
     {
-        match self.held {
-            Held::Func(func_type) => Some(func_type),
-            Held::Table(_) | Held::Memory(_) | Held::Global(_) => None,
+        match &self.held {
+            Held::Func(_, func_type) => Some(CoreFunc {
+                params: func_type.params.as_slice(),
+                results: func_type.results.as_slice(),
+            }),
+            Held::Made(_, made) => Some(CoreFunc {
+                params: made.params(),
+                results: made.results(),
+            }),
+            Held::Table(_, _) | Held::Memory(_, _) | Held::Global(_, _) => None,
         }
     }
 
@@ -169,11 +220,26 @@ impl<'a> CoreItem<'a> {
     pub fn fits(&self, tree: &ModuleTree, desc: ImportDesc) -> bool
         ensures { result ≡ core_fits tree.now self.now desc }
     {
-        match self.held {
-            Held::Func(func_type) => fits_func(tree, func_type, desc),
-            Held::Table(limits) => fits_table(limits, desc),
-            Held::Memory(limits) => fits_memory(limits, desc),
-            Held::Global(global_type) => fits_global(global_type, desc),
+        match (&self.held, desc) {
+            (Held::Func(_, func_type), ImportDesc::Func(index)) => is_type(
+                tree,
+                index,
+                func_type.params.as_slice(),
+                func_type.results.as_slice(),
+            ),
+            (Held::Made(_, made), ImportDesc::Func(index)) => {
+                is_type(tree, index, made.params(), made.results())
+            }
+            (Held::Table(_, limits), ImportDesc::Table(asked)) => {
+                is_within(*limits, asked.limits())
+            }
+            (Held::Memory(_, limits), ImportDesc::Memory(asked)) => {
+                is_within(*limits, asked.limits())
+            }
+            (Held::Global(_, global_type), ImportDesc::Global(asked)) => {
+                is_global(*global_type, asked)
+            }
+            (_, _) => false,
         }
     }
 }
@@ -186,60 +252,19 @@ pub fn item_at<'a>(items: &[CoreItem<'a>], index: u32) -> Option<CoreItem<'a>>
     Some(item.again())
 }
 
-/// Whether a function of this type is what is asked for.
-fn fits_func(tree: &ModuleTree, func_type: &FuncType, desc: ImportDesc) -> bool
-    ensures { (core : CoreRef) → result ≡ core_fits tree.now (items.Func core func_type.now) desc }
+/// Whether a function type is that of these types of parameters and of results.
+fn is_same_func(func_type: &FuncType, params: &[ValType], results: &[ValType]) -> bool
+    ensures { result ≡ tests.same_core_func func_type.now (record { params = params.now; results = results.now }) }
 {
-    match desc {
-        ImportDesc::Func(index) => is_type(tree, index, func_type),
-        ImportDesc::Table(_) | ImportDesc::Memory(_) | ImportDesc::Global(_) => false,
-    }
+    are_same(func_type.params.as_slice(), params) && are_same(func_type.results.as_slice(), results)
 }
 
-/// Whether a table of these limits is what is asked for.
-fn fits_table(limits: Limits, desc: ImportDesc) -> bool
-    ensures { (tree : ModuleTree) → (core : CoreRef) → result ≡ core_fits tree (items.Table core limits) desc }
-{
-    match desc {
-        ImportDesc::Table(asked) => is_within(limits, asked.limits()),
-        ImportDesc::Func(_) | ImportDesc::Memory(_) | ImportDesc::Global(_) => false,
-    }
-}
-
-/// Whether a memory of these limits is what is asked for.
-fn fits_memory(limits: Limits, desc: ImportDesc) -> bool
-    ensures { (tree : ModuleTree) → (core : CoreRef) → result ≡ core_fits tree (items.Memory core limits) desc }
-{
-    match desc {
-        ImportDesc::Memory(asked) => is_within(limits, asked.limits()),
-        ImportDesc::Func(_) | ImportDesc::Table(_) | ImportDesc::Global(_) => false,
-    }
-}
-
-/// Whether a global of this type is what is asked for.
-fn fits_global(global_type: GlobalType, desc: ImportDesc) -> bool
-    ensures { (tree : ModuleTree) → (core : CoreRef) → result ≡ core_fits tree (items.Global core global_type) desc }
-{
-    match desc {
-        ImportDesc::Global(asked) => is_global(global_type, asked),
-        ImportDesc::Func(_) | ImportDesc::Table(_) | ImportDesc::Memory(_) => false,
-    }
-}
-
-/// Whether two function types are the same.
-fn is_same_func(func_type: &FuncType, other: &FuncType) -> bool
-    ensures { result ≡ tests.same_core_func func_type.now other.now }
-{
-    are_same(func_type.params.as_slice(), other.params.as_slice())
-        && are_same(func_type.results.as_slice(), other.results.as_slice())
-}
-
-/// Whether the type of an index of a module is there and the same.
-fn is_type(tree: &ModuleTree, index: u32, func_type: &FuncType) -> bool
-    ensures { result ≡ tests.is_core_func (slice_get tree.now.types index) func_type.now }
+/// Whether the type of an index of a module is there, and that of these types of parameters and of results.
+fn is_type(tree: &ModuleTree, index: u32, params: &[ValType], results: &[ValType]) -> bool
+    ensures { result ≡ tests.is_core_func (slice_get tree.now.types index) (record { params = params.now; results = results.now }) }
 {
     match tree.types.as_slice().get(index as usize) {
-        Some(asked) => is_same_func(asked, func_type),
+        Some(asked) => is_same_func(asked, params, results),
         None => false,
     }
 }

@@ -31,11 +31,12 @@ impl<'a> Model for CoreExports<'a> {
     ghost use Rattle.wasm_module.specs.contracts.types.Limits as limits;
     ghost use Rattle.wasm_module.specs.contracts.types.GlobalType as global_type;
     ghost use Rattle.comp_graph.specs.contracts.graph.CoreRef as core_ref;
+    ghost use Rattle.comp_graph.specs.contracts.graph.FuncRef as func_ref;
     ghost use Rattle.comp_linking.specs.Definitions.{CoreExport};
 
     ghost Value = { List CoreExport };
 
-    ghost coded = { Prim.hlevel (codes, func_type.the_row.coded, limits.the_row.coded, global_type.the_row.coded, core_ref.the_row.coded) };
+    ghost coded = { Prim.hlevel (codes, func_type.the_row.coded, limits.the_row.coded, global_type.the_row.coded, core_ref.the_row.coded, func_ref.the_row.coded) };
 
     ghost use Rattle.core_exports.specs.Source.{exports_from};
 

@@ -4,13 +4,15 @@
 //! which takes no room for what its module exports. A look-up by name takes as long as a map's. What `comp_linking` defines
 //! is what contracts speak of.
 //!
-//! - `core_item`: definitions of core instances with their types, and what imports ask for
+//! - `few_types`: the types of the core values in which values are passed
+//! - `lowered`: the types of core functions to which functions are lowered
+//! - `core_item`: core definitions with their types, and what imports ask for
 //! - `core_module`: core modules, with their index spaces and their exports by name
 //! - `inline_exports` and `exports`: what core instances export
 //! - `arguments` and `imports`: what a core module that is instantiated is passed for its imports
 //! - `aliases`: what an alias of an export of a core instance stands for
-//! - `options`: the options of lifts, and what they give
-//! - `needs`: whether core items can be lifted with it
+//! - `options`: the options of lifts and lowers, and what they give
+//! - `needs`: whether core items can be lifted with it, and functions lowered
 //! - `names`: names that stand twice, and names that are not there
 #![tactic(auto)]
 
@@ -19,8 +21,10 @@ mod arguments;
 mod core_item;
 mod core_module;
 mod exports;
+mod few_types;
 mod imports;
 mod inline_exports;
+mod lowered;
 mod names;
 mod needs;
 mod options;
@@ -32,5 +36,5 @@ pub use exports::CoreExports;
 pub use imports::{externs_of, imports_passed};
 pub use inline_exports::{InlineExport, InlineExports};
 pub use names::{are_distinct, missing};
-pub use needs::can_be_lifted;
+pub use needs::{can_be_lifted, can_be_lowered};
 pub use options::{Given, are_there, stand_once};

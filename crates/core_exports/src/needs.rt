@@ -1,69 +1,34 @@
-//! What lifts need, and whether core items can be lifted with what is given.
+//! What lifts and lowers need, and whether core items can be lifted, and functions lowered, with what is given.
 
-ghost use Rattle.std.specs.Prelude.{◌≡◌, map, true};
+ghost use Rattle.std.specs.Prelude.{◌≡◌, true};
 ghost use Rattle.std.specs.Option.{option_map_or};
 ghost use Rattle.ca_types.specs.declared.types.FuncType.{FuncType};
-ghost use Rattle.ca_types.specs.Flat.{at_most};
-ghost use Rattle.wasm_module.specs.SameTypes.{same_type, same_types};
+ghost use Rattle.wasm_module.specs.SameTypes.{same_types};
 ghost use Rattle.comp_graph.specs.Needs as needs;
-ghost use Rattle.comp_graph.specs.Needs.{core_val, lifted_type, realloc_type, post_return_type};
+ghost use Rattle.comp_graph.specs.Needs.{lifted_type, realloc_type, post_return_type};
 ghost use Rattle.comp_linking.specs.Canons as canons;
 ghost use Rattle.comp_linking.specs.Canons.{is_of_core_type};
 ghost use Rattle.type_tables.specs.Laid.{IsLaid};
 
 use crate::core_item::CoreItem;
+use crate::few_types::passed;
 use crate::options::Given;
-use ca_types::CoreType;
 use type_tables::LaidFunc;
 use wasm_module::{ValType, are_same};
 
 /// How many core values are passed as core parameters; more are passed in memory.
-const PARAM_LIMIT: usize = 16;
+pub(crate) const PARAM_LIMIT: usize = 16;
 
 /// How many core values are passed as core results; more are passed in memory.
-const RESULT_LIMIT: usize = 1;
-
-/// Whether a type of core values is a flat type.
-fn is_flat_type(val_type: ValType, flat: CoreType) -> bool
-    ensures { result ≡ same_type val_type (core_val flat) }
-{
-    match flat {
-        CoreType::I32 => val_type.is_same(ValType::I32),
-        CoreType::I64 => val_type.is_same(ValType::I64),
-    }
-}
-
-/// Whether types of core values are flat types.
-fn are_flat_types(val_types: &[ValType], flat: &[CoreType]) -> bool
-    ensures { result ≡ same_types val_types.now (map core_val flat.now) }
-{
-    if val_types.len() != flat.len() {
-        return false;
-    }
-    for at in 0..val_types.len() {
-        if !is_flat_type(val_types[at], flat[at]) {
-            return false;
-        }
-    }
-    true
-}
-
-/// Whether types of core values are those in which values of flat types are passed: of more than so many it is one place in memory.
-fn are_passed(val_types: &[ValType], flat: &[CoreType], most: usize) -> bool
-    ensures { result ≡ same_types val_types.now (map core_val (at_most most flat.now)) }
-{
-    if flat.len() <= most {
-        return are_flat_types(val_types, flat);
-    }
-    are_same(val_types, &[ValType::I32])
-}
+pub(crate) const RESULT_LIMIT: usize = 1;
 
 /// Whether types of core values are those of the parameters of what is lifted.
 #[tactic(auto, using(crate::proofs::FirstTypes::params_are))]
 fn are_params(laid: &LaidFunc, val_types: &[ValType]) -> bool
     ensures { (f : FuncType) → IsLaid laid.now f → result ≡ same_types val_types.now (lifted_type f).params }
 {
-    are_passed(val_types, laid.params.as_slice(), PARAM_LIMIT)
+    let params = passed(laid.params.as_slice(), PARAM_LIMIT);
+    are_same(val_types, params.as_slice())
 }
 
 /// Whether types of core values are those of the results of what is lifted.
@@ -71,7 +36,8 @@ fn are_params(laid: &LaidFunc, val_types: &[ValType]) -> bool
 fn are_results(laid: &LaidFunc, val_types: &[ValType]) -> bool
     ensures { (f : FuncType) → IsLaid laid.now f → result ≡ same_types val_types.now (lifted_type f).results }
 {
-    are_passed(val_types, laid.returned.as_slice(), RESULT_LIMIT)
+    let results = passed(laid.returned.as_slice(), RESULT_LIMIT);
+    are_same(val_types, results.as_slice())
 }
 
 /// Whether an item is a core function of the type of what is lifted.
@@ -79,10 +45,7 @@ fn is_lifted(laid: &LaidFunc, item: &CoreItem<'_>) -> bool
     ensures { (f : FuncType) → IsLaid laid.now f → result ≡ is_of_core_type (lifted_type f) item.now }
 {
     match item.func_type() {
-        Some(of_core) => {
-            are_params(laid, of_core.params.as_slice())
-                && are_results(laid, of_core.results.as_slice())
-        }
+        Some(of_core) => { are_params(laid, of_core.params) && are_results(laid, of_core.results) }
         None => false,
     }
 }
@@ -94,8 +57,8 @@ fn is_realloc(item: &CoreItem<'_>) -> bool
     let place = ValType::I32;
     match item.func_type() {
         Some(of_core) => {
-            are_same(of_core.params.as_slice(), &[place, place, place, place])
-                && are_same(of_core.results.as_slice(), &[place])
+            are_same(of_core.params, &[place, place, place, place])
+                && are_same(of_core.results, &[place])
         }
         None => false,
     }
@@ -106,10 +69,7 @@ fn is_post_return(laid: &LaidFunc, item: &CoreItem<'_>) -> bool
     ensures { (f : FuncType) → IsLaid laid.now f → result ≡ is_of_core_type (post_return_type f) item.now }
 {
     match item.func_type() {
-        Some(of_core) => {
-            are_results(laid, of_core.params.as_slice())
-                && are_same(of_core.results.as_slice(), &[])
-        }
+        Some(of_core) => { are_results(laid, of_core.params) && are_same(of_core.results, &[]) }
         None => false,
     }
 }
@@ -134,7 +94,7 @@ fn post_return_fits(laid: &LaidFunc, given: &Given<'_>) -> bool
     }
 }
 
-/// Whether the lift passes something in memory.
+/// Whether the lift or the lower passes something in memory.
 #[tactic(auto, using(crate::proofs::FirstTypes::many_params, crate::proofs::FirstTypes::many_results))]
 fn needs_memory(laid: &LaidFunc) -> bool
     ensures { (f : FuncType) → IsLaid laid.now f → result ≡ needs.needs_memory f }
@@ -147,8 +107,8 @@ fn needs_memory(laid: &LaidFunc) -> bool
 
 /// Whether the lift asks for places in memory.
 #[tactic(auto, using(crate::proofs::FirstTypes::many_params))]
-fn needs_realloc(laid: &LaidFunc) -> bool
-    ensures { (f : FuncType) → IsLaid laid.now f → result ≡ needs.needs_realloc f }
+fn lift_needs_realloc(laid: &LaidFunc) -> bool
+    ensures { (f : FuncType) → IsLaid laid.now f → result ≡ needs.lift_needs_realloc f }
 {
     laid.params.len() > PARAM_LIMIT || laid.params_hold_list
 }
@@ -162,5 +122,16 @@ pub fn can_be_lifted(laid: &LaidFunc, item: &CoreItem<'_>, given: &Given<'_>) ->
         && realloc_fits(given)
         && post_return_fits(laid, given)
         && (!needs_memory(laid) || given.memory.is_some())
-        && (!needs_realloc(laid) || given.realloc.is_some())
+        && (!lift_needs_realloc(laid) || given.realloc.is_some())
+}
+
+/// Whether a function of a type can be lowered with what options give (Component Model, CanonicalABI.md, `canon lower`). It takes
+/// no longer for a function of many parameters.
+pub fn can_be_lowered(laid: &LaidFunc, given: &Given<'_>) -> bool
+    ensures { (f : FuncType) → IsLaid laid.now f → result ≡ canons.can_be_lowered f given.now }
+{
+    realloc_fits(given)
+        && given.post_return.is_none()
+        && (!needs_memory(laid) || given.memory.is_some())
+        && (!laid.result_holds_list || given.realloc.is_some())
 }

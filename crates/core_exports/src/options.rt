@@ -2,15 +2,15 @@
 
 ghost use Rattle.std.specs.Prelude.{◌≡◌, length};
 ghost use Rattle.std.specs.List.{list_all, slice_get};
-ghost use Rattle.std.specs.Option.{option_and_then, option_map};
-ghost use Rattle.comp_graph.specs.CoreItems.{core_of};
+ghost use Rattle.std.specs.Option.{option_and_then};
+ghost use Rattle.comp_graph.specs.CoreItems.{core_func_of, core_memory_of};
 ghost use Rattle.comp_linking.specs.Canons as canons;
 ghost use Rattle.comp_linking.specs.Canons.{count_of, is_option_there, given_by, options_of};
 ghost use Rattle.comp_linking.specs.Spaces.{Spaces};
 ghost use Rattle.core_exports.specs.Kinds.{kind_index, is_of_kind};
 
 use crate::core_item::{CoreItem, item_at};
-use comp_graph::{CoreRef, Options};
+use comp_graph::{CoreRef, FuncRef, Options};
 use comp_tree::CanonOption;
 use std::marker::Model;
 
@@ -122,11 +122,12 @@ impl<'a> Model for Given<'a> {
     ghost use Rattle.wasm_module.specs.contracts.types.Limits as limits;
     ghost use Rattle.wasm_module.specs.contracts.types.GlobalType as global_type;
     ghost use Rattle.comp_graph.specs.contracts.graph.CoreRef as core_ref;
+    ghost use Rattle.comp_graph.specs.contracts.graph.FuncRef as func_ref;
     ghost use Rattle.comp_linking.specs.Canons as canons;
 
     ghost Value = { canons.Given };
 
-    ghost coded = { Prim.hlevel (codes, func_type.the_row.coded, limits.the_row.coded, global_type.the_row.coded, core_ref.the_row.coded) };
+    ghost coded = { Prim.hlevel (codes, func_type.the_row.coded, limits.the_row.coded, global_type.the_row.coded, core_ref.the_row.coded, func_ref.the_row.coded) };
 
     ghost view = { λ g. record { memory = g.memory; realloc = g.realloc; post_return = g.post_return } };
 }
@@ -152,9 +153,9 @@ impl<'a> Given<'a> {
         ensures { result ≡ options_of self.now }
     {
         Options {
-            memory: core_of(&self.memory),
-            realloc: core_of(&self.realloc),
-            post_return: core_of(&self.post_return),
+            memory: memory_of(&self.memory),
+            realloc: func_of(&self.realloc),
+            post_return: func_of(&self.post_return),
         }
     }
 }
@@ -166,12 +167,22 @@ fn item_of<'a>(items: &[CoreItem<'a>], index: Option<u32>) -> Option<CoreItem<'a
     item_at(items, index?)
 }
 
-/// Which core instance's definition an item is, if there is one.
-fn core_of(item: &Option<CoreItem<'_>>) -> Option<CoreRef>
-    ensures { result ≡ option_map core_of item.now }
+/// Which memory an item is, if there is one.
+fn memory_of(item: &Option<CoreItem<'_>>) -> Option<CoreRef>
+    ensures { result ≡ option_and_then core_memory_of item.now }
 {
     match item {
-        Some(item) => Some(item.core()),
+        Some(item) => item.core_memory(),
+        None => None,
+    }
+}
+
+/// Which core function an item is, if there is one.
+fn func_of(item: &Option<CoreItem<'_>>) -> Option<FuncRef>
+    ensures { result ≡ option_and_then core_func_of item.now }
+{
+    match item {
+        Some(item) => item.core_func(),
         None => None,
     }
 }

@@ -8,7 +8,7 @@ ghost use Rattle.type_tables.specs.Table.{Table};
 ghost use Rattle.type_tables.specs.Table.{IsExtern};
 ghost use Rattle.instance_tables.specs.References.{World, Stands, seen_ref, func_ref, type_ref, instance_ref};
 
-use comp_graph::{CoreRef, Options};
+use comp_graph::{FuncRef, Options};
 use type_tables::{ExternRef, FuncTypeRef, InstanceTypeRef, TypeRef};
 
 /// A function.
@@ -17,7 +17,7 @@ pub struct LiftedRef {
     /// The component instance that lifts it.
     pub instance: usize,
     /// The core function that it lifts.
-    pub core: CoreRef,
+    pub core: FuncRef,
     /// What else the lift uses.
     pub options: Options,
     /// Its type.
