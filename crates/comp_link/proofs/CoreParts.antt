@@ -1,5 +1,5 @@
 -- Instantiations of core modules, and lifts: what they come to, by what is found of their parts.
-use Rattle.std.proofs.Common.{◌≡◌, ◌<◌, ◌≤◌, ◌∙◌, ℕ, Bool, true, false, List, length, refl, ap, Some, None}
+use Rattle.std.proofs.Common.{◌≡◌, ◌<◌, ◌≤◌, ◌∙◌, ℕ, Bool, true, false, List, length, refl, ap, Option, Some, None}
 use Rattle.std.specs.Prelude.{Result, Ok, Err}
 use Rattle.std.specs.List.{slice_get, list_all}
 use Rattle.std.proofs.lemmas.Bool.{lt-ltb, le-ltb}
@@ -9,6 +9,8 @@ use Rattle.wasm_module.specs.declared.module.ModuleTree.{ModuleTree}
 use Rattle.comp_tree.specs.declared.core_instances.CoreArgument.{CoreArgument}
 use Rattle.comp_tree.specs.declared.core_instances.CoreInstance.TheVariants as made_core
 use Rattle.comp_tree.specs.declared.items.CanonOption.{CanonOption}
+use Rattle.comp_graph.specs.declared.graph.FuncRef.{FuncRef}
+use Rattle.comp_graph.specs.CoreItems.{core_func_of}
 use Rattle.comp_graph.specs.Closed.{Closed, Value, Func, Instance}
 use Rattle.comp_linking.specs.declared.fault.LinkWhy.{LinkWhy}
 use Rattle.comp_linking.specs.declared.fault.LinkWhy.TheVariants as why
@@ -18,7 +20,7 @@ use Rattle.comp_linking.specs.Runs.{reaches, runs_lift}
 use Rattle.comp_linking.specs.Spaces.{Spaces, Linking}
 use Rattle.comp_linking.specs.Canons.{Given, given_by, stand_once, is_option_there, can_be_lifted}
 use Rattle.comp_linking.specs.Items.{instance_limit, core_made, lifted_with}
-use Rattle.comp_linking.specs.Computed.{Makes, only_if, imports_outcome, core_instance_outcome, lifted_to, lifted_of}
+use Rattle.comp_linking.specs.Computed.{Makes, after, there_or, only_if, imports_outcome, core_instance_outcome, lifted_to, lifted_of}
 use Rattle.type_tables.specs.declared.refs.FuncTypeRef.{FuncTypeRef}
 use Rattle.type_tables.specs.declared.refs.TypeRef.{TypeRef}
 use Rattle.type_tables.specs.declared.refs.TypeRef.TheVariants as type_ref
@@ -43,28 +45,39 @@ module _ (l : Linking) (n : ℕ) (s : Spaces) (index : ℕ) (arguments : List Co
   past_limit items h past = rw (is, passed ∙ h, le-ltb (length l.cores) instance_limit past) refl
 
 -- The lift of a core item, by its tests.
-abbrev lift_tests : Bool → Bool → Bool → Lifted → Result Lifted LinkWhy
-lift_tests once lifts within lifted = only_if once why.Canon (only_if lifts why.Canon (only_if within why.Limit (Ok lifted)))
+abbrev lift_tests : Bool → Bool → Option FuncRef → Bool → (FuncRef → Lifted) → Result Lifted LinkWhy
+lift_tests once lifts core within lifted =
+    only_if once why.Canon (only_if lifts why.Canon (after (there_or why.Canon core) (λ core. only_if within why.Limit (Ok (lifted core)))))
 
 module _ (reach : Reach) (n : ℕ) (type : FuncType) (item : CoreItem) (options : List CanonOption) (given : Given) where
-  pub not_once : stand_once options ≡ false → lifted_to reach n type item options given ≡ Err why.Canon
-  not_once once = ap (λ (b : Bool). lift_tests b (can_be_lifted type item given) (reaches reach (runs_lift options type)) (lifted_with n type item given)) once
+  abbrev within : Bool
+  within = reaches reach (runs_lift options type)
 
-  tests_left : stand_once options ≡ true → lifted_to reach n type item options given ≡ lift_tests true (can_be_lifted type item given) (reaches reach (runs_lift options type)) (lifted_with n type item given)
-  tests_left once = ap (λ (b : Bool). lift_tests b (can_be_lifted type item given) (reaches reach (runs_lift options type)) (lifted_with n type item given)) once
+  abbrev lifted : FuncRef → Lifted
+  lifted core = lifted_with n type core given
+
+  pub not_once : stand_once options ≡ false → lifted_to reach n type item options given ≡ Err why.Canon
+  not_once once = ap (λ (b : Bool). lift_tests b (can_be_lifted type item given) (core_func_of item) within lifted) once
+
+  tests_left : stand_once options ≡ true → lifted_to reach n type item options given ≡ lift_tests true (can_be_lifted type item given) (core_func_of item) within lifted
+  tests_left once = ap (λ (b : Bool). lift_tests b (can_be_lifted type item given) (core_func_of item) within lifted) once
 
   pub not_lifted : stand_once options ≡ true → can_be_lifted type item given ≡ false → lifted_to reach n type item options given ≡ Err why.Canon
-  not_lifted once lifts = tests_left once ∙ ap (λ (b : Bool). lift_tests true b (reaches reach (runs_lift options type)) (lifted_with n type item given)) lifts
+  not_lifted once lifts = tests_left once ∙ ap (λ (b : Bool). lift_tests true b (core_func_of item) within lifted) lifts
 
-  pub past_reach : stand_once options ≡ true → can_be_lifted type item given ≡ true → reaches reach (runs_lift options type) ≡ false → lifted_to reach n type item options given ≡ Err why.Limit
-  past_reach once lifts past =
-      tests_left once ∙ ap (λ (b : Bool). lift_tests true b (reaches reach (runs_lift options type)) (lifted_with n type item given)) lifts
-      ∙ ap (λ (b : Bool). lift_tests true true b (lifted_with n type item given)) past
+  module _ (once : stand_once options ≡ true) (lifts : can_be_lifted type item given ≡ true) where
+    core_left : (o : Option FuncRef) → core_func_of item ≡ o → lifted_to reach n type item options given ≡ lift_tests true true o within lifted
+    core_left o is =
+        tests_left once ∙ ap (λ (b : Bool). lift_tests true b (core_func_of item) within lifted) lifts ∙ ap (λ (o : Option FuncRef). lift_tests true true o within lifted) is
 
-  pub is_lift : stand_once options ≡ true → can_be_lifted type item given ≡ true → reaches reach (runs_lift options type) ≡ true → lifted_to reach n type item options given ≡ Ok (lifted_with n type item given)
-  is_lift once lifts within =
-      tests_left once ∙ ap (λ (b : Bool). lift_tests true b (reaches reach (runs_lift options type)) (lifted_with n type item given)) lifts
-      ∙ ap (λ (b : Bool). lift_tests true true b (lifted_with n type item given)) within
+    pub no_core : core_func_of item ≡ None → lifted_to reach n type item options given ≡ Err why.Canon
+    no_core is = core_left None is
+
+    pub past_reach : (core : FuncRef) → core_func_of item ≡ Some core → within ≡ false → lifted_to reach n type item options given ≡ Err why.Limit
+    past_reach core is past = core_left (Some core) is ∙ ap (λ (b : Bool). lift_tests true true (Some core) b lifted) past
+
+    pub is_lift : (core : FuncRef) → core_func_of item ≡ Some core → within ≡ true → lifted_to reach n type item options given ≡ Ok (lifted core)
+    is_lift core is reached = core_left (Some core) is ∙ ap (λ (b : Bool). lift_tests true true (Some core) b lifted) reached
 
 -- What a lift comes to where its parts are there or not.
 module _ (reach : Reach) (n : ℕ) (s : Spaces) (f : ℕ) (options : List CanonOption) (t : ℕ) where

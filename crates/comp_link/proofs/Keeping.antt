@@ -11,14 +11,16 @@ use Rattle.comp_tree.specs.declared.instances.Instance.TheVariants as made
 use Rattle.comp_tree.specs.declared.instances.Sort.{Sort}
 use Rattle.comp_tree.specs.declared.instances.AliasTarget.{AliasTarget}
 use Rattle.comp_tree.specs.declared.instances.AliasTarget.TheVariants as target
-use Rattle.comp_tree.specs.declared.items.Canon.TheVariants.{Lift}
+use Rattle.comp_tree.specs.declared.items.Canon.TheVariants.{Lift, Lower}
 use Rattle.comp_tree.specs.declared.items.Item.{Item, out-Item}
 use Rattle.comp_tree.specs.declared.items.Item.TheOpen.{Item-F}
 use Rattle.comp_tree.specs.declared.items.Component.{Component}
 use Rattle.comp_linking.specs.declared.fault.LinkWhy.{LinkWhy}
 use Rattle.comp_linking.specs.declared.fault.LinkFault.{LinkFault}
-use Rattle.comp_linking.specs.Definitions.{Closure, Exports, exports_of}
-use Rattle.comp_linking.specs.Spaces.{Spaces, Linking, new_spaces, with_spaces, with_core_instance}
+use Rattle.comp_graph.specs.declared.graph.FuncRef.TheVariants as func_ref
+use Rattle.comp_graph.specs.Needs.{lowered_type}
+use Rattle.comp_linking.specs.Definitions.{Func, Closure, Exports, exports_of}
+use Rattle.comp_linking.specs.Spaces.{Spaces, Linking, new_spaces, with_spaces, with_core_item, with_core_instance}
 use Rattle.comp_linking.specs.Items.{core_instance_makes, instance_makes, alias_makes, makes_case}
 use Rattle.comp_linking.specs.Linked.{begun, with_instance}
 use Rattle.comp_linking.specs.Computed.{after, Outcome, Makes, Starts, item_outcome, Run, behind, placed_at, step, run, run_within}
@@ -56,7 +58,8 @@ case_sets l n s (Item-F.Component c) new e = set_by l n _ new e
 case_sets l n s (Item-F.Instance i) new h = instance_sets l n s i new h
 case_sets l n s (Item-F.Alias alias) new h = alias_sets l n s alias.sort alias.target new h
 case_sets l n s (Item-F.Type type) new (closed, is, within, e) = set_by l n _ new e
-case_sets l n s (Item-F.Canon (Lift f options t)) new (item, type, is, there, of_type, once, lifts, within, e) = set_by l n _ new e
+case_sets l n s (Item-F.Canon (Lift f options t)) new (item, core, type, is, of_core, there, of_type, once, lifts, within, e) = set_by l n _ new e
+case_sets l n s (Item-F.Canon (Lower f options)) new (func, is, there, once, lowers, within, e) = (with_core_item s (Func (func_ref.Canon (length l.canons)) (lowered_type func.func_type)), ap (λ (l : Linking). l.scopes) e)
 case_sets l n s (Item-F.Import i) new (extern, d, is, fresh, imported, e) = set_by l n _ new e
 case_sets l n s (Item-F.Export x) new (d, y, is, fresh, exported, e) = set_by l n _ new e
 

@@ -1,4 +1,5 @@
 mod Calling
+pub mod CanonParts
 pub mod CoreParts
 pub mod Growth
 mod Keeping

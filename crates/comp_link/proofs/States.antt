@@ -18,9 +18,9 @@ use Rattle.instance_tables.specs.Instances.{AreInstances, GivesInstance}
 use Rattle.instance_tables.proofs.Growing.{more_bases, stays_before}
 use Rattle.comp_link.specs.declared.scope.Scope.{Scope}
 use Rattle.comp_link.specs.declared.linker.Linker.{Linker}
-use Rattle.comp_link.specs.State.{world_of, IsScope, IsKept, ended, IsLive, IsState, IsAt, IsThere}
+use Rattle.comp_link.specs.State.{world_of, IsScope, IsKept, IsCanon, ended, IsLive, IsState, IsAt, IsThere}
 use Rattle.comp_link.proofs.Zips.{zips_weaker, zips_set, zips_reset, other_kept, map_set, zips_there, zips_read, last_is}
-use Rattle.comp_link.proofs.Growth.{kept_whole, kept_stays, instances_stay}
+use Rattle.comp_link.proofs.Growth.{kept_whole, kept_stays, canons_stay, instances_stay}
 
 pub same_world : (w : World) → WorldStays w w
 same_world w = record { components = λ number x h. h; bases = λ number x h. h; modules = λ number x h. h }
@@ -28,12 +28,13 @@ same_world w = record { components = λ number x h. h; bases = λ number x h. h;
 -- a state stays where the tables behind it have grown
 pub state_stays : (bases more : List Exports) (k m : Linker) (l : Linking)
     → Grows k.types m.types → WorldStays (world_of bases k) (world_of more m) → AreInstances m.types (world_of more m) m.instances
-    → m.scopes ≡ k.scopes → m.cores ≡ k.cores → m.plan ≡ k.plan → m.reach ≡ k.reach → IsState bases k l → IsState more m l
-state_stays bases more k m l types world instances scopes cores plan reach h = record {
+    → m.scopes ≡ k.scopes → m.cores ≡ k.cores → m.canons ≡ k.canons → m.plan ≡ k.plan → m.reach ≡ k.reach → IsState bases k l → IsState more m l
+state_stays bases more k m l types world instances scopes cores canons plan reach h = record {
   instances = instances;
   scopes = subst (λ (v : Linker). AllZip (IsKept m.types (world_of more m)) v.scopes.items l.scopes) (ap (λ scopes. record k { scopes = scopes }) (sym scopes))
       (zips_weaker (IsKept k.types (world_of bases k)) (IsKept m.types (world_of more m)) (kept_stays k.types m.types (world_of bases k) (world_of more m) types world) k.scopes.items l.scopes h.scopes);
   cores = h.cores ∙ ap (λ cores. cores.items) (sym cores);
+  canons = subst (λ (v : Linker). AllZip (IsCanon m.types) v.canons.items l.canons) (ap (λ canons. record k { canons = canons }) (sym canons)) (canons_stay k.types m.types types k.canons.items l.canons h.canons);
   plan = h.plan ∙ ap (λ plan. plan.items) (sym plan);
   reach = h.reach ∙ sym reach;
 }
@@ -47,6 +48,7 @@ types_grow bases k m l grows same h = subst (λ (v : Linker). IsState bases v l)
       instances = instances_stay k.types m.types (world_of bases k) (world_of bases k) grows (same_world (world_of bases k)) k.instances refl h.instances;
       scopes = zips_weaker (IsKept k.types (world_of bases k)) (IsKept m.types (world_of bases k)) (kept_stays k.types m.types (world_of bases k) (world_of bases k) grows (same_world (world_of bases k))) k.scopes.items l.scopes h.scopes;
       cores = h.cores;
+      canons = canons_stay k.types m.types grows k.canons.items l.canons h.canons;
       plan = h.plan;
       reach = h.reach;
     }
@@ -84,6 +86,7 @@ scope_set bases k n l s next old new is within becomes at = record {
   scopes = zips_set (IsKept k.types (world_of bases k)) k.scopes.items l.scopes n new next at.state.scopes
       (kept_whole k.types (world_of bases k) new next (becomes (scope_is bases k n l s old is within at)));
   cores = at.state.cores;
+  canons = at.state.canons;
   plan = at.state.plan;
   reach = at.state.reach;
 }
@@ -98,6 +101,7 @@ scope_ended bases k n l old new is within types components over h = record {
   instances = h.instances;
   scopes = zips_reset (IsKept k.types (world_of bases k)) k.scopes.items l.scopes n new h.scopes (λ s there. kept s (zips_read (IsKept k.types (world_of bases k)) k.scopes.items l.scopes n old s is within h.scopes there));
   cores = h.cores;
+  canons = h.canons;
   plan = h.plan;
   reach = h.reach;
 }
@@ -138,7 +142,7 @@ components_more bases k m n l s c same is at = subst (λ (v : Linker). IsAt base
     }
 
     state : IsState bases (record k { components = m.components }) l
-    state = state_stays bases bases k (record k { components = m.components }) l (grows_refl k.types) stays (instances_stay k.types k.types (world_of bases k) world (grows_refl k.types) stays k.instances refl at.state.instances) refl refl refl refl at.state
+    state = state_stays bases bases k (record k { components = m.components }) l (grows_refl k.types) stays (instances_stay k.types k.types (world_of bases k) world (grows_refl k.types) stays k.instances refl at.state.instances) refl refl refl refl refl at.state
 
 pub modules_more : (bases : List Exports) (k m : Linker) (n : ℕ) (l : Linking) (s : Spaces) (made : ModuleTree)
     → m ≡ record k { modules = m.modules } → m.modules.items ≡ k.modules.items ++ made ∷ [] → IsAt bases k n l s → IsAt bases m n l s
@@ -155,13 +159,13 @@ modules_more bases k m n l s made same is at = subst (λ (v : Linker). IsAt base
     }
 
     state : IsState bases (record k { modules = m.modules }) l
-    state = state_stays bases bases k (record k { modules = m.modules }) l (grows_refl k.types) stays (instances_stay k.types k.types (world_of bases k) world (grows_refl k.types) stays k.instances refl at.state.instances) refl refl refl refl at.state
+    state = state_stays bases bases k (record k { modules = m.modules }) l (grows_refl k.types) stays (instances_stay k.types k.types (world_of bases k) world (grows_refl k.types) stays k.instances refl at.state.instances) refl refl refl refl refl at.state
 
 -- one instance more
 pub instance_more : (bases : List Exports) (k m : Linker) (l : Linking) (exports : Exports)
     → m ≡ record k { instances = m.instances } → AreInstances k.types (with_base (world_of bases k) exports) m.instances → IsState bases k l → IsState (bases ++ exports ∷ []) m l
 instance_more bases k m l exports same instances h = subst (λ (v : Linker). IsState (bases ++ exports ∷ []) v l) (sym same)
-    (state_stays bases (bases ++ exports ∷ []) k (record k { instances = m.instances }) l (grows_refl k.types) (more_bases (world_of bases k) exports) instances refl refl refl refl h)
+    (state_stays bases (bases ++ exports ∷ []) k (record k { instances = m.instances }) l (grows_refl k.types) (more_bases (world_of bases k) exports) instances refl refl refl refl refl h)
 
 -- an instance that was there, or is one more
 pub instance_given : (bases : List Exports) (k m : Linker) (l : Linking) (i : InstanceRef) (exports : Exports)
@@ -169,7 +173,7 @@ pub instance_given : (bases : List Exports) (k m : Linker) (l : Linking) (i : In
 instance_given bases k m l i exports same gives h = subst (λ (v : Linker). IsThere v l i exports) (sym same) (by gives)
   where
     by : GivesInstance k.types (world_of bases k) m.instances i exports → IsThere (record k { instances = m.instances }) l i exports
-    by (inl has) = record { bases = bases; state = record { instances = has.are; scopes = h.scopes; cores = h.cores; plan = h.plan; reach = h.reach }; instance = has.is }
+    by (inl has) = record { bases = bases; state = record { instances = has.are; scopes = h.scopes; cores = h.cores; canons = h.canons; plan = h.plan; reach = h.reach }; instance = has.is }
     by (inr has) = record {
       bases = bases ++ exports ∷ [];
       state = instance_more bases k (record k { instances = m.instances }) l exports refl has.are h;

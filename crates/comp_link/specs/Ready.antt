@@ -1,18 +1,21 @@
 -- Items on their way (Component Model, Explainer.md, "Import and Export Definitions"): the definition of an item is there, and no
 -- index space has it yet.
 use Rattle.std.specs.Prelude.{◌≡◌, ℕ, true, List, Option, Some, None, Result, Ok, Err}
+use Rattle.comp_graph.specs.declared.graph.Options.{Options}
 use Rattle.comp_graph.specs.Closed.{Extern, Externs}
 use Rattle.comp_linking.specs.declared.fault.LinkWhy.{LinkWhy}
 use Rattle.comp_linking.specs.declared.fault.LinkWhy.TheVariants as why
-use Rattle.comp_linking.specs.Definitions.{Definition, AnInstance, Exports, types_of}
+use Rattle.comp_linking.specs.Canons.{Given, options_of}
+use Rattle.comp_linking.specs.Definitions.{Lifted, Definition, AnInstance, Exports, types_of}
 use Rattle.comp_linking.specs.Spaces.{Spaces, Linking, with_spaces}
-use Rattle.comp_linking.specs.Items.{with_import, with_export}
+use Rattle.comp_linking.specs.Items.{lower_made, with_import, with_export}
 use Rattle.comp_linking.specs.Tests.{are_types}
 use Rattle.comp_linking.specs.Computed.{Outcome, Makes, as_asked}
 use Rattle.type_tables.specs.declared.refs.InstanceTypeRef.{InstanceTypeRef}
 use Rattle.type_tables.specs.Table.{Table, IsInstanceType}
+use Rattle.instance_tables.specs.declared.references.LiftedRef.{LiftedRef}
 use Rattle.instance_tables.specs.declared.references.DefinitionRef.{DefinitionRef}
-use Rattle.instance_tables.specs.References.{World, Stands}
+use Rattle.instance_tables.specs.References.{World, IsLifted, Stands}
 use Rattle.comp_link.specs.declared.linker.Linker.{Linker}
 use Rattle.comp_link.specs.State.{world_of, IsState}
 
@@ -33,6 +36,14 @@ IsGiven t make ref outcome =
 -- the definition of which it is, where it is one
 abbrev pub IsTypesOf : Table → InstanceTypeRef → Definition → Type 0
 IsTypesOf t ref d = (externs : Externs) × IsInstanceType t ref externs × (are_types externs ≡ true) × (d ≡ AnInstance (types_of externs))
+
+-- The function and the options stand for those that an item lowers, and of which it makes this outcome.
+pub record IsLowering (t : Table) (l : Linking) (n : ℕ) (s : Spaces) (ref : LiftedRef × Options) (outcome : Outcome) : Type 0 where
+  pub lifted : Lifted
+  pub given : Given
+  pub stands : IsLifted t ref.0 lifted
+  pub used : ref.1 ≡ options_of given
+  pub makes : outcome ≡ Makes (lower_made l n s lifted given)
 
 -- what an import and an export make of a definition
 abbrev pub imported : Linking → ℕ → Spaces → List ℕ → Definition → Outcome

@@ -13,6 +13,7 @@ ghost use Rattle.comp_link.specs.State as state;
 ghost use Rattle.comp_link.specs.State.{IsLive};
 ghost use Rattle.comp_link.specs.Called.{named_behind, IsFuncEntry, AreFuncs, AreLists};
 
+use crate::canons::{canon_funcs, lift_of};
 use crate::funcs::FuncLists;
 use crate::linker::{Linker, ROOT};
 use ca_base::{Name, Seq};
@@ -33,7 +34,7 @@ pub struct Callable {
 impl Model for Callable {
     ghost use Rattle.std.specs.Coded.{codes};
     ghost use Rattle.ca_types.specs.contracts.types.FuncType as type_row;
-    ghost use Rattle.comp_graph.specs.contracts.graph.CoreRef as core_row;
+    ghost use Rattle.comp_graph.specs.contracts.graph.FuncRef as core_row;
     ghost use Rattle.comp_graph.specs.contracts.graph.Options as options_row;
     ghost use Rattle.comp_linking.specs.Linked as linked;
 
@@ -89,11 +90,7 @@ fn func_named(
         name: joined(alloc, front, text)?,
         func_type: func_type.share()?,
     };
-    let lift = Lift {
-        instance: lifted.instance,
-        core: lifted.core,
-        options: lifted.options,
-    };
+    let lift = lift_of(lifted);
     Ok(Some(Callable { export, lift }))
 }
 
@@ -229,6 +226,7 @@ pub fn graph_of<'a>(alloc: Global, linker: Linker<'a>) -> Result<Graph<'a>, Allo
 {
     let entries = linker.scope(ROOT).exports.entries();
     let funcs = callables(alloc, &linker.types, &linker.instances, entries)?;
+    let canons = canon_funcs(alloc, &linker.types, &linker.canons)?;
     let lifts = lifts_of(alloc, &funcs)?;
     let exports = exports_of(alloc, funcs)?;
     let count = linker.scopes.len();
@@ -236,6 +234,7 @@ pub fn graph_of<'a>(alloc: Global, linker: Linker<'a>) -> Result<Graph<'a>, Allo
         Seq::from_vec(linker.plan),
         count,
         linker.cores,
+        Seq::from_vec(canons),
         Seq::from_vec(exports),
         Seq::from_vec(lifts),
     ))

@@ -1,20 +1,21 @@
 //! Linking: what a component means once its indices are looked up (Component Model, Explainer.md).
 //!
-//! The layer above takes a component's graph: its core instances, in order of making, and the functions that it exports,
-//! each with its core function and its type. It says how far linking goes: over all that is read, or as far as can be run.
-//! `link` answers the one graph of a component, as `comp_linking` defines it, or its first item that is refused, with the place
-//! and the reason. Only want of memory keeps it from either.
+//! The layer above takes a component's graph: its core instances, in order of making, the core functions that the Canonical ABI
+//! makes, and the functions that it exports, each with its core function and its type. It says how far linking goes: over all that
+//! is read, or as far as can be run. `link` answers the one graph of a component, as `comp_linking` defines it, or its first item
+//! that is refused, with the place and the reason. Only want of memory keeps it from either.
 //!
 //! - `linking`: from a component to its graph, item by item
-//! - `core_instances`, `core_aliases`, `lifts`, `aliases`, `types`, `instances`, `imports` and `exports`: what each kind of item
-//!   makes
+//! - `core_instances`, `core_aliases`, `lifts`, `lowers`, `aliases`, `types`, `instances`, `imports` and `exports`: what each kind of
+//!   item makes
 //! - `named` and `seen`: definitions under names, and definitions as they are asked for
 //! - `linker`, of `scope`: linking as it stands, and the index spaces of a component instance
-//! - `graphs`, of `funcs`: the graph of what is linked
+//! - `graphs`, of `funcs` and `canons`: the graph of what is linked
 //! - `link_fault`: why a linking ends without a graph
 #![tactic(auto)]
 
 mod aliases;
+mod canons;
 mod core_aliases;
 mod core_instances;
 mod exports;
@@ -26,6 +27,7 @@ mod lifts;
 mod link_fault;
 mod linker;
 mod linking;
+mod lowers;
 mod named;
 mod scope;
 mod seen;

@@ -41,6 +41,9 @@ fn lifted_to(
     if !can_be_lifted(laid, item, given) {
         return Err(MemoryOr::Fault(LinkWhy::Canon));
     }
+    let Some(core) = item.core_func() else {
+        return Err(MemoryOr::Fault(LinkWhy::Canon));
+    };
     let Some(closed) = types.func_at(func_type) else {
         return Err(MemoryOr::Fault(LinkWhy::Canon));
     };
@@ -49,7 +52,7 @@ fn lifted_to(
     }
     Ok(LiftedRef {
         instance: n,
-        core: item.core(),
+        core,
         options: given.options(),
         func_type,
     })

@@ -4,27 +4,29 @@ ghost use Rattle.std.specs.Prelude.{◌≡◌, ◌≢◌, ◌<◌, ◌+◌, ◌�
 ghost use Rattle.std.specs.List.{slice_get};
 ghost use Rattle.std.specs.Option.{option_and_then, option_copied};
 ghost use Rattle.comp_graph.specs.Closed.{Extern, Externs};
-ghost use Rattle.comp_linking.specs.Definitions.{CoreItem, extern_of, Closure, Definition, AComponent, AModule, Exports, types_of};
+ghost use Rattle.comp_linking.specs.Definitions.{CoreItem, extern_of, Lifted, Closure, Definition, AComponent, AModule, Exports, types_of};
 ghost use Rattle.comp_linking.specs.Tests.{are_types};
 ghost use Rattle.comp_linking.specs.Spaces.{Spaces, Linking, with_core_item, with_core_instance, with_definition, with_spaces};
-ghost use Rattle.comp_linking.specs.Items.{core_made, with_import, with_export};
+ghost use Rattle.comp_linking.specs.Canons.{Given, options_of};
+ghost use Rattle.comp_linking.specs.Items.{core_made, lower_made, with_import, with_export};
 ghost use Rattle.comp_linking.specs.Linked.{root_begun, begun, with_instance};
 ghost use Rattle.type_tables.specs.Table.{IsName, IsExtern, IsInstanceType};
 ghost use Rattle.instance_tables.specs.declared.references.DefinitionRef.{DefinitionRef};
-ghost use Rattle.instance_tables.specs.References.{IsInstance, IsListing};
+ghost use Rattle.instance_tables.specs.References.{IsInstance, IsLifted, IsListing};
 ghost use Rattle.instance_tables.specs.References as references;
 ghost use Rattle.instance_tables.specs.Fit.{IsFit};
 ghost use Rattle.type_meanings.specs.Meant.{IsFoundAs};
 ghost use Rattle.comp_link.specs.State.{world_of, IsScope, IsKept, IsState, IsAt, IsThere, IsLive, Stands, ended};
 
+use crate::canons::LoweredRef;
 use crate::scope::{Scope, Standing};
 use ca_base::{Name, Seq};
 use ca_types::Shared;
-use comp_graph::{Action, CoreExtern, CoreMake};
+use comp_graph::{Action, CoreExtern, CoreMake, Options};
 use comp_linking::Reach;
 use comp_tree::Component;
 use core_exports::{CoreExports, CoreItem, CoreModule, InlineExports};
-use instance_tables::{DefinitionRef, Fit, InstanceRef, Instances};
+use instance_tables::{DefinitionRef, Fit, InstanceRef, Instances, LiftedRef};
 use std::alloc::{AllocError, Global};
 use type_tables::{ExternRef, InstanceTypeRef, Listing, Types};
 
@@ -49,6 +51,8 @@ pub struct Linker<'a> {
     pub scopes: Vec<Scope<'a>>,
     /// The core instances that are made of modules, in order of making.
     pub cores: Vec<CoreMake<'a>>,
+    /// The functions that are lowered, in file order, by the numbers of their core functions.
+    pub canons: Vec<LoweredRef>,
     /// What is made, in file order.
     pub plan: Vec<Action>,
     /// How far linking goes.
@@ -74,6 +78,7 @@ impl<'a> Linker<'a> {
             modules: Vec::new(alloc),
             scopes,
             cores: Vec::new(alloc),
+            canons: Vec::new(alloc),
             plan,
             reach,
         })
@@ -232,6 +237,32 @@ impl<'a> Linker<'a> {
         self.cores.push(CoreMake::new(valid, imports, n))?;
         self.plan.push(Action::Make(number))?;
         self.scopes[n].add_core_instance(CoreExports::of_module(number, made))?;
+        Ok(())
+    }
+
+    /// Lowers a function whose type is there, with these options: one core function more.
+    pub fn add_lower(
+        &mut self,
+        n: usize,
+        func: LiftedRef,
+        options: Options,
+    ) -> Result<(), AllocError>
+        requires { n < length self.old.scopes.items }
+        ensures ok { OnOk result ((bases : List Exports) (l : Linking) (s : Spaces) (lifted : Lifted) (given : Given) → IsAt bases self.old n l s → IsLifted self.old.types func lifted → options ≡ options_of given → IsState bases self.new (lower_made l n s lifted given)) }
+        ensures scopes { OnOk result (length self.new.scopes.items ≡ length self.old.scopes.items) }
+        ensures live { OnOk result (ended self.new ≡ ended self.old) }
+    {
+        let number = self.canons.len();
+        let Some(laid) = self.types.laid_func(func.func_type) else {
+            return Ok(());
+        };
+        let item = CoreItem::lowered(number, laid);
+        self.canons.push(LoweredRef {
+            instance: n,
+            func,
+            options,
+        })?;
+        self.scopes[n].add_core_item(item)?;
         Ok(())
     }
 

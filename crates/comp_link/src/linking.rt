@@ -26,6 +26,7 @@ use crate::instances::{Next, link_instance};
 use crate::lifts::link_lift;
 use crate::link_fault::{ItemError, LinkError};
 use crate::linker::{INSTANCE_LIMIT, Linker, ROOT};
+use crate::lowers::link_lower;
 use crate::types::link_type;
 use ca_base::{MemoryOr, Placed, Seq};
 use ca_types::Shared;
@@ -107,6 +108,9 @@ fn link_item<'a>(
                 func_type,
             },
         ) => next(link_lift(linker, n, *core_func, options.as_slice(), *func_type)),
+        Item::Canon(Canon::Lower { func, options }) => {
+            next(link_lower(linker, n, *func, options.as_slice()))
+        }
         Item::Import(import) => next(link_import(alloc, linker, n, import)),
         Item::Export(export) => next(link_export(alloc, linker, n, export)),
     }

@@ -20,6 +20,7 @@ returns-clause-ok c bases l closure given h around is =
       scopes = subst (λ (scopes : List Scope). AllZip (IsKept k.types w) scopes (l.scopes ++ new_spaces (Some given) closure.around ∷ [])) (sym {A = List Scope} c.in_ok-push.ensures.items)
           (zips_more (IsKept k.types w) k.scopes.items l.scopes c.new.result (new_spaces (Some given) closure.around) h.scopes (kept_whole k.types w c.new.result (new_spaces (Some given) closure.around) begun));
       cores = h.cores;
+      canons = h.canons;
       plan = rw (h.plan, c.in_ok-push-2.ensures.items, number) refl;
       reach = h.reach;
     }

@@ -1,0 +1,92 @@
+//! Linking of lowers.
+
+ghost use Rattle.std.specs.Prelude.{◌≡◌, ◌<◌, List, OnOk, length};
+ghost use Rattle.ca_types.specs.declared.types.FuncType.{FuncType};
+ghost use Rattle.comp_linking.specs.Canons.{options_of};
+ghost use Rattle.comp_linking.specs.Definitions.{Exports};
+ghost use Rattle.comp_linking.specs.Spaces.{Spaces, Linking};
+ghost use Rattle.comp_linking.specs.Computed.{lowered_from, lower_outcome};
+ghost use Rattle.type_tables.specs.Table.{IsFunc};
+ghost use Rattle.comp_link.specs.State.{IsAt, IsMade, ended};
+ghost use Rattle.comp_link.specs.Told.{IsTold};
+ghost use Rattle.comp_link.specs.Ready.{IsLowering};
+
+use crate::link_fault::ItemError;
+use crate::linker::Linker;
+use ca_base::MemoryOr;
+use comp_graph::Options;
+use comp_linking::{LinkWhy, Reach};
+use comp_tree::CanonOption;
+use core_exports::{Given, are_there, can_be_lowered, stand_once};
+use instance_tables::LiftedRef;
+use type_tables::{FuncTypeRef, Types};
+
+/// What options give the lowering of a function of this type, where linking goes so far.
+fn lowered_from(
+    types: &Types<'_>,
+    reach: Reach,
+    func_type: FuncTypeRef,
+    options: &[CanonOption],
+    given: &Given<'_>,
+) -> Result<Options, ItemError>
+    ensures { (f : FuncType) → IsFunc types.now func_type f → IsTold (λ used given. used ≡ options_of given) result (lowered_from reach f options.now given.now) }
+{
+    if !stand_once(options) {
+        return Err(MemoryOr::Fault(LinkWhy::Canon));
+    }
+    let Some(laid) = types.laid_func(func_type) else {
+        return Err(MemoryOr::Fault(LinkWhy::Canon));
+    };
+    if !can_be_lowered(laid, given) {
+        return Err(MemoryOr::Fault(LinkWhy::Canon));
+    }
+    if !reach.has_lower() {
+        return Err(MemoryOr::Fault(LinkWhy::Limit));
+    }
+    Ok(given.options())
+}
+
+/// The function of an index, and what options give its lowering.
+fn lowered(
+    linker: &Linker<'_>,
+    n: usize,
+    func: u32,
+    options: &[CanonOption],
+) -> Result<(LiftedRef, Options), ItemError>
+    requires { n < length linker.now.scopes.items }
+    ensures { (bases : List Exports) (l : Linking) (s : Spaces) → IsAt bases linker.now n l s → IsTold (IsLowering linker.now.types l n s) result (lower_outcome l n s func options.now) }
+{
+    let scope = linker.scope(n);
+    let Some(lifted) = scope.func(func) else {
+        return Err(MemoryOr::Fault(LinkWhy::Index));
+    };
+    if !are_there(options, &scope.core_memories, &scope.core_funcs) {
+        return Err(MemoryOr::Fault(LinkWhy::Index));
+    }
+    let given = Given::by(options, &scope.core_memories, &scope.core_funcs);
+    let used = lowered_from(
+        &linker.types,
+        linker.reach,
+        lifted.func_type,
+        options,
+        &given,
+    )?;
+    Ok((lifted, used))
+}
+
+/// Links a lower.
+pub fn link_lower(
+    linker: &mut Linker<'_>,
+    n: usize,
+    func: u32,
+    options: &[CanonOption],
+) -> Result<(), ItemError>
+    requires { n < length linker.old.scopes.items }
+    ensures made { (bases : List Exports) (l : Linking) (s : Spaces) → IsAt bases linker.old n l s → IsTold (λ _ outcome. IsMade linker.new outcome) result (lower_outcome l n s func options.now) }
+    ensures scopes { OnOk result (length linker.new.scopes.items ≡ length linker.old.scopes.items) }
+    ensures live { OnOk result (ended linker.new ≡ ended linker.old) }
+{
+    let (lifted, used) = lowered(linker, n, func, options)?;
+    linker.add_lower(n, lifted, used)?;
+    Ok(())
+}
