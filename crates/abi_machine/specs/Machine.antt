@@ -69,7 +69,7 @@ trap_name core_trap.StackLimit = trap.StackLimit
 -- Core functions (Core 2.0, section 4.4).
 
 -- By the move of the stack that the acting task runs: it goes on in a state with the later stack, or by what comes behind its
--- end. No graph has functions of the host so far, so none is called.
+-- end. No graph that is run has functions of the host so far, so none is called.
 abbrev pub core_turn : Move → (Stack → TaskState) → (List ℕ → Turn) → ℕ → List Task → World → Turn
 core_turn (Goes costs s k) state behind number below w = silent_for costs (with_store s (with_task number (state k) below w))
 core_turn (Calls address words k) state behind number below w = Stuck

@@ -65,7 +65,7 @@ fn read_lift(
     })
 }
 
-/// Reads what a function is lowered with, behind its first byte (Component Model, Binary.md, `canon`).
+/// Reads a lower, behind its first byte (Component Model, Binary.md, `canon`).
 #[tactic(auto, unfolding(crate::specs::Binary::lower))]
 fn read_lower(
     alloc: Global,
