@@ -17,8 +17,9 @@ use Rattle.ca_types.specs.declared.types.ValType.{ValType}
 use Rattle.ca_types.specs.declared.types.Param.{Param}
 use Rattle.ca_types.specs.declared.types.FuncType.{FuncType}
 use Rattle.ca_types.specs.declared.exports.Export.{Export}
+use Rattle.comp_graph.specs.declared.graph.CanonFunc.{CanonFunc}
 use Rattle.comp_graph.specs.declared.graph.Lift.{Lift}
-use Rattle.comp_graph.specs.Graph.{Lifted, Graph, lifted_as, func_at, func_named, is_i32, is_u32, result_count, is_flat, LiftsCore, IsCallable}
+use Rattle.comp_graph.specs.Graph.{Lifted, Graph, lifted_as, func_at, func_named, is_i32, is_u32, result_count, is_flat, LiftsCore, IsCallable, core_type}
 use Rattle.comp_graph.specs.Needs.{flat_param_limit}
 use Rattle.abi_machine.specs.World.{Starting, Running}
 use Rattle.abi_machine.specs.Machine.{lowered}
@@ -71,7 +72,7 @@ lifts_at g number None lift f callable a b h = cc
 lifts_at g number (Some e) None f callable a b h = cc
 lifts_at g number (Some e) (Some lift) f callable a b h =
     let same : (let l : Lifted = record { instance = lift.instance; core = lift.core; options = lift.options; func_type = e.func_type } in l) ≡ f = cc in
-    subst (λ (f : Lifted). LiftsCore g.cores f.func_type (lift_of f)) same (zip_both (λ e lift. LiftsCore g.cores e.func_type lift) g.exports g.lifts number e lift callable a b)
+    subst (λ (f : Lifted). LiftsCore g.cores f.func_type (lift_of f)) same (zip_both (λ e lift. LiftsCore g.cores e.func_type lift) g.exports g.lifts number e lift callable.lifts a b)
 
 named_lifts : (g : Graph) (name : List ℕ) (f : Lifted) → IsCallable g → func_named g name ≡ Some f → LiftsCore g.cores f.func_type (lift_of f)
 named_lifts g name f callable h =
@@ -81,7 +82,8 @@ named_lifts g name f callable h =
 of_graph_flat : (g : Graph) (f : Lifted) (type : core.FuncType) → IsCallable g → IsOfGraph g f type → IsFlat f.func_type type
 of_graph_flat g f type callable h =
     let l = named_lifts g h.name f callable h.named in
-    let both : Some l.type ≡ Some type = sym l.there ∙ h.there in
+    let there : core_type g.cores [] f.core ≡ Some type = subst (λ (canons : List CanonFunc). core_type g.cores canons f.core ≡ Some type) callable.plain h.there in
+    let both : Some l.type ≡ Some type = sym l.there ∙ there in
     let same : l.type ≡ type = cc in
     subst (IsFlat f.func_type) same (flat f.func_type l.type l.flat)
 

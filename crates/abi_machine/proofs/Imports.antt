@@ -12,6 +12,8 @@ use Rattle.core_machine.specs.Store.{Function, type_of, Instance, Store, func_at
 use Rattle.core_machine.specs.Instantiation.{External, FuncAddress, TableAddress, MemoryAddress, GlobalAddress, ImportMatches}
 use Rattle.core_machine.proofs.Lists.{found_there}
 use Rattle.comp_graph.specs.declared.graph.CoreRef.{CoreRef}
+use Rattle.comp_graph.specs.declared.graph.FuncRef.{FuncRef}
+use Rattle.comp_graph.specs.declared.graph.FuncRef.TheVariants as func_ref
 use Rattle.comp_graph.specs.CoreItems.{CoreItem, Func, Table, Memory, Global, extern_of, CoreFits}
 use Rattle.comp_graph.specs.Graph.{CoreMake, core_type, IsItem, HasImports, AreImported}
 use Rattle.abi_machine.specs.Machine.{address_in, external_of, externals, core_func}
@@ -24,8 +26,9 @@ in_space : (space : Instance → List ℕ) (s : Store) (f : CoreRef) (i : Instan
 in_space space s f i a h k = ap (option_and_then (λ (i : Instance). slice_get (space i) f.index)) h ∙ k
 
 -- An item of core instances that were made is there, and what fits is what is asked for.
-item_there : (s : Store) (cores : List CoreMake) (m : ModuleTree) (item : CoreItem) (d : ImportDesc) → AreMade s cores → IsItem cores item → CoreFits m item d → (e : External) × (external_of s (extern_of item) ≡ Some e) × ImportMatches s m.types d e
-item_there s cores m (Func f type) (wanted.Func index) made there fits =
+item_there : (s : Store) (cores : List CoreMake) (m : ModuleTree) (item : CoreItem) (d : ImportDesc) → AreMade s cores → IsItem cores [] item → CoreFits m item d → (e : External) × (external_of s (extern_of item) ≡ Some e) × ImportMatches s m.types d e
+item_there s cores m (Func (func_ref.Canon number) type) (wanted.Func index) made there fits = cc
+item_there s cores m (Func (func_ref.Instance f) type) (wanted.Func index) made there fits =
     let i = made.each f.instance there.core there.there in
     let p = i.2.has.funcs f.index type there.holds in
     let found = found_there s.funcs (slice_get i.0.funcs f.index) p.0 p.1 in
@@ -47,7 +50,7 @@ item_there s cores m (Global g type) (wanted.Global asked) made there fits =
     (GlobalAddress p.0.0, ap (option_map GlobalAddress) (in_space (λ (i : Instance). i.globals) s g i.0 p.0.0 i.1 found.0), (p.0.1, found.1, p.2 ∙ fits))
 item_there s cores m item d made there fits = absurd fits
 
-all_there : (s : Store) (cores : List CoreMake) (m : ModuleTree) (is : List Import) (items : List CoreItem) → AreMade s cores → AllByRecursion (IsItem cores) items → AllZip (λ (i : Import) (item : CoreItem). CoreFits m item i.desc) is items → (es : List External) × (externals s (map extern_of items) ≡ Some es) × AllZip (λ (i : Import) (e : External). ImportMatches s m.types i.desc e) is es
+all_there : (s : Store) (cores : List CoreMake) (m : ModuleTree) (is : List Import) (items : List CoreItem) → AreMade s cores → AllByRecursion (IsItem cores []) items → AllZip (λ (i : Import) (item : CoreItem). CoreFits m item i.desc) is items → (es : List External) × (externals s (map extern_of items) ≡ Some es) × AllZip (λ (i : Import) (e : External). ImportMatches s m.types i.desc e) is es
 all_there s cores m [] [] made there fit = ([], refl, tt)
 all_there s cores m [] (item ∷ items) made there fit = absurd fit
 all_there s cores m (i ∷ is) [] made there fit = absurd fit
@@ -66,23 +69,24 @@ imports_match s before c has made =
     (all.0, ap (externals s) has.are ∙ all.1, all.2)
 
 -- Each core instance behind others has its imports of those before it.
-pub imported_behind : (before front behind : List CoreMake) (c : CoreMake) → AreImported before (front ++ c ∷ behind) → HasImports (before ++ front) c
-imported_behind before [] behind c h = subst (λ (cs : List CoreMake). HasImports cs c) (sym (append-nil before)) h.0
-imported_behind before (b ∷ front) behind c h = subst (λ (cs : List CoreMake). HasImports cs c) (append_assoc before (b ∷ []) front) (imported_behind (before ++ b ∷ []) front behind c h.1)
+pub imported_behind : (before front behind : List CoreMake) (c : CoreMake) → AreImported [] before (front ++ c ∷ behind) → HasImports (before ++ front) [] c
+imported_behind before [] behind c h = subst (λ (cs : List CoreMake). HasImports cs [] c) (sym (append-nil before)) h.0
+imported_behind before (b ∷ front) behind c h = subst (λ (cs : List CoreMake). HasImports cs [] c) (append_assoc before (b ∷ []) front) (imported_behind (before ++ b ∷ []) front behind c h.1)
 
 -- The core function of a lift is there, with its type.
 pub then_some : {A B : Type 0} (f : A → Option B) (o : Option A) (y : B) → option_and_then f o ≡ Some y → (x : A) × (o ≡ Some x) × (f x ≡ Some y)
 then_some f None y h = cc
 then_some f (Some x) y h = (x, refl, h)
 
-pub record CoreThere (s : Store) (f : CoreRef) (type : core.FuncType) : Type 0 where
+pub record CoreThere (s : Store) (f : FuncRef) (type : core.FuncType) : Type 0 where
   pub function : ℕ × Function
   pub found : core_func s f ≡ Some function
   pub there : slice_get s.funcs function.0 ≡ Some function.1
   pub of_type : type_of function.1 ≡ type
 
-pub core_there : (s : Store) (cores : List CoreMake) (f : CoreRef) (type : core.FuncType) → AreMade s cores → core_type cores f ≡ Some type → CoreThere s f type
-core_there s cores f type made h =
+pub core_there : (s : Store) (cores : List CoreMake) (f : FuncRef) (type : core.FuncType) → AreMade s cores → core_type cores [] f ≡ Some type → CoreThere s f type
+core_there s cores (func_ref.Canon number) type made h = cc
+core_there s cores (func_ref.Instance f) type made h =
     let c = then_some (λ (c : CoreMake). type_of_func c.of_module f.index) (slice_get cores f.instance) type h in
     let i = made.each f.instance c.0 c.1 in
     let p = i.2.has.funcs f.index type c.2 in

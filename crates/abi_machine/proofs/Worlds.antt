@@ -18,6 +18,7 @@ use Rattle.core_machine.proofs.Moving.{moves_typed, starts_typed}
 use Rattle.core_machine.proofs.Adding.{adds_typed}
 use Rattle.core_machine.proofs.Changing.{empty_typed}
 use Rattle.core_machine.proofs.Keeping.{steps_keep, empty_has_none, adds_none}
+use Rattle.comp_graph.specs.declared.graph.CanonFunc.{CanonFunc}
 use Rattle.comp_graph.specs.Graph.{CoreMake, Graph, Lifted, AreImported, func_named, core_type}
 use Rattle.script_reader.specs.declared.script.Call.{Call}
 use Rattle.script_reader.specs.declared.script.Item.{Item}
@@ -103,7 +104,8 @@ made_moves g w number c imports cores (Makes t) h n but (x, typed, there, calls)
 -- What the next core instance imports is there.
 but_imported : (g : Graph) (s : Store) (c : CoreMake) (cores : List CoreMake) → SoundGraph g → AreMadeBut g s (c ∷ cores) → ImportsAreThere s c
 but_imported g s c cores sound but =
-    imports_match s but.before c (imported_behind [] but.before cores c (subst (AreImported []) but.split sound.imported)) but.made
+    let imported : AreImported [] [] g.cores = subst (λ (canons : List CanonFunc). AreImported canons [] g.cores) sound.plain sound.imported in
+    imports_match s but.before c (imported_behind [] but.before cores c (subst (AreImported [] []) but.split imported)) but.made
 
 instantiating_moves : (g : Graph) (w : World) (number : ℕ) (cores : List CoreMake) → Ground g w.store w.items w.calls w.tasks → number ≡ w.tasks → AreMadeBut g w.store cores → Moves g (instantiating_turn cores number [] w)
 instantiating_moves g w number [] h n but =
@@ -125,7 +127,8 @@ state_moves g w number (StartsUp k cores) h n (but, typed) =
     (λ t l x e stack. (record { before = but.before; split = but.split; made = made_still w.store t but.before x e but.made }, stack))
     (λ words. kept g (with_task number (Instantiating cores) [] w) h (n, tt) but)
 state_moves g w number (Starting f values) h n (all, (type, there, words)) =
-    let c = core_there w.store g.cores f.core type all there.there in
+    let plain : core_type g.cores [] f.core ≡ Some type = subst (λ (canons : List CanonFunc). core_type g.cores canons f.core ≡ Some type) h.sound.plain there.there in
+    let c = core_there w.store g.cores f.core type all plain in
     let args : AreWords (type_of c.function.1).params (map lowered values) = subst (λ (type : core_type_of.FuncType). AreWords type.params (map lowered values)) (sym c.of_type) words in
     let stack = starts_typed w.store c.function.0 c.function.1 (map lowered values) h.typed c.there args in
     let state : StateKept g w.store (Running f (start c.function.1 c.function.0 (map lowered values))) = (all, (type, there, subst (λ (type : core_type_of.FuncType). StackTyped w.store type.results (start c.function.1 c.function.0 (map lowered values))) c.of_type stack)) in
@@ -143,7 +146,7 @@ taken_moves : (g : Graph) (w : World) (call : Call) (others : List Item) (o : Op
 taken_moves g w call others None e s h all = cc (e, s.named)
 taken_moves g w call others (Some f) e s h all =
     let same : s.lifted ≡ f = cc (e, s.named) in
-    let there : core_type g.cores f.core ≡ Some s.type = subst (λ (l : Lifted). core_type g.cores l.core ≡ Some s.type) same s.there in
+    let there : core_type g.cores g.canons f.core ≡ Some s.type = subst (λ (l : Lifted). core_type g.cores g.canons l.core ≡ Some s.type) same s.there in
     charged_moves g w.units _ (λ units. record { graph = h.sound; items = h.called; store = h.typed; no_hosts = h.hostless; chain = (all, (s.type, record { name = call.name; named = e; there = there }, s.values)); numbers = (refl, tt); calls = ap (λ (n : ℕ). n + 1) h.numbered })
 
 idle_moves : (g : Graph) (w : World) (items : List Item) → Ground g w.store items w.calls w.tasks → AreMade w.store g.cores → Moves g (idle_turn g items w)

@@ -25,6 +25,7 @@ use Rattle.ca_types.specs.declared.types.ValType.TheVariants as type
 use Rattle.ca_types.specs.declared.types.FuncType.{FuncType}
 use Rattle.ca_types.specs.declared.exports.Export.{Export}
 use Rattle.ca_types.specs.declared.value.Value.TheVariants as value
+use Rattle.comp_graph.specs.declared.graph.FuncRef.TheVariants as func_ref
 use Rattle.comp_graph.specs.declared.graph.CoreExtern.{CoreExtern}
 use Rattle.comp_graph.specs.declared.graph.CoreExtern.TheVariants as extern
 use Rattle.comp_graph.specs.declared.graph.Action.TheVariants.{Begin, Make}
@@ -155,7 +156,7 @@ abbrev pub core_of : List CoreExtern → ModuleTree → CoreMake
 core_of imports m = record { of_module = m; imports = imports; owner = 0 }
 
 abbrev pub first_func : ℕ → CoreExtern
-first_func index = extern.Func (record { instance = 0; index = index })
+first_func index = extern.Func (func_ref.Instance (record { instance = 0; index = index }))
 
 abbrev pub first_table : CoreExtern
 first_table = extern.Table (record { instance = 0; index = 0 })
@@ -175,12 +176,13 @@ graph_of cores exports lifts = record {
   plan = Begin 0 ∷ map Make (range_with_len 0 (length cores));
   instance_count = 1;
   cores = cores;
+  canons = [];
   exports = exports;
   lifts = lifts;
 }
 
 abbrev pub lifts : ℕ → ℕ → Lift
-lifts instance index = record { instance = 0; core = record { instance = instance; index = index }; options = no_options }
+lifts instance index = record { instance = 0; core = func_ref.Instance (record { instance = instance; index = index }); options = no_options }
 
 -- core instances of modules without imports, and the functions of the first one
 abbrev pub plain_graph : List ModuleTree → Graph

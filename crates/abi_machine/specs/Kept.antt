@@ -39,7 +39,7 @@ pub record AreMadeBut (g : Graph) (s : Store) (cores : List CoreMake) : Type 0 w
 pub record IsOfGraph (g : Graph) (f : Lifted) (type : core.FuncType) : Type 0 where
   pub name : List ℕ
   pub named : func_named g name ≡ Some f
-  pub there : core_type g.cores f.core ≡ Some type
+  pub there : core_type g.cores g.canons f.core ≡ Some type
 
 -- by where a task is
 abbrev pub StateKept : Graph → Store → TaskState → Type 0

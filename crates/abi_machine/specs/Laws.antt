@@ -19,11 +19,13 @@ use Rattle.abi_machine.specs.Machine.{Steps, Ends, lowered, turn}
 use Rattle.abi_machine.specs.Run.{Reaches, Runs}
 
 -- A graph of valid modules, no memory of which begins with more pages than any may have. What each core instance imports is
--- an item of core instances before it, and is what its module asks for.
+-- an item of core instances before it, and is what its module asks for. No core function is made by the Canonical ABI: such
+-- graphs do not run yet.
 pub record SoundGraph (g : Graph) : Type 0 where
   pub valid : AllByRecursion (λ c. Typed c.of_module) g.cores
   pub in_range : AllByRecursion (λ c. InRange c.of_module) g.cores
-  pub imported : AreImported [] g.cores
+  pub imported : AreImported g.canons [] g.cores
+  pub plain : g.canons ≡ []
 
 -- A call of a graph's function: an export has the name, its core function is there, and the values lower to words of its
 -- parameters.
@@ -31,7 +33,7 @@ pub record SoundCall (g : Graph) (call : Call) : Type 0 where
   pub lifted : Lifted
   pub named : func_named g call.name ≡ Some lifted
   pub type : core.FuncType
-  pub there : core_type g.cores lifted.core ≡ Some type
+  pub there : core_type g.cores g.canons lifted.core ≡ Some type
   pub values : AreWords type.params (map lowered call.values)
 
 -- items that call a graph's functions

@@ -17,6 +17,8 @@ use Rattle.ca_types.specs.declared.value.Value.{Value, out-Value}
 use Rattle.ca_types.specs.declared.value.Value.TheOpen.{Value-F}
 use Rattle.ca_types.specs.declared.value.Value.TheVariants.{U32}
 use Rattle.comp_graph.specs.declared.graph.CoreRef.{CoreRef}
+use Rattle.comp_graph.specs.declared.graph.FuncRef.{FuncRef}
+use Rattle.comp_graph.specs.declared.graph.FuncRef.TheVariants as func_ref
 use Rattle.comp_graph.specs.declared.graph.CoreExtern.{CoreExtern}
 use Rattle.comp_graph.specs.declared.graph.CoreExtern.TheVariants as extern
 use Rattle.comp_graph.specs.Graph.{CoreMake, Graph, Lifted, func_named}
@@ -82,9 +84,14 @@ core_turn core.Stuck state behind number below w = Stuck
 abbrev pub address_in : (Instance → List ℕ) → Store → CoreRef → Option ℕ
 address_in space s f = option_and_then (λ i. slice_get (space i) f.index) (slice_get s.instances f.instance)
 
+-- the address of a core function. One that the Canonical ABI makes is not there yet
+abbrev pub func_address : Store → FuncRef → Option ℕ
+func_address s (func_ref.Instance f) = address_in (λ i. i.funcs) s f
+func_address s (func_ref.Canon number) = None
+
 -- what an import is, by its address
 abbrev pub external_of : Store → CoreExtern → Option External
-external_of s (extern.Func f) = option_map FuncAddress (address_in (λ i. i.funcs) s f)
+external_of s (extern.Func f) = option_map FuncAddress (func_address s f)
 external_of s (extern.Table t) = option_map TableAddress (address_in (λ i. i.tables) s t)
 external_of s (extern.Memory m) = option_map MemoryAddress (address_in (λ i. i.memories) s m)
 external_of s (extern.Global g) = option_map GlobalAddress (address_in (λ i. i.globals) s g)
@@ -138,9 +145,10 @@ typed (type ∷ types) (v ∷ values) = record { value = v; val_type = type } �
 abbrev pub param_types : Lifted → List ValType
 param_types f = map (λ p. p.val_type) f.func_type.params
 
--- the core function of a function, with its address
-abbrev pub core_func : Store → CoreRef → Option (ℕ × Function)
-core_func s f = option_and_then (λ i. func_at f.index i s) (slice_get s.instances f.instance)
+-- the core function of a function, with its address. One that the Canonical ABI makes is not there yet
+abbrev pub core_func : Store → FuncRef → Option (ℕ × Function)
+core_func s (func_ref.Instance f) = option_and_then (λ i. func_at f.index i s) (slice_get s.instances f.instance)
+core_func s (func_ref.Canon number) = None
 
 -- the task enters, and its core function begins
 abbrev pub entered : Option (ℕ × Function) → Lifted → List Value → ℕ → List Task → World → Turn

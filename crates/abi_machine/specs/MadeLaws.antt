@@ -9,7 +9,7 @@ use Rattle.core_machine.specs.Stack.{Stack}
 use Rattle.core_machine.specs.Step as core_step
 use Rattle.core_machine.specs.Instantiation.{External, Makes, empty, instantiated, ImportsMatch, InRange}
 use Rattle.core_machine.specs.Typed.{StoreTyped, StackTyped}
-use Rattle.comp_graph.specs.declared.graph.CoreRef.{CoreRef}
+use Rattle.comp_graph.specs.declared.graph.FuncRef.{FuncRef}
 use Rattle.comp_graph.specs.Graph.{CoreMake, Graph, HasImports, core_type}
 use Rattle.abi_machine.specs.World.{Instantiating, Task, World}
 use Rattle.abi_machine.specs.Machine.{externals, core_func}
@@ -21,7 +21,7 @@ ImportsAreThere s c = (imports : List External) × (externals s c.imports ≡ So
 
 -- So it is where the core instances before it were made, and in each world of a run where it is to be made next.
 abbrev pub ImportsMatchBehind : Type 0
-ImportsMatchBehind = (s : Store) (before : List CoreMake) (c : CoreMake) → HasImports before c → AreMade s before → ImportsAreThere s c
+ImportsMatchBehind = (s : Store) (before : List CoreMake) (c : CoreMake) → HasImports before [] c → AreMade s before → ImportsAreThere s c
 
 abbrev pub ImportsMatchNext : Type 0
 ImportsMatchNext =
@@ -47,5 +47,5 @@ StayMade =
 -- A core function of core instances that were made is there, with the type that its module gives it.
 abbrev pub CoreFuncsAreThere : Type 0
 CoreFuncsAreThere =
-    (s : Store) (cores : List CoreMake) (f : CoreRef) (type : core.FuncType) → AreMade s cores → core_type cores f ≡ Some type
+    (s : Store) (cores : List CoreMake) (f : FuncRef) (type : core.FuncType) → AreMade s cores → core_type cores [] f ≡ Some type
     → (p : ℕ × Function) × (core_func s f ≡ Some p) × (type_of p.1 ≡ type)

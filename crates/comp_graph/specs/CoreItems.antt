@@ -1,5 +1,6 @@
--- Core items: the definitions of core instances, by the sorts that core modules import, with their types (Core 2.0, sections
--- 3.2.8 and 4.5.4; Component Model, Explainer.md, "Instance Definitions").
+-- Core items: the definitions of core instances, by the sorts that core modules import, with their types, and core functions that
+-- the Canonical ABI makes (Core 2.0, sections 3.2.8 and 4.5.4; Component Model, Explainer.md, "Instance Definitions" and "Canonical
+-- Definitions").
 use Rattle.std.specs.Prelude.{◌≡◌, ◌≤◌, ℕ, List, ◌++◌, Option, Some, None}
 use Rattle.std.specs.Option.{option_map}
 use Rattle.std.specs.List.{slice_get}
@@ -13,12 +14,14 @@ use Rattle.wasm_module.specs.declared.module.ImportDesc.TheVariants as wanted
 use Rattle.wasm_module.specs.declared.module.ModuleTree.{ModuleTree}
 use Rattle.wasm_module.specs.Spaces.{imported_tables, imported_memories, global_space, type_of_func}
 use Rattle.comp_graph.specs.declared.graph.CoreRef.{CoreRef}
+use Rattle.comp_graph.specs.declared.graph.FuncRef.{FuncRef}
+use Rattle.comp_graph.specs.declared.graph.FuncRef.TheVariants as func_ref
 use Rattle.comp_graph.specs.declared.graph.CoreExtern.{CoreExtern}
 use Rattle.comp_graph.specs.declared.graph.CoreExtern.TheVariants as extern
 
 -- a core definition with its type
 pub data CoreItem : Type 0 where
-  Func : CoreRef → core.FuncType → CoreItem
+  Func : FuncRef → core.FuncType → CoreItem
   Table : CoreRef → Limits → CoreItem
   Memory : CoreRef → Limits → CoreItem
   Global : CoreRef → GlobalType → CoreItem
@@ -30,12 +33,18 @@ extern_of (Table t limits) = extern.Table t
 extern_of (Memory m limits) = extern.Memory m
 extern_of (Global g type) = extern.Global g
 
--- which core instance's definition an item is
-abbrev pub core_of : CoreItem → CoreRef
-core_of (Func core type) = core
-core_of (Table core limits) = core
-core_of (Memory core limits) = core
-core_of (Global core type) = core
+-- which core function an item is, where it is one, and which memory
+abbrev pub core_func_of : CoreItem → Option FuncRef
+core_func_of (Func f type) = Some f
+core_func_of (Table t limits) = None
+core_func_of (Memory m limits) = None
+core_func_of (Global g type) = None
+
+abbrev pub core_memory_of : CoreItem → Option CoreRef
+core_memory_of (Func f type) = None
+core_memory_of (Table t limits) = None
+core_memory_of (Memory m limits) = Some m
+core_memory_of (Global g type) = None
 
 -- its type, where it is a function
 abbrev pub func_part : CoreItem → Option core.FuncType
@@ -53,7 +62,7 @@ memory_space m = imported_memories m.imports ++ m.memories
 
 -- What a module's export is in the core instance of this number. Its type is that which the module gives it.
 abbrev pub item_of : ModuleTree → ℕ → ExportDesc → Option CoreItem
-item_of m number (offered.Func index) = option_map (λ type. Func (record { instance = number; index = index }) type) (type_of_func m index)
+item_of m number (offered.Func index) = option_map (λ type. Func (func_ref.Instance (record { instance = number; index = index })) type) (type_of_func m index)
 item_of m number (offered.Table index) = option_map (λ limits. Table (record { instance = number; index = index }) limits) (slice_get (table_space m) index)
 item_of m number (offered.Memory index) = option_map (λ limits. Memory (record { instance = number; index = index }) limits) (slice_get (memory_space m) index)
 item_of m number (offered.Global index) = option_map (λ type. Global (record { instance = number; index = index }) type) (slice_get (global_space m) index)

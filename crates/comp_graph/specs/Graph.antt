@@ -1,9 +1,10 @@
--- Graphs: what a component is linked to (Component Model, Explainer.md, "Instance Definitions"; CanonicalABI.md, `canon lift`).
--- Component instances begin and core instances are made of core modules, in file order, and the exports can be called: each
--- lifts a core function of an instance. What can be run so far is over u32 alone, and without options.
+-- Graphs: what a component is linked to (Component Model, Explainer.md, "Instance Definitions"; CanonicalABI.md, `canon lift` and
+-- `canon lower`). Component instances begin and core instances are made of core modules, in file order, functions are lowered to
+-- core functions, and the exports can be called: each lifts a core function. What can be run so far is over u32 alone, without
+-- options and without lowers.
 use Rattle.std.specs.Prelude.{◌≡◌, ℕ, Bool, true, false, ◌&&◌, ◌==◌, nat_le, List, [], ◌∷◌, ◌++◌, length, map, Option, None, Some, IfSome, IsSome}
 use Rattle.std.specs.List.{slice_get, list_all, AllByRecursion, AllZip}
-use Rattle.std.specs.Option.{option_and_then, option_map_or}
+use Rattle.std.specs.Option.{option_map, option_and_then, option_map_or}
 use Rattle.ca_base.specs.Names.{first_named}
 use Rattle.ca_types.specs.declared.types.ValType.{ValType, out-ValType}
 use Rattle.ca_types.specs.declared.types.ValType.TheOpen.{ValType-F}
@@ -16,12 +17,17 @@ use Rattle.wasm_module.specs.declared.module.Import.{Import}
 use Rattle.wasm_module.specs.declared.module.ModuleTree.{ModuleTree}
 use Rattle.wasm_module.specs.Spaces.{global_space, type_of_func}
 use Rattle.comp_graph.specs.declared.graph.CoreRef.{CoreRef}
+use Rattle.comp_graph.specs.declared.graph.FuncRef.{FuncRef}
+use Rattle.comp_graph.specs.declared.graph.FuncRef.TheVariants as func_ref
 use Rattle.comp_graph.specs.declared.graph.CoreExtern.{CoreExtern}
 use Rattle.comp_graph.specs.declared.graph.Action.{Action}
 use Rattle.comp_graph.specs.declared.graph.Options.{Options}
 use Rattle.comp_graph.specs.declared.graph.Lift.{Lift}
+use Rattle.comp_graph.specs.declared.graph.Lower.{Lower}
+use Rattle.comp_graph.specs.declared.graph.CanonFunc.{CanonFunc}
+use Rattle.comp_graph.specs.declared.graph.CanonFunc.TheVariants as canon_func
 use Rattle.comp_graph.specs.CoreItems.{CoreItem, Func, Table, Memory, Global, extern_of, table_space, memory_space, CoreFits}
-use Rattle.comp_graph.specs.Needs.{flat_param_limit, lifted_type, realloc_type, post_return_type, needs_memory, needs_realloc}
+use Rattle.comp_graph.specs.Needs.{flat_param_limit, lifted_type, lowered_type, realloc_type, post_return_type, needs_memory, lift_needs_realloc, lower_needs_realloc}
 
 -- a core instance: its module, what its module's imports are, in order, and the component instance that makes it
 pub record CoreMake : Type 0 where
@@ -29,12 +35,14 @@ pub record CoreMake : Type 0 where
   pub imports : List CoreExtern
   pub owner : ℕ
 
--- What is made, in file order; how many component instances begin; the core instances, in order of making; the functions that
--- can be called, in order, and of each the core function that it lifts.
+-- What is made, in file order; how many component instances begin; the core instances, in order of making; the core functions
+-- that the Canonical ABI makes, in file order; the functions that can be called, in order, and of each the core function that it
+-- lifts.
 pub record Graph : Type 0 where
   pub plan : List Action
   pub instance_count : ℕ
   pub cores : List CoreMake
+  pub canons : List CanonFunc
   pub exports : List Export
   pub lifts : List Lift
 
@@ -52,7 +60,7 @@ no_options = record { memory = None; realloc = None; post_return = None }
 -- a function: the component instance that lifts it, the core function that it lifts, what else the lift uses, and its type
 pub record Lifted : Type 0 where
   pub instance : ℕ
-  pub core : CoreRef
+  pub core : FuncRef
   pub options : Options
   pub func_type : FuncType
 
@@ -72,9 +80,14 @@ func_at g number = lifted_as (slice_get g.exports number) (slice_get g.lifts num
 abbrev pub func_named : Graph → List ℕ → Option Lifted
 func_named g name = option_and_then (func_at g) (first_named name (names g.exports))
 
--- the type of a core function, where it is there: that which its module gives it
-abbrev pub core_type : List CoreMake → CoreRef → Option core.FuncType
-core_type cores f = option_and_then (λ c. type_of_func c.of_module f.index) (slice_get cores f.instance)
+-- the type of the core function that the Canonical ABI makes
+abbrev pub canon_type : CanonFunc → core.FuncType
+canon_type (canon_func.Lower l) = lowered_type l.func_type
+
+-- the type of a core function, where it is there: that which its module gives it, or what makes it
+abbrev pub core_type : List CoreMake → List CanonFunc → FuncRef → Option core.FuncType
+core_type cores canons (func_ref.Instance f) = option_and_then (λ c. type_of_func c.of_module f.index) (slice_get cores f.instance)
+core_type cores canons (func_ref.Canon number) = option_map canon_type (slice_get canons number)
 
 abbrev pub is_i32 : core_val.ValType → Bool
 is_i32 I32 = true
@@ -101,16 +114,17 @@ is_flat type of_core =
     && length of_core.params == length type.params && list_all is_i32 of_core.params
     && length of_core.results == result_count type.result && list_all is_i32 of_core.results
 
--- the core function of a lift is there and has the flat type, and the lift uses nothing else
+-- the core function of a lift is one of an instance and has the flat type, and the lift uses nothing else
 pub record LiftsCore (cores : List CoreMake) (func_type : FuncType) (lift : Lift) : Type 0 where
   pub type : core.FuncType
-  pub there : core_type cores lift.core ≡ Some type
+  pub there : core_type cores [] lift.core ≡ Some type
   pub flat : is_flat func_type type ≡ true
   pub plain : lift.options ≡ no_options
 
 -- what a graph needs so that its exports can be called
-abbrev pub IsCallable : Graph → Type 0
-IsCallable g = AllZip (λ e lift. LiftsCore g.cores e.func_type lift) g.exports g.lifts
+pub record IsCallable (g : Graph) : Type 0 where
+  pub lifts : AllZip (λ e lift. LiftsCore g.cores e.func_type lift) g.exports g.lifts
+  pub plain : g.canons ≡ []
 
 -- A core item is there, among these core instances, with the type that its module gives it.
 pub record IsIn (cores : List CoreMake) (f : CoreRef) (P : ModuleTree → Type 0) : Type 0 where
@@ -118,29 +132,53 @@ pub record IsIn (cores : List CoreMake) (f : CoreRef) (P : ModuleTree → Type 0
   pub there : slice_get cores f.instance ≡ Some core
   pub holds : P core.of_module
 
+-- the memory that is used is there, where one is
+abbrev pub IsMemoryThere : List CoreMake → Option CoreRef → Type 0
+IsMemoryThere cores memory = IfSome memory (λ f. IsIn cores f (λ m. IsSome (slice_get (memory_space m) f.index)))
+
 -- The core function of a lift is there, and so is what else it uses, with the types that lifts to this function type ask for.
-pub record IsLiftThere (cores : List CoreMake) (func_type : FuncType) (lift : Lift) : Type 0 where
-  pub core : core_type cores lift.core ≡ Some (lifted_type func_type)
-  pub memory : IfSome lift.options.memory (λ f. IsIn cores f (λ m. IsSome (slice_get (memory_space m) f.index)))
-  pub realloc : IfSome lift.options.realloc (λ f. core_type cores f ≡ Some realloc_type)
-  pub post_return : IfSome lift.options.post_return (λ f. core_type cores f ≡ Some (post_return_type func_type))
+pub record IsLiftThere (cores : List CoreMake) (canons : List CanonFunc) (func_type : FuncType) (lift : Lift) : Type 0 where
+  pub core : core_type cores canons lift.core ≡ Some (lifted_type func_type)
+  pub memory : IsMemoryThere cores lift.options.memory
+  pub realloc : IfSome lift.options.realloc (λ f. core_type cores canons f ≡ Some realloc_type)
+  pub post_return : IfSome lift.options.post_return (λ f. core_type cores canons f ≡ Some (post_return_type func_type))
   pub memory_given : needs_memory func_type ≡ true → IsSome lift.options.memory
-  pub realloc_given : needs_realloc func_type ≡ true → IsSome lift.options.realloc
+  pub realloc_given : lift_needs_realloc func_type ≡ true → IsSome lift.options.realloc
 
-abbrev pub IsItem : List CoreMake → CoreItem → Type 0
-IsItem cores (Func f type) = IsIn cores f (λ m. type_of_func m f.index ≡ Some type)
-IsItem cores (Table t limits) = IsIn cores t (λ m. slice_get (table_space m) t.index ≡ Some limits)
-IsItem cores (Memory memory limits) = IsIn cores memory (λ m. slice_get (memory_space m) memory.index ≡ Some limits)
-IsItem cores (Global g type) = IsIn cores g (λ m. slice_get (global_space m) g.index ≡ Some type)
+-- The function that is lowered is there, and so is what the lowering uses, with the types that it asks for.
+pub record IsLowerThere (cores : List CoreMake) (canons : List CanonFunc) (l : Lower) : Type 0 where
+  pub lift : IsLiftThere cores canons l.func_type l.lift
+  pub memory : IsMemoryThere cores l.options.memory
+  pub realloc : IfSome l.options.realloc (λ f. core_type cores canons f ≡ Some realloc_type)
+  pub post_return : l.options.post_return ≡ None
+  pub memory_given : needs_memory l.func_type ≡ true → IsSome l.options.memory
+  pub realloc_given : lower_needs_realloc l.func_type ≡ true → IsSome l.options.realloc
 
--- The imports of a core instance are items of core instances before it, each of which is what is asked for.
-pub record HasImports (before : List CoreMake) (core : CoreMake) : Type 0 where
+-- what a core function that the Canonical ABI makes stands on is there
+abbrev pub IsCanonThere : List CoreMake → List CanonFunc → CanonFunc → Type 0
+IsCanonThere cores canons (canon_func.Lower l) = IsLowerThere cores canons l
+
+-- So it is for each of them behind some others: each stands on those before it alone.
+abbrev pub AreCanonsThere : List CoreMake → List CanonFunc → List CanonFunc → Type 0
+AreCanonsThere cores before [] = Unit {0}
+AreCanonsThere cores before (f ∷ canons) = IsCanonThere cores before f × AreCanonsThere cores (before ++ f ∷ []) canons
+
+abbrev pub IsItem : List CoreMake → List CanonFunc → CoreItem → Type 0
+IsItem cores canons (Func (func_ref.Instance f) type) = IsIn cores f (λ m. type_of_func m f.index ≡ Some type)
+IsItem cores canons (Func (func_ref.Canon number) type) = option_map canon_type (slice_get canons number) ≡ Some type
+IsItem cores canons (Table t limits) = IsIn cores t (λ m. slice_get (table_space m) t.index ≡ Some limits)
+IsItem cores canons (Memory memory limits) = IsIn cores memory (λ m. slice_get (memory_space m) memory.index ≡ Some limits)
+IsItem cores canons (Global g type) = IsIn cores g (λ m. slice_get (global_space m) g.index ≡ Some type)
+
+-- The imports of a core instance are items of core instances before it, or core functions that the Canonical ABI makes, each of
+-- which is what is asked for.
+pub record HasImports (before : List CoreMake) (canons : List CanonFunc) (core : CoreMake) : Type 0 where
   pub items : List CoreItem
   pub are : core.imports ≡ map extern_of items
-  pub there : AllByRecursion (IsItem before) items
+  pub there : AllByRecursion (IsItem before canons) items
   pub fit : AllZip (λ (i : Import) (item : CoreItem). CoreFits core.of_module item i.desc) core.of_module.imports items
 
 -- So it is for each core instance behind some others.
-abbrev pub AreImported : List CoreMake → List CoreMake → Type 0
-AreImported before [] = Unit {0}
-AreImported before (core ∷ cores) = HasImports before core × AreImported (before ++ core ∷ []) cores
+abbrev pub AreImported : List CanonFunc → List CoreMake → List CoreMake → Type 0
+AreImported canons before [] = Unit {0}
+AreImported canons before (core ∷ cores) = HasImports before canons core × AreImported canons (before ++ core ∷ []) cores

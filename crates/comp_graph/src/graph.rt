@@ -6,7 +6,7 @@ ghost use Rattle.comp_graph.specs.Graph as graphs;
 ghost use Rattle.comp_graph.specs.Graph.{core_instance_limit, instance_limit};
 
 use ca_base::Seq;
-use ca_types::Exports;
+use ca_types::{Exports, FuncType, Shared};
 use std::marker::Model;
 use wasm_valid::Valid;
 
@@ -19,11 +19,22 @@ pub struct CoreRef {
     pub index: u32,
 }
 
-/// What an import of a core module is: a definition of a core instance (Core 2.0, section 4.5.4).
+/// A core function: of a core instance, or one that the Canonical ABI makes (Component Model, Explainer.md, "Canonical
+/// Definitions").
+#[derive(Clone, Copy)]
+pub enum FuncRef {
+    /// A function of a core instance.
+    Instance(CoreRef),
+    /// The function that the canonical definition of this number makes, in file order.
+    Canon(usize),
+}
+
+/// What an import of a core module is: a definition of a core instance, or a core function that the Canonical ABI makes (Core 2.0,
+/// section 4.5.4).
 #[derive(Clone, Copy)]
 pub enum CoreExtern {
     /// A function.
-    Func(CoreRef),
+    Func(FuncRef),
     /// A table.
     Table(CoreRef),
     /// A memory.
@@ -48,9 +59,9 @@ pub struct Options {
     /// The memory where what is passed in memory stands.
     pub memory: Option<CoreRef>,
     /// The core function that gives places in the memory.
-    pub realloc: Option<CoreRef>,
+    pub realloc: Option<FuncRef>,
     /// The core function that is called when the result was lifted.
-    pub post_return: Option<CoreRef>,
+    pub post_return: Option<FuncRef>,
 }
 
 /// The core function that a function lifts (Component Model, CanonicalABI.md, `canon lift`).
@@ -59,9 +70,29 @@ pub struct Lift {
     /// The number of the component instance that lifts it, in order of beginning.
     pub instance: usize,
     /// The core function.
-    pub core: CoreRef,
+    pub core: FuncRef,
     /// What else the lift uses.
     pub options: Options,
+}
+
+/// A function that is lowered (Component Model, CanonicalABI.md, `canon lower`).
+#[derive(Drop)]
+pub struct Lower {
+    /// The number of the component instance that lowers it, in order of beginning.
+    pub instance: usize,
+    /// The core function that the function lifts.
+    pub lift: Lift,
+    /// The type of the function.
+    pub func_type: Shared<FuncType>,
+    /// What else the lowering uses.
+    pub options: Options,
+}
+
+/// A core function that the Canonical ABI makes (Component Model, Explainer.md, "Canonical Definitions").
+#[derive(Drop)]
+pub enum CanonFunc {
+    /// It calls a function that is lowered.
+    Lower(Lower),
 }
 
 /// A core instance that is made of a module. Contracts see the module in place of what is valid.
@@ -121,13 +152,14 @@ impl<'a> CoreMake<'a> {
 }
 
 /// A component that is linked (Component Model, Explainer.md, "Instance Definitions"): what is made, in file order; the core
-/// instances, at most 256; the functions that can be called, and of each one the core function that it lifts. At most 256
-/// component instances begin.
+/// instances, at most 256; the core functions that the Canonical ABI makes; the functions that can be called, and of each one the
+/// core function that it lifts. At most 256 component instances begin.
 #[derive(Drop)]
 pub struct Graph<'a> {
     plan: Seq<Action>,
     instance_count: usize,
     cores: Vec<CoreMake<'a>>,
+    canons: Seq<CanonFunc>,
     exports: Exports,
     lifts: Seq<Lift>,
 }
@@ -139,37 +171,40 @@ impl<'a> Model for Graph<'a> {
     ghost use Rattle.ca_types.specs.contracts.exports.Export as export;
     ghost use Rattle.comp_graph.specs.contracts.graph.Action as action;
     ghost use Rattle.comp_graph.specs.contracts.graph.CoreExtern as core_extern;
+    ghost use Rattle.comp_graph.specs.contracts.graph.CanonFunc as canon_func;
     ghost use Rattle.comp_graph.specs.contracts.graph.Lift as lift;
     ghost use Rattle.comp_graph.specs.Graph as graph;
 
     ghost Value = { graph.Graph };
 
-    ghost coded = { Prim.hlevel (codes, tree.the_row.coded, core_extern.the_row.coded, export.the_row.coded, action.the_row.coded, lift.the_row.coded) };
+    ghost coded = { Prim.hlevel (codes, tree.the_row.coded, core_extern.the_row.coded, export.the_row.coded, action.the_row.coded, canon_func.the_row.coded, lift.the_row.coded) };
 
-    ghost view = { λ g. record { plan = g.plan; instance_count = g.instance_count; cores = g.cores.items; exports = g.exports; lifts = g.lifts } };
+    ghost view = { λ g. record { plan = g.plan; instance_count = g.instance_count; cores = g.cores.items; canons = g.canons; exports = g.exports; lifts = g.lifts } };
 
     ghost invariant = { λ g. (g.instance_count ≤ graph.instance_limit) × (length g.cores.items ≤ graph.core_instance_limit) × (length g.lifts ≡ length g.exports) };
 }
 
 impl<'a> Graph<'a> {
-    /// The graph of so many component instances, these core instances in order of making, and these exports with the core
-    /// function of each.
+    /// The graph of so many component instances, these core instances in order of making, these core functions that the Canonical
+    /// ABI makes, in file order, and these exports with the core function of each.
     pub fn new(
         plan: Seq<Action>,
         instance_count: usize,
         cores: Vec<CoreMake<'a>>,
+        canons: Seq<CanonFunc>,
         exports: Exports,
         lifts: Seq<Lift>,
     ) -> Graph<'a>
         requires few_instances { instance_count ≤ instance_limit }
         requires few { length cores.items ≤ core_instance_limit }
         requires lifted { length lifts ≡ length exports }
-        ensures { result ≡ record { plan = plan; instance_count = instance_count; cores = cores.entry.items; exports = exports; lifts = lifts } }
+        ensures { result ≡ record { plan = plan; instance_count = instance_count; cores = cores.entry.items; canons = canons; exports = exports; lifts = lifts } }
     {
         Graph {
             plan,
             instance_count,
             cores,
+            canons,
             exports,
             lifts,
         }
@@ -196,6 +231,13 @@ impl<'a> Graph<'a> {
         ensures few { length self.now.cores ≤ core_instance_limit }
     {
         &self.cores
+    }
+
+    /// The core functions that the Canonical ABI makes, in file order.
+    pub fn canons(&self) -> &[CanonFunc]
+        ensures { result.now ≡ self.now.canons }
+    {
+        self.canons.as_slice()
     }
 
     /// The functions that can be called, in order.

@@ -1,12 +1,15 @@
 //! Graphs: what a component is linked to, as data.
 //!
 //! Linking makes a graph, and what runs a component reads it: which component instances begin and which core modules are
-//! instantiated, in which order, what their imports are, and which functions can be called. `specs/Graph` says what a graph is
-//! and when its functions can be called, `specs/CoreItems` what core instances have, and `specs/Needs` what lifts need of them.
+//! instantiated, in which order, what their imports are, which core functions the Canonical ABI makes, and which functions can be
+//! called. `specs/Graph` says what a graph is and when its functions can be called, `specs/CoreItems` what core instances have, and
+//! `specs/Needs` what lifts and lowers need of them.
 //!
 //! - `graph`: the graph
 #![tactic(auto)]
 
 mod graph;
 
-pub use graph::{Action, CoreExtern, CoreMake, CoreRef, Graph, Lift, Options};
+pub use graph::{
+    Action, CanonFunc, CoreExtern, CoreMake, CoreRef, FuncRef, Graph, Lift, Lower, Options,
+};

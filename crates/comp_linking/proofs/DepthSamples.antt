@@ -48,7 +48,7 @@ abbrev spaces : ℕ → Spaces
 spaces n = record (new_spaces None []) { types = known n }
 
 abbrev so_far : ℕ → Linking
-so_far n = record { scopes = spaces n ∷ []; cores = []; plan = Begin 0 ∷ []; reach = Whole }
+so_far n = record { scopes = spaces n ∷ []; cores = []; canons = []; plan = Begin 0 ∷ []; reach = Whole }
 
 pub known_length : (n : ℕ) → length (known n) ≡ suc n
 known_length zero = refl

@@ -108,7 +108,7 @@ lifted_flat type us u none =
     (subst (AreI32 (length type.params)) (sym (kept_flat flat_param_limit (flat_params type) low)) params)
     (subst (AreI32 (result_count type.result)) (sym (kept_flat 1 (flat_payload type.result) one)) results)
 
-pub lifts_core : (cores : List CoreMake) (type : FuncType) (lift : Lift) → IsLiftThere cores type lift → lift.options ≡ no_options → runs_lift [] type ≡ true → LiftsCore cores type lift
+pub lifts_core : (cores : List CoreMake) (type : FuncType) (lift : Lift) → IsLiftThere cores [] type lift → lift.options ≡ no_options → runs_lift [] type ≡ true → LiftsCore cores type lift
 lifts_core cores type lift there plain runs =
     let p = both (list_all (λ (p : Param). is_u32 p.val_type) type.params) (option_map_or is_u32 type.result true) runs in
     record {

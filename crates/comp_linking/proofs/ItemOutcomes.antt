@@ -1,10 +1,13 @@
--- What is computed of aliases, types, lifts, imports and exports.
+-- What is computed of aliases, types, lifts, lowers, imports and exports.
 use Rattle.std.proofs.Common.{◌≡◌, ◌⊎◌, inl, inr, ℕ, Bool, true, false, not, nat_lt, List, ◌∷◌, refl, sym, ap, subst, arith, Option, Some, None}
 use Rattle.std.specs.Prelude.{Ok}
 use Rattle.std.specs.Option.{option_and_then, MatchOption}
 use Rattle.std.specs.List.{slice_get, list_all, AllByRecursion}
 use Rattle.ca_base.specs.Names.{is_among}
 use Rattle.ca_types.specs.declared.types.FuncType.{FuncType}
+use Rattle.wasm_module.specs.declared.types.FuncType as core
+use Rattle.comp_graph.specs.CoreItems.{core_func_of, func_part}
+use Rattle.comp_graph.specs.Needs.{lifted_type}
 use Rattle.comp_tree.specs.declared.types.DefType.{DefType}
 use Rattle.comp_tree.specs.declared.instances.Sort.{Sort}
 use Rattle.comp_tree.specs.declared.instances.AliasTarget.{AliasTarget}
@@ -14,18 +17,18 @@ use Rattle.comp_tree.specs.declared.externs.Export as read
 use Rattle.comp_tree.specs.declared.items.CanonOption.{CanonOption}
 use Rattle.comp_linking.specs.declared.fault.LinkWhy.TheVariants as why
 use Rattle.comp_graph.specs.Closed.{Closed, Extern, OfFunc, OfType, OfInstance, func_of}
-use Rattle.comp_linking.specs.Definitions.{CoreItem, core_named, Lifted, Definition, AFunc, AnInstance, Exports, export_names, export_named, lacks, seen_as, types_of}
-use Rattle.comp_linking.specs.Runs.{reaches, runs_type, runs_lift}
-use Rattle.comp_linking.specs.Canons.{IsOptionThere, given_by, CanBeLifted, stand_once, is_option_there, can_be_lifted}
+use Rattle.comp_linking.specs.Definitions.{CoreItem, Func, Table, Memory, Global, core_named, Lifted, Definition, AFunc, AnInstance, Exports, export_names, export_named, lacks, seen_as, types_of}
+use Rattle.comp_linking.specs.Runs.{reaches, runs_type, runs_lift, runs_lower}
+use Rattle.comp_linking.specs.Canons.{IsOptionThere, Given, given_by, CanBeLifted, CanBeLowered, stand_once, is_option_there, can_be_lifted, can_be_lowered}
 use Rattle.comp_linking.specs.Types.{Meaning}
 use Rattle.comp_linking.specs.Spaces.{Spaces, Linking, size_of, definition_at, IsOfSort, with_core_item, with_definition, with_spaces, outer_at}
-use Rattle.comp_linking.specs.Items.{AnyByRecursion, IsCoreOf, alias_has, alias_makes, type_has, type_makes, lift_has, lift_makes, wanted, IsOfTypes, lacking, DoesNotFit, import_has, with_import, IsImported, import_makes, said, IsSaid, export_has, with_export, IsExported, export_makes}
+use Rattle.comp_linking.specs.Items.{AnyByRecursion, IsCoreOf, alias_has, alias_makes, type_has, type_makes, lift_has, lift_makes, lower_has, lower_made, lower_makes, wanted, IsOfTypes, lacking, DoesNotFit, import_has, with_import, IsImported, import_makes, said, IsSaid, export_has, with_export, IsExported, export_makes}
 use Rattle.comp_linking.specs.Tests.{is_core_of, is_of_sort, fits, root_may_import}
-use Rattle.comp_linking.specs.Computed.{after, there_or, Outcome, Makes, core_aliased, alias_outcome, type_outcome, lifted_to, lifted_of, lift_outcome, root_given, as_asked, import_outcome, said_is_there, said_lacks, as_said, export_outcome}
+use Rattle.comp_linking.specs.Computed.{after, there_or, Outcome, Makes, core_aliased, alias_outcome, type_outcome, lifted_to, lifted_of, lift_outcome, lowered_from, lower_outcome, root_given, as_asked, import_outcome, said_is_there, said_lacks, as_said, export_outcome}
 use Rattle.comp_linking.proofs.Lists.{some_all, match_at, match_some, then_some}
 use Rattle.comp_linking.proofs.Excluding.{both_of, true_false}
 use Rattle.comp_linking.proofs.Telling.{less, not_less, fails, all_pass_or, core_of_told, sort_told, fits_told, root_refused, root_taken, root_types}
-use Rattle.comp_linking.proofs.Lifting.{once_told, option_told, lifted_told}
+use Rattle.comp_linking.proofs.Lifting.{once_told, option_told, lifted_told, lowered_told}
 use Rattle.comp_linking.proofs.Sounding.{Clear, First, Sound, clear_root, clear_index, clear_missing, clear_typing, clear_canon, sound_if, sound_there, sound_behind, sound_missing, sound_checked, sound_found, match_in, match_none}
 use Rattle.comp_linking.proofs.CoreOutcomes.{MakesBy}
 
@@ -112,6 +115,13 @@ Unfit s options type item = CanBeLifted type item (given_by s options) → ⊥
 abbrev UnfitAt : Spaces → ℕ → List CanonOption → FuncType → Type 0
 UnfitAt s f options type = MatchOption (slice_get s.core_funcs f) ⊥ (Unfit s options type)
 
+-- a core item of a function type is a function
+not_func : (item : CoreItem) (type : core.FuncType) → func_part item ≡ Some type → core_func_of item ≡ None → ⊥
+not_func (Func f other) type h e = cc
+not_func (Table t limits) type h e = cc
+not_func (Memory memory limits) type h e = cc
+not_func (Global g of_core) type h e = cc
+
 lifted_sound : (l : Linking) (n : ℕ) (s : Spaces) (f : ℕ) (options : List CanonOption) (t : ℕ) (type : FuncType) (item : CoreItem) → slice_get s.core_funcs f ≡ Some item → AllByRecursion (IsOptionThere s) options
     → option_and_then func_of (slice_get s.types t) ≡ Some type → Clear (lift_has l.reach s f options t) 4
     → Sound (lift_has l.reach s f options t) (LiftMakes l n s f options t) (lifted_to l.reach n type item options (given_by s options))
@@ -123,6 +133,7 @@ lifted_sound l n s f options t type item there are is clear =
     sound_if P Q (can_be_lifted type item given) why.Canon _ clear
     (λ other. inr (match_in (UnfitAt s f options) (option_and_then func_of (slice_get s.types t)) type is
     (match_in (Unfit s options type) (slice_get s.core_funcs f) item there (fails (can_be_lifted type item given) (lifted_told type item given) other)))) (λ fits.
+    sound_there P Q (core_func_of item) why.Canon _ clear (λ none. absurd (not_func item (lifted_type type) ((lifted_told type item given).0 fits).core none)) (λ core of_item.
     (let canon = clear_canon P clear (λ h. elim h [
       | inl twice ↦ twice ((once_told options).0 once)
       | inr unfit ↦
@@ -131,7 +142,7 @@ lifted_sound l n s f options t type item there are is clear =
     ]) in
     sound_if P Q (reaches l.reach (runs_lift options type)) why.Limit _ canon
     (λ past. match_in (λ type. reaches l.reach (runs_lift options type) ≡ false) (option_and_then func_of (slice_get s.types t)) type is past)
-    (λ within. (item, type, there, are, is, (once_told options).0 once, (lifted_told type item given).0 fits, within, refl)))))
+    (λ within. (item, core, type, there, of_item, are, is, (once_told options).0 once, (lifted_told type item given).0 fits, within, refl))))))
 
 -- options that are there, or not
 options_told : (s : Spaces) (options : List CanonOption)
@@ -158,6 +169,48 @@ lift_sound l n s f options t =
     sound_there P Q (func_of type) why.Typing _ missing (λ none. match_in (λ type. func_of type ≡ None) (slice_get s.types t) type is none) (λ of_func found.
     lifted_sound l n s f options t of_func item there are (found_then func_of (slice_get s.types t) type of_func is found)
     (clear_typing P missing (λ h. both_of (func_of type) of_func found (match_at (λ type. func_of type ≡ None) (slice_get s.types t) type is h))))))))))
+
+-- Lowers.
+
+-- a function that cannot be lowered
+abbrev Unlowered : Spaces → List CanonOption → Lifted → Type 0
+Unlowered s options func = CanBeLowered func.func_type (given_by s options) → ⊥
+
+-- what the lowering of these indices makes is this
+abbrev LowerMakes : Linking → ℕ → Spaces → ℕ → List CanonOption → Lifted → Given → Type 0
+LowerMakes l n s f options func given = lower_makes l n s f options (lower_made l n s func given)
+
+lowered_sound : (l : Linking) (n : ℕ) (s : Spaces) (f : ℕ) (options : List CanonOption) (func : Lifted) → slice_get s.funcs f ≡ Some func → AllByRecursion (IsOptionThere s) options → Clear (lower_has l.reach s f options) 4
+    → Sound (lower_has l.reach s f options) (LowerMakes l n s f options func) (lowered_from l.reach func.func_type options (given_by s options))
+lowered_sound l n s f options func there are clear =
+    let P = lower_has l.reach s f options in
+    let Q = LowerMakes l n s f options func in
+    let given = given_by s options in
+    let type = func.func_type in
+    sound_if P Q (stand_once options) why.Canon _ clear (λ twice. inl (fails (stand_once options) (once_told options) twice)) (λ once.
+    sound_if P Q (can_be_lowered type given) why.Canon _ clear
+    (λ other. inr (match_in (Unlowered s options) (slice_get s.funcs f) func there (fails (can_be_lowered type given) (lowered_told type given) other))) (λ fits.
+    (let canon = clear_canon P clear (λ h. elim h [
+      | inl twice ↦ twice ((once_told options).0 once)
+      | inr unfit ↦ match_at (Unlowered s options) (slice_get s.funcs f) func there unfit ((lowered_told type given).0 fits)
+    ]) in
+    sound_if P Q (reaches l.reach runs_lower) why.Limit _ canon (λ past. past)
+    (λ within. (func, there, are, (once_told options).0 once, (lowered_told type given).0 fits, within, refl)))))
+
+pub lower_sound : (l : Linking) (n : ℕ) (s : Spaces) (f : ℕ) (options : List CanonOption) → Sound (lower_has l.reach s f options) (MakesBy (lower_makes l n s f options)) (lower_outcome l n s f options)
+lower_sound l n s f options =
+    let P = lower_has l.reach s f options in
+    let Q = MakesBy (lower_makes l n s f options) in
+    let root = clear_root P (λ h. h) in
+    sound_there P Q (slice_get s.funcs f) why.Index _ root (λ none. inl none) (λ func there.
+    sound_if P Q (list_all (is_option_there s) options) why.Index _ root (λ absent. inr ((options_told s options).1 absent)) (λ all.
+    (let are = (options_told s options).0 all in
+    let index = clear_index P root (λ h. elim h [
+      | inl none ↦ both_of (slice_get s.funcs f) func there none
+      | inr absent ↦ some_all (IsOptionThere s) (λ o. IsOptionThere s o → ⊥) (λ o h k. k h) options are absent
+    ]) in
+    let typed = clear_typing P (clear_missing P index (λ name h. h)) (λ h. h) in
+    sound_behind P Q (lowered_from l.reach func.func_type options (given_by s options)) _ (lowered_sound l n s f options func there are typed))))
 
 -- Imports.
 

@@ -1,18 +1,23 @@
--- What stands on core instances stays when others come behind them.
-use Rattle.std.proofs.Common.{◌≡◌, List, [], ◌∷◌, ◌++◌, refl, sym, ◌∙◌, ap, subst, append_assoc, append-nil, Option, Some, None}
-use Rattle.std.specs.Prelude.{IsSome}
-use Rattle.std.specs.Option.{option_and_then}
-use Rattle.std.specs.List.{slice_get}
+-- What stands on core instances, and on core functions that the Canonical ABI makes, stays when others come behind them.
+use Rattle.std.proofs.Common.{◌≡◌, ℕ, List, [], ◌∷◌, ◌++◌, refl, sym, ◌∙◌, ap, subst, append_assoc, append-nil, Option, Some, None}
+use Rattle.std.specs.Prelude.{IfSome, IsSome}
+use Rattle.std.specs.Option.{option_map, option_and_then}
+use Rattle.std.specs.List.{slice_get, AllByRecursion}
 use Rattle.ca_types.specs.declared.types.FuncType.{FuncType}
 use Rattle.wasm_module.specs.declared.types.FuncType as core
 use Rattle.wasm_module.specs.declared.module.ModuleTree.{ModuleTree}
 use Rattle.wasm_module.specs.Spaces.{type_of_func, global_space}
 use Rattle.comp_graph.specs.declared.graph.CoreRef.{CoreRef}
+use Rattle.comp_graph.specs.declared.graph.FuncRef.{FuncRef}
+use Rattle.comp_graph.specs.declared.graph.FuncRef.TheVariants as func_ref
 use Rattle.comp_graph.specs.declared.graph.Lift.{Lift}
+use Rattle.comp_graph.specs.declared.graph.Lower as graph
+use Rattle.comp_graph.specs.declared.graph.CanonFunc.{CanonFunc}
+use Rattle.comp_graph.specs.declared.graph.CanonFunc.TheVariants.{Lower}
 use Rattle.comp_graph.specs.CoreItems.{CoreItem, Func, Table, Memory, Global, table_space, memory_space}
-use Rattle.comp_graph.specs.Graph.{CoreMake, core_type, IsLiftThere, IsIn, IsItem, HasImports, AreImported}
+use Rattle.comp_graph.specs.Graph.{CoreMake, canon_type, core_type, IsMemoryThere, IsLiftThere, IsLowerThere, IsCanonThere, AreCanonsThere, IsIn, IsItem, HasImports, AreImported}
 use Rattle.comp_graph.specs.Needs.{lifted_type, realloc_type, post_return_type}
-use Rattle.comp_linking.proofs.Holding.{if_weaker, kept_at}
+use Rattle.comp_linking.proofs.Holding.{all_weaker, if_weaker, kept_at}
 
 -- a memory of a module
 abbrev pub IsMemoryOf : CoreRef → ModuleTree → Type 0
@@ -21,37 +26,95 @@ IsMemoryOf f m = IsSome (slice_get (memory_space m) f.index)
 kept_in : (cores more : List CoreMake) (f : CoreRef) (P : ModuleTree → Type 0) → IsIn cores f P → IsIn (cores ++ more) f P
 kept_in cores more f P h = record { core = h.core; there = kept_at cores more f.instance h.core h.there; holds = h.holds }
 
-pub kept_item : (cores more : List CoreMake) (item : CoreItem) → IsItem cores item → IsItem (cores ++ more) item
-kept_item cores more (Func f type) h = kept_in cores more f (λ m. type_of_func m f.index ≡ Some type) h
-kept_item cores more (Table t limits) h = kept_in cores more t (λ m. slice_get (table_space m) t.index ≡ Some limits) h
-kept_item cores more (Memory memory limits) h = kept_in cores more memory (λ m. slice_get (memory_space m) memory.index ≡ Some limits) h
-kept_item cores more (Global g type) h = kept_in cores more g (λ m. slice_get (global_space m) g.index ≡ Some type) h
+-- what is made of an item of a list, when others come behind
+kept_mapped : {A B : Type 0} (f : A → B) (xs ys : List A) (n : ℕ) (y : B) (o : Option A) → slice_get xs n ≡ o → option_map f o ≡ Some y → option_map f (slice_get (xs ++ ys) n) ≡ Some y
+kept_mapped f xs ys n y None there e = cc
+kept_mapped f xs ys n y (Some x) there e = ap (λ o. option_map f o) (kept_at xs ys n x there) ∙ e
+
+kept_canon_type : (canons others : List CanonFunc) (number : ℕ) (type : core.FuncType) → option_map canon_type (slice_get canons number) ≡ Some type → option_map canon_type (slice_get (canons ++ others) number) ≡ Some type
+kept_canon_type canons others number type h = kept_mapped canon_type canons others number type (slice_get canons number) refl h
+
+pub kept_item : (cores more : List CoreMake) (canons others : List CanonFunc) (item : CoreItem) → IsItem cores canons item → IsItem (cores ++ more) (canons ++ others) item
+kept_item cores more canons others (Func (func_ref.Instance f) type) h = kept_in cores more f (λ m. type_of_func m f.index ≡ Some type) h
+kept_item cores more canons others (Func (func_ref.Canon number) type) h = kept_canon_type canons others number type h
+kept_item cores more canons others (Table t limits) h = kept_in cores more t (λ m. slice_get (table_space m) t.index ≡ Some limits) h
+kept_item cores more canons others (Memory memory limits) h = kept_in cores more memory (λ m. slice_get (memory_space m) memory.index ≡ Some limits) h
+kept_item cores more canons others (Global g type) h = kept_in cores more g (λ m. slice_get (global_space m) g.index ≡ Some type) h
 
 -- the type of a core function that is there
-pub type_there : (cores : List CoreMake) (f : CoreRef) (type : core.FuncType) → IsItem cores (Func f type) → core_type cores f ≡ Some type
-type_there cores f type h = ap (λ (o : Option CoreMake). option_and_then (λ (c : CoreMake). type_of_func c.of_module f.index) o) h.there ∙ h.holds
+pub type_there : (cores : List CoreMake) (canons : List CanonFunc) (f : FuncRef) (type : core.FuncType) → IsItem cores canons (Func f type) → core_type cores canons f ≡ Some type
+type_there cores canons (func_ref.Instance f) type h = ap (λ (o : Option CoreMake). option_and_then (λ (c : CoreMake). type_of_func c.of_module f.index) o) h.there ∙ h.holds
+type_there cores canons (func_ref.Canon number) type h = h
 
-core_there : (cores : List CoreMake) (f : CoreRef) (type : core.FuncType) (o : Option CoreMake) → slice_get cores f.instance ≡ o → option_and_then (λ (c : CoreMake). type_of_func c.of_module f.index) o ≡ Some type → IsItem cores (Func f type)
+core_there : (cores : List CoreMake) (f : CoreRef) (type : core.FuncType) (o : Option CoreMake) → slice_get cores f.instance ≡ o → option_and_then (λ (c : CoreMake). type_of_func c.of_module f.index) o ≡ Some type → IsIn cores f (λ m. type_of_func m f.index ≡ Some type)
 core_there cores f type None there e = cc
 core_there cores f type (Some core) there e = record { core = core; there = there; holds = e }
 
-kept_type : (cores more : List CoreMake) (f : CoreRef) (type : core.FuncType) → core_type cores f ≡ Some type → core_type (cores ++ more) f ≡ Some type
-kept_type cores more f type h = type_there (cores ++ more) f type (kept_item cores more (Func f type) (core_there cores f type (slice_get cores f.instance) refl h))
+func_there : (cores : List CoreMake) (canons : List CanonFunc) (f : FuncRef) (type : core.FuncType) → core_type cores canons f ≡ Some type → IsItem cores canons (Func f type)
+func_there cores canons (func_ref.Instance f) type h = core_there cores f type (slice_get cores f.instance) refl h
+func_there cores canons (func_ref.Canon number) type h = h
 
-pub kept_lift : (cores more : List CoreMake) (func_type : FuncType) (lift : Lift) → IsLiftThere cores func_type lift → IsLiftThere (cores ++ more) func_type lift
-kept_lift cores more func_type lift h = record {
-  core = kept_type cores more lift.core (lifted_type func_type) h.core;
-  memory = if_weaker (λ f. IsIn cores f (IsMemoryOf f)) (λ f. IsIn (cores ++ more) f (IsMemoryOf f)) (λ f k. kept_in cores more f (IsMemoryOf f) k) lift.options.memory h.memory;
-  realloc = if_weaker (λ f. core_type cores f ≡ Some realloc_type) (λ f. core_type (cores ++ more) f ≡ Some realloc_type) (λ f k. kept_type cores more f realloc_type k) lift.options.realloc h.realloc;
-  post_return =
-      if_weaker (λ f. core_type cores f ≡ Some (post_return_type func_type)) (λ f. core_type (cores ++ more) f ≡ Some (post_return_type func_type))
-      (λ f k. kept_type cores more f (post_return_type func_type) k) lift.options.post_return h.post_return;
+kept_type : (cores more : List CoreMake) (canons others : List CanonFunc) (f : FuncRef) (type : core.FuncType) → core_type cores canons f ≡ Some type → core_type (cores ++ more) (canons ++ others) f ≡ Some type
+kept_type cores more canons others f type h = type_there (cores ++ more) (canons ++ others) f type (kept_item cores more canons others (Func f type) (func_there cores canons f type h))
+
+-- what options name
+kept_memory : (cores more : List CoreMake) (memory : Option CoreRef) → IsMemoryThere cores memory → IsMemoryThere (cores ++ more) memory
+kept_memory cores more memory h = if_weaker (λ f. IsIn cores f (IsMemoryOf f)) (λ f. IsIn (cores ++ more) f (IsMemoryOf f)) (λ f k. kept_in cores more f (IsMemoryOf f) k) memory h
+
+kept_func : (cores more : List CoreMake) (canons others : List CanonFunc) (type : core.FuncType) (f : Option FuncRef) → IfSome f (λ f. core_type cores canons f ≡ Some type) → IfSome f (λ f. core_type (cores ++ more) (canons ++ others) f ≡ Some type)
+kept_func cores more canons others type f h =
+    if_weaker (λ f. core_type cores canons f ≡ Some type) (λ f. core_type (cores ++ more) (canons ++ others) f ≡ Some type) (λ f k. kept_type cores more canons others f type k) f h
+
+pub kept_lift : (cores more : List CoreMake) (canons others : List CanonFunc) (func_type : FuncType) (lift : Lift) → IsLiftThere cores canons func_type lift → IsLiftThere (cores ++ more) (canons ++ others) func_type lift
+kept_lift cores more canons others func_type lift h = record {
+  core = kept_type cores more canons others lift.core (lifted_type func_type) h.core;
+  memory = kept_memory cores more lift.options.memory h.memory;
+  realloc = kept_func cores more canons others realloc_type lift.options.realloc h.realloc;
+  post_return = kept_func cores more canons others (post_return_type func_type) lift.options.post_return h.post_return;
   memory_given = h.memory_given;
   realloc_given = h.realloc_given;
 }
 
--- one core instance more
-pub imported_behind : (before cores : List CoreMake) (core : CoreMake) → AreImported before cores → HasImports (before ++ cores) core → AreImported before (cores ++ core ∷ [])
-imported_behind before [] core h k = (subst (λ (cores : List CoreMake). HasImports cores core) (append-nil before) k, tt)
-imported_behind before (first ∷ cores) core h k =
-    (h.0, imported_behind (before ++ first ∷ []) cores core h.1 (subst (λ (cores : List CoreMake). HasImports cores core) (sym (append_assoc before (first ∷ []) cores)) k))
+-- One core instance more. What the Canonical ABI makes stands on it as before.
+kept_lower : (cores more : List CoreMake) (canons others : List CanonFunc) (l : graph.Lower) → IsLowerThere cores canons l → IsLowerThere (cores ++ more) (canons ++ others) l
+kept_lower cores more canons others l h = record {
+  lift = kept_lift cores more canons others l.func_type l.lift h.lift;
+  memory = kept_memory cores more l.options.memory h.memory;
+  realloc = kept_func cores more canons others realloc_type l.options.realloc h.realloc;
+  post_return = h.post_return;
+  memory_given = h.memory_given;
+  realloc_given = h.realloc_given;
+}
+
+kept_canon : (cores more : List CoreMake) (canons others : List CanonFunc) (f : CanonFunc) → IsCanonThere cores canons f → IsCanonThere (cores ++ more) (canons ++ others) f
+kept_canon cores more canons others (Lower l) h = kept_lower cores more canons others l h
+
+pub kept_canons : (cores more : List CoreMake) (before canons : List CanonFunc) → AreCanonsThere cores before canons → AreCanonsThere (cores ++ more) before canons
+kept_canons cores more before [] h = tt
+kept_canons cores more before (f ∷ canons) h =
+    (subst (λ (before : List CanonFunc). IsCanonThere (cores ++ more) before f) (append-nil before) (kept_canon cores more before [] f h.0), kept_canons cores more (before ++ f ∷ []) canons h.1)
+
+pub imported_behind : (canons : List CanonFunc) (before cores : List CoreMake) (core : CoreMake) → AreImported canons before cores → HasImports (before ++ cores) canons core → AreImported canons before (cores ++ core ∷ [])
+imported_behind canons before [] core h k = (subst (λ (cores : List CoreMake). HasImports cores canons core) (append-nil before) k, tt)
+imported_behind canons before (first ∷ cores) core h k =
+    (h.0, imported_behind canons (before ++ first ∷ []) cores core h.1 (subst (λ (cores : List CoreMake). HasImports cores canons core) (sym (append_assoc before (first ∷ []) cores)) k))
+
+-- One core function more that the Canonical ABI makes. Core instances have the imports that they had.
+kept_imports : (before : List CoreMake) (canons others : List CanonFunc) (core : CoreMake) → HasImports before canons core → HasImports before (canons ++ others) core
+kept_imports before canons others core h = record {
+  items = h.items;
+  are = h.are;
+  there =
+      all_weaker (IsItem before canons) (IsItem before (canons ++ others))
+      (λ item k. subst (λ (cores : List CoreMake). IsItem cores (canons ++ others) item) (append-nil before) (kept_item before [] canons others item k)) h.items h.there;
+  fit = h.fit;
+}
+
+pub kept_imported : (canons others : List CanonFunc) (before cores : List CoreMake) → AreImported canons before cores → AreImported (canons ++ others) before cores
+kept_imported canons others before [] h = tt
+kept_imported canons others before (core ∷ cores) h = (kept_imports before canons others core h.0, kept_imported canons others (before ++ core ∷ []) cores h.1)
+
+pub canon_behind : (cores : List CoreMake) (before canons : List CanonFunc) (f : CanonFunc) → AreCanonsThere cores before canons → IsCanonThere cores (before ++ canons) f → AreCanonsThere cores before (canons ++ f ∷ [])
+canon_behind cores before [] f h k = (subst (λ (canons : List CanonFunc). IsCanonThere cores canons f) (append-nil before) k, tt)
+canon_behind cores before (first ∷ canons) f h k =
+    (h.0, canon_behind cores (before ++ first ∷ []) canons f h.1 (subst (λ (canons : List CanonFunc). IsCanonThere cores canons f) (sym (append_assoc before (first ∷ []) canons)) k))

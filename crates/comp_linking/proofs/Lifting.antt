@@ -1,4 +1,4 @@
--- The tests of options, and of what can be lifted with them, say what the relations say.
+-- The tests of options, and of what can be lifted and lowered with them, say what the relations say.
 use Rattle.std.proofs.Common.{◌≡◌, ◌≤◌, ◌<◌, ℕ, zero, suc, Bool, true, false, not, ◌&&◌, ◌||◌, nat_lt, List, [], ◌∷◌, length, refl, ap, arith, Option, Some, None}
 use Rattle.std.specs.Prelude.{IfSome, IsSome, is_some}
 use Rattle.std.specs.Bool.{Decides}
@@ -8,11 +8,11 @@ use Rattle.std.proofs.lemmas.Bool.Decides.{nat_tests}
 use Rattle.ca_types.specs.declared.types.FuncType.{FuncType}
 use Rattle.wasm_module.specs.declared.types.FuncType as core
 use Rattle.comp_graph.specs.CoreItems.{CoreItem, func_part}
-use Rattle.comp_graph.specs.Needs.{lifted_type, realloc_type, post_return_type, needs_memory, needs_realloc}
+use Rattle.comp_graph.specs.Needs.{lifted_type, realloc_type, post_return_type, needs_memory, lift_needs_realloc, lower_needs_realloc}
 use Rattle.comp_tree.specs.declared.items.CanonOption.{CanonOption}
 use Rattle.comp_linking.specs.Spaces.{Spaces}
 use Rattle.comp_linking.specs.Tests.{same_core_func}
-use Rattle.comp_linking.specs.Canons.{is_utf8, memory_index, realloc_index, post_return_index, count_of, StandOnce, IsOptionThere, Given, IsOfCoreType, CanBeLifted, at_most_once, stand_once, is_index_there, is_option_there, is_of_core_type, can_be_lifted}
+use Rattle.comp_linking.specs.Canons.{is_utf8, memory_index, realloc_index, post_return_index, count_of, StandOnce, IsOptionThere, Given, IsOfCoreType, CanBeLifted, CanBeLowered, at_most_once, stand_once, is_index_there, is_option_there, is_of_core_type, can_be_lifted, can_be_lowered}
 use Rattle.comp_linking.proofs.SameValues.{never, both, and}
 use Rattle.comp_linking.proofs.Telling.{less, at_most, core_func_told}
 
@@ -134,7 +134,7 @@ lifted_told type item given = (to, from)
     m = not (needs_memory type) || is_some given.memory
 
     n : Bool
-    n = not (needs_realloc type) || is_some given.realloc
+    n = not (lift_needs_realloc type) || is_some given.realloc
 
     to : can_be_lifted type item given ≡ true → CanBeLifted type item given
     to h =
@@ -147,7 +147,7 @@ lifted_told type item given = (to, from)
           realloc = (given_told realloc_type given.realloc).0 one.1;
           post_return = (given_told (post_return_type type) given.post_return).0 two.1;
           memory_given = (needed_told (needs_memory type) given.memory).0 three.1;
-          realloc_given = (needed_told (needs_realloc type) given.realloc).0 four.1;
+          realloc_given = (needed_told (lift_needs_realloc type) given.realloc).0 four.1;
         }
 
     from : CanBeLifted type item given → can_be_lifted type item given ≡ true
@@ -158,4 +158,45 @@ lifted_told type item given = (to, from)
         (and c r ((of_type_told (lifted_type type) item).1 h.core) ((given_told realloc_type given.realloc).1 h.realloc))
         ((given_told (post_return_type type) given.post_return).1 h.post_return))
         ((needed_told (needs_memory type) given.memory).1 h.memory_given))
-        ((needed_told (needs_realloc type) given.realloc).1 h.realloc_given)
+        ((needed_told (lift_needs_realloc type) given.realloc).1 h.realloc_given)
+
+-- Lowers.
+
+none_told : {A : Type 0} (given : Option A) → Decides (not (is_some given)) (given ≡ None)
+none_told None = (λ h. refl, λ e. refl)
+none_told (Some a) = (λ h. never h, λ e. cc)
+
+pub lowered_told : (type : FuncType) (given : Given) → Decides (can_be_lowered type given) (CanBeLowered type given)
+lowered_told type given = (to, from)
+  where
+    r : Bool
+    r = option_map_or (is_of_core_type realloc_type) given.realloc true
+
+    p : Bool
+    p = not (is_some given.post_return)
+
+    m : Bool
+    m = not (needs_memory type) || is_some given.memory
+
+    n : Bool
+    n = not (lower_needs_realloc type) || is_some given.realloc
+
+    to : can_be_lowered type given ≡ true → CanBeLowered type given
+    to h =
+        let three = both (r && p && m) n h in
+        let two = both (r && p) m three.0 in
+        let one = both r p two.0 in
+        record {
+          realloc = (given_told realloc_type given.realloc).0 one.0;
+          post_return = (none_told given.post_return).0 one.1;
+          memory_given = (needed_told (needs_memory type) given.memory).0 two.1;
+          realloc_given = (needed_told (lower_needs_realloc type) given.realloc).0 three.1;
+        }
+
+    from : CanBeLowered type given → can_be_lowered type given ≡ true
+    from h =
+        and (r && p && m) n
+        (and (r && p) m
+        (and r p ((given_told realloc_type given.realloc).1 h.realloc) ((none_told given.post_return).1 h.post_return))
+        ((needed_told (needs_memory type) given.memory).1 h.memory_given))
+        ((needed_told (lower_needs_realloc type) given.realloc).1 h.realloc_given)

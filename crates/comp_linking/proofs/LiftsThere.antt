@@ -1,59 +1,94 @@
--- What is lifted is there: the core function and what options give, with the types that the lift needs.
-use Rattle.std.proofs.Common.{◌≡◌, ℕ, true, List, [], ◌∷◌, refl, ap, subst, Option, Some}
-use Rattle.std.specs.Prelude.{IfSome, is_some}
-use Rattle.std.specs.Option.{option_map}
+-- What is lifted is there, and what is lowered: the core function, or the function, and what options give, with the types that the
+-- lift or the lower needs.
+use Rattle.std.proofs.Common.{◌≡◌, ℕ, true, List, [], ◌∷◌, refl, ap, subst, Option, Some, None}
+use Rattle.std.specs.Prelude.{IfSome, IsSome, is_some}
+use Rattle.std.specs.Option.{option_and_then}
 use Rattle.ca_types.specs.declared.types.FuncType.{FuncType}
 use Rattle.wasm_module.specs.declared.types.Limits.{Limits}
 use Rattle.wasm_module.specs.declared.types.FuncType as core
-use Rattle.comp_graph.specs.declared.graph.CoreRef.{CoreRef}
-use Rattle.comp_graph.specs.CoreItems.{CoreItem, Func, Table, Memory, Global, core_of}
-use Rattle.comp_graph.specs.Graph.{CoreMake, no_options, core_type, IsIn, IsItem, IsLiftThere}
+use Rattle.comp_graph.specs.declared.graph.FuncRef.{FuncRef}
+use Rattle.comp_graph.specs.declared.graph.CanonFunc.{CanonFunc}
+use Rattle.comp_graph.specs.CoreItems.{CoreItem, Func, Table, Memory, Global, core_func_of, core_memory_of}
+use Rattle.comp_graph.specs.Graph.{CoreMake, no_options, core_type, IsIn, IsItem, IsMemoryThere, IsLiftThere, IsCanonThere}
 use Rattle.comp_graph.specs.Needs.{lifted_type, realloc_type, post_return_type}
 use Rattle.comp_tree.specs.declared.items.CanonOption.{CanonOption}
 use Rattle.comp_linking.specs.declared.reach.Reach.{Reach}
 use Rattle.comp_linking.specs.Runs.{reaches, runs_lift}
+use Rattle.comp_linking.specs.Definitions.{Lifted}
 use Rattle.comp_linking.specs.Spaces.{Spaces}
-use Rattle.comp_linking.specs.Canons.{Given, given_by, options_of, IsOfCoreType, CanBeLifted}
-use Rattle.comp_linking.specs.Items.{lifted_with}
+use Rattle.comp_linking.specs.Canons.{Given, given_by, options_of, IsOfCoreType, CanBeLifted, CanBeLowered}
+use Rattle.comp_linking.specs.Items.{lifted_with, lowered_with}
 use Rattle.comp_linking.proofs.SameValues.{never}
-use Rattle.comp_linking.proofs.Holding.{if_weaker, if_mapped, if_both, mapped_some}
+use Rattle.comp_linking.proofs.Holding.{holds_at, if_weaker, if_then, if_both}
 use Rattle.comp_linking.proofs.Kept.{IsMemoryOf, type_there}
-use Rattle.comp_linking.proofs.Soundness.{lift_for, CanRun, IsMemoryThere}
+use Rattle.comp_linking.proofs.Soundness.{lift_for, CanRun, IsMemoryItem}
 
-func_there : (cores : List CoreMake) (item : CoreItem) (type : core.FuncType) → IsItem cores item → IsOfCoreType type item → core_type cores (core_of item) ≡ Some type
-func_there cores (Func f other) type h e = let same : other ≡ type = cc in type_there cores f type (subst (λ (type : core.FuncType). IsItem cores (Func f type)) same h)
-func_there cores (Table t limits) type h e = cc
-func_there cores (Memory memory limits) type h e = cc
-func_there cores (Global g of_core) type h e = cc
+-- a core function that is there, of a type
+item_type : (cores : List CoreMake) (canons : List CanonFunc) (item : CoreItem) (type : core.FuncType) → IsItem cores canons item → IsOfCoreType type item → IfSome (core_func_of item) (λ f. core_type cores canons f ≡ Some type)
+item_type cores canons (Func f other) type h e = let same : other ≡ type = cc in type_there cores canons f type (subst (λ (type : core.FuncType). IsItem cores canons (Func f type)) same h)
+item_type cores canons (Table t limits) type h e = tt
+item_type cores canons (Memory memory limits) type h e = tt
+item_type cores canons (Global g of_core) type h e = tt
 
-memory_there : (cores : List CoreMake) (item : CoreItem) → IsMemoryThere cores item → IsIn cores (core_of item) (IsMemoryOf (core_of item))
-memory_there cores (Memory memory limits) h = record { core = h.core; there = h.there; holds = ap (λ (o : Option Limits). is_some o) h.holds }
-memory_there cores (Func f type) h = absurd h
-memory_there cores (Table t limits) h = absurd h
-memory_there cores (Global g type) h = absurd h
+memory_there : (cores : List CoreMake) (canons : List CanonFunc) (item : CoreItem) → IsMemoryItem cores canons item → IsMemoryThere cores (core_memory_of item)
+memory_there cores canons (Memory memory limits) h = record { core = h.core; there = h.there; holds = ap (λ (o : Option Limits). is_some o) h.holds }
+memory_there cores canons (Func f type) h = absurd h
+memory_there cores canons (Table t limits) h = absurd h
+memory_there cores canons (Global g type) h = absurd h
 
 -- a core function that an option gives
-given_there : (cores : List CoreMake) (type : core.FuncType) (given : Option CoreItem) → IfSome given (IsItem cores) → IfSome given (IsOfCoreType type) → IfSome (option_map core_of given) (λ f. core_type cores f ≡ Some type)
-given_there cores type given h k =
-    if_mapped core_of (λ (f : CoreRef). core_type cores f ≡ Some type) given
-    (if_both (IsItem cores) (IsOfCoreType type) (λ (item : CoreItem). core_type cores (core_of item) ≡ Some type) (λ item h k. func_there cores item type h k) given h k)
+given_there : (cores : List CoreMake) (canons : List CanonFunc) (type : core.FuncType) (given : Option CoreItem) → IfSome given (IsItem cores canons) → IfSome given (IsOfCoreType type)
+    → IfSome (option_and_then core_func_of given) (λ f. core_type cores canons f ≡ Some type)
+given_there cores canons type given h k =
+    if_then core_func_of (λ (f : FuncRef). core_type cores canons f ≡ Some type) given
+    (if_both (IsItem cores canons) (IsOfCoreType type) (λ (item : CoreItem). IfSome (core_func_of item) (λ f. core_type cores canons f ≡ Some type)) (λ item h k. item_type cores canons item type h k) given h k)
+
+-- what is given is a function, and a memory
+func_given : (type : core.FuncType) (given : Option CoreItem) → IfSome given (IsOfCoreType type) → IsSome given → IsSome (option_and_then core_func_of given)
+func_given type None h k = k
+func_given type (Some (Func f other)) h k = refl
+func_given type (Some (Table t limits)) h k = cc
+func_given type (Some (Memory memory limits)) h k = cc
+func_given type (Some (Global g of_core)) h k = cc
+
+memory_given : (cores : List CoreMake) (canons : List CanonFunc) (given : Option CoreItem) → IfSome given (IsMemoryItem cores canons) → IsSome given → IsSome (option_and_then core_memory_of given)
+memory_given cores canons None h k = k
+memory_given cores canons (Some (Memory memory limits)) h k = refl
+memory_given cores canons (Some (Func f type)) h k = absurd h
+memory_given cores canons (Some (Table t limits)) h k = absurd h
+memory_given cores canons (Some (Global g type)) h k = absurd h
 
 -- what options give is there
-pub record IsGiven (cores : List CoreMake) (given : Given) : Type 0 where
-  pub memory : IfSome given.memory (IsMemoryThere cores)
-  pub realloc : IfSome given.realloc (IsItem cores)
-  pub post_return : IfSome given.post_return (IsItem cores)
+pub record IsGiven (cores : List CoreMake) (canons : List CanonFunc) (given : Given) : Type 0 where
+  pub memory : IfSome given.memory (IsMemoryItem cores canons)
+  pub realloc : IfSome given.realloc (IsItem cores canons)
+  pub post_return : IfSome given.post_return (IsItem cores canons)
 
-pub lift_there : (cores : List CoreMake) (n : ℕ) (type : FuncType) (item : CoreItem) (given : Given) → IsItem cores item → IsGiven cores given → CanBeLifted type item given → IsLiftThere cores type (lift_for (lifted_with n type item given))
-lift_there cores n type item given h k fits = record {
-  core = func_there cores item (lifted_type type) h fits.core;
-  memory =
-      if_mapped core_of (λ (f : CoreRef). IsIn cores f (IsMemoryOf f)) given.memory
-      (if_weaker (IsMemoryThere cores) (λ (item : CoreItem). IsIn cores (core_of item) (IsMemoryOf (core_of item))) (memory_there cores) given.memory k.memory);
-  realloc = given_there cores realloc_type given.realloc k.realloc fits.realloc;
-  post_return = given_there cores (post_return_type type) given.post_return k.post_return fits.post_return;
-  memory_given = λ needs. mapped_some core_of given.memory (fits.memory_given needs);
-  realloc_given = λ needs. mapped_some core_of given.realloc (fits.realloc_given needs);
+given_memory : (cores : List CoreMake) (canons : List CanonFunc) (given : Option CoreItem) → IfSome given (IsMemoryItem cores canons) → IsMemoryThere cores (option_and_then core_memory_of given)
+given_memory cores canons given h =
+    if_then core_memory_of (λ f. IsIn cores f (IsMemoryOf f)) given
+    (if_weaker (IsMemoryItem cores canons) (λ (item : CoreItem). IsMemoryThere cores (core_memory_of item)) (memory_there cores canons) given h)
+
+pub lift_there : (cores : List CoreMake) (canons : List CanonFunc) (n : ℕ) (type : FuncType) (item : CoreItem) (core : FuncRef) (given : Given) → core_func_of item ≡ Some core → IsItem cores canons item → IsGiven cores canons given → CanBeLifted type item given
+    → IsLiftThere cores canons type (lift_for (lifted_with n type core given))
+lift_there cores canons n type item core given is h k fits = record {
+  core = holds_at (λ f. core_type cores canons f ≡ Some (lifted_type type)) (core_func_of item) core (item_type cores canons item (lifted_type type) h fits.core) is;
+  memory = given_memory cores canons given.memory k.memory;
+  realloc = given_there cores canons realloc_type given.realloc k.realloc fits.realloc;
+  post_return = given_there cores canons (post_return_type type) given.post_return k.post_return fits.post_return;
+  memory_given = λ needs. memory_given cores canons given.memory k.memory (fits.memory_given needs);
+  realloc_given = λ needs. func_given realloc_type given.realloc fits.realloc (fits.realloc_given needs);
+}
+
+pub lower_there : (cores : List CoreMake) (canons : List CanonFunc) (n : ℕ) (func : Lifted) (given : Given) → IsLiftThere cores canons func.func_type (lift_for func) → IsGiven cores canons given → CanBeLowered func.func_type given
+    → IsCanonThere cores canons (lowered_with n func given)
+lower_there cores canons n func given h k fits = record {
+  lift = h;
+  memory = given_memory cores canons given.memory k.memory;
+  realloc = given_there cores canons realloc_type given.realloc k.realloc fits.realloc;
+  post_return = ap (λ o. option_and_then core_func_of o) fits.post_return;
+  memory_given = λ needs. memory_given cores canons given.memory k.memory (fits.memory_given needs);
+  realloc_given = λ needs. func_given realloc_type given.realloc fits.realloc (fits.realloc_given needs);
 }
 
 -- Where linking leads to a run, a lift has no options.
@@ -61,5 +96,5 @@ plain : (s : Spaces) (options : List CanonOption) (type : FuncType) → runs_lif
 plain s [] type h = (refl, h)
 plain s (o ∷ options) type h = never h
 
-pub can_run : (reach : Reach) (s : Spaces) (n : ℕ) (type : FuncType) (item : CoreItem) (options : List CanonOption) → reaches reach (runs_lift options type) ≡ true → CanRun reach (lifted_with n type item (given_by s options))
-can_run reach s n type item options h e = plain s options type (subst (λ (reach : Reach). reaches reach (runs_lift options type) ≡ true) e h)
+pub can_run : (reach : Reach) (s : Spaces) (n : ℕ) (type : FuncType) (core : FuncRef) (options : List CanonOption) → reaches reach (runs_lift options type) ≡ true → CanRun reach (lifted_with n type core (given_by s options))
+can_run reach s n type core options h e = plain s options type (subst (λ (reach : Reach). reaches reach (runs_lift options type) ≡ true) e h)

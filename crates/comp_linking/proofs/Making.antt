@@ -4,6 +4,8 @@ use Rattle.std.specs.List.{slice_get, AllZip}
 use Rattle.ca_types.specs.declared.types.FuncType.{FuncType}
 use Rattle.wasm_module.specs.declared.module.Import.{Import}
 use Rattle.wasm_module.specs.declared.module.ModuleTree.{ModuleTree}
+use Rattle.comp_graph.specs.declared.graph.FuncRef.{FuncRef}
+use Rattle.comp_graph.specs.CoreItems.{core_func_of}
 use Rattle.comp_tree.specs.declared.core_instances.CoreArgument.{CoreArgument}
 use Rattle.comp_tree.specs.declared.core_instances.CoreInlineExport.{CoreInlineExport}
 use Rattle.comp_tree.specs.declared.core_instances.CoreInstance.{CoreInstance}
@@ -17,7 +19,7 @@ use Rattle.comp_tree.specs.declared.instances.AliasTarget.TheVariants as target
 use Rattle.comp_tree.specs.declared.externs.ExternDesc.{ExternDesc}
 use Rattle.comp_tree.specs.declared.externs.Export as read
 use Rattle.comp_tree.specs.declared.items.CanonOption.{CanonOption}
-use Rattle.comp_tree.specs.declared.items.Canon.TheVariants.{Lift}
+use Rattle.comp_tree.specs.declared.items.Canon.TheVariants.{Lift, Lower}
 use Rattle.comp_tree.specs.declared.items.Item.{Item, out-Item}
 use Rattle.comp_tree.specs.declared.items.Item.TheOpen.{Item-F}
 use Rattle.comp_tree.specs.declared.items.Component.{Component}
@@ -26,7 +28,7 @@ use Rattle.comp_linking.specs.Definitions.{CoreItem, CoreExport, Definition, AFu
 use Rattle.comp_linking.specs.Canons.{given_by}
 use Rattle.comp_linking.specs.Types.{Meaning}
 use Rattle.comp_linking.specs.Spaces.{Spaces, Linking, definition_at, with_spaces, with_core_item, with_core_instance, with_definition}
-use Rattle.comp_linking.specs.Items.{FindsItem, IsInline, core_made, core_instance_makes, AreNamed, instance_makes, alias_makes, lifted_with, lift_makes, IsImported, with_import, import_makes, said, IsExported, with_export, export_makes, makes_case}
+use Rattle.comp_linking.specs.Items.{FindsItem, IsInline, core_made, core_instance_makes, AreNamed, instance_makes, alias_makes, lifted_with, lift_makes, lower_made, lower_makes, IsImported, with_import, import_makes, said, IsExported, with_export, export_makes, makes_case}
 use Rattle.comp_linking.specs.Laws.{MakesOnce, BeginsOnce}
 use Rattle.comp_linking.proofs.Lists.{same_zip}
 
@@ -83,10 +85,17 @@ alias_once l n s sort (target.Outer up index) a b (d, is, made) (d', is', made')
 -- Lifts.
 
 lift_once : (l : Linking) (n : ℕ) (s : Spaces) (f : ℕ) (options : List CanonOption) (t : ℕ) (a b : Linking) → lift_makes l n s f options t a → lift_makes l n s f options t b → a ≡ b
-lift_once l n s f options t a b (item, type, is, there, of_type, once, fits, within, made) (item', type', is', there', of_type', once', fits', within', made') =
+lift_once l n s f options t a b (item, core, type, is, of_item, there, of_type, once, fits, within, made) (item', core', type', is', of_item', there', of_type', once', fits', within', made') =
     let items : item ≡ item' = one_value _ item item' is is' in
+    let cores : core ≡ core' = one_value (core_func_of item) core core' of_item (ap core_func_of items ∙ of_item') in
     let types : type ≡ type' = one_value _ type type' of_type of_type' in
-    made ∙ (ap₂ (λ (item : CoreItem) (type : FuncType). with_spaces l n (with_definition s (AFunc (lifted_with n type item (given_by s options))))) items types ∙ sym made')
+    made ∙ (ap₂ (λ (core : FuncRef) (type : FuncType). with_spaces l n (with_definition s (AFunc (lifted_with n type core (given_by s options))))) cores types ∙ sym made')
+
+-- Lowers.
+
+lower_once : (l : Linking) (n : ℕ) (s : Spaces) (f : ℕ) (options : List CanonOption) (a b : Linking) → lower_makes l n s f options a → lower_makes l n s f options b → a ≡ b
+lower_once l n s f options a b (func, is, there, once, fits, within, made) (func', is', there', once', fits', within', made') =
+    both_made (λ func. lower_made l n s func (given_by s options)) func func' a b (one_value _ func func' is is') made made'
 
 -- Imports and exports.
 
@@ -125,6 +134,7 @@ case_once l n s (Item-F.Alias alias) a b h k = alias_once l n s alias.sort alias
 case_once l n s (Item-F.Type type) a b (closed, is, within, made) (closed', is', within', made') =
     both_made (λ closed. with_spaces l n (with_definition s (AType closed))) closed closed' a b (one_value _ closed closed' is.0 is'.0) made made'
 case_once l n s (Item-F.Canon (Lift f options t)) a b h k = lift_once l n s f options t a b h k
+case_once l n s (Item-F.Canon (Lower f options)) a b h k = lower_once l n s f options a b h k
 case_once l n s (Item-F.Import i) a b h k = import_once l n s i.name i.desc a b h k
 case_once l n s (Item-F.Export e) a b h k = export_once l n s e a b h k
 

@@ -11,7 +11,7 @@ use Rattle.comp_tree.specs.declared.instances.Sort.{Sort}
 use Rattle.comp_tree.specs.declared.instances.AliasTarget.{AliasTarget}
 use Rattle.comp_tree.specs.declared.instances.AliasTarget.TheVariants as target
 use Rattle.comp_tree.specs.declared.externs.Export as read
-use Rattle.comp_tree.specs.declared.items.Canon.TheVariants.{Lift}
+use Rattle.comp_tree.specs.declared.items.Canon.TheVariants.{Lift, Lower}
 use Rattle.comp_tree.specs.declared.items.Item.{Item, out-Item}
 use Rattle.comp_tree.specs.declared.items.Item.TheOpen.{Item-F}
 use Rattle.comp_tree.specs.declared.items.Component.{Component}
@@ -71,6 +71,7 @@ case_name l n s (Item-F.Instance i) a b h k = instance_name l s i a b h k
 case_name l n s (Item-F.Alias alias) a b h k = alias_name l n s alias.sort alias.target a b h k
 case_name l n s (Item-F.Type type) a b h k = cc (h, k)
 case_name l n s (Item-F.Canon (Lift f options t)) a b h k = absurd h
+case_name l n s (Item-F.Canon (Lower f options)) a b h k = absurd h
 case_name l n s (Item-F.Import i) a b h k =
     match_same (λ (given : Exports). lacking (export_named i.name given) i.name (wanted s i.desc).means ≡ Some a) (λ (given : Exports). lacking (export_named i.name given) i.name (wanted s i.desc).means ≡ Some b) a b
     (λ given h k. told_once (lacking (export_named i.name given) i.name (wanted s i.desc).means) a b h k) s.arguments h k

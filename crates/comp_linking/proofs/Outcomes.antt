@@ -2,7 +2,7 @@
 use Rattle.std.proofs.Common.{◌≡◌, ℕ, ◌∷◌, refl, ◌∙◌, ap, ap₂, subst}
 use Rattle.std.specs.Prelude.{Result, Ok, Err}
 use Rattle.comp_tree.specs.declared.instances.Instance as made_of
-use Rattle.comp_tree.specs.declared.items.Canon.TheVariants.{Lift}
+use Rattle.comp_tree.specs.declared.items.Canon.TheVariants.{Lift, Lower}
 use Rattle.comp_tree.specs.declared.items.Item.{Item, out-Item}
 use Rattle.comp_tree.specs.declared.items.Item.TheOpen.{Item-F}
 use Rattle.comp_tree.specs.declared.items.Component.{Component}
@@ -18,7 +18,7 @@ use Rattle.comp_linking.proofs.Excluding.{makes_excludes_reasons, begins_exclude
 use Rattle.comp_linking.proofs.Making.{makes_once, begins_once}
 use Rattle.comp_linking.proofs.Naming.{one_first}
 use Rattle.comp_linking.proofs.Sounding.{First, Sound, sound_map}
-use Rattle.comp_linking.proofs.ItemOutcomes.{alias_sound, type_sound, lift_sound, import_sound, export_sound}
+use Rattle.comp_linking.proofs.ItemOutcomes.{alias_sound, type_sound, lift_sound, lower_sound, import_sound, export_sound}
 use Rattle.comp_linking.proofs.CoreOutcomes.{MakesBy, InstanceComes, BeginsBy, core_instance_sound, instance_sound}
 
 -- Items.
@@ -48,6 +48,7 @@ case_sound l n s (Item-F.Alias alias) = sound_map _ _ (CaseComes l n s (Item-F.A
 case_sound l n s (Item-F.Type type) =
     sound_map _ _ (CaseComes l n s (Item-F.Type type)) _ (only_makes l n s (Item-F.Type type) _ (λ new h. h)) (type_sound l n s type (meaning_of type (levels_at l (n ∷ s.around))))
 case_sound l n s (Item-F.Canon (Lift f options t)) = sound_map _ _ (CaseComes l n s (Item-F.Canon (Lift f options t))) _ (only_makes l n s (Item-F.Canon (Lift f options t)) _ (λ new h. h)) (lift_sound l n s f options t)
+case_sound l n s (Item-F.Canon (Lower f options)) = sound_map _ _ (CaseComes l n s (Item-F.Canon (Lower f options))) _ (only_makes l n s (Item-F.Canon (Lower f options)) _ (λ new h. h)) (lower_sound l n s f options)
 case_sound l n s (Item-F.Import i) = sound_map _ _ (CaseComes l n s (Item-F.Import i)) _ (only_makes l n s (Item-F.Import i) _ (λ new h. h)) (import_sound l n s i.name i.desc)
 case_sound l n s (Item-F.Export e) = sound_map _ _ (CaseComes l n s (Item-F.Export e)) _ (only_makes l n s (Item-F.Export e) _ (λ new h. h)) (export_sound l n s e)
 

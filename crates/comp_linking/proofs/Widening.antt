@@ -8,7 +8,7 @@ use Rattle.comp_tree.specs.declared.instances.Instance.TheVariants as made
 use Rattle.comp_tree.specs.declared.instances.Sort.{Sort}
 use Rattle.comp_tree.specs.declared.instances.AliasTarget.{AliasTarget}
 use Rattle.comp_tree.specs.declared.instances.AliasTarget.TheVariants as target
-use Rattle.comp_tree.specs.declared.items.Canon.TheVariants.{Lift}
+use Rattle.comp_tree.specs.declared.items.Canon.TheVariants.{Lift, Lower}
 use Rattle.comp_tree.specs.declared.items.Item.{Item, out-Item}
 use Rattle.comp_tree.specs.declared.items.Item.TheOpen.{Item-F}
 use Rattle.comp_tree.specs.declared.items.Component.{Component}
@@ -21,7 +21,7 @@ use Rattle.comp_linking.specs.Laws.{RunsAreLinked}
 
 -- the same linking, over all that is read
 abbrev whole : Linking → Linking
-whole l = record { scopes = l.scopes; cores = l.cores; plan = l.plan; reach = Whole }
+whole l = record { scopes = l.scopes; cores = l.cores; canons = l.canons; plan = l.plan; reach = Whole }
 
 core_instance_whole : (l : Linking) (n : ℕ) (s : Spaces) (c : CoreInstance) (new : Linking) → core_instance_makes l n s c new → core_instance_makes (whole l) n s c (whole new)
 core_instance_whole l n s (made_core.Instantiate index arguments) new (m, imports, is, there, found, distinct, few, made) = (m, imports, is, there, found, distinct, few, ap whole made)
@@ -43,7 +43,8 @@ case_whole l n s (Item-F.Component c) new made = ap whole made
 case_whole l n s (Item-F.Instance i) new makes = instance_whole l n s i new makes
 case_whole l n s (Item-F.Alias alias) new makes = alias_whole l n s alias.sort alias.target new makes
 case_whole l n s (Item-F.Type type) new (closed, is, within, made) = (closed, is, refl, ap whole made)
-case_whole l n s (Item-F.Canon (Lift f options t)) new (item, type, is, there, of_type, once, fits, within, made) = (item, type, is, there, of_type, once, fits, refl, ap whole made)
+case_whole l n s (Item-F.Canon (Lift f options t)) new (item, core, type, is, of_item, there, of_type, once, fits, within, made) = (item, core, type, is, of_item, there, of_type, once, fits, refl, ap whole made)
+case_whole l n s (Item-F.Canon (Lower f options)) new (func, is, there, once, fits, within, made) = (func, is, there, once, fits, refl, ap whole made)
 case_whole l n s (Item-F.Import i) new (extern, d, is, fresh, imported, made) = (extern, d, is, fresh, imported, ap whole made)
 case_whole l n s (Item-F.Export e) new (d, x, is, fresh, exported, made) = (d, x, is, fresh, exported, ap whole made)
 

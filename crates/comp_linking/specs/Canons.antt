@@ -1,14 +1,14 @@
 -- The options of canonical functions (Component Model, Explainer.md, "Canonical Definitions"; CanonicalABI.md, "Canonical ABI
--- Options"), and when a core item can be lifted with them. An option stands at most once.
+-- Options"), when a core item can be lifted with them, and when a function can be lowered. An option stands at most once.
 use Rattle.std.specs.Prelude.{◌≡◌, ◌≤◌, ℕ, Bool, true, false, not, ◌&&◌, ◌||◌, nat_lt, nat_le, is_some, List, [], ◌∷◌, length, filter, Option, Some, None, IfSome, IsSome}
-use Rattle.std.specs.Option.{option_map, option_and_then, option_map_or}
+use Rattle.std.specs.Option.{option_and_then, option_map_or}
 use Rattle.std.specs.List.{slice_get}
 use Rattle.ca_types.specs.declared.types.FuncType.{FuncType}
 use Rattle.wasm_module.specs.declared.types.FuncType as core
 use Rattle.comp_graph.specs.declared.graph.Options.{Options}
 use Rattle.comp_graph.specs.Closed.{first_of}
-use Rattle.comp_graph.specs.CoreItems.{CoreItem, core_of, func_part}
-use Rattle.comp_graph.specs.Needs.{lifted_type, realloc_type, post_return_type, needs_memory, needs_realloc}
+use Rattle.comp_graph.specs.CoreItems.{CoreItem, core_func_of, core_memory_of, func_part}
+use Rattle.comp_graph.specs.Needs.{lifted_type, realloc_type, post_return_type, needs_memory, lift_needs_realloc, lower_needs_realloc}
 use Rattle.comp_tree.specs.declared.items.CanonOption.{CanonOption}
 use Rattle.comp_tree.specs.declared.items.CanonOption.TheVariants as option
 use Rattle.comp_linking.specs.Spaces.{Spaces}
@@ -82,9 +82,9 @@ given_by s options = record {
 -- the same without types
 abbrev pub options_of : Given → Options
 options_of given = record {
-  memory = option_map core_of given.memory;
-  realloc = option_map core_of given.realloc;
-  post_return = option_map core_of given.post_return;
+  memory = option_and_then core_memory_of given.memory;
+  realloc = option_and_then core_func_of given.realloc;
+  post_return = option_and_then core_func_of given.post_return;
 }
 
 -- Lifts.
@@ -100,7 +100,18 @@ pub record CanBeLifted (type : FuncType) (item : CoreItem) (given : Given) : Typ
   pub realloc : IfSome given.realloc (IsOfCoreType realloc_type)
   pub post_return : IfSome given.post_return (IsOfCoreType (post_return_type type))
   pub memory_given : needs_memory type ≡ true → IsSome given.memory
-  pub realloc_given : needs_realloc type ≡ true → IsSome given.realloc
+  pub realloc_given : lift_needs_realloc type ≡ true → IsSome given.realloc
+
+-- Lowers.
+
+-- A function of a type can be lowered with what is given: the function that gives places has its type, no function is called when
+-- a result was lifted, and where something is passed in memory, or what the result holds asks for a place in it, the memory is
+-- given, or the function that gives places.
+pub record CanBeLowered (type : FuncType) (given : Given) : Type 0 where
+  pub realloc : IfSome given.realloc (IsOfCoreType realloc_type)
+  pub post_return : given.post_return ≡ None
+  pub memory_given : needs_memory type ≡ true → IsSome given.memory
+  pub realloc_given : lower_needs_realloc type ≡ true → IsSome given.realloc
 
 -- The same as tests.
 
@@ -129,4 +140,11 @@ can_be_lifted type item given =
     && option_map_or (is_of_core_type realloc_type) given.realloc true
     && option_map_or (is_of_core_type (post_return_type type)) given.post_return true
     && (not (needs_memory type) || is_some given.memory)
-    && (not (needs_realloc type) || is_some given.realloc)
+    && (not (lift_needs_realloc type) || is_some given.realloc)
+
+abbrev pub can_be_lowered : FuncType → Given → Bool
+can_be_lowered type given =
+    option_map_or (is_of_core_type realloc_type) given.realloc true
+    && not (is_some given.post_return)
+    && (not (needs_memory type) || is_some given.memory)
+    && (not (lower_needs_realloc type) || is_some given.realloc)

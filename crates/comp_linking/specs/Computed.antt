@@ -9,6 +9,7 @@ use Rattle.ca_types.specs.declared.types.FuncType.{FuncType}
 use Rattle.wasm_module.specs.declared.module.Import.{Import}
 use Rattle.wasm_module.specs.declared.module.ModuleTree.{ModuleTree}
 use Rattle.comp_graph.specs.Graph.{Graph}
+use Rattle.comp_graph.specs.CoreItems.{core_func_of}
 use Rattle.comp_tree.specs.declared.core_instances.CoreArgument.{CoreArgument}
 use Rattle.comp_tree.specs.declared.core_instances.CoreInlineExport.{CoreInlineExport}
 use Rattle.comp_tree.specs.declared.core_instances.CoreInstance.{CoreInstance}
@@ -23,7 +24,7 @@ use Rattle.comp_tree.specs.declared.externs.ExternDesc.{ExternDesc}
 use Rattle.comp_tree.specs.declared.externs.Export as read
 use Rattle.comp_tree.specs.declared.types.DefType.{DefType}
 use Rattle.comp_tree.specs.declared.items.CanonOption.{CanonOption}
-use Rattle.comp_tree.specs.declared.items.Canon.TheVariants.{Lift}
+use Rattle.comp_tree.specs.declared.items.Canon.TheVariants.{Lift, Lower}
 use Rattle.comp_tree.specs.declared.items.Item.{Item, out-Item}
 use Rattle.comp_tree.specs.declared.items.Item.TheOpen.{Item-F}
 use Rattle.comp_tree.specs.declared.items.Component.{Component}
@@ -33,11 +34,11 @@ use Rattle.comp_linking.specs.declared.fault.LinkFault.{LinkFault}
 use Rattle.comp_graph.specs.Closed.{Closed, Extern, OfInstance, func_of}
 use Rattle.comp_linking.specs.Definitions.{CoreItem, CoreExport, core_named, Lifted, Closure, Definition, AFunc, AType, AComponent, AnInstance, AModule, Exports, EmptyInstance, WithExport, export_names, export_named, lacks, seen_as, types_of}
 use Rattle.comp_linking.specs.declared.reach.Reach.{Reach}
-use Rattle.comp_linking.specs.Runs.{reaches, runs_type, runs_lift}
-use Rattle.comp_linking.specs.Canons.{Given, given_by, stand_once, is_option_there, can_be_lifted}
+use Rattle.comp_linking.specs.Runs.{reaches, runs_type, runs_lift, runs_lower}
+use Rattle.comp_linking.specs.Canons.{Given, given_by, stand_once, is_option_there, can_be_lifted, can_be_lowered}
 use Rattle.comp_linking.specs.Types.{Meaning, meaning_of}
 use Rattle.comp_linking.specs.Spaces.{Spaces, Linking, core_size, size_of, core_item_at, definition_at, with_core_item, with_core_instance, with_definition, with_spaces, levels_at, outer_at}
-use Rattle.comp_linking.specs.Items.{instance_limit, argument_named, core_made, lifted_with, wanted, lacking, with_import, said, with_export}
+use Rattle.comp_linking.specs.Items.{instance_limit, argument_named, core_made, lifted_with, lower_made, wanted, lacking, with_import, said, with_export}
 use Rattle.comp_linking.specs.Linked.{begun, with_instance, root_begun, graph_of}
 use Rattle.comp_linking.specs.Tests.{are_distinct, all_fit, is_core_of, is_of_sort, fits, root_may_import}
 
@@ -167,8 +168,9 @@ abbrev pub lifted_to : Reach → ℕ → FuncType → CoreItem → List CanonOpt
 lifted_to reach n type item options given =
     only_if (stand_once options) why.Canon (
     only_if (can_be_lifted type item given) why.Canon (
+    after (there_or why.Canon (core_func_of item)) (λ core.
     only_if (reaches reach (runs_lift options type)) why.Limit (
-    Ok (lifted_with n type item given))))
+    Ok (lifted_with n type core given)))))
 
 -- the lift of the core function of an index, with options, to a function of the type of an index
 abbrev pub lifted_of : Reach → ℕ → Spaces → ℕ → List CanonOption → ℕ → Result Lifted LinkWhy
@@ -181,6 +183,23 @@ lifted_of reach n s f options t =
 
 abbrev pub lift_outcome : Linking → ℕ → Spaces → ℕ → List CanonOption → ℕ → Result Outcome LinkWhy
 lift_outcome l n s f options t = after (lifted_of l.reach n s f options t) (λ lifted. Ok (one_more l n s (AFunc lifted)))
+
+-- Lowers.
+
+-- that a function can be lowered, with options and what they give
+abbrev pub lowered_from : Reach → FuncType → List CanonOption → Given → Result Given LinkWhy
+lowered_from reach type options given =
+    only_if (stand_once options) why.Canon (
+    only_if (can_be_lowered type given) why.Canon (
+    only_if (reaches reach runs_lower) why.Limit (
+    Ok given)))
+
+abbrev pub lower_outcome : Linking → ℕ → Spaces → ℕ → List CanonOption → Result Outcome LinkWhy
+lower_outcome l n s f options =
+    after (there_or why.Index (slice_get s.funcs f)) (λ func.
+    only_if (list_all (is_option_there s) options) why.Index (
+    after (lowered_from l.reach func.func_type options (given_by s options)) (λ given.
+    Ok (Makes (lower_made l n s func given)))))
 
 -- Imports.
 
@@ -242,6 +261,7 @@ outcome_case l n s (Item-F.Instance i) = instance_outcome l n s i
 outcome_case l n s (Item-F.Alias alias) = alias_outcome l n s alias.sort alias.target
 outcome_case l n s (Item-F.Type type) = type_outcome l n s type (meaning_of type (levels_at l (n ∷ s.around)))
 outcome_case l n s (Item-F.Canon (Lift f options t)) = lift_outcome l n s f options t
+outcome_case l n s (Item-F.Canon (Lower f options)) = lower_outcome l n s f options
 outcome_case l n s (Item-F.Import i) = import_outcome l n s i.name (wanted s i.desc) i.desc s.arguments
 outcome_case l n s (Item-F.Export e) = export_outcome l n s e
 

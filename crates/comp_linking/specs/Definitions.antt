@@ -9,6 +9,7 @@ use Rattle.ca_base.specs.declared.placed.Placed.{Placed}
 use Rattle.wasm_module.specs.declared.module.Export.{Export}
 use Rattle.wasm_module.specs.declared.module.ModuleTree.{ModuleTree}
 pub use Rattle.comp_graph.specs.declared.graph.CoreRef.{CoreRef}
+pub use Rattle.comp_graph.specs.declared.graph.FuncRef.{FuncRef}
 pub use Rattle.comp_graph.specs.CoreItems.{CoreItem, Func, Table, Memory, Global, extern_of, item_of, MaxIsWithin, IsWithin, CoreFits}
 pub use Rattle.comp_graph.specs.Graph.{Lifted}
 use Rattle.comp_tree.specs.declared.items.Item.{Item}

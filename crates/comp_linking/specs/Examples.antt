@@ -10,6 +10,7 @@ use Rattle.wasm_module.specs.declared.module.ModuleTree.{ModuleTree}
 use Rattle.wasm_module.specs.Expr.{Plain, End}
 use Rattle.comp_graph.specs.declared.graph.Options.{Options}
 use Rattle.comp_graph.specs.declared.graph.Lift as graph
+use Rattle.comp_graph.specs.declared.graph.FuncRef.TheVariants as func_ref
 use Rattle.comp_graph.specs.Graph.{Graph, no_options}
 use Rattle.comp_tree.specs.declared.core_instances.CoreSort.{CoreSort}
 use Rattle.comp_tree.specs.declared.core_instances.CoreSort.TheVariants as core_sort
@@ -135,7 +136,7 @@ giving_both name = root (plain.Type u32 ∷ types_named (codes "a" ∷ codes "b"
 
 -- a graph without core instances and exports, of so many component instances
 abbrev pub begins : List ℕ → Result Graph LinkFault
-begins numbers = Ok (record { plan = map (λ n. Begin n) numbers; instance_count = length numbers; cores = []; exports = []; lifts = [] })
+begins numbers = Ok (record { plan = map (λ n. Begin n) numbers; instance_count = length numbers; cores = []; canons = []; exports = []; lifts = [] })
 
 -- A component that instantiates itself: it takes itself from the root, and the root instantiates it.
 abbrev pub nesting : Item
@@ -192,13 +193,14 @@ abbrev pub with_memory : Options
 with_memory = record no_options { memory = Some (record { instance = 0; index = 0 }) }
 
 abbrev lifts_for : Options → List (List ℕ) → List graph.Lift
-lifts_for options names = map (λ (name : List ℕ). record { instance = 0; core = record { instance = 0; index = 0 }; options = options }) names
+lifts_for options names = map (λ (name : List ℕ). record { instance = 0; core = func_ref.Instance (record { instance = 0; index = 0 }); options = options }) names
 
 abbrev pub callable_as : Options → List (List ℕ) → Graph
 callable_as options names = record {
   plan = Begin 0 ∷ Make 0 ∷ [];
   instance_count = 1;
   cores = record { of_module = of_one; imports = []; owner = 0 } ∷ [];
+  canons = [];
   exports = map (λ name. record { name = name; func_type = record { params = []; result = Some val_type.U32 } }) names;
   lifts = lifts_for options names;
 }

@@ -1,6 +1,6 @@
 -- What an item of a component makes in the index spaces of its component instance, and what keeps an item from that, by its
 -- reason (Component Model, Explainer.md, "Instance Definitions", "Alias Definitions", "Canonical Definitions" and "Import and
--- Export Definitions"; CanonicalABI.md, `canon lift`). At one item the reasons come in the order in which `LinkWhy` has them.
+-- Export Definitions"; CanonicalABI.md, `canon lift` and `canon lower`). At one item the reasons come in the order in which `LinkWhy` has them.
 -- The instantiation of a component makes more than one item can say; its own reasons are here, and what its component's items
 -- make stands in `Linked`.
 use Rattle.std.specs.Prelude.{◌≡◌, ◌<◌, ◌≤◌, ◌⊎◌, ℕ, true, false, cond, List, [], ◌∷◌, ◌++◌, length, map, set, Option, Some, None}
@@ -27,19 +27,24 @@ use Rattle.comp_tree.specs.declared.externs.ExternDesc.TheVariants as desc
 use Rattle.comp_tree.specs.declared.externs.Export as read
 use Rattle.comp_tree.specs.declared.types.DefType.{DefType}
 use Rattle.comp_tree.specs.declared.items.CanonOption.{CanonOption}
-use Rattle.comp_tree.specs.declared.items.Canon.TheVariants.{Lift}
+use Rattle.comp_tree.specs.declared.items.Canon.TheVariants.{Lift, Lower}
 use Rattle.comp_tree.specs.declared.items.Item.{Item, out-Item}
 use Rattle.comp_tree.specs.declared.items.Item.TheOpen.{Item-F}
 use Rattle.comp_tree.specs.declared.items.Component.{Component}
 use Rattle.comp_linking.specs.declared.fault.LinkWhy.{LinkWhy}
 use Rattle.comp_linking.specs.declared.fault.LinkWhy.TheVariants as why
-use Rattle.comp_graph.specs.CoreItems.{core_of}
+use Rattle.comp_graph.specs.CoreItems.{core_func_of}
+use Rattle.comp_graph.specs.Needs.{lowered_type}
+use Rattle.comp_graph.specs.declared.graph.FuncRef.{FuncRef}
+use Rattle.comp_graph.specs.declared.graph.FuncRef.TheVariants as func_ref
+use Rattle.comp_graph.specs.declared.graph.CanonFunc.{CanonFunc}
+use Rattle.comp_graph.specs.declared.graph.CanonFunc.TheVariants as canon_func
 use Rattle.comp_graph.specs.Closed.{Closed, first_of, Extern, OfInstance, func_of, AreTypes}
-use Rattle.comp_linking.specs.Definitions.{CoreItem, extern_of, CoreExport, core_named, exports_of, CoreFits, Lifted, Definition, AFunc, AType, AComponent, AnInstance, AModule, Exports, EmptyInstance, WithExport, export_names, export_named, Fits, lacks, seen_as, types_of}
+use Rattle.comp_linking.specs.Definitions.{CoreItem, Func, extern_of, CoreExport, core_named, exports_of, CoreFits, Lifted, Definition, AFunc, AType, AComponent, AnInstance, AModule, Exports, EmptyInstance, WithExport, export_names, export_named, Fits, lacks, seen_as, types_of}
 pub use Rattle.comp_graph.specs.Graph.{instance_limit}
 use Rattle.comp_linking.specs.declared.reach.Reach.{Reach}
-use Rattle.comp_linking.specs.Runs.{reaches, runs_type, runs_lift}
-use Rattle.comp_linking.specs.Canons.{IsOptionThere, StandOnce, Given, given_by, options_of, CanBeLifted}
+use Rattle.comp_linking.specs.Runs.{reaches, runs_type, runs_lift, runs_lower}
+use Rattle.comp_linking.specs.Canons.{IsOptionThere, StandOnce, Given, given_by, options_of, CanBeLifted, CanBeLowered}
 use Rattle.comp_linking.specs.Types.{Meaning, meaning_of, desc_meaning}
 use Rattle.comp_linking.specs.Spaces.{Spaces, Make, Linking, core_size, size_of, core_item_at, definition_at, IsOfCoreSort, IsOfSort, with_core_item, with_core_instance, with_definition, with_spaces, levels_at, outer_at}
 
@@ -113,6 +118,7 @@ abbrev pub core_made : Linking → ℕ → Spaces → ModuleTree → List CoreIt
 core_made l n s m imports = record {
   scopes = set l.scopes n (with_core_instance s (exports_of m (length l.cores)));
   cores = l.cores ++ record { of_module = m; imports = map extern_of imports; owner = n } ∷ [];
+  canons = l.canons;
   plan = l.plan ++ Make (length l.cores) ∷ [];
   reach = l.reach;
 }
@@ -220,17 +226,51 @@ lift_has reach s f options t why.Limit =
     MatchOption (option_and_then func_of (slice_get s.types t)) ⊥ (λ type. reaches reach (runs_lift options type) ≡ false)
 lift_has reach s f options t why = ⊥
 
--- the function that a core item is lifted to, in the component instance of a number
-abbrev pub lifted_with : ℕ → FuncType → CoreItem → Given → Lifted
-lifted_with n type item given = record { instance = n; core = core_of item; options = options_of given; func_type = type }
+-- the function that a core function is lifted to, in the component instance of a number
+abbrev pub lifted_with : ℕ → FuncType → FuncRef → Given → Lifted
+lifted_with n type core given = record { instance = n; core = core; options = options_of given; func_type = type }
 
 abbrev pub lift_makes : Linking → ℕ → Spaces → ℕ → List CanonOption → ℕ → Linking → Type 0
 lift_makes l n s f options t new =
-    (item : CoreItem) × (type : FuncType)
-    × (slice_get s.core_funcs f ≡ Some item) × AllByRecursion (IsOptionThere s) options
+    (item : CoreItem) × (core : FuncRef) × (type : FuncType)
+    × (slice_get s.core_funcs f ≡ Some item) × (core_func_of item ≡ Some core) × AllByRecursion (IsOptionThere s) options
     × (option_and_then func_of (slice_get s.types t) ≡ Some type)
     × StandOnce options × CanBeLifted type item (given_by s options) × (reaches l.reach (runs_lift options type) ≡ true)
-    × (new ≡ with_spaces l n (with_definition s (AFunc (lifted_with n type item (given_by s options)))))
+    × (new ≡ with_spaces l n (with_definition s (AFunc (lifted_with n type core (given_by s options)))))
+
+-- Lowers: an index that is not there, also of an option; an option twice, or a function that cannot be lowered with the options; or
+-- that a lower is past the reach.
+abbrev pub lower_has : Reach → Spaces → ℕ → List CanonOption → LinkWhy → Type 0
+lower_has reach s f options why.Index = (slice_get s.funcs f ≡ None) ⊎ AnyByRecursion (λ o. IsOptionThere s o → ⊥) options
+lower_has reach s f options why.Canon =
+    (StandOnce options → ⊥) ⊎ MatchOption (slice_get s.funcs f) ⊥ (λ func. CanBeLowered func.func_type (given_by s options) → ⊥)
+lower_has reach s f options why.Limit = reaches reach runs_lower ≡ false
+lower_has reach s f options why = ⊥
+
+-- the core function that a function is lowered to, in the component instance of a number
+abbrev pub lowered_with : ℕ → Lifted → Given → CanonFunc
+lowered_with n func given = canon_func.Lower (record {
+  instance = n;
+  lift = record { instance = func.instance; core = func.core; options = func.options };
+  func_type = func.func_type;
+  options = options_of given;
+})
+
+-- one core function more, to which a function is lowered
+abbrev pub lower_made : Linking → ℕ → Spaces → Lifted → Given → Linking
+lower_made l n s func given = record {
+  scopes = set l.scopes n (with_core_item s (Func (func_ref.Canon (length l.canons)) (lowered_type func.func_type)));
+  cores = l.cores;
+  canons = l.canons ++ lowered_with n func given ∷ [];
+  plan = l.plan;
+  reach = l.reach;
+}
+
+abbrev pub lower_makes : Linking → ℕ → Spaces → ℕ → List CanonOption → Linking → Type 0
+lower_makes l n s f options new =
+    (func : Lifted) × (slice_get s.funcs f ≡ Some func) × AllByRecursion (IsOptionThere s) options
+    × StandOnce options × CanBeLowered func.func_type (given_by s options) × (reaches l.reach runs_lower ≡ true)
+    × (new ≡ lower_made l n s func (given_by s options))
 
 -- Imports.
 
@@ -330,6 +370,7 @@ has_case l n s (Item-F.Instance i) why = instance_has l s i why
 has_case l n s (Item-F.Alias alias) why = alias_has l n s alias.sort alias.target why
 has_case l n s (Item-F.Type type) why = type_has l.reach type (meaning_of type (levels_at l (n ∷ s.around))) why
 has_case l n s (Item-F.Canon (Lift f options t)) why = lift_has l.reach s f options t why
+has_case l n s (Item-F.Canon (Lower f options)) why = lower_has l.reach s f options why
 has_case l n s (Item-F.Import i) why = import_has s i.name i.desc why
 has_case l n s (Item-F.Export e) why = export_has s e why
 
@@ -345,6 +386,7 @@ makes_case l n s (Item-F.Instance i) new = instance_makes l n s i new
 makes_case l n s (Item-F.Alias alias) new = alias_makes l n s alias.sort alias.target new
 makes_case l n s (Item-F.Type type) new = type_makes l n s type (meaning_of type (levels_at l (n ∷ s.around))) new
 makes_case l n s (Item-F.Canon (Lift f options t)) new = lift_makes l n s f options t new
+makes_case l n s (Item-F.Canon (Lower f options)) new = lower_makes l n s f options new
 makes_case l n s (Item-F.Import i) new = import_makes l n s i.name i.desc new
 makes_case l n s (Item-F.Export e) new = export_makes l n s e new
 

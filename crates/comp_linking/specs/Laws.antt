@@ -6,7 +6,7 @@ use Rattle.ca_base.specs.Names.{AreDistinct}
 use Rattle.ca_base.specs.declared.placed.Placed.{Placed}
 use Rattle.ca_types.specs.declared.types.FuncType.{FuncType}
 use Rattle.ca_types.specs.declared.exports.Export.{Export}
-use Rattle.comp_graph.specs.Graph.{Graph, CoreMake, names, IsLiftThere, IsCallable, AreImported}
+use Rattle.comp_graph.specs.Graph.{Graph, CoreMake, names, IsLiftThere, IsCallable, AreCanonsThere, AreImported}
 use Rattle.comp_tree.specs.declared.items.Item.{Item}
 use Rattle.comp_tree.specs.declared.items.Component.{Component}
 use Rattle.comp_linking.specs.declared.fault.LinkWhy.{LinkWhy}
@@ -98,18 +98,24 @@ abbrev pub GraphsAreFew : Type 0
 GraphsAreFew =
     (reach : Reach) (c : Component) (g : Graph) → IsLinked reach c g → (g.instance_count ≤ instance_limit) × (length g.cores ≤ instance_limit)
 
--- The core instances of a graph have the imports that their modules ask for, of core instances before them.
+-- The core instances of a graph have the imports that their modules ask for, of core instances before them and of the Canonical
+-- ABI.
 abbrev pub GraphsAreImported : Type 0
-GraphsAreImported = (reach : Reach) (c : Component) (g : Graph) → IsLinked reach c g → AreImported [] g.cores
+GraphsAreImported = (reach : Reach) (c : Component) (g : Graph) → IsLinked reach c g → AreImported g.canons [] g.cores
 
--- The exports of a graph that is linked to be run can be called: the core function of each lift is there, and of the flat type.
+-- The exports of a graph that is linked to be run can be called: the core function of each lift is there, and of the flat type, and
+-- no function is lowered.
 abbrev pub GraphsAreCallable : Type 0
 GraphsAreCallable = (c : Component) (g : Graph) → IsLinked Runs c g → IsCallable g
 
 -- The lift of each export is there: its core function, its memory and its other core functions, with the types that it needs.
 abbrev pub LiftsAreThere : Type 0
 LiftsAreThere =
-    (reach : Reach) (c : Component) (g : Graph) → IsLinked reach c g → AllZip (λ (e : Export) lift. IsLiftThere g.cores e.func_type lift) g.exports g.lifts
+    (reach : Reach) (c : Component) (g : Graph) → IsLinked reach c g → AllZip (λ (e : Export) lift. IsLiftThere g.cores g.canons e.func_type lift) g.exports g.lifts
+
+-- What is lowered is there, with its memory and its core functions, and stands on what is lowered before it alone.
+abbrev pub CanonsAreThere : Type 0
+CanonsAreThere = (reach : Reach) (c : Component) (g : Graph) → IsLinked reach c g → AreCanonsThere g.cores [] g.canons
 
 -- No two parameters of an export have one label.
 abbrev pub LabelsAreDistinct : Type 0

@@ -50,6 +50,7 @@ abbrev pub begun : Linking → Closure → Exports → Linking
 begun l c arguments = record {
   scopes = l.scopes ++ new_spaces (Some arguments) c.around ∷ [];
   cores = l.cores;
+  canons = l.canons;
   plan = l.plan ++ Begin (length l.scopes) ∷ [];
   reach = l.reach;
 }
@@ -98,7 +99,7 @@ pub data IsRefusedAt : Linking → ℕ → List (Placed Item) → LinkFault → 
 
 -- the root begins, where linking goes so far
 abbrev pub root_begun : Reach → Linking
-root_begun reach = record { scopes = new_spaces None [] ∷ []; cores = []; plan = Begin 0 ∷ []; reach = reach }
+root_begun reach = record { scopes = new_spaces None [] ∷ []; cores = []; canons = []; plan = Begin 0 ∷ []; reach = reach }
 
 -- A function that can be called from outside, under its written name.
 pub record Callable : Type 0 where
@@ -139,6 +140,7 @@ graph_of l = record {
   plan = l.plan;
   instance_count = length l.scopes;
   cores = l.cores;
+  canons = l.canons;
   exports = map export_of (callables (exports_at l 0));
   lifts = map lift_of (callables (exports_at l 0));
 }

@@ -2,7 +2,7 @@
 -- and can be linked, so linking that is to lead to a run refuses, as `Limit`, the first item that holds what cannot be run. A
 -- type can be run where each value type that is written in it is u32, in functions and in instance types. An index, an alias and
 -- an export stand for what is held elsewhere. A lift can be run where it has no options, and the parameters and the result of its
--- function are u32.
+-- function are u32. A lower cannot be run.
 use Rattle.std.specs.Prelude.{Bool, true, false, ◌&&◌, List, [], ◌∷◌, Option, Some, None}
 use Rattle.std.specs.List.{list_all}
 use Rattle.std.specs.Option.{option_map_or}
@@ -79,3 +79,8 @@ runs_options (o ∷ options) = false
 abbrev pub runs_lift : List CanonOption → FuncType → Bool
 runs_lift options type =
     runs_options options && list_all (λ p. is_u32 p.val_type) type.params && option_map_or is_u32 type.result true
+
+-- Lowers: none can be run.
+
+abbrev pub runs_lower : Bool
+runs_lower = false

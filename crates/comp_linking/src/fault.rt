@@ -16,9 +16,10 @@ pub enum LinkWhy {
     /// record, variant, tuple, enum or flags type is empty, or flags have more than 32 labels (Component Model, Explainer.md,
     /// "Type Definitions").
     Typing,
-    /// An option of a lift stands twice; a core function that the lift uses is of another type than it needs; or something passes
-    /// in memory, or asks for a place there, and no memory is given, or no function that gives places (Component Model,
-    /// CanonicalABI.md, "Canonical ABI Options", "Flattening" and `canon lift`).
+    /// An option of a lift or of a lower stands twice; a core function that it uses is of another type than it needs; a lower has
+    /// a function that is called when a result was lifted; or something passes in memory, or asks for a place there, and no memory
+    /// is given, or no function that gives places (Component Model, CanonicalABI.md, "Canonical ABI Options", "Flattening", `canon
+    /// lift` and `canon lower`).
     Canon,
     /// There are more than 256 component instances, more than 256 core instances, or more than 32 value types in one another; or
     /// the item holds what is past the reach (`Reach`).

@@ -1,6 +1,6 @@
 //! What holds of every linking.
 
-ghost use Rattle.comp_linking.specs.Laws.{MakesExcludesReasons, BeginsExcludesReasons, MakesExcludesBegins, MakesOnce, BeginsOnce, OneName, OneFirst, OneLinking, LinksExcludesFaults, OneFault, OneGraph, LinkedIsNotRefused, OneRefusal, RunsAreLinked, FewInstances, GraphsAreFew, GraphsAreImported, GraphsAreCallable, LiftsAreThere, LabelsAreDistinct, TypesAreShallow, RootNamesAreDistinct, NamesAreDistinct, ModulesStand, OutcomeComputed, ReasonComputed, GraphComputed, FaultComputed, LinkedOrRefused, FuncsCompared, ClosedCompared, FitsTested};
+ghost use Rattle.comp_linking.specs.Laws.{MakesExcludesReasons, BeginsExcludesReasons, MakesExcludesBegins, MakesOnce, BeginsOnce, OneName, OneFirst, OneLinking, LinksExcludesFaults, OneFault, OneGraph, LinkedIsNotRefused, OneRefusal, RunsAreLinked, FewInstances, GraphsAreFew, GraphsAreImported, GraphsAreCallable, LiftsAreThere, CanonsAreThere, LabelsAreDistinct, TypesAreShallow, RootNamesAreDistinct, NamesAreDistinct, ModulesStand, OutcomeComputed, ReasonComputed, GraphComputed, FaultComputed, LinkedOrRefused, FuncsCompared, ClosedCompared, FitsTested};
 
 /// An item that makes something, or begins an instance of a component, has no reason against it, and none does both.
 pub fn items_make_or_are_refused()
@@ -47,14 +47,16 @@ pub fn instances_stay_few()
     ensures graph { GraphsAreFew }
 {}
 
-/// The core instances of a graph have the imports that their modules ask for, of core instances before them. The exports of one
-/// that is linked to be run can be called. What a lift uses is there, with the types that it needs. No two parameters of an export
-/// have one label, and its types nest at most 32 types in one another. Each core instance is of a module that stands in the
-/// component.
+/// The core instances of a graph have the imports that their modules ask for, of core instances before them and of functions that
+/// are lowered. The exports of one that is linked to be run can be called. What a lift uses is there, with the types that it needs,
+/// and so is what is lowered, with what the lowering uses: of functions that are lowered each stands on those before it alone. No
+/// two parameters of an export have one label, and its types nest at most 32 types in one another. Each core instance is of a
+/// module that stands in the component.
 pub fn graphs_are_sound()
     ensures imported { GraphsAreImported }
     ensures callable { GraphsAreCallable }
     ensures lifts { LiftsAreThere }
+    ensures canons { CanonsAreThere }
     ensures labels { LabelsAreDistinct }
     ensures shallow { TypesAreShallow }
     ensures modules { ModulesStand }

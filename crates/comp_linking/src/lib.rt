@@ -3,7 +3,7 @@
 //! why. `specs/Linked` says it by relations, and `specs/Computed` computes the same.
 //!
 //! - `fault`: why an item is refused, and where
-//! - `reach`, of `runs`: how far linking goes, and whether a type or a lift is within reach
+//! - `reach`, of `runs`: how far linking goes, and whether a type, a lift or a lower is within reach
 //! - `well_made`: what a type needs as it is written
 //! - `laws`: what holds of every linking
 //! - `examples`: the definitions on small components

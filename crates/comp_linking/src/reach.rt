@@ -12,7 +12,7 @@ use comp_tree::{CanonOption, DefType};
 #[derive(Clone, Copy)]
 pub enum Reach {
     /// As far as what is linked can be run: an item is refused as `LinkWhy::Limit` that holds a type or a lift which cannot be
-    /// run.
+    /// run, or that lowers a function.
     Runs,
     /// Over all that is read.
     Whole,
@@ -35,6 +35,16 @@ impl Reach {
     {
         match self {
             Reach::Runs => runs_lift(options, func_type),
+            Reach::Whole => true,
+        }
+    }
+
+    /// Whether a function that is lowered is within reach.
+    pub fn has_lower(self) -> bool
+        ensures { result ≡ reaches self running.runs_lower }
+    {
+        match self {
+            Reach::Runs => false,
             Reach::Whole => true,
         }
     }

@@ -1,7 +1,7 @@
 -- The binary format of components (Component Model, Binary.md), as far as it is read: sections of core modules, core
--- instances, components, instances, aliases, types of values, functions and instances, lifts, imports and exports of
--- functions, types and instances, and custom sections; any number of them, in any order. Components may hold others, and
--- instance types too; at most 16 of either are open at a place.
+-- instances, components, instances, aliases, types of values, functions and instances, lifts, lowered functions, imports and
+-- exports of functions, types and instances, and custom sections; any number of them, in any order. Components may hold others,
+-- and instance types too; at most 16 of either are open at a place.
 use Rattle.std.specs.Prelude.{ℕ, zero, suc, ◌&&◌, Bool, true, false, List, [], ◌∷◌, length, ◌==◌, ◌||◌, Option, Some, None}
 use Rattle.ca_base.specs.Span.{Span}
 use Rattle.ca_base.specs.Grammar.{Grammar, Give, Refuse, Here, Left, Byte, Sized, Choose, ◌>>=◌, Matches, Refuses}
@@ -34,7 +34,8 @@ use Rattle.comp_tree.specs.declared.types.InstanceDecl.{InstanceDecl}
 use Rattle.comp_tree.specs.declared.types.InstanceDecl.TheVariants as decl
 use Rattle.comp_tree.specs.declared.items.CanonOption.{CanonOption}
 use Rattle.comp_tree.specs.declared.items.CanonOption.TheVariants as option
-use Rattle.comp_tree.specs.declared.items.Canon.TheVariants.{Lift}
+use Rattle.comp_tree.specs.declared.items.Canon.{Canon}
+use Rattle.comp_tree.specs.declared.items.Canon.TheVariants.{Lift, Lower}
 use Rattle.comp_tree.specs.declared.items.Item.{Item}
 use Rattle.comp_tree.specs.declared.items.Item.TheVariants as item
 use Rattle.comp_tree.specs.declared.items.Component.{Component}
@@ -283,15 +284,35 @@ canon_option = do
         Give (option.PostReturn index))
       (unsupported place b))))
 
--- a canonical function: 00 00 the lift of a core function, with options, to a type
-unfoldable pub canon : Grammar ComponentWhy Item
-canon = do
-  _ ← marker reasons 0
+-- the lift of a core function, behind its first byte: 00, the core function, options, and a type
+unfoldable pub lift : Grammar ComponentWhy Canon
+lift = do
   _ ← marker reasons 0
   index ← u32 numbers
   options ← vec numbers canon_option
   type ← u32 numbers
-  Give (item.Canon (Lift index options type))
+  Give (Lift index options type)
+
+-- the core function that a function is lowered to, likewise: 00, the function, and options
+unfoldable pub lower : Grammar ComponentWhy Canon
+lower = do
+  _ ← marker reasons 0
+  index ← u32 numbers
+  options ← vec numbers canon_option
+  Give (Lower index options)
+
+-- a canonical function: 00 a lift, 01 a lowered function
+unfoldable pub canon : Grammar ComponentWhy Item
+canon = do
+  place ← Here
+  b ← Byte
+  Choose (b == 0) (do
+    read ← lift
+    Give (item.Canon read))
+      (Choose (b == 1) (do
+        read ← lower
+        Give (item.Canon read))
+      (unsupported place b))
 
 -- an import: its name, and what it is to be
 unfoldable pub import : Grammar ComponentWhy Item

@@ -1,5 +1,8 @@
 //! Canonical functions.
 
+ghost use Rattle.ca_base.specs.Grammar.{MayRead};
+ghost use Rattle.comp_reader.specs.Binary.{lift, lower};
+
 use crate::fault::{ComponentWhy, unsupported};
 use ca_base::{Kind, ReadError, Window, read_vec};
 use comp_tree::{Canon, CanonOption, Item};
@@ -43,6 +46,39 @@ impl Kind for CanonOptions {
     }
 }
 
+/// Reads a lift behind its first byte (Component Model, Binary.md, `canon`).
+#[tactic(auto, unfolding(crate::specs::Binary::lift))]
+fn read_lift(
+    alloc: Global,
+    window: &mut Window<ComponentWhy>,
+) -> Result<Canon, ReadError<ComponentWhy>>
+    ensures { MayRead (λ read. read) lift window.old window.new result }
+{
+    window.marker(0)?;
+    let core_func = window.u32()?;
+    let options = read_vec::<CanonOptions>(alloc, window)?;
+    let func_type = window.u32()?;
+    Ok(Canon::Lift {
+        core_func,
+        options,
+        func_type,
+    })
+}
+
+/// Reads what a function is lowered with, behind its first byte (Component Model, Binary.md, `canon`).
+#[tactic(auto, unfolding(crate::specs::Binary::lower))]
+fn read_lower(
+    alloc: Global,
+    window: &mut Window<ComponentWhy>,
+) -> Result<Canon, ReadError<ComponentWhy>>
+    ensures { MayRead (λ read. read) lower window.old window.new result }
+{
+    window.marker(0)?;
+    let func = window.u32()?;
+    let options = read_vec::<CanonOptions>(alloc, window)?;
+    Ok(Canon::Lower { func, options })
+}
+
 /// Canonical functions (Component Model, Binary.md, `canon`).
 pub(crate) struct Canons;
 
@@ -60,15 +96,16 @@ impl Kind for Canons {
         alloc: Global,
         window: &mut Window<ComponentWhy>,
     ) -> Result<Item, ReadError<ComponentWhy>> {
-        window.marker(0)?;
-        window.marker(0)?;
-        let core_func = window.u32()?;
-        let options = read_vec::<CanonOptions>(alloc, window)?;
-        let func_type = window.u32()?;
-        Ok(Item::Canon(Canon::Lift {
-            core_func,
-            options,
-            func_type,
-        }))
+        let place = window.at();
+        let byte = window.byte()?;
+        if byte == 0 {
+            let lift = read_lift(alloc, window)?;
+            return Ok(Item::Canon(lift));
+        }
+        if byte == 1 {
+            let lower = read_lower(alloc, window)?;
+            return Ok(Item::Canon(lower));
+        }
+        Err(ReadError::Fault(unsupported(place, byte)))
     }
 }

@@ -19,6 +19,7 @@ lifts | 08 | 02 00 00 03 00 04 00 00 80 01 80 00 05
 types of values | 07 | 0D 7F 73 72 02 01 61 79 02 C3 A9 80 01 71 03 01 61 01 7D 00 01 62 00 00 00 01 81 00 00 70 73 6F 03 7F 80 00 74 6E 02 01 61 00 6D 01 01 61 6B FF 00 6A 00 00 6A 01 7E 00 6A 00 01 80 01 6A 01 78 01 74
 types of values in an instance type | 07 | 01 42 05 01 72 01 01 61 79 01 71 01 01 61 01 00 00 01 6A 01 00 00 02 03 02 01 00 04 00 01 74 03 00 00
 lifts with options | 08 | 02 00 00 01 06 00 03 00 03 80 01 04 01 05 81 00 00 02 00 00 00 00 80 00
+lowered functions | 08 | 02 01 00 80 01 00 01 00 05 04 00 03 80 01 04 01 05 81 00
 imports | 0A | 03 00 01 61 01 04 01 00 03 00 05 00 01 69 05 80 01
 exports | 0B | 04 00 01 66 01 00 00 01 01 67 01 01 01 01 02 00 01 74 03 02 01 03 00 07 01 01 6D 00 11 84 00 00
 ";
@@ -95,5 +96,5 @@ impl Holds for CutOff {
 
 #[test]
 fn fronts_of_sections_are_refused(rt: HostRuntime) -> Result<(), Fail> {
-    check_all_lines::<CutOff>(rt.alloc(), SECTIONS, 11)
+    check_all_lines::<CutOff>(rt.alloc(), SECTIONS, 12)
 }

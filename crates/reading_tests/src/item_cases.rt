@@ -209,21 +209,6 @@ flags of 33 labels
 is
 11 flags type of f, f, f, f, f, f, f, f, f, f, f, f, f, f, f, f, f, f, f, f, f, f, f, f, f, f, f, f, f, f, f, f, f,
 
-lifts with options
-00 61 73 6D 0D 00 01 00 ; 0: the preamble
-08 2C 05 ; 8: five canonical functions
-00 00 00 01 00 01 ; 11: the lift of core function 0 to type 1, in UTF-8
-00 00 03 04 05 80 01 04 02 03 00 00 04 ; 17: that of core function 3 to type 4, with every option
-00 00 00 03 00 00 00 00 ; 30: one with UTF-8 three times
-00 00 00 02 03 07 03 81 00 00 ; 38: one with memories 7 and 1
-00 00 00 80 00 00 ; 48: one with none
-is
-11 lift of core function 0 at type 1, utf8
-17 lift of core function 3 at type 4, post-return 128, realloc 2, memory 0, utf8
-30 lift of core function 0 at type 0, utf8, utf8, utf8
-38 lift of core function 0 at type 0, memory 7, memory 1
-48 lift of core function 0 at type 0
-
 sections without instances and imports
 00 61 73 6D 0D 00 01 00 ; 0: the preamble
 05 01 00 ; 8: no instances
@@ -426,24 +411,8 @@ a failure of an index whose fifth byte is too large | sections | 07 09 01 6A 00 
 a parameter of own handles | sections | 07 08 01 40 01 01 61 69 01 00 | 15 Unsupported(105)
 a result of streams | sections | 07 05 01 40 00 00 66 | 14 Unsupported(102)
 a result of a primitive type in two bytes | sections | 07 06 01 40 00 00 F4 7F | 14 Unsupported(244)
-an option of text in UTF-16 | sections | 08 07 01 00 00 00 01 01 00 | 15 Unsupported(1)
-an option of text in Latin-1 or UTF-16 | sections | 08 07 01 00 00 00 01 02 00 | 15 Unsupported(2)
-an option of asynchronous lifts | sections | 08 07 01 00 00 00 01 06 00 | 15 Unsupported(6)
-a callback | sections | 08 08 01 00 00 00 01 07 00 00 | 15 Unsupported(7)
-an option 08 | sections | 08 07 01 00 00 00 01 08 00 | 15 Unsupported(8)
-a third option that is a callback | sections | 08 0B 01 00 00 00 03 00 03 00 07 00 00 | 18 Unsupported(7)
-an option of a memory without its index | sections | 08 06 01 00 00 00 01 03 | 16 SectionSize
-an option of a realloc without its index | sections | 08 06 01 00 00 00 01 04 | 16 SectionSize
-an option of a post-return without its index | sections | 08 06 01 00 00 00 01 05 | 16 SectionSize
-the index of a memory whose fifth byte is too large | sections | 08 0C 01 00 00 00 01 03 80 80 80 80 10 00 | 20 Leb
-the index of a realloc whose fifth byte is too large | sections | 08 0C 01 00 00 00 01 04 80 80 80 80 10 00 | 20 Leb
-the index of a post-return whose fifth byte goes on | sections | 08 0D 01 00 00 00 01 05 80 80 80 80 80 00 00 | 20 Leb
-one option of two | sections | 08 06 01 00 00 00 02 00 | 16 SectionSize
-a lift with options without a type | sections | 08 08 01 00 00 00 02 00 03 00 | 18 SectionSize
-a byte behind a lift with options | sections | 08 08 01 00 00 00 01 00 00 00 | 17 SectionSize
 a list that the file cuts off | sections | 07 03 01 70 | 12 Truncated
 a record that the file cuts off | sections | 07 06 01 72 01 01 61 | 15 Truncated
-an option of a lift that the file cuts off | sections | 08 08 01 00 00 00 01 03 | 16 Truncated
 a list of floats in a component | sections | 04 0D 00 61 73 6D 0D 00 01 00 07 03 01 70 76 | 22 Float
 a case that ends with another byte in a component | sections | 04 11 00 61 73 6D 0D 00 01 00 07 07 01 71 01 01 61 00 03 | 26 Unsupported(3)
 a variant that passes its section in a component | sections | 04 0F 00 61 73 6D 0D 00 01 00 07 05 01 71 01 01 61 07 01 00 | 25 SectionSize
@@ -451,10 +420,10 @@ a variant that passes its section in a component | sections | 04 0F 00 61 73 6D 
 
 #[test]
 fn items_are_read(rt: HostRuntime) -> Result<(), Fail> {
-    check_paragraphs::<InLines>(rt.alloc(), READ, 13)
+    check_paragraphs::<InLines>(rt.alloc(), READ, 12)
 }
 
 #[test]
 fn items_are_refused(rt: HostRuntime) -> Result<(), Fail> {
-    check_lines::<InLine>(rt.alloc(), REFUSED, "| ", 211)
+    check_lines::<InLine>(rt.alloc(), REFUSED, "| ", 195)
 }

@@ -158,6 +158,10 @@ fn write_canon(text: &mut String, canon: &Canon) -> Result<(), AllocError> {
             )?;
             write_options(text, options.as_slice())
         }
+        Canon::Lower { func, options } => {
+            write!(text, "lowered function {func}")?;
+            write_options(text, options.as_slice())
+        }
     }
 }
 

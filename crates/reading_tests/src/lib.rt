@@ -6,6 +6,7 @@
 //! - `refusal_cases`: components that are refused, with their places and reasons
 //! - `reading_cases`: components that are read, with all their items and places
 //! - `item_cases`: the items of whole components, read and refused
+//! - `canon_cases`: canonical functions, likewise
 //! - `cut_cases`: sections that end within their items
 //! - `depth_cases`: components and instance types in others
 //! - `answers`, `items`, `types` and `value_types`: answers as texts
@@ -16,6 +17,8 @@
 mod answers;
 #[cfg(test)]
 mod calls;
+#[cfg(test)]
+mod canon_cases;
 #[cfg(test)]
 mod cut_cases;
 #[cfg(test)]

@@ -86,7 +86,7 @@ a result of 64-bit floats | sections | 07 05 01 40 00 00 75 | 14 Float
 a result of functions | sections | 07 05 01 40 00 00 40 | 14 Unsupported(64)
 one named result | sections | 07 05 01 40 00 01 01 | 14 Unsupported(1)
 a canonical function without rules | sections | 08 02 01 1C | 11 Unsupported(28)
-the lowering of a function | sections | 08 05 01 01 00 00 00 | 11 Unsupported(1)
+the making of a handle | sections | 08 03 01 02 00 | 11 Unsupported(2)
 a lift that is not one of a function | sections | 08 03 01 00 01 | 12 Unsupported(1)
 the index of a core function whose fifth byte is too large | sections | 08 08 01 00 00 80 80 80 80 10 | 17 Leb
 a number of options whose fifth byte is too large | sections | 08 09 01 00 00 00 80 80 80 80 10 | 18 Leb

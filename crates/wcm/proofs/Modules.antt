@@ -35,10 +35,9 @@ use Rattle.comp_tree.specs.declared.items.Item.TheVariants as item
 use Rattle.comp_tree.specs.declared.items.Item.TheViews.{the_lemmas}
 use Rattle.comp_tree.specs.declared.items.Component.{Component}
 use Rattle.comp_tree.specs.declared.items.Canon.{Canon}
-use Rattle.comp_tree.specs.declared.items.Canon.TheVariants.{Lift}
 use Rattle.comp_reader.specs.declared.fault.ComponentWhy.{ComponentWhy}
 use Rattle.comp_reader.specs.declared.fault.ComponentWhy.TheVariants.{Unsupported}
-use Rattle.comp_reader.specs.Binary.{validated, module_file, core_module, core_argument, core_inline_export, core_instance, argument, inline_export, instance, alias_item, type_item, canon, import, export, custom_items, module_items, component_items, plain_payload, payload, is_section, component_of, component_within, depth_limit, IsComponent}
+use Rattle.comp_reader.specs.Binary.{validated, module_file, core_module, core_argument, core_inline_export, core_instance, argument, inline_export, instance, alias_item, type_item, lift, lower, canon, import, export, custom_items, module_items, component_items, plain_payload, payload, is_section, component_of, component_within, depth_limit, IsComponent}
 use Rattle.comp_reader.specs.Binary as file
 use Rattle.comp_reader.specs.Reasons.{numbers, reasons, unsupported}
 use Rattle.comp_linking.specs.Standing.{StandsIn, stands_first, stands_inside, stands_behind}
@@ -199,9 +198,25 @@ type_gives : Gives ItemTyped type_item
 unfolding type_item
 type_gives s x t m = subst ItemTyped (sym m.3.0) (type_typed m.0)
 
+abbrev lifted : Grammar ComponentWhy Item
+lifted = do
+  read ← lift
+  Give (item.Canon read)
+
+abbrev lowered : Grammar ComponentWhy Item
+lowered = do
+  read ← lower
+  Give (item.Canon read)
+
 canon_gives : Gives ItemTyped canon
 unfolding canon
-canon_gives s x t m = subst ItemTyped (sym m.3.3.3.3.3.0) (canon_typed (Lift m.3.3.0 m.3.3.3.0 m.3.3.3.3.0))
+canon_gives s x t m =
+    let b = m.3.0 in
+    choice_gives ItemTyped lifted (Choose (b == 1) lowered (unsupported m.0 b))
+    (λ u y v n. subst ItemTyped (sym n.3.0) (canon_typed n.0))
+    (choice_gives ItemTyped lowered (unsupported m.0 b)
+    (λ u y v n. subst ItemTyped (sym n.3.0) (canon_typed n.0))
+    (nothing_gives ItemTyped m.0 (Unsupported b)) (b == 1)) (b == 0) m.3.1 x t m.3.3
 
 import_gives : Gives ItemTyped import
 unfolding import

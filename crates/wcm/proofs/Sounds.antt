@@ -16,7 +16,7 @@ use Rattle.script_reader.specs.Laws.{ScriptsCallExports}
 use Rattle.abi_machine.specs.Laws.{SoundGraph}
 use Rattle.component_run.specs.Laws.{CallsAreSound}
 use Rattle.wcm.specs.Outcome.{IsOfComponent}
-use Rattle.wcm.specs.Laws.{LinkedGraphsAreSound, ScriptsAreSound}
+use Rattle.wcm.specs.Laws.{LinkedGraphsAreSound, LinkedGraphsHaveSoundModules, ScriptsAreSound}
 use Rattle.wcm.proofs.Modules.{AllFit, component_typed}
 
 -- The modules of the core instances stand in the component.
@@ -28,19 +28,25 @@ all_in_range : (c : Component) (cores : List CoreMake) → AllFit c → AllByRec
 all_in_range c [] fit stand = tt
 all_in_range c (core ∷ cores) fit stand = ((fit core.of_module stand.0).range, all_in_range c cores fit stand.1)
 
-pub linked_graphs_are_sound : GraphsAreImported → ModulesStand → LinkedGraphsAreSound
-linked_graphs_are_sound imported stand reach bytes c g read links =
+pub have_sound_modules : GraphsAreImported → ModulesStand → LinkedGraphsHaveSoundModules
+have_sound_modules imported stand reach bytes c g read links =
     let fit = component_typed bytes c read in
     let stands = stand reach c g links in
     record { valid = all_typed c g.cores fit stands; in_range = all_in_range c g.cores fit stands; imported = imported reach c g links }
 
+pub linked_graphs_are_sound : LinkedGraphsHaveSoundModules → GraphsAreCallable → LinkedGraphsAreSound
+linked_graphs_are_sound modules callable bytes c g read links =
+    let sound = modules Runs bytes c g read links in
+    let plain = (callable c g links).plain in
+    record { valid = sound.valid; in_range = sound.in_range; imported = sound.imported; plain = plain }
+
 pub scripts_are_sound : LinkedGraphsAreSound → GraphsAreCallable → ScriptsCallExports → CallsAreSound → ScriptsAreSound
 scripts_are_sound sound callable called calls bytes text c g script read links h =
-    calls g script.items (sound Runs bytes c g read links) (callable c g links) (called g.exports text script h)
+    calls g script.items (sound bytes c g read links) (callable c g links) (called g.exports text script h)
 
 -- The graph of a component, as scripts call it.
 pub sound_of : LinkedGraphsAreSound → (g : Graph) → IsOfComponent Runs g → SoundGraph g
-sound_of sound g of = sound Runs of.1.0 of.0 g of.1.1 of.2
+sound_of sound g of = sound of.1.0 of.0 g of.1.1 of.2
 
 pub callable_of : GraphsAreCallable → (g : Graph) → IsOfComponent Runs g → IsCallable g
 callable_of callable g of = callable of.0 g of.2

@@ -1,6 +1,6 @@
 //! What holds of the definitions alone.
 
-ghost use Rattle.wcm.specs.Laws.{LinkedGraphsAreSound, ScriptsAreSound, OneOutcome};
+ghost use Rattle.wcm.specs.Laws.{LinkedGraphsAreSound, LinkedGraphsHaveSoundModules, ScriptsAreSound, OneOutcome};
 
 use abi_machine::{each_run_ends, one_run};
 use comp_linking::laws::{graphs_are_computed, graphs_are_sound};
@@ -8,9 +8,11 @@ use comp_reader::one_reading;
 use component_run::calls_are_sound;
 use script_reader::scripts_call_exports;
 
-/// The graph of a component that is read and linked is sound.
+/// The modules of a graph of a component that is read and linked are valid, and what they import is there; one that is linked to be
+/// run is sound.
 pub fn linked_graphs_are_sound()
-    ensures { LinkedGraphsAreSound }
+    ensures modules { LinkedGraphsHaveSoundModules }
+    ensures run { LinkedGraphsAreSound }
 {
     graphs_are_sound();
 }
