@@ -4,7 +4,9 @@
 //! go in one place.
 
 use ca_base::{MemoryOr, ReadError, Refusal};
-use comp_graph::{Action, CoreExtern, CoreMake, CoreRef, Graph, Lift, Options};
+use comp_graph::{
+    Action, CanonFunc, CoreExtern, CoreMake, CoreRef, FuncRef, Graph, Lift, Lower, Options,
+};
 use comp_link::{LinkFault, LinkWhy, Reach, link};
 use comp_reader::{Component, ComponentWhy, read_component};
 use std::alloc::{AllocError, Global};
@@ -20,10 +22,21 @@ fn write_ref(text: &mut String, core: CoreRef) -> Result<(), AllocError> {
     write!(text, "{instance}.{index}")
 }
 
+/// Writes which core function it is.
+fn write_func(text: &mut String, func: FuncRef) -> Result<(), AllocError> {
+    match func {
+        FuncRef::Instance(core) => write_ref(text, core),
+        FuncRef::Canon(number) => write!(text, "lower {number}"),
+    }
+}
+
 /// Writes an import.
 fn write_import(text: &mut String, import: CoreExtern) -> Result<(), AllocError> {
     let (word, core) = match import {
-        CoreExtern::Func(core) => ("func ", core),
+        CoreExtern::Func(func) => {
+            text.push_str("func ")?;
+            return write_func(text, func);
+        }
         CoreExtern::Table(core) => ("table ", core),
         CoreExtern::Memory(core) => ("memory ", core),
         CoreExtern::Global(core) => ("global ", core),
@@ -70,30 +83,67 @@ fn write_plan(text: &mut String, plan: &[Action]) -> Result<(), AllocError> {
     text.push('\n')
 }
 
-/// Writes a definition that a lift uses behind what it is used as, if there is one.
-fn write_used(text: &mut String, word: &str, used: Option<CoreRef>) -> Result<(), AllocError> {
-    match used {
+/// Writes the memory that a canonical function uses, if there is one.
+fn write_memory(text: &mut String, memory: Option<CoreRef>) -> Result<(), AllocError> {
+    match memory {
         Some(core) => {
-            write!(text, " {word} ")?;
+            text.push_str(" memory ")?;
             write_ref(text, core)
         }
         None => Ok(()),
     }
 }
 
-/// Writes what a lift uses beside its core function.
+/// Writes a core function that a canonical function uses behind what it is used as, if there is one.
+fn write_used(text: &mut String, word: &str, used: Option<FuncRef>) -> Result<(), AllocError> {
+    match used {
+        Some(func) => {
+            write!(text, " {word} ")?;
+            write_func(text, func)
+        }
+        None => Ok(()),
+    }
+}
+
+/// Writes what a canonical function uses beside what it lifts or lowers.
 fn write_options(text: &mut String, options: Options) -> Result<(), AllocError> {
-    write_used(text, "memory", options.memory)?;
+    write_memory(text, options.memory)?;
     write_used(text, "realloc", options.realloc)?;
     write_used(text, "post-return", options.post_return)
 }
 
+/// Writes a lift.
+fn write_lift(text: &mut String, lift: Lift) -> Result<(), AllocError> {
+    let instance = lift.instance;
+    write!(text, "{instance} ")?;
+    write_func(text, lift.core)?;
+    write_options(text, lift.options)
+}
+
+/// Writes a function that is lowered, in a line.
+fn write_lower(text: &mut String, lower: &Lower) -> Result<(), AllocError> {
+    let instance = lower.instance;
+    write!(text, "lower {instance}")?;
+    write_options(text, lower.options)?;
+    text.push_str(" of ")?;
+    write_lift(text, lower.lift)?;
+    text.push('\n')
+}
+
+/// Writes each function that is lowered.
+fn write_canons(text: &mut String, canons: &[CanonFunc]) -> Result<(), AllocError> {
+    for canon in canons {
+        match canon {
+            CanonFunc::Lower(lower) => write_lower(text, lower)?,
+        }
+    }
+    Ok(())
+}
+
 /// Writes an export, in a line.
 fn write_export(text: &mut String, name: &str, lift: Lift) -> Result<(), AllocError> {
-    let instance = lift.instance;
-    write!(text, "export {name} {instance} ")?;
-    write_ref(text, lift.core)?;
-    write_options(text, lift.options)?;
+    write!(text, "export {name} ")?;
+    write_lift(text, lift)?;
     text.push('\n')
 }
 
@@ -115,6 +165,7 @@ fn write_graph(text: &mut String, graph: &Graph<'_>) -> Result<(), AllocError> {
     }
     write_plan(text, graph.plan())?;
     write_cores(text, cores)?;
+    write_canons(text, graph.canons())?;
     write_exports(text, graph)
 }
 
