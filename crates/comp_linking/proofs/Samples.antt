@@ -1,8 +1,15 @@
 -- Small components, item by item: items are taken by their outer layers, and types by their folds.
 use Rattle.std.proofs.Common.{◌≡◌, ◌∙◌, sym, ap, refl, ℕ, Bool, true, map, List, [], ◌∷◌, Some}
 use Rattle.std.specs.Prelude.{Ok, Result, codes}
+use Rattle.ca_types.specs.declared.core_type.CoreType.{CoreType}
+use Rattle.ca_types.specs.declared.core_type.CoreType.TheVariants.{I32}
+use Rattle.ca_types.specs.declared.types.ValType.TheOpen as F
 use Rattle.ca_types.specs.declared.types.ValType.TheVariants as val_type
-use Rattle.ca_types.specs.declared.types.ValType.TheViews.{outs-U32}
+use Rattle.ca_types.specs.declared.types.ValType.TheViews.{outs-U32, rolls-String}
+use Rattle.ca_types.specs.declared.types.ValType.TheFolds.{fold-roll-ValType}
+use Rattle.ca_types.specs.Ends.{end_case, end_field}
+use Rattle.ca_types.specs.Flat.{flat, flat_step, flat_case, flat_field}
+use Rattle.laid_types.specs.Lists.{has_list, list_step}
 use Rattle.comp_graph.specs.Graph.{Graph, no_options}
 use Rattle.comp_tree.specs.declared.instances.Sort.TheVariants as sorts
 use Rattle.comp_tree.specs.declared.externs.ExternDesc.{ExternDesc}
@@ -37,7 +44,7 @@ use Rattle.comp_linking.specs.Same.{same_val}
 use Rattle.comp_linking.proofs.Depths.{leaf_depth}
 use Rattle.comp_linking.proofs.FlatLifts.{u32_flat, u32_holds_no_list}
 use Rattle.comp_linking.proofs.SameValues.{val_told}
-use Rattle.comp_linking.specs.Examples.{root, fault, u32, of_types, import, outer, export_type, wanting, instantiate, giving_both, begins, of_one, make_with_absent, lifting, lifting_twice, with_memory, callable_as}
+use Rattle.comp_linking.specs.Examples.{root, fault, u32, of_types, import, outer, export_type, wanting, instantiate, giving_both, begins, of_one, make_with_absent, lifting, lifting_twice, with_memory, callable_as, lowering, lowering_string, passing, passed}
 
 pub value_rolled : (type : DefValType) (levels : List Level) → meaning_of (plain_type.Value type) levels ≡ value_meaning (types_around levels) type
 value_rolled type levels =
@@ -161,3 +168,28 @@ memory_twice inside reach = simp layers refl
 
 pub absent_argument : (inside : Run) (reach : Reach) → answer_of (run inside (root_begun reach) 0 (root (plain.CoreModule of_one ∷ make_with_absent ∷ [])).items) ≡ fault 1 why.Index
 absent_argument inside reach = simp layers refl
+
+-- functions that are lowered
+string_flat : flat val_type.String ≡ I32 ∷ I32 ∷ []
+string_flat = ap flat (sym rolls-String) ∙ fold-roll-ValType (List CoreType) (List CoreType) (List CoreType) flat_step flat_case flat_field F.String
+
+string_holds_list : has_list val_type.String ≡ true
+string_holds_list = ap has_list (sym rolls-String) ∙ fold-roll-ValType Bool Bool Bool list_step end_case end_field F.String
+
+pub passes_one : (inside : Run) → answer_of (run inside (root_begun Whole) 0 (root passing).items) ≡ Ok passed
+passes_one inside = simp layers refl
+
+pub lower_past_runs : (inside : Run) → answer_of (run inside (root_begun Runs) 0 (root passing).items) ≡ fault 6 why.Limit
+lower_past_runs inside = simp layers refl
+
+pub no_function : (inside : Run) (reach : Reach) → answer_of (run inside (root_begun reach) 0 (root (lowering 1 [])).items) ≡ fault 6 why.Index
+no_function inside reach = simp layers refl
+
+pub no_memory : (inside : Run) → answer_of (run inside (root_begun Whole) 0 (root (lowering_string [])).items) ≡ fault 6 why.Canon
+no_memory inside = simp (layers, string_flat, string_holds_list) refl
+
+pub no_realloc : (inside : Run) → answer_of (run inside (root_begun Whole) 0 (root (lowering_string (option.Memory 0 ∷ []))).items) ≡ fault 6 why.Canon
+no_realloc inside = simp (layers, string_flat, string_holds_list) refl
+
+pub post_return : (inside : Run) (reach : Reach) → answer_of (run inside (root_begun reach) 0 (root (lowering 0 (option.PostReturn 0 ∷ []))).items) ≡ fault 6 why.Canon
+post_return inside reach = simp layers refl

@@ -1,6 +1,7 @@
 -- What index spaces hold (Component Model, Explainer.md, "Index Spaces"): definitions, by their sorts, and the exports of
--- instances. A function is the lift of a core function; a component is kept as it stands in the file, with the components
--- that stand around it; what core instances have is told by the core instance that made it.
+-- instances. A function is the lift of a core function, and a function that is lowered is a core function again; a component is
+-- kept as it stands in the file, with the components that stand around it; what core instances have is told by the core instance
+-- that made it, or by the number of what the Canonical ABI made.
 use Rattle.std.specs.Prelude.{◌≡◌, ℕ, List, [], ◌∷◌, ◌++◌, cond, Option, Some, None}
 use Rattle.std.specs.Option.{option_map}
 use Rattle.std.specs.List.{flat_map}

@@ -6,11 +6,14 @@ use Rattle.ca_types.specs.declared.types.ValType.TheVariants as val_type
 use Rattle.wasm_module.specs.declared.types.ValType.TheVariants.{I32}
 use Rattle.wasm_module.specs.declared.instr.Instr.TheVariants.{I32Const}
 use Rattle.wasm_module.specs.declared.module.ExportDesc.TheVariants as offered
+use Rattle.wasm_module.specs.declared.module.ImportDesc.TheVariants as wanted
 use Rattle.wasm_module.specs.declared.module.ModuleTree.{ModuleTree}
 use Rattle.wasm_module.specs.Expr.{Plain, End}
 use Rattle.comp_graph.specs.declared.graph.Options.{Options}
 use Rattle.comp_graph.specs.declared.graph.Lift as graph
 use Rattle.comp_graph.specs.declared.graph.FuncRef.TheVariants as func_ref
+use Rattle.comp_graph.specs.declared.graph.CanonFunc.TheVariants as canon_func
+use Rattle.comp_graph.specs.declared.graph.CoreExtern.TheVariants as extern
 use Rattle.comp_graph.specs.Graph.{Graph, no_options}
 use Rattle.comp_tree.specs.declared.core_instances.CoreSort.{CoreSort}
 use Rattle.comp_tree.specs.declared.core_instances.CoreSort.TheVariants as core_sort
@@ -23,7 +26,8 @@ use Rattle.comp_tree.specs.declared.instances.Instance.TheVariants as made
 use Rattle.comp_tree.specs.declared.externs.ExternDesc.{ExternDesc}
 use Rattle.comp_tree.specs.declared.externs.ExternDesc.TheVariants as desc
 use Rattle.comp_tree.specs.declared.types.ValTypeRef.TheVariants as type_ref
-use Rattle.comp_tree.specs.declared.types.PrimValType.TheVariants.{U32}
+use Rattle.comp_tree.specs.declared.types.PrimValType.{PrimValType}
+use Rattle.comp_tree.specs.declared.types.PrimValType.TheVariants.{U32, String}
 use Rattle.comp_tree.specs.declared.types.DefValType.TheVariants as value
 use Rattle.comp_tree.specs.declared.types.Field.{Field}
 use Rattle.comp_tree.specs.declared.types.DefType.TheViews as def_type
@@ -31,7 +35,8 @@ use Rattle.comp_tree.specs.declared.types.DefType.TheVariants as plain_type
 use Rattle.comp_tree.specs.declared.types.DefType.{DefType}
 use Rattle.comp_tree.specs.declared.types.InstanceDecl.{InstanceDecl}
 use Rattle.comp_tree.specs.declared.items.CanonOption.{CanonOption}
-use Rattle.comp_tree.specs.declared.items.Canon.TheVariants.{Lift}
+use Rattle.comp_tree.specs.declared.items.CanonOption.TheVariants as option
+use Rattle.comp_tree.specs.declared.items.Canon.TheVariants.{Lift, Lower}
 use Rattle.comp_tree.specs.declared.items.Item.{Item}
 use Rattle.comp_tree.specs.declared.items.Item.TheVariants as plain
 use Rattle.comp_tree.specs.declared.items.Item.TheViews as item
@@ -165,16 +170,20 @@ make_with_absent = plain.CoreInstance (made_core.Instantiate 0 (record { name = 
 abbrev core_export : CoreSort → List ℕ → Item
 core_export sort name = plain.Alias (record { sort = sorts.Core sort; target = target.CoreInstanceExport 0 name })
 
--- the function of that module, lifted with options to a function that gives a u32
-abbrev lifting_before : List CanonOption → List Item → List Item
-lifting_before options items =
+-- the function of that module, lifted with options to a function that gives a value of a type
+abbrev lifting_to : PrimValType → List CanonOption → List Item → List Item
+lifting_to given options items =
     plain.CoreModule of_one
     ∷ make
     ∷ core_export core_sort.Func (codes "one")
     ∷ core_export core_sort.Memory (codes "memory")
-    ∷ plain.Type (plain_type.Func (record { params = []; result = Some (type_ref.Primitive U32) }))
+    ∷ plain.Type (plain_type.Func (record { params = []; result = Some (type_ref.Primitive given) }))
     ∷ plain.Canon (Lift 0 options 0)
     ∷ items
+
+-- to one that gives a u32
+abbrev lifting_before : List CanonOption → List Item → List Item
+lifting_before options items = lifting_to U32 options items
 
 -- and exported; or exported as `a#run`, and as `run` of an instance that is exported as `a`
 abbrev pub lifting : List CanonOption → List Item
@@ -203,4 +212,46 @@ callable_as options names = record {
   canons = [];
   exports = map (λ name. record { name = name; func_type = record { params = []; result = Some val_type.U32 } }) names;
   lifts = lifts_for options names;
+}
+
+-- The same function, lifted, and a function of an index lowered with options; and so where the function gives a string, which is
+-- lifted with the memory.
+abbrev pub lowering : ℕ → List CanonOption → List Item
+lowering index options = lifting_before [] (plain.Canon (Lower index options) ∷ [])
+
+abbrev pub lowering_string : List CanonOption → List Item
+lowering_string options = lifting_to String (option.Memory 0 ∷ []) (plain.Canon (Lower 0 options) ∷ [])
+
+-- a core module that imports a function, which gives an i32
+abbrev of_caller : ModuleTree
+of_caller = record of_nothing {
+  types = record { params = []; results = I32 ∷ [] } ∷ [];
+  imports = record { «module» = codes "in"; name = codes "one"; desc = wanted.Func 0 } ∷ [];
+}
+
+-- the function, lifted and lowered, passed to that module; and the graph of both core instances
+abbrev pub passing : List Item
+passing =
+    lifting_before []
+    (plain.Canon (Lower 0 [])
+    ∷ plain.CoreInstance (made_core.Inline (record { name = codes "one"; sort = core_sort.Func; index = 1 } ∷ []))
+    ∷ plain.CoreModule of_caller
+    ∷ plain.CoreInstance (made_core.Instantiate 1 (record { name = codes "in"; instance = 1 } ∷ []))
+    ∷ [])
+
+abbrev pub passed : Graph
+passed = record {
+  plan = Begin 0 ∷ Make 0 ∷ Make 1 ∷ [];
+  instance_count = 1;
+  cores = record { of_module = of_one; imports = []; owner = 0 } ∷ record { of_module = of_caller; imports = extern.Func (func_ref.Canon 0) ∷ []; owner = 0 } ∷ [];
+  canons =
+      canon_func.Lower (record {
+        instance = 0;
+        lift = record { instance = 0; core = func_ref.Instance (record { instance = 0; index = 0 }); options = no_options };
+        func_type = record { params = []; result = Some val_type.U32 };
+        options = no_options;
+      })
+      ∷ [];
+  exports = [];
+  lifts = [];
 }

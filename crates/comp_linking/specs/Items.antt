@@ -1,8 +1,8 @@
 -- What an item of a component makes in the index spaces of its component instance, and what keeps an item from that, by its
 -- reason (Component Model, Explainer.md, "Instance Definitions", "Alias Definitions", "Canonical Definitions" and "Import and
--- Export Definitions"; CanonicalABI.md, `canon lift` and `canon lower`). At one item the reasons come in the order in which `LinkWhy` has them.
--- The instantiation of a component makes more than one item can say; its own reasons are here, and what its component's items
--- make stands in `Linked`.
+-- Export Definitions"; CanonicalABI.md, `canon lift` and `canon lower`). At one item the reasons come in the order in which
+-- `LinkWhy` has them. The instantiation of a component makes more than one item can say; its own reasons are here, and what its
+-- component's items make stands in `Linked`.
 use Rattle.std.specs.Prelude.{◌≡◌, ◌<◌, ◌≤◌, ◌⊎◌, ℕ, true, false, cond, List, [], ◌∷◌, ◌++◌, length, map, set, Option, Some, None}
 use Rattle.std.specs.Option.{option_map, option_and_then, MatchOption}
 use Rattle.std.specs.List.{slice_get, AllByRecursion, AllZip}

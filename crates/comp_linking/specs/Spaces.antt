@@ -1,7 +1,7 @@
 -- Index spaces (Component Model, Explainer.md, "Index Spaces"): a component that is linked has one for each sort, to which its
 -- items add in file order. Beside them stand what it imports and exports so far, what it is given, and the component
--- instances that it sees around it. All component instances are kept by their numbers, in order of beginning, and all core
--- instances by theirs, in order of making, and all core functions that the Canonical ABI makes by theirs.
+-- instances that it sees around it. All component instances are kept by their numbers, in order of beginning, all core instances
+-- by theirs, in order of making, and all core functions that the Canonical ABI makes by theirs, in file order.
 use Rattle.std.specs.Prelude.{ℕ, List, [], ◌∷◌, ◌++◌, length, map, set, Option, Some, None}
 use Rattle.std.specs.Option.{option_map, option_and_then}
 use Rattle.std.specs.List.{slice_get, flat_map}

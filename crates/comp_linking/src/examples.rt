@@ -1,4 +1,5 @@
-//! Examples of the definitions, worked out by hand. Those whose types are all u32 come to the same however far linking goes.
+//! Examples of the definitions, worked out by hand. Those whose types are all u32, and which lower nothing, come to the same
+//! however far linking goes.
 
 ghost use Rattle.std.specs.Prelude.{◌≡◌, [], ◌∷◌, Ok, codes};
 ghost use Rattle.comp_tree.specs.declared.instances.Sort.TheVariants as sorts;
@@ -11,7 +12,7 @@ ghost use Rattle.comp_linking.specs.declared.fault.LinkWhy.TheVariants as why;
 ghost use Rattle.comp_linking.specs.declared.reach.Reach.{Reach};
 ghost use Rattle.comp_linking.specs.declared.reach.Reach.TheVariants.{Runs, Whole};
 ghost use Rattle.comp_linking.specs.Computed.{linked};
-ghost use Rattle.comp_linking.specs.Examples.{root, fault, u32, list_of, record_of, lists, of_lists, import, outer, export_type, instantiate, wanting, giving_both, nesting, begins, of_one, make, make_with_absent, lifting, lifting_twice, with_memory, callable_as};
+ghost use Rattle.comp_linking.specs.Examples.{root, fault, u32, list_of, record_of, lists, of_lists, import, outer, export_type, instantiate, wanting, giving_both, nesting, begins, of_one, make, make_with_absent, lifting, lifting_twice, with_memory, callable_as, lowering, lowering_string, passing, passed};
 
 /// Faults of one item: an import of the root that is a function, also where its index is not there; an outer alias that goes
 /// past the root; and an export of a name that was exported.
@@ -83,4 +84,20 @@ pub fn options()
 /// name.
 pub fn one_name()
     ensures { (reach : Reach) → linked reach (root lifting_twice) ≡ Ok (callable_as no_options (codes "a#run" ∷ codes "a#run" ∷ [])) }
+{}
+
+/// A function that is lifted, lowered and passed to a core module is what the core instance imports. A lower is past what can be
+/// run. A function that is not there is not lowered.
+pub fn lowers()
+    ensures made { linked Whole (root passing) ≡ Ok passed }
+    ensures past { linked Runs (root passing) ≡ fault 6 why.Limit }
+    ensures not_there { (reach : Reach) → linked reach (root (lowering 1 [])) ≡ fault 6 why.Index }
+{}
+
+/// A function that gives a string is not lowered without a memory, nor with a memory alone, as the string needs a place in it. No
+/// function is called when a result was lifted that a lower gives.
+pub fn options_of_lowers()
+    ensures no_memory { linked Whole (root (lowering_string [])) ≡ fault 6 why.Canon }
+    ensures no_realloc { linked Whole (root (lowering_string (option.Memory 0 ∷ []))) ≡ fault 6 why.Canon }
+    ensures post_return { (reach : Reach) → linked reach (root (lowering 0 (option.PostReturn 0 ∷ []))) ≡ fault 6 why.Canon }
 {}

@@ -1,6 +1,7 @@
-//! Linking (Component Model, Explainer.md, "Index Spaces" and "Instance Definitions"), as definitions and laws, with the tests of
-//! types as they are written: what each item of a component stands for, behind those before it, and which item is refused, and
-//! why. `specs/Linked` says it by relations, and `specs/Computed` computes the same.
+//! Linking (Component Model, Explainer.md, "Index Spaces", "Instance Definitions" and "Canonical Definitions"), as definitions and
+//! laws, with the tests of types as they are written: what each item of a component stands for, behind those before it, and which
+//! item is refused, and why. Functions are lifted and lowered (CanonicalABI.md, `canon lift` and `canon lower`). `specs/Linked`
+//! says it by relations, and `specs/Computed` computes the same.
 //!
 //! - `fault`: why an item is refused, and where
 //! - `reach`, of `runs`: how far linking goes, and whether a type, a lift or a lower is within reach

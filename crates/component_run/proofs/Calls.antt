@@ -25,7 +25,7 @@ use Rattle.std.proofs.lemmas.Option.{slice_get_within}
 use Rattle.ca_types.specs.declared.types.FuncType.{FuncType}
 use Rattle.ca_types.specs.declared.exports.Export.{Export}
 use Rattle.value_reader.specs.Laws.{SoundValuesAreSmall}
-use Rattle.comp_graph.specs.declared.graph.CoreRef.{CoreRef}
+use Rattle.comp_graph.specs.declared.graph.FuncRef.{FuncRef}
 use Rattle.comp_graph.specs.declared.graph.Lift.{Lift}
 use Rattle.comp_graph.specs.Graph as graph
 use Rattle.comp_graph.specs.Graph.{IsCallable}
@@ -136,12 +136,12 @@ kept_at_item first stays g script at number i s left labels sound l e r =
     kept_behind first stays g script labels (idle (i ∷ drop (at + 1) script.items) number s left) sound (before_item g (first_world g script) script.items at number i s left labels l e r)
 
 -- What a core function that a call's function lifts comes to, with the call's words.
-pub ran : (s t : Store) (call : Call) (f : Lifted) (core : CoreRef) (words : List ℕ) (task left after : ℕ) (ended : Result (List ℕ) RunEnd) (fits : FitsFunction s call f) → core ≡ f.core → words ≡ map lowered call.values
+pub ran : (s t : Store) (call : Call) (f : Lifted) (core : FuncRef) (words : List ℕ) (task left after : ℕ) (ended : Result (List ℕ) RunEnd) (fits : FitsFunction s call f) → core ≡ f.core → words ≡ map lowered call.values
     → FunctionGives core words task s left ended t after
     → CoreGives task s (start fits.can.function.1 fits.can.function.0 (map lowered call.values)) left ended t after × MatchResult ended AreBelow (λ end. Unit {0})
 ran s t call f core words task left after ended fits e h gives =
     let here : FunctionGives f.core (map lowered call.values) task s left ended t after =
-    subst (λ (c : CoreRef). FunctionGives c (map lowered call.values) task s left ended t after) e (subst (λ (ws : List ℕ). FunctionGives core ws task s left ended t after) h gives) in
+    subst (λ (c : FuncRef). FunctionGives c (map lowered call.values) task s left ended t after) e (subst (λ (ws : List ℕ). FunctionGives core ws task s left ended t after) h gives) in
     here fits.can.function fits.can.there
 
 pub below_ok : (ended : Result (List ℕ) RunEnd) (words : List ℕ) → ended ≡ Ok words → MatchResult ended AreBelow (λ end. Unit {0}) → AreBelow words

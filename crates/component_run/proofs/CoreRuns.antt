@@ -22,7 +22,7 @@ use Rattle.core_machine.specs.Store.{Function, type_of}
 use Rattle.core_machine.specs.Step.{start}
 use Rattle.core_machine.specs.Typed.{StoreTyped, StackTyped}
 use Rattle.core_machine.specs.Laws.{IsOwn, HasNoHosts, StepsKeepFunctions, MoveTyped, MovesTyped, NeverStuck, StartsTyped}
-use Rattle.comp_graph.specs.declared.graph.CoreRef.{CoreRef}
+use Rattle.comp_graph.specs.declared.graph.FuncRef.{FuncRef}
 use Rattle.comp_graph.specs.Graph.{is_i32}
 use Rattle.abi_machine.specs.Machine.{core_func}
 use Rattle.component_run.specs.Calling.{Leads, at_task, CallsNone, CoreStops, CoreGives, CanRun, AreBelow, FunctionGives}
@@ -131,13 +131,13 @@ pub core_err : (task : ℕ) (s t : Store) (k : Stack) (before after : ℕ) (ende
 core_err task s t k before after ended end e gives = subst (λ (r : Result (List ℕ) RunEnd). CoreGives task s k before r t after) e gives
 
 -- A core function that can run is typed, and its results are i32.
-pub record Begun (s : Store) (core : CoreRef) (words : List ℕ) (k : Stack) : Type 0 where
+pub record Begun (s : Store) (core : FuncRef) (words : List ℕ) (k : Stack) : Type 0 where
   pub results : List ValType
   pub typed : StackTyped s results k
   pub i32 : list_all is_i32 results ≡ true
   pub is : (function : ℕ × Function) → core_func s core ≡ Some function → k ≡ start function.1 function.0 words
 
-pub begun : StartsTyped → (s : Store) (core : CoreRef) (words : List ℕ) (address : ℕ) (k : Stack) → StoreTyped s → CanRun s core words
+pub begun : StartsTyped → (s : Store) (core : FuncRef) (words : List ℕ) (address : ℕ) (k : Stack) → StoreTyped s → CanRun s core words
     → ((function : ℕ × Function) → core_func s core ≡ Some function → (address ≡ function.0) × (slice_get s.funcs address ≡ Some function.1))
     → ((f : Function) × (slice_get s.funcs address ≡ Some f) × (k ≡ start f address words)) → Begun s core words k
 begun starts s core words address k t can at has =
@@ -164,7 +164,7 @@ ends_below moves never s t k results before after words typed stack i32 c =
     let last : MoveTyped t results (next t c.last) = moves t results c.last there.1 there.2 in
     words_of_i32 results words (subst (MoveTyped t results) c.moves last) i32
 
-pub function_gives : MovesTyped → NeverStuck → (core : CoreRef) (words : List ℕ) (task : ℕ) (s t : Store) (k : Stack) (before after : ℕ) (ended : Result (List ℕ) RunEnd) → StoreTyped s → Begun s core words k → CoreGives task s k before ended t after
+pub function_gives : MovesTyped → NeverStuck → (core : FuncRef) (words : List ℕ) (task : ℕ) (s t : Store) (k : Stack) (before after : ℕ) (ended : Result (List ℕ) RunEnd) → StoreTyped s → Begun s core words k → CoreGives task s k before ended t after
     → FunctionGives core words task s before ended t after
 function_gives moves never core words task s t k before after (Ok answers) typed b gives function e =
     (subst (λ (k : Stack). CoreGives task s k before (Ok answers) t after) (b.is function e) gives, ends_below moves never s t k b.results before after answers typed b.typed b.i32 gives)

@@ -9,9 +9,8 @@ use Rattle.ca_base.proofs.FirstNamed.{found_by_name}
 use Rattle.wasm_module.specs.declared.types.ValType as core_val
 use Rattle.wasm_module.specs.declared.types.ValType.TheVariants.{I32, I64}
 use Rattle.wasm_module.specs.declared.types.FuncType as core
-use Rattle.wasm_module.specs.Spaces.{type_of_func}
 use Rattle.wasm_numbers.specs.Types.{AreWords}
-use Rattle.core_machine.specs.Store.{Store, Instance, Function, type_of, func_at}
+use Rattle.core_machine.specs.Store.{Store}
 use Rattle.ca_types.specs.declared.types.ValType.{out-ValType}
 use Rattle.ca_types.specs.declared.types.ValType.TheOpen.{ValType-F}
 use Rattle.ca_types.specs.declared.types.Param.{Param}
@@ -22,17 +21,18 @@ use Rattle.ca_types.specs.declared.value.Value.TheVariants.{U32}
 use Rattle.ca_types.specs.declared.exports.Export.{Export}
 use Rattle.value_reader.specs.Typed.{AreOfTypes}
 use Rattle.value_reader.specs.Laws.{SoundValuesAreSmall}
-use Rattle.comp_graph.specs.declared.graph.CoreRef.{CoreRef}
+use Rattle.comp_graph.specs.declared.graph.CanonFunc.{CanonFunc}
 use Rattle.comp_graph.specs.declared.graph.Lift.{Lift}
 use Rattle.comp_graph.specs.Graph as graph
-use Rattle.comp_graph.specs.Graph.{CoreMake, Graph, Lifted, lifted_as, func_named, names, core_type, is_i32, is_u32, is_u32_case, result_count, is_flat, LiftsCore, IsCallable}
+use Rattle.comp_graph.specs.Graph.{Graph, Lifted, lifted_as, func_named, names, core_type, is_i32, is_u32, is_u32_case, result_count, is_flat, LiftsCore, IsCallable}
 use Rattle.comp_graph.specs.Needs.{flat_param_limit}
 use Rattle.script_reader.specs.declared.script.Call.{Call}
 use Rattle.script_reader.specs.declared.script.Item.TheVariants as item
 use Rattle.script_reader.specs.Script.{export_named, CallsExport}
-use Rattle.abi_machine.specs.Machine.{lowered, core_func}
+use Rattle.abi_machine.specs.Machine.{lowered}
 use Rattle.abi_machine.specs.Laws.{SoundCall}
 use Rattle.abi_machine.specs.Kept.{AreMade}
+use Rattle.abi_machine.proofs.Imports.{core_funcs_are_there}
 use Rattle.component_run.specs.Calling.{u32_of, AreBelow, FitsFunction, Fits}
 
 some_inj : {A : Type 0} {x y : A} → ◌≡◌ {A = Option A} (Some x) (Some y) → x ≡ y
@@ -81,7 +81,7 @@ pub record Named (g : Graph) (name : List ℕ) (f : Lifted) : Type 0 where
   pub named : export_named g.exports name ≡ Some export
   pub func_type : f.func_type ≡ export.func_type
   pub type : core.FuncType
-  pub there : core_type g.cores f.core ≡ Some type
+  pub there : core_type g.cores [] f.core ≡ Some type
   pub flat : is_flat f.func_type type ≡ true
 
 pub named_function : (g : Graph) (name : List ℕ) (f : Lifted) → IsCallable g → func_named g name ≡ Some f → Named g name f
@@ -91,13 +91,13 @@ named_function g name f callable h =
     let found : export_named g.exports name ≡ Some at.export =
     sym (found_by_name (λ (e : Export). e.name) g.exports name) ∙ (ap (option_and_then (λ k. slice_get g.exports k)) number.1 ∙ at.there) in
     let lifts : LiftsCore g.cores at.export.func_type at.lift =
-    both_at (λ (e : Export) (l : Lift). LiftsCore g.cores e.func_type l) g.exports g.lifts number.0 at.export at.lift callable at.there at.lift_there in
+    both_at (λ (e : Export) (l : Lift). LiftsCore g.cores e.func_type l) g.exports g.lifts number.0 at.export at.lift callable.lifts at.there at.lift_there in
     record {
       export = at.export;
       named = found;
       func_type = at.func_type;
       type = lifts.type;
-      there = ap (core_type g.cores) at.core ∙ lifts.there;
+      there = ap (core_type g.cores []) at.core ∙ lifts.there;
       flat = ap (λ (t : FuncType). is_flat t lifts.type) at.func_type ∙ lifts.flat;
     }
 
@@ -118,7 +118,7 @@ pub has_function : (g : Graph) (name : List ℕ) (e : Export) → IsCallable g �
 has_function g name e callable h =
     let found = found_by_name (λ (e : Export). e.name) g.exports name ∙ h in
     let number = then_some (λ (k : ℕ). slice_get g.exports k) (first_named name (names g.exports)) e found in
-    let c = lifted_there g.exports g.lifts number.0 e (zip_lengths _ g.exports g.lifts callable) number.2 in
+    let c = lifted_there g.exports g.lifts number.0 e (zip_lengths _ g.exports g.lifts callable.lifts) number.2 in
     let f : Lifted = record { instance = c.0.instance; core = c.0.core; options = c.0.options; func_type = e.func_type } in
     (f, ap (option_and_then (graph.func_at g)) number.1 ∙ (ap (λ (o : Option Export). lifted_as o (slice_get g.lifts number.0)) number.2 ∙ ap (λ (o : Option Lift). lifted_as (Some e) o) c.1), refl)
 
@@ -209,17 +209,9 @@ call_sound small g call callable c =
       lifted = f.0;
       named = f.1;
       type = n.type;
-      there = n.there;
+      there = ap (λ (canons : List CanonFunc). core_type g.cores canons f.0.core) callable.plain ∙ n.there;
       values = words_below n.type.params (map lowered call.values) t.params (t.count ∙ (sym us.2 ∙ sym (length-map call.values lowered))) us.1;
     }
-
--- The core function is there, with its type.
-core_there : (g : Graph) (s : Store) (f : CoreRef) (type : core.FuncType) → AreMade s g.cores → core_type g.cores f ≡ Some type → (p : ℕ × Function) × (core_func s f ≡ Some p) × (type_of p.1 ≡ type)
-core_there g s f type all h =
-    let c = then_some (λ (c : CoreMake). type_of_func c.of_module f.index) (slice_get g.cores f.instance) type h in
-    let i = all.each f.instance c.0 c.1 in
-    let p = i.2.has.funcs f.index type c.2 in
-    (p.0, ap (option_and_then (λ (i : Instance). func_at f.index i s)) i.1 ∙ p.1, p.2)
 
 -- The function that a call names can run.
 function_fits : SoundValuesAreSmall → (g : Graph) (s : Store) (call : Call) → IsCallable g → AreMade s g.cores → CallsExport g.exports (item.Call call) → (f : Lifted) → func_named g call.name ≡ Some f → FitsFunction s call f
@@ -230,7 +222,7 @@ function_fits small g s call callable made c f named =
     let type : f.func_type ≡ c.0.func_type = n.func_type ∙ ap (λ (e : Export). e.func_type) same in
     let of : AreOfTypes (map (λ p. p.val_type) f.func_type.params) call.values = subst (λ (t : FuncType). AreOfTypes (map (λ p. p.val_type) t.params) call.values) (sym type) c.2 in
     let us = are_u32 small f.func_type.params call.values t.types of in
-    let p = core_there g s f.core n.type made n.there in
+    let p = core_funcs_are_there s g.cores f.core n.type made n.there in
     let words = words_below n.type.params (map lowered call.values) t.params (t.count ∙ (sym us.2 ∙ sym (length-map call.values lowered))) us.1 in
     record {
       can = record {

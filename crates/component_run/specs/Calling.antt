@@ -14,7 +14,7 @@ use Rattle.ca_types.specs.declared.types.ValType.{ValType}
 use Rattle.ca_types.specs.declared.types.FuncType.{FuncType}
 use Rattle.ca_types.specs.declared.value.Value.{Value}
 use Rattle.ca_types.specs.declared.value.Value.TheVariants.{U32}
-use Rattle.comp_graph.specs.declared.graph.CoreRef.{CoreRef}
+use Rattle.comp_graph.specs.declared.graph.FuncRef.{FuncRef}
 use Rattle.comp_graph.specs.Graph.{CoreMake, Graph, Lifted, func_named, is_i32}
 use Rattle.script_reader.specs.declared.script.Call.{Call}
 use Rattle.script_reader.specs.declared.script.Item.{Item}
@@ -89,14 +89,14 @@ abbrev pub types_of : FuncType → List ValType
 types_of type = map (λ p. p.val_type) type.params
 
 -- A core function is there, the words are its arguments, and its results are i32.
-pub record CanRun (s : Store) (core : CoreRef) (words : List ℕ) : Type 0 where
+pub record CanRun (s : Store) (core : FuncRef) (words : List ℕ) : Type 0 where
   pub function : ℕ × Function
   pub there : core_func s core ≡ Some function
   pub params : AreWords (type_of function.1).params words
   pub results : list_all is_i32 (type_of function.1).results ≡ true
 
 -- what it comes to, as the core function of a task
-abbrev pub FunctionGives : CoreRef → List ℕ → ℕ → Store → ℕ → Result (List ℕ) RunEnd → Store → ℕ → Type 0
+abbrev pub FunctionGives : FuncRef → List ℕ → ℕ → Store → ℕ → Result (List ℕ) RunEnd → Store → ℕ → Type 0
 FunctionGives core words task s before ended t after =
     (function : ℕ × Function) → core_func s core ≡ Some function
     → CoreGives task s (start function.1 function.0 words) before ended t after × MatchResult ended AreBelow (λ end. Unit {0})

@@ -15,7 +15,7 @@ use crate::named_graph::NamedGraph;
 use abi_machine::RunEnd;
 use ca_base::{Fuel, Memory, Seq};
 use ca_types::Value;
-use comp_graph::CoreRef;
+use comp_graph::FuncRef;
 use core_machine::laws::{stores_without_hosts, typed_stacks_never_get_stuck};
 use script_reader::{Call, Item};
 use std::alloc::Global;
@@ -93,7 +93,7 @@ fn lower_value(value: &Value) -> u64
 /// Runs a core function of a task, and answers the words with which it ends, or how the run ends with it.
 fn run_function(
     alloc: Global,
-    core: CoreRef,
+    core: FuncRef,
     words: &[u64],
     task: u32,
     store: &mut Store,
@@ -112,9 +112,13 @@ fn run_function(
 }
 
 /// The address of a core function.
-fn address_of(store: &Store, core: CoreRef) -> usize
+fn address_of(store: &Store, core: FuncRef) -> usize
     requires { (function : ℕ × Function) × (core_func store.now core ≡ Some function) }
     ensures { (function : ℕ × Function) → core_func store.now core ≡ Some function → (result ≡ function.0) × (slice_get store.now.funcs result ≡ Some function.1) }
 {
-    store.instance(core.instance).funcs.as_slice()[core.index as usize]
+    match core {
+        FuncRef::Instance(at) => store.instance(at.instance).funcs.as_slice()[at.index as usize],
+        // None that the Canonical ABI makes is there.
+        FuncRef::Canon(_number) => unreachable!(),
+    }
 }

@@ -6,7 +6,7 @@ ghost use Rattle.wasm_store.specs.Views.{address_of};
 ghost use Rattle.abi_machine.specs.Machine.{external_of, externals};
 
 use ca_base::{Memory, Seq};
-use comp_graph::CoreExtern;
+use comp_graph::{CoreExtern, FuncRef};
 use std::alloc::Global;
 use wasm_store::{External, Store};
 
@@ -32,9 +32,11 @@ fn external_of(store: &Store, import: CoreExtern) -> External
     ensures { external_of store.now import ≡ Some (address_of result) }
 {
     match import {
-        CoreExtern::Func(at) => {
+        CoreExtern::Func(FuncRef::Instance(at)) => {
             External::Func(store.instance(at.instance).funcs.as_slice()[at.index as usize])
         }
+        // None that the Canonical ABI makes is there.
+        CoreExtern::Func(FuncRef::Canon(_number)) => unreachable!(),
         CoreExtern::Table(at) => {
             External::Table(store.instance(at.instance).tables.as_slice()[at.index as usize])
         }

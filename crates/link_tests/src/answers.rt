@@ -30,13 +30,16 @@ fn write_func(text: &mut String, func: FuncRef) -> Result<(), AllocError> {
     }
 }
 
+/// Writes an import that is a function.
+fn write_func_import(text: &mut String, func: FuncRef) -> Result<(), AllocError> {
+    text.push_str("func ")?;
+    write_func(text, func)
+}
+
 /// Writes an import.
 fn write_import(text: &mut String, import: CoreExtern) -> Result<(), AllocError> {
     let (word, core) = match import {
-        CoreExtern::Func(func) => {
-            text.push_str("func ")?;
-            return write_func(text, func);
-        }
+        CoreExtern::Func(func) => return write_func_import(text, func),
         CoreExtern::Table(core) => ("table ", core),
         CoreExtern::Memory(core) => ("memory ", core),
         CoreExtern::Global(core) => ("global ", core),
@@ -83,9 +86,9 @@ fn write_plan(text: &mut String, plan: &[Action]) -> Result<(), AllocError> {
     text.push('\n')
 }
 
-/// Writes the memory that a canonical function uses, if there is one.
-fn write_memory(text: &mut String, memory: Option<CoreRef>) -> Result<(), AllocError> {
-    match memory {
+/// Writes the memory that is used, if there is one.
+fn write_memory(text: &mut String, used: Option<CoreRef>) -> Result<(), AllocError> {
+    match used {
         Some(core) => {
             text.push_str(" memory ")?;
             write_ref(text, core)
@@ -94,7 +97,7 @@ fn write_memory(text: &mut String, memory: Option<CoreRef>) -> Result<(), AllocE
     }
 }
 
-/// Writes a core function that a canonical function uses behind what it is used as, if there is one.
+/// Writes a core function that is used behind what it is used as, if there is one.
 fn write_used(text: &mut String, word: &str, used: Option<FuncRef>) -> Result<(), AllocError> {
     match used {
         Some(func) => {
@@ -105,19 +108,20 @@ fn write_used(text: &mut String, word: &str, used: Option<FuncRef>) -> Result<()
     }
 }
 
-/// Writes what a canonical function uses beside what it lifts or lowers.
+/// Writes what a lift or a lower uses beside its function.
 fn write_options(text: &mut String, options: Options) -> Result<(), AllocError> {
     write_memory(text, options.memory)?;
     write_used(text, "realloc", options.realloc)?;
     write_used(text, "post-return", options.post_return)
 }
 
-/// Writes a lift.
+/// Writes what a function lifts, to the end of the line.
 fn write_lift(text: &mut String, lift: Lift) -> Result<(), AllocError> {
     let instance = lift.instance;
     write!(text, "{instance} ")?;
     write_func(text, lift.core)?;
-    write_options(text, lift.options)
+    write_options(text, lift.options)?;
+    text.push('\n')
 }
 
 /// Writes a function that is lowered, in a line.
@@ -126,11 +130,10 @@ fn write_lower(text: &mut String, lower: &Lower) -> Result<(), AllocError> {
     write!(text, "lower {instance}")?;
     write_options(text, lower.options)?;
     text.push_str(" of ")?;
-    write_lift(text, lower.lift)?;
-    text.push('\n')
+    write_lift(text, lower.lift)
 }
 
-/// Writes each function that is lowered.
+/// Writes each core function that the Canonical ABI makes.
 fn write_canons(text: &mut String, canons: &[CanonFunc]) -> Result<(), AllocError> {
     for canon in canons {
         match canon {
@@ -143,8 +146,7 @@ fn write_canons(text: &mut String, canons: &[CanonFunc]) -> Result<(), AllocErro
 /// Writes an export, in a line.
 fn write_export(text: &mut String, name: &str, lift: Lift) -> Result<(), AllocError> {
     write!(text, "export {name} ")?;
-    write_lift(text, lift)?;
-    text.push('\n')
+    write_lift(text, lift)
 }
 
 /// Writes each export.
