@@ -68,14 +68,24 @@ def importing(names):
     )
 
 
+def instances(count, module=0, arguments=(), given=0):
+    """So many instances of a core module, with the core instance of an index as each of the arguments."""
+    return section(2, vec([b"\x00" + u32(module) + vec(name(text) + b"\x12" + u32(given) for text in arguments)] * count))
+
+
 def instance(module=0, arguments=()):
     """An instance of a core module, with core instance 0 as each of the arguments."""
-    return section(2, vec([b"\x00" + u32(module) + vec(name(text) + b"\x12" + u32(0) for text in arguments)]))
+    return instances(1, module, arguments)
 
 
 def inline_instance(names):
     """A core instance that exports core function 0 under these names."""
     return section(2, vec([b"\x01" + vec(name(text) + b"\x00" + u32(0) for text in names)]))
+
+
+def inline_funcs(names, first):
+    """A core instance that exports core functions under these names, the first of them that of this index."""
+    return section(2, vec([b"\x01" + vec(name(text) + b"\x00" + u32(first + index) for index, text in enumerate(names))]))
 
 
 def aliases(names):
@@ -97,6 +107,24 @@ def lifts(func_types, core_func=0, options=()):
 def lift():
     """The lift of core function 0 to type 0."""
     return lifts([0])
+
+
+def lowers(count, func=0, options=()):
+    """The function of an index lowered so many times, each time with these options."""
+    return section(8, vec([b"\x01\x00" + u32(func) + vec(options)] * count))
+
+
+def wide():
+    """A function of 16 numbers of 64 bits to another, which are all that is passed without a memory, lifted as function 0."""
+    module = (
+        MODULE
+        + section(1, vec([b"\x60" + vec([b"\x7e"] * 16) + vec([b"\x7e"])]))
+        + section(3, vec([u32(0)]))
+        + section(7, vec([name("f") + b"\x00\x00"]))
+        + section(10, vec([b"\x04\x00\x42\x00\x0b"]))
+    )
+    func_type = b"\x40" + vec(name(text) + b"\x77" for text in LETTERS[:16]) + b"\x00\x77"
+    return section(1, module) + instance() + aliases(["f"]) + types([func_type]) + lift()
 
 
 def placing_module():

@@ -238,6 +238,33 @@ def options_again(count):
     return formats.component(*parts, formats.lifts([0], options=[b"\x00"] * count)), b"", 0
 
 
+def lowered_again(count):
+    """So many lowers of one function of 16 parameters."""
+    return formats.component(formats.wide(), formats.lowers(count)), b"", 1
+
+
+def lowered_imports(count, instances=1):
+    """A function that is lowered so many times, and instances of a core module that import all that it is lowered to."""
+    names = formats.short_names(count, 4)
+    parts = [
+        formats.section(1, formats.module(["f"])),
+        formats.instance(),
+        formats.aliases(["f"]),
+        formats.func_type([]),
+        formats.lift(),
+        formats.lowers(count),
+        formats.inline_funcs(names, 1),
+        formats.section(1, formats.importing(reversed(names))),
+        formats.instances(instances, 1, ["m"], 1),
+    ]
+    return formats.component(*parts), b"", 1
+
+
+def lowered_imports_again(count):
+    """The same of 255 instances of the core module."""
+    return lowered_imports(count, 255)
+
+
 CASES = [
     Case("exports of a core module", 400_000, module_exports),
     Case("labels of a function type", 400_000, labels),
@@ -262,6 +289,9 @@ CASES = [
     Case("parts of a record, an enum and a tuple", 300_000, fields, command="check"),
     Case("lifts to a function of as many parameters", 400_000, lifted_again, command="check"),
     Case("options of a lift", 4_000_000, options_again, command="check", status=10),
+    Case("lowers of a function of 16 parameters", 4_190_000, lowered_again, doubles=False, command="check"),
+    Case("imports of a core module that are lowered functions", 370_000, lowered_imports, command="check"),
+    Case("imports of 255 core instances that are lowered functions", 6_000, lowered_imports_again, command="check"),
     Case("calls of a script, for a component with 1,000 exports", 60_000, calls, doubles=False),
 ]
 

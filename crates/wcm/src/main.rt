@@ -9,6 +9,8 @@ mod import_tests_cases;
 mod instance_tests_cases;
 mod laws;
 #[cfg(test)]
+mod lower_tests_cases;
+#[cfg(test)]
 mod nested_tests_cases;
 mod refusals;
 #[cfg(test)]

@@ -1,9 +1,10 @@
 //! Calls of the program over files and outputs in memory, by the tables of `top_tests_cases`, `run_tests_cases`,
-//! `import_tests_cases`, `instance_tests_cases`, `nested_tests_cases` and `words_tests_cases`.
+//! `import_tests_cases`, `instance_tests_cases`, `nested_tests_cases`, `words_tests_cases` and `lower_tests_cases`.
 
 use crate::import_tests_cases::{IMPORT_CASES, IMPORT_COUNT};
 use crate::instance_tests_cases::{INSTANCE_CASES, INSTANCE_COUNT};
 use crate::laws;
+use crate::lower_tests_cases::{LOWER_CASES, LOWER_COUNT};
 use crate::nested_tests_cases::{NESTED_CASES, NESTED_COUNT};
 use crate::run_tests_cases::{RUN_CASES, RUN_COUNT};
 use crate::status::Status;
@@ -228,7 +229,8 @@ fn calls_over_instances(rt: HostRuntime) -> Result<(), Fail> {
 
 #[test]
 fn calls_by_their_words(rt: HostRuntime) -> Result<(), Fail> {
-    check_all(&rt, rt.alloc(), WORDS_CASES, WORDS_COUNT)
+    check_all(&rt, rt.alloc(), WORDS_CASES, WORDS_COUNT)?;
+    check_all(&rt, rt.alloc(), LOWER_CASES, LOWER_COUNT)
 }
 
 #[test]
