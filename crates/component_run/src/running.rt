@@ -44,13 +44,14 @@ pub fn run_script(alloc: Global, graph: &Graph, script: &Script) -> Result<Run, 
     calls_are_sound();
     let mut store = Store::new(alloc);
     let mut left = Fuel::new(u64::from(script.fuel()));
-    if let Some(end) = instantiate(alloc, graph, &mut store, &mut left)? {
-        return Ok(Run {
+    match instantiate(alloc, graph, &mut store, &mut left) {
+        Ok(None) => run_items(alloc, graph, script, &mut store, &mut left),
+        Ok(Some(end)) => Ok(Run {
             labels: Seq::new(alloc),
             end,
-        });
+        }),
+        Err(fault) => Err(fault),
     }
-    run_items(alloc, graph, script, &mut store, &mut left)
 }
 
 /// Runs the items of a script behind the instantiation, as `run_script` does.

@@ -1,7 +1,7 @@
 //! The text of a run.
 
-ghost use Rattle.std.specs.Prelude.{◌≡◌, IfOk};
-ghost use Rattle.trace_show.specs.LabelText.{trace_text};
+ghost use Rattle.std.specs.Prelude.{◌≡◌, ◌++◌, IfOk, OnOk};
+ghost use Rattle.trace_show.specs.LabelText.{label_text, trace_text};
 ghost use Rattle.abi_machine.specs.Run.{end_label, lines_of};
 
 use crate::running::Run;
@@ -44,6 +44,13 @@ pub fn trace_text(alloc: Global, run: &Run) -> Result<Bytes, Memory>
 {
     let mut text = Vec::new(alloc);
     push_all::<Lines>(alloc, run.labels.as_slice(), &mut text)?;
-    Lines::push(alloc, &end_label(run.end), &mut text)?;
+    push_end(alloc, run.end, &mut text)?;
     Ok(Seq::from_vec(text))
+}
+
+/// Appends the last line of a run that ends so.
+fn push_end(alloc: Global, end: RunEnd, to: &mut Vec<u8>) -> Result<(), Memory>
+    ensures { OnOk result (to.new.items ≡ to.old.items ++ label_text (end_label end)) }
+{
+    Lines::push(alloc, &end_label(end), to)
 }
