@@ -6,8 +6,8 @@
 //! that is refused, with the place and the reason. Only want of memory keeps it from either.
 //!
 //! - `linking`: from a component to its graph, item by item
-//! - `core_instances`, `core_aliases`, `lifts`, `lowers`, `aliases`, `types`, `instances`, `imports` and `exports`: what each kind of
-//!   item makes
+//! - `core_instances`, `core_aliases`, `lifts`, `lowers`, `aliases`, `types`, `instances`, `imports` and `exports`: what each kind
+//!   of item makes
 //! - `named` and `seen`: definitions under names, and definitions as they are asked for
 //! - `linker`, of `scope`: linking as it stands, and the index spaces of a component instance
 //! - `graphs`, of `funcs` and `canons`: the graph of what is linked

@@ -5,11 +5,12 @@ ghost use Rattle.std.specs.List.{AllByRecursion};
 ghost use Rattle.ca_base.specs.Faults.{IfFault};
 ghost use Rattle.ca_types.specs.declared.exports.Export.{Export};
 ghost use Rattle.comp_graph.specs.Graph.{instance_limit, core_instance_limit};
+ghost use Rattle.comp_tree.specs.declared.items.Item.TheOpen.{Item-F};
 ghost use Rattle.comp_linking.specs.Definitions.{Exports, AComponent, AModule};
 ghost use Rattle.comp_linking.specs.Spaces.{Spaces, Linking};
 ghost use Rattle.comp_linking.specs.Linked.{begun, with_instance, IsLinked, IsLinkRefused};
 ghost use Rattle.comp_linking.specs.Shallow.{HasShallowTypes};
-ghost use Rattle.comp_linking.specs.Computed.{Outcome, after, one_more, item_outcome, run_within, step};
+ghost use Rattle.comp_linking.specs.Computed.{Outcome, after, one_more, outcome_case, item_outcome, run_within, step};
 ghost use Rattle.instance_tables.specs.References.{IsInstance};
 ghost use Rattle.comp_link.specs.State.{world_of, IsState, IsAt, IsMade, IsLive, StayLive, ended};
 ghost use Rattle.comp_link.specs.State as state;
@@ -72,6 +73,23 @@ fn link_component<'a>(
     Ok(())
 }
 
+/// Links a canonical function.
+fn link_canon(linker: &mut Linker<'_>, n: usize, canon: &Canon) -> Result<(), ItemError>
+    requires { n < length linker.old.scopes.items }
+    ensures made { (bases : List Exports) (l : Linking) (s : Spaces) → IsAt bases linker.old n l s → IsTold (λ _ outcome. IsMade linker.new outcome) result (outcome_case l n s (Item-F.Canon canon.now)) }
+    ensures scopes { OnOk result (length linker.new.scopes.items ≡ length linker.old.scopes.items) }
+    ensures live { OnOk result (ended linker.new ≡ ended linker.old) }
+{
+    match canon {
+        Canon::Lift {
+            core_func,
+            options,
+            func_type,
+        } => link_lift(linker, n, *core_func, options.as_slice(), *func_type),
+        Canon::Lower { func, options } => link_lower(linker, n, *func, options.as_slice()),
+    }
+}
+
 /// What comes next where an item made what it makes.
 fn next<'a>(made: Result<(), ItemError>) -> Result<Next<'a>, ItemError>
     ensures { result ≡ next_of made }
@@ -101,16 +119,7 @@ fn link_item<'a>(
         Item::Instance(instance) => link_instance(alloc, linker, n, instance),
         Item::Alias(alias) => next(link_alias(alloc, linker, n, alias)),
         Item::Type(def_type) => next(link_type(alloc, linker, n, def_type)),
-        Item::Canon(
-            Canon::Lift {
-                core_func,
-                options,
-                func_type,
-            },
-        ) => next(link_lift(linker, n, *core_func, options.as_slice(), *func_type)),
-        Item::Canon(Canon::Lower { func, options }) => {
-            next(link_lower(linker, n, *func, options.as_slice()))
-        }
+        Item::Canon(canon) => next(link_canon(linker, n, canon)),
         Item::Import(import) => next(link_import(alloc, linker, n, import)),
         Item::Export(export) => next(link_export(alloc, linker, n, export)),
     }

@@ -1,7 +1,7 @@
 use Rattle.std.proofs.Common.{◌≡◌, refl}
 use Rattle.comp_tree.specs.declared.items.Item.{out-Item}
 use Rattle.comp_tree.specs.declared.items.Item.TheOpen.{Item-F}
-use Rattle.comp_tree.specs.declared.items.Item.TheViews.{outs-CoreModule, outs-CoreInstance, outs-Component, outs-Alias, outs-Type, outs-Import, outs-Export}
+use Rattle.comp_tree.specs.declared.items.Item.TheViews.{outs-CoreModule, outs-CoreInstance, outs-Component, outs-Alias, outs-Type, outs-Canon, outs-Import, outs-Export}
 use Rattle.comp_link.proofs.Passing.{item_told}
 use Rattle.comp_link.proofs.linking.link_item.Goals as goal
 
@@ -29,6 +29,11 @@ pub returns-in-Type-clause-made : goal.returns-in-Type-clause-made
 returns-in-Type-clause-made c = λ bases l s at.
     let is : out-Item c.args.item.now ≡ Item-F.Type c.in-Type.def_type = rw c.in-Type.is (simp outs-Type refl) in
     item_told c.link_type.new.linker l c.args.n s c.args.item.now (Item-F.Type c.in-Type.def_type) is c.link_type.result c.next-in-Type.result c.next-in-Type.ensures (c.link_type.ensures.made bases l s at)
+
+pub returns-in-Canon-clause-made : goal.returns-in-Canon-clause-made
+returns-in-Canon-clause-made c = λ bases l s at.
+    let is : out-Item c.args.item.now ≡ Item-F.Canon c.in-Canon.canon = rw c.in-Canon.is (simp outs-Canon refl) in
+    item_told c.link_canon.new.linker l c.args.n s c.args.item.now (Item-F.Canon c.in-Canon.canon) is c.link_canon.result c.next-in-Canon.result c.next-in-Canon.ensures (c.link_canon.ensures.made bases l s at)
 
 pub returns-in-Import-clause-made : goal.returns-in-Import-clause-made
 returns-in-Import-clause-made c = λ bases l s at.
