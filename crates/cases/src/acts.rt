@@ -9,15 +9,17 @@ pub trait Acts {
     fn act(&mut self, alloc: Global, name: &str, rest: &str, text: &mut String) -> Result<(), Fail>;
 }
 
-/// Does what words say, and writes their answers, with a space before each.
-fn write_acts<S: Acts>(
+/// Does what words say, and writes their answers, with a space between two.
+pub fn write_acts<S: Acts>(
     alloc: Global,
     state: &mut S,
     words: &str,
     text: &mut String,
 ) -> Result<(), Fail> {
-    for word in words.split(' ') {
-        text.push(' ')?;
+    for (place, word) in words.split(' ').enumerate() {
+        if place > 0 {
+            text.push(' ')?;
+        }
         let (name, rest) = word.split_once(':').unwrap_or((word, ""));
         state.act(alloc, name, rest, text)?;
     }
@@ -26,7 +28,7 @@ fn write_acts<S: Acts>(
 
 /// The answers to words, with a space before each.
 pub fn acted<S: Acts + Drop>(alloc: Global, mut state: S, words: &str) -> Result<String, Fail> {
-    let mut text = String::new(alloc);
-    write_acts(alloc, &mut state, words, &mut text)?;
-    Ok(text)
+    let mut answers = String::new(alloc);
+    write_acts(alloc, &mut state, words, &mut answers)?;
+    Ok(format!(in alloc; " {answers}")?)
 }

@@ -12,10 +12,10 @@ mod steps;
 mod table;
 mod tables;
 
-pub use acts::{Acts, acted};
+pub use acts::{Acts, acted, write_acts};
 pub use bytes::{bytes_of, bytes_of_lines};
 pub use steps::{Steps, check_steps};
 pub use table::{
     Answers, Holds, check_all_lines, check_all_paragraphs, check_lines, check_paragraphs,
 };
-pub use tables::{Tables, paragraphs_told, run_tables};
+pub use tables::{Tables, lines_told, paragraphs_told, run_tables, steps_told};

@@ -68,7 +68,11 @@ fn add_paragraph<S: Steps + Drop>(
 }
 
 /// Does what paragraphs say, and answers how many lines they have.
-fn compare<S: Steps + Drop>(alloc: Global, text: &str, wrong: &mut String) -> Result<usize, Fail> {
+pub(crate) fn compare<S: Steps + Drop>(
+    alloc: Global,
+    text: &str,
+    wrong: &mut String,
+) -> Result<usize, Fail> {
     let mut there = 0usize;
     for paragraph in text.trim_matches('\n').split("\n\n") {
         there = there.saturating_add(add_paragraph::<S>(alloc, paragraph, wrong)?);

@@ -4,6 +4,7 @@
 //! the program prints of a table are the cases whose answers are others than wanted, each with its answer, and then how many
 //! cases it has. A table that is not there ends the program with a failure.
 
+use crate::steps::{self, Steps};
 use crate::table::{Answers, compare};
 use std::alloc::Global;
 use std::fmt::Write;
@@ -16,12 +17,36 @@ pub trait Tables {
     fn told(alloc: Global, kind: &str, text: &str) -> Result<String, Fail>;
 }
 
+/// The cases of a text whose answers are others than wanted, each with its answer, and then how many cases there are.
+fn cases_told<T: Answers>(
+    alloc: Global,
+    text: &str,
+    between: &str,
+    before: &str,
+) -> Result<String, Fail> {
+    let mut told = String::new(alloc);
+    let there = compare::<T>(alloc, text, between, before, &mut told)?;
+    write!(told, "{there} cases")?;
+    Ok(told)
+}
+
+/// What is told of a table whose cases are lines, each with its answer behind the last of such a mark.
+pub fn lines_told<T: Answers>(alloc: Global, text: &str, before: &str) -> Result<String, Fail> {
+    cases_told::<T>(alloc, text, "\n", before)
+}
+
 /// What is told of a table whose cases are paragraphs, each with its answer behind a line `is`: the cases whose answers are others
 /// than wanted, each with its answer, and then how many cases there are.
 pub fn paragraphs_told<T: Answers>(alloc: Global, text: &str) -> Result<String, Fail> {
+    cases_told::<T>(alloc, text, "\n\n", "\nis")
+}
+
+/// What is told of a table of paragraphs whose lines change something, one after the other: the lines of which something else comes
+/// than what stands behind their last ` = `, each with what comes of it, and then how many lines there are.
+pub fn steps_told<S: Steps + Drop>(alloc: Global, text: &str) -> Result<String, Fail> {
     let mut told = String::new(alloc);
-    let there = compare::<T>(alloc, text, "\n\n", "\nis", &mut told)?;
-    write!(told, "{there} cases")?;
+    let there = steps::compare::<S>(alloc, text, &mut told)?;
+    write!(told, "{there} steps")?;
     Ok(told)
 }
 

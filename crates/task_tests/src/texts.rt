@@ -1,28 +1,17 @@
-//! Numbers that look random, and numbers in texts.
+//! Numbers and values in texts.
 
 use std::alloc::{AllocError, Global};
-use std::fmt::Write;
+use std::fmt::{Debug, Write};
 
-/// A linear congruential generator.
-#[derive(Clone, Copy)]
-pub struct Dice {
-    state: u32,
+/// Writes a value.
+pub fn write_value<T: Debug + Drop>(text: &mut String, value: T) -> Result<(), AllocError> {
+    write!(text, "{value:?}")
 }
 
-impl Dice {
-    /// The numbers from this seed on.
-    pub fn new(seed: u32) -> Dice {
-        Dice { state: seed }
-    }
-
-    /// The next number below a bound that isn't 0.
-    pub fn below(&mut self, bound: u32) -> u32 {
-        self.state = self
-            .state
-            .wrapping_mul(1_664_525)
-            .wrapping_add(1_013_904_223);
-        (self.state >> 12).checked_rem(bound).unwrap_or(0)
-    }
+/// Writes a text, and a number behind it.
+pub fn write_behind(text: &mut String, front: &str, number: u32) -> Result<(), AllocError> {
+    text.push_str(front)?;
+    write_value(text, number)
 }
 
 /// The numbers of a text, with a comma between them.
@@ -53,9 +42,4 @@ pub fn write_numbers(text: &mut String, numbers: &[u32]) -> Result<(), AllocErro
         write!(text, "{number}")?;
     }
     Ok(())
-}
-
-/// Whether numbers are the same, in one order.
-pub fn are_alike(first: &[u32], second: &[u32]) -> bool {
-    first == second
 }

@@ -1,30 +1,14 @@
 //! Reads, writes, cancels and drops of futures.
+//!
+//! What happens, then what is answered. `o` is the offer that stands, as its side, its task, its length and how much is copied.
+//! A payload is 0 for completed, 1 for dropped, 2 for cancelled.
 
 use crate::act::{Act, Answer, act_of, write_answer, write_offer};
-use cases::{Acts, Answers, acted, check_lines};
+use cases::{Acts, Answers, acted};
 use future_ends::{Meet, Rendezvous};
 use std::alloc::{AllocError, Global};
 use std::test::Fail;
 use stream_ends::{By, Side};
-
-/// A line a case: what happens, then what is answered. `o` is the offer that stands, as its side, its task, its length and
-/// how much is copied. A payload is 0 for completed, 1 for dropped, 2 for cancelled.
-const CASES: &str = "
-xw = no
-w1 xr dw xw = stands gone 1 gone
-xr w1 w1 xw = gone 1 no gone
-w1 r1 dw xw xr = stands 0 0 gone gone
-w1 r1 r1 w1 dw w1 = stands 0 no no 0 no
-w1 r1 xr dw xw = stands 0 gone 0 gone
-r1 w1 xw dr r1 = stands 0 gone 0 no
-r1 cr r1 w1 dr = stands 2 stands 0 0
-r1 w1 cr r1 = stands 0 0 no
-w1 cw xw w1 xr cw xw = stands 2 no stands gone 1 gone
-r1 dr xr w1 = stands no no 0
-w1 xr xr dw xw xw = stands gone no 1 gone no
-o r1 o = none stands r/1/1/0
-w1 xr o dw o = stands gone w/1/1/0 1 none
-";
 
 /// Lets an act happen where it may. A call has no length of its own.
 fn happen(ends: &mut Rendezvous, act: Act) -> Answer {
@@ -113,16 +97,11 @@ impl Acts for Ends {
 }
 
 /// The ends of new futures.
-struct Futures;
+pub(crate) struct Futures;
 
 impl Answers for Futures {
     fn answer(alloc: Global, given: &str) -> Result<String, Fail> {
         let ends = Rendezvous::new();
         acted(alloc, Ends { ends }, given)
     }
-}
-
-#[test]
-fn futures_meet(rt: HostRuntime) -> Result<(), Fail> {
-    check_lines::<Futures>(rt.alloc(), CASES, " =", 14)
 }

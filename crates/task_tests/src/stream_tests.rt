@@ -1,38 +1,14 @@
 //! Reads, writes, cancels and drops of streams.
+//!
+//! What happens, then what is answered. `o` is the offer that stands, as its side, its task, its length and how much is copied;
+//! `fr` and `fw` ask whether an end is done. A payload is 16 times the elements copied, plus 0 for completed, 1 for dropped and
+//! 2 for cancelled.
 
 use crate::act::{Act, Answer, act_of, write_answer, write_offer};
-use cases::{Acts, Answers, acted, check_lines};
+use cases::{Acts, Answers, acted};
 use std::alloc::{AllocError, Global};
 use std::test::Fail;
 use stream_ends::{By, Meet, Rendezvous, Side};
-
-/// A line a case: what happens, then what is answered. `o` is the offer that stands, as its side, its task, its length and
-/// how much is copied; `fr` and `fw` ask whether an end is done. A payload is 16 times the elements copied, plus 0 for
-/// completed, 1 for dropped and 2 for cancelled.
-const CASES: &str = "
-w5 r3 r3 r3 dw = stands 48 32 stands 80
-w0 r4 dw = stands stands 0
-r0 w0 dr cr = stands 0 no 2
-r0 w3 dr dw = stands stands 0 no
-w0 r0 dw dr = stands stands 0 no
-w4 r0 dw = stands 0 no
-r3 cr = stands 2
-r3 w2 cr = stands 32 32
-r3 w2 w1 dr r1 = stands 32 16 48 stands
-w5 r2 xr dw w1 = stands 32 gone 33 no
-w5 xr dw w1 xw = stands gone 1 no gone
-r5 xw cr r1 = stands gone 1 no
-xr w2 w2 xw = gone 1 no gone
-w2 r2 r1 dw xr dr = stands 32 stands 32 no no
-w2 r2 r1 xw dr = stands 32 stands no no
-w2 r2 r1 dw xw dr xr = stands 32 stands 32 gone 1 gone
-w2 w1 xw dw = stands no no no
-w5 r2 cw w1 r4 dw = stands 32 32 stands 16 16
-w5 xr xr dw xr = stands gone no 1 no
-w5 r2 xr cw w1 = stands 32 gone 33 no
-o w5 r2 o fw = none stands 32 w/1/5/2 no
-w5 r2 xr o dw o = stands 32 gone w/1/5/2 33 none
-";
 
 /// Lets an act happen where it may.
 pub fn happen(ends: &mut Rendezvous, act: Act) -> Answer {
@@ -118,16 +94,11 @@ impl Acts for Ends {
 }
 
 /// The ends of new streams.
-struct Streams;
+pub(crate) struct Streams;
 
 impl Answers for Streams {
     fn answer(alloc: Global, given: &str) -> Result<String, Fail> {
         let ends = Rendezvous::new();
         acted(alloc, Ends { ends }, given)
     }
-}
-
-#[test]
-fn streams_meet(rt: HostRuntime) -> Result<(), Fail> {
-    check_lines::<Streams>(rt.alloc(), CASES, " =", 22)
 }

@@ -1,32 +1,17 @@
 //! Tables of handles.
+//!
+//! What is done to an empty table, then what is answered. The entries that are added are 100, 101, and so on; `put:7` adds 7.
+//! `fill` adds 1 to 65535, each at the index of its number.
 
-use cases::{Acts, Answers, acted, check_lines};
+use crate::texts::{number_of, write_behind, write_value};
+use cases::{Acts, Answers, Steps, acted, write_acts};
 use handle_table::{AddError, Table};
 use std::alloc::{AllocError, Global};
-use std::fmt::Write;
 use std::test::Fail;
-
-/// A line a case: what is done to an empty table, then what is answered. The entries that are added are 100, 101, and so
-/// on. `fill` adds 1 to 65535, each at the index of its number.
-const CASES: &str = "
-next len add next len = 1 0 1 2 1
-add add remove:1 remove:2 add add add = 1 2 100 101 2 1 3
-add add remove:2 remove:1 add add add = 1 2 101 100 1 2 3
-add add add remove:2 add remove:2 remove:3 add = 1 2 3 101 2 103 102 3
-add remove:1 add remove:1 add = 1 100 1 101 1
-remove:1 remove:0 get:0 get:1 = none none none none
-add get:1 get:2 remove:1 get:1 remove:1 = 1 100 none 100 none none
-add add add remove:1 remove:3 remove:2 next add next add next add next = 1 2 3 100 102 101 2 2 3 3 1 1 4
-add write:1 get:1 remove:1 write:1 add get:1 = 1 ok 7 7 none 1 101
-add add remove:1 len reserved len reserved len = 1 2 100 1 1 2 3 3
-reserved reserved remove:1 remove:2 next reserved = 1 2 100 101 2 2
-add get:4294967295 remove:4294967295 len = 1 none none 1
-fill len next add reserved get:65535 remove:400 add add get:400 = ok 65535 65536 full 100 full 101 65535 400 400 full 103 102
-";
 
 /// A table and the next entry.
 #[derive(Drop)]
-struct Run {
+pub(crate) struct Run {
     table: Table<u32>,
     entry: u32,
 }
@@ -34,16 +19,16 @@ struct Run {
 /// Writes what came of an add.
 fn write_added(text: &mut String, added: Result<u32, AddError<u32>>) -> Result<(), AllocError> {
     match added {
-        Ok(index) => write!(text, "{index}"),
-        Err(AddError::Full(entry)) => write!(text, "full {entry}"),
-        Err(AddError::Memory(entry)) => write!(text, "memory {entry}"),
+        Ok(index) => write_value(text, index),
+        Err(AddError::Full(entry)) => write_behind(text, "full ", entry),
+        Err(AddError::Memory(entry)) => write_behind(text, "memory ", entry),
     }
 }
 
 /// Writes an entry.
 fn write_entry(text: &mut String, entry: Option<u32>) -> Result<(), AllocError> {
     match entry {
-        Some(entry) => write!(text, "{entry}"),
+        Some(entry) => write_value(text, entry),
         None => text.push_str("none"),
     }
 }
@@ -98,13 +83,33 @@ impl Run {
         write_added(text, added)
     }
 
-    /// Does what a word says at an index.
+    /// Does what a word says of an index, or of an entry.
     fn act_at(&mut self, text: &mut String, word: &str, index: u32) -> Result<(), AllocError> {
         match word {
+            "put" => write_added(text, self.table.add(index)),
             "remove" => write_entry(text, self.table.remove(index)),
             "get" => write_entry(text, self.table.get(index).copied()),
             "write" => text.push_str(write_over(&mut self.table, index)),
             _ => text.push_str("no such word"),
+        }
+    }
+}
+
+impl Run {
+    /// Writes the answer to a word.
+    fn write_answer(
+        &mut self,
+        name: &str,
+        rest: &str,
+        text: &mut String,
+    ) -> Result<(), AllocError> {
+        match name {
+            "next" => write_value(text, self.table.next()),
+            "len" => write_value(text, self.table.len()),
+            "fill" => text.push_str(fill(&mut self.table)),
+            "add" => self.add(text, false),
+            "reserved" => self.add(text, true),
+            _ => self.act_at(text, name, number_of(rest)),
         }
     }
 }
@@ -117,29 +122,28 @@ impl Acts for Run {
         rest: &str,
         text: &mut String,
     ) -> Result<(), Fail> {
-        match name {
-            "next" => write!(text, "{}", self.table.next())?,
-            "len" => write!(text, "{}", self.table.len())?,
-            "fill" => text.push_str(fill(&mut self.table))?,
-            "add" => self.add(text, false)?,
-            "reserved" => self.add(text, true)?,
-            _ => self.act_at(text, name, rest.parse::<u32>()?)?,
-        }
+        self.write_answer(name, rest, text)?;
         Ok(())
     }
 }
 
-/// Empty tables.
-struct Tables;
+impl Steps for Run {
+    fn step(&mut self, alloc: Global, line: &str, text: &mut String) -> Result<(), Fail> {
+        write_acts(alloc, self, line, text)
+    }
 
-impl Answers for Tables {
+    fn begin(alloc: Global, _title: &str) -> Result<Run, Fail> {
+        let table = Table::new(alloc);
+        Ok(Run { table, entry: 100 })
+    }
+}
+
+/// Empty tables.
+pub(crate) struct Indices;
+
+impl Answers for Indices {
     fn answer(alloc: Global, given: &str) -> Result<String, Fail> {
         let table = Table::new(alloc);
         acted(alloc, Run { table, entry: 100 }, given)
     }
-}
-
-#[test]
-fn indices_are_given_and_given_again(rt: HostRuntime) -> Result<(), Fail> {
-    check_lines::<Tables>(rt.alloc(), CASES, " =", 13)
 }
