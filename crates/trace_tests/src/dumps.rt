@@ -2,34 +2,11 @@
 
 use crate::labels::{number_at, numbers_of, tasks};
 use ca_base::Seq;
-use cases::{Answers, bytes_of, check_paragraphs};
+use cases::{Answers, bytes_of};
 use std::alloc::Global;
 use std::str::from_utf8;
 use std::test::Fail;
 use trace_show::{Channel, Dump, EndState, Entry, LiveEntry, Side, dump_text};
-
-/// A paragraph the tables of instances, a line each, and what is dumped of them, in angle brackets. An entry is its index, its
-/// kind and its numbers, with a semicolon behind it: a handle has its resource, its representation, for a borrow its task, and
-/// its lends; a subtask has its task and its state, a set its members, and an end the number of its stream or future.
-const TABLES: &str = "
-1 own 1 7 0;2 borrow 1 4294967295 3 2;3 subtask 2 1;4 set 6 3;5 set;
-6 stream-readable-idle 1;7 stream-writable-copying 1;8 future-readable-done 2;9 future-writable-idle 2;
--
-is
-<instance I1
-entry 1 own R1 7 0
-entry 2 borrow R1 4294967295 T3 2
-entry 3 subtask T2 1
-entry 4 set (6, 3)
-entry 5 set ()
-instance I2
-entry 6 stream-readable S1 idle
-entry 7 stream-writable S1 copying
-entry 8 future-readable F2 done
-entry 9 future-writable F2 idle
-instance I3
->
-";
 
 /// How an end stands.
 fn state_of(word: &str) -> Option<EndState> {
@@ -140,7 +117,7 @@ fn dump_told(alloc: Global, dump: &Dump) -> Result<String, Fail> {
 }
 
 /// What is left in tables alone.
-struct InTables;
+pub struct InTables;
 
 impl Answers for InTables {
     fn answer(alloc: Global, given: &str) -> Result<String, Fail> {
@@ -151,29 +128,6 @@ impl Answers for InTables {
         dump_told(alloc, &dump)
     }
 }
-
-#[test]
-fn tables_are_dumped(rt: HostRuntime) -> Result<(), Fail> {
-    check_paragraphs::<InTables>(rt.alloc(), TABLES, 1)
-}
-
-/// A paragraph the memories behind an instance without entries, a line each, and what is dumped of them, in angle brackets. A
-/// memory is words of a place and the bytes that stand there, in hexadecimal; up to each place stand zeros, and the last place
-/// is the end.
-const MEMORIES: &str = "
-32:68c3a96c6c6f 65536:
-0:
-31:ff 131040:01 131072:
-is
-<instance I1
-memory M1 1
-00000020 68c3a96c6c6f0000000000000000000000000000000000000000000000000000
-memory M2 0
-memory M3 2
-00000000 00000000000000000000000000000000000000000000000000000000000000ff
-0001ffe0 0100000000000000000000000000000000000000000000000000000000000000
->
-";
 
 /// Puts the bytes of a word behind zeros up to its place.
 fn push_part(alloc: Global, memory: &mut Vec<u8>, word: &str) -> Result<(), Fail> {
@@ -216,16 +170,11 @@ fn memories_told(alloc: Global, kept: &[Vec<u8>]) -> Result<String, Fail> {
 }
 
 /// What is left in memories alone.
-struct InMemories;
+pub struct InMemories;
 
 impl Answers for InMemories {
     fn answer(alloc: Global, given: &str) -> Result<String, Fail> {
         let kept = memories_of(alloc, given)?;
         memories_told(alloc, &kept)
     }
-}
-
-#[test]
-fn memories_are_dumped(rt: HostRuntime) -> Result<(), Fail> {
-    check_paragraphs::<InMemories>(rt.alloc(), MEMORIES, 1)
 }

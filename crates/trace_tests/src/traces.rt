@@ -6,7 +6,7 @@ ghost use Rattle.trace_show.specs.LabelText.{label_text};
 
 use ca_base::MemoryOr;
 use ca_io::{Failed, MemSink, Sink};
-use cases::{Answers, check_lines};
+use cases::Answers;
 use std::alloc::{AllocError, Global};
 use std::str::from_utf8;
 use std::test::Fail;
@@ -55,17 +55,6 @@ fn run_to<K: Sink>(alloc: Global, trace: &mut Trace<'_, K>) -> Result<(), Memory
     flush(trace)
 }
 
-/// A line a sink: what it is written, how many bytes it takes in one write, the number of the write that fails (0: none does),
-/// and how the last call ends, with what the sink took.
-const SINKS: &str = "
-fuel 2 0 | Ok(()) fuel;
-run 1 0 | Ok(()) enter T1;exit T1;done;
-run 1 2 | Err(Fault(Failed)) e
-run 3 2 | Err(Fault(Failed)) ent
-run 3 1 | Err(Fault(Failed))
-run 100 2 | Ok(()) enter T1;exit T1;done;
-";
-
 /// Writes a run, or the line of the end for want of fuel.
 fn write_to<K: Sink>(alloc: Global, what: &str, sink: &mut K) -> Result<(), MemoryOr<Failed>> {
     if what == "fuel" {
@@ -93,7 +82,7 @@ fn told(alloc: Global, what: &str, mut sink: MemSink) -> Result<String, Fail> {
 }
 
 /// Sinks to which traces go.
-struct SinksTold;
+pub struct SinksTold;
 
 impl Answers for SinksTold {
     fn answer(alloc: Global, given: &str) -> Result<String, Fail> {
@@ -103,21 +92,6 @@ impl Answers for SinksTold {
         told(alloc, what, sink)
     }
 }
-
-#[test]
-fn sinks_take_what_is_flushed(rt: HostRuntime) -> Result<(), Fail> {
-    check_lines::<SinksTold>(rt.alloc(), SINKS, " | ", 6)
-}
-
-/// A line how many lines of 9 bytes each are put to a trace, and the number of the write that fails (0: none does). Behind it
-/// stand the room of a trace, how many lines are put before a put fails, how the last put ends, and how many bytes the sink
-/// took before any flush.
-const PUTS: &str = "
-7281 0 = room 65536, 7281 put, Ok(()), 0 taken
-7282 0 = room 65536, 7282 put, Ok(()), 65538 taken
-7283 0 = room 65536, 7283 put, Ok(()), 65538 taken
-8000 1 = room 65536, 7281 put, Err(Fault(Failed)), 0 taken
-";
 
 /// Puts so many lines, or those before the first one of which the put fails, and answers how many these are and how the last
 /// put ends.
@@ -153,18 +127,9 @@ fn puts_told(alloc: Global, lines: u32, mut sink: MemSink) -> Result<String, Fai
     Ok(counts_told(alloc, put, last, sink.taken().len())?)
 }
 
-/// Long traces.
-struct LongTraces;
-
-impl Answers for LongTraces {
-    fn answer(alloc: Global, given: &str) -> Result<String, Fail> {
-        let (lines, failing) = given.split_once(' ').ok_or("no number of a write")?;
-        let sink = sink_of(alloc, 200_000, 200_000, failing.parse()?)?;
-        puts_told(alloc, lines.parse()?, sink)
-    }
-}
-
-#[test]
-fn long_traces_go_out_as_they_are_put(rt: HostRuntime) -> Result<(), Fail> {
-    check_lines::<LongTraces>(rt.alloc(), PUTS, " = ", 4)
+/// How long traces go out: how many lines of 9 bytes each are put, and the number of the write that fails.
+pub fn put_answer(alloc: Global, given: &str) -> Result<String, Fail> {
+    let (lines, failing) = given.split_once(' ').ok_or("no number of a write")?;
+    let sink = sink_of(alloc, 200_000, 200_000, failing.parse()?)?;
+    puts_told(alloc, lines.parse()?, sink)
 }

@@ -1,0 +1,73 @@
+//! The answers to lines.
+
+use crate::kinds::{Kind, lowers_of};
+use crate::laid::{aligned_told, label_told, layout_told, parts_told, size_told};
+use crate::large_texts::texts_told;
+use crate::lifting::loaded;
+use crate::loading::lift_told;
+use crate::long_lists::passed_told;
+use crate::making::{Made, put_made};
+use crate::storing::lower_told;
+use laid_types::{LaidType, LaidTypes};
+use std::alloc::Global;
+use std::test::Fail;
+use value_lift::LiftOf;
+
+/// What is told of a type in a table of so many, with what else a line has.
+fn type_answer(
+    alloc: Global,
+    kind: Kind,
+    count: usize,
+    t: &LaidType<'_>,
+    rest: &str,
+) -> Result<String, Fail> {
+    match kind {
+        Kind::Lifted(lifts) => lift_told(alloc, lifts, t, rest),
+        Kind::Lowered(lowers) => lower_told(alloc, lowers, t, rest),
+        Kind::Texts => texts_told(alloc, t, rest),
+        Kind::Layout => layout_told(alloc, t),
+        Kind::Parts => parts_told(alloc, t),
+        Kind::Label => label_told(alloc, t, rest.trim()),
+        Kind::Doubled => size_told(alloc, count, t),
+        Kind::DoubledValue => loaded(alloc, t, &[1, 2, 3, 4], 0, LiftOf::Value),
+        Kind::Passed => passed_told(alloc, t, rest),
+        Kind::Aligned | Kind::Large => Err(Fail::new("no type")),
+    }
+}
+
+/// What is told of the type of words, with what else a line has.
+fn words_answer(
+    alloc: Global,
+    kind: Kind,
+    how: Made,
+    words: &str,
+    rest: &str,
+) -> Result<String, Fail> {
+    let mut types = LaidTypes::new(alloc);
+    let number = put_made(alloc, &mut types, how, words)?;
+    match types.get(number) {
+        Some(t) => type_answer(alloc, kind, types.len(), &t, rest),
+        None => Err(Fail::new("no type")),
+    }
+}
+
+/// The same of a type of layers, behind what is done with it.
+fn large_answer(alloc: Global, line: &str) -> Result<String, Fail> {
+    let (what, given) = line.split_once('|').ok_or("no type")?;
+    let (words, rest) = given.split_once('|').ok_or("no values")?;
+    let lowers = lowers_of(what.trim()).ok_or("nothing done")?;
+    words_answer(alloc, Kind::Lowered(lowers), Made::OfLayers, words, rest)
+}
+
+/// The answer to a line of a kind of tables.
+pub(crate) fn line_told(alloc: Global, kind: Kind, line: &str) -> Result<String, Fail> {
+    let (words, rest) = line.split_once('|').unwrap_or((line, ""));
+    match kind {
+        Kind::Aligned => aligned_told(alloc, line),
+        Kind::Large => large_answer(alloc, line),
+        Kind::Doubled | Kind::DoubledValue => {
+            words_answer(alloc, kind, Made::Doubled, words, rest)
+        }
+        _ => words_answer(alloc, kind, Made::OfWords, words, rest),
+    }
+}
