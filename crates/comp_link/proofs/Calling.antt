@@ -11,7 +11,6 @@ use Rattle.std.proofs.lemmas.Option.{get_or_from_slice_get}
 use Rattle.std.proofs.lemmas.Slice.Zip.{AllZip-long}
 use Rattle.comp_linking.specs.Definitions.{Lifted, Definition, AFunc, AType, AComponent, AnInstance, AModule, Exports, EmptyInstance, WithExport}
 use Rattle.comp_graph.specs.Graph.{Graph}
-use Rattle.comp_graph.specs.declared.graph.CanonFunc.{CanonFunc}
 use Rattle.comp_linking.specs.Spaces.{Spaces, Linking}
 use Rattle.comp_linking.specs.Linked.{Callable, funcs_behind, called, callables, export_of, lift_of, exports_or, exports_at, graph_of}
 use Rattle.type_tables.specs.Table.{Table}
@@ -24,7 +23,7 @@ use Rattle.instance_tables.specs.Instances.{AreInstances}
 use Rattle.comp_link.specs.declared.scope.Scope.{Scope}
 use Rattle.comp_link.specs.declared.linker.Linker.{Linker}
 use Rattle.comp_link.specs.State as state
-use Rattle.comp_link.specs.State.{world_of, IsScope, IsCanon, IsLive, IsAt}
+use Rattle.comp_link.specs.State.{world_of, IsScope, IsLive, IsAt}
 use Rattle.comp_link.specs.declared.funcs.FuncLists.{FuncLists}
 use Rattle.comp_link.specs.Called.{func_of, funcs_of, named_behind, func_entry, func_entries, IsFuncEntry, AreFuncs, instance_cmp, listed_at, AreLists}
 use Rattle.comp_link.proofs.Passing.{as_many, spaces_at}
@@ -169,21 +168,20 @@ called_func t w number ref r (name, d) funcs old is h told =
     let p = is_func t w ref d r is h.1 in
     subst (λ (d : Definition). funcs ≡ old ++ called (name, d)) (sym p.1) (told (name, p.0) (h.0, p.2))
 
--- The graph of what is linked.
-pub graph_told : (k : Linker) (l : Linking) (funcs : List Callable) (g : Graph) → 0 < length k.scopes.items → IsLive k 0 → state.Stands k l → (scope : Scope)
+-- The graph of what is linked: the functions of the root that can be called, and what else it has.
+pub root_called : (k : Linker) (l : Linking) (funcs : List Callable) → 0 < length k.scopes.items → IsLive k 0 → state.Stands k l → (scope : Scope)
     → ((bases : List Exports) (l : Linking) (s : Spaces) → IsAt bases k 0 l s → IsScope k.types (world_of bases k) scope s)
     → ((w : World) (given : Exports) → AreInstances k.types w k.instances → IsListing k.types w scope.exports given → funcs ≡ callables given)
-    → g.plan ≡ k.plan.items → g.instance_count ≡ length k.scopes.items → g.cores ≡ k.cores.items
-    → ((canons : List CanonFunc) → AllZip (IsCanon k.types) k.canons.items canons → g.canons ≡ canons)
-    → g.exports ≡ map export_of funcs → g.lifts ≡ map lift_of funcs → g ≡ graph_of l
-graph_told k l funcs g root live (bases, h) scope is called plan count cores canons exports lifts =
+    → funcs ≡ callables (exports_at l 0)
+root_called k l funcs root live (bases, h) scope is called =
     let s = spaces_at bases k l 0 h root live in
     let here : exports_at l 0 ≡ s.0.exports = ap (λ (o : Option Spaces). exports_or o) s.1.there in
-    let are : funcs ≡ callables (exports_at l 0) = called (world_of bases k) s.0.exports h.instances (is bases l s.0 s.1).exports ∙ ap callables (sym here) in
+    called (world_of bases k) s.0.exports h.instances (is bases l s.0 s.1).exports ∙ ap callables (sym here)
+
+pub graph_told : (k : Linker) (l : Linking) (g : Graph) → state.Stands k l → g.plan ≡ k.plan.items → g.instance_count ≡ length k.scopes.items → g.cores ≡ k.cores.items
+    → g.canons ≡ l.canons → g.exports ≡ map export_of (callables (exports_at l 0)) → g.lifts ≡ map lift_of (callables (exports_at l 0)) → g ≡ graph_of l
+graph_told k l g (bases, h) plan count cores canons exports lifts =
     let a : g.plan ≡ l.plan = plan ∙ sym h.plan in
     let b : g.instance_count ≡ length l.scopes = count ∙ sym (as_many bases k l h) in
     let c : g.cores ≡ l.cores = cores ∙ sym h.cores in
-    let d : g.canons ≡ l.canons = canons l.canons h.canons in
-    let e : g.exports ≡ map export_of (callables (exports_at l 0)) = exports ∙ ap (map export_of) are in
-    let f : g.lifts ≡ map lift_of (callables (exports_at l 0)) = lifts ∙ ap (map lift_of) are in
-    λ x. (let made : Graph = record { plan = a x; instance_count = b x; cores = c x; canons = d x; exports = e x; lifts = f x } in made)
+    λ x. (let made : Graph = record { plan = a x; instance_count = b x; cores = c x; canons = canons x; exports = exports x; lifts = lifts x } in made)

@@ -18,7 +18,7 @@ use crate::funcs::FuncLists;
 use crate::linker::{Linker, ROOT};
 use ca_base::{Name, Seq};
 use ca_types::Export;
-use comp_graph::{Graph, Lift};
+use comp_graph::{CanonFunc, Graph, Lift};
 use instance_tables::{DefinitionRef, InstanceRef, Instances, LiftedRef};
 use std::alloc::{AllocError, Global};
 use std::marker::Model;
@@ -216,6 +216,35 @@ fn exports_of(alloc: Global, funcs: Vec<Callable>) -> Result<Vec<Export>, AllocE
     Ok(exports)
 }
 
+/// The functions of a graph: those that are lowered, and those that can be called, with what each lifts.
+#[derive(Drop)]
+struct GraphFuncs {
+    canons: Vec<CanonFunc>,
+    exports: Vec<Export>,
+    lifts: Vec<Lift>,
+}
+
+/// The functions of the graph of what is linked.
+fn graph_funcs(alloc: Global, linker: &Linker<'_>) -> Result<GraphFuncs, AllocError>
+    requires root { 0 < length linker.now.scopes.items }
+    requires live { IsLive linker.now 0 }
+    ensures canons { IfOk result (λ f. (l : Linking) → state.Stands linker.now l → f.canons.items ≡ (linked.graph_of l).canons) }
+    ensures exports { IfOk result (λ f. (l : Linking) → state.Stands linker.now l → f.exports.items ≡ (linked.graph_of l).exports) }
+    ensures lifts { IfOk result (λ f. (l : Linking) → state.Stands linker.now l → f.lifts.items ≡ (linked.graph_of l).lifts) }
+    ensures many { IfOk result (λ f. length f.lifts.items ≡ length f.exports.items) }
+{
+    let canons = canon_funcs(alloc, &linker.types, &linker.canons)?;
+    let entries = linker.scope(ROOT).exports.entries();
+    let funcs = callables(alloc, &linker.types, &linker.instances, entries)?;
+    let lifts = lifts_of(alloc, &funcs)?;
+    let exports = exports_of(alloc, funcs)?;
+    Ok(GraphFuncs {
+        canons,
+        exports,
+        lifts,
+    })
+}
+
 /// The graph of what is linked.
 pub fn graph_of<'a>(alloc: Global, linker: Linker<'a>) -> Result<Graph<'a>, AllocError>
     requires root { 0 < length linker.scopes.items }
@@ -224,18 +253,14 @@ pub fn graph_of<'a>(alloc: Global, linker: Linker<'a>) -> Result<Graph<'a>, Allo
     requires few_cores { length linker.cores.items ≤ core_instance_limit }
     ensures { IfOk result (λ g. (l : Linking) → state.Stands linker.entry l → g ≡ linked.graph_of l) }
 {
-    let entries = linker.scope(ROOT).exports.entries();
-    let funcs = callables(alloc, &linker.types, &linker.instances, entries)?;
-    let canons = canon_funcs(alloc, &linker.types, &linker.canons)?;
-    let lifts = lifts_of(alloc, &funcs)?;
-    let exports = exports_of(alloc, funcs)?;
+    let funcs = graph_funcs(alloc, &linker)?;
     let count = linker.scopes.len();
     Ok(Graph::new(
         Seq::from_vec(linker.plan),
         count,
         linker.cores,
-        Seq::from_vec(canons),
-        Seq::from_vec(exports),
-        Seq::from_vec(lifts),
+        Seq::from_vec(funcs.canons),
+        Seq::from_vec(funcs.exports),
+        Seq::from_vec(funcs.lifts),
     ))
 }
