@@ -18,7 +18,6 @@ use Rattle.comp_linking.specs.Canons.{Given, given_by, options_of, stand_once, i
 use Rattle.comp_linking.specs.Items.{lowered_with, lower_made}
 use Rattle.comp_linking.specs.Computed.{Makes, after, only_if, lowered_from, lower_outcome}
 use Rattle.type_tables.specs.Table.{Table, IsFunc}
-use Rattle.instance_tables.specs.declared.references.LiftedRef.{LiftedRef}
 use Rattle.instance_tables.specs.References.{IsLifted}
 use Rattle.comp_link.specs.declared.canons.LoweredRef.{LoweredRef}
 use Rattle.comp_link.specs.State.{IsCanon}

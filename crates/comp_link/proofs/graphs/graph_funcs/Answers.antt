@@ -1,11 +1,10 @@
-use Rattle.std.proofs.Common.{◌≡◌, ◌∙◌, ℕ, List, ap, map, sym, subst}
+use Rattle.std.proofs.Common.{◌∙◌, ℕ, List, ap, map, sym, subst}
 use Rattle.std.specs.List.{AllZip}
-use Rattle.comp_linking.specs.Spaces.{Linking}
-use Rattle.comp_linking.specs.Linked.{callables, exports_at, export_of, lift_of}
+use Rattle.comp_linking.specs.Linked.{export_of, lift_of}
 use Rattle.instance_tables.specs.declared.references.DefinitionRef.{DefinitionRef}
 use Rattle.instance_tables.specs.References.{IsListing}
 use Rattle.comp_link.specs.declared.canons.LoweredRef.{LoweredRef}
-use Rattle.comp_link.specs.State.{Stands, IsCanon}
+use Rattle.comp_link.specs.State.{IsCanon}
 use Rattle.comp_link.proofs.Calling.{root_called}
 use Rattle.comp_link.proofs.graphs.graph_funcs.Goals as goal
 

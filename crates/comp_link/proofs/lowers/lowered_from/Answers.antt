@@ -1,5 +1,4 @@
-use Rattle.std.proofs.Common.{◌≡◌, ◌∙◌, sym, true, false}
-use Rattle.ca_types.specs.declared.types.FuncType.{FuncType}
+use Rattle.std.proofs.Common.{◌≡◌, ◌∙◌, sym, true}
 use Rattle.comp_graph.specs.declared.graph.Options.{Options}
 use Rattle.comp_linking.specs.declared.fault.LinkWhy.TheVariants as why
 use Rattle.comp_linking.specs.Canons.{Given, options_of, stand_once, can_be_lowered}
