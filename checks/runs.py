@@ -381,8 +381,15 @@ def pick_runs():
 
 
 def main():
+    """Writes the tables, or with the argument `compare` tells those that are others than would be written."""
+    others = []
     for runs in (set_runs, task_runs, subtask_runs, table_runs, gate_runs, pick_runs):
-        (DATA / f"{runs.__name__}.txt").write_text("".join(f"{it}\n" for it in runs()))
+        file, text = DATA / f"{runs.__name__}.txt", "".join(f"{it}\n" for it in runs())
+        if sys.argv[1:] != ["compare"]:
+            file.write_text(text)
+        elif file.read_text() != text:
+            others.append(file.name)
+    sys.exit(f"others than the models say: {', '.join(others)}" if others else 0)
 
 
 main()

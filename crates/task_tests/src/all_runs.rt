@@ -3,9 +3,9 @@
 use crate::act::{Act, Answer};
 use crate::plain::Plain;
 use crate::stream_tests::happen;
-use crate::texts::{number_of, write_value};
+use crate::texts::{write_behind, write_value};
 use cases::Answers;
-use std::alloc::Global;
+use std::alloc::{AllocError, Global};
 use std::test::Fail;
 use stream_ends::{Rendezvous, Side};
 
@@ -63,14 +63,26 @@ fn compare_all(from: u32, to: u32) -> Option<u32> {
     None
 }
 
-/// The runs from one number to another, and the first of them in which something else is answered.
+/// Writes how many runs there are from one number to another, or the first of them in which something else is answered.
+fn write_runs(text: &mut String, from: u32, to: u32) -> Result<(), AllocError> {
+    match compare_all(from, to) {
+        Some(run) => write_behind(text, "otherwise in run ", run),
+        None => {
+            write_value(text, to.saturating_sub(from))?;
+            text.push_str(" runs")
+        }
+    }
+}
+
+/// The runs from one number to another: how many they are, or the first of them in which something else is answered.
 pub(crate) struct AllRuns;
 
 impl Answers for AllRuns {
     fn answer(alloc: Global, given: &str) -> Result<String, Fail> {
         let (from, to) = given.split_once(' ').ok_or("no end")?;
+        let (from, to) = (from.parse::<u32>()?, to.parse::<u32>()?);
         let mut text = String::new(alloc);
-        write_value(&mut text, compare_all(number_of(from), number_of(to)))?;
+        write_runs(&mut text, from, to)?;
         Ok(text)
     }
 }
