@@ -51,7 +51,7 @@ pub struct Linker<'a> {
     pub scopes: Vec<Scope<'a>>,
     /// The core instances that are made of modules, in order of making.
     pub cores: Vec<CoreMake<'a>>,
-    /// The functions that are lowered, in file order, by the numbers of their core functions.
+    /// The functions that are lowered, in order of making, by the numbers of their core functions.
     pub canons: Vec<LoweredRef>,
     /// What is made, in file order.
     pub plan: Vec<Action>,

@@ -11,9 +11,7 @@ use Rattle.comp_graph.specs.declared.graph.CoreRef.{CoreRef}
 use Rattle.comp_graph.specs.declared.graph.FuncRef.{FuncRef}
 use Rattle.comp_graph.specs.declared.graph.FuncRef.TheVariants as func_ref
 use Rattle.comp_graph.specs.declared.graph.Lift.{Lift}
-use Rattle.comp_graph.specs.declared.graph.Lower as graph
 use Rattle.comp_graph.specs.declared.graph.CanonFunc.{CanonFunc}
-use Rattle.comp_graph.specs.declared.graph.CanonFunc.TheVariants.{Lower}
 use Rattle.comp_graph.specs.CoreItems.{CoreItem, Func, Table, Memory, Global, table_space, memory_space}
 use Rattle.comp_graph.specs.Graph.{CoreMake, canon_type, core_type, IsMemoryThere, IsLiftThere, IsIn, IsItem, HasImports, AreImported}
 use Rattle.comp_graph.specs.Needs.{lifted_type, realloc_type, post_return_type}

@@ -23,7 +23,7 @@ use wasm_module::{
     FuncType, GlobalType, ImportDesc, Limits, ModuleTree, Mutability, ValType, are_same,
 };
 
-/// What a core definition is, with its type: that which the module of its core instance gives it.
+/// What a core definition is, with its type: that which the module of its core instance gives it, or the function that is lowered.
 #[derive(Drop)]
 enum Held<'a> {
     /// A function of a core instance.
