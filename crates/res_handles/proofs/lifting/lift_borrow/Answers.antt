@@ -1,0 +1,10 @@
+use Rattle.std.proofs.Common.{rules, ◌+◌}
+use Rattle.res_handles.proofs.Standing.{lifts_borrow_run, relent_stands}
+use Rattle.res_handles.proofs.lifting.lift_borrow.Goals as goal
+
+pub returns-clause-stands : goal.returns-clause-stands
+returns-clause-stands g c = relent_stands g.E.Entry.view g.E.Entry.made (λ n. n + 1) c.args.table.now.slots c.relend.new.table.slots c.args.index (search rules)
+
+pub returns-clause-run : goal.returns-clause-run
+returns-clause-run g c =
+    lifts_borrow_run g.E.Entry.view g.E.Entry.made g.met.E.Entry.made_is_seen c.args.table.now.slots c.relend.new.table.slots c.args.index c.args.resource c.in_ok-handle.handle (search rules) (search rules)

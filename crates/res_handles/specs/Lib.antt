@@ -1,0 +1,4 @@
+pub mod Calls
+pub mod Laws
+pub mod Refusals
+pub mod Runs

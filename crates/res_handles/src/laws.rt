@@ -1,0 +1,24 @@
+//! What holds of every run of calls over a table, whatever its entries are.
+
+ghost use Rattle.res_handles.specs.Laws.{LendsAreOpenLoans, LentIsKept, NothingRemovedIsLent, BorrowsChange};
+
+/// The lends of a handle are the loans of its index that were begun and not ended.
+pub fn lends_are_the_open_loans()
+    ensures { LendsAreOpenLoans }
+{}
+
+/// A handle with an open loan is neither lifted as own nor dropped.
+pub fn what_is_lent_is_kept()
+    ensures { LentIsKept }
+{}
+
+/// An index at which nothing is live is in no open loan.
+pub fn nothing_removed_is_lent()
+    ensures { NothingRemovedIsLent }
+{}
+
+/// The number of live borrow handles of a task rises by one where one is lowered for it, falls by one where one of them is
+/// dropped, and changes by nothing else.
+pub fn borrows_rise_and_fall_by_one()
+    ensures { BorrowsChange }
+{}

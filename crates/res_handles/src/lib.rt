@@ -1,0 +1,31 @@
+//! Handles of resources in the table of a component instance (Component Model, CanonicalABI.md, "Resource State", "Flat Lifting",
+//! "Flat Lowering", `canon resource.drop` and `canon resource.rep`).
+//!
+//! A handle is an entry of a `handle_table::Table`, whose entries are of any type that tells which of them are handles. The calls
+//! lift a handle out of the table, lend it, lower one into it, drop it and read it, each with its tests in their order. What was
+//! done is not kept: a clause `stands` says for every history of the table what a call adds to it, and a clause `run` for every
+//! run of calls, from which the laws count what is lent and which borrows are live.
+//!
+//! - `handle`: a handle
+//! - `entry`: what an entry of a table is, for handles
+//! - `refusal`: why a call is refused
+//! - `home`: where and for which task a borrow is lowered
+//! - `lifting`: handles that are lifted, lent, dropped and read
+//! - `lowering`: handles that are lowered
+//! - `laws`: what holds of every run of calls
+#![tactic(auto)]
+
+mod entry;
+mod handle;
+mod home;
+pub mod laws;
+mod lifting;
+mod lowering;
+mod refusal;
+
+pub use entry::{Entry, EntryView};
+pub use handle::{Handle, Ownership};
+pub use home::Home;
+pub use lifting::{drop_handle, end_lend, lift_borrow, lift_own, rep};
+pub use lowering::{lower_borrow, lower_own};
+pub use refusal::{LowerError, Refusal};
