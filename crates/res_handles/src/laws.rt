@@ -1,6 +1,12 @@
 //! What holds of every run of calls over a table, whatever its entries are.
 
-ghost use Rattle.res_handles.specs.Laws.{LendsAreOpenLoans, LentIsKept, NothingRemovedIsLent, BorrowsChange};
+ghost use Rattle.std.specs.Prelude.{[]};
+ghost use Rattle.handle_table.specs.Slots.{no_slots};
+ghost use Rattle.res_handles.specs.Calls.{shown};
+ghost use Rattle.res_handles.specs.Runs.{ComesOf};
+ghost use Rattle.res_handles.specs.Laws.{LendsAreOpenLoans, LentIsKept, NothingRemovedIsLent, BorrowsChange, OthersComeAndGo};
+
+use crate::entry::Entry;
 
 /// The lends of a handle are the loans of its index that were begun and not ended.
 pub fn lends_are_the_open_loans()
@@ -21,4 +27,14 @@ pub fn nothing_removed_is_lent()
 /// dropped, and changes by nothing else.
 pub fn borrows_rise_and_fall_by_one()
     ensures { BorrowsChange }
+{}
+
+/// A new table comes of no call.
+pub fn a_new_table_comes_of_no_call<E: Entry>()
+    ensures { ComesOf [] (shown E.view no_slots) }
+{}
+
+/// Entries of other kinds come and go, and are written over, beside the handles.
+pub fn other_entries_come_and_go<E: Entry>()
+    ensures { OthersComeAndGo E.view }
 {}

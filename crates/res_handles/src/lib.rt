@@ -22,6 +22,8 @@ pub mod laws;
 mod lifting;
 mod lowering;
 mod refusal;
+#[cfg(test)]
+mod tests;
 
 pub use entry::{Entry, EntryView};
 pub use handle::{Handle, Ownership};
