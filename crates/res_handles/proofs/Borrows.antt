@@ -13,8 +13,8 @@ use Rattle.res_handles.specs.declared.entry.EntryView.{EntryView}
 use Rattle.res_handles.specs.declared.entry.EntryView.TheVariants as seen
 use Rattle.res_handles.specs.Refusals.{owned_by, own_in}
 use Rattle.res_handles.specs.Calls.{own_handle, borrow_handle, lends_in, with_lends, relent_by, view_at}
-use Rattle.res_handles.specs.Runs.{Call, LowersOwn, LowersBorrow, LiftsOwn, LiftsBorrow, Drops, EndsLend, AddsOther, RemovesOther, Passes, after, slots_after, IsRun, is_for, is_borrow_of, borrows_of, risen, fallen, one_if}
-use Rattle.res_handles.proofs.Found.{IsFound, IsKept, handle_found, own_kept, dropped_kept, own_is_own}
+use Rattle.res_handles.specs.Runs.{Call, LowersOwn, LowersBorrow, LiftsOwn, LiftsBorrow, Drops, EndsLend, AddsOther, RemovesOther, WritesOther, Passes, after, slots_after, IsRun, is_for, is_borrow_of, borrows_of, risen, fallen, one_if}
+use Rattle.res_handles.proofs.Found.{IsFound, IsKept, handle_found, own_kept, dropped_kept, own_is_own, IsOtherFound, other_found}
 use Rattle.res_handles.proofs.Sound.{lent_found, relent_is, run_sound}
 
 counts : ℕ → Option EntryView → ℕ
@@ -71,10 +71,19 @@ call_borrows task (Drops index resource) s p sound =
     let k : IsKept (entry_at s index) = dropped_kept (entry_at s index) resource p in
     omega (arith, removed_counts task s index (seen.Handle k.found.handle) k.found.is)
 call_borrows task (EndsLend index) s p sound = omega (arith, relent_counts task s (λ n. n - 1) index (lent_found (entry_at s index) p))
-call_borrows task AddsOther s p sound = omega (arith, added_counts task s seen.Other sound)
+call_borrows task (AddsOther entry) s p sound =
+    let none : one_if (is_borrow_of task (Some entry)) ≡ 0 = ap one_if ((other_found (Some entry) p.0).for_none task) in
+    omega (arith, none, added_counts task s entry sound)
 call_borrows task (RemovesOther index) s p sound =
-    let other : one_if (is_borrow_of task (entry_at s index)) ≡ 0 = ap (λ (o : Option EntryView). one_if (is_borrow_of task o)) p in
-    omega (arith, other, removed_counts task s index seen.Other p)
+    let o : IsOtherFound (entry_at s index) = other_found (entry_at s index) p in
+    let none : one_if (is_borrow_of task (entry_at s index)) ≡ 0 = ap one_if (o.for_none task) in
+    omega (arith, none, removed_counts task s index o.other o.is)
+call_borrows task (WritesOther index entry) s p sound =
+    let o : IsOtherFound (entry_at s index) = other_found (entry_at s index) p.1 in
+    let before : one_if (is_borrow_of task (slot_at s.entries index)) ≡ 0 = ap one_if (o.for_none task) in
+    let now : one_if (is_borrow_of task (Some entry)) ≡ 0 = ap one_if ((other_found (Some entry) p.0).for_none task) in
+    let w : (1 ≤ index) × (index ≤ length s.entries) = full_within s.entries index o.other o.is in
+    omega (arith, before, now, set_counts task s.entries index (Some entry) w.0 w.1)
 
 pub borrows_change : (r : List Call) (call : Call) (task : ℕ) → IsRun (call ∷ r) → borrows_of task (slots_after (call ∷ r)) + fallen task call (slots_after r) ≡ borrows_of task (slots_after r) + risen task call
 borrows_change r call task p = call_borrows task call (slots_after r) p.1 (run_sound r p.0)

@@ -11,7 +11,7 @@ use Rattle.res_handles.specs.declared.refusal.Refusal.{Refusal}
 use Rattle.res_handles.specs.declared.refusal.Refusal.TheVariants.{OtherType, Lent}
 use Rattle.res_handles.specs.Refusals.{of_resource, unlent, owned, owned_by, that_is, handle_in, own_in, dropped_in}
 use Rattle.res_handles.specs.Calls.{lends_in}
-use Rattle.res_handles.specs.Runs.{is_for, is_borrow_of}
+use Rattle.res_handles.specs.Runs.{IsOther, is_for, is_borrow_of}
 
 -- an entry that is a handle
 pub record IsFound (entry : Option EntryView) : Type 0 where
@@ -40,17 +40,20 @@ own_none_lent (Borrow t) x h = cc
 pub handle_found : (entry : Option EntryView) (resource : ℕ) → IsOk (handle_in entry resource) → IsFound entry
 handle_found None resource h = cc
 handle_found (Some seen.Other) resource h = cc
+handle_found (Some (seen.ReadableEnd _)) resource h = cc
 handle_found (Some (seen.Handle x)) resource h = record { handle = x; is = refl }
 
 pub own_kept : (entry : Option EntryView) (resource : ℕ) → IsOk (own_in entry resource) → IsKept entry
 own_kept None resource h = cc
 own_kept (Some seen.Other) resource h = cc
+own_kept (Some (seen.ReadableEnd _)) resource h = cc
 own_kept (Some (seen.Handle x)) resource h =
     record { found = record { handle = x; is = refl }; lends = own_none_lent x.ownership x (passed (nat_eq x.resource resource) x OtherType owned h) }
 
 pub dropped_kept : (entry : Option EntryView) (resource : ℕ) → IsOk (dropped_in entry resource) → IsKept entry
 dropped_kept None resource h = cc
 dropped_kept (Some seen.Other) resource h = cc
+dropped_kept (Some (seen.ReadableEnd _)) resource h = cc
 dropped_kept (Some (seen.Handle x)) resource h =
     record { found = record { handle = x; is = refl }; lends = none_lent x (passed (nat_eq x.resource resource) x OtherType unlent h) }
 
@@ -62,4 +65,18 @@ own_not_for task (Borrow t) x h = cc
 pub own_is_own : (task : ℕ) (entry : Option EntryView) (resource : ℕ) → IsOk (own_in entry resource) → is_borrow_of task entry ≡ false
 own_is_own task None resource h = refl
 own_is_own task (Some seen.Other) resource h = refl
+own_is_own task (Some (seen.ReadableEnd _)) resource h = refl
 own_is_own task (Some (seen.Handle x)) resource h = own_not_for task x.ownership x (passed (nat_eq x.resource resource) x OtherType owned h)
+
+-- an entry that is no handle
+pub record IsOtherFound (entry : Option EntryView) : Type 0 where
+  pub other : EntryView
+  pub is : entry ≡ Some other
+  pub lends : lends_in entry ≡ 0
+  pub for_none : (task : ℕ) → is_borrow_of task entry ≡ false
+
+pub other_found : (entry : Option EntryView) → IsOther entry → IsOtherFound entry
+other_found None h = absurd h
+other_found (Some (seen.Handle x)) h = absurd h
+other_found (Some (seen.ReadableEnd x)) h = record { other = seen.ReadableEnd x; is = refl; lends = refl; for_none = λ task. refl }
+other_found (Some seen.Other) h = record { other = seen.Other; is = refl; lends = refl; for_none = λ task. refl }

@@ -10,8 +10,8 @@ use Rattle.res_handles.specs.declared.handle.Handle.{Handle}
 use Rattle.res_handles.specs.declared.entry.EntryView.{EntryView}
 use Rattle.res_handles.specs.declared.entry.EntryView.TheVariants as seen
 use Rattle.res_handles.specs.Calls.{own_handle, borrow_handle, lends_in, with_lends, relent_by, view_at}
-use Rattle.res_handles.specs.Runs.{Call, LowersOwn, LowersBorrow, LiftsOwn, LiftsBorrow, Drops, EndsLend, AddsOther, RemovesOther, Passes, after, slots_after, IsRun, begins, ends, open_loans, one_if}
-use Rattle.res_handles.proofs.Found.{IsFound, IsKept, handle_found, own_kept, dropped_kept}
+use Rattle.res_handles.specs.Runs.{Call, LowersOwn, LowersBorrow, LiftsOwn, LiftsBorrow, Drops, EndsLend, AddsOther, RemovesOther, WritesOther, Passes, after, slots_after, IsRun, begins, ends, open_loans, one_if}
+use Rattle.res_handles.proofs.Found.{IsFound, IsKept, handle_found, own_kept, dropped_kept, IsOtherFound, other_found}
 use Rattle.res_handles.proofs.Sound.{lent_found, relent_is, run_sound, removed_here, written_here, IsFilled, added_at}
 
 lends_added : (s : Slots EntryView) (entry : EntryView) (index : ℕ) → lends_in (Some entry) ≡ 0 → IsSound s → lends_in (entry_at (added entry s) index) ≡ lends_in (entry_at s index)
@@ -24,6 +24,12 @@ lends_removed : (s : Slots EntryView) (i index : ℕ) (entry : EntryView) → en
 lends_removed s i index entry e none = elim (cases_eq index i) [
   | inl same ↦ (ap (λ (j : ℕ). lends_in (entry_at (removed i s) j)) same ∙ ap lends_in (removed_here s i entry e) ∙ sym none ∙ sym (ap (λ (j : ℕ). lends_in (entry_at s j)) same))
   | inr other ↦ (ap lends_in (other_slot s.entries i index None other))
+]
+
+lends_written : (s : Slots EntryView) (i index : ℕ) (entry now : EntryView) → entry_at s i ≡ Some entry → lends_in (entry_at s i) ≡ 0 → lends_in (Some now) ≡ 0 → lends_in (entry_at (with_entry i now s) index) ≡ lends_in (entry_at s index)
+lends_written s i index entry now e none new = elim (cases_eq index i) [
+  | inl same ↦ (ap (λ (j : ℕ). lends_in (entry_at (with_entry i now s) j)) same ∙ ap lends_in (written_here s i entry now e) ∙ new ∙ sym none ∙ sym (ap (λ (j : ℕ). lends_in (entry_at s j)) same))
+  | inr other ↦ (ap lends_in (other_slot s.entries i index (Some now) other))
 ]
 
 relent_here : (s : Slots EntryView) (f : ℕ → ℕ) (i : ℕ) (found : IsFound (entry_at s i)) → lends_in (entry_at (relent_by (view_at (λ e. e) s i) seen.Handle f i s) i) ≡ f (lends_in (entry_at s i))
@@ -72,8 +78,11 @@ call_lends (LiftsOwn i resource) s index p sound = omega (arith, kept s i index 
 call_lends (LiftsBorrow i resource) s index p sound = omega (arith, lifts s i index resource (handle_found (entry_at s i) resource p))
 call_lends (Drops i resource) s index p sound = omega (arith, kept s i index (dropped_kept (entry_at s i) resource p))
 call_lends (EndsLend i) s index p sound = omega (arith, gives_back s i index p)
-call_lends AddsOther s index p sound = omega (arith, lends_added s seen.Other index refl sound)
-call_lends (RemovesOther i) s index p sound = omega (arith, lends_removed s i index seen.Other p (ap lends_in p))
+call_lends (AddsOther entry) s index p sound = omega (arith, lends_added s entry index (other_found (Some entry) p.0).lends sound)
+call_lends (RemovesOther i) s index p sound = let o : IsOtherFound (entry_at s i) = other_found (entry_at s i) p in omega (arith, lends_removed s i index o.other o.is o.lends)
+call_lends (WritesOther i entry) s index p sound =
+    let o : IsOtherFound (entry_at s i) = other_found (entry_at s i) p.1 in
+    omega (arith, lends_written s i index o.other entry o.is o.lends (other_found (Some entry) p.0).lends)
 
 balance : (r : List Call) (index : ℕ) → IsRun r → lends_in (entry_at (slots_after r) index) + count_by (ends index) r ≡ count_by (begins index) r
 balance [] zero p = refl

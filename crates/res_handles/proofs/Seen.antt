@@ -68,6 +68,7 @@ module _ {E : Type 0} (view : E → EntryView) where
       → shown view (relent_by entry made f index s) ≡ relent_by entry seen.Handle f index (shown view s)
   shown_relent_by made f law s index None = refl
   shown_relent_by made f law s index (Some seen.Other) = refl
+  shown_relent_by made f law s index (Some (seen.ReadableEnd _)) = refl
   shown_relent_by made f law s index (Some (seen.Handle x)) =
       let y : Handle = with_lends (f x.lends) x in
       shown_entry s index (made y) ∙ ap (λ (e : EntryView). with_entry index e (shown view s)) (law y)

@@ -11,13 +11,14 @@ use Rattle.res_handles.specs.declared.handle.Handle.{Handle}
 use Rattle.res_handles.specs.declared.entry.EntryView.{EntryView}
 use Rattle.res_handles.specs.declared.entry.EntryView.TheVariants as seen
 use Rattle.res_handles.specs.Calls.{own_handle, borrow_handle, lends_in, with_lends, relent_by, view_at}
-use Rattle.res_handles.specs.Runs.{Call, LowersOwn, LowersBorrow, LiftsOwn, LiftsBorrow, Drops, EndsLend, AddsOther, RemovesOther, Passes, after, slots_after, IsRun}
-use Rattle.res_handles.proofs.Found.{IsFound, IsKept, handle_found, own_kept, dropped_kept}
+use Rattle.res_handles.specs.Runs.{Call, LowersOwn, LowersBorrow, LiftsOwn, LiftsBorrow, Drops, EndsLend, AddsOther, RemovesOther, WritesOther, Passes, after, slots_after, IsRun}
+use Rattle.res_handles.proofs.Found.{IsFound, IsKept, handle_found, own_kept, dropped_kept, IsOtherFound, other_found}
 
 -- a handle with a lend is a handle
 pub lent_found : (entry : Option EntryView) → 1 ≤ lends_in entry → IsFound entry
 lent_found None h = absurd (let l : 1 ≤ 0 = h in omega arith)
 lent_found (Some seen.Other) h = absurd (let l : 1 ≤ 0 = h in omega arith)
+lent_found (Some (seen.ReadableEnd _)) h = absurd (let l : 1 ≤ 0 = h in omega arith)
 lent_found (Some (seen.Handle x)) h = record { handle = x; is = refl }
 
 -- the slots where the lends of a handle that is there are changed
@@ -41,8 +42,9 @@ call_sound (LiftsOwn index resource) s p sound = kept_sound s index (own_kept (e
 call_sound (LiftsBorrow index resource) s p sound = relent_sound s (λ n. n + 1) index (handle_found (entry_at s index) resource p) sound
 call_sound (Drops index resource) s p sound = kept_sound s index (dropped_kept (entry_at s index) resource p) sound
 call_sound (EndsLend index) s p sound = relent_sound s (λ n. n - 1) index (lent_found (entry_at s index) p) sound
-call_sound AddsOther s p sound = added_sound s seen.Other p sound
-call_sound (RemovesOther index) s p sound = removed_sound s index seen.Other p sound
+call_sound (AddsOther entry) s p sound = added_sound s entry p.1 sound
+call_sound (RemovesOther index) s p sound = let o : IsOtherFound (entry_at s index) = other_found (entry_at s index) p in removed_sound s index o.other o.is sound
+call_sound (WritesOther index entry) s p sound = let o : IsOtherFound (entry_at s index) = other_found (entry_at s index) p.1 in changed_sound s index o.other entry o.is sound
 
 pub run_sound : (r : List Call) → IsRun r → IsSound (slots_after r)
 run_sound [] p = record { free = tt; all = omega arith; small = omega arith }

@@ -1,10 +1,10 @@
 -- What the calls add to a run, and to a history.
-use Rattle.std.proofs.Common.{◌≡◌, ℕ, ◌+◌, ◌-◌, ◌<◌, ◌≤◌, sym, ap, refl, ◌∙◌, arith, subst, List, ◌∷◌, Option, Some, None, slice_index_or, slice_set, zero, suc, [], is_some, IsSome, Result, Ok, Err}
+use Rattle.std.proofs.Common.{◌≡◌, ℕ, ◌+◌, ◌-◌, ◌<◌, ◌≤◌, sym, ap, refl, ◌∙◌, arith, subst, List, ◌∷◌, Bool, Option, Some, None, is_some, IsSome, Result, Ok, Err}
 use Rattle.std.specs.Prelude.{option_map, IsOk, OnOk, MatchResult}
 use Rattle.handle_table.specs.Calls.{Added}
 use Rattle.handle_table.specs.History.{Event, live}
 use Rattle.handle_table.specs.Laws.{with_changed}
-use Rattle.handle_table.specs.Slots.{Slots, TableState, slot_at, with_slot, added, removed, with_entry, count, entry_at, StandsFor}
+use Rattle.handle_table.specs.Slots.{Slots, TableState, added, removed, with_entry, count, entry_at, StandsFor}
 use Rattle.handle_table.proofs.Histories.{shows_entry}
 use Rattle.handle_table.proofs.Writes.{writes_after}
 use Rattle.res_handles.specs.declared.handle.Handle.{Handle}
@@ -14,7 +14,8 @@ use Rattle.res_handles.specs.declared.refusal.Refusal.{Refusal}
 use Rattle.res_handles.specs.declared.refusal.LowerError.{LowerError}
 use Rattle.res_handles.specs.Refusals.{handle_in, own_in, dropped_in}
 use Rattle.res_handles.specs.Calls.{own_handle, borrow_handle, lends_in, view_at, shown, with_lends, relent_by, lent, given_back, NotLowered}
-use Rattle.res_handles.specs.Runs.{Call, LowersOwn, LowersBorrow, LiftsOwn, LiftsBorrow, Drops, EndsLend, AddsOther, RemovesOther, Passes, after, ComesOf}
+use Rattle.res_handles.specs.Ends.{idle_end, end_in}
+use Rattle.res_handles.specs.Runs.{Call, LowersOwn, LowersBorrow, LiftsOwn, LiftsBorrow, Drops, EndsLend, AddsOther, RemovesOther, WritesOther, IsOther, Passes, after, ComesOf}
 use Rattle.res_handles.specs.Laws.{OthersComeAndGo}
 use Rattle.res_handles.proofs.Seen.{shown_at, shown_count, shown_removed, shown_entry, shown_added, shown_lent, shown_given_back, comes}
 
@@ -66,30 +67,39 @@ module _ {E : Type 0} (view : E → EntryView) where
     lowers_borrow_run old new (Ok i) resource rep task a =
         comes (LowersBorrow resource rep task) (shown view old.slots) (shown view new.slots) (few old.slots a.few) (added_is old.slots new.slots (borrow_handle resource rep task) a.slots)
 
--- entries of other kinds
-set_back : {E : Type 0} (xs : List (Option E)) (k : ℕ) (entry : E) → slice_index_or xs k None ≡ Some entry → slice_set xs k (Some entry) ≡ xs
-set_back [] k entry e = refl
-set_back {E} (x ∷ xs) zero entry e = ap (λ (y : Option E). y ∷ xs) (sym e)
-set_back {E} (x ∷ xs) (suc k) entry e = ap (λ (ys : List (Option E)). x ∷ ys) (set_back xs k entry e)
-
-with_back : {E : Type 0} (xs : List (Option E)) (index : ℕ) (entry : E) → slot_at xs index ≡ Some entry → with_slot xs index (Some entry) ≡ xs
-with_back xs zero entry e = refl
-with_back xs (suc k) entry e = set_back xs k entry e
-
-write_back : {E : Type 0} (s : Slots E) (index : ℕ) (entry : E) → entry_at s index ≡ Some entry → with_entry index entry s ≡ s
-write_back {E} s index entry e = ap (λ (xs : List (Option E)). (let t : Slots E = record { entries = xs; freed = s.freed } in t)) (with_back s.entries index entry e)
-
+-- entries that are no handles
 pub others : {E : Type 0} (view : E → EntryView) → OthersComeAndGo view
 others {E} view = record {
-  adds = λ r s entry other few c.
-      comes AddsOther (shown view s) (shown view (added entry s)) (omega (arith, few, shown_count view s))
-      (shown_added view s entry ∙ ap (λ (e : EntryView). added e (shown view s)) other) r c;
+  adds = λ r s entry other few c. comes (AddsOther (view entry)) (shown view s) (shown view (added entry s)) (other, omega (arith, few, shown_count view s)) (shown_added view s entry) r c;
   removes = λ r s index other c.
-      comes (RemovesOther index) (shown view s) (shown view (removed index s)) (shown_at view s index ∙ other) (shown_removed view s index) r c;
-  writes = λ r s index entry other same c.
-      (let P : Slots EntryView → Type 0 = λ t. ComesOf r t in
-      subst P (sym (shown_entry view s index entry ∙ ap (λ (e : EntryView). with_entry index e (shown view s)) same ∙ write_back (shown view s) index seen.Other (shown_at view s index ∙ other))) c);
+      (let P : Option EntryView → Type 0 = λ o. IsOther o in
+      comes (RemovesOther index) (shown view s) (shown view (removed index s)) (subst P (sym (shown_at view s index)) other) (shown_removed view s index) r c);
+  writes = λ r s index entry other before c.
+      (let P : Option EntryView → Type 0 = λ o. IsOther o in
+      comes (WritesOther index (view entry)) (shown view s) (shown view (with_entry index entry s)) (other, subst P (sym (shown_at view s index)) before) (shown_entry view s index entry) r c);
 }
+
+-- ends
+idle_found : (entry : Option EntryView) (is_of_type : Bool) (number : ℕ) → end_in entry is_of_type ≡ Ok number → IsOther entry
+idle_found None t n e = cc
+idle_found (Some seen.Other) t n e = cc
+idle_found (Some (seen.Handle x)) t n e = cc
+idle_found (Some (seen.ReadableEnd x)) t n e = tt
+
+pub lifts_end_run : {E : Type 0} (view : E → EntryView) (s t : Slots E) (index : ℕ) (is_of_type : Bool) (number : ℕ) → end_in (view_at view s index) is_of_type ≡ Ok number → t ≡ removed index s
+    → (r : List Call) → ComesOf r (shown view s) → ComesOf (RemovesOther index ∷ r) (shown view t)
+lifts_end_run {E} view s t index is_of_type number e is r c =
+    let P : Slots E → Type 0 = λ u. ComesOf (RemovesOther index ∷ r) (shown view u) in
+    let o : OthersComeAndGo view = others view in
+    subst P (sym is) (o.removes r s index (idle_found (view_at view s index) is_of_type number e) c)
+
+pub lowers_end_run : {E : Type 0} (view : E → EntryView) (entry : E) (number : ℕ) → view entry ≡ seen.ReadableEnd (idle_end number) → (old new : TableState E) (result : Result ℕ LowerError)
+    → MatchResult result (λ i. Added old entry i new) (λ e. NotLowered old e new)
+    → OnOk result ((r : List Call) → ComesOf r (shown view old.slots) → ComesOf (AddsOther (seen.ReadableEnd (idle_end number)) ∷ r) (shown view new.slots))
+lowers_end_run {E} view entry number law old new (Err e) a = tt
+lowers_end_run {E} view entry number law old new (Ok i) a =
+    λ r c. comes (AddsOther (seen.ReadableEnd (idle_end number))) (shown view old.slots) (shown view new.slots) (tt, omega (arith, a.few, shown_count view old.slots))
+    (ap (shown view) a.slots ∙ shown_added view old.slots entry ∙ ap (λ (e : EntryView). added e (shown view old.slots)) law) r c
 
 -- a write
 some_seen : {E : Type 0} (view : E → EntryView) (o : Option E) (x : EntryView) → option_map view o ≡ Some x → IsSome o

@@ -30,6 +30,7 @@ is_defined resource resources = list_any (λ r. nat_eq r resource) resources
 abbrev pub lends_in : Option EntryView → ℕ
 lends_in None = 0
 lends_in (Some seen.Other) = 0
+lends_in (Some (seen.ReadableEnd _)) = 0
 lends_in (Some (seen.Handle x)) = x.lends
 
 module _ {E : Type 0} where
@@ -45,6 +46,7 @@ module _ {E : Type 0} where
   abbrev pub relent_by : Option EntryView → (Handle → E) → (ℕ → ℕ) → ℕ → Slots E → Slots E
   relent_by None made f index s = s
   relent_by (Some seen.Other) made f index s = s
+  relent_by (Some (seen.ReadableEnd _)) made f index s = s
   relent_by (Some (seen.Handle x)) made f index s = with_entry index (made (with_lends (f x.lends) x)) s
 
   -- where they are one more,

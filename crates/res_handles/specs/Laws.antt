@@ -3,9 +3,8 @@ use Rattle.std.specs.Prelude.{◌≡◌, ℕ, ◌+◌, ◌<◌, ◌≤◌, List,
 use Rattle.handle_table.specs.History.{most_live}
 use Rattle.handle_table.specs.Slots.{Slots, entry_at, count, added, removed, with_entry}
 use Rattle.res_handles.specs.declared.entry.EntryView.{EntryView}
-use Rattle.res_handles.specs.declared.entry.EntryView.TheVariants as seen
 use Rattle.res_handles.specs.Calls.{lends_in, view_at, shown}
-use Rattle.res_handles.specs.Runs.{Call, LiftsOwn, Drops, AddsOther, RemovesOther, slots_after, IsRun, ComesOf, open_loans, borrows_of, risen, fallen}
+use Rattle.res_handles.specs.Runs.{Call, LiftsOwn, Drops, AddsOther, RemovesOther, WritesOther, IsOther, slots_after, IsRun, ComesOf, open_loans, borrows_of, risen, fallen}
 
 -- The lends of a handle are the loans of its index that were begun and not ended.
 abbrev pub LendsAreOpenLoans : Type 0
@@ -28,12 +27,12 @@ BorrowsChange =
     (run : List Call) (call : Call) (task : ℕ) → IsRun (call ∷ run)
     → borrows_of task (slots_after (call ∷ run)) + fallen task call (slots_after run) ≡ borrows_of task (slots_after run) + risen task call
 
--- Entries of other kinds come and go beside the handles: where one is added or removed the run has one call more, and where one is
--- written over it has none.
+-- Entries that are no handles come and go beside the handles: where one is added, removed or written over, the run has one call
+-- more.
 pub record OthersComeAndGo {E : Type 0} (view : E → EntryView) : Type 0 where
-  pub adds : (r : List Call) (s : Slots E) (entry : E) → view entry ≡ seen.Other → count s < most_live
-      → ComesOf r (shown view s) → ComesOf (AddsOther ∷ r) (shown view (added entry s))
-  pub removes : (r : List Call) (s : Slots E) (index : ℕ) → view_at view s index ≡ Some seen.Other
+  pub adds : (r : List Call) (s : Slots E) (entry : E) → IsOther (Some (view entry)) → count s < most_live
+      → ComesOf r (shown view s) → ComesOf (AddsOther (view entry) ∷ r) (shown view (added entry s))
+  pub removes : (r : List Call) (s : Slots E) (index : ℕ) → IsOther (view_at view s index)
       → ComesOf r (shown view s) → ComesOf (RemovesOther index ∷ r) (shown view (removed index s))
-  pub writes : (r : List Call) (s : Slots E) (index : ℕ) (entry : E) → view_at view s index ≡ Some seen.Other → view entry ≡ seen.Other
-      → ComesOf r (shown view s) → ComesOf r (shown view (with_entry index entry s))
+  pub writes : (r : List Call) (s : Slots E) (index : ℕ) (entry : E) → IsOther (Some (view entry)) → IsOther (view_at view s index)
+      → ComesOf r (shown view s) → ComesOf (WritesOther index (view entry) ∷ r) (shown view (with_entry index entry s))

@@ -1,4 +1,5 @@
 pub mod Calls
+pub mod Ends
 pub mod Laws
 pub mod Refusals
 pub mod Runs

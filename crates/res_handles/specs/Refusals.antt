@@ -34,6 +34,7 @@ that_is test (Err why) = Err why
 abbrev pub handle_in : Option EntryView → ℕ → Result Handle Refusal
 handle_in None resource = Err Absent
 handle_in (Some seen.Other) resource = Err OtherKind
+handle_in (Some (seen.ReadableEnd _)) resource = Err OtherKind
 handle_in (Some (seen.Handle x)) resource = of_resource resource x
 
 -- The same where it is lifted as own,

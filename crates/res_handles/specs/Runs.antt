@@ -2,7 +2,7 @@
 -- latest call first, and no call that was refused. Loans and borrows are counted from the calls and the table alone.
 use Rattle.std.specs.Prelude.{◌≡◌, ℕ, ◌-◌, ◌<◌, ◌≤◌, Bool, false, nat_eq, if◌then◌else◌, List, [], ◌∷◌, count_by, Option, Some, None, IsOk}
 use Rattle.handle_table.specs.History.{most_live}
-use Rattle.handle_table.specs.Slots.{Slots, no_slots, entry_at, count, added, removed}
+use Rattle.handle_table.specs.Slots.{Slots, no_slots, entry_at, count, added, removed, with_entry}
 use Rattle.res_handles.specs.declared.handle.Ownership.{Ownership}
 use Rattle.res_handles.specs.declared.handle.Ownership.TheVariants.{Own, Borrow}
 use Rattle.res_handles.specs.declared.entry.EntryView.{EntryView}
@@ -20,9 +20,17 @@ pub data Call : Type 0 where
   Drops : ℕ → ℕ → Call
   -- a borrow that was lifted from the handle at an index came to its end
   EndsLend : ℕ → Call
-  -- an entry of another kind was added, or the one at an index removed
-  AddsOther : Call
+  -- an entry that is no handle was added; the one at an index was removed, or another was written over it
+  AddsOther : EntryView → Call
   RemovesOther : ℕ → Call
+  WritesOther : ℕ → EntryView → Call
+
+-- an entry that is no handle
+abbrev pub IsOther : Option EntryView → Type 0
+IsOther None = ⊥
+IsOther (Some (seen.Handle _)) = ⊥
+IsOther (Some (seen.ReadableEnd _)) = Unit {0}
+IsOther (Some seen.Other) = Unit {0}
 
 -- a call that isn't refused
 abbrev pub Passes : Call → Slots EntryView → Type 0
@@ -32,8 +40,9 @@ Passes (LiftsOwn index resource) s = IsOk (own_in (entry_at s index) resource)
 Passes (LiftsBorrow index resource) s = IsOk (handle_in (entry_at s index) resource)
 Passes (Drops index resource) s = IsOk (dropped_in (entry_at s index) resource)
 Passes (EndsLend index) s = 1 ≤ lends_in (entry_at s index)
-Passes AddsOther s = count s < most_live
-Passes (RemovesOther index) s = entry_at s index ≡ Some seen.Other
+Passes (AddsOther entry) s = IsOther (Some entry) × (count s < most_live)
+Passes (RemovesOther index) s = IsOther (entry_at s index)
+Passes (WritesOther index entry) s = IsOther (Some entry) × IsOther (entry_at s index)
 
 -- the slots after it
 abbrev pub after : Call → Slots EntryView → Slots EntryView
@@ -43,8 +52,9 @@ after (LiftsOwn index resource) s = removed index s
 after (LiftsBorrow index resource) s = lent (λ e. e) seen.Handle index s
 after (Drops index resource) s = removed index s
 after (EndsLend index) s = given_back (λ e. e) seen.Handle index s
-after AddsOther s = added seen.Other s
+after (AddsOther entry) s = added entry s
 after (RemovesOther index) s = removed index s
+after (WritesOther index entry) s = with_entry index entry s
 
 -- the slots after a run
 abbrev pub slots_after : List Call → Slots EntryView
@@ -68,8 +78,9 @@ begins index (LiftsOwn _ _) = false
 begins index (LiftsBorrow i _) = nat_eq i index
 begins index (Drops _ _) = false
 begins index (EndsLend _) = false
-begins index AddsOther = false
+begins index (AddsOther _) = false
 begins index (RemovesOther _) = false
+begins index (WritesOther _ _) = false
 
 abbrev pub ends : ℕ → Call → Bool
 ends index (LowersOwn _ _) = false
@@ -78,8 +89,9 @@ ends index (LiftsOwn _ _) = false
 ends index (LiftsBorrow _ _) = false
 ends index (Drops _ _) = false
 ends index (EndsLend i) = nat_eq i index
-ends index AddsOther = false
+ends index (AddsOther _) = false
 ends index (RemovesOther _) = false
+ends index (WritesOther _ _) = false
 
 -- the loans of an index that were begun and not ended
 abbrev pub open_loans : ℕ → List Call → ℕ
@@ -93,6 +105,7 @@ is_for task (Borrow t) = nat_eq t task
 abbrev pub is_borrow_of : ℕ → Option EntryView → Bool
 is_borrow_of task None = false
 is_borrow_of task (Some seen.Other) = false
+is_borrow_of task (Some (seen.ReadableEnd _)) = false
 is_borrow_of task (Some (seen.Handle x)) = is_for task x.ownership
 
 -- the live borrow handles of a task
@@ -110,8 +123,9 @@ risen task (LiftsOwn _ _) = 0
 risen task (LiftsBorrow _ _) = 0
 risen task (Drops _ _) = 0
 risen task (EndsLend _) = 0
-risen task AddsOther = 0
+risen task (AddsOther _) = 0
 risen task (RemovesOther _) = 0
+risen task (WritesOther _ _) = 0
 
 abbrev pub fallen : ℕ → Call → Slots EntryView → ℕ
 fallen task (LowersOwn _ _) s = 0
@@ -120,5 +134,6 @@ fallen task (LiftsOwn _ _) s = 0
 fallen task (LiftsBorrow _ _) s = 0
 fallen task (Drops index _) s = one_if (is_borrow_of task (entry_at s index))
 fallen task (EndsLend _) s = 0
-fallen task AddsOther s = 0
+fallen task (AddsOther _) s = 0
 fallen task (RemovesOther _) s = 0
+fallen task (WritesOther _ _) s = 0

@@ -12,22 +12,27 @@
 //! - `home`: where and for which task a borrow is lowered
 //! - `lifting`: handles that are lifted, lent, dropped and read
 //! - `lowering`: handles that are lowered
+//! - `ending`: readable ends that are lifted and lowered; `readable_end`: such an end
 //! - `laws`: what holds of every run of calls
 #![tactic(auto)]
 
+mod ending;
 mod entry;
 mod handle;
 mod home;
 pub mod laws;
 mod lifting;
 mod lowering;
+mod readable_end;
 mod refusal;
 #[cfg(test)]
 mod tests;
 
+pub use ending::{lift_end, lower_end};
 pub use entry::{Entry, EntryView};
 pub use handle::{Handle, Ownership};
 pub use home::Home;
 pub use lifting::{drop_handle, end_lend, lift_borrow, lift_own, rep};
 pub use lowering::{lower_borrow, lower_own};
+pub use readable_end::ReadableEnd;
 pub use refusal::{LowerError, Refusal};

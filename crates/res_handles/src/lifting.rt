@@ -122,6 +122,7 @@ fn found<E: Entry + Drop>(table: &Table<E>, index: u32, resource: u32) -> Result
 {
     match seen(table, index) {
         None => Err(Refusal::Absent),
+        Some(EntryView::ReadableEnd(_)) => Err(Refusal::OtherKind),
         Some(EntryView::Other) => Err(Refusal::OtherKind),
         Some(EntryView::Handle(handle)) => handle.if_of(resource),
     }

@@ -29,7 +29,7 @@ pub fn lower_own<E: Entry + Drop>(
     ensures stands { (h : List (Event E)) → StandsFor h table.old.slots → IfOk result (λ i. (i ≡ next_index h) × StandsFor (Add (next_index h) (E.made (own_handle resource rep)) ∷ h) table.new.slots) }
     ensures run { OnOk result ((r : List Call) → ComesOf r (shown E.view table.old.slots) → ComesOf (LowersOwn resource rep ∷ r) (shown E.view table.new.slots)) }
 {
-    add(table, Handle::own(resource, rep))
+    add(table, E::of_handle(Handle::own(resource, rep)))
 }
 
 /// Lowers a borrow of a resource. In an instance that defines the resource it is the representation itself, and the table stays as
@@ -54,16 +54,19 @@ pub fn lower_borrow<E: Entry + Drop>(
     if home.defines(resource) {
         return Ok(rep);
     }
-    add(table, Handle::borrow(resource, rep, home.task))
+    add(
+        table,
+        E::of_handle(Handle::borrow(resource, rep, home.task)),
+    )
 }
 
-/// Adds a handle as a new entry.
-fn add<E: Entry + Drop>(table: &mut Table<E>, handle: Handle) -> Result<u32, LowerError>
-    ensures exact { MatchResult result (λ i. Added table.old (E.made handle) i table.new) (λ e. NotLowered table.old e table.new) }
+/// Adds an entry.
+pub(crate) fn add<E: Drop>(table: &mut Table<E>, entry: E) -> Result<u32, LowerError>
+    ensures exact { MatchResult result (λ i. Added table.old entry i table.new) (λ e. NotLowered table.old e table.new) }
     ensures limit { IfOk result (λ i. (1 ≤ i) × (i ≤ most_live)) }
-    ensures stands { (h : List (Event E)) → StandsFor h table.old.slots → IfOk result (λ i. (i ≡ next_index h) × StandsFor (Add (next_index h) (E.made handle) ∷ h) table.new.slots) }
+    ensures stands { (h : List (Event E)) → StandsFor h table.old.slots → IfOk result (λ i. (i ≡ next_index h) × StandsFor (Add (next_index h) entry ∷ h) table.new.slots) }
 {
-    match table.add(E::of_handle(handle)) {
+    match table.add(entry) {
         Ok(index) => Ok(index),
         Err(AddError::Full(_)) => Err(LowerError::TableFull),
         Err(AddError::Memory(_)) => Err(LowerError::Memory),

@@ -1,34 +1,56 @@
-//! Handles in a table whose other entries are numbers.
+//! Handles and readable ends in a table whose other entries are numbers.
 
 use crate::{
-    Entry, EntryView, Handle, Home, LowerError, Ownership, Refusal, drop_handle, end_lend,
-    lift_borrow, lift_own, lower_borrow, lower_own, rep,
+    Entry, EntryView, Handle, Home, LowerError, Ownership, ReadableEnd, Refusal, drop_handle,
+    end_lend, lift_borrow, lift_end, lift_own, lower_borrow, lower_end, lower_own, rep,
 };
 use handle_table::Table;
-use std::alloc::Global;
+use std::alloc::{AllocError, Global};
 
 /// An entry.
 #[derive(Drop)]
 enum Thing {
     /// A handle.
     Handle(Handle),
+    /// A readable end: the number of its type, its own number, and whether it is idle.
+    End(u32, u32, bool),
     /// A number.
     Number(u32),
 }
 
 impl Entry for Thing {
-    ghost use Rattle.std.specs.Prelude.{refl};
+    ghost use Rattle.std.specs.Prelude.{refl, true, false, nat_eq};
+    ghost use Rattle.std.proofs.Common.{eq-eqb};
     ghost use Rattle.res_handles.specs.declared.entry.EntryView.TheVariants as seen;
     ghost use Rattle.res_handles.specs.declared.tests.Thing.TheVariants as thing;
 
-    ghost view = { elim [ thing.Handle x ↦ seen.Handle x | thing.Number _ ↦ seen.Other ] };
+    /// The number of the type.
+    type EndType = u32;
+
+    ghost view = { elim [ thing.Handle x ↦ seen.Handle x | thing.End _ n idle ↦ seen.ReadableEnd (record { number = n; is_idle = idle }) | thing.Number _ ↦ seen.Other ] };
+
+    ghost is_of = { elim [ thing.Handle x ↦ λ t. false | thing.End s _ _ ↦ λ t. nat_eq s t | thing.Number _ ↦ λ t. false ] };
 
     ghost made = { λ x. thing.Handle x };
+
+    ghost made_end = { λ t n. thing.End t n true };
 
     fn view(&self) -> EntryView {
         match self {
             Thing::Handle(handle) => EntryView::Handle(*handle),
+            Thing::End(_, number, is_idle) => EntryView::ReadableEnd(ReadableEnd {
+                number: *number,
+                is_idle: *is_idle,
+            }),
             Thing::Number(_) => EntryView::Other,
+        }
+    }
+
+    fn is_of(&self, end_type: &u32) -> bool {
+        match self {
+            Thing::Handle(_) => false,
+            Thing::End(own_type, _, _) => *own_type == *end_type,
+            Thing::Number(_) => false,
         }
     }
 
@@ -36,7 +58,15 @@ impl Entry for Thing {
         Thing::Handle(handle)
     }
 
+    fn of_end(end_type: &u32, number: u32) -> Result<Thing, AllocError> {
+        Ok(Thing::End(*end_type, number, true))
+    }
+
     ghost made_is_seen = { λ x. refl };
+
+    ghost made_end_is_seen = { λ t n. refl };
+
+    ghost made_end_is_of = { λ t n. eq-eqb t t refl };
 }
 
 /// The lends of the handle at an index.
@@ -180,4 +210,19 @@ fn holds_65535(rt: HostRuntime) {
     assert!(rt; matches!(drop_handle(&mut table, 400, 1), Ok(Handle { rep: 400, .. })));
     assert!(rt; lower_abroad(&mut table, 5) == 400);
     assert!(rt; lower_abroad(&mut table, 5) == 0);
+}
+
+#[test]
+fn lifts_idle_ends_of_their_type(rt: HostRuntime) {
+    let mut table = table_of_two(rt.alloc());
+    assert!(rt; at(lower_end(&mut table, &50, 6)) == 3);
+    assert!(rt; at(lower_end(&mut table, &51, 6)) == 4);
+    assert!(rt; matches!(table.add(Thing::End(50, 8, false)), Ok(5)));
+    assert!(rt; matches!(lift_end(&mut table, 6, &50), Err(Refusal::Absent)));
+    assert!(rt; matches!(lift_end(&mut table, 1, &50), Err(Refusal::OtherKind)));
+    assert!(rt; matches!(lift_own(&mut table, 3, 1), Err(Refusal::OtherKind)));
+    assert!(rt; matches!(lift_end(&mut table, 5, &51), Err(Refusal::OtherType)));
+    assert!(rt; matches!(lift_end(&mut table, 5, &50), Err(Refusal::NotIdle)));
+    assert!(rt; matches!(lift_end(&mut table, 4, &51), Ok(6)));
+    assert!(rt; at(lower_end(&mut table, &50, 9)) == 4);
 }
