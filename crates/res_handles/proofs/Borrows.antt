@@ -1,18 +1,14 @@
 -- How the live borrow handles of a task change.
-use Rattle.std.proofs.Common.{◌≡◌, ℕ, zero, suc, ◌+◌, ◌-◌, ◌<◌, ◌≤◌, sym, ap, refl, ◌∙◌, arith, Bool, true, false, nat_eq, List, [], ◌∷◌, ◌++◌, length, slice_index_or, slice_set, Option, Some, None}
-use Rattle.std.specs.Prelude.{IsOk}
+use Rattle.std.proofs.Common.{◌≡◌, ℕ, zero, suc, ◌+◌, ◌-◌, ◌≤◌, ap, arith, List, [], ◌∷◌, ◌++◌, length, Option, Some, None}
 use Rattle.std.specs.List.{count_by, sum_by}
 use Rattle.std.proofs.lemmas.List.Sums.{sum_by-append, sum_by-cons, sum_by-set}
 use Rattle.handle_table.specs.Slots.{Slots, slot_at, with_slot, filled, added, removed, with_entry, entry_at}
 use Rattle.handle_table.specs.Sound.{AreFree, IsSound}
 use Rattle.handle_table.proofs.Places.{full_within}
 use Rattle.res_handles.specs.declared.handle.Handle.{Handle}
-use Rattle.res_handles.specs.declared.handle.Ownership.{Ownership}
-use Rattle.res_handles.specs.declared.handle.Ownership.TheVariants.{Own, Borrow}
 use Rattle.res_handles.specs.declared.entry.EntryView.{EntryView}
 use Rattle.res_handles.specs.declared.entry.EntryView.TheVariants as seen
-use Rattle.res_handles.specs.Refusals.{owned_by, own_in}
-use Rattle.res_handles.specs.Calls.{own_handle, borrow_handle, lends_in, with_lends, relent_by, view_at}
+use Rattle.res_handles.specs.Calls.{own_handle, borrow_handle, with_lends, relent_by, view_at}
 use Rattle.res_handles.specs.Runs.{Call, LowersOwn, LowersBorrow, LiftsOwn, LiftsBorrow, Drops, EndsLend, AddsOther, RemovesOther, WritesOther, Passes, after, slots_after, IsRun, is_for, is_borrow_of, borrows_of, risen, fallen, one_if}
 use Rattle.res_handles.proofs.Found.{IsFound, IsKept, handle_found, own_kept, dropped_kept, own_is_own, IsOtherFound, other_found}
 use Rattle.res_handles.proofs.Sound.{lent_found, relent_is, run_sound}

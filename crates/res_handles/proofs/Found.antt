@@ -1,5 +1,5 @@
 -- What is known of an entry in which a handle is found.
-use Rattle.std.proofs.Common.{◌≡◌, ℕ, refl, sym, ap, ◌∙◌, subst, Bool, true, false, nat_eq, if◌then◌else◌, Option, Some, None, Result, Ok, Err, inl, inr, eq-eqb}
+use Rattle.std.proofs.Common.{◌≡◌, ℕ, refl, Bool, true, false, nat_eq, if◌then◌else◌, Option, Some, None, Result, Ok, Err, inl, inr}
 use Rattle.std.specs.Prelude.{IsOk}
 use Rattle.std.proofs.lemmas.Bool.{cases_eq, ne_eqb}
 use Rattle.res_handles.specs.declared.handle.Handle.{Handle}
@@ -9,7 +9,7 @@ use Rattle.res_handles.specs.declared.entry.EntryView.{EntryView}
 use Rattle.res_handles.specs.declared.entry.EntryView.TheVariants as seen
 use Rattle.res_handles.specs.declared.refusal.Refusal.{Refusal}
 use Rattle.res_handles.specs.declared.refusal.Refusal.TheVariants.{OtherType, Lent}
-use Rattle.res_handles.specs.Refusals.{of_resource, unlent, owned, owned_by, that_is, handle_in, own_in, dropped_in}
+use Rattle.res_handles.specs.Refusals.{unlent, owned, owned_by, that_is, handle_in, own_in, dropped_in}
 use Rattle.res_handles.specs.Calls.{lends_in}
 use Rattle.res_handles.specs.Runs.{IsOther, is_for, is_borrow_of}
 

@@ -1,5 +1,5 @@
 -- The lends of a handle are the open loans of its index.
-use Rattle.std.proofs.Common.{◌≡◌, ◌≢◌, ℕ, zero, suc, ◌+◌, ◌-◌, ◌<◌, ◌≤◌, sym, ap, refl, ◌∙◌, arith, Bool, true, false, nat_eq, List, [], ◌∷◌, Option, Some, None, inl, inr, eq-eqb}
+use Rattle.std.proofs.Common.{◌≡◌, ◌≢◌, ℕ, zero, suc, ◌+◌, ◌-◌, ◌≤◌, sym, ap, refl, ◌∙◌, arith, nat_eq, List, [], ◌∷◌, Some, None, inl, inr, eq-eqb}
 use Rattle.std.specs.List.{count_by}
 use Rattle.std.proofs.lemmas.Bool.{cases_eq, ne_eqb}
 use Rattle.std.proofs.lemmas.List.Sums.{sum_by-cons}
@@ -12,7 +12,7 @@ use Rattle.res_handles.specs.declared.entry.EntryView.TheVariants as seen
 use Rattle.res_handles.specs.Calls.{own_handle, borrow_handle, lends_in, with_lends, relent_by, view_at}
 use Rattle.res_handles.specs.Runs.{Call, LowersOwn, LowersBorrow, LiftsOwn, LiftsBorrow, Drops, EndsLend, AddsOther, RemovesOther, WritesOther, Passes, after, slots_after, IsRun, begins, ends, open_loans, one_if}
 use Rattle.res_handles.proofs.Found.{IsFound, IsKept, handle_found, own_kept, dropped_kept, IsOtherFound, other_found}
-use Rattle.res_handles.proofs.Sound.{lent_found, relent_is, run_sound, removed_here, written_here, IsFilled, added_at}
+use Rattle.res_handles.proofs.Sound.{lent_found, relent_is, run_sound, removed_here, written_here, added_at}
 
 lends_added : (s : Slots EntryView) (entry : EntryView) (index : ℕ) → lends_in (Some entry) ≡ 0 → IsSound s → lends_in (entry_at (added entry s) index) ≡ lends_in (entry_at s index)
 lends_added s entry index none sound = elim (added_at s entry index sound) [

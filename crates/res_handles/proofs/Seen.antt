@@ -1,15 +1,15 @@
 -- What the calls make of a table, by what its entries are seen as.
-use Rattle.std.proofs.Common.{◌≡◌, ℕ, zero, suc, ◌+◌, ◌-◌, ◌<◌, ◌≤◌, sym, ap, refl, ◌∙◌, arith, subst, List, [], ◌∷◌, ◌++◌, map, drop, Option, Some, None, is_some, slice_index_or, slice_set}
-use Rattle.std.specs.Prelude.{option_map, IsOk}
+use Rattle.std.proofs.Common.{◌≡◌, ℕ, zero, suc, ◌+◌, ◌-◌, sym, ap, refl, ◌∙◌, arith, subst, List, [], ◌∷◌, ◌++◌, map, drop, Option, Some, None, is_some, slice_index_or, slice_set}
+use Rattle.std.specs.Prelude.{option_map}
 use Rattle.std.specs.List.{count_by}
 use Rattle.std.proofs.lemmas.List.Sums.{sum_by-cons}
-use Rattle.handle_table.specs.Slots.{Slots, slot_at, with_slot, filled, added, removed, with_entry, count, entry_at}
+use Rattle.handle_table.specs.Slots.{Slots, with_slot, filled, added, removed, with_entry, count, entry_at}
 use Rattle.handle_table.proofs.Places.{one_if}
 use Rattle.res_handles.specs.declared.handle.Handle.{Handle}
 use Rattle.res_handles.specs.declared.entry.EntryView.{EntryView}
 use Rattle.res_handles.specs.declared.entry.EntryView.TheVariants as seen
 use Rattle.res_handles.specs.Calls.{view_at, shown, with_lends, relent_by, lent, given_back}
-use Rattle.res_handles.specs.Runs.{Call, Passes, after, slots_after, IsRun, ComesOf}
+use Rattle.res_handles.specs.Runs.{Call, Passes, after, ComesOf}
 
 module _ {E : Type 0} (view : E → EntryView) where
   see : Option E → Option EntryView

@@ -1,9 +1,9 @@
 -- Every run leaves a sound table; what is at an index after an add, a removal and a write.
-use Rattle.std.proofs.Common.{◌≡◌, ◌≢◌, ℕ, zero, suc, ◌+◌, ◌-◌, ◌<◌, ◌≤◌, sym, ap, refl, ◌∙◌, arith, subst, List, [], ◌∷◌, ◌++◌, length, Option, Some, None, ◌⊎◌, inl, inr, length-append}
+use Rattle.std.proofs.Common.{◌≡◌, ℕ, zero, suc, ◌+◌, ◌-◌, ◌≤◌, sym, ap, refl, ◌∙◌, arith, subst, List, [], ◌∷◌, ◌++◌, length, Option, Some, None, ◌⊎◌, inl, inr, length-append}
 use Rattle.std.specs.Prelude.{option_map}
 use Rattle.std.proofs.lemmas.Bool.{cases_lt, cases_eq}
 use Rattle.std.proofs.lemmas.List.{get_or_push}
-use Rattle.handle_table.specs.Slots.{Slots, slot_at, with_slot, filled, added, removed, with_entry, count, entry_at}
+use Rattle.handle_table.specs.Slots.{Slots, slot_at, with_slot, filled, added, removed, with_entry, entry_at}
 use Rattle.handle_table.specs.Sound.{AreFree, IsSound}
 use Rattle.handle_table.proofs.Places.{same_slot, other_slot, full_within, slot_before, slot_past}
 use Rattle.handle_table.proofs.Soundness.{added_sound, removed_sound, changed_sound}

@@ -1,5 +1,5 @@
 -- What the calls add to a run, and to a history.
-use Rattle.std.proofs.Common.{◌≡◌, ℕ, ◌+◌, ◌-◌, ◌<◌, ◌≤◌, sym, ap, refl, ◌∙◌, arith, subst, List, ◌∷◌, Bool, Option, Some, None, is_some, IsSome, Result, Ok, Err}
+use Rattle.std.proofs.Common.{◌≡◌, ℕ, ◌<◌, ◌≤◌, sym, ap, refl, ◌∙◌, arith, subst, List, ◌∷◌, Bool, Option, Some, None, IsSome, Result, Ok, Err}
 use Rattle.std.specs.Prelude.{option_map, IsOk, OnOk, MatchResult}
 use Rattle.handle_table.specs.Calls.{Added}
 use Rattle.handle_table.specs.History.{Event, live}
@@ -15,7 +15,7 @@ use Rattle.res_handles.specs.declared.refusal.LowerError.{LowerError}
 use Rattle.res_handles.specs.Refusals.{handle_in, own_in, dropped_in}
 use Rattle.res_handles.specs.Calls.{own_handle, borrow_handle, lends_in, view_at, shown, with_lends, relent_by, lent, given_back, NotLowered}
 use Rattle.res_handles.specs.Ends.{idle_end, end_in}
-use Rattle.res_handles.specs.Runs.{Call, LowersOwn, LowersBorrow, LiftsOwn, LiftsBorrow, Drops, EndsLend, AddsOther, RemovesOther, WritesOther, IsOther, Passes, after, ComesOf}
+use Rattle.res_handles.specs.Runs.{Call, LowersOwn, LowersBorrow, LiftsOwn, LiftsBorrow, Drops, EndsLend, AddsOther, RemovesOther, WritesOther, IsOther, ComesOf}
 use Rattle.res_handles.specs.Laws.{OthersComeAndGo}
 use Rattle.res_handles.proofs.Seen.{shown_at, shown_count, shown_removed, shown_entry, shown_added, shown_lent, shown_given_back, comes}
 
