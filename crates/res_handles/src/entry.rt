@@ -1,4 +1,4 @@
-//! What an entry of a table is, for handles.
+//! What an entry of a table is, for handles and ends.
 
 use crate::handle::Handle;
 use crate::readable_end::ReadableEnd;

@@ -1,13 +1,14 @@
-//! Handles of resources in the table of a component instance (Component Model, CanonicalABI.md, "Resource State", "Flat Lifting",
-//! "Flat Lowering", `canon resource.drop` and `canon resource.rep`).
+//! Handles of resources, and readable ends of streams and futures, in the table of a component instance (Component Model,
+//! CanonicalABI.md, "Resource State", "Loading" and "Storing", `canon resource.drop` and `canon resource.rep`).
 //!
-//! A handle is an entry of a `handle_table::Table`, whose entries are of any type that tells which of them are handles. The calls
-//! lift a handle out of the table, lend it, lower one into it, drop it and read it, each with its tests in their order. What was
-//! done is not kept: a clause `stands` says for every history of the table what a call adds to it, and a clause `run` for every
-//! run of calls, from which the laws count what is lent and which borrows are live.
+//! A handle is an entry of a `handle_table::Table`, whose entries are of any type that tells which of them are handles, and which
+//! readable ends (`Entry`). The calls lift a handle out of the table, lend it, lower one into it, drop it and read it, and lift and
+//! lower an end, each with its tests in their order. What was done is not kept: a clause `stands` says for every history of the
+//! table what a call adds to it, and a clause `run` for every run of calls. By the laws of runs the number of lends that a handle
+//! keeps is that of its open loans, and the live borrow handles of a task change by one.
 //!
 //! - `handle`: a handle
-//! - `entry`: what an entry of a table is, for handles
+//! - `entry`: what an entry of a table is, for handles and ends
 //! - `refusal`: why a call is refused
 //! - `home`: where and for which task a borrow is lowered
 //! - `lifting`: handles that are lifted, lent, dropped and read
