@@ -179,9 +179,10 @@ root_called k l funcs root live (bases, h) scope is called =
     called (world_of bases k) s.0.exports h.instances (is bases l s.0 s.1).exports ∙ ap callables (sym here)
 
 pub graph_told : (k : Linker) (l : Linking) (g : Graph) → state.Stands k l → g.plan ≡ k.plan.items → g.instance_count ≡ length k.scopes.items → g.cores ≡ k.cores.items
-    → g.canons ≡ l.canons → g.exports ≡ map export_of (callables (exports_at l 0)) → g.lifts ≡ map lift_of (callables (exports_at l 0)) → g ≡ graph_of l
+    → g.canons ≡ k.canons.items → g.exports ≡ map export_of (callables (exports_at l 0)) → g.lifts ≡ map lift_of (callables (exports_at l 0)) → g ≡ graph_of l
 graph_told k l g (bases, h) plan count cores canons exports lifts =
     let a : g.plan ≡ l.plan = plan ∙ sym h.plan in
     let b : g.instance_count ≡ length l.scopes = count ∙ sym (as_many bases k l h) in
     let c : g.cores ≡ l.cores = cores ∙ sym h.cores in
-    λ x. (let made : Graph = record { plan = a x; instance_count = b x; cores = c x; canons = canons x; exports = exports x; lifts = lifts x } in made)
+    let d : g.canons ≡ l.canons = canons ∙ sym h.canons in
+    λ x. (let made : Graph = record { plan = a x; instance_count = b x; cores = c x; canons = d x; exports = exports x; lifts = lifts x } in made)

@@ -1,26 +1,18 @@
--- Lowers: what they come to, by what is found of their parts, and the core functions that functions are lowered to.
-use Rattle.std.proofs.Common.{◌≡◌, ◌∙◌, ℕ, Bool, true, false, List, refl, sym, ap, Some, None}
+-- Lowers: what they come to, by what is found of their parts.
+use Rattle.std.proofs.Common.{◌≡◌, ◌∙◌, ℕ, Bool, true, false, List, refl, ap, Some, None}
 use Rattle.std.specs.Prelude.{Result, Ok, Err}
 use Rattle.std.specs.List.{slice_get, list_all}
 use Rattle.ca_types.specs.declared.types.FuncType.{FuncType}
 use Rattle.comp_tree.specs.declared.items.CanonOption.{CanonOption}
-use Rattle.comp_graph.specs.declared.graph.Lift.{Lift}
-use Rattle.comp_graph.specs.declared.graph.Lower.{Lower}
-use Rattle.comp_graph.specs.declared.graph.CanonFunc.{CanonFunc}
-use Rattle.comp_graph.specs.declared.graph.CanonFunc.TheVariants as canon_func
 use Rattle.comp_linking.specs.declared.fault.LinkWhy.{LinkWhy}
 use Rattle.comp_linking.specs.declared.fault.LinkWhy.TheVariants as why
 use Rattle.comp_linking.specs.declared.reach.Reach.{Reach}
 use Rattle.comp_linking.specs.Definitions.{Lifted}
 use Rattle.comp_linking.specs.Runs.{reaches, runs_lower}
 use Rattle.comp_linking.specs.Spaces.{Spaces, Linking}
-use Rattle.comp_linking.specs.Canons.{Given, given_by, options_of, stand_once, is_option_there, can_be_lowered}
-use Rattle.comp_linking.specs.Items.{lowered_with, lower_made}
+use Rattle.comp_linking.specs.Canons.{Given, given_by, stand_once, is_option_there, can_be_lowered}
+use Rattle.comp_linking.specs.Items.{lower_made}
 use Rattle.comp_linking.specs.Computed.{Makes, after, only_if, lowered_from, lower_outcome}
-use Rattle.type_tables.specs.Table.{Table, IsFunc}
-use Rattle.instance_tables.specs.References.{IsLifted}
-use Rattle.comp_link.specs.declared.canons.LoweredRef.{LoweredRef}
-use Rattle.comp_link.specs.State.{IsCanon}
 
 -- That a function can be lowered, by its tests.
 abbrev lower_tests : Bool → Bool → Bool → Given → Result Given LinkWhy
@@ -58,19 +50,3 @@ module _ (l : Linking) (n : ℕ) (s : Spaces) (f : ℕ) (options : List CanonOpt
     pub of_parts : list_all (is_option_there s) options ≡ true
         → lower_outcome l n s f options ≡ after (lowered_from l.reach func.func_type options (given_by s options)) (λ given. Ok (Makes (lower_made l n s func given)))
     of_parts h = rw (is, h) refl
-
--- What a reference stands for.
-pub lowered_is : (t : Table) (n : ℕ) (ref : LoweredRef) (func : Lifted) (given : Given) → ref.instance ≡ n → IsLifted t ref.func func → ref.options ≡ options_of given → IsCanon t ref (lowered_with n func given)
-lowered_is t n ref func given instance is options = record {
-  instance = sym instance;
-  lift = λ x. (let lift : Lift = record { instance = is.instance x; core = is.core x; options = is.options x } in lift);
-  func_type = is.func_type;
-  options = sym options;
-}
-
-pub canon_is : (t : Table) (ref : LoweredRef) (lift : Lift) (type : FuncType) (f : CanonFunc)
-    → lift ≡ record { instance = ref.func.instance; core = ref.func.core; options = ref.func.options } → ((g : FuncType) → IsFunc t ref.func.func_type g → type ≡ g) → IsCanon t ref f
-    → canon_func.Lower (record { instance = ref.instance; lift = lift; func_type = type; options = ref.options }) ≡ f
-canon_is t ref lift type (canon_func.Lower lower) made is h = λ x.
-    let lower : Lower = record { instance = sym h.instance x; lift = (made ∙ sym h.lift) x; func_type = is lower.func_type h.func_type x; options = sym h.options x } in
-    canon_func.Lower lower

@@ -1,14 +1,11 @@
 -- Index spaces stand for what they stood for, where the tables grow.
-use Rattle.std.proofs.Common.{◌≡◌, ℕ, List, Option, Some, None}
-use Rattle.std.specs.List.{AllZip}
+use Rattle.std.proofs.Common.{◌≡◌, ℕ, Option, Some, None}
 use Rattle.wasm_module.specs.declared.module.ModuleTree.{ModuleTree}
 use Rattle.comp_graph.specs.Closed.{Closed}
 use Rattle.comp_linking.specs.Definitions.{Lifted, Closure, Exports}
 use Rattle.comp_linking.specs.Spaces.{Spaces}
 use Rattle.type_tables.specs.declared.refs.TypeRef.{TypeRef}
 use Rattle.type_tables.specs.declared.refs.InstanceTypeRef.{InstanceTypeRef}
-use Rattle.comp_graph.specs.declared.graph.CanonFunc.{CanonFunc}
-use Rattle.comp_graph.specs.declared.graph.CanonFunc.TheVariants as canon_func
 use Rattle.type_tables.specs.Table.{Table, Grows, IsType}
 use Rattle.type_tables.proofs.TypesGrow.{func_stays, type_stays}
 use Rattle.instance_tables.specs.declared.references.InstanceRef.{InstanceRef}
@@ -20,20 +17,12 @@ use Rattle.instance_tables.specs.Instances.{AreInstances}
 use Rattle.instance_tables.proofs.Growing.{instance_stays, listing_stays, bases_stay, known_stays, has_types_stays}
 use Rattle.comp_link.specs.declared.scope.Scope.{Scope}
 use Rattle.type_meanings.specs.Levels.{IsClosure}
-use Rattle.comp_link.specs.declared.canons.LoweredRef.{LoweredRef}
-use Rattle.comp_link.specs.State.{IsModule, AreGiven, IsScope, IsKept, IsCanon}
+use Rattle.comp_link.specs.State.{IsModule, AreGiven, IsScope, IsKept}
 use Rattle.comp_link.proofs.Zips.{zips_weaker}
 
 -- what is kept of a component instance that has not ended
 pub kept_whole : (t : Table) (w : World) (scope : Scope) (s : Spaces) → IsScope t w scope s → IsKept t w scope s
 kept_whole t w scope s h = record { types = h.types; components = h.components; whole = λ live. h }
-
--- the core functions that functions are lowered to
-canon_stays : (t u : Table) → Grows t u → (ref : LoweredRef) (f : CanonFunc) → IsCanon t ref f → IsCanon u ref f
-canon_stays t u types ref (canon_func.Lower lower) h = record { instance = h.instance; lift = h.lift; func_type = func_stays t u types ref.func.func_type lower.func_type h.func_type; options = h.options }
-
-pub canons_stay : (t u : Table) → Grows t u → (refs : List LoweredRef) (canons : List CanonFunc) → AllZip (IsCanon t) refs canons → AllZip (IsCanon u) refs canons
-canons_stay t u types refs canons h = zips_weaker (IsCanon t) (IsCanon u) (canon_stays t u types) refs canons h
 
 module _ (t u : Table) (v w : World) (types : Grows t u) (world : WorldStays v w) where
   lifted_stays : (ref : LiftedRef) (f : Lifted) → IsLifted t ref f → IsLifted u ref f

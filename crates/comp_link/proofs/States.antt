@@ -18,9 +18,9 @@ use Rattle.instance_tables.specs.Instances.{AreInstances, GivesInstance}
 use Rattle.instance_tables.proofs.Growing.{more_bases, stays_before}
 use Rattle.comp_link.specs.declared.scope.Scope.{Scope}
 use Rattle.comp_link.specs.declared.linker.Linker.{Linker}
-use Rattle.comp_link.specs.State.{world_of, IsScope, IsKept, IsCanon, ended, IsLive, IsState, IsAt, IsThere}
+use Rattle.comp_link.specs.State.{world_of, IsScope, IsKept, ended, IsLive, IsState, IsAt, IsThere}
 use Rattle.comp_link.proofs.Zips.{zips_weaker, zips_set, zips_reset, other_kept, map_set, zips_there, zips_read, last_is}
-use Rattle.comp_link.proofs.Growth.{kept_whole, kept_stays, canons_stay, instances_stay}
+use Rattle.comp_link.proofs.Growth.{kept_whole, kept_stays, instances_stay}
 
 pub same_world : (w : World) → WorldStays w w
 same_world w = record { components = λ number x h. h; bases = λ number x h. h; modules = λ number x h. h }
@@ -34,7 +34,7 @@ state_stays bases more k m l types world instances scopes cores canons plan reac
   scopes = subst (λ (v : Linker). AllZip (IsKept m.types (world_of more m)) v.scopes.items l.scopes) (ap (λ scopes. record k { scopes = scopes }) (sym scopes))
       (zips_weaker (IsKept k.types (world_of bases k)) (IsKept m.types (world_of more m)) (kept_stays k.types m.types (world_of bases k) (world_of more m) types world) k.scopes.items l.scopes h.scopes);
   cores = h.cores ∙ ap (λ cores. cores.items) (sym cores);
-  canons = subst (λ (v : Linker). AllZip (IsCanon m.types) v.canons.items l.canons) (ap (λ canons. record k { canons = canons }) (sym canons)) (canons_stay k.types m.types types k.canons.items l.canons h.canons);
+  canons = h.canons ∙ ap (λ canons. canons.items) (sym canons);
   plan = h.plan ∙ ap (λ plan. plan.items) (sym plan);
   reach = h.reach ∙ sym reach;
 }
@@ -48,7 +48,7 @@ types_grow bases k m l grows same h = subst (λ (v : Linker). IsState bases v l)
       instances = instances_stay k.types m.types (world_of bases k) (world_of bases k) grows (same_world (world_of bases k)) k.instances refl h.instances;
       scopes = zips_weaker (IsKept k.types (world_of bases k)) (IsKept m.types (world_of bases k)) (kept_stays k.types m.types (world_of bases k) (world_of bases k) grows (same_world (world_of bases k))) k.scopes.items l.scopes h.scopes;
       cores = h.cores;
-      canons = canons_stay k.types m.types grows k.canons.items l.canons h.canons;
+      canons = h.canons;
       plan = h.plan;
       reach = h.reach;
     }

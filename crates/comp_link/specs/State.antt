@@ -1,22 +1,18 @@
 -- Linking as it stands (Component Model, Explainer.md, "Index Spaces"): the component instances that have begun, with their index
--- spaces as references into tables, the core instances, the core functions of the Canonical ABI, the plan, and how far linking goes. What stands behind the references is
--- told by the lists of exports that the instances so far have.
+-- spaces as references into tables, the core instances, the core functions of the Canonical ABI, the plan, and how far linking goes.
+-- What stands behind the references is told by the lists of exports that the instances so far have.
 use Rattle.std.specs.Prelude.{◌≡◌, ℕ, Bool, false, List, map, Option, Some, None}
 use Rattle.std.specs.List.{slice_get, AllZip}
 use Rattle.wasm_module.specs.declared.module.ModuleTree.{ModuleTree}
-use Rattle.comp_graph.specs.declared.graph.Lower.{Lower}
-use Rattle.comp_graph.specs.declared.graph.CanonFunc.{CanonFunc}
-use Rattle.comp_graph.specs.declared.graph.CanonFunc.TheVariants as canon_func
 use Rattle.comp_linking.specs.Definitions.{Exports, export_names}
 use Rattle.comp_linking.specs.Spaces.{Spaces, Linking}
 use Rattle.comp_linking.specs.Computed.{Outcome, Makes, Starts}
-use Rattle.type_tables.specs.Table.{Table, IsFunc, IsType}
+use Rattle.type_tables.specs.Table.{Table, IsType}
 use Rattle.instance_tables.specs.declared.references.InstanceRef.{InstanceRef}
 use Rattle.instance_tables.specs.References.{World, IsInstance, IsLifted, IsListing}
 use Rattle.instance_tables.specs.Instances.{AreInstances}
 use Rattle.type_meanings.specs.Levels.{IsClosure}
 use Rattle.comp_link.specs.declared.scope.Scope.{Scope}
-use Rattle.comp_link.specs.declared.canons.LoweredRef.{LoweredRef}
 use Rattle.comp_link.specs.declared.linker.Linker.{Linker}
 
 -- what stands behind the numbers of a linker whose instances so far have these exports
@@ -69,22 +65,12 @@ IsLive k n = slice_get (ended k) n ≡ Some false
 abbrev pub StayLive : Linker → Linker → Type 0
 StayLive old new = (n : ℕ) → IsLive old n → IsLive new n
 
--- A reference stands for a function that is lowered, and for the core function that it is lowered to.
-pub record IsLowered (t : Table) (ref : LoweredRef) (lower : Lower) : Type 0 where
-  pub instance : lower.instance ≡ ref.instance
-  pub lift : lower.lift ≡ record { instance = ref.func.instance; core = ref.func.core; options = ref.func.options }
-  pub func_type : IsFunc t ref.func.func_type lower.func_type
-  pub options : lower.options ≡ ref.options
-
-abbrev pub IsCanon : Table → LoweredRef → CanonFunc → Type 0
-IsCanon t ref (canon_func.Lower lower) = IsLowered t ref lower
-
 -- A linker stands for a linking, where its instances so far have these exports.
 pub record IsState (bases : List Exports) (k : Linker) (l : Linking) : Type 0 where
   pub instances : AreInstances k.types (world_of bases k) k.instances
   pub scopes : AllZip (IsKept k.types (world_of bases k)) k.scopes.items l.scopes
   pub cores : l.cores ≡ k.cores.items
-  pub canons : AllZip (IsCanon k.types) k.canons.items l.canons
+  pub canons : l.canons ≡ k.canons.items
   pub plan : l.plan ≡ k.plan.items
   pub reach : l.reach ≡ k.reach
 

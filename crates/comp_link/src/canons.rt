@@ -1,25 +1,14 @@
-//! Core functions that the Canonical ABI makes: as references into tables, and as a graph has them.
+//! What functions lift, and the core functions that they are lowered to.
 
-ghost use Rattle.std.specs.Prelude.{◌≡◌, ◌∷◌, ◌++◌, [], List, IfOk, OnOk};
-ghost use Rattle.std.specs.List.{AllZip};
-ghost use Rattle.comp_graph.specs.declared.graph.CanonFunc.{CanonFunc};
-ghost use Rattle.comp_link.specs.State.{IsCanon};
+ghost use Rattle.std.specs.Prelude.{◌≡◌, IfOk, Some};
+ghost use Rattle.ca_types.specs.declared.types.FuncType as closed;
+ghost use Rattle.comp_graph.specs.declared.graph.CanonFunc.TheVariants as canon_func;
+ghost use Rattle.type_tables.specs.Table.{IsFunc};
 
 use comp_graph::{CanonFunc, Lift, Lower, Options};
 use instance_tables::LiftedRef;
-use std::alloc::{AllocError, Global};
+use std::alloc::AllocError;
 use type_tables::Types;
-
-/// A function that is lowered.
-#[derive(Clone, Copy)]
-pub struct LoweredRef {
-    /// The component instance that lowers it.
-    pub instance: usize,
-    /// The function.
-    pub func: LiftedRef,
-    /// What else the lowering uses.
-    pub options: Options,
-}
 
 /// What a function lifts.
 pub fn lift_of(func: LiftedRef) -> Lift
@@ -32,39 +21,24 @@ pub fn lift_of(func: LiftedRef) -> Lift
     }
 }
 
-/// Puts the core function that a function is lowered to behind others, where its type is there. The tree of the type is shared. It
-/// fails for want of memory alone, as do all functions here that fail.
-#[tactic(auto, using(crate::proofs::CanonParts::canon_is))]
-fn push_canon(
+/// The core function that a function is lowered to, with these options, in the component instance of this number, where its type is
+/// there. The tree of the type is shared. It fails for want of memory alone.
+pub fn lowered_to(
     types: &Types<'_>,
-    lowered: LoweredRef,
-    canons: &mut Vec<CanonFunc>,
-) -> Result<(), AllocError>
-    ensures { OnOk result ((f : CanonFunc) → IsCanon types.now lowered f → canons.new.items ≡ canons.old.items ++ f ∷ []) }
+    instance: usize,
+    func: LiftedRef,
+    options: Options,
+) -> Result<Option<CanonFunc>, AllocError>
+    ensures { IfOk result (λ made. (f : closed.FuncType) → IsFunc types.now func.func_type f → made ≡ Some (canon_func.Lower (record { instance = instance; lift = record { instance = func.instance; core = func.core; options = func.options }; func_type = f; options = options }))) }
 {
-    let Some(func_type) = types.func_at(lowered.func.func_type) else {
-        return Ok(());
+    let Some(func_type) = types.func_at(func.func_type) else {
+        return Ok(None);
     };
-    canons.push(CanonFunc::Lower(Lower {
-        instance: lowered.instance,
-        lift: lift_of(lowered.func),
-        func_type: func_type.share()?,
-        options: lowered.options,
-    }))?;
-    Ok(())
-}
-
-/// The core functions that functions are lowered to, in order.
-pub fn canon_funcs(
-    alloc: Global,
-    types: &Types<'_>,
-    lowered: &[LoweredRef],
-) -> Result<Vec<CanonFunc>, AllocError>
-    ensures { IfOk result (λ v. (canons : List CanonFunc) → AllZip (IsCanon types.now) lowered.now canons → v.items ≡ canons) }
-{
-    let mut canons = Vec::new(alloc);
-    for func in lowered {
-        push_canon(types, *func, &mut canons)?;
-    }
-    Ok(canons)
+    let func_type = func_type.share()?;
+    Ok(Some(CanonFunc::Lower(Lower {
+        instance,
+        lift: lift_of(func),
+        func_type,
+        options,
+    })))
 }

@@ -13,12 +13,12 @@ ghost use Rattle.comp_link.specs.State as state;
 ghost use Rattle.comp_link.specs.State.{IsLive};
 ghost use Rattle.comp_link.specs.Called.{named_behind, IsFuncEntry, AreFuncs, AreLists};
 
-use crate::canons::{canon_funcs, lift_of};
+use crate::canons::lift_of;
 use crate::funcs::FuncLists;
 use crate::linker::{Linker, ROOT};
 use ca_base::{Name, Seq};
 use ca_types::Export;
-use comp_graph::{CanonFunc, Graph, Lift};
+use comp_graph::{Graph, Lift};
 use instance_tables::{DefinitionRef, InstanceRef, Instances, LiftedRef};
 use std::alloc::{AllocError, Global};
 use std::marker::Model;
@@ -216,33 +216,26 @@ fn exports_of(alloc: Global, funcs: Vec<Callable>) -> Result<Vec<Export>, AllocE
     Ok(exports)
 }
 
-/// The functions of a graph: those that are lowered, and those that can be called, with what each lifts.
+/// The functions of a graph that can be called, with what each lifts.
 #[derive(Drop)]
 struct GraphFuncs {
-    canons: Vec<CanonFunc>,
     exports: Vec<Export>,
     lifts: Vec<Lift>,
 }
 
-/// The functions of the graph of what is linked.
+/// The functions of the graph of what is linked that can be called.
 fn graph_funcs(alloc: Global, linker: &Linker<'_>) -> Result<GraphFuncs, AllocError>
     requires root { 0 < length linker.now.scopes.items }
     requires live { IsLive linker.now 0 }
-    ensures canons { IfOk result (λ f. (l : Linking) → state.Stands linker.now l → f.canons.items ≡ (linked.graph_of l).canons) }
     ensures exports { IfOk result (λ f. (l : Linking) → state.Stands linker.now l → f.exports.items ≡ (linked.graph_of l).exports) }
     ensures lifts { IfOk result (λ f. (l : Linking) → state.Stands linker.now l → f.lifts.items ≡ (linked.graph_of l).lifts) }
     ensures many { IfOk result (λ f. length f.lifts.items ≡ length f.exports.items) }
 {
-    let canons = canon_funcs(alloc, &linker.types, &linker.canons)?;
     let entries = linker.scope(ROOT).exports.entries();
     let funcs = callables(alloc, &linker.types, &linker.instances, entries)?;
     let lifts = lifts_of(alloc, &funcs)?;
     let exports = exports_of(alloc, funcs)?;
-    Ok(GraphFuncs {
-        canons,
-        exports,
-        lifts,
-    })
+    Ok(GraphFuncs { exports, lifts })
 }
 
 /// The graph of what is linked.
@@ -259,7 +252,7 @@ pub fn graph_of<'a>(alloc: Global, linker: Linker<'a>) -> Result<Graph<'a>, Allo
         Seq::from_vec(linker.plan),
         count,
         linker.cores,
-        Seq::from_vec(funcs.canons),
+        Seq::from_vec(linker.canons),
         Seq::from_vec(funcs.exports),
         Seq::from_vec(funcs.lifts),
     ))

@@ -18,11 +18,11 @@ ghost use Rattle.instance_tables.specs.Fit.{IsFit};
 ghost use Rattle.type_meanings.specs.Meant.{IsFoundAs};
 ghost use Rattle.comp_link.specs.State.{world_of, IsScope, IsKept, IsState, IsAt, IsThere, IsLive, Stands, ended};
 
-use crate::canons::LoweredRef;
+use crate::canons::lowered_to;
 use crate::scope::{Scope, Standing};
 use ca_base::{Name, Seq};
 use ca_types::Shared;
-use comp_graph::{Action, CoreExtern, CoreMake, Options};
+use comp_graph::{Action, CanonFunc, CoreExtern, CoreMake, Options};
 use comp_linking::Reach;
 use comp_tree::Component;
 use core_exports::{CoreExports, CoreItem, CoreModule, InlineExports};
@@ -51,8 +51,8 @@ pub struct Linker<'a> {
     pub scopes: Vec<Scope<'a>>,
     /// The core instances that are made of modules, in order of making.
     pub cores: Vec<CoreMake<'a>>,
-    /// The functions that are lowered, in order of making, by the numbers of their core functions.
-    pub canons: Vec<LoweredRef>,
+    /// The core functions that functions are lowered to, in order of making.
+    pub canons: Vec<CanonFunc>,
     /// What is made, in file order.
     pub plan: Vec<Action>,
     /// How far linking goes.
@@ -252,16 +252,15 @@ impl<'a> Linker<'a> {
         ensures scopes { OnOk result (length self.new.scopes.items ≡ length self.old.scopes.items) }
         ensures live { OnOk result (ended self.new ≡ ended self.old) }
     {
+        let Some(made) = lowered_to(&self.types, n, func, options)? else {
+            return Ok(());
+        };
         let number = self.canons.len();
         let Some(laid) = self.types.laid_func(func.func_type) else {
             return Ok(());
         };
         let item = CoreItem::lowered(number, laid);
-        self.canons.push(LoweredRef {
-            instance: n,
-            func,
-            options,
-        })?;
+        self.canons.push(made)?;
         self.scopes[n].add_core_item(item)?;
         Ok(())
     }

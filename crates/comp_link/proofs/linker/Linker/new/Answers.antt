@@ -3,8 +3,7 @@ use Rattle.std.specs.List.{slice_get, AllZip}
 use Rattle.comp_linking.specs.Spaces.{new_spaces, Action, Begin}
 use Rattle.instance_tables.specs.References.{World}
 use Rattle.comp_link.specs.declared.scope.Scope.{Scope}
-use Rattle.comp_link.specs.declared.canons.LoweredRef.{LoweredRef}
-use Rattle.comp_link.specs.State.{IsScope, IsKept, IsCanon}
+use Rattle.comp_link.specs.State.{IsScope, IsKept}
 use Rattle.comp_link.proofs.Growth.{kept_whole}
 use Rattle.comp_link.proofs.linker.Linker.new.Goals as goal
 
@@ -18,7 +17,7 @@ returns-clause-ok c =
       scopes = subst (λ (scopes : List Scope). AllZip (IsKept c.new-4.result w) scopes (new_spaces None [] ∷ []))
           (sym (c.in_ok-push-2.ensures.items ∙ ap (λ (before : List Scope). before ++ c.new-3.result ∷ []) c.new-scopes.ensures.items)) (kept_whole c.new-4.result w c.new-3.result (new_spaces None []) root, tt);
       cores = sym c.new-8.ensures.items;
-      canons = subst (λ (refs : List LoweredRef). AllZip (IsCanon c.new-4.result) refs []) (sym c.new-9.ensures.items) tt;
+      canons = sym c.new-9.ensures.items;
       plan = sym (c.in_ok-push.ensures.items ∙ ap (λ (before : List Action). before ++ Begin 0 ∷ []) c.new-plan.ensures.items);
       reach = refl;
     }
