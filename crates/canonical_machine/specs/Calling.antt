@@ -15,7 +15,7 @@ use Rattle.trace_show.specs.declared.trap.TrapName.TheVariants as trap
 use Rattle.canonical_machine.specs.declared.run_end.RunEnd.{RunEnd}
 use Rattle.canonical_machine.specs.declared.run_end.RunEnd.TheVariants.{Done, Deadlock}
 use Rattle.canonical_machine.specs.Control.{Runs, Arrives}
-use Rattle.canonical_machine.specs.World.{Callee, Function, Subtask, Caller, Host, Guest, TaskState, Acting, AfterCall, Task, World}
+use Rattle.canonical_machine.specs.World.{Callee, Func, Subtask, Caller, Host, Guest, TaskState, Acting, AfterCall, Task, World}
 use Rattle.canonical_machine.specs.Edits.{with_control, item_taken, task_made, chained, in_state, answered, told}
 use Rattle.canonical_machine.specs.Reading.{task_at, acting, subtask_of, subtask_state, is_reentrant, unfinished}
 use Rattle.canonical_machine.specs.Turn.{Turn, Steps, Ends, Stuck, doomed, given, charged}
@@ -38,7 +38,7 @@ arguments_typed f values = typed (map (λ p. p.val_type) f.func_type.params) val
 -- Calls are counted from 1. Every item is a call so far.
 unfoldable pub taken : Call → Lifted → World → Turn
 taken call f w =
-    Steps (line.Take (w.taken + 1) (length w.tasks) call.name (arguments_typed f call.values) ∷ []) (begun (Function f) (Host call.values) (item_taken w))
+    Steps (line.Take (w.taken + 1) (length w.tasks) call.name (arguments_typed f call.values) ∷ []) (begun (Func f) (Host call.values) (item_taken w))
 
 -- Where no item is left, all is done if each task has exited. None can go on otherwise: a task that runs stands on the chain.
 abbrev pub end_of : List ℕ → RunEnd
@@ -61,7 +61,7 @@ called_by t canon words = record { by = t; canon = canon; words = words; told = 
 unfoldable pub call_begun : ℕ → ℕ → Lifted → List ℕ → World → Turn
 call_begun t canon f words w =
     if is_reentrant w f.instance t then doomed t trap.Reentrant w
-    else Steps (line.Call t (length w.tasks) (f.instance + 1) ∷ []) (begun (Function f) (Guest (called_by t canon words)) (in_state t (AfterCall (length w.tasks)) w))
+    else Steps (line.Call t (length w.tasks) (f.instance + 1) ∷ []) (begun (Func f) (Guest (called_by t canon words)) (in_state t (AfterCall (length w.tasks)) w))
 
 -- Control is back at a task. The one that it called has returned, the task is told so, and goes on with the core values of the
 -- result. A sync task that has not returned does not give control back.

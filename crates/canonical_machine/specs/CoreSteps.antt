@@ -10,7 +10,7 @@ use Rattle.comp_graph.specs.Graph.{Graph}
 use Rattle.script_reader.specs.Script.{Script}
 use Rattle.canonical_machine.specs.Traps.{core_name}
 use Rattle.canonical_machine.specs.Control.{Instantiates, Runs, Calls}
-use Rattle.canonical_machine.specs.World.{Init, Function, Acting, Begins, TaskState, Task, World}
+use Rattle.canonical_machine.specs.World.{Acting, Begins, TaskState, Task, World}
 use Rattle.canonical_machine.specs.Edits.{with_store, in_state, with_stack, unstacked}
 use Rattle.canonical_machine.specs.Reading.{acting, func_of}
 use Rattle.canonical_machine.specs.Turn.{Turn, Stuck, silent, doomed, given, charged}

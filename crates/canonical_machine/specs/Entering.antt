@@ -5,51 +5,37 @@
 -- this while it stands on the chain. The chain is empty where the script calls, and a call into the instance of a task on the chain
 -- is a trap, since each of these is the caller of the next. So no task of the instance holds exclusive entry, none waits to enter, and
 -- there is no backpressure.
-use Rattle.std.specs.Prelude.{ℕ, slice_index, if◌then◌else◌, List, [], ◌∷◌, Option, Some, None, Result, Ok, Err}
+use Rattle.std.specs.Prelude.{ℕ, List, [], ◌∷◌, Option, Some, None, Result, Ok, Err}
 use Rattle.std.specs.List.{slice_get}
 use Rattle.std.specs.Option.{option_map}
 use Rattle.core_machine.specs.Store.{Store}
-use Rattle.ca_types.specs.declared.types.FuncType.{FuncType}
 use Rattle.ca_types.specs.declared.value.Value.{Value}
 use Rattle.ca_types.specs.declared.value.Value.TheViews as value
 use Rattle.value_lift.specs.declared.trap.LiftTrap.{LiftTrap}
-use Rattle.value_lift.specs.declared.counting.LiftOf.TheVariants as whole
-use Rattle.value_lift.specs.Lifting.{load, lift_flat}
-use Rattle.value_lower.specs.Plan.{Plan}
-use Rattle.value_lower.specs.Lowering.{flat_lowered, placed}
 use Rattle.comp_graph.specs.declared.graph.CanonFunc.{CanonFunc}
 use Rattle.comp_graph.specs.declared.graph.Lower.{Lower}
 use Rattle.comp_graph.specs.Graph.{Graph, Lifted}
 use Rattle.trace_show.specs.declared.label.Label.TheVariants as line
+use Rattle.canonical_machine.specs.Passing.{arguments_lifted, arguments_plan}
 use Rattle.canonical_machine.specs.Traps.{lift_name}
 use Rattle.canonical_machine.specs.Control.{Starts, Lowering, Lowers}
 use Rattle.canonical_machine.specs.World.{Subtask, Caller, Nobody, Host, Guest, Acting, New, TaskState, Task, World}
 use Rattle.canonical_machine.specs.Edits.{in_state}
-use Rattle.canonical_machine.specs.Reading.{memory_of, realloc_of, bytes_of, params_type, params_in_memory, lower_of, acting, func_of}
+use Rattle.canonical_machine.specs.Reading.{memory_of, realloc_of, bytes_of, lower_of, acting, func_of}
 use Rattle.canonical_machine.specs.Turn.{Turn, Stuck, silent, doomed, behind, given}
-
--- The arguments, of the words that are passed: they stand in them, or at the place that is the first word.
-abbrev pub params_lifted : FuncType → List ℕ → List ℕ → Result Value LiftTrap
-params_lifted type bytes words =
-    if params_in_memory type then load whole.Arguments (params_type type) bytes (slice_index words 0)
-    else lift_flat whole.Arguments (params_type type) bytes words
 
 -- The arguments of a call: those of the script, or what a task passes to a function that it lowers.
 abbrev pub passed : Store → Subtask → Lower → Result Value LiftTrap
-passed s subtask l = params_lifted l.func_type (bytes_of s (memory_of s l.options)) subtask.words
+passed s subtask l = arguments_lifted l.func_type (bytes_of s (memory_of s l.options)) subtask.words
 
 abbrev pub arguments_of : Graph → Store → Caller → Option (Result Value LiftTrap)
 arguments_of g s Nobody = None
 arguments_of g s (Host values) = Some (Ok (value.Record values))
 arguments_of g s (Guest subtask) = option_map (λ canon. passed s subtask (lower_of canon)) (slice_get g.canons subtask.canon)
 
--- The plan by which arguments are lowered: as core values, or at a new place.
-abbrev pub params_plan : FuncType → Value → Plan
-params_plan type v = if params_in_memory type then placed (params_type type) v else flat_lowered (params_type type) v
-
--- It acts for the task that is called.
-abbrev pub params_lowering : Store → ℕ → Lifted → Lowering
-params_lowering s t f = record {
+-- The lowering of arguments acts for the task that is called.
+abbrev pub arguments_lowering : Store → ℕ → Lifted → Lowering
+arguments_lowering s t f = record {
   inst = f.instance;
   memory = memory_of s f.options;
   realloc = realloc_of s f.options;
@@ -58,14 +44,14 @@ params_lowering s t f = record {
   next = Starts;
 }
 
-unfoldable pub arguments_lifted : ℕ → Lifted → Result Value LiftTrap → World → Turn
-arguments_lifted t f (Err trap) w = doomed t (lift_name trap.why) w
-arguments_lifted t f (Ok v) w = silent (Lowers (params_lowering w.store t f) (params_plan f.func_type v)) w
+unfoldable pub with_arguments : ℕ → Lifted → Result Value LiftTrap → World → Turn
+with_arguments t f (Err trap) w = doomed t (lift_name trap.why) w
+with_arguments t f (Ok v) w = silent (Lowers (arguments_lowering w.store t f) (arguments_plan f.func_type v)) w
 
 -- A task that is new enters.
 unfoldable pub entered : Graph → ℕ → Task → TaskState → Lifted → World → Turn
 entered g t task New f w =
-    behind (line.Enter t ∷ []) (given (arguments_of g w.store task.caller) (λ arguments. arguments_lifted t f arguments (in_state t Acting w)))
+    behind (line.Enter t ∷ []) (given (arguments_of g w.store task.caller) (λ arguments. with_arguments t f arguments (in_state t Acting w)))
 entered g t task state f w = Stuck
 
 unfoldable pub arriving_turn : Graph → World → Turn

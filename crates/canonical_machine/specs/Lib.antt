@@ -4,6 +4,7 @@ pub mod Edits
 pub mod Reading
 pub mod Turn
 pub mod Traps
+pub mod Passing
 pub mod Instantiating
 pub mod Returning
 pub mod CoreSteps

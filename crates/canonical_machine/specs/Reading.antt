@@ -1,15 +1,11 @@
 -- What is read of graphs and worlds (Component Model, CanonicalABI.md, "Canonical ABI Options", "Task State" and "Subtask State";
 -- Core 2.0, section 4.2): addresses of core definitions, options, tasks, and what is computed of them.
-use Rattle.std.specs.Prelude.{ℕ, zero, suc, ◌+◌, Bool, true, false, ◌&&◌, ◌||◌, nat_eq, nat_lt, not, if◌then◌else◌, List, [], ◌∷◌, map, length, drop, Option, Some, None}
+use Rattle.std.specs.Prelude.{ℕ, zero, suc, ◌+◌, Bool, true, false, ◌&&◌, ◌||◌, nat_eq, not, if◌then◌else◌, List, [], ◌∷◌, map, length, drop, Option, Some, None}
 use Rattle.std.specs.List.{slice_get}
 use Rattle.std.specs.Option.{option_and_then, option_map}
 use Rattle.core_machine.specs.Store.{Store, Function, Instance, found_at}
 use Rattle.core_machine.specs.Instantiation.{External, FuncAddress, TableAddress, MemoryAddress, GlobalAddress}
 use Rattle.wasm_memory.specs.Memories.{MemoryState}
-use Rattle.ca_types.specs.declared.types.ValType.{ValType}
-use Rattle.ca_types.specs.declared.types.ValType.TheViews as val_type
-use Rattle.ca_types.specs.declared.types.FuncType.{FuncType}
-use Rattle.ca_types.specs.Flat.{flat_params, flat_payload}
 use Rattle.comp_graph.specs.declared.graph.CoreRef.{CoreRef}
 use Rattle.comp_graph.specs.declared.graph.FuncRef.{FuncRef}
 use Rattle.comp_graph.specs.declared.graph.FuncRef.TheVariants as func_ref
@@ -20,11 +16,10 @@ use Rattle.comp_graph.specs.declared.graph.Lower.{Lower}
 use Rattle.comp_graph.specs.declared.graph.CanonFunc.{CanonFunc}
 use Rattle.comp_graph.specs.declared.graph.CanonFunc.TheVariants as canon_func
 use Rattle.comp_graph.specs.Graph.{Graph, Lifted}
-use Rattle.comp_graph.specs.Needs.{flat_param_limit, flat_result_limit}
 use Rattle.trace_show.specs.declared.builtin.Builtin.{Builtin}
 use Rattle.trace_show.specs.declared.builtin.Builtin.TheVariants as builtin
 use Rattle.canonical_machine.specs.Control.{Control, Free, Instantiates, Runs, Calls, Arrives, Lowers, Quiet, Back, Leaves, Doomed}
-use Rattle.canonical_machine.specs.World.{Callee, Init, Function, Subtask, Caller, Nobody, Host, Guest, Resolution, Unresolved, Returned, TaskState, New, Exited, Task, World}
+use Rattle.canonical_machine.specs.World.{Callee, Init, Func, Subtask, Caller, Nobody, Host, Guest, Resolution, Unresolved, Returned, TaskState, New, Exited, Task, World}
 
 -- Addresses. The core instance of number k has address k, and so has the core function that the Canonical ABI makes as that of
 -- number k.
@@ -61,17 +56,6 @@ bytes_of_memory (Some m) = m.1.bytes
 abbrev pub bytes_of : Store → Option ℕ → List ℕ
 bytes_of s memory = bytes_of_memory (found_at s.memories memory)
 
--- Functions. Parameters are passed as one tuple.
-abbrev pub params_type : FuncType → ValType
-params_type f = val_type.Tuple (map (λ p. p.val_type) f.params)
-
--- whether parameters, and a result, have more core values than are passed as such: then they are passed in memory
-abbrev pub params_in_memory : FuncType → Bool
-params_in_memory f = nat_lt flat_param_limit (length (flat_params f))
-
-abbrev pub result_in_memory : FuncType → Bool
-result_in_memory f = nat_lt flat_result_limit (length (flat_payload f.result))
-
 -- The core functions that the Canonical ABI makes: the name of one, the component instance that made it, and the function that it
 -- calls.
 abbrev pub builtin_of : CanonFunc → Builtin
@@ -96,7 +80,7 @@ acting w = found_at w.tasks (slice_get w.chain 0)
 -- the function that a task runs
 abbrev pub func_of : Callee → Option Lifted
 func_of Init = None
-func_of (Function f) = Some f
+func_of (Func f) = Some f
 
 -- the caller's side of the call of a task, where a task called it
 abbrev pub subtask_of : Caller → Option Subtask

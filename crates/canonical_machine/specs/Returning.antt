@@ -1,34 +1,27 @@
 -- What follows a task's core function (Component Model, CanonicalABI.md, `canon lift`, "Flat Lifting" and "Loading"): the result is
 -- lifted, the task resolves, which lowers the result into its caller at once, the post-return runs, and the task exits. No handle
 -- is passed, so no borrow handle can be live.
-use Rattle.std.specs.Prelude.{ℕ, zero, suc, slice_index, if◌then◌else◌, Bool, List, [], ◌∷◌, Option, Some, None, Result, Ok, Err}
+use Rattle.std.specs.Prelude.{ℕ, List, [], ◌∷◌, Option, Some, None, Result, Ok, Err}
 use Rattle.std.specs.List.{slice_get}
 use Rattle.std.specs.Option.{option_map}
 use Rattle.core_machine.specs.Store.{Store, Function, found_at}
 use Rattle.core_machine.specs.Step.{start}
 use Rattle.ca_types.specs.declared.types.ValType.{ValType}
+use Rattle.ca_types.specs.declared.types.FuncType.{FuncType}
 use Rattle.ca_types.specs.declared.value.Value.{Value}
 use Rattle.value_lift.specs.declared.trap.LiftTrap.{LiftTrap}
-use Rattle.value_lift.specs.declared.counting.LiftOf.TheVariants as whole
-use Rattle.value_lift.specs.Lifting.{load, lift_flat}
-use Rattle.value_lower.specs.Plan.{Plan}
-use Rattle.value_lower.specs.Lowering.{stored, flat_lowered}
 use Rattle.comp_graph.specs.declared.graph.FuncRef.{FuncRef}
 use Rattle.comp_graph.specs.declared.graph.Lower.{Lower}
 use Rattle.comp_graph.specs.Graph.{Graph, Lifted}
 use Rattle.trace_show.specs.declared.label.Label.TheVariants as line
 use Rattle.trace_show.specs.declared.typed.TypedValue.{TypedValue}
+use Rattle.canonical_machine.specs.Passing.{result_lifted, result_plan}
 use Rattle.canonical_machine.specs.Traps.{lift_name}
 use Rattle.canonical_machine.specs.Control.{Control, Free, Resolves, Lowering, Going, Nested, BeforeLeaving, Instantiates, Lowers, Quiet, Back, Leaves}
 use Rattle.canonical_machine.specs.World.{Subtask, Caller, Nobody, Host, Guest, Returned, Exited, Task, World}
 use Rattle.canonical_machine.specs.Edits.{with_control, unchained, in_state, resolved}
-use Rattle.canonical_machine.specs.Reading.{func_address, memory_of, realloc_of, bytes_of, result_in_memory, lower_of, acting, func_of}
+use Rattle.canonical_machine.specs.Reading.{func_address, memory_of, realloc_of, bytes_of, lower_of, acting, func_of}
 use Rattle.canonical_machine.specs.Turn.{Turn, Steps, silent, doomed, behind, given}
-
--- The result, of the core values with which the core function ended: it stands in them, or at the place that they are.
-abbrev pub lifted_as : Lifted → ValType → List ℕ → List ℕ → Result Value LiftTrap
-lifted_as f type bytes words =
-    if result_in_memory f.func_type then load whole.Value type bytes (slice_index words 0) else lift_flat whole.Value type bytes words
 
 -- a result with its type
 abbrev pub typed_result : ValType → Result Value LiftTrap → Result (Option TypedValue) LiftTrap
@@ -36,21 +29,11 @@ typed_result type (Ok v) = Ok (Some (record { value = v; val_type = type }))
 typed_result type (Err trap) = Err trap
 
 -- the result, where the function has one
-abbrev pub result_of : Lifted → Option ValType → List ℕ → List ℕ → Result (Option TypedValue) LiftTrap
+abbrev pub result_of : FuncType → Option ValType → List ℕ → List ℕ → Result (Option TypedValue) LiftTrap
 result_of f None bytes words = Ok None
-result_of f (Some type) bytes words = typed_result type (lifted_as f type bytes words)
+result_of f (Some type) bytes words = typed_result type (result_lifted f type bytes words)
 
--- The plan by which a result is lowered into a caller that passed these words: as core values, or at the place that is the last word.
-abbrev pub last_of : List ℕ → ℕ
-last_of [] = 0
-last_of (word ∷ []) = word
-last_of (word ∷ other ∷ words) = last_of (other ∷ words)
-
-abbrev pub result_plan : Lower → List ℕ → TypedValue → Plan
-result_plan l words result =
-    if result_in_memory l.func_type then stored result.val_type result.value (last_of words) else flat_lowered result.val_type result.value
-
--- It acts for the caller, and a trap names the task that returns.
+-- The lowering of a result acts for the caller, and a trap names the task that returns.
 abbrev pub result_lowering : World → ℕ → Subtask → Lower → List ℕ → Lowering
 result_lowering w t subtask l ended = record {
   inst = l.instance;
@@ -79,7 +62,7 @@ finished ended w = given (acting w) (λ a. given (func_of a.1.callee) (λ f. pos
 unfoldable pub passed_on : Graph → ℕ → Caller → List ℕ → Option TypedValue → World → Turn
 passed_on g t (Guest subtask) ended (Some result) w =
     given (slice_get g.canons subtask.canon) (λ canon.
-    silent (Lowers (result_lowering w t subtask (lower_of canon) ended) (result_plan (lower_of canon) subtask.words result)) w)
+    silent (Lowers (result_lowering w t subtask (lower_of canon) ended) (result_plan (lower_of canon).func_type result.val_type result.value subtask.words)) w)
 passed_on g t caller ended result w = finished ended w
 
 -- A task resolves by its line, before its result is lowered.
@@ -90,7 +73,7 @@ returned g t caller ended (Ok result) w = behind (line.Return t result ∷ []) (
 -- The core function of a task ended with these words.
 unfoldable pub returning_turn : Graph → ℕ → Task → Lifted → List ℕ → World → Turn
 returning_turn g t task f ended w =
-    returned g t task.caller ended (result_of f f.func_type.result (bytes_of w.store (memory_of w.store f.options)) ended) w
+    returned g t task.caller ended (result_of f.func_type f.func_type.result (bytes_of w.store (memory_of w.store f.options)) ended) w
 
 -- A task exits. Control goes to the one before it on the chain, where there is one.
 abbrev pub control_behind : List ℕ → Control

@@ -14,7 +14,7 @@ use Rattle.canonical_machine.specs.Control.{Control, Instantiates}
 -- what a task does: it instantiates, or runs a function
 pub data Callee : Type 0 where
   Init : Callee
-  Function : Lifted → Callee
+  Func : Lifted → Callee
 
 -- The caller's side of a call of a task by another one, kept with the task that is called: the task that calls, the number of the
 -- core function of the Canonical ABI by which it calls, and the words that it passes; the state of the subtask that it was told

@@ -1,0 +1,5 @@
+pub mod Turns
+pub mod Rows
+pub mod Says
+pub mod Quiets
+pub mod Runs
