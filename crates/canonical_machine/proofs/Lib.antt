@@ -3,3 +3,4 @@ pub mod Rows
 pub mod Says
 pub mod Quiets
 pub mod Runs
+pub mod Passed

@@ -17,3 +17,4 @@ pub mod Next
 pub mod Run
 pub mod Dump
 pub mod Laws
+pub mod Examples

@@ -1,6 +1,7 @@
 //! The machine of the Canonical ABI.
 #![tactic(auto)]
 
+pub mod examples;
 mod laws;
 mod run_end;
 

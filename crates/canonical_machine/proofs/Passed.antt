@@ -1,0 +1,95 @@
+-- How the functions of the examples pass their arguments and results: types and values are taken by their folds.
+use Rattle.std.proofs.Common.{◌≡◌, ◌∙◌, ℕ, List, [], ◌∷◌, map, length, Option, Some, None, refl, ap, sym, rules}
+use Rattle.std.specs.Prelude.{Ok, Err}
+use Rattle.ca_types.specs.declared.types.ValType.{ValType, out-ValType}
+use Rattle.ca_types.specs.declared.types.Case.{Case}
+use Rattle.ca_types.specs.declared.types.Field.{Field}
+use Rattle.ca_types.specs.declared.types.ValType.TheOpen as F
+use Rattle.ca_types.specs.declared.types.ValType.TheFolds.{map-ValType}
+use Rattle.ca_types.specs.declared.types.ValType.TheViews as types
+use Rattle.ca_types.specs.declared.types.ValType.TheVariants as leaves
+use Rattle.ca_types.specs.declared.value.Value.{Value, roll-Value}
+use Rattle.ca_types.specs.declared.value.Value.TheOpen as V
+use Rattle.ca_types.specs.declared.value.Value.TheViews as values
+use Rattle.ca_types.specs.declared.value.Value.TheVariants as plain
+use Rattle.ca_types.specs.declared.value.Value.TheFolds.{fold-roll-Value, map-Value}
+use Rattle.ca_types.specs.declared.core_type.CoreType.{CoreType}
+use Rattle.ca_types.specs.declared.core_type.CoreType.TheVariants.{I32}
+use Rattle.ca_types.specs.Flat.{flat, flat_step}
+use Rattle.laid_types.specs.Parts.{parts_of}
+use Rattle.value_lift.specs.Answers.{counted, counting}
+use Rattle.value_lift.specs.Pieces.{Part}
+use Rattle.value_lift.specs.Lifting.{lift_words, lift_word_case, part, payload_part, field_part}
+use Rattle.value_lift.proofs.Equations.{flats_in, flat_is, lift_words_is}
+use Rattle.value_lift.proofs.Views.{out_u32, out_char, out_string, out_tuple}
+use Rattle.value_lower.specs.Plan.{Plan, Gives}
+use Rattle.value_lower.specs.Lowering.{Lowered, lowered, lower_step, flat_words, words_case, field_words, text_in}
+use Rattle.comp_graph.specs.Graph.{canon_type, no_options}
+use Rattle.canonical_machine.specs.Passing.{arguments_lifted, arguments_plan, result_lifted, result_plan}
+use Rattle.canonical_machine.specs.Examples.{of_two, of_one, of_none, of_text, to_char, to_nothing, words, lowers, lifts, func_at}
+
+-- Core types.
+
+flat_by : (t : ValType) (y : F.ValType-F ValType Case Field) → out-ValType t ≡ y → flat t ≡ flat_step (flats_in y)
+flat_by t y e = flat_is t ∙ ap (λ (y : F.ValType-F ValType Case Field). flat_step (flats_in y)) e
+
+u32_flat : flat leaves.U32 ≡ I32 ∷ []
+u32_flat = flat_by leaves.U32 F.U32 out_u32
+
+char_flat : flat leaves.Char ≡ I32 ∷ []
+char_flat = flat_by leaves.Char F.Char out_char
+
+string_flat : flat leaves.String ≡ I32 ∷ I32 ∷ []
+string_flat = flat_by leaves.String F.String out_string
+
+-- Lifting.
+
+abbrev layer_in : F.ValType-F ValType Case Field → F.ValType-F Part (Option Part) Part
+layer_in y = map-ValType ValType Case Field Part (Option Part) Part part payload_part field_part y
+
+lift_by : (t : ValType) (y : F.ValType-F ValType Case Field) → out-ValType t ≡ y → (bytes words : List ℕ) (at left : ℕ)
+    → lift_words t bytes words at left ≡ counting (counted 1 at left) (λ left. lift_word_case (layer_in y) bytes words at left)
+lift_by t y e bytes words at left =
+    lift_words_is t bytes words at left ∙ ap (λ (y : F.ValType-F ValType Case Field). counting (counted 1 at left) (λ left. lift_word_case (layer_in y) bytes words at left)) e
+
+u32_lift : (bytes words : List ℕ) (at left : ℕ)
+    → lift_words leaves.U32 bytes words at left ≡ counting (counted 1 at left) (λ left. lift_word_case (layer_in F.U32) bytes words at left)
+u32_lift = lift_by leaves.U32 F.U32 out_u32
+
+char_lift : (bytes words : List ℕ) (at left : ℕ)
+    → lift_words leaves.Char bytes words at left ≡ counting (counted 1 at left) (λ left. lift_word_case (layer_in F.Char) bytes words at left)
+char_lift = lift_by leaves.Char F.Char out_char
+
+tuple_lift : (parts : List ValType) (bytes words : List ℕ) (at left : ℕ)
+    → lift_words (types.Tuple parts) bytes words at left ≡ counting (counted 1 at left) (λ left. lift_word_case (layer_in (F.Tuple parts)) bytes words at left)
+tuple_lift parts = lift_by (types.Tuple parts) (F.Tuple parts) (out_tuple parts)
+
+-- Lowering.
+
+words_by : (v : Value) (y : V.Value-F Value) (t : ValType) (before : List ℕ) (K : List ℕ → Plan) → roll-Value y ≡ v
+    → flat_words t v before K ≡ words_case (map-Value Value Lowered lowered y) t before K
+words_by v y t before K e = ap (λ (l : Lowered). l.words t before K) (ap lowered (sym e) ∙ fold-roll-Value Lowered lower_step y)
+
+u32_words : (n : ℕ) (t : ValType) (before : List ℕ) (K : List ℕ → Plan) → flat_words t (plain.U32 n) before K ≡ K (before ++ n ∷ [])
+u32_words n t before K = words_by (plain.U32 n) (V.U32 n) t before K (plain.rolls-U32 n)
+
+string_words : (text : List ℕ) (t : ValType) (before : List ℕ) (K : List ℕ → Plan)
+    → flat_words t (plain.String text) before K ≡ text_in text (λ to. K (before ++ to ∷ length text ∷ []))
+string_words text t before K = words_by (plain.String text) (V.String text) t before K (plain.rolls-String text)
+
+record_words : (all : List Value) (t : ValType) (before : List ℕ) (K : List ℕ → Plan)
+    → flat_words t (values.Record all) before K ≡ field_words (parts_of t) (map lowered all) before K
+record_words all t before K = words_by (values.Record all) (V.Record all) t before K (values.rolls-Record all)
+
+-- The functions of the examples.
+
+pub two_type : canon_type (lowers 0 (lifts 1 (func_at 0 0) no_options) of_two) ≡ words 2 1
+two_type = simp u32_flat refl
+
+pub two_lifted : arguments_lifted of_two [] (4 ∷ 4 ∷ []) ≡ Ok (values.Record (plain.U32 4 ∷ plain.U32 4 ∷ []))
+unfolding arguments_lifted
+two_lifted = simp (u32_flat, tuple_lift, u32_lift) refl
+
+pub two_plan : arguments_plan of_two (values.Record (plain.U32 4 ∷ plain.U32 4 ∷ [])) ≡ Gives (4 ∷ 4 ∷ [])
+unfolding arguments_plan
+two_plan = simp (u32_flat, record_words, out_tuple, u32_words) refl
