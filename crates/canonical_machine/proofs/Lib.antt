@@ -4,3 +4,5 @@ pub mod Says
 pub mod Quiets
 pub mod Runs
 pub mod Passed
+pub mod Walks
+pub mod Samples

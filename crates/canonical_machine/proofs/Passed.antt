@@ -1,7 +1,8 @@
 -- How the functions of the examples pass their arguments and results: types and values are taken by their folds.
-use Rattle.std.proofs.Common.{◌≡◌, ◌∙◌, ℕ, List, [], ◌∷◌, map, length, Option, Some, None, refl, ap, sym, rules}
+use Rattle.std.proofs.Common.{◌≡◌, ◌∙◌, ℕ, ◌%◌, ◌^◌, ◌++◌, List, [], ◌∷◌, map, length, Option, Some, None, refl, ap, sym, rules}
 use Rattle.std.specs.Prelude.{Ok, Err}
 use Rattle.ca_types.specs.declared.types.ValType.{ValType, out-ValType}
+use Rattle.ca_types.specs.declared.types.Param.{Param}
 use Rattle.ca_types.specs.declared.types.Case.{Case}
 use Rattle.ca_types.specs.declared.types.Field.{Field}
 use Rattle.ca_types.specs.declared.types.ValType.TheOpen as F
@@ -17,6 +18,7 @@ use Rattle.ca_types.specs.declared.core_type.CoreType.{CoreType}
 use Rattle.ca_types.specs.declared.core_type.CoreType.TheVariants.{I32}
 use Rattle.ca_types.specs.Flat.{flat, flat_step}
 use Rattle.laid_types.specs.Parts.{parts_of}
+use Rattle.value_lift.specs.declared.trap.LiftWhy.TheVariants.{BadChar}
 use Rattle.value_lift.specs.Answers.{counted, counting}
 use Rattle.value_lift.specs.Pieces.{Part}
 use Rattle.value_lift.specs.Lifting.{lift_words, lift_word_case, part, payload_part, field_part}
@@ -26,7 +28,7 @@ use Rattle.value_lower.specs.Plan.{Plan, Gives}
 use Rattle.value_lower.specs.Lowering.{Lowered, lowered, lower_step, flat_words, words_case, field_words, text_in}
 use Rattle.comp_graph.specs.Graph.{canon_type, no_options}
 use Rattle.canonical_machine.specs.Passing.{arguments_lifted, arguments_plan, result_lifted, result_plan}
-use Rattle.canonical_machine.specs.Examples.{of_two, of_one, of_none, of_text, to_char, to_nothing, words, lowers, lifts, func_at}
+use Rattle.canonical_machine.specs.Examples.{of_two, of_one, of_text, to_char, text, words, lowers, lifts, func_at}
 
 -- Core types.
 
@@ -86,6 +88,9 @@ record_words all t before K = words_by (values.Record all) (V.Record all) t befo
 pub two_type : canon_type (lowers 0 (lifts 1 (func_at 0 0) no_options) of_two) ≡ words 2 1
 two_type = simp u32_flat refl
 
+pub char_type : canon_type (lowers 0 (lifts 1 (func_at 0 0) no_options) to_char) ≡ words 0 1
+char_type = simp char_flat refl
+
 pub two_lifted : arguments_lifted of_two [] (4 ∷ 4 ∷ []) ≡ Ok (values.Record (plain.U32 4 ∷ plain.U32 4 ∷ []))
 unfolding arguments_lifted
 two_lifted = simp (u32_flat, tuple_lift, u32_lift) refl
@@ -93,3 +98,31 @@ two_lifted = simp (u32_flat, tuple_lift, u32_lift) refl
 pub two_plan : arguments_plan of_two (values.Record (plain.U32 4 ∷ plain.U32 4 ∷ [])) ≡ Gives (4 ∷ 4 ∷ [])
 unfolding arguments_plan
 two_plan = simp (u32_flat, record_words, out_tuple, u32_words) refl
+
+pub one_plan : arguments_plan of_one (values.Record (plain.U32 4 ∷ [])) ≡ Gives (4 ∷ [])
+unfolding arguments_plan
+one_plan = simp (u32_flat, record_words, out_tuple, u32_words) refl
+
+pub text_plan : arguments_plan of_text (values.Record (plain.String text ∷ [])) ≡ text_in text (λ to. Gives (to ∷ 6 ∷ []))
+unfolding arguments_plan
+text_plan = simp (string_flat, record_words, out_tuple, string_words) refl
+
+pub none_plan : (result : Option ValType) → arguments_plan (record { params = []; result = result }) (values.Record []) ≡ Gives []
+unfolding arguments_plan
+none_plan result = simp (record_words, out_tuple) refl
+
+pub none_lifted : (result : Option ValType) → arguments_lifted (record { params = []; result = result }) [] [] ≡ Ok (values.Record [])
+unfolding arguments_lifted
+none_lifted result = simp (tuple_lift) refl
+
+pub u32_result : (params : List Param) (bytes : List ℕ) (n : ℕ) → result_lifted (record { params = params; result = Some leaves.U32 }) leaves.U32 bytes (n ∷ []) ≡ Ok (plain.U32 (n % 2 ^ 32))
+unfolding result_lifted
+u32_result params bytes n = simp (u32_flat, u32_lift) refl
+
+pub char_result : result_lifted to_char leaves.Char [] (0xD800 ∷ []) ≡ Err (record { why = BadChar; place = 0 })
+unfolding result_lifted
+char_result = simp (char_flat, char_lift) refl
+
+pub u32_result_plan : (params : List Param) (n : ℕ) (passed : List ℕ) → result_plan (record { params = params; result = Some leaves.U32 }) leaves.U32 (plain.U32 n) passed ≡ Gives (n ∷ [])
+unfolding result_plan
+u32_result_plan params n passed = simp (u32_flat, u32_words) refl

@@ -1,6 +1,6 @@
 -- Small graphs and stores, whose runs the laws `examples` have (Component Model, CanonicalABI.md, `canon lift` and `canon lower`;
 -- Core 2.0, section 4.4).
-use Rattle.std.specs.Prelude.{ℕ, zero, suc, ◌+◌, pos, codes, List, [], ◌∷◌, ◌++◌, length, map, replicate, Option, Some, None}
+use Rattle.std.specs.Prelude.{◌≡◌, ℕ, pos, codes, List, [], ◌∷◌, ◌++◌, length, map, replicate, Option, Some, None}
 use Rattle.wasm_module.specs.declared.types.ValType.TheVariants.{I32}
 use Rattle.wasm_module.specs.declared.types.FuncType as core
 use Rattle.wasm_module.specs.declared.instr.Instr.TheVariants.{Drop, LocalGet, I32Const, Numeric}
@@ -45,29 +45,14 @@ use Rattle.trace_show.specs.declared.typed.TypedValue.{TypedValue}
 use Rattle.canonical_machine.specs.declared.run_end.RunEnd.{RunEnd}
 use Rattle.canonical_machine.specs.Control.{Free}
 use Rattle.canonical_machine.specs.World.{Init, Nobody, Unresolved, Exited, World, first_world}
-use Rattle.canonical_machine.specs.Turn.{Turn, Steps, Ends, Stuck}
-use Rattle.canonical_machine.specs.Next.{next}
+use Rattle.canonical_machine.specs.Run.{RunsFrom}
 
--- Runs: the lines behind these ones, the end, where it comes in so many steps, and the world that is last.
-abbrev pub Outcome : Type 0
-Outcome = List Label × Option RunEnd × World
-
-abbrev pub going_on : ℕ → Graph → Script → List Label → World → Turn → Outcome
-going_on zero g s lines w turn = (lines, None, w)
-going_on (suc count) g s lines w (Steps more later) = going_on count g s (lines ++ more) later (next g s later)
-going_on (suc count) g s lines w (Ends end) = (lines, Some end, w)
-going_on (suc count) g s lines w Stuck = (lines, None, w)
-
-abbrev pub outcome : Graph → Script → World → Outcome
-outcome g s w = going_on 100 g s [] w (next g s w)
-
--- the lines, the end and the units that are used
-abbrev pub shown : Outcome → List Label × Option RunEnd × ℕ
-shown o = (o.0, o.1, o.2.units)
-
--- the bytes of the memories that are left
-abbrev pub left : Outcome → List (List ℕ)
-left o = map (λ m. m.bytes) o.2.store.memories
+-- From a world the run has these lines and this end, where so many units are used and the memories have these bytes.
+pub record Shows (g : Graph) (s : Script) (w : World) (labels : List Label) (end : RunEnd) (units : ℕ) (memories : List (List ℕ)) : Type 0 where
+  pub last : World
+  pub runs : RunsFrom g s w labels last end
+  pub used : last.units ≡ units
+  pub left : map (λ m. m.bytes) last.store.memories ≡ memories
 
 -- Types of functions: of two numbers, of one, of none, from a text, to a character, and to nothing.
 abbrev pub numbers : List (List ℕ) → List Param
@@ -237,15 +222,17 @@ instantiated s = record {
 abbrev pub script_of : ℕ → List Value → Script
 script_of fuel values = record { fuel = fuel; items = item.Call (record { name = run_name; values = values }) ∷ [] }
 
-abbrev pub run_of : Graph → ℕ → List Value → Outcome
-run_of g fuel values = outcome g (script_of fuel values) (first_world g)
+-- what such a script comes to on a graph
+abbrev pub RunOf : Graph → ℕ → List Value → List Label → RunEnd → ℕ → Type 0
+RunOf g fuel values labels end units = Shows g (script_of fuel values) (first_world g) labels end units []
 
 -- the text, whose bytes are these
 abbrev pub text : List ℕ
 text = 0x68 ∷ 0xC3 ∷ 0xA9 ∷ 0x6C ∷ 0x6C ∷ 0x6F ∷ []
 
-abbrev pub measured : Expr → ℕ → Outcome
-measured realloc fuel = outcome measuring (script_of fuel (value.String text ∷ [])) (instantiated (store_of realloc))
+abbrev pub Measures : Expr → ℕ → List Label → RunEnd → ℕ → List ℕ → Type 0
+Measures realloc fuel labels end units bytes =
+    Shows measuring (script_of fuel (value.String text ∷ [])) (instantiated (store_of realloc)) labels end units (bytes ∷ [])
 
 -- Lines.
 abbrev pub u32 : ℕ → TypedValue
