@@ -1,22 +1,23 @@
 -- Runs in pieces: so many steps, as they are computed; a step that is known; and a plan in place of an equal one.
-use Rattle.std.proofs.Common.{◌≡◌, ◌∙◌, ℕ, zero, suc, List, [], ◌∷◌, ◌++◌, map, refl, sym, ap, subst, Option, Some, None, append_assoc}
-use Rattle.std.specs.Prelude.{Result, Ok}
+use Rattle.std.proofs.Common.{◌≡◌, ◌∙◌, ℕ, zero, suc, List, [], ◌∷◌, ◌++◌, map, refl, sym, ap, subst, Option, Some, None}
+use Rattle.std.specs.Prelude.{Result, Ok, unwrap_or}
 use Rattle.std.specs.List.{flat_map, slice_get}
 use Rattle.std.proofs.lemmas.Grind.{flat_map-append}
-use Rattle.core_machine.specs.Stack.{Stack}
+use Rattle.core_machine.specs.Stack.{Stack, Given}
 use Rattle.core_machine.specs.Step as core
 use Rattle.ca_types.specs.declared.value.Value.{Value}
 use Rattle.value_lift.specs.declared.trap.LiftTrap.{LiftTrap}
 use Rattle.value_lower.specs.Plan.{Plan}
-use Rattle.comp_graph.specs.Graph.{Graph, Lifted}
+use Rattle.comp_graph.specs.declared.graph.FuncRef.TheVariants as func_ref
+use Rattle.comp_graph.specs.Graph.{Graph, Lifted, no_options}
 use Rattle.script_reader.specs.Script.{Script}
 use Rattle.trace_show.specs.declared.label.Label.{Label}
 use Rattle.trace_show.specs.declared.label.Label.TheVariants as line
 use Rattle.trace_show.specs.declared.typed.TypedValue.{TypedValue}
 use Rattle.canonical_machine.specs.declared.run_end.RunEnd.{RunEnd}
 use Rattle.canonical_machine.specs.Passing.{arguments_plan}
-use Rattle.canonical_machine.specs.Control.{Control, Free, Runs, Arrives, Lowers, Lowering}
-use Rattle.canonical_machine.specs.World.{New, Acting, Task, World}
+use Rattle.canonical_machine.specs.Control.{Control, Free, Runs, Arrives, Lowers, Lowering, Starts}
+use Rattle.canonical_machine.specs.World.{Init, Nobody, New, Acting, Task, World, new_task}
 use Rattle.canonical_machine.specs.Edits.{with_control, in_state, unstacked}
 use Rattle.canonical_machine.specs.Reading.{memory_of, bytes_of, acting, func_of}
 use Rattle.canonical_machine.specs.Turn.{Turn, Steps, Ends, Stuck}
@@ -28,35 +29,33 @@ use Rattle.canonical_machine.specs.Run.{Reaches, lines_of, RunsFrom}
 use Rattle.canonical_machine.specs.Examples.{Shows}
 
 -- the world that so many steps lead to, or fewer where no more come, and the lines
-abbrev mutual
-  pub walk : ℕ → Graph → Script → World → World
-  walk zero g s w = w
-  walk (suc n) g s w = walk_by n g s w (next g s w)
+abbrev pub world_behind : (World → World) → World → Turn → World
+world_behind more w (Steps labels v) = more v
+world_behind more w (Ends end) = w
+world_behind more w Stuck = w
 
-  pub walk_by : ℕ → Graph → Script → World → Turn → World
-  walk_by n g s w (Steps labels v) = walk n g s v
-  walk_by n g s w (Ends end) = w
-  walk_by n g s w Stuck = w
+abbrev pub walk : ℕ → Graph → Script → World → World
+walk zero g s w = w
+walk (suc n) g s w = world_behind (λ v. walk n g s v) w (next g s w)
 
-abbrev mutual
-  pub walked : ℕ → Graph → Script → World → List (List Label)
-  walked zero g s w = []
-  walked (suc n) g s w = walked_by n g s (next g s w)
+abbrev pub lines_behind : (World → List (List Label)) → Turn → List (List Label)
+lines_behind more (Steps labels v) = labels ∷ more v
+lines_behind more (Ends end) = []
+lines_behind more Stuck = []
 
-  pub walked_by : ℕ → Graph → Script → Turn → List (List Label)
-  walked_by n g s (Steps labels v) = labels ∷ walked n g s v
-  walked_by n g s (Ends end) = []
-  walked_by n g s Stuck = []
+abbrev pub walked : ℕ → Graph → Script → World → List (List Label)
+walked zero g s w = []
+walked (suc n) g s w = lines_behind (λ v. walked n g s v) (next g s w)
 
-mutual
-  reached : (n : ℕ) (g : Graph) (s : Script) (w : World) → Reaches g s w (walked n g s w) (walk n g s w)
-  reached zero g s w = refl
-  reached (suc n) g s w = reached_by n g s w (next g s w) refl
+reached_by : (g : Graph) (s : Script) (w : World) (t : Turn) (more : World → World) (lines : World → List (List Label)) → ((v : World) → Reaches g s v (lines v) (more v))
+    → next g s w ≡ t → Reaches g s w (lines_behind lines t) (world_behind more w t)
+reached_by g s w (Steps labels v) more lines h e = (v, e, h v)
+reached_by g s w (Ends end) more lines h e = refl
+reached_by g s w Stuck more lines h e = refl
 
-  reached_by : (n : ℕ) (g : Graph) (s : Script) (w : World) (t : Turn) → next g s w ≡ t → Reaches g s w (walked_by n g s t) (walk_by n g s w t)
-  reached_by n g s w (Steps labels v) e = (v, e, reached n g s v)
-  reached_by n g s w (Ends end) e = refl
-  reached_by n g s w Stuck e = refl
+reached : (n : ℕ) (g : Graph) (s : Script) (w : World) → Reaches g s w (walked n g s w) (walk n g s w)
+reached zero g s w = refl
+reached (suc n) g s w = reached_by g s w (next g s w) (λ v. walk n g s v) (λ v. walked n g s v) (λ v. reached n g s v) refl
 
 -- Steps with these lines lead from the one world to the other.
 pub record Goes (g : Graph) (s : Script) (w : World) (labels : List Label) (v : World) : Type 0 where
@@ -83,14 +82,14 @@ pub walks : (n : ℕ) (g : Graph) (s : Script) (w v : World) (labels : List Labe
 walks n g s w v labels a =
     goes_on g s w v (walk n g s v) labels (lines_of (walked n g s v)) a (record { steps = walked n g s v; reaches = reached n g s v; lines = refl })
 
+nothing_behind : (l : List Label) → l ++ [] ≡ l
+nothing_behind [] = refl
+nothing_behind (x ∷ xs) = ap (λ (l : List Label). x ∷ l) (nothing_behind xs)
+
 -- a step that is known
 pub steps_to : (g : Graph) (s : Script) (w v u : World) (labels more : List Label) → Goes g s w labels v → next g s v ≡ Steps more u → Goes g s w (labels ++ more) u
 steps_to g s w v u labels more a e =
     goes_on g s w v u labels more a (record { steps = more ∷ []; reaches = (u, e, refl); lines = sym (nothing_behind more) })
-  where
-    nothing_behind : (l : List Label) → l ++ [] ≡ l
-    nothing_behind [] = refl
-    nothing_behind (x ∷ xs) = ap (λ (l : List Label). x ∷ l) (nothing_behind xs)
 
 -- an equal world
 pub at_world : (g : Graph) (s : Script) (w v u : World) (labels : List Label) → Goes g s w labels v → v ≡ u → Goes g s w labels u
@@ -102,21 +101,80 @@ pub shows : (g : Graph) (s : Script) (w v : World) (labels : List Label) (end : 
 shows g s w v labels end units memories a e used left =
     record { last = v; runs = (a.steps, a.reaches, e, a.lines); used = used; left = left }
 
+-- What is found in a world, or something in its place.
+abbrev the_acting : World → ℕ × Task
+the_acting w = unwrap_or (acting w) (0, new_task Init Nobody)
+
+abbrev pub the_number : World → ℕ
+the_number w = (the_acting w).0
+
+abbrev pub the_task : World → Task
+the_task w = (the_acting w).1
+
+abbrev pub the_func : World → Lifted
+the_func w = unwrap_or (func_of (the_task w).callee) (record { instance = 0; core = func_ref.Canon 0; options = no_options; func_type = record { params = []; result = None } })
+
+abbrev pub the_stack : World → Stack
+the_stack w = unwrap_or (slice_get (the_task w).stacks 0) (Given [])
+
+abbrev pub the_lowering : Control → Lowering
+the_lowering (Lowers l plan) = l
+the_lowering control = record { inst = 0; memory = None; realloc = None; acts_for = 0; blame = 0; next = Starts }
+
 -- a plan in place of an equal one
-pub with_plan : (w : World) (l : Lowering) (p q : Plan) → w.control ≡ Lowers l p → p ≡ q → w ≡ with_control (Lowers l q) w
-with_plan w l p q e h = ap (λ (c : Control). with_control c w) (e ∙ ap (λ (p : Plan). Lowers l p) h)
+abbrev pub planned : Plan → World → World
+planned plan w = with_control (Lowers (the_lowering w.control) plan) w
+
+pub with_plan : (w : World) (p q : Plan) → w.control ≡ Lowers (the_lowering w.control) p → p ≡ q → w ≡ planned q w
+with_plan w p q e h = ap (λ (c : Control). with_control c w) (e ∙ ap (λ (p : Plan). Lowers (the_lowering w.control) p) h)
 
 -- A task enters, whose arguments are lifted so.
-pub enters : (g : Graph) (s : Script) (w : World) (t : ℕ) (task : Task) (f : Lifted) (v : Value) → w.control ≡ Arrives → acting w ≡ Some (t, task)
+abbrev pub entered_world : Value → World → World
+entered_world v w =
+    with_control (Lowers (arguments_lowering w.store (the_number w) (the_func w)) (arguments_plan (the_func w).func_type v)) (in_state (the_number w) Acting w)
+
+enters_as : (g : Graph) (s : Script) (w : World) (t : ℕ) (task : Task) (f : Lifted) (v : Value) → w.control ≡ Arrives → acting w ≡ Some (t, task)
     → func_of task.callee ≡ Some f → task.state ≡ New → arguments_of g w.store task.caller ≡ Some (Ok v)
     → next g s w ≡ Steps (line.Enter t ∷ []) (with_control (Lowers (arguments_lowering w.store t f) (arguments_plan f.func_type v)) (in_state t Acting w))
 unfolding arriving_turn entered with_arguments
-enters g s w t task f v c a i n r = rw (c, a, i, n, r) refl
+enters_as g s w t task f v c a i n r = rw (c, a, i, n, r) refl
+
+pub enters : (g : Graph) (s : Script) (w : World) (v : Value) → w.control ≡ Arrives → acting w ≡ Some (the_number w, the_task w)
+    → func_of (the_task w).callee ≡ Some (the_func w) → (the_task w).state ≡ New → arguments_of g w.store (the_task w).caller ≡ Some (Ok v)
+    → next g s w ≡ Steps (line.Enter (the_number w) ∷ []) (entered_world v w)
+enters g s w v c a i n r = enters_as g s w (the_number w) (the_task w) (the_func w) v c a i n r
 
 -- A task's function has ended, and its result is lifted so.
-pub ends_as : (g : Graph) (s : Script) (w : World) (t : ℕ) (task : Task) (f : Lifted) (k : Stack) (words : List ℕ) (r : Result (Option TypedValue) LiftTrap)
+ends_as : (g : Graph) (s : Script) (w : World) (t : ℕ) (task : Task) (f : Lifted) (k : Stack) (words : List ℕ) (r : Result (Option TypedValue) LiftTrap)
     → w.control ≡ Runs → acting w ≡ Some (t, task) → slice_get task.stacks 0 ≡ Some k → core.next w.store k ≡ core.Ends words → task.state ≡ Acting
     → func_of task.callee ≡ Some f → result_of f.func_type f.func_type.result (bytes_of w.store (memory_of w.store f.options)) words ≡ r
     → next g s w ≡ returned g t task.caller words r (unstacked t (with_control Free w))
 unfolding running_turn moved stack_ended returning_turn
 ends_as g s w t task f k words r c a top e state i lifted = rw (c, a, top, e, state, i, lifted) refl
+
+abbrev pub ended_turn : Graph → List ℕ → Result (Option TypedValue) LiftTrap → World → Turn
+ended_turn g words r w = returned g (the_number w) (the_task w).caller words r (unstacked (the_number w) (with_control Free w))
+
+abbrev pub ended_world : Graph → List ℕ → Result (Option TypedValue) LiftTrap → World → World
+ended_world g words r w = world_behind (λ v. v) w (ended_turn g words r w)
+
+abbrev pub ended_lines : Graph → List ℕ → Result (Option TypedValue) LiftTrap → World → List Label
+ended_lines g words r w = lines_of (lines_behind (λ v. []) (ended_turn g words r w))
+
+abbrev pub IsStep : Turn → Type 0
+IsStep (Steps labels v) = Unit {0}
+IsStep (Ends end) = ⊥
+IsStep Stuck = ⊥
+
+a_step : (t : Turn) (w : World) → IsStep t → t ≡ Steps (lines_of (lines_behind (λ v. []) t)) (world_behind (λ v. v) w t)
+a_step (Steps labels v) w h = ap (λ (l : List Label). Steps l v) (sym (nothing_behind labels))
+a_step (Ends end) w h = absurd h
+a_step Stuck w h = absurd h
+
+pub ends : (g : Graph) (s : Script) (w : World) (words : List ℕ) (r : Result (Option TypedValue) LiftTrap) → w.control ≡ Runs
+    → acting w ≡ Some (the_number w, the_task w) → slice_get (the_task w).stacks 0 ≡ Some (the_stack w) → core.next w.store (the_stack w) ≡ core.Ends words
+    → (the_task w).state ≡ Acting → func_of (the_task w).callee ≡ Some (the_func w)
+    → result_of (the_func w).func_type (the_func w).func_type.result (bytes_of w.store (memory_of w.store (the_func w).options)) words ≡ r
+    → IsStep (ended_turn g words r w) → next g s w ≡ Steps (ended_lines g words r w) (ended_world g words r w)
+ends g s w words r c a top e state i lifted h =
+    ends_as g s w (the_number w) (the_task w) (the_func w) (the_stack w) words r c a top e state i lifted ∙ a_step (ended_turn g words r w) w h
