@@ -32,7 +32,7 @@ use Rattle.canonical_machine.specs.Calling.{taken, item_turn, free_turn, call_be
 use Rattle.canonical_machine.specs.Reply.{reply, allowed, calling_turn}
 use Rattle.canonical_machine.specs.Lowering.{started, lowered, paused, lowers_turn}
 use Rattle.canonical_machine.specs.Nested.{nested_ended, hosted, nested_turn}
-use Rattle.canonical_machine.specs.Examples.{RunOf, Measures, measuring, store_of, instantiated, script_of, doubling, calling_behind, asking_for_char, calling_at_start, coming_back, gives, calls_with_ask, words, of_text, text, u32, begins, calls_child, doubled, begins_measuring}
+use Rattle.canonical_machine.specs.Examples.{RunOf, Measures, measuring, store_of, instantiated, script_of, doubling, calling_behind, asking_for_char, calling_at_start, coming_back, gives, calls_with_ask, words, of_two, of_one, of_text, text, u32, begins, calls_child, doubled, begins_measuring}
 use Rattle.canonical_machine.proofs.Passed.{two_type, char_type, two_lifted, two_plan, one_plan, text_plan, none_plan, none_lifted, u32_result, char_result, u32_result_plan}
 use Rattle.canonical_machine.proofs.Walks.{walk, walked, Goes, begun, walks, steps_to, at_world, shows, planned, with_plan, entered_world, enters, ended_world, ends}
 
@@ -78,9 +78,9 @@ measured =
     let w : World = instantiated (store_of (gives 32)) in
     let a0 = begun g s w in
     let a1 = walks 2 g s w (instantiated (store_of (gives 32))) _ a0 in
-    let a2 = at_world g s w measured_1 measured_2 _ a1 (with_plan measured_1 _ (text_in text (λ to. Gives (to ∷ 6 ∷ []))) refl text_plan) in
+    let a2 = at_world g s w measured_1 measured_2 _ a1 (with_plan measured_1 (text_in text (λ to. Gives (to ∷ 6 ∷ []))) tt text_plan) in
     let a3 = walks 7 g s w (measured_2) _ a2 in
-    let a4 = steps_to g s w measured_3 measured_4 _ _ a3 (ends g s measured_3 (6 ∷ []) (Ok (Some (u32 6))) refl refl refl refl refl refl (ap (typed_result type.U32) (u32_result _ _ 6)) tt) in
+    let a4 = steps_to g s w measured_3 measured_4 _ _ a3 (ends g s measured_3 (6 ∷ []) (Ok (Some (u32 6))) refl tt tt refl refl tt (ap (typed_result type.U32) (u32_result of_text.params (replicate 32 0 ++ text ++ 0 ∷ 0 ∷ []) 6)) tt) in
     let a5 = walks 9 g s w (measured_4) _ a4 in
     shows g s w measured_5 _ _ _ _ a5 refl refl refl
 
@@ -101,7 +101,7 @@ wants_place =
     let w : World = instantiated (store_of (gives 32)) in
     let a0 = begun g s w in
     let a1 = walks 2 g s w (instantiated (store_of (gives 32))) _ a0 in
-    let a2 = at_world g s w wants_place_1 wants_place_2 _ a1 (with_plan wants_place_1 _ (text_in text (λ to. Gives (to ∷ 6 ∷ []))) refl text_plan) in
+    let a2 = at_world g s w wants_place_1 wants_place_2 _ a1 (with_plan wants_place_1 (text_in text (λ to. Gives (to ∷ 6 ∷ []))) tt text_plan) in
     let a3 = walks 9 g s w (wants_place_2) _ a2 in
     shows g s w wants_place_3 _ _ _ _ a3 refl refl refl
 
@@ -122,7 +122,7 @@ too_far =
     let w : World = instantiated (store_of (gives 35)) in
     let a0 = begun g s w in
     let a1 = walks 2 g s w (instantiated (store_of (gives 35))) _ a0 in
-    let a2 = at_world g s w too_far_1 too_far_2 _ a1 (with_plan too_far_1 _ (text_in text (λ to. Gives (to ∷ 6 ∷ []))) refl text_plan) in
+    let a2 = at_world g s w too_far_1 too_far_2 _ a1 (with_plan too_far_1 (text_in text (λ to. Gives (to ∷ 6 ∷ []))) tt text_plan) in
     let a3 = walks 9 g s w (too_far_2) _ a2 in
     shows g s w too_far_3 _ _ _ _ a3 refl refl refl
 
@@ -143,7 +143,7 @@ realloc_calls =
     let w : World = instantiated (store_of calls_with_ask) in
     let a0 = begun g s w in
     let a1 = walks 2 g s w (instantiated (store_of calls_with_ask)) _ a0 in
-    let a2 = at_world g s w realloc_calls_1 realloc_calls_2 _ a1 (with_plan realloc_calls_1 _ (text_in text (λ to. Gives (to ∷ 6 ∷ []))) refl text_plan) in
+    let a2 = at_world g s w realloc_calls_1 realloc_calls_2 _ a1 (with_plan realloc_calls_1 (text_in text (λ to. Gives (to ∷ 6 ∷ []))) tt text_plan) in
     let a3 = walks 9 g s w (realloc_calls_2) _ a2 in
     shows g s w realloc_calls_3 _ _ _ _ a3 refl refl refl
 
@@ -193,15 +193,15 @@ doubled_done =
     let a0 = begun g s w in
     let a1 = at_world g s w w doubled_done_1 [] a0 (ap with_types two_type) in
     let a2 = walks 7 g s w (doubled_done_1) _ a1 in
-    let a3 = at_world g s w doubled_done_2 doubled_done_3 _ a2 (with_plan doubled_done_2 _ (Gives (4 ∷ [])) refl one_plan) in
+    let a3 = at_world g s w doubled_done_2 doubled_done_3 _ a2 (with_plan doubled_done_2 (Gives (4 ∷ [])) tt one_plan) in
     let a4 = walks 5 g s w (doubled_done_3) _ a3 in
-    let a5 = steps_to g s w doubled_done_4 doubled_done_5 _ _ a4 (enters g s doubled_done_4 (values.Record (value.U32 4 ∷ value.U32 4 ∷ [])) refl refl refl refl (ap (λ (r : Result Value LiftTrap). Some r) two_lifted)) in
-    let a6 = at_world g s w doubled_done_5 doubled_done_6 _ a5 (with_plan doubled_done_5 _ (Gives (4 ∷ 4 ∷ [])) refl two_plan) in
+    let a5 = steps_to g s w doubled_done_4 doubled_done_5 _ _ a4 (enters g s doubled_done_4 (values.Record (value.U32 4 ∷ value.U32 4 ∷ [])) refl tt tt refl (ap (λ (r : Result Value LiftTrap). Some r) two_lifted)) in
+    let a6 = at_world g s w doubled_done_5 doubled_done_6 _ a5 (with_plan doubled_done_5 (Gives (4 ∷ 4 ∷ [])) tt two_plan) in
     let a7 = walks 5 g s w (doubled_done_6) _ a6 in
-    let a8 = steps_to g s w doubled_done_7 doubled_done_8 _ _ a7 (ends g s doubled_done_7 (8 ∷ []) (Ok (Some (u32 8))) refl refl refl refl refl refl (ap (typed_result type.U32) (u32_result _ _ 8)) tt) in
-    let a9 = at_world g s w doubled_done_8 doubled_done_9 _ a8 (with_plan doubled_done_8 _ (Gives (8 ∷ [])) refl (u32_result_plan _ 8 _)) in
+    let a8 = steps_to g s w doubled_done_7 doubled_done_8 _ _ a7 (ends g s doubled_done_7 (8 ∷ []) (Ok (Some (u32 8))) refl tt tt refl refl tt (ap (typed_result type.U32) (u32_result of_two.params [] 8)) tt) in
+    let a9 = at_world g s w doubled_done_8 doubled_done_9 _ a8 (with_plan doubled_done_8 (Gives (8 ∷ [])) tt (u32_result_plan of_two.params 8 (4 ∷ 4 ∷ []))) in
     let a10 = walks 4 g s w (doubled_done_9) _ a9 in
-    let a11 = steps_to g s w doubled_done_10 doubled_done_11 _ _ a10 (ends g s doubled_done_10 (8 ∷ []) (Ok (Some (u32 8))) refl refl refl refl refl refl (ap (typed_result type.U32) (u32_result _ _ 8)) tt) in
+    let a11 = steps_to g s w doubled_done_10 doubled_done_11 _ _ a10 (ends g s doubled_done_10 (8 ∷ []) (Ok (Some (u32 8))) refl tt tt refl refl tt (ap (typed_result type.U32) (u32_result of_one.params [] 8)) tt) in
     let a12 = walks 9 g s w (doubled_done_11) _ a11 in
     shows g s w doubled_done_12 _ _ _ _ a12 refl refl refl
 
@@ -235,10 +235,10 @@ doubled_wants =
     let a0 = begun g s w in
     let a1 = at_world g s w w doubled_wants_1 [] a0 (ap with_types two_type) in
     let a2 = walks 7 g s w (doubled_wants_1) _ a1 in
-    let a3 = at_world g s w doubled_wants_2 doubled_wants_3 _ a2 (with_plan doubled_wants_2 _ (Gives (4 ∷ [])) refl one_plan) in
+    let a3 = at_world g s w doubled_wants_2 doubled_wants_3 _ a2 (with_plan doubled_wants_2 (Gives (4 ∷ [])) tt one_plan) in
     let a4 = walks 5 g s w (doubled_wants_3) _ a3 in
-    let a5 = steps_to g s w doubled_wants_4 doubled_wants_5 _ _ a4 (enters g s doubled_wants_4 (values.Record (value.U32 4 ∷ value.U32 4 ∷ [])) refl refl refl refl (ap (λ (r : Result Value LiftTrap). Some r) two_lifted)) in
-    let a6 = at_world g s w doubled_wants_5 doubled_wants_6 _ a5 (with_plan doubled_wants_5 _ (Gives (4 ∷ 4 ∷ [])) refl two_plan) in
+    let a5 = steps_to g s w doubled_wants_4 doubled_wants_5 _ _ a4 (enters g s doubled_wants_4 (values.Record (value.U32 4 ∷ value.U32 4 ∷ [])) refl tt tt refl (ap (λ (r : Result Value LiftTrap). Some r) two_lifted)) in
+    let a6 = at_world g s w doubled_wants_5 doubled_wants_6 _ a5 (with_plan doubled_wants_5 (Gives (4 ∷ 4 ∷ [])) tt two_plan) in
     let a7 = walks 9 g s w (doubled_wants_6) _ a6 in
     shows g s w doubled_wants_7 _ _ _ _ a7 refl refl refl
 
@@ -269,9 +269,9 @@ post_return_calls =
     let a0 = begun g s w in
     let a1 = at_world g s w w post_return_calls_1 [] a0 (ap with_types two_type) in
     let a2 = walks 7 g s w (post_return_calls_1) _ a1 in
-    let a3 = at_world g s w post_return_calls_2 post_return_calls_3 _ a2 (with_plan post_return_calls_2 _ (Gives []) refl (none_plan (Some type.U32))) in
+    let a3 = at_world g s w post_return_calls_2 post_return_calls_3 _ a2 (with_plan post_return_calls_2 (Gives []) tt (none_plan (Some type.U32))) in
     let a4 = walks 3 g s w (post_return_calls_3) _ a3 in
-    let a5 = steps_to g s w post_return_calls_4 post_return_calls_5 _ _ a4 (ends g s post_return_calls_4 (5 ∷ []) (Ok (Some (u32 5))) refl refl refl refl refl refl (ap (typed_result type.U32) (u32_result _ _ 5)) tt) in
+    let a5 = steps_to g s w post_return_calls_4 post_return_calls_5 _ _ a4 (ends g s post_return_calls_4 (5 ∷ []) (Ok (Some (u32 5))) refl tt tt refl refl tt (ap (typed_result type.U32) (u32_result [] [] 5)) tt) in
     let a6 = walks 9 g s w (post_return_calls_5) _ a5 in
     shows g s w post_return_calls_6 _ _ _ _ a6 refl refl refl
 
@@ -312,12 +312,12 @@ no_char =
     let a0 = begun g s w in
     let a1 = at_world g s w w no_char_1 [] a0 (ap with_types char_type) in
     let a2 = walks 7 g s w (no_char_1) _ a1 in
-    let a3 = at_world g s w no_char_2 no_char_3 _ a2 (with_plan no_char_2 _ (Gives []) refl (none_plan None)) in
+    let a3 = at_world g s w no_char_2 no_char_3 _ a2 (with_plan no_char_2 (Gives []) tt (none_plan None)) in
     let a4 = walks 3 g s w (no_char_3) _ a3 in
-    let a5 = steps_to g s w no_char_4 no_char_5 _ _ a4 (enters g s no_char_4 (values.Record []) refl refl refl refl (ap (λ (r : Result Value LiftTrap). Some r) (none_lifted (Some type.Char)))) in
-    let a6 = at_world g s w no_char_5 no_char_6 _ a5 (with_plan no_char_5 _ (Gives []) refl (none_plan (Some type.Char))) in
+    let a5 = steps_to g s w no_char_4 no_char_5 _ _ a4 (enters g s no_char_4 (values.Record []) refl tt tt refl (ap (λ (r : Result Value LiftTrap). Some r) (none_lifted (Some type.Char)))) in
+    let a6 = at_world g s w no_char_5 no_char_6 _ a5 (with_plan no_char_5 (Gives []) tt (none_plan (Some type.Char))) in
     let a7 = walks 3 g s w (no_char_6) _ a6 in
-    let a8 = steps_to g s w no_char_7 no_char_8 _ _ a7 (ends g s no_char_7 (0xD800 ∷ []) (Err (record { why = BadChar; place = 0 })) refl refl refl refl refl refl (ap (typed_result type.Char) char_result) tt) in
+    let a8 = steps_to g s w no_char_7 no_char_8 _ _ a7 (ends g s no_char_7 (0xD800 ∷ []) (Err (record { why = BadChar; place = 0 })) refl tt tt refl refl tt (ap (typed_result type.Char) char_result) tt) in
     let a9 = walks 9 g s w (no_char_8) _ a8 in
     shows g s w no_char_9 _ _ _ _ a9 refl refl refl
 
@@ -347,9 +347,9 @@ reentrant =
     let w : World = first_world coming_back in
     let a0 = begun g s w in
     let a1 = walks 8 g s w (first_world coming_back) _ a0 in
-    let a2 = at_world g s w reentrant_1 reentrant_2 _ a1 (with_plan reentrant_1 _ (Gives []) refl (none_plan None)) in
+    let a2 = at_world g s w reentrant_1 reentrant_2 _ a1 (with_plan reentrant_1 (Gives []) tt (none_plan None)) in
     let a3 = walks 3 g s w (reentrant_2) _ a2 in
-    let a4 = steps_to g s w reentrant_3 reentrant_4 _ _ a3 (enters g s reentrant_3 (values.Record []) refl refl refl refl (ap (λ (r : Result Value LiftTrap). Some r) (none_lifted None))) in
-    let a5 = at_world g s w reentrant_4 reentrant_5 _ a4 (with_plan reentrant_4 _ (Gives []) refl (none_plan None)) in
+    let a4 = steps_to g s w reentrant_3 reentrant_4 _ _ a3 (enters g s reentrant_3 (values.Record []) refl tt tt refl (ap (λ (r : Result Value LiftTrap). Some r) (none_lifted None))) in
+    let a5 = at_world g s w reentrant_4 reentrant_5 _ a4 (with_plan reentrant_4 (Gives []) tt (none_plan None)) in
     let a6 = walks 9 g s w (reentrant_5) _ a5 in
     shows g s w reentrant_6 _ _ _ _ a6 refl refl refl

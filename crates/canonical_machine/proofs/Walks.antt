@@ -7,7 +7,7 @@ use Rattle.core_machine.specs.Stack.{Stack, Given}
 use Rattle.core_machine.specs.Step as core
 use Rattle.ca_types.specs.declared.value.Value.{Value}
 use Rattle.value_lift.specs.declared.trap.LiftTrap.{LiftTrap}
-use Rattle.value_lower.specs.Plan.{Plan}
+use Rattle.value_lower.specs.Plan.{Plan, Gives}
 use Rattle.comp_graph.specs.declared.graph.FuncRef.TheVariants as func_ref
 use Rattle.comp_graph.specs.Graph.{Graph, Lifted, no_options}
 use Rattle.script_reader.specs.Script.{Script}
@@ -16,7 +16,7 @@ use Rattle.trace_show.specs.declared.label.Label.TheVariants as line
 use Rattle.trace_show.specs.declared.typed.TypedValue.{TypedValue}
 use Rattle.canonical_machine.specs.declared.run_end.RunEnd.{RunEnd}
 use Rattle.canonical_machine.specs.Passing.{arguments_plan}
-use Rattle.canonical_machine.specs.Control.{Control, Free, Runs, Arrives, Lowers, Lowering, Starts}
+use Rattle.canonical_machine.specs.Control.{Control, Free, Instantiates, Runs, Calls, Arrives, Lowers, Quiet, Back, Leaves, Doomed, Lowering, Starts}
 use Rattle.canonical_machine.specs.World.{Init, Nobody, New, Acting, Task, World, new_task}
 use Rattle.canonical_machine.specs.Edits.{with_control, in_state, unstacked}
 use Rattle.canonical_machine.specs.Reading.{memory_of, bytes_of, acting, func_of}
@@ -121,12 +121,40 @@ abbrev pub the_lowering : Control → Lowering
 the_lowering (Lowers l plan) = l
 the_lowering control = record { inst = 0; memory = None; realloc = None; acts_for = 0; blame = 0; next = Starts }
 
+abbrev pub IsThere : {A : Type 0} → Option A → Type 0
+IsThere None = ⊥
+IsThere (Some x) = Unit {0}
+
+found : {A : Type 0} (o : Option A) (d : A) → IsThere o → o ≡ Some (unwrap_or o d)
+found None d h = absurd h
+found (Some x) d h = refl
+
 -- a plan in place of an equal one
+abbrev pub the_plan : Control → Plan
+the_plan (Lowers l plan) = plan
+the_plan control = Gives []
+
+abbrev pub IsLowering : Control → Type 0
+IsLowering (Lowers l plan) = Unit {0}
+IsLowering control = ⊥
+
 abbrev pub planned : Plan → World → World
 planned plan w = with_control (Lowers (the_lowering w.control) plan) w
 
-pub with_plan : (w : World) (p q : Plan) → w.control ≡ Lowers (the_lowering w.control) p → p ≡ q → w ≡ planned q w
-with_plan w p q e h = ap (λ (c : Control). with_control c w) (e ∙ ap (λ (p : Plan). Lowers (the_lowering w.control) p) h)
+control_planned : (c : Control) (q : Plan) → IsLowering c → the_plan c ≡ q → c ≡ Lowers (the_lowering c) q
+control_planned (Lowers l plan) q is e = ap (λ (p : Plan). Lowers l p) e
+control_planned Free q is e = absurd is
+control_planned (Instantiates n) q is e = absurd is
+control_planned Runs q is e = absurd is
+control_planned (Calls number words) q is e = absurd is
+control_planned Arrives q is e = absurd is
+control_planned (Quiet n b) q is e = absurd is
+control_planned Back q is e = absurd is
+control_planned Leaves q is e = absurd is
+control_planned (Doomed t why) q is e = absurd is
+
+pub with_plan : (w : World) (q : Plan) → IsLowering w.control → the_plan w.control ≡ q → w ≡ planned q w
+with_plan w q is e = ap (λ (c : Control). with_control c w) (control_planned w.control q is e)
 
 -- A task enters, whose arguments are lifted so.
 abbrev pub entered_world : Value → World → World
@@ -139,10 +167,10 @@ enters_as : (g : Graph) (s : Script) (w : World) (t : ℕ) (task : Task) (f : Li
 unfolding arriving_turn entered with_arguments
 enters_as g s w t task f v c a i n r = rw (c, a, i, n, r) refl
 
-pub enters : (g : Graph) (s : Script) (w : World) (v : Value) → w.control ≡ Arrives → acting w ≡ Some (the_number w, the_task w)
-    → func_of (the_task w).callee ≡ Some (the_func w) → (the_task w).state ≡ New → arguments_of g w.store (the_task w).caller ≡ Some (Ok v)
+pub enters : (g : Graph) (s : Script) (w : World) (v : Value) → w.control ≡ Arrives → IsThere (acting w)
+    → IsThere (func_of (the_task w).callee) → (the_task w).state ≡ New → arguments_of g w.store (the_task w).caller ≡ Some (Ok v)
     → next g s w ≡ Steps (line.Enter (the_number w) ∷ []) (entered_world v w)
-enters g s w v c a i n r = enters_as g s w (the_number w) (the_task w) (the_func w) v c a i n r
+enters g s w v c a i n r = enters_as g s w (the_number w) (the_task w) (the_func w) v c (found (acting w) _ a) (found (func_of (the_task w).callee) _ i) n r
 
 -- A task's function has ended, and its result is lifted so.
 ends_as : (g : Graph) (s : Script) (w : World) (t : ℕ) (task : Task) (f : Lifted) (k : Stack) (words : List ℕ) (r : Result (Option TypedValue) LiftTrap)
@@ -172,9 +200,11 @@ a_step (Ends end) w h = absurd h
 a_step Stuck w h = absurd h
 
 pub ends : (g : Graph) (s : Script) (w : World) (words : List ℕ) (r : Result (Option TypedValue) LiftTrap) → w.control ≡ Runs
-    → acting w ≡ Some (the_number w, the_task w) → slice_get (the_task w).stacks 0 ≡ Some (the_stack w) → core.next w.store (the_stack w) ≡ core.Ends words
-    → (the_task w).state ≡ Acting → func_of (the_task w).callee ≡ Some (the_func w)
+    → IsThere (acting w) → IsThere (slice_get (the_task w).stacks 0) → core.next w.store (the_stack w) ≡ core.Ends words
+    → (the_task w).state ≡ Acting → IsThere (func_of (the_task w).callee)
     → result_of (the_func w).func_type (the_func w).func_type.result (bytes_of w.store (memory_of w.store (the_func w).options)) words ≡ r
     → IsStep (ended_turn g words r w) → next g s w ≡ Steps (ended_lines g words r w) (ended_world g words r w)
 ends g s w words r c a top e state i lifted h =
-    ends_as g s w (the_number w) (the_task w) (the_func w) (the_stack w) words r c a top e state i lifted ∙ a_step (ended_turn g words r w) w h
+    ends_as g s w (the_number w) (the_task w) (the_func w) (the_stack w) words r c (found (acting w) _ a) (found (slice_get (the_task w).stacks 0) _ top) e state
+    (found (func_of (the_task w).callee) _ i) lifted
+    ∙ a_step (ended_turn g words r w) w h
