@@ -1,5 +1,5 @@
 -- How the functions of the examples pass their arguments and results: types and values are taken by their folds.
-use Rattle.std.proofs.Common.{◌≡◌, ◌∙◌, ℕ, ◌%◌, ◌^◌, ◌++◌, List, [], ◌∷◌, map, length, Option, Some, None, refl, ap, sym, rules}
+use Rattle.std.proofs.Common.{◌≡◌, ◌∙◌, ℕ, ◌%◌, ◌^◌, ◌++◌, List, [], ◌∷◌, map, length, Option, Some, refl, ap, sym}
 use Rattle.std.specs.Prelude.{Ok, Err}
 use Rattle.ca_types.specs.declared.types.ValType.{ValType, out-ValType}
 use Rattle.ca_types.specs.declared.types.Param.{Param}
@@ -14,7 +14,6 @@ use Rattle.ca_types.specs.declared.value.Value.TheOpen as V
 use Rattle.ca_types.specs.declared.value.Value.TheViews as values
 use Rattle.ca_types.specs.declared.value.Value.TheVariants as plain
 use Rattle.ca_types.specs.declared.value.Value.TheFolds.{fold-roll-Value, map-Value}
-use Rattle.ca_types.specs.declared.core_type.CoreType.{CoreType}
 use Rattle.ca_types.specs.declared.core_type.CoreType.TheVariants.{I32}
 use Rattle.ca_types.specs.Flat.{flat, flat_step}
 use Rattle.laid_types.specs.Parts.{parts_of}

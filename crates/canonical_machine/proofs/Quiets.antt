@@ -1,5 +1,5 @@
 -- A step of nested code changes the control, the store and the units alone.
-use Rattle.std.proofs.Common.{◌≡◌, ℕ, ◌+◌, Bool, true, false, nat_lt, List, [], ◌∷◌, refl, sym, ap, subst, Option, Some, None, if◌then◌else◌}
+use Rattle.std.proofs.Common.{ℕ, ◌+◌, Bool, true, false, nat_lt, List, [], ◌∷◌, refl, sym, subst, Option, Some, None, if◌then◌else◌}
 use Rattle.std.specs.List.{slice_get}
 use Rattle.comp_graph.specs.Graph.{Graph}
 use Rattle.comp_graph.specs.declared.graph.CanonFunc.{CanonFunc}
@@ -14,7 +14,7 @@ use Rattle.canonical_machine.specs.Edits.{with_control, with_store, unit_spent}
 use Rattle.canonical_machine.specs.Reading.{builtin_of}
 use Rattle.canonical_machine.specs.Turn.{Turn, Steps, Ends, Stuck, silent, doomed, behind, charged, given}
 use Rattle.canonical_machine.specs.Nested.{HostedTurn, On, EndsIn, TrapsBy, Refused, NoRule, hosted_next, nested_ended, hosted, nested_turn}
-use Rattle.canonical_machine.specs.Next.{next_by, next}
+use Rattle.canonical_machine.specs.Next.{next_by}
 use Rattle.canonical_machine.specs.Laws.{IsQuiet, IsQuietTurn, NestedIsQuiet}
 
 -- a world with another control, store and units

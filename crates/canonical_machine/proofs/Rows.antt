@@ -1,5 +1,5 @@
 -- What each kind of step does with fuel.
-use Rattle.std.proofs.Common.{◌≡◌, ℕ, zero, suc, true, List, [], ◌∷◌, refl, Option, Some, None, Result, Ok, Err}
+use Rattle.std.proofs.Common.{ℕ, zero, suc, true, List, [], ◌∷◌, refl, Option, Some, None, Result, Ok, Err}
 use Rattle.std.specs.List.{slice_get}
 use Rattle.core_machine.specs.Store.{found_at}
 use Rattle.core_machine.specs.Stack.{Stack}
@@ -19,11 +19,11 @@ use Rattle.script_reader.specs.Script.{Script}
 use Rattle.trace_show.specs.declared.label.Label.TheVariants as line
 use Rattle.trace_show.specs.declared.typed.TypedValue.{TypedValue}
 use Rattle.canonical_machine.specs.Traps.{core_name}
-use Rattle.canonical_machine.specs.Control.{Then, Starts, Resolves, Lowering, Nested, Behind, InLowering, BeforeLeaving, HostedState}
+use Rattle.canonical_machine.specs.Control.{Then, Starts, Resolves, Lowering, Nested, Behind, InLowering, BeforeLeaving}
 use Rattle.canonical_machine.specs.World.{Caller, Nobody, Host, Guest, Returned, Subtask, TaskState, New, Acting, AfterCall, Begins, Exited, Task, World}
 use Rattle.canonical_machine.specs.Edits.{with_store, with_memory, in_state, unstacked, resolved, result_kept}
 use Rattle.canonical_machine.specs.Reading.{externals, func_address, memory_of, bytes_of, task_at, acting, func_of, subtask_of, subtask_state, is_reentrant, lifted_of, builtin_of, inst_of_canon, may_leave}
-use Rattle.canonical_machine.specs.Turn.{Turn, doomed}
+use Rattle.canonical_machine.specs.Turn.{doomed}
 use Rattle.canonical_machine.specs.Instantiating.{started_up, made, action_turn, instantiating_turn}
 use Rattle.canonical_machine.specs.Returning.{result_of, post_return, finished, passed_on, returned, returning_turn, leaving_turn}
 use Rattle.canonical_machine.specs.CoreSteps.{costs, stack_ended, moved, running_turn}

@@ -1,13 +1,13 @@
 -- At most one run.
-use Rattle.std.proofs.Common.{◌≡◌, ◌≤◌, ℕ, zero, suc, List, [], ◌∷◌, ◌++◌, length, refl, sym, ap, ◌∙◌, subst, arith}
+use Rattle.std.proofs.Common.{◌≡◌, ◌≤◌, List, [], ◌∷◌, length, refl, sym, ap, ◌∙◌, subst, arith}
 use Rattle.comp_graph.specs.Graph.{Graph}
 use Rattle.script_reader.specs.Script.{Script}
 use Rattle.trace_show.specs.declared.label.Label.{Label}
 use Rattle.canonical_machine.specs.declared.run_end.RunEnd.{RunEnd}
 use Rattle.canonical_machine.specs.World.{World, first_world}
-use Rattle.canonical_machine.specs.Turn.{Steps, Ends}
+use Rattle.canonical_machine.specs.Turn.{Ends}
 use Rattle.canonical_machine.specs.Next.{next}
-use Rattle.canonical_machine.specs.Run.{Reaches, lines_of, RunsFrom}
+use Rattle.canonical_machine.specs.Run.{Reaches, lines_of}
 use Rattle.canonical_machine.specs.Laws.{OneRun, OneRunFrom, FewerAreAFront}
 
 -- Two runs from a world have the same steps and the same last world.

@@ -1,10 +1,9 @@
 -- The runs of the examples, in pieces between the places where values are passed.
-use Rattle.std.proofs.Common.{◌≡◌, ℕ, List, [], ◌∷◌, ◌++◌, replicate, Option, Some, None, refl, ap}
+use Rattle.std.proofs.Common.{[], ◌∷◌, ◌++◌, replicate, Some, None, refl, ap}
 use Rattle.std.specs.Prelude.{Result, Ok, Err}
 use Rattle.ca_types.specs.declared.value.Value.TheVariants as value
 use Rattle.ca_types.specs.declared.value.Value.TheViews as values
 use Rattle.trace_show.specs.declared.builtin.Builtin.TheVariants as builtin
-use Rattle.trace_show.specs.declared.label.Label.{Label}
 use Rattle.trace_show.specs.declared.label.Label.TheVariants as line
 use Rattle.trace_show.specs.declared.trap.TrapName.TheVariants as trap
 use Rattle.canonical_machine.specs.declared.run_end.RunEnd.TheVariants.{Done, Trapped, Fuel}
@@ -17,13 +16,9 @@ use Rattle.value_lift.specs.declared.trap.LiftWhy.TheVariants.{BadChar}
 use Rattle.value_lift.specs.declared.trap.LiftTrap.{LiftTrap}
 use Rattle.comp_graph.specs.Graph.{Graph}
 use Rattle.script_reader.specs.Script.{Script}
-use Rattle.value_lower.specs.Plan.{Plan, Gives}
+use Rattle.value_lower.specs.Plan.{Gives}
 use Rattle.value_lower.specs.Lowering.{text_in}
-use Rattle.wasm_module.specs.Expr.{Expr}
-use Rattle.canonical_machine.specs.Control.{Lowers, Starts, Lowering}
 use Rattle.canonical_machine.specs.World.{World, first_world}
-use Rattle.canonical_machine.specs.Edits.{with_control}
-use Rattle.canonical_machine.specs.Passing.{arguments_plan}
 use Rattle.canonical_machine.specs.Instantiating.{started_up, made, action_turn, instantiating_turn}
 use Rattle.canonical_machine.specs.Returning.{typed_result, post_return, finished, passed_on, returned, returning_turn, leaving_turn}
 use Rattle.canonical_machine.specs.CoreSteps.{stack_ended, moved, running_turn}
@@ -34,7 +29,7 @@ use Rattle.canonical_machine.specs.Lowering.{started, lowered, paused, lowers_tu
 use Rattle.canonical_machine.specs.Nested.{nested_ended, hosted, nested_turn}
 use Rattle.canonical_machine.specs.Examples.{RunOf, Measures, measuring, store_of, instantiated, script_of, doubling, calling_behind, asking_for_char, calling_at_start, coming_back, gives, calls_with_ask, words, of_two, of_one, of_text, text, u32, begins, calls_child, doubled, begins_measuring}
 use Rattle.canonical_machine.proofs.Passed.{two_type, char_type, two_lifted, two_plan, one_plan, text_plan, none_plan, none_lifted, u32_result, char_result, u32_result_plan}
-use Rattle.canonical_machine.proofs.Walks.{walk, walked, Goes, begun, walks, steps_to, at_world, shows, planned, with_plan, entered_world, enters, ended_world, ends}
+use Rattle.canonical_machine.proofs.Walks.{walk, begun, walks, steps_to, at_world, shows, planned, with_plan, entered_world, enters, ended_world, ends}
 
 -- a first world in whose store stands one function of the host, of this type
 abbrev with_types : core.FuncType → World

@@ -1,5 +1,5 @@
 -- What each next move says of its world.
-use Rattle.std.proofs.Common.{◌≡◌, ◌≤◌, ◌<◌, ◌⊎◌, inl, inr, ℕ, ◌+◌, true, List, [], ◌∷◌, refl, sym, ap, subst, Option, Some, None}
+use Rattle.std.proofs.Common.{◌≡◌, ◌≤◌, ℕ, true, List, [], ◌∷◌, refl, ap, subst, Option, Some, None}
 use Rattle.std.specs.List.{slice_get}
 use Rattle.comp_graph.specs.Graph.{Graph, func_named}
 use Rattle.script_reader.specs.declared.script.Item.{Item}
@@ -13,7 +13,7 @@ use Rattle.canonical_machine.specs.Control.{Control, Free, Instantiates, Runs, C
 use Rattle.canonical_machine.specs.World.{World}
 use Rattle.canonical_machine.specs.Edits.{with_control}
 use Rattle.canonical_machine.specs.Reading.{unfinished}
-use Rattle.canonical_machine.specs.Turn.{Turn, Steps, Ends, Stuck, given, charged}
+use Rattle.canonical_machine.specs.Turn.{Turn, Steps, Ends, Stuck}
 use Rattle.canonical_machine.specs.Calling.{taken, end_of, item_turn, free_turn}
 use Rattle.canonical_machine.specs.Next.{next_by, next}
 use Rattle.canonical_machine.specs.Laws.{DoomedEnds, TrapIsMet, DoneIsAll, FuelIsSpent, StepsSpendOneOrNone}

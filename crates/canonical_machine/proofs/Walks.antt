@@ -1,7 +1,7 @@
 -- Runs in pieces: so many steps, as they are computed; a step that is known; and a plan in place of an equal one.
 use Rattle.std.proofs.Common.{◌≡◌, ◌∙◌, ℕ, zero, suc, List, [], ◌∷◌, ◌++◌, map, refl, sym, ap, subst, Option, Some, None}
 use Rattle.std.specs.Prelude.{Result, Ok, unwrap_or}
-use Rattle.std.specs.List.{flat_map, slice_get}
+use Rattle.std.specs.List.{slice_get}
 use Rattle.std.proofs.lemmas.Grind.{flat_map-append}
 use Rattle.core_machine.specs.Stack.{Stack, Given}
 use Rattle.core_machine.specs.Step as core
@@ -24,8 +24,8 @@ use Rattle.canonical_machine.specs.Turn.{Turn, Steps, Ends, Stuck}
 use Rattle.canonical_machine.specs.Returning.{result_of, returned, returning_turn}
 use Rattle.canonical_machine.specs.CoreSteps.{stack_ended, moved, running_turn}
 use Rattle.canonical_machine.specs.Entering.{arguments_of, arguments_lowering, with_arguments, entered, arriving_turn}
-use Rattle.canonical_machine.specs.Next.{next_by, next}
-use Rattle.canonical_machine.specs.Run.{Reaches, lines_of, RunsFrom}
+use Rattle.canonical_machine.specs.Next.{next}
+use Rattle.canonical_machine.specs.Run.{Reaches, lines_of}
 use Rattle.canonical_machine.specs.Examples.{Shows}
 
 -- the world that so many steps lead to, or fewer where no more come, and the lines

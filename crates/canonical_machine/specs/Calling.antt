@@ -1,6 +1,6 @@
 -- Calls (Component Model, CanonicalABI.md, `canon lower`; Concurrency.md): the script takes its next call, where no task runs; a task
 -- calls a function that is lowered; and control comes back to it.
-use Rattle.std.specs.Prelude.{ℕ, zero, suc, ◌+◌, Bool, true, if◌then◌else◌, List, [], ◌∷◌, map, length, Option, Some, None}
+use Rattle.std.specs.Prelude.{ℕ, suc, ◌+◌, true, if◌then◌else◌, List, [], ◌∷◌, map, length, Option, Some, None}
 use Rattle.std.specs.List.{slice_get}
 use Rattle.ca_types.specs.declared.types.ValType.{ValType}
 use Rattle.ca_types.specs.declared.value.Value.{Value}
@@ -15,7 +15,7 @@ use Rattle.trace_show.specs.declared.trap.TrapName.TheVariants as trap
 use Rattle.canonical_machine.specs.declared.run_end.RunEnd.{RunEnd}
 use Rattle.canonical_machine.specs.declared.run_end.RunEnd.TheVariants.{Done, Deadlock}
 use Rattle.canonical_machine.specs.Control.{Runs, Arrives}
-use Rattle.canonical_machine.specs.World.{Callee, Func, Subtask, Caller, Host, Guest, TaskState, Acting, AfterCall, Task, World}
+use Rattle.canonical_machine.specs.World.{Callee, Func, Subtask, Caller, Host, Guest, TaskState, Acting, AfterCall, World}
 use Rattle.canonical_machine.specs.Edits.{with_control, item_taken, task_made, chained, in_state, answered, told}
 use Rattle.canonical_machine.specs.Reading.{task_at, acting, subtask_of, subtask_state, is_reentrant, unfinished}
 use Rattle.canonical_machine.specs.Turn.{Turn, Steps, Ends, Stuck, doomed, given, charged}

@@ -5,14 +5,13 @@
 -- this while it stands on the chain. The chain is empty where the script calls, and a call into the instance of a task on the chain
 -- is a trap, since each of these is the caller of the next. So no task of the instance holds exclusive entry, none waits to enter, and
 -- there is no backpressure.
-use Rattle.std.specs.Prelude.{ℕ, List, [], ◌∷◌, Option, Some, None, Result, Ok, Err}
+use Rattle.std.specs.Prelude.{ℕ, [], ◌∷◌, Option, Some, None, Result, Ok, Err}
 use Rattle.std.specs.List.{slice_get}
 use Rattle.std.specs.Option.{option_map}
 use Rattle.core_machine.specs.Store.{Store}
 use Rattle.ca_types.specs.declared.value.Value.{Value}
 use Rattle.ca_types.specs.declared.value.Value.TheViews as value
 use Rattle.value_lift.specs.declared.trap.LiftTrap.{LiftTrap}
-use Rattle.comp_graph.specs.declared.graph.CanonFunc.{CanonFunc}
 use Rattle.comp_graph.specs.declared.graph.Lower.{Lower}
 use Rattle.comp_graph.specs.Graph.{Graph, Lifted}
 use Rattle.trace_show.specs.declared.label.Label.TheVariants as line

@@ -1,6 +1,6 @@
 -- Small graphs and stores, whose runs the laws `examples` have (Component Model, CanonicalABI.md, `canon lift` and `canon lower`;
 -- Core 2.0, section 4.4).
-use Rattle.std.specs.Prelude.{◌≡◌, ℕ, pos, codes, List, [], ◌∷◌, ◌++◌, length, map, replicate, Option, Some, None}
+use Rattle.std.specs.Prelude.{◌≡◌, ℕ, pos, codes, List, [], ◌∷◌, ◌++◌, map, replicate, Option, Some, None}
 use Rattle.wasm_module.specs.declared.types.ValType.TheVariants.{I32}
 use Rattle.wasm_module.specs.declared.types.FuncType as core
 use Rattle.wasm_module.specs.declared.instr.Instr.TheVariants.{Drop, LocalGet, I32Const, Numeric}
@@ -8,7 +8,6 @@ use Rattle.wasm_module.specs.declared.instr.Instr.TheVariants as instr
 use Rattle.wasm_module.specs.declared.instr.NumericOp.TheVariants.{Binary}
 use Rattle.wasm_module.specs.declared.instr.Width.TheVariants.{W32}
 use Rattle.wasm_module.specs.declared.instr.BinaryOp.TheVariants.{Add}
-use Rattle.wasm_module.specs.declared.module.Import.{Import}
 use Rattle.wasm_module.specs.declared.module.ImportDesc.TheVariants as wanted
 use Rattle.wasm_module.specs.declared.module.Func.{Func}
 use Rattle.wasm_module.specs.declared.module.ModuleTree.{ModuleTree}
@@ -16,17 +15,14 @@ use Rattle.wasm_module.specs.Expr.{Expr, End, Plain}
 use Rattle.wasm_valid.specs.Context.{arrow}
 use Rattle.core_machine.specs.Store.{Function, Own, Store}
 use Rattle.core_machine.specs.Store as stores
-use Rattle.ca_types.specs.declared.types.ValType.{ValType}
 use Rattle.ca_types.specs.declared.types.ValType.TheVariants as type
 use Rattle.ca_types.specs.declared.types.FuncType.{FuncType}
 use Rattle.ca_types.specs.declared.types.Param.{Param}
-use Rattle.ca_types.specs.declared.exports.Export.{Export}
 use Rattle.ca_types.specs.declared.value.Value.{Value}
 use Rattle.ca_types.specs.declared.value.Value.TheVariants as value
 use Rattle.comp_graph.specs.declared.graph.CoreRef.{CoreRef}
 use Rattle.comp_graph.specs.declared.graph.FuncRef.{FuncRef}
 use Rattle.comp_graph.specs.declared.graph.FuncRef.TheVariants as func_ref
-use Rattle.comp_graph.specs.declared.graph.CoreExtern.{CoreExtern}
 use Rattle.comp_graph.specs.declared.graph.CoreExtern.TheVariants as extern
 use Rattle.comp_graph.specs.declared.graph.Action.{Action}
 use Rattle.comp_graph.specs.declared.graph.Action.TheVariants.{Begin, Make}
@@ -35,7 +31,6 @@ use Rattle.comp_graph.specs.declared.graph.Lift.{Lift}
 use Rattle.comp_graph.specs.declared.graph.CanonFunc.{CanonFunc}
 use Rattle.comp_graph.specs.declared.graph.CanonFunc.TheVariants as canon_func
 use Rattle.comp_graph.specs.Graph.{CoreMake, Graph, no_options}
-use Rattle.script_reader.specs.declared.script.Item.{Item}
 use Rattle.script_reader.specs.declared.script.Item.TheVariants as item
 use Rattle.script_reader.specs.Script.{Script}
 use Rattle.trace_show.specs.declared.builtin.Builtin.TheVariants as builtin

@@ -1,9 +1,8 @@
 -- What holds of all runs (Component Model, Concurrency.md; CanonicalABI.md, `canon lift`): a graph and a script have at most one run; a
 -- step of nested code leaves nearly all as it is; and what ends mean.
-use Rattle.std.specs.Prelude.{◌≡◌, ◌≢◌, ◌≤◌, ◌<◌, ◌⊎◌, ◌+◌, ℕ, List, [], ◌∷◌, ◌++◌, length, None}
+use Rattle.std.specs.Prelude.{◌≡◌, ◌≤◌, ◌<◌, ◌⊎◌, ◌+◌, ℕ, List, [], ◌++◌, length, None}
 use Rattle.std.specs.List.{slice_get, AllByRecursion}
 use Rattle.comp_graph.specs.Graph.{Graph}
-use Rattle.comp_graph.specs.declared.graph.CanonFunc.{CanonFunc}
 use Rattle.script_reader.specs.Script.{Script}
 use Rattle.trace_show.specs.declared.builtin.Builtin.{Builtin}
 use Rattle.trace_show.specs.declared.label.Label.{Label}
@@ -11,8 +10,8 @@ use Rattle.trace_show.specs.declared.label.Label.TheVariants as line
 use Rattle.trace_show.specs.declared.trap.TrapName.{TrapName}
 use Rattle.canonical_machine.specs.declared.run_end.RunEnd.{RunEnd}
 use Rattle.canonical_machine.specs.declared.run_end.RunEnd.TheVariants.{Done, Trapped, Fuel}
-use Rattle.canonical_machine.specs.Control.{Control, Free, Nested, Behind, Quiet, Doomed}
-use Rattle.canonical_machine.specs.World.{World, first_world}
+use Rattle.canonical_machine.specs.Control.{Free, Nested, Behind, Quiet, Doomed}
+use Rattle.canonical_machine.specs.World.{World}
 use Rattle.canonical_machine.specs.Reading.{unfinished}
 use Rattle.canonical_machine.specs.Turn.{Turn, Steps, Ends, Stuck}
 use Rattle.canonical_machine.specs.Next.{next}

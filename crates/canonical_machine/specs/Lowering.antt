@@ -1,12 +1,11 @@
 -- How a lowering goes on (Component Model, CanonicalABI.md, "Storing" and "Flat Lowering"): its plan is followed up to the next
 -- realloc, which runs on a stack of its own, or to its end. Up to there all is one step, which costs nothing and has no line.
-use Rattle.std.specs.Prelude.{ℕ, List, [], ◌∷◌, length, Option, Some, None}
-use Rattle.core_machine.specs.Store.{Store, Function, found_at}
+use Rattle.std.specs.Prelude.{ℕ, List, [], ◌∷◌, length}
+use Rattle.core_machine.specs.Store.{Function, found_at}
 use Rattle.core_machine.specs.Step.{start}
 use Rattle.value_lower.specs.declared.ends.LowerWhy.{LowerWhy}
 use Rattle.value_lower.specs.Plan.{Ask, Plan, Gives, Fails, Asks, Size, Put}
 use Rattle.value_lower.specs.Following.{written}
-use Rattle.comp_graph.specs.Graph.{Lifted}
 use Rattle.canonical_machine.specs.Traps.{lower_name}
 use Rattle.canonical_machine.specs.Control.{Then, Starts, Resolves, Lowering, Going, Nested, InLowering, Runs, Quiet}
 use Rattle.canonical_machine.specs.World.{World}

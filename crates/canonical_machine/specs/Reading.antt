@@ -1,9 +1,9 @@
 -- What is read of graphs and worlds (Component Model, CanonicalABI.md, "Canonical ABI Options", "Task State" and "Subtask State";
 -- Core 2.0, section 4.2): addresses of core definitions, options, tasks, and what is computed of them.
-use Rattle.std.specs.Prelude.{ℕ, zero, suc, ◌+◌, Bool, true, false, ◌&&◌, ◌||◌, nat_eq, not, if◌then◌else◌, List, [], ◌∷◌, map, length, drop, Option, Some, None}
+use Rattle.std.specs.Prelude.{ℕ, zero, suc, ◌+◌, Bool, true, false, ◌&&◌, ◌||◌, nat_eq, not, if◌then◌else◌, List, [], ◌∷◌, length, drop, Option, Some, None}
 use Rattle.std.specs.List.{slice_get}
 use Rattle.std.specs.Option.{option_and_then, option_map}
-use Rattle.core_machine.specs.Store.{Store, Function, Instance, found_at}
+use Rattle.core_machine.specs.Store.{Store, Instance, found_at}
 use Rattle.core_machine.specs.Instantiation.{External, FuncAddress, TableAddress, MemoryAddress, GlobalAddress}
 use Rattle.wasm_memory.specs.Memories.{MemoryState}
 use Rattle.comp_graph.specs.declared.graph.CoreRef.{CoreRef}
@@ -15,10 +15,10 @@ use Rattle.comp_graph.specs.declared.graph.Options.{Options}
 use Rattle.comp_graph.specs.declared.graph.Lower.{Lower}
 use Rattle.comp_graph.specs.declared.graph.CanonFunc.{CanonFunc}
 use Rattle.comp_graph.specs.declared.graph.CanonFunc.TheVariants as canon_func
-use Rattle.comp_graph.specs.Graph.{Graph, Lifted}
+use Rattle.comp_graph.specs.Graph.{Lifted}
 use Rattle.trace_show.specs.declared.builtin.Builtin.{Builtin}
 use Rattle.trace_show.specs.declared.builtin.Builtin.TheVariants as builtin
-use Rattle.canonical_machine.specs.Control.{Control, Free, Instantiates, Runs, Calls, Arrives, Lowers, Quiet, Back, Leaves, Doomed}
+use Rattle.canonical_machine.specs.Control.{Control, Lowers, Quiet}
 use Rattle.canonical_machine.specs.World.{Callee, Init, Func, Subtask, Caller, Nobody, Host, Guest, Resolution, Unresolved, Returned, TaskState, New, Exited, Task, World}
 
 -- Addresses. The core instance of number k has address k, and so has the core function that the Canonical ABI makes as that of

@@ -3,8 +3,7 @@
 -- is passed, so no borrow handle can be live.
 use Rattle.std.specs.Prelude.{ℕ, List, [], ◌∷◌, Option, Some, None, Result, Ok, Err}
 use Rattle.std.specs.List.{slice_get}
-use Rattle.std.specs.Option.{option_map}
-use Rattle.core_machine.specs.Store.{Store, Function, found_at}
+use Rattle.core_machine.specs.Store.{Function, found_at}
 use Rattle.core_machine.specs.Step.{start}
 use Rattle.ca_types.specs.declared.types.ValType.{ValType}
 use Rattle.ca_types.specs.declared.types.FuncType.{FuncType}
@@ -17,8 +16,8 @@ use Rattle.trace_show.specs.declared.label.Label.TheVariants as line
 use Rattle.trace_show.specs.declared.typed.TypedValue.{TypedValue}
 use Rattle.canonical_machine.specs.Passing.{result_lifted, result_plan}
 use Rattle.canonical_machine.specs.Traps.{lift_name}
-use Rattle.canonical_machine.specs.Control.{Control, Free, Resolves, Lowering, Going, Nested, BeforeLeaving, Instantiates, Lowers, Quiet, Back, Leaves}
-use Rattle.canonical_machine.specs.World.{Subtask, Caller, Nobody, Host, Guest, Returned, Exited, Task, World}
+use Rattle.canonical_machine.specs.Control.{Control, Free, Resolves, Lowering, Going, Nested, BeforeLeaving, Lowers, Quiet, Back, Leaves}
+use Rattle.canonical_machine.specs.World.{Subtask, Caller, Guest, Returned, Exited, Task, World}
 use Rattle.canonical_machine.specs.Edits.{with_control, unchained, in_state, resolved}
 use Rattle.canonical_machine.specs.Reading.{func_address, memory_of, realloc_of, bytes_of, lower_of, acting, func_of}
 use Rattle.canonical_machine.specs.Turn.{Turn, Steps, silent, doomed, behind, given}
