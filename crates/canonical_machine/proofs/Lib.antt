@@ -6,3 +6,4 @@ pub mod Runs
 pub mod Passed
 pub mod Walks
 pub mod Samples
+pub mod PairSamples

@@ -1,5 +1,5 @@
 -- How the functions of the examples pass their arguments and results: types and values are taken by their folds.
-use Rattle.std.proofs.Common.{◌≡◌, ◌∙◌, ℕ, ◌%◌, ◌^◌, ◌++◌, List, [], ◌∷◌, map, length, Option, Some, refl, ap, sym}
+use Rattle.std.proofs.Common.{◌≡◌, ◌∙◌, ◌+◌, ℕ, ◌%◌, ◌^◌, ◌++◌, List, [], ◌∷◌, map, length, replicate, Option, Some, refl, ap, sym}
 use Rattle.std.specs.Prelude.{Ok, Err}
 use Rattle.ca_types.specs.declared.types.ValType.{ValType, out-ValType}
 use Rattle.ca_types.specs.declared.types.Param.{Param}
@@ -15,19 +15,21 @@ use Rattle.ca_types.specs.declared.value.Value.TheViews as values
 use Rattle.ca_types.specs.declared.value.Value.TheVariants as plain
 use Rattle.ca_types.specs.declared.value.Value.TheFolds.{fold-roll-Value, map-Value}
 use Rattle.ca_types.specs.declared.core_type.CoreType.TheVariants.{I32}
+use Rattle.ca_types.specs.Layout.{laid, laid_step}
 use Rattle.ca_types.specs.Flat.{flat, flat_step}
+use Rattle.std.specs.Int.{w32, to_le_bytes}
 use Rattle.laid_types.specs.Parts.{parts_of}
 use Rattle.value_lift.specs.declared.trap.LiftWhy.TheVariants.{BadChar}
 use Rattle.value_lift.specs.Answers.{counted, counting}
 use Rattle.value_lift.specs.Pieces.{Part}
-use Rattle.value_lift.specs.Lifting.{lift_words, lift_word_case, part, payload_part, field_part}
-use Rattle.value_lift.proofs.Equations.{flats_in, flat_is, lift_words_is}
+use Rattle.value_lift.specs.Lifting.{lift, lift_case, lift_words, lift_word_case, part, payload_part, field_part}
+use Rattle.value_lift.proofs.Equations.{layouts_in, laid_is, flats_in, flat_is, lift_is, lift_words_is}
 use Rattle.value_lift.proofs.Views.{out_u32, out_char, out_string, out_tuple}
-use Rattle.value_lower.specs.Plan.{Plan, Gives}
-use Rattle.value_lower.specs.Lowering.{Lowered, lowered, lower_step, flat_words, words_case, field_words, text_in}
+use Rattle.value_lower.specs.Plan.{Plan, Gives, Put}
+use Rattle.value_lower.specs.Lowering.{Lowered, lowered, lower_step, flat_words, words_case, field_words, text_in, store, store_case, fields_from, tested}
 use Rattle.comp_graph.specs.Graph.{canon_type, no_options}
 use Rattle.canonical_machine.specs.Passing.{arguments_lifted, arguments_plan, result_lifted, result_plan}
-use Rattle.canonical_machine.specs.Examples.{of_two, of_one, of_text, to_char, text, words, lowers, lifts, func_at}
+use Rattle.canonical_machine.specs.Examples.{pair, to_pair, child_bytes, of_two, of_one, of_text, to_char, text, words, lowers, lifts, func_at}
 
 -- Core types.
 
@@ -82,6 +84,42 @@ record_words : (all : List Value) (t : ValType) (before : List ℕ) (K : List �
     → flat_words t (values.Record all) before K ≡ field_words (parts_of t) (map lowered all) before K
 record_words all t before K = words_by (values.Record all) (V.Record all) t before K (values.rolls-Record all)
 
+-- In memory.
+
+laid_by : (t : ValType) (y : F.ValType-F ValType Case Field) → out-ValType t ≡ y → laid t ≡ laid_step (layouts_in y)
+laid_by t y e = laid_is t ∙ ap (λ (y : F.ValType-F ValType Case Field). laid_step (layouts_in y)) e
+
+u32_laid : laid leaves.U32 ≡ record { size = 4; align = 4 }
+u32_laid = laid_by leaves.U32 F.U32 out_u32
+
+pair_laid : laid pair ≡ record { size = 8; align = 4 }
+pair_laid = laid_by pair (F.Tuple (leaves.U32 ∷ leaves.U32 ∷ [])) (out_tuple (leaves.U32 ∷ leaves.U32 ∷ [])) ∙ simp u32_laid refl
+
+pair_flat : flat pair ≡ I32 ∷ I32 ∷ []
+pair_flat = flat_by pair (F.Tuple (leaves.U32 ∷ leaves.U32 ∷ [])) (out_tuple (leaves.U32 ∷ leaves.U32 ∷ [])) ∙ simp u32_flat refl
+
+load_by : (t : ValType) (y : F.ValType-F ValType Case Field) → out-ValType t ≡ y → (bytes : List ℕ) (place left : ℕ)
+    → lift t bytes place left ≡ counting (counted 1 place left) (λ left. lift_case (layer_in y) bytes place left)
+load_by t y e bytes place left =
+    lift_is t bytes place left ∙ ap (λ (y : F.ValType-F ValType Case Field). counting (counted 1 place left) (λ left. lift_case (layer_in y) bytes place left)) e
+
+u32_load : (bytes : List ℕ) (place left : ℕ)
+    → lift leaves.U32 bytes place left ≡ counting (counted 1 place left) (λ left. lift_case (layer_in F.U32) bytes place left)
+u32_load = load_by leaves.U32 F.U32 out_u32
+
+pair_load : (bytes : List ℕ) (place left : ℕ)
+    → lift pair bytes place left ≡ counting (counted 1 place left) (λ left. lift_case (layer_in (F.Tuple (leaves.U32 ∷ leaves.U32 ∷ []))) bytes place left)
+pair_load = load_by pair (F.Tuple (leaves.U32 ∷ leaves.U32 ∷ [])) (out_tuple (leaves.U32 ∷ leaves.U32 ∷ []))
+
+store_by : (v : Value) (y : V.Value-F Value) (t : ValType) (place : ℕ) (k : Plan) → roll-Value y ≡ v → store t v place k ≡ store_case (map-Value Value Lowered lowered y) t place k
+store_by v y t place k e = ap (λ (l : Lowered). l.store t place k) (ap lowered (sym e) ∙ fold-roll-Value Lowered lower_step y)
+
+u32_store : (n : ℕ) (t : ValType) (place : ℕ) (k : Plan) → store t (plain.U32 n) place k ≡ Put place (to_le_bytes w32 n) k
+u32_store n t place k = store_by (plain.U32 n) (V.U32 n) t place k (plain.rolls-U32 n)
+
+record_store : (all : List Value) (t : ValType) (place : ℕ) (k : Plan) → store t (values.Record all) place k ≡ fields_from place 0 (parts_of t) (map lowered all) k
+record_store all t place k = store_by (values.Record all) (V.Record all) t place k (values.rolls-Record all)
+
 -- The functions of the examples.
 
 pub two_type : canon_type (lowers 0 (lifts 1 (func_at 0 0) no_options) of_two) ≡ words 2 1
@@ -125,3 +163,18 @@ char_result = simp (char_flat, char_lift) refl
 pub u32_result_plan : (params : List Param) (n : ℕ) (passed : List ℕ) → result_plan (record { params = params; result = Some leaves.U32 }) leaves.U32 (plain.U32 n) passed ≡ Gives (n ∷ [])
 unfolding result_plan
 u32_result_plan params n passed = simp (u32_flat, u32_words) refl
+
+pub pair_result : result_lifted to_pair pair child_bytes (8 ∷ []) ≡ Ok (values.Record (plain.U32 5 ∷ plain.U32 6 ∷ []))
+unfolding result_lifted
+pair_result = simp (pair_flat, pair_laid, pair_load, u32_load, u32_laid) refl
+
+pub pair_plan : (place : ℕ)
+    → result_plan to_pair pair (values.Record (plain.U32 5 ∷ plain.U32 6 ∷ [])) (place ∷ [])
+    ≡ tested place 4 8 (Put (place + 0) (5 ∷ 0 ∷ 0 ∷ 0 ∷ []) (Put (place + 4) (6 ∷ 0 ∷ 0 ∷ 0 ∷ []) (Gives [])))
+unfolding result_plan
+pair_plan place = simp (pair_flat, pair_laid, record_store, out_tuple, u32_store, u32_laid) refl
+
+-- no arguments, before the place of a result
+pub lifted_at : (place : ℕ) → arguments_lifted to_pair (replicate 24 0) (place ∷ []) ≡ Ok (values.Record [])
+unfolding arguments_lifted
+lifted_at place = simp (tuple_lift) refl

@@ -15,11 +15,14 @@ use Rattle.wasm_module.specs.Expr.{Expr, End, Plain}
 use Rattle.wasm_valid.specs.Context.{arrow}
 use Rattle.core_machine.specs.Store.{Function, Own, Store}
 use Rattle.core_machine.specs.Store as stores
+use Rattle.ca_types.specs.declared.types.ValType.{ValType}
 use Rattle.ca_types.specs.declared.types.ValType.TheVariants as type
+use Rattle.ca_types.specs.declared.types.ValType.TheViews as types
 use Rattle.ca_types.specs.declared.types.FuncType.{FuncType}
 use Rattle.ca_types.specs.declared.types.Param.{Param}
 use Rattle.ca_types.specs.declared.value.Value.{Value}
 use Rattle.ca_types.specs.declared.value.Value.TheVariants as value
+use Rattle.ca_types.specs.declared.value.Value.TheViews as values
 use Rattle.comp_graph.specs.declared.graph.CoreRef.{CoreRef}
 use Rattle.comp_graph.specs.declared.graph.FuncRef.{FuncRef}
 use Rattle.comp_graph.specs.declared.graph.FuncRef.TheVariants as func_ref
@@ -49,7 +52,7 @@ pub record Shows (g : Graph) (s : Script) (w : World) (labels : List Label) (end
   pub used : last.units ≡ units
   pub left : map (λ m. m.bytes) last.store.memories ≡ memories
 
--- Types of functions: of two numbers, of one, of none, from a text, to a character, and to nothing.
+-- Types of functions: of two numbers, of one, of none, from a text, to a character, to a pair, and to nothing.
 abbrev pub numbers : List (List ℕ) → List Param
 numbers labels = map (λ label. record { label = label; val_type = type.U32 }) labels
 
@@ -67,6 +70,12 @@ of_text = record { params = record { label = codes "a"; val_type = type.String }
 
 abbrev pub to_char : FuncType
 to_char = record { params = []; result = Some type.Char }
+
+abbrev pub pair : ValType
+pair = types.Tuple (type.U32 ∷ type.U32 ∷ [])
+
+abbrev pub to_pair : FuncType
+to_pair = record { params = []; result = Some pair }
 
 abbrev pub to_nothing : FuncType
 to_nothing = record { params = []; result = None }
@@ -201,6 +210,38 @@ store_of realloc = record {
   instances = record { types = []; funcs = 0 ∷ 1 ∷ 2 ∷ []; tables = []; memories = 0 ∷ []; globals = [] } ∷ [];
 }
 
+-- Two component instances whose core instances were made, each with a memory. In that of the child a pair stands at place 8, and
+-- the root asks for it at this place of its own.
+abbrev pub pairing : Graph
+pairing =
+    graph_of [] []
+    (canon_func.Lower (record {
+      instance = 0;
+      lift = lifts 1 (func_at 0 0) (record { memory = Some first_memory; realloc = None; post_return = None });
+      func_type = to_pair;
+      options = record { memory = Some (record { instance = 1; index = 0 }); realloc = None; post_return = None };
+    }) ∷ [])
+    to_nothing (lifts 0 (func_at 1 1) no_options)
+
+abbrev pub pair_bytes : List ℕ
+pair_bytes = 5 ∷ 0 ∷ 0 ∷ 0 ∷ 6 ∷ 0 ∷ 0 ∷ 0 ∷ []
+
+abbrev pub child_bytes : List ℕ
+child_bytes = replicate 8 0 ++ pair_bytes
+
+abbrev pub pair_store : ℕ → Store
+pair_store place = record {
+  funcs =
+      stores.Host (words 1 0) ∷ Own (words 0 1) 0 [] (gives 8)
+      ∷ Own (words 0 0) 1 [] (Plain (I32Const (pos place)) (calls End)) ∷ [];
+  tables = [];
+  memories = record { bytes = child_bytes; maximum = None } ∷ record { bytes = replicate 24 0; maximum = None } ∷ [];
+  globals = [];
+  instances =
+      record { types = []; funcs = 1 ∷ []; tables = []; memories = 0 ∷ []; globals = [] }
+      ∷ record { types = []; funcs = 0 ∷ 2 ∷ []; tables = []; memories = 1 ∷ []; globals = [] } ∷ [];
+}
+
 -- a world in which all is instantiated
 abbrev pub instantiated : Store → World
 instantiated s = record {
@@ -229,6 +270,9 @@ abbrev pub Measures : Expr → ℕ → List Label → RunEnd → ℕ → List �
 Measures realloc fuel labels end units bytes =
     Shows measuring (script_of fuel (value.String text ∷ [])) (instantiated (store_of realloc)) labels end units (bytes ∷ [])
 
+abbrev pub Pairs : ℕ → List Label → RunEnd → ℕ → List ℕ → Type 0
+Pairs place labels end units bytes = Shows pairing (script_of 10 []) (instantiated (pair_store place)) labels end units (child_bytes ∷ bytes ∷ [])
+
 -- Lines.
 abbrev pub u32 : ℕ → TypedValue
 u32 n = record { value = value.U32 n; val_type = type.U32 }
@@ -250,3 +294,8 @@ doubled =
 
 abbrev pub begins_measuring : List Label
 begins_measuring = begins (record { value = value.String text; val_type = type.String } ∷ [])
+
+-- task 1 asks for a pair, which task 2 returns
+abbrev pub pair_returned : ℕ → List Label
+pair_returned place =
+    begins [] ++ calls_child (place ∷ []) ++ line.Return 2 (Some (record { value = values.Record (value.U32 5 ∷ value.U32 6 ∷ []); val_type = pair })) ∷ []

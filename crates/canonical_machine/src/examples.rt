@@ -6,7 +6,7 @@ ghost use Rattle.trace_show.specs.declared.builtin.Builtin.TheVariants as builti
 ghost use Rattle.trace_show.specs.declared.label.Label.TheVariants as line;
 ghost use Rattle.trace_show.specs.declared.trap.TrapName.TheVariants as trap;
 ghost use Rattle.canonical_machine.specs.declared.run_end.RunEnd.TheVariants.{Done, Trapped, Fuel};
-ghost use Rattle.canonical_machine.specs.Examples.{RunOf, Measures, doubling, calling_behind, asking_for_char, calling_at_start, coming_back, gives, calls_with_ask, text, u32, begins, calls_child, doubled, begins_measuring};
+ghost use Rattle.canonical_machine.specs.Examples.{RunOf, Measures, Pairs, doubling, calling_behind, asking_for_char, calling_at_start, coming_back, gives, calls_with_ask, text, u32, begins, calls_child, doubled, begins_measuring, pair_bytes, pair_returned};
 
 /// A call of a child's function by the root, with its argument twice: seven units, one for the item and three for each core
 /// function. With six the last instruction of the child's does not come.
@@ -35,4 +35,12 @@ pub fn places()
 pub fn nested_calls()
     ensures realloc { Measures calls_with_ask 10 (begins_measuring ++ line.Do 1 builtin.Lower (1 ∷ 6 ∷ []) ∷ []) (Trapped 1 trap.CannotLeave) 4 (replicate 40 0) }
     ensures post_return { RunOf calling_behind 10 [] (begins [] ++ line.Return 1 (Some (u32 5)) ∷ line.Do 1 builtin.Lower (5 ∷ 5 ∷ []) ∷ []) (Trapped 1 trap.CannotLeave) 5 }
+{}
+
+/// A result that is passed in memory: it is lifted from the memory of the task that returns, and goes to the place that the caller
+/// passes, in the caller's memory. This place is tested when the result is lowered, and a trap names the task that returns.
+pub fn results_in_memory()
+    ensures stands { Pairs 16 (pair_returned 16 ++ line.Exit 2 ∷ line.Got 1 [] ∷ line.Return 1 None ∷ line.Exit 1 ∷ []) Done 4 (replicate 16 0 ++ pair_bytes) }
+    ensures misaligned { Pairs 18 (pair_returned 18) (Trapped 2 trap.Misaligned) 4 (replicate 24 0) }
+    ensures too_far { Pairs 20 (pair_returned 20) (Trapped 2 trap.Bounds) 4 (replicate 24 0) }
 {}
