@@ -32,7 +32,7 @@ use Rattle.canonical_machine.proofs.Passed.{pair_result, pair_plan, lifted_at, t
 use Rattle.canonical_machine.proofs.Walks.{walk, begun, walks, steps_to, at_world, shows, planned, with_plan, entered_world, enters, ended_world, ends}
 
 abbrev pair_stands_1 : World
-pair_stands_1 = walk 2 pairing (script_of 10 []) (instantiated (pair_store 16))
+pair_stands_1 = walk 2 pairing (script_of 10 []) (instantiated 2 (pair_store 16))
 
 abbrev pair_stands_2 : World
 pair_stands_2 = planned (Gives []) pair_stands_1
@@ -69,9 +69,9 @@ unfolding started_up made action_turn instantiating_turn post_return finished pa
 pair_stands =
     let g : Graph = pairing in
     let s : Script = script_of 10 [] in
-    let w : World = instantiated (pair_store 16) in
+    let w : World = instantiated 2 (pair_store 16) in
     let a0 = begun g s w in
-    let a1 = walks 2 g s w (instantiated (pair_store 16)) _ a0 in
+    let a1 = walks 2 g s w (instantiated 2 (pair_store 16)) _ a0 in
     let a2 = at_world g s w pair_stands_1 pair_stands_2 _ a1 (with_plan pair_stands_1 (Gives []) tt (none_plan None)) in
     let a3 = walks 4 g s w pair_stands_2 _ a2 in
     let a4 = steps_to g s w pair_stands_3 pair_stands_4 _ _ a3 (enters g s pair_stands_3 (values.Record []) refl tt tt refl (ap (λ (r : Result Value LiftTrap). Some r) (lifted_at 16))) in
@@ -82,10 +82,10 @@ pair_stands =
     let a9 = walks 4 g s w pair_stands_8 _ a8 in
     let a10 = steps_to g s w pair_stands_9 pair_stands_10 _ _ a9 (ends g s pair_stands_9 ([]) (Ok None) refl tt tt refl refl tt refl tt) in
     let a11 = walks 9 g s w pair_stands_10 _ a10 in
-    shows g s w pair_stands_11 _ _ _ _ a11 refl refl refl
+    shows g s w pair_stands_11 _ _ _ _ _ a11 refl refl refl refl
 
 abbrev pair_misaligned_1 : World
-pair_misaligned_1 = walk 2 pairing (script_of 10 []) (instantiated (pair_store 18))
+pair_misaligned_1 = walk 2 pairing (script_of 10 []) (instantiated 2 (pair_store 18))
 
 abbrev pair_misaligned_2 : World
 pair_misaligned_2 = planned (Gives []) pair_misaligned_1
@@ -116,9 +116,9 @@ unfolding started_up made action_turn instantiating_turn post_return finished pa
 pair_misaligned =
     let g : Graph = pairing in
     let s : Script = script_of 10 [] in
-    let w : World = instantiated (pair_store 18) in
+    let w : World = instantiated 2 (pair_store 18) in
     let a0 = begun g s w in
-    let a1 = walks 2 g s w (instantiated (pair_store 18)) _ a0 in
+    let a1 = walks 2 g s w (instantiated 2 (pair_store 18)) _ a0 in
     let a2 = at_world g s w pair_misaligned_1 pair_misaligned_2 _ a1 (with_plan pair_misaligned_1 (Gives []) tt (none_plan None)) in
     let a3 = walks 4 g s w pair_misaligned_2 _ a2 in
     let a4 = steps_to g s w pair_misaligned_3 pair_misaligned_4 _ _ a3 (enters g s pair_misaligned_3 (values.Record []) refl tt tt refl (ap (λ (r : Result Value LiftTrap). Some r) (lifted_at 18))) in
@@ -127,10 +127,10 @@ pair_misaligned =
     let a7 = steps_to g s w pair_misaligned_6 pair_misaligned_7 _ _ a6 (ends g s pair_misaligned_6 (8 ∷ []) (Ok (Some (record { value = values.Record (value.U32 5 ∷ value.U32 6 ∷ []); val_type = pair }))) refl tt tt refl refl tt (ap (typed_result pair) pair_result) tt) in
     let a8 = at_world g s w pair_misaligned_7 pair_misaligned_8 _ a7 (with_plan pair_misaligned_7 (tested 18 4 8 (Put (18 + 0) (5 ∷ 0 ∷ 0 ∷ 0 ∷ []) (Put (18 + 4) (6 ∷ 0 ∷ 0 ∷ 0 ∷ []) (Gives [])))) tt (pair_plan 18)) in
     let a9 = walks 9 g s w pair_misaligned_8 _ a8 in
-    shows g s w pair_misaligned_9 _ _ _ _ a9 refl refl refl
+    shows g s w pair_misaligned_9 _ _ _ _ _ a9 refl refl refl refl
 
 abbrev pair_too_far_1 : World
-pair_too_far_1 = walk 2 pairing (script_of 10 []) (instantiated (pair_store 20))
+pair_too_far_1 = walk 2 pairing (script_of 10 []) (instantiated 2 (pair_store 20))
 
 abbrev pair_too_far_2 : World
 pair_too_far_2 = planned (Gives []) pair_too_far_1
@@ -161,9 +161,9 @@ unfolding started_up made action_turn instantiating_turn post_return finished pa
 pair_too_far =
     let g : Graph = pairing in
     let s : Script = script_of 10 [] in
-    let w : World = instantiated (pair_store 20) in
+    let w : World = instantiated 2 (pair_store 20) in
     let a0 = begun g s w in
-    let a1 = walks 2 g s w (instantiated (pair_store 20)) _ a0 in
+    let a1 = walks 2 g s w (instantiated 2 (pair_store 20)) _ a0 in
     let a2 = at_world g s w pair_too_far_1 pair_too_far_2 _ a1 (with_plan pair_too_far_1 (Gives []) tt (none_plan None)) in
     let a3 = walks 4 g s w pair_too_far_2 _ a2 in
     let a4 = steps_to g s w pair_too_far_3 pair_too_far_4 _ _ a3 (enters g s pair_too_far_3 (values.Record []) refl tt tt refl (ap (λ (r : Result Value LiftTrap). Some r) (lifted_at 20))) in
@@ -172,4 +172,4 @@ pair_too_far =
     let a7 = steps_to g s w pair_too_far_6 pair_too_far_7 _ _ a6 (ends g s pair_too_far_6 (8 ∷ []) (Ok (Some (record { value = values.Record (value.U32 5 ∷ value.U32 6 ∷ []); val_type = pair }))) refl tt tt refl refl tt (ap (typed_result pair) pair_result) tt) in
     let a8 = at_world g s w pair_too_far_7 pair_too_far_8 _ a7 (with_plan pair_too_far_7 (tested 20 4 8 (Put (20 + 0) (5 ∷ 0 ∷ 0 ∷ 0 ∷ []) (Put (20 + 4) (6 ∷ 0 ∷ 0 ∷ 0 ∷ []) (Gives [])))) tt (pair_plan 20)) in
     let a9 = walks 9 g s w pair_too_far_8 _ a8 in
-    shows g s w pair_too_far_9 _ _ _ _ a9 refl refl refl
+    shows g s w pair_too_far_9 _ _ _ _ _ a9 refl refl refl refl

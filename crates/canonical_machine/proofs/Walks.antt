@@ -1,5 +1,5 @@
 -- Runs in pieces: so many steps, as they are computed; a step that is known; and a plan in place of an equal one.
-use Rattle.std.proofs.Common.{◌≡◌, ◌∙◌, ℕ, zero, suc, List, [], ◌∷◌, ◌++◌, map, refl, sym, ap, subst, Option, Some, None}
+use Rattle.std.proofs.Common.{◌≡◌, ◌∙◌, ℕ, zero, suc, List, [], ◌∷◌, ◌++◌, map, refl, sym, ap, subst, Option, Some, None, replicate}
 use Rattle.std.specs.Prelude.{Result, Ok, unwrap_or}
 use Rattle.std.specs.List.{slice_get}
 use Rattle.std.proofs.lemmas.Grind.{flat_map-append}
@@ -26,6 +26,7 @@ use Rattle.canonical_machine.specs.CoreSteps.{stack_ended, moved, running_turn}
 use Rattle.canonical_machine.specs.Entering.{arguments_of, arguments_lowering, with_arguments, entered, arriving_turn}
 use Rattle.canonical_machine.specs.Next.{next}
 use Rattle.canonical_machine.specs.Run.{Reaches, lines_of}
+use Rattle.canonical_machine.specs.Dump.{dumped_instances, dumped_memories}
 use Rattle.canonical_machine.specs.Examples.{Shows}
 
 -- the world that so many steps lead to, or fewer where no more come, and the lines
@@ -96,10 +97,11 @@ pub at_world : (g : Graph) (s : Script) (w v u : World) (labels : List Label) �
 at_world g s w v u labels a e = subst (λ (m : World). Goes g s w labels m) e a
 
 -- the end
-pub shows : (g : Graph) (s : Script) (w v : World) (labels : List Label) (end : RunEnd) (units : ℕ) (memories : List (List ℕ))
-    → Goes g s w labels v → next g s v ≡ Ends end → v.units ≡ units → map (λ m. m.bytes) v.store.memories ≡ memories → Shows g s w labels end units memories
-shows g s w v labels end units memories a e used left =
-    record { last = v; runs = (a.steps, a.reaches, e, a.lines); used = used; left = left }
+pub shows : (g : Graph) (s : Script) (w v : World) (labels : List Label) (end : RunEnd) (units instances : ℕ) (memories : List (List ℕ))
+    → Goes g s w labels v → next g s v ≡ Ends end → v.units ≡ units → dumped_instances v ≡ replicate instances [] → dumped_memories v ≡ memories
+    → Shows g s w labels end units instances memories
+shows g s w v labels end units instances memories a e used begun left =
+    record { last = v; runs = (a.steps, a.reaches, e, a.lines); used = used; begun = begun; left = left }
 
 -- What is found in a world, or something in its place.
 abbrev the_acting : World → ℕ × Task

@@ -44,13 +44,16 @@ use Rattle.canonical_machine.specs.declared.run_end.RunEnd.{RunEnd}
 use Rattle.canonical_machine.specs.Control.{Free}
 use Rattle.canonical_machine.specs.World.{Init, Nobody, Unresolved, Exited, World, first_world}
 use Rattle.canonical_machine.specs.Run.{RunsFrom}
+use Rattle.canonical_machine.specs.Dump.{dumped_instances, dumped_memories}
 
--- From a world the run has these lines and this end, where so many units are used and the memories have these bytes.
-pub record Shows (g : Graph) (s : Script) (w : World) (labels : List Label) (end : RunEnd) (units : ℕ) (memories : List (List ℕ)) : Type 0 where
+-- From a world the run has these lines and this end, where so many units are used, so many component instances have begun and the
+-- memories have these bytes.
+pub record Shows (g : Graph) (s : Script) (w : World) (labels : List Label) (end : RunEnd) (units instances : ℕ) (memories : List (List ℕ)) : Type 0 where
   pub last : World
   pub runs : RunsFrom g s w labels last end
   pub used : last.units ≡ units
-  pub left : map (λ m. m.bytes) last.store.memories ≡ memories
+  pub begun : dumped_instances last ≡ replicate instances []
+  pub left : dumped_memories last ≡ memories
 
 -- Types of functions: of two numbers, of one, of none, from a text, to a character, to a pair, and to nothing.
 abbrev pub numbers : List (List ℕ) → List Param
@@ -242,11 +245,11 @@ pair_store place = record {
       ∷ record { types = []; funcs = 0 ∷ 2 ∷ []; tables = []; memories = 1 ∷ []; globals = [] } ∷ [];
 }
 
--- a world in which all is instantiated
-abbrev pub instantiated : Store → World
-instantiated s = record {
+-- a world in which so many component instances were made
+abbrev pub instantiated : ℕ → Store → World
+instantiated instances s = record {
   store = s;
-  instances = 1;
+  instances = instances;
   tasks = record { callee = Init; caller = Nobody; stacks = []; resolution = Unresolved; state = Exited } ∷ [];
   chain = [];
   control = Free;
@@ -260,7 +263,7 @@ script_of fuel values = record { fuel = fuel; items = item.Call (record { name =
 
 -- what such a script comes to on a graph
 abbrev pub RunOf : Graph → ℕ → List Value → List Label → RunEnd → ℕ → Type 0
-RunOf g fuel values labels end units = Shows g (script_of fuel values) (first_world g) labels end units []
+RunOf g fuel values labels end units = Shows g (script_of fuel values) (first_world g) labels end units 2 []
 
 -- the text, whose bytes are these
 abbrev pub text : List ℕ
@@ -268,10 +271,10 @@ text = 0x68 ∷ 0xC3 ∷ 0xA9 ∷ 0x6C ∷ 0x6C ∷ 0x6F ∷ []
 
 abbrev pub Measures : Expr → ℕ → List Label → RunEnd → ℕ → List ℕ → Type 0
 Measures realloc fuel labels end units bytes =
-    Shows measuring (script_of fuel (value.String text ∷ [])) (instantiated (store_of realloc)) labels end units (bytes ∷ [])
+    Shows measuring (script_of fuel (value.String text ∷ [])) (instantiated 1 (store_of realloc)) labels end units 1 (bytes ∷ [])
 
 abbrev pub Pairs : ℕ → List Label → RunEnd → ℕ → List ℕ → Type 0
-Pairs place labels end units bytes = Shows pairing (script_of 10 []) (instantiated (pair_store place)) labels end units (child_bytes ∷ bytes ∷ [])
+Pairs place labels end units bytes = Shows pairing (script_of 10 []) (instantiated 2 (pair_store place)) labels end units 2 (child_bytes ∷ bytes ∷ [])
 
 -- Lines.
 abbrev pub u32 : ℕ → TypedValue
