@@ -1,24 +1,18 @@
 -- The runs of the examples that pass a pair in memory.
 use Rattle.std.proofs.Common.{◌+◌, [], ◌∷◌, ◌++◌, replicate, Some, None, refl, ap}
-use Rattle.std.specs.Prelude.{Result, Ok, Err}
+use Rattle.std.specs.Prelude.{Result, Ok}
 use Rattle.ca_types.specs.declared.value.Value.TheVariants as value
 use Rattle.ca_types.specs.declared.value.Value.TheViews as values
-use Rattle.trace_show.specs.declared.builtin.Builtin.TheVariants as builtin
 use Rattle.trace_show.specs.declared.label.Label.TheVariants as line
 use Rattle.trace_show.specs.declared.trap.TrapName.TheVariants as trap
-use Rattle.canonical_machine.specs.declared.run_end.RunEnd.TheVariants.{Done, Trapped, Fuel}
-use Rattle.wasm_module.specs.declared.types.FuncType as core
-use Rattle.core_machine.specs.Store as stores
-use Rattle.core_machine.specs.Instantiation.{empty}
-use Rattle.ca_types.specs.declared.types.ValType.TheVariants as type
+use Rattle.canonical_machine.specs.declared.run_end.RunEnd.TheVariants.{Done, Trapped}
 use Rattle.ca_types.specs.declared.value.Value.{Value}
-use Rattle.value_lift.specs.declared.trap.LiftWhy.TheVariants.{BadChar}
 use Rattle.value_lift.specs.declared.trap.LiftTrap.{LiftTrap}
 use Rattle.comp_graph.specs.Graph.{Graph}
 use Rattle.script_reader.specs.Script.{Script}
 use Rattle.value_lower.specs.Plan.{Gives, Put}
-use Rattle.value_lower.specs.Lowering.{text_in, tested}
-use Rattle.canonical_machine.specs.World.{World, first_world}
+use Rattle.value_lower.specs.Lowering.{tested}
+use Rattle.canonical_machine.specs.World.{World}
 use Rattle.canonical_machine.specs.Instantiating.{started_up, made, action_turn, instantiating_turn}
 use Rattle.canonical_machine.specs.Returning.{typed_result, post_return, finished, passed_on, returned, returning_turn, leaving_turn}
 use Rattle.canonical_machine.specs.CoreSteps.{stack_ended, moved, running_turn}
@@ -27,8 +21,8 @@ use Rattle.canonical_machine.specs.Calling.{taken, item_turn, free_turn, call_be
 use Rattle.canonical_machine.specs.Reply.{reply, allowed, calling_turn}
 use Rattle.canonical_machine.specs.Lowering.{started, lowered, paused, lowers_turn}
 use Rattle.canonical_machine.specs.Nested.{nested_ended, hosted, nested_turn}
-use Rattle.canonical_machine.specs.Examples.{RunOf, Measures, Pairs, pairing, pair_store, pair_bytes, pair_returned, pair, measuring, store_of, instantiated, script_of, doubling, calling_behind, asking_for_char, calling_at_start, coming_back, gives, calls_with_ask, words, of_two, of_one, of_text, text, u32, begins, calls_child, doubled, begins_measuring}
-use Rattle.canonical_machine.proofs.Passed.{pair_result, pair_plan, lifted_at, two_type, char_type, two_lifted, two_plan, one_plan, text_plan, none_plan, none_lifted, u32_result, char_result, u32_result_plan}
+use Rattle.canonical_machine.specs.Examples.{Pairs, pairing, pair_store, pair_bytes, pair_returned, pair, instantiated, script_of}
+use Rattle.canonical_machine.proofs.Passed.{pair_result, pair_plan, lifted_at, none_plan}
 use Rattle.canonical_machine.proofs.Walks.{walk, begun, walks, steps_to, at_world, shows, planned, with_plan, entered_world, enters, ended_world, ends}
 
 abbrev pair_stands_1 : World

@@ -16,8 +16,8 @@ use Rattle.value_lift.specs.declared.trap.LiftWhy.TheVariants.{BadChar}
 use Rattle.value_lift.specs.declared.trap.LiftTrap.{LiftTrap}
 use Rattle.comp_graph.specs.Graph.{Graph}
 use Rattle.script_reader.specs.Script.{Script}
-use Rattle.value_lower.specs.Plan.{Gives, Put}
-use Rattle.value_lower.specs.Lowering.{text_in, tested}
+use Rattle.value_lower.specs.Plan.{Gives}
+use Rattle.value_lower.specs.Lowering.{text_in}
 use Rattle.canonical_machine.specs.World.{World, first_world}
 use Rattle.canonical_machine.specs.Instantiating.{started_up, made, action_turn, instantiating_turn}
 use Rattle.canonical_machine.specs.Returning.{typed_result, post_return, finished, passed_on, returned, returning_turn, leaving_turn}
@@ -27,8 +27,8 @@ use Rattle.canonical_machine.specs.Calling.{taken, item_turn, free_turn, call_be
 use Rattle.canonical_machine.specs.Reply.{reply, allowed, calling_turn}
 use Rattle.canonical_machine.specs.Lowering.{started, lowered, paused, lowers_turn}
 use Rattle.canonical_machine.specs.Nested.{nested_ended, hosted, nested_turn}
-use Rattle.canonical_machine.specs.Examples.{RunOf, Measures, Pairs, pairing, pair_store, pair_bytes, pair_returned, pair, measuring, store_of, instantiated, script_of, doubling, calling_behind, asking_for_char, calling_at_start, coming_back, gives, calls_with_ask, words, of_two, of_one, of_text, text, u32, begins, calls_child, doubled, begins_measuring}
-use Rattle.canonical_machine.proofs.Passed.{pair_result, pair_plan, lifted_at, two_type, char_type, two_lifted, two_plan, one_plan, text_plan, none_plan, none_lifted, u32_result, char_result, u32_result_plan}
+use Rattle.canonical_machine.specs.Examples.{RunOf, Measures, measuring, store_of, instantiated, script_of, doubling, calling_behind, asking_for_char, calling_at_start, coming_back, gives, calls_with_ask, words, of_two, of_one, of_text, text, u32, begins, calls_child, doubled, begins_measuring}
+use Rattle.canonical_machine.proofs.Passed.{two_type, char_type, two_lifted, two_plan, one_plan, text_plan, none_plan, none_lifted, u32_result, char_result, u32_result_plan}
 use Rattle.canonical_machine.proofs.Walks.{walk, begun, walks, steps_to, at_world, shows, planned, with_plan, entered_world, enters, ended_world, ends}
 
 -- a first world in whose store stands one function of the host, of this type
