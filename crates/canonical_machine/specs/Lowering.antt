@@ -1,0 +1,61 @@
+-- How a lowering goes on (Component Model, CanonicalABI.md, "Storing" and "Flat Lowering"): its plan is followed up to the next
+-- realloc, which runs on a stack of its own, or to its end. Up to there all is one step, which costs nothing and has no line.
+use Rattle.std.specs.Prelude.{ℕ, List, [], ◌∷◌, length}
+use Rattle.core_machine.specs.Store.{Function, found_at}
+use Rattle.core_machine.specs.Step.{start}
+use Rattle.value_lower.specs.declared.ends.LowerWhy.{LowerWhy}
+use Rattle.value_lower.specs.Plan.{Ask, Plan, Gives, Fails, Asks, Size, Put}
+use Rattle.value_lower.specs.Following.{written}
+use Rattle.canonical_machine.specs.Traps.{lower_name}
+use Rattle.canonical_machine.specs.Control.{Then, Starts, Resolves, Lowering, Going, Nested, InLowering, Runs, Quiet}
+use Rattle.canonical_machine.specs.World.{World}
+use Rattle.canonical_machine.specs.Edits.{with_memory, stacked, result_kept}
+use Rattle.canonical_machine.specs.Reading.{func_address, bytes_of, acting, func_of}
+use Rattle.canonical_machine.specs.Turn.{Turn, silent, doomed, given}
+use Rattle.canonical_machine.specs.Returning.{finished}
+
+-- where a plan pauses: at its core values, at the reason why it fails, or at a realloc, with how it goes on behind its answer
+pub data Paused : Type 0 where
+  Words : List ℕ → Paused
+  Failed : LowerWhy → Paused
+  Asked : Ask → (ℕ → Plan) → Paused
+
+-- Over a memory of these bytes: where the plan pauses, and the bytes then.
+abbrev pub settle : Plan → List ℕ → Paused × List ℕ
+settle (Gives words) bytes = (Words words, bytes)
+settle (Fails why) bytes = (Failed why, bytes)
+settle (Asks ask k) bytes = (Asked ask k, bytes)
+settle (Size k) bytes = settle (k (length bytes)) bytes
+settle (Put place more k) bytes = settle k (written place more bytes)
+
+-- the words that a realloc is called with
+abbrev pub ask_words : Ask → List ℕ
+ask_words ask = ask.old ∷ ask.old_size ∷ ask.align ∷ ask.size ∷ []
+
+-- the realloc of a lowering, which is called
+abbrev pub nested_of : Lowering → Ask → ℕ × Function → Nested
+nested_of l ask f = record { state = Going (start f.1 f.0 (ask_words ask)); inst = l.inst; acts_for = l.acts_for; blame = l.blame }
+
+-- The core function of the acting task starts with these words.
+unfoldable pub started : List ℕ → World → Turn
+started words w =
+    given (acting w) (λ a. given (func_of a.1.callee) (λ f. given (found_at w.store.funcs (func_address w.store f.core)) (λ function.
+    silent Runs (stacked a.0 (start function.1 function.0 words) w))))
+
+-- by what follows a lowering that gives these words
+unfoldable pub lowered : Then → List ℕ → World → Turn
+lowered Starts words w = started words w
+lowered (Resolves to ended) words w = finished ended (result_kept to words w)
+
+-- by where the plan of a lowering pauses
+unfoldable pub paused : Lowering → Paused → World → Turn
+paused l (Words words) w = lowered l.next words w
+paused l (Failed why) w = doomed l.blame (lower_name why) w
+paused l (Asked ask k) w = given (found_at w.store.funcs l.realloc) (λ f. silent (Quiet (nested_of l ask f) (InLowering l k)) w)
+
+-- with the memory as the plan leaves it
+abbrev pub left_by : Lowering → Paused × List ℕ → World → Turn
+left_by l p w = paused l p.0 (with_memory l.memory p.1 w)
+
+unfoldable pub lowers_turn : Lowering → Plan → World → Turn
+lowers_turn l plan w = left_by l (settle plan (bytes_of w.store l.memory)) w

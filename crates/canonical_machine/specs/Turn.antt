@@ -1,0 +1,41 @@
+-- What comes next in a run (Component Model, Concurrency.md): a step with its lines, or the end.
+use Rattle.std.specs.Prelude.{ℕ, nat_lt, Bool, true, false, if◌then◌else◌, List, [], ◌++◌, Option, Some, None}
+use Rattle.script_reader.specs.Script.{Script}
+use Rattle.trace_show.specs.declared.label.Label.{Label}
+use Rattle.trace_show.specs.declared.trap.TrapName.{TrapName}
+use Rattle.canonical_machine.specs.declared.run_end.RunEnd.{RunEnd}
+use Rattle.canonical_machine.specs.declared.run_end.RunEnd.TheVariants.{Fuel}
+use Rattle.canonical_machine.specs.Control.{Control, Doomed}
+use Rattle.canonical_machine.specs.World.{World}
+use Rattle.canonical_machine.specs.Edits.{with_control, unit_spent}
+
+pub data Turn : Type 0 where
+  Steps : List Label → World → Turn
+  Ends : RunEnd → Turn
+  -- No rule applies.
+  Stuck : Turn
+
+-- a step to this control, without lines
+abbrev pub silent : Control → World → Turn
+silent control w = Steps [] (with_control control w)
+
+-- A task has come to a trap. This step leaves what the task did before it, and the next move ends the run.
+abbrev pub doomed : ℕ → TrapName → World → Turn
+doomed t why w = silent (Doomed t why) w
+
+-- what comes next, with lines in front
+abbrev pub behind : List Label → Turn → Turn
+behind lines (Steps more w) = Steps (lines ++ more) w
+behind lines (Ends end) = Ends end
+behind lines Stuck = Stuck
+
+-- what comes of something that is looked up. Where nothing is there no rule applies
+abbrev pub given : {A : Type 0} → Option A → (A → Turn) → Turn
+given None f = Stuck
+given (Some x) f = f x
+
+-- A step that costs a unit of fuel comes where one is left, and spends it; else the run ends. This holds also where the step would
+-- come to a trap.
+abbrev pub charged : Bool → Script → World → (World → Turn) → Turn
+charged false s w f = f w
+charged true s w f = if nat_lt w.units s.fuel then f (unit_spent w) else Ends Fuel

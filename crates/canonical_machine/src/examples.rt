@@ -1,0 +1,46 @@
+//! Examples of the definitions, worked out by hand: an item and an instruction cost a unit each, and nothing else costs one.
+
+ghost use Rattle.std.specs.Prelude.{[], ◌∷◌, ◌++◌, Some, None, replicate};
+ghost use Rattle.ca_types.specs.declared.value.Value.TheVariants as value;
+ghost use Rattle.trace_show.specs.declared.builtin.Builtin.TheVariants as builtin;
+ghost use Rattle.trace_show.specs.declared.label.Label.TheVariants as line;
+ghost use Rattle.trace_show.specs.declared.trap.TrapName.TheVariants as trap;
+ghost use Rattle.canonical_machine.specs.declared.run_end.RunEnd.TheVariants.{Done, Trapped, Fuel};
+ghost use Rattle.canonical_machine.specs.Examples.{RunOf, Measures, Pairs, doubling, calling_behind, asking_for_char, calling_at_start, coming_back, gives, calls_with_ask, text, u32, begins, calls_child, doubled, begins_measuring, pair_bytes, pair_returned};
+
+/// A call of a child's function by the root, with its argument twice: seven units, one for the item and three for each core
+/// function. With six the last instruction of the child's does not come.
+pub fn calls()
+    ensures done { RunOf doubling 7 (value.U32 4 ∷ []) doubled Done 7 }
+    ensures wants { RunOf doubling 6 (value.U32 4 ∷ []) (begins (u32 4 ∷ []) ++ calls_child (4 ∷ 4 ∷ [])) Fuel 6 }
+{}
+
+/// Traps of calls: a call that comes back to an instance among its callers, which names the task that calls; a result that is no
+/// character, which names the task that returns it; and a call in a start function, which names task 0.
+pub fn call_traps()
+    ensures reentrant { RunOf coming_back 10 [] (begins [] ++ calls_child [] ++ line.Do 2 builtin.Lower [] ∷ []) (Trapped 2 trap.Reentrant) 3 }
+    ensures no_char { RunOf asking_for_char 10 [] (begins [] ++ calls_child []) (Trapped 2 trap.BadChar) 3 }
+    ensures at_start { RunOf calling_at_start 10 [] (line.Do 0 builtin.Lower [] ∷ []) (Trapped 0 trap.CannotLeave) 1 }
+{}
+
+/// A text as an argument: its bytes stand where the realloc says. The realloc's instruction costs a unit, for want of which the run
+/// ends before the core function starts, and its place is tested.
+pub fn places()
+    ensures measured { Measures (gives 32) 10 (begins_measuring ++ line.Return 1 (Some (u32 6)) ∷ line.Exit 1 ∷ []) Done 3 (replicate 32 0 ++ text ++ 0 ∷ 0 ∷ []) }
+    ensures wants { Measures (gives 32) 1 begins_measuring Fuel 1 (replicate 40 0) }
+    ensures too_far { Measures (gives 35) 10 begins_measuring (Trapped 1 trap.Bounds) 2 (replicate 40 0) }
+{}
+
+/// A realloc may call no function that is lowered, and neither may a post-return, whose task has returned by then.
+pub fn nested_calls()
+    ensures realloc { Measures calls_with_ask 10 (begins_measuring ++ line.Do 1 builtin.Lower (1 ∷ 6 ∷ []) ∷ []) (Trapped 1 trap.CannotLeave) 4 (replicate 40 0) }
+    ensures post_return { RunOf calling_behind 10 [] (begins [] ++ line.Return 1 (Some (u32 5)) ∷ line.Do 1 builtin.Lower (5 ∷ 5 ∷ []) ∷ []) (Trapped 1 trap.CannotLeave) 5 }
+{}
+
+/// A result that is passed in memory: it is lifted from the memory of the task that returns, and goes to the place that the caller
+/// passes, in the caller's memory. This place is tested when the result is lowered, and a trap names the task that returns.
+pub fn results_in_memory()
+    ensures stands { Pairs 16 (pair_returned 16 ++ line.Exit 2 ∷ line.Got 1 [] ∷ line.Return 1 None ∷ line.Exit 1 ∷ []) Done 4 (replicate 16 0 ++ pair_bytes) }
+    ensures misaligned { Pairs 18 (pair_returned 18) (Trapped 2 trap.Misaligned) 4 (replicate 24 0) }
+    ensures too_far { Pairs 20 (pair_returned 20) (Trapped 2 trap.Bounds) 4 (replicate 24 0) }
+{}
