@@ -20,7 +20,7 @@ use Rattle.canonical_machine.specs.Entering.{with_arguments, entered, arriving_t
 use Rattle.canonical_machine.specs.Calling.{taken, item_turn, free_turn, call_begun, call_ended, back_from, back_turn}
 use Rattle.canonical_machine.specs.Reply.{reply, allowed, calling_turn}
 use Rattle.canonical_machine.specs.Lowering.{started, lowered, paused, lowers_turn}
-use Rattle.canonical_machine.specs.Nested.{nested_ended, hosted, nested_turn}
+use Rattle.canonical_machine.specs.Nested.{nested_ended, refused, hosted, nested_turn}
 use Rattle.canonical_machine.specs.Examples.{Pairs, pairing, pair_store, pair_bytes, pair_returned, pair, instantiated, script_of}
 use Rattle.canonical_machine.proofs.Passed.{pair_result, pair_plan, lifted_at, none_plan}
 use Rattle.canonical_machine.proofs.Walks.{walk, begun, walks, steps_to, at_world, shows, planned, with_plan, entered_world, enters, ended_world, ends}
@@ -59,7 +59,7 @@ abbrev pair_stands_11 : World
 pair_stands_11 = walk 9 pairing (script_of 10 []) pair_stands_10
 
 pub pair_stands : Pairs 16 (pair_returned 16 ++ line.Exit 2 ∷ line.Got 1 [] ∷ line.Return 1 None ∷ line.Exit 1 ∷ []) Done 4 (replicate 16 0 ++ pair_bytes)
-unfolding started_up made action_turn instantiating_turn post_return finished passed_on returned returning_turn leaving_turn stack_ended moved running_turn with_arguments entered arriving_turn taken item_turn free_turn call_begun call_ended back_from back_turn reply allowed calling_turn started lowered paused lowers_turn nested_ended hosted nested_turn
+unfolding started_up made action_turn instantiating_turn post_return finished passed_on returned returning_turn leaving_turn stack_ended moved running_turn with_arguments entered arriving_turn taken item_turn free_turn call_begun call_ended back_from back_turn reply allowed calling_turn started lowered paused lowers_turn nested_ended refused hosted nested_turn
 pair_stands =
     let g : Graph = pairing in
     let s : Script = script_of 10 [] in
@@ -106,7 +106,7 @@ abbrev pair_misaligned_9 : World
 pair_misaligned_9 = walk 9 pairing (script_of 10 []) pair_misaligned_8
 
 pub pair_misaligned : Pairs 18 (pair_returned 18) (Trapped 2 trap.Misaligned) 4 (replicate 24 0)
-unfolding started_up made action_turn instantiating_turn post_return finished passed_on returned returning_turn leaving_turn stack_ended moved running_turn with_arguments entered arriving_turn taken item_turn free_turn call_begun call_ended back_from back_turn reply allowed calling_turn started lowered paused lowers_turn nested_ended hosted nested_turn
+unfolding started_up made action_turn instantiating_turn post_return finished passed_on returned returning_turn leaving_turn stack_ended moved running_turn with_arguments entered arriving_turn taken item_turn free_turn call_begun call_ended back_from back_turn reply allowed calling_turn started lowered paused lowers_turn nested_ended refused hosted nested_turn
 pair_misaligned =
     let g : Graph = pairing in
     let s : Script = script_of 10 [] in
@@ -151,7 +151,7 @@ abbrev pair_too_far_9 : World
 pair_too_far_9 = walk 9 pairing (script_of 10 []) pair_too_far_8
 
 pub pair_too_far : Pairs 20 (pair_returned 20) (Trapped 2 trap.Bounds) 4 (replicate 24 0)
-unfolding started_up made action_turn instantiating_turn post_return finished passed_on returned returning_turn leaving_turn stack_ended moved running_turn with_arguments entered arriving_turn taken item_turn free_turn call_begun call_ended back_from back_turn reply allowed calling_turn started lowered paused lowers_turn nested_ended hosted nested_turn
+unfolding started_up made action_turn instantiating_turn post_return finished passed_on returned returning_turn leaving_turn stack_ended moved running_turn with_arguments entered arriving_turn taken item_turn free_turn call_begun call_ended back_from back_turn reply allowed calling_turn started lowered paused lowers_turn nested_ended refused hosted nested_turn
 pair_too_far =
     let g : Graph = pairing in
     let s : Script = script_of 10 [] in

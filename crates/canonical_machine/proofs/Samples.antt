@@ -26,7 +26,7 @@ use Rattle.canonical_machine.specs.Entering.{with_arguments, entered, arriving_t
 use Rattle.canonical_machine.specs.Calling.{taken, item_turn, free_turn, call_begun, call_ended, back_from, back_turn}
 use Rattle.canonical_machine.specs.Reply.{reply, allowed, calling_turn}
 use Rattle.canonical_machine.specs.Lowering.{started, lowered, paused, lowers_turn}
-use Rattle.canonical_machine.specs.Nested.{nested_ended, hosted, nested_turn}
+use Rattle.canonical_machine.specs.Nested.{nested_ended, refused, hosted, nested_turn}
 use Rattle.canonical_machine.specs.Examples.{RunOf, Measures, measuring, store_of, instantiated, script_of, doubling, calling_behind, asking_for_char, calling_at_start, coming_back, gives, calls_with_ask, words, of_two, of_one, of_text, text, u32, begins, calls_child, doubled, begins_measuring}
 use Rattle.canonical_machine.proofs.Passed.{two_type, char_type, two_lifted, two_plan, one_plan, text_plan, none_plan, none_lifted, u32_result, char_result, u32_result_plan}
 use Rattle.canonical_machine.proofs.Walks.{walk, begun, walks, steps_to, at_world, shows, planned, with_plan, entered_world, enters, ended_world, ends}
@@ -40,7 +40,7 @@ abbrev at_start_1 : World
 at_start_1 = walk 20 calling_at_start (script_of 10 ([])) (first_world calling_at_start)
 
 pub at_start : RunOf calling_at_start 10 [] (line.Do 0 builtin.Lower [] ∷ []) (Trapped 0 trap.CannotLeave) 1
-unfolding started_up made action_turn instantiating_turn post_return finished passed_on returned returning_turn leaving_turn stack_ended moved running_turn with_arguments entered arriving_turn taken item_turn free_turn call_begun call_ended back_from back_turn reply allowed calling_turn started lowered paused lowers_turn nested_ended hosted nested_turn
+unfolding started_up made action_turn instantiating_turn post_return finished passed_on returned returning_turn leaving_turn stack_ended moved running_turn with_arguments entered arriving_turn taken item_turn free_turn call_begun call_ended back_from back_turn reply allowed calling_turn started lowered paused lowers_turn nested_ended refused hosted nested_turn
 at_start =
     let g : Graph = calling_at_start in
     let s : Script = script_of 10 ([]) in
@@ -66,7 +66,7 @@ abbrev measured_5 : World
 measured_5 = walk 9 measuring (script_of 10 (value.String text ∷ [])) (measured_4)
 
 pub measured : Measures (gives 32) 10 (begins_measuring ++ line.Return 1 (Some (u32 6)) ∷ line.Exit 1 ∷ []) Done 3 (replicate 32 0 ++ text ++ 0 ∷ 0 ∷ [])
-unfolding started_up made action_turn instantiating_turn post_return finished passed_on returned returning_turn leaving_turn stack_ended moved running_turn with_arguments entered arriving_turn taken item_turn free_turn call_begun call_ended back_from back_turn reply allowed calling_turn started lowered paused lowers_turn nested_ended hosted nested_turn
+unfolding started_up made action_turn instantiating_turn post_return finished passed_on returned returning_turn leaving_turn stack_ended moved running_turn with_arguments entered arriving_turn taken item_turn free_turn call_begun call_ended back_from back_turn reply allowed calling_turn started lowered paused lowers_turn nested_ended refused hosted nested_turn
 measured =
     let g : Graph = measuring in
     let s : Script = script_of 10 (value.String text ∷ []) in
@@ -89,7 +89,7 @@ abbrev wants_place_3 : World
 wants_place_3 = walk 9 measuring (script_of 1 (value.String text ∷ [])) (wants_place_2)
 
 pub wants_place : Measures (gives 32) 1 (begins_measuring) Fuel 1 (replicate 40 0)
-unfolding started_up made action_turn instantiating_turn post_return finished passed_on returned returning_turn leaving_turn stack_ended moved running_turn with_arguments entered arriving_turn taken item_turn free_turn call_begun call_ended back_from back_turn reply allowed calling_turn started lowered paused lowers_turn nested_ended hosted nested_turn
+unfolding started_up made action_turn instantiating_turn post_return finished passed_on returned returning_turn leaving_turn stack_ended moved running_turn with_arguments entered arriving_turn taken item_turn free_turn call_begun call_ended back_from back_turn reply allowed calling_turn started lowered paused lowers_turn nested_ended refused hosted nested_turn
 wants_place =
     let g : Graph = measuring in
     let s : Script = script_of 1 (value.String text ∷ []) in
@@ -110,7 +110,7 @@ abbrev too_far_3 : World
 too_far_3 = walk 9 measuring (script_of 10 (value.String text ∷ [])) (too_far_2)
 
 pub too_far : Measures (gives 35) 10 (begins_measuring) (Trapped 1 trap.Bounds) 2 (replicate 40 0)
-unfolding started_up made action_turn instantiating_turn post_return finished passed_on returned returning_turn leaving_turn stack_ended moved running_turn with_arguments entered arriving_turn taken item_turn free_turn call_begun call_ended back_from back_turn reply allowed calling_turn started lowered paused lowers_turn nested_ended hosted nested_turn
+unfolding started_up made action_turn instantiating_turn post_return finished passed_on returned returning_turn leaving_turn stack_ended moved running_turn with_arguments entered arriving_turn taken item_turn free_turn call_begun call_ended back_from back_turn reply allowed calling_turn started lowered paused lowers_turn nested_ended refused hosted nested_turn
 too_far =
     let g : Graph = measuring in
     let s : Script = script_of 10 (value.String text ∷ []) in
@@ -131,7 +131,7 @@ abbrev realloc_calls_3 : World
 realloc_calls_3 = walk 9 measuring (script_of 10 (value.String text ∷ [])) (realloc_calls_2)
 
 pub realloc_calls : Measures calls_with_ask 10 (begins_measuring ++ line.Do 1 builtin.Lower (1 ∷ 6 ∷ []) ∷ []) (Trapped 1 trap.CannotLeave) 4 (replicate 40 0)
-unfolding started_up made action_turn instantiating_turn post_return finished passed_on returned returning_turn leaving_turn stack_ended moved running_turn with_arguments entered arriving_turn taken item_turn free_turn call_begun call_ended back_from back_turn reply allowed calling_turn started lowered paused lowers_turn nested_ended hosted nested_turn
+unfolding started_up made action_turn instantiating_turn post_return finished passed_on returned returning_turn leaving_turn stack_ended moved running_turn with_arguments entered arriving_turn taken item_turn free_turn call_begun call_ended back_from back_turn reply allowed calling_turn started lowered paused lowers_turn nested_ended refused hosted nested_turn
 realloc_calls =
     let g : Graph = measuring in
     let s : Script = script_of 10 (value.String text ∷ []) in
@@ -180,7 +180,7 @@ abbrev doubled_done_12 : World
 doubled_done_12 = walk 9 doubling (script_of 7 (value.U32 4 ∷ [])) (doubled_done_11)
 
 pub doubled_done : RunOf doubling 7 (value.U32 4 ∷ []) (doubled) Done 7
-unfolding started_up made action_turn instantiating_turn post_return finished passed_on returned returning_turn leaving_turn stack_ended moved running_turn with_arguments entered arriving_turn taken item_turn free_turn call_begun call_ended back_from back_turn reply allowed calling_turn started lowered paused lowers_turn nested_ended hosted nested_turn
+unfolding started_up made action_turn instantiating_turn post_return finished passed_on returned returning_turn leaving_turn stack_ended moved running_turn with_arguments entered arriving_turn taken item_turn free_turn call_begun call_ended back_from back_turn reply allowed calling_turn started lowered paused lowers_turn nested_ended refused hosted nested_turn
 doubled_done =
     let g : Graph = doubling in
     let s : Script = script_of 7 (value.U32 4 ∷ []) in
@@ -222,7 +222,7 @@ abbrev doubled_wants_7 : World
 doubled_wants_7 = walk 9 doubling (script_of 6 (value.U32 4 ∷ [])) (doubled_wants_6)
 
 pub doubled_wants : RunOf doubling 6 (value.U32 4 ∷ []) (begins (u32 4 ∷ []) ++ calls_child (4 ∷ 4 ∷ [])) Fuel 6
-unfolding started_up made action_turn instantiating_turn post_return finished passed_on returned returning_turn leaving_turn stack_ended moved running_turn with_arguments entered arriving_turn taken item_turn free_turn call_begun call_ended back_from back_turn reply allowed calling_turn started lowered paused lowers_turn nested_ended hosted nested_turn
+unfolding started_up made action_turn instantiating_turn post_return finished passed_on returned returning_turn leaving_turn stack_ended moved running_turn with_arguments entered arriving_turn taken item_turn free_turn call_begun call_ended back_from back_turn reply allowed calling_turn started lowered paused lowers_turn nested_ended refused hosted nested_turn
 doubled_wants =
     let g : Graph = doubling in
     let s : Script = script_of 6 (value.U32 4 ∷ []) in
@@ -256,7 +256,7 @@ abbrev post_return_calls_6 : World
 post_return_calls_6 = walk 9 calling_behind (script_of 10 ([])) (post_return_calls_5)
 
 pub post_return_calls : RunOf calling_behind 10 [] (begins [] ++ line.Return 1 (Some (u32 5)) ∷ line.Do 1 builtin.Lower (5 ∷ 5 ∷ []) ∷ []) (Trapped 1 trap.CannotLeave) 5
-unfolding started_up made action_turn instantiating_turn post_return finished passed_on returned returning_turn leaving_turn stack_ended moved running_turn with_arguments entered arriving_turn taken item_turn free_turn call_begun call_ended back_from back_turn reply allowed calling_turn started lowered paused lowers_turn nested_ended hosted nested_turn
+unfolding started_up made action_turn instantiating_turn post_return finished passed_on returned returning_turn leaving_turn stack_ended moved running_turn with_arguments entered arriving_turn taken item_turn free_turn call_begun call_ended back_from back_turn reply allowed calling_turn started lowered paused lowers_turn nested_ended refused hosted nested_turn
 post_return_calls =
     let g : Graph = calling_behind in
     let s : Script = script_of 10 ([]) in
@@ -299,7 +299,7 @@ abbrev no_char_9 : World
 no_char_9 = walk 9 asking_for_char (script_of 10 ([])) (no_char_8)
 
 pub no_char : RunOf asking_for_char 10 [] (begins [] ++ calls_child []) (Trapped 2 trap.BadChar) 3
-unfolding started_up made action_turn instantiating_turn post_return finished passed_on returned returning_turn leaving_turn stack_ended moved running_turn with_arguments entered arriving_turn taken item_turn free_turn call_begun call_ended back_from back_turn reply allowed calling_turn started lowered paused lowers_turn nested_ended hosted nested_turn
+unfolding started_up made action_turn instantiating_turn post_return finished passed_on returned returning_turn leaving_turn stack_ended moved running_turn with_arguments entered arriving_turn taken item_turn free_turn call_begun call_ended back_from back_turn reply allowed calling_turn started lowered paused lowers_turn nested_ended refused hosted nested_turn
 no_char =
     let g : Graph = asking_for_char in
     let s : Script = script_of 10 ([]) in
@@ -335,7 +335,7 @@ abbrev reentrant_6 : World
 reentrant_6 = walk 9 coming_back (script_of 10 ([])) (reentrant_5)
 
 pub reentrant : RunOf coming_back 10 [] (begins [] ++ calls_child [] ++ line.Do 2 builtin.Lower [] ∷ []) (Trapped 2 trap.Reentrant) 3
-unfolding started_up made action_turn instantiating_turn post_return finished passed_on returned returning_turn leaving_turn stack_ended moved running_turn with_arguments entered arriving_turn taken item_turn free_turn call_begun call_ended back_from back_turn reply allowed calling_turn started lowered paused lowers_turn nested_ended hosted nested_turn
+unfolding started_up made action_turn instantiating_turn post_return finished passed_on returned returning_turn leaving_turn stack_ended moved running_turn with_arguments entered arriving_turn taken item_turn free_turn call_begun call_ended back_from back_turn reply allowed calling_turn started lowered paused lowers_turn nested_ended refused hosted nested_turn
 reentrant =
     let g : Graph = coming_back in
     let s : Script = script_of 10 ([]) in

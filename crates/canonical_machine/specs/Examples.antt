@@ -245,7 +245,8 @@ pair_store place = record {
       ∷ record { types = []; funcs = 0 ∷ 2 ∷ []; tables = []; memories = 1 ∷ []; globals = [] } ∷ [];
 }
 
--- a world in which so many component instances were made
+-- A world that no instantiation leads to, so small that it can be computed: so many component instances have begun, and this is the
+-- store.
 abbrev pub instantiated : ℕ → Store → World
 instantiated instances s = record {
   store = s;
