@@ -29,7 +29,7 @@ use Rattle.value_lower.specs.Plan.{Plan, Gives, Put}
 use Rattle.value_lower.specs.Lowering.{Lowered, lowered, lower_step, flat_words, words_case, field_words, text_in, store, store_case, fields_from, tested}
 use Rattle.comp_graph.specs.Graph.{canon_type, no_options}
 use Rattle.canonical_machine.specs.Passing.{arguments_lifted, arguments_plan, result_lifted, result_plan}
-use Rattle.canonical_machine.specs.Examples.{pair, to_pair, child_bytes, of_two, of_one, of_text, to_char, text, words, lowers, lifts, func_at}
+use Rattle.canonical_machine.specs.Examples.{pair, to_pair, child_bytes, of_two, of_one, of_text, of_char, to_char, text, words, lowers, lifts, func_at}
 
 -- Core types.
 
@@ -127,6 +127,13 @@ two_type = simp u32_flat refl
 
 pub char_type : canon_type (lowers 0 (lifts 1 (func_at 0 0) no_options) to_char) ≡ words 0 1
 char_type = simp char_flat refl
+
+pub of_char_type : canon_type (lowers 0 (lifts 1 (func_at 0 0) no_options) of_char) ≡ words 1 0
+of_char_type = simp char_flat refl
+
+pub no_char_lifted : arguments_lifted of_char [] (0xD800 ∷ []) ≡ Err (record { why = BadChar; place = 0 })
+unfolding arguments_lifted
+no_char_lifted = simp (char_flat, tuple_lift, char_lift) refl
 
 pub two_lifted : arguments_lifted of_two [] (4 ∷ 4 ∷ []) ≡ Ok (values.Record (plain.U32 4 ∷ plain.U32 4 ∷ []))
 unfolding arguments_lifted

@@ -32,7 +32,7 @@ use Rattle.canonical_machine.proofs.Passed.{two_type, char_type, two_lifted, two
 use Rattle.canonical_machine.proofs.Walks.{walk, begun, walks, steps_to, at_world, shows, planned, with_plan, entered_world, enters, ended_world, ends}
 
 -- a first world in whose store stands one function of the host, of this type
-abbrev with_types : core.FuncType → World
+abbrev pub with_types : core.FuncType → World
 with_types type = record (first_world doubling) { store = record empty { funcs = stores.Host type ∷ [] } }
 
 -- Nothing is passed.
