@@ -1,8 +1,9 @@
--- Further runs of the examples: two calls of a script, traps, and a post-return that ends.
-use Rattle.std.proofs.Common.{[], ◌∷◌, ◌++◌, Some, None, refl, ap}
+-- Further runs of the examples: two calls of a script, traps, a post-return that ends, and parameters in memory.
+use Rattle.std.proofs.Common.{[], ◌∷◌, ◌++◌, map, replicate, Some, None, refl, ap}
 use Rattle.std.specs.Prelude.{Result, Ok}
 use Rattle.ca_types.specs.declared.types.ValType.TheVariants as type
 use Rattle.ca_types.specs.declared.value.Value.{Value}
+use Rattle.ca_types.specs.declared.value.Value.TheVariants as value
 use Rattle.ca_types.specs.declared.value.Value.TheViews as values
 use Rattle.trace_show.specs.declared.builtin.Builtin.TheVariants as builtin
 use Rattle.trace_show.specs.declared.label.Label.TheVariants as line
@@ -11,6 +12,7 @@ use Rattle.canonical_machine.specs.declared.run_end.RunEnd.TheVariants.{Done, Tr
 use Rattle.value_lift.specs.declared.trap.LiftWhy.TheVariants.{BadChar}
 use Rattle.value_lift.specs.declared.trap.LiftTrap.{LiftTrap}
 use Rattle.value_lower.specs.Plan.{Gives}
+use Rattle.value_lower.specs.Lowering.{asked}
 use Rattle.comp_graph.specs.Graph.{Graph}
 use Rattle.script_reader.specs.Script.{Script}
 use Rattle.canonical_machine.specs.World.{World, first_world}
@@ -22,8 +24,8 @@ use Rattle.canonical_machine.specs.Calling.{taken, item_turn, free_turn, call_be
 use Rattle.canonical_machine.specs.Reply.{reply, allowed, calling_turn}
 use Rattle.canonical_machine.specs.Lowering.{started, lowered, paused, lowers_turn}
 use Rattle.canonical_machine.specs.Nested.{nested_ended, refused, hosted, nested_turn}
-use Rattle.canonical_machine.specs.Examples.{RunOf, RunTwice, script_of, twice, calling, calling_itself, passing_no_char, trapping, dropping_behind, words, u32, begins, returns, calls_child, called_through}
-use Rattle.canonical_machine.proofs.Passed.{two_type, of_char_type, no_char_lifted, none_plan, none_lifted, u32_result}
+use Rattle.canonical_machine.specs.Examples.{RunOf, RunTwice, Places, placing, placing_store, begins_placing, seventeen, of_many, instantiated, script_of, twice, calling, calling_itself, passing_no_char, trapping, dropping_behind, words, u32, begins, returns, calls_child, called_through}
+use Rattle.canonical_machine.proofs.Passed.{two_type, of_char_type, no_char_lifted, none_plan, none_lifted, u32_result, bytes_at, many_plan}
 use Rattle.canonical_machine.proofs.Samples.{with_types}
 use Rattle.canonical_machine.proofs.Walks.{walk, begun, walks, steps_to, at_world, shows, planned, with_plan, entered_world, enters, doomed_world, enters_doomed, ended_world, ends}
 
@@ -78,7 +80,7 @@ two_done =
     let a9 = steps_to g s w two_done_8 two_done_9 _ _ a8 (enters g s two_done_8 (values.Record []) refl tt tt refl (ap (λ (r : Result Value LiftTrap). Some r) (none_lifted None))) in
     let a10 = at_world g s w two_done_9 two_done_10 _ a9 (with_plan two_done_9 (Gives []) tt (none_plan None)) in
     let a11 = walks 12 g s w two_done_10 _ a10 in
-    shows g s w two_done_11 _ _ _ _ _ a11 refl refl refl refl
+    shows g s w two_done_11 _ Done _ _ _ a11 refl refl refl refl
 
 abbrev itself_1 : World
 itself_1 = walk 7 calling_itself (script_of 10 []) ((first_world calling_itself))
@@ -99,7 +101,7 @@ itself =
     let a1 = walks 7 g s w ((first_world calling_itself)) _ a0 in
     let a2 = at_world g s w itself_1 itself_2 _ a1 (with_plan itself_1 (Gives []) tt (none_plan None)) in
     let a3 = walks 9 g s w itself_2 _ a2 in
-    shows g s w itself_3 _ _ _ _ _ a3 refl refl refl refl
+    shows g s w itself_3 _ (Trapped 1 trap.Reentrant) _ _ _ a3 refl refl refl refl
 
 abbrev argument_1 : World
 argument_1 = with_types (words 1 0)
@@ -128,7 +130,7 @@ argument =
     let a3 = at_world g s w argument_2 argument_3 _ a2 (with_plan argument_2 (Gives []) tt (none_plan None)) in
     let a4 = walks 4 g s w argument_3 _ a3 in
     let a5 = steps_to g s w argument_4 argument_5 _ _ a4 (enters_doomed g s argument_4 (record { why = BadChar; place = 0 }) refl tt tt refl (ap (λ (r : Result Value LiftTrap). Some r) no_char_lifted)) in
-    shows g s w argument_5 _ _ _ _ _ a5 refl refl refl refl
+    shows g s w argument_5 _ (Trapped 2 trap.BadChar) _ _ _ a5 refl refl refl refl
 
 abbrev traps_1 : World
 traps_1 = walk 7 trapping (script_of 2 []) ((first_world trapping))
@@ -149,7 +151,7 @@ traps =
     let a1 = walks 7 g s w ((first_world trapping)) _ a0 in
     let a2 = at_world g s w traps_1 traps_2 _ a1 (with_plan traps_1 (Gives []) tt (none_plan None)) in
     let a3 = walks 9 g s w traps_2 _ a2 in
-    shows g s w traps_3 _ _ _ _ _ a3 refl refl refl refl
+    shows g s w traps_3 _ (Trapped 1 trap.Unreachable) _ _ _ a3 refl refl refl refl
 
 abbrev traps_wants_1 : World
 traps_wants_1 = walk 7 trapping (script_of 1 []) ((first_world trapping))
@@ -170,7 +172,7 @@ traps_wants =
     let a1 = walks 7 g s w ((first_world trapping)) _ a0 in
     let a2 = at_world g s w traps_wants_1 traps_wants_2 _ a1 (with_plan traps_wants_1 (Gives []) tt (none_plan None)) in
     let a3 = walks 9 g s w traps_wants_2 _ a2 in
-    shows g s w traps_wants_3 _ _ _ _ _ a3 refl refl refl refl
+    shows g s w traps_wants_3 _ Fuel _ _ _ a3 refl refl refl refl
 
 abbrev post_return_exits_1 : World
 post_return_exits_1 = with_types (words 2 1)
@@ -203,7 +205,7 @@ post_return_exits =
     let a4 = walks 3 g s w post_return_exits_3 _ a3 in
     let a5 = steps_to g s w post_return_exits_4 post_return_exits_5 _ _ a4 (ends g s post_return_exits_4 (5 ∷ []) (Ok (Some (u32 5))) refl tt tt refl refl tt (ap (typed_result type.U32) (u32_result [] [] 5)) tt) in
     let a6 = walks 9 g s w post_return_exits_5 _ a5 in
-    shows g s w post_return_exits_6 _ _ _ _ _ a6 refl refl refl refl
+    shows g s w post_return_exits_6 _ Done _ _ _ a6 refl refl refl refl
 
 abbrev post_return_wants_1 : World
 post_return_wants_1 = with_types (words 2 1)
@@ -236,4 +238,54 @@ post_return_wants =
     let a4 = walks 3 g s w post_return_wants_3 _ a3 in
     let a5 = steps_to g s w post_return_wants_4 post_return_wants_5 _ _ a4 (ends g s post_return_wants_4 (5 ∷ []) (Ok (Some (u32 5))) refl tt tt refl refl tt (ap (typed_result type.U32) (u32_result [] [] 5)) tt) in
     let a6 = walks 9 g s w post_return_wants_5 _ a5 in
-    shows g s w post_return_wants_6 _ _ _ _ _ a6 refl refl refl refl
+    shows g s w post_return_wants_6 _ Fuel _ _ _ a6 refl refl refl refl
+
+abbrev many_stand_1 : World
+many_stand_1 = walk 2 placing (script_of 10 (map (λ n. value.U8 n) seventeen)) ((instantiated 1 (placing_store 23)))
+
+abbrev many_stand_2 : World
+many_stand_2 = planned (asked 1 1 17 (λ place. bytes_at place 0 seventeen (Gives (place ∷ [])))) many_stand_1
+
+abbrev many_stand_3 : World
+many_stand_3 = walk 7 placing (script_of 10 (map (λ n. value.U8 n) seventeen)) many_stand_2
+
+abbrev many_stand_4 : World
+many_stand_4 = ended_world placing (23 ∷ []) (Ok (Some (u32 23))) many_stand_3
+
+abbrev many_stand_5 : World
+many_stand_5 = walk 9 placing (script_of 10 (map (λ n. value.U8 n) seventeen)) many_stand_4
+
+pub many_stand : Places 23 (begins_placing ++ returns 1 (Some (u32 23))) Done 3 (replicate 23 0 ++ seventeen)
+unfolding started_up made action_turn instantiating_turn post_return finished passed_on returned returning_turn leaving_turn stack_ended moved running_turn with_arguments entered arriving_turn taken item_turn free_turn call_begun call_ended back_from back_turn reply allowed calling_turn started lowered paused lowers_turn nested_ended refused hosted nested_turn
+many_stand =
+    let g : Graph = placing in
+    let s : Script = (script_of 10 (map (λ n. value.U8 n) seventeen)) in
+    let w : World = (instantiated 1 (placing_store 23)) in
+    let a0 = begun g s w in
+    let a1 = walks 2 g s w ((instantiated 1 (placing_store 23))) _ a0 in
+    let a2 = at_world g s w many_stand_1 many_stand_2 _ a1 (with_plan many_stand_1 (asked 1 1 17 (λ place. bytes_at place 0 seventeen (Gives (place ∷ [])))) tt many_plan) in
+    let a3 = walks 7 g s w many_stand_2 _ a2 in
+    let a4 = steps_to g s w many_stand_3 many_stand_4 _ _ a3 (ends g s many_stand_3 (23 ∷ []) (Ok (Some (u32 23))) refl tt tt refl refl tt (ap (typed_result type.U32) (u32_result of_many.params (replicate 23 0 ++ seventeen) 23)) tt) in
+    let a5 = walks 9 g s w many_stand_4 _ a4 in
+    shows g s w many_stand_5 _ Done _ _ _ a5 refl refl refl refl
+
+abbrev many_too_far_1 : World
+many_too_far_1 = walk 2 placing (script_of 10 (map (λ n. value.U8 n) seventeen)) ((instantiated 1 (placing_store 24)))
+
+abbrev many_too_far_2 : World
+many_too_far_2 = planned (asked 1 1 17 (λ place. bytes_at place 0 seventeen (Gives (place ∷ [])))) many_too_far_1
+
+abbrev many_too_far_3 : World
+many_too_far_3 = walk 9 placing (script_of 10 (map (λ n. value.U8 n) seventeen)) many_too_far_2
+
+pub many_too_far : Places 24 begins_placing (Trapped 1 trap.Bounds) 2 (replicate 40 0)
+unfolding started_up made action_turn instantiating_turn post_return finished passed_on returned returning_turn leaving_turn stack_ended moved running_turn with_arguments entered arriving_turn taken item_turn free_turn call_begun call_ended back_from back_turn reply allowed calling_turn started lowered paused lowers_turn nested_ended refused hosted nested_turn
+many_too_far =
+    let g : Graph = placing in
+    let s : Script = (script_of 10 (map (λ n. value.U8 n) seventeen)) in
+    let w : World = (instantiated 1 (placing_store 24)) in
+    let a0 = begun g s w in
+    let a1 = walks 2 g s w ((instantiated 1 (placing_store 24))) _ a0 in
+    let a2 = at_world g s w many_too_far_1 many_too_far_2 _ a1 (with_plan many_too_far_1 (asked 1 1 17 (λ place. bytes_at place 0 seventeen (Gives (place ∷ [])))) tt many_plan) in
+    let a3 = walks 9 g s w many_too_far_2 _ a2 in
+    shows g s w many_too_far_3 _ (Trapped 1 trap.Bounds) _ _ _ a3 refl refl refl refl

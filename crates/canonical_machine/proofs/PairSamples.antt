@@ -76,7 +76,7 @@ pair_stands =
     let a9 = walks 4 g s w pair_stands_8 _ a8 in
     let a10 = steps_to g s w pair_stands_9 pair_stands_10 _ _ a9 (ends g s pair_stands_9 ([]) (Ok None) refl tt tt refl refl tt refl tt) in
     let a11 = walks 9 g s w pair_stands_10 _ a10 in
-    shows g s w pair_stands_11 _ _ _ _ _ a11 refl refl refl refl
+    shows g s w pair_stands_11 _ Done _ _ _ a11 refl refl refl refl
 
 abbrev pair_misaligned_1 : World
 pair_misaligned_1 = walk 2 pairing (script_of 10 []) (instantiated 2 (pair_store 18))
@@ -121,7 +121,7 @@ pair_misaligned =
     let a7 = steps_to g s w pair_misaligned_6 pair_misaligned_7 _ _ a6 (ends g s pair_misaligned_6 (8 ∷ []) (Ok (Some (record { value = values.Record (value.U32 5 ∷ value.U32 6 ∷ []); val_type = pair }))) refl tt tt refl refl tt (ap (typed_result pair) pair_result) tt) in
     let a8 = at_world g s w pair_misaligned_7 pair_misaligned_8 _ a7 (with_plan pair_misaligned_7 (tested 18 4 8 (Put (18 + 0) (5 ∷ 0 ∷ 0 ∷ 0 ∷ []) (Put (18 + 4) (6 ∷ 0 ∷ 0 ∷ 0 ∷ []) (Gives [])))) tt (pair_plan 18)) in
     let a9 = walks 9 g s w pair_misaligned_8 _ a8 in
-    shows g s w pair_misaligned_9 _ _ _ _ _ a9 refl refl refl refl
+    shows g s w pair_misaligned_9 _ (Trapped 2 trap.Misaligned) _ _ _ a9 refl refl refl refl
 
 abbrev pair_too_far_1 : World
 pair_too_far_1 = walk 2 pairing (script_of 10 []) (instantiated 2 (pair_store 20))
@@ -166,4 +166,4 @@ pair_too_far =
     let a7 = steps_to g s w pair_too_far_6 pair_too_far_7 _ _ a6 (ends g s pair_too_far_6 (8 ∷ []) (Ok (Some (record { value = values.Record (value.U32 5 ∷ value.U32 6 ∷ []); val_type = pair }))) refl tt tt refl refl tt (ap (typed_result pair) pair_result) tt) in
     let a8 = at_world g s w pair_too_far_7 pair_too_far_8 _ a7 (with_plan pair_too_far_7 (tested 20 4 8 (Put (20 + 0) (5 ∷ 0 ∷ 0 ∷ 0 ∷ []) (Put (20 + 4) (6 ∷ 0 ∷ 0 ∷ 0 ∷ []) (Gives [])))) tt (pair_plan 20)) in
     let a9 = walks 9 g s w pair_too_far_8 _ a8 in
-    shows g s w pair_too_far_9 _ _ _ _ _ a9 refl refl refl refl
+    shows g s w pair_too_far_9 _ (Trapped 2 trap.Bounds) _ _ _ a9 refl refl refl refl

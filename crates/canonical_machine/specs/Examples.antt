@@ -1,6 +1,6 @@
 -- Small graphs and stores, whose runs the laws `examples` have (Component Model, CanonicalABI.md, `canon lift` and `canon lower`;
 -- Core 2.0, section 4.4).
-use Rattle.std.specs.Prelude.{◌≡◌, ℕ, pos, codes, List, [], ◌∷◌, ◌++◌, map, replicate, Option, Some, None}
+use Rattle.std.specs.Prelude.{◌≡◌, ◌+◌, ℕ, pos, codes, List, [], ◌∷◌, ◌++◌, map, replicate, Option, Some, None}
 use Rattle.wasm_module.specs.declared.types.ValType.TheVariants.{I32}
 use Rattle.wasm_module.specs.declared.types.FuncType as core
 use Rattle.wasm_module.specs.declared.instr.Instr.TheVariants.{Drop, LocalGet, I32Const, Numeric}
@@ -56,7 +56,8 @@ pub record Shows (g : Graph) (s : Script) (w : World) (labels : List Label) (end
   pub begun : dumped_instances last ≡ replicate instances []
   pub left : dumped_memories last ≡ memories
 
--- Types of functions: of two numbers, of one, of none, from a text, from a character, to one, to a pair, and to nothing.
+-- Types of functions: of two numbers, of one, of none, from a text, from
+-- seventeen bytes, from a character, to one, to a pair, and to nothing.
 abbrev pub numbers : List (List ℕ) → List Param
 numbers labels = map (λ label. record { label = label; val_type = type.U32 }) labels
 
@@ -71,6 +72,12 @@ of_none = record { params = []; result = Some type.U32 }
 
 abbrev pub of_text : FuncType
 of_text = record { params = record { label = codes "a"; val_type = type.String } ∷ []; result = Some type.U32 }
+
+abbrev pub seventeen : List ℕ
+seventeen = 1 ∷ 2 ∷ 3 ∷ 4 ∷ 5 ∷ 6 ∷ 7 ∷ 8 ∷ 9 ∷ 10 ∷ 11 ∷ 12 ∷ 13 ∷ 14 ∷ 15 ∷ 16 ∷ 17 ∷ []
+
+abbrev pub of_many : FuncType
+of_many = record { params = map (λ n. record { label = (0x60 + n) ∷ []; val_type = type.U8 }) seventeen; result = Some type.U32 }
 
 abbrev pub of_char : FuncType
 of_char = record { params = record { label = codes "a"; val_type = type.Char } ∷ []; result = None }
@@ -247,6 +254,19 @@ store_of realloc = record {
   instances = record { types = []; funcs = 0 ∷ 1 ∷ 2 ∷ []; tables = []; memories = 0 ∷ []; globals = [] } ∷ [];
 }
 
+-- One component instance with such a memory, a function of a place that gives the place, and a realloc that gives this one.
+abbrev pub placing : Graph
+placing = graph_of [] [] [] of_many (lifts 0 (func_at 0 0) (record { memory = Some first_memory; realloc = Some (func_at 0 1); post_return = None }))
+
+abbrev pub placing_store : ℕ → Store
+placing_store place = record {
+  funcs = own (words 1 1) (Plain (LocalGet 0) End) ∷ own (words 4 1) (gives place) ∷ [];
+  tables = [];
+  memories = record { bytes = replicate 40 0; maximum = None } ∷ [];
+  globals = [];
+  instances = record { types = []; funcs = 0 ∷ 1 ∷ []; tables = []; memories = 0 ∷ []; globals = [] } ∷ [];
+}
+
 -- Two component instances whose core instances were made, each with a memory. In that of the child a pair stands at place 8, and
 -- the root asks for it at this place of its own.
 abbrev pub pairing : Graph
@@ -318,6 +338,10 @@ abbrev pub Measures : Expr → ℕ → List Label → RunEnd → ℕ → List �
 Measures realloc fuel labels end units bytes =
     Shows measuring (script_of fuel (value.String text ∷ [])) (instantiated 1 (store_of realloc)) labels end units 1 (bytes ∷ [])
 
+abbrev pub Places : ℕ → List Label → RunEnd → ℕ → List ℕ → Type 0
+Places place labels end units bytes =
+    Shows placing (script_of 10 (map (λ n. value.U8 n) seventeen)) (instantiated 1 (placing_store place)) labels end units 1 (bytes ∷ [])
+
 abbrev pub Pairs : ℕ → List Label → RunEnd → ℕ → List ℕ → Type 0
 Pairs place labels end units bytes = Shows pairing (script_of 10 []) (instantiated 2 (pair_store place)) labels end units 2 (child_bytes ∷ bytes ∷ [])
 
@@ -350,6 +374,9 @@ doubled =
 
 abbrev pub begins_measuring : List Label
 begins_measuring = begins (record { value = value.String text; val_type = type.String } ∷ [])
+
+abbrev pub begins_placing : List Label
+begins_placing = begins (map (λ n. record { value = value.U8 n; val_type = type.U8 }) seventeen)
 
 -- task 1 asks for a pair, which task 2 returns
 abbrev pub pair_returned : ℕ → List Label

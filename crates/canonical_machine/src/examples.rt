@@ -6,7 +6,7 @@ ghost use Rattle.trace_show.specs.declared.builtin.Builtin.TheVariants as builti
 ghost use Rattle.trace_show.specs.declared.label.Label.TheVariants as line;
 ghost use Rattle.trace_show.specs.declared.trap.TrapName.TheVariants as trap;
 ghost use Rattle.canonical_machine.specs.declared.run_end.RunEnd.TheVariants.{Done, Trapped, Fuel};
-ghost use Rattle.canonical_machine.specs.Examples.{RunOf, RunTwice, Measures, Pairs, doubling, calling_behind, dropping_behind, asking_for_char, passing_no_char, calling, calling_at_start, calling_itself, trapping, coming_back, gives, calls_with_ask, text, u32, begins, returns, calls_child, called_through, doubled, begins_measuring, pair_bytes, pair_returned};
+ghost use Rattle.canonical_machine.specs.Examples.{RunOf, RunTwice, Measures, Places, Pairs, seventeen, doubling, calling_behind, dropping_behind, asking_for_char, passing_no_char, calling, calling_at_start, calling_itself, trapping, coming_back, gives, calls_with_ask, text, u32, begins, returns, calls_child, called_through, doubled, begins_measuring, begins_placing, pair_bytes, pair_returned};
 
 /// A call of a child's function by the root, with its argument twice: seven units, one for the item and three for each core
 /// function. With six the last instruction of the child's does not come.
@@ -50,6 +50,13 @@ pub fn places()
 pub fn post_returns()
     ensures exits { RunOf dropping_behind 4 [] (begins [] ++ returns 1 (Some (u32 5))) Done 4 }
     ensures wants { RunOf dropping_behind 3 [] (begins [] ++ line.Return 1 (Some (u32 5)) ∷ []) Fuel 3 }
+{}
+
+/// Seventeen parameters, in place of which the core function gets one place, which the realloc gives: they stand there one behind the
+/// other, up to the end of the memory, and a byte further is a trap.
+pub fn parameters_in_memory()
+    ensures stand { Places 23 (begins_placing ++ returns 1 (Some (u32 23))) Done 3 (replicate 23 0 ++ seventeen) }
+    ensures too_far { Places 24 begins_placing (Trapped 1 trap.Bounds) 2 (replicate 40 0) }
 {}
 
 /// A realloc may call no function that is lowered, and neither may a post-return, whose task has returned by then.
