@@ -73,6 +73,7 @@ of_none = record { params = []; result = Some type.U32 }
 abbrev pub of_text : FuncType
 of_text = record { params = record { label = codes "a"; val_type = type.String } ∷ []; result = Some type.U32 }
 
+-- seventeen bytes, and as many parameters
 abbrev pub seventeen : List ℕ
 seventeen = 1 ∷ 2 ∷ 3 ∷ 4 ∷ 5 ∷ 6 ∷ 7 ∷ 8 ∷ 9 ∷ 10 ∷ 11 ∷ 12 ∷ 13 ∷ 14 ∷ 15 ∷ 16 ∷ 17 ∷ []
 
@@ -201,11 +202,11 @@ passing_no_char =
     root_and_child of_char (module_of (words 1 0 ∷ []) 0 ((0, End) ∷ []) None)
     (module_of (words 1 0 ∷ words 0 0 ∷ []) 1 ((1, Plain (I32Const (pos 0xD800)) (calls End)) ∷ []) None) to_nothing no_options
 
--- A function of the root with this body, beside a child's function to which nothing is passed: the root's calls it, calls it when it
--- starts, or traps.
+-- a function that does nothing
 abbrev pub idle : ModuleTree
 idle = module_of (words 0 0 ∷ []) 0 ((0, End) ∷ []) None
 
+-- A function of the root with this body, beside such a function of a child: it calls the child's, calls it when it starts, or traps.
 abbrev pub beside_idle : Expr → Option ℕ → Graph
 beside_idle body start = root_and_child to_nothing idle (module_of (words 0 0 ∷ []) 1 ((0, body) ∷ []) start) to_nothing no_options
 

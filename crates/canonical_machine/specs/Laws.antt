@@ -1,5 +1,6 @@
 -- What holds of all runs (Component Model, Concurrency.md, "Nondeterminism"; CanonicalABI.md, "Storing": `realloc`; `canon lift`:
--- `post_return`): a graph and a script have at most one run; a step of nested code leaves nearly all as it is; and what ends mean.
+-- `post_return`): a graph and a script have at most one run; a step of nested code leaves nearly all as it is, and what follows
+-- it; and what ends mean.
 use Rattle.std.specs.Prelude.{◌≡◌, ◌≤◌, ◌<◌, ◌⊎◌, ◌+◌, ℕ, List, [], ◌∷◌, ◌++◌, length, None}
 use Rattle.std.specs.List.{slice_get, AllByRecursion}
 use Rattle.core_machine.specs.Store.{Store}
@@ -56,18 +57,18 @@ pub record IsQuiet (w v : World) : Type 0 where
 -- The control behind a step of nested code: the same code further on, with the same behind it; of a realloc that gave a place, its
 -- lowering with the plan behind this place; of a post-return that ended, the exit of the acting task; or a trap of the task that it
 -- names.
-abbrev pub Follows : Nested → Behind → Store → Control → Type 0
-Follows n b s (Quiet m c) = (m ≡ record n { state = m.state }) × (c ≡ b)
-Follows n b s (Lowers l plan) =
+abbrev pub FollowsNested : Nested → Behind → Store → Control → Type 0
+FollowsNested n b s (Quiet m c) = (m ≡ record n { state = m.state }) × (c ≡ b)
+FollowsNested n b s (Lowers l plan) =
     (k : ℕ → Plan) × (place : ℕ) × (words : List ℕ) × (b ≡ InLowering l k) × (hosted_next n.state s ≡ EndsIn (place ∷ words)) × (plan ≡ k place)
-Follows n b s Leaves = (words : List ℕ) × (b ≡ BeforeLeaving) × (hosted_next n.state s ≡ EndsIn words)
-Follows n b s (Doomed t why) = t ≡ n.blame
-Follows n b s control = ⊥
+FollowsNested n b s Leaves = (words : List ℕ) × (b ≡ BeforeLeaving) × (hosted_next n.state s ≡ EndsIn words)
+FollowsNested n b s (Doomed t why) = t ≡ n.blame
+FollowsNested n b s control = ⊥
 
 -- A step of nested code changes the control, the store and the units, and no more. Its lines are calls of the task that it acts
 -- for. It ends a run for want of fuel alone.
 abbrev pub IsQuietTurn : Nested → Behind → World → Turn → Type 0
-IsQuietTurn n b w (Steps labels v) = IsQuiet w v × AllByRecursion (IsCallOf n.acts_for) labels × Follows n b w.store v.control
+IsQuietTurn n b w (Steps labels v) = IsQuiet w v × AllByRecursion (IsCallOf n.acts_for) labels × FollowsNested n b w.store v.control
 IsQuietTurn n b w (Ends end) = end ≡ Fuel
 IsQuietTurn n b w Stuck = Unit {0}
 
