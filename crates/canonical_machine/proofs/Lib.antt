@@ -6,4 +6,5 @@ pub mod Runs
 pub mod Passed
 pub mod Walks
 pub mod Samples
+pub mod MoreSamples
 pub mod PairSamples

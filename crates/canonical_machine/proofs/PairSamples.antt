@@ -20,7 +20,7 @@ use Rattle.canonical_machine.specs.Entering.{with_arguments, entered, arriving_t
 use Rattle.canonical_machine.specs.Calling.{taken, item_turn, free_turn, call_begun, call_ended, back_from, back_turn}
 use Rattle.canonical_machine.specs.Reply.{reply, allowed, calling_turn}
 use Rattle.canonical_machine.specs.Lowering.{started, lowered, paused, lowers_turn}
-use Rattle.canonical_machine.specs.Nested.{nested_ended, hosted, nested_turn}
+use Rattle.canonical_machine.specs.Nested.{nested_ended, refused, hosted, nested_turn}
 use Rattle.canonical_machine.specs.Examples.{Pairs, pairing, pair_store, pair_bytes, pair_returned, pair, instantiated, script_of}
 use Rattle.canonical_machine.proofs.Passed.{pair_result, pair_plan, lifted_at, none_plan}
 use Rattle.canonical_machine.proofs.Walks.{walk, begun, walks, steps_to, at_world, shows, planned, with_plan, entered_world, enters, ended_world, ends}
@@ -59,7 +59,7 @@ abbrev pair_stands_11 : World
 pair_stands_11 = walk 9 pairing (script_of 10 []) pair_stands_10
 
 pub pair_stands : Pairs 16 (pair_returned 16 ++ line.Exit 2 ∷ line.Got 1 [] ∷ line.Return 1 None ∷ line.Exit 1 ∷ []) Done 4 (replicate 16 0 ++ pair_bytes)
-unfolding started_up made action_turn instantiating_turn post_return finished passed_on returned returning_turn leaving_turn stack_ended moved running_turn with_arguments entered arriving_turn taken item_turn free_turn call_begun call_ended back_from back_turn reply allowed calling_turn started lowered paused lowers_turn nested_ended hosted nested_turn
+unfolding started_up made action_turn instantiating_turn post_return finished passed_on returned returning_turn leaving_turn stack_ended moved running_turn with_arguments entered arriving_turn taken item_turn free_turn call_begun call_ended back_from back_turn reply allowed calling_turn started lowered paused lowers_turn nested_ended refused hosted nested_turn
 pair_stands =
     let g : Graph = pairing in
     let s : Script = script_of 10 [] in
@@ -76,7 +76,7 @@ pair_stands =
     let a9 = walks 4 g s w pair_stands_8 _ a8 in
     let a10 = steps_to g s w pair_stands_9 pair_stands_10 _ _ a9 (ends g s pair_stands_9 ([]) (Ok None) refl tt tt refl refl tt refl tt) in
     let a11 = walks 9 g s w pair_stands_10 _ a10 in
-    shows g s w pair_stands_11 _ _ _ _ _ a11 refl refl refl refl
+    shows g s w pair_stands_11 _ Done _ _ _ a11 refl refl refl refl
 
 abbrev pair_misaligned_1 : World
 pair_misaligned_1 = walk 2 pairing (script_of 10 []) (instantiated 2 (pair_store 18))
@@ -106,7 +106,7 @@ abbrev pair_misaligned_9 : World
 pair_misaligned_9 = walk 9 pairing (script_of 10 []) pair_misaligned_8
 
 pub pair_misaligned : Pairs 18 (pair_returned 18) (Trapped 2 trap.Misaligned) 4 (replicate 24 0)
-unfolding started_up made action_turn instantiating_turn post_return finished passed_on returned returning_turn leaving_turn stack_ended moved running_turn with_arguments entered arriving_turn taken item_turn free_turn call_begun call_ended back_from back_turn reply allowed calling_turn started lowered paused lowers_turn nested_ended hosted nested_turn
+unfolding started_up made action_turn instantiating_turn post_return finished passed_on returned returning_turn leaving_turn stack_ended moved running_turn with_arguments entered arriving_turn taken item_turn free_turn call_begun call_ended back_from back_turn reply allowed calling_turn started lowered paused lowers_turn nested_ended refused hosted nested_turn
 pair_misaligned =
     let g : Graph = pairing in
     let s : Script = script_of 10 [] in
@@ -121,7 +121,7 @@ pair_misaligned =
     let a7 = steps_to g s w pair_misaligned_6 pair_misaligned_7 _ _ a6 (ends g s pair_misaligned_6 (8 ∷ []) (Ok (Some (record { value = values.Record (value.U32 5 ∷ value.U32 6 ∷ []); val_type = pair }))) refl tt tt refl refl tt (ap (typed_result pair) pair_result) tt) in
     let a8 = at_world g s w pair_misaligned_7 pair_misaligned_8 _ a7 (with_plan pair_misaligned_7 (tested 18 4 8 (Put (18 + 0) (5 ∷ 0 ∷ 0 ∷ 0 ∷ []) (Put (18 + 4) (6 ∷ 0 ∷ 0 ∷ 0 ∷ []) (Gives [])))) tt (pair_plan 18)) in
     let a9 = walks 9 g s w pair_misaligned_8 _ a8 in
-    shows g s w pair_misaligned_9 _ _ _ _ _ a9 refl refl refl refl
+    shows g s w pair_misaligned_9 _ (Trapped 2 trap.Misaligned) _ _ _ a9 refl refl refl refl
 
 abbrev pair_too_far_1 : World
 pair_too_far_1 = walk 2 pairing (script_of 10 []) (instantiated 2 (pair_store 20))
@@ -151,7 +151,7 @@ abbrev pair_too_far_9 : World
 pair_too_far_9 = walk 9 pairing (script_of 10 []) pair_too_far_8
 
 pub pair_too_far : Pairs 20 (pair_returned 20) (Trapped 2 trap.Bounds) 4 (replicate 24 0)
-unfolding started_up made action_turn instantiating_turn post_return finished passed_on returned returning_turn leaving_turn stack_ended moved running_turn with_arguments entered arriving_turn taken item_turn free_turn call_begun call_ended back_from back_turn reply allowed calling_turn started lowered paused lowers_turn nested_ended hosted nested_turn
+unfolding started_up made action_turn instantiating_turn post_return finished passed_on returned returning_turn leaving_turn stack_ended moved running_turn with_arguments entered arriving_turn taken item_turn free_turn call_begun call_ended back_from back_turn reply allowed calling_turn started lowered paused lowers_turn nested_ended refused hosted nested_turn
 pair_too_far =
     let g : Graph = pairing in
     let s : Script = script_of 10 [] in
@@ -166,4 +166,4 @@ pair_too_far =
     let a7 = steps_to g s w pair_too_far_6 pair_too_far_7 _ _ a6 (ends g s pair_too_far_6 (8 ∷ []) (Ok (Some (record { value = values.Record (value.U32 5 ∷ value.U32 6 ∷ []); val_type = pair }))) refl tt tt refl refl tt (ap (typed_result pair) pair_result) tt) in
     let a8 = at_world g s w pair_too_far_7 pair_too_far_8 _ a7 (with_plan pair_too_far_7 (tested 20 4 8 (Put (20 + 0) (5 ∷ 0 ∷ 0 ∷ 0 ∷ []) (Put (20 + 4) (6 ∷ 0 ∷ 0 ∷ 0 ∷ []) (Gives [])))) tt (pair_plan 20)) in
     let a9 = walks 9 g s w pair_too_far_8 _ a8 in
-    shows g s w pair_too_far_9 _ _ _ _ _ a9 refl refl refl refl
+    shows g s w pair_too_far_9 _ (Trapped 2 trap.Bounds) _ _ _ a9 refl refl refl refl

@@ -17,19 +17,19 @@ use Rattle.ca_types.specs.declared.value.Value.TheFolds.{fold-roll-Value, map-Va
 use Rattle.ca_types.specs.declared.core_type.CoreType.TheVariants.{I32}
 use Rattle.ca_types.specs.Layout.{laid, laid_step}
 use Rattle.ca_types.specs.Flat.{flat, flat_step}
-use Rattle.std.specs.Int.{w32, to_le_bytes}
+use Rattle.std.specs.Int.{w8, w32, to_le_bytes}
 use Rattle.laid_types.specs.Parts.{parts_of}
 use Rattle.value_lift.specs.declared.trap.LiftWhy.TheVariants.{BadChar}
 use Rattle.value_lift.specs.Answers.{counted, counting}
 use Rattle.value_lift.specs.Pieces.{Part}
 use Rattle.value_lift.specs.Lifting.{lift, lift_case, lift_words, lift_word_case, part, payload_part, field_part}
 use Rattle.value_lift.proofs.Equations.{layouts_in, laid_is, flats_in, flat_is, lift_is, lift_words_is}
-use Rattle.value_lift.proofs.Views.{out_u32, out_char, out_string, out_tuple}
+use Rattle.value_lift.proofs.Views.{out_u8, out_u32, out_char, out_string, out_tuple}
 use Rattle.value_lower.specs.Plan.{Plan, Gives, Put}
-use Rattle.value_lower.specs.Lowering.{Lowered, lowered, lower_step, flat_words, words_case, field_words, text_in, store, store_case, fields_from, tested}
+use Rattle.value_lower.specs.Lowering.{Lowered, lowered, lower_step, flat_words, words_case, field_words, text_in, store, store_case, fields_from, tested, asked}
 use Rattle.comp_graph.specs.Graph.{canon_type, no_options}
-use Rattle.canonical_machine.specs.Passing.{arguments_lifted, arguments_plan, result_lifted, result_plan}
-use Rattle.canonical_machine.specs.Examples.{pair, to_pair, child_bytes, of_two, of_one, of_text, to_char, text, words, lowers, lifts, func_at}
+use Rattle.canonical_machine.specs.Passing.{params_type, arguments_lifted, arguments_plan, result_lifted, result_plan}
+use Rattle.canonical_machine.specs.Examples.{pair, to_pair, child_bytes, of_two, of_one, of_text, seventeen, of_many, of_char, to_char, text, words, lowers, lifts, func_at}
 
 -- Core types.
 
@@ -120,6 +120,25 @@ u32_store n t place k = store_by (plain.U32 n) (V.U32 n) t place k (plain.rolls-
 record_store : (all : List Value) (t : ValType) (place : ℕ) (k : Plan) → store t (values.Record all) place k ≡ fields_from place 0 (parts_of t) (map lowered all) k
 record_store all t place k = store_by (values.Record all) (V.Record all) t place k (values.rolls-Record all)
 
+-- Bytes.
+
+u8_flat : flat leaves.U8 ≡ I32 ∷ []
+u8_flat = flat_by leaves.U8 F.U8 out_u8
+
+u8_laid : laid leaves.U8 ≡ record { size = 1; align = 1 }
+u8_laid = laid_by leaves.U8 F.U8 out_u8
+
+u8_store : (n : ℕ) (t : ValType) (place : ℕ) (k : Plan) → store t (plain.U8 n) place k ≡ Put place (to_le_bytes w8 n) k
+u8_store n t place k = store_by (plain.U8 n) (V.U8 n) t place k (plain.rolls-U8 n)
+
+many_laid : laid (params_type of_many) ≡ record { size = 17; align = 1 }
+many_laid = laid_by (params_type of_many) (F.Tuple (map (λ p. p.val_type) of_many.params)) (out_tuple (map (λ p. p.val_type) of_many.params)) ∙ simp u8_laid refl
+
+-- bytes one behind the other
+abbrev pub bytes_at : ℕ → ℕ → List ℕ → Plan → Plan
+bytes_at place at [] k = k
+bytes_at place at (n ∷ bytes) k = Put (place + at) (n ∷ []) (bytes_at place (at + 1) bytes k)
+
 -- The functions of the examples.
 
 pub two_type : canon_type (lowers 0 (lifts 1 (func_at 0 0) no_options) of_two) ≡ words 2 1
@@ -127,6 +146,13 @@ two_type = simp u32_flat refl
 
 pub char_type : canon_type (lowers 0 (lifts 1 (func_at 0 0) no_options) to_char) ≡ words 0 1
 char_type = simp char_flat refl
+
+pub of_char_type : canon_type (lowers 0 (lifts 1 (func_at 0 0) no_options) of_char) ≡ words 1 0
+of_char_type = simp char_flat refl
+
+pub no_char_lifted : arguments_lifted of_char [] (0xD800 ∷ []) ≡ Err (record { why = BadChar; place = 0 })
+unfolding arguments_lifted
+no_char_lifted = simp (char_flat, tuple_lift, char_lift) refl
 
 pub two_lifted : arguments_lifted of_two [] (4 ∷ 4 ∷ []) ≡ Ok (values.Record (plain.U32 4 ∷ plain.U32 4 ∷ []))
 unfolding arguments_lifted
@@ -143,6 +169,10 @@ one_plan = simp (u32_flat, record_words, out_tuple, u32_words) refl
 pub text_plan : arguments_plan of_text (values.Record (plain.String text ∷ [])) ≡ text_in text (λ to. Gives (to ∷ 6 ∷ []))
 unfolding arguments_plan
 text_plan = simp (string_flat, record_words, out_tuple, string_words) refl
+
+pub many_plan : arguments_plan of_many (values.Record (map (λ n. plain.U8 n) seventeen)) ≡ asked 1 1 17 (λ place. bytes_at place 0 seventeen (Gives (place ∷ [])))
+unfolding arguments_plan
+many_plan = simp (u8_flat, many_laid, record_store, out_tuple, u8_store, u8_laid) refl
 
 pub none_plan : (result : Option ValType) → arguments_plan (record { params = []; result = result }) (values.Record []) ≡ Gives []
 unfolding arguments_plan

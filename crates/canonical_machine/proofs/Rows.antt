@@ -1,5 +1,5 @@
 -- What each kind of step does with fuel.
-use Rattle.std.proofs.Common.{ℕ, zero, suc, true, List, [], ◌∷◌, refl, Option, Some, None, Result, Ok, Err}
+use Rattle.std.proofs.Common.{ℕ, zero, suc, nat_eq, true, List, [], ◌∷◌, refl, Option, Some, None, Result, Ok, Err}
 use Rattle.std.specs.List.{slice_get}
 use Rattle.core_machine.specs.Store.{found_at}
 use Rattle.core_machine.specs.Stack.{Stack}
@@ -22,17 +22,18 @@ use Rattle.canonical_machine.specs.Traps.{core_name}
 use Rattle.canonical_machine.specs.Control.{Then, Starts, Resolves, Lowering, Nested, Behind, InLowering, BeforeLeaving}
 use Rattle.canonical_machine.specs.World.{Caller, Nobody, Host, Guest, Returned, Subtask, TaskState, New, Acting, AfterCall, Begins, Exited, Task, World}
 use Rattle.canonical_machine.specs.Edits.{with_store, with_memory, in_state, unstacked, resolved, result_kept}
-use Rattle.canonical_machine.specs.Reading.{externals, func_address, memory_of, bytes_of, task_at, acting, func_of, subtask_of, subtask_state, is_reentrant, lifted_of, builtin_of, inst_of_canon, may_leave}
+use Rattle.canonical_machine.specs.Reading.{externals, func_address, memory_of, bytes_of, task_at, acting, func_of, subtask_of, subtask_state, is_reentrant, lifted_of, lower_at, builtin_of, inst_of_canon, may_leave}
 use Rattle.canonical_machine.specs.Turn.{doomed}
 use Rattle.canonical_machine.specs.Instantiating.{started_up, made, action_turn, instantiating_turn}
 use Rattle.canonical_machine.specs.Returning.{result_of, post_return, finished, passed_on, returned, returning_turn, leaving_turn}
 use Rattle.canonical_machine.specs.CoreSteps.{costs, stack_ended, moved, running_turn}
 use Rattle.canonical_machine.specs.Entering.{arguments_of, with_arguments, entered, arriving_turn}
 use Rattle.canonical_machine.specs.Calling.{call_begun, call_ended, back_from, back_turn}
-use Rattle.canonical_machine.specs.Lowering.{Paused, Words, Failed, Asked, settle, started, lowered, paused, lowers_turn}
-use Rattle.canonical_machine.specs.Nested.{HostedTurn, On, EndsIn, TrapsBy, Refused, NoRule, hosted_next, nested_ended, hosted, nested_turn}
+use Rattle.canonical_machine.specs.Pausing.{Paused, Words, Failed, Asked, settle}
+use Rattle.canonical_machine.specs.Lowering.{started, lowered, paused, lowers_turn}
+use Rattle.canonical_machine.specs.Nested.{HostedTurn, On, EndsIn, TrapsBy, CallsHost, NoRule, hosted_next, nested_ended, refused, hosted, nested_turn}
 use Rattle.canonical_machine.specs.Reply.{reply, allowed, calling_turn}
-use Rattle.canonical_machine.proofs.Turns.{Costless, Plain, costless_plain, given_costless, given_plain, behind_costless, either_costless, charged_plain}
+use Rattle.canonical_machine.proofs.Turns.{Costless, Plain, costless_plain, given_costless, with_func_costless, given_plain, behind_costless, either_costless, charged_plain}
 
 -- Instantiation.
 
@@ -67,14 +68,14 @@ post_return_free t f ended (Some ref) w = given_costless w (found_at w.store.fun
 finished_free : (ended : List ℕ) (w : World) → Costless w (finished ended w)
 unfolding finished
 finished_free ended w =
-    given_costless w (acting w) _ (λ a. given_costless w (func_of a.1.callee) _ (λ f. post_return_free a.0 f ended f.options.post_return w))
+    with_func_costless w _ (λ t task f. post_return_free t f ended f.options.post_return w)
 
 passed_on_free : (g : Graph) (t : ℕ) (caller : Caller) (ended : List ℕ) (result : Option TypedValue) (w : World) → Costless w (passed_on g t caller ended result w)
 unfolding passed_on
 passed_on_free g t Nobody ended result w = finished_free ended w
 passed_on_free g t (Host values) ended result w = finished_free ended w
 passed_on_free g t (Guest subtask) ended None w = finished_free ended w
-passed_on_free g t (Guest subtask) ended (Some result) w = given_costless w (slice_get g.canons subtask.canon) _ (λ canon. refl)
+passed_on_free g t (Guest subtask) ended (Some result) w = given_costless w (lower_at g subtask.canon) _ (λ l. refl)
 
 returned_free : (g : Graph) (t : ℕ) (caller : Caller) (ended : List ℕ) (r : Result (Option TypedValue) LiftTrap) (w : World) → Costless w (returned g t caller ended r w)
 unfolding returned
@@ -131,7 +132,7 @@ entered_free g t task Exited f w = tt
 
 pub arriving_free : (g : Graph) (w : World) → Costless w (arriving_turn g w)
 unfolding arriving_turn
-arriving_free g w = given_costless w (acting w) _ (λ a. given_costless w (func_of a.1.callee) _ (λ f. entered_free g a.0 a.1 a.1.state f w))
+arriving_free g w = with_func_costless w _ (λ t task f. entered_free g t task task.state f w)
 
 -- Calls of tasks.
 
@@ -166,7 +167,7 @@ reply_free t number (canon_func.Lower l) words w = call_begun_free t number (lif
 
 allowed_free : (t number : ℕ) (canon : CanonFunc) (words : List ℕ) (w : World) → Costless w (allowed t number canon words w)
 unfolding allowed
-allowed_free t number canon words w = either_costless w (may_leave w (inst_of_canon canon)) _ _ (reply_free t number canon words w) refl
+allowed_free t number canon words w = either_costless w (may_leave w) _ _ (reply_free t number canon words w) refl
 
 pub calling_free : (g : Graph) (number : ℕ) (words : List ℕ) (w : World) → Costless w (calling_turn g number words w)
 unfolding calling_turn
@@ -179,8 +180,7 @@ calling_free g number words w =
 started_free : (words : List ℕ) (w : World) → Costless w (started words w)
 unfolding started
 started_free words w =
-    given_costless w (acting w) _ (λ a. given_costless w (func_of a.1.callee) _ (λ f.
-    given_costless w (found_at w.store.funcs (func_address w.store f.core)) _ (λ function. refl)))
+    with_func_costless w _ (λ t task f. given_costless w (found_at w.store.funcs (func_address w.store f.core)) _ (λ function. refl))
 
 lowered_free : (after : Then) (words : List ℕ) (w : World) → Costless w (lowered after words w)
 unfolding lowered
@@ -206,13 +206,17 @@ nested_ended_free (InLowering l k) [] w = tt
 nested_ended_free (InLowering l k) (place ∷ words) w = refl
 nested_ended_free BeforeLeaving words w = refl
 
+refused_free : (n : Nested) (words : List ℕ) (canon : CanonFunc) (w : World) → Costless w (refused n words canon w)
+unfolding refused
+refused_free n words canon w = either_costless w (nat_eq (inst_of_canon canon) n.inst) _ _ refl tt
+
 hosted_plain : (g : Graph) (s : Script) (n : Nested) (b : Behind) (t : HostedTurn) (w : World) → Plain s w (hosted g s n b t w)
 unfolding hosted
 hosted_plain g s n b (On paid state store) w = charged_plain s w paid _ (λ v. refl)
 hosted_plain g s n b (EndsIn words) w = costless_plain s w (nested_ended b words w) (nested_ended_free b words w)
 hosted_plain g s n b (TrapsBy why) w = charged_plain s w true (λ v. doomed n.blame (core_name why) v) (λ v. refl)
-hosted_plain g s n b (Refused number words why) w =
-    costless_plain s w _ (given_costless w (slice_get g.canons number) _ (λ canon. refl))
+hosted_plain g s n b (CallsHost number words) w =
+    costless_plain s w _ (given_costless w (slice_get g.canons number) _ (λ canon. refused_free n words canon w))
 hosted_plain g s n b NoRule w = tt
 
 pub nested_plain : (g : Graph) (s : Script) (n : Nested) (b : Behind) (w : World) → Plain s w (nested_turn g s n b w)

@@ -26,13 +26,13 @@ use Rattle.canonical_machine.specs.Entering.{with_arguments, entered, arriving_t
 use Rattle.canonical_machine.specs.Calling.{taken, item_turn, free_turn, call_begun, call_ended, back_from, back_turn}
 use Rattle.canonical_machine.specs.Reply.{reply, allowed, calling_turn}
 use Rattle.canonical_machine.specs.Lowering.{started, lowered, paused, lowers_turn}
-use Rattle.canonical_machine.specs.Nested.{nested_ended, hosted, nested_turn}
+use Rattle.canonical_machine.specs.Nested.{nested_ended, refused, hosted, nested_turn}
 use Rattle.canonical_machine.specs.Examples.{RunOf, Measures, measuring, store_of, instantiated, script_of, doubling, calling_behind, asking_for_char, calling_at_start, coming_back, gives, calls_with_ask, words, of_two, of_one, of_text, text, u32, begins, calls_child, doubled, begins_measuring}
 use Rattle.canonical_machine.proofs.Passed.{two_type, char_type, two_lifted, two_plan, one_plan, text_plan, none_plan, none_lifted, u32_result, char_result, u32_result_plan}
 use Rattle.canonical_machine.proofs.Walks.{walk, begun, walks, steps_to, at_world, shows, planned, with_plan, entered_world, enters, ended_world, ends}
 
 -- a first world in whose store stands one function of the host, of this type
-abbrev with_types : core.FuncType → World
+abbrev pub with_types : core.FuncType → World
 with_types type = record (first_world doubling) { store = record empty { funcs = stores.Host type ∷ [] } }
 
 -- Nothing is passed.
@@ -40,14 +40,14 @@ abbrev at_start_1 : World
 at_start_1 = walk 20 calling_at_start (script_of 10 ([])) (first_world calling_at_start)
 
 pub at_start : RunOf calling_at_start 10 [] (line.Do 0 builtin.Lower [] ∷ []) (Trapped 0 trap.CannotLeave) 1
-unfolding started_up made action_turn instantiating_turn post_return finished passed_on returned returning_turn leaving_turn stack_ended moved running_turn with_arguments entered arriving_turn taken item_turn free_turn call_begun call_ended back_from back_turn reply allowed calling_turn started lowered paused lowers_turn nested_ended hosted nested_turn
+unfolding started_up made action_turn instantiating_turn post_return finished passed_on returned returning_turn leaving_turn stack_ended moved running_turn with_arguments entered arriving_turn taken item_turn free_turn call_begun call_ended back_from back_turn reply allowed calling_turn started lowered paused lowers_turn nested_ended refused hosted nested_turn
 at_start =
     let g : Graph = calling_at_start in
     let s : Script = script_of 10 ([]) in
     let w : World = first_world calling_at_start in
     let a0 = begun g s w in
     let a1 = walks 20 g s w (first_world calling_at_start) _ a0 in
-    shows g s w at_start_1 _ _ _ _ _ a1 refl refl refl refl
+    shows g s w at_start_1 _ (Trapped 0 trap.CannotLeave) _ _ _ a1 refl refl refl refl
 
 -- A text is passed.
 abbrev measured_1 : World
@@ -66,7 +66,7 @@ abbrev measured_5 : World
 measured_5 = walk 9 measuring (script_of 10 (value.String text ∷ [])) (measured_4)
 
 pub measured : Measures (gives 32) 10 (begins_measuring ++ line.Return 1 (Some (u32 6)) ∷ line.Exit 1 ∷ []) Done 3 (replicate 32 0 ++ text ++ 0 ∷ 0 ∷ [])
-unfolding started_up made action_turn instantiating_turn post_return finished passed_on returned returning_turn leaving_turn stack_ended moved running_turn with_arguments entered arriving_turn taken item_turn free_turn call_begun call_ended back_from back_turn reply allowed calling_turn started lowered paused lowers_turn nested_ended hosted nested_turn
+unfolding started_up made action_turn instantiating_turn post_return finished passed_on returned returning_turn leaving_turn stack_ended moved running_turn with_arguments entered arriving_turn taken item_turn free_turn call_begun call_ended back_from back_turn reply allowed calling_turn started lowered paused lowers_turn nested_ended refused hosted nested_turn
 measured =
     let g : Graph = measuring in
     let s : Script = script_of 10 (value.String text ∷ []) in
@@ -77,7 +77,7 @@ measured =
     let a3 = walks 7 g s w (measured_2) _ a2 in
     let a4 = steps_to g s w measured_3 measured_4 _ _ a3 (ends g s measured_3 (6 ∷ []) (Ok (Some (u32 6))) refl tt tt refl refl tt (ap (typed_result type.U32) (u32_result of_text.params (replicate 32 0 ++ text ++ 0 ∷ 0 ∷ []) 6)) tt) in
     let a5 = walks 9 g s w (measured_4) _ a4 in
-    shows g s w measured_5 _ _ _ _ _ a5 refl refl refl refl
+    shows g s w measured_5 _ Done _ _ _ a5 refl refl refl refl
 
 abbrev wants_place_1 : World
 wants_place_1 = walk 2 measuring (script_of 1 (value.String text ∷ [])) (instantiated 1 (store_of (gives 32)))
@@ -89,7 +89,7 @@ abbrev wants_place_3 : World
 wants_place_3 = walk 9 measuring (script_of 1 (value.String text ∷ [])) (wants_place_2)
 
 pub wants_place : Measures (gives 32) 1 (begins_measuring) Fuel 1 (replicate 40 0)
-unfolding started_up made action_turn instantiating_turn post_return finished passed_on returned returning_turn leaving_turn stack_ended moved running_turn with_arguments entered arriving_turn taken item_turn free_turn call_begun call_ended back_from back_turn reply allowed calling_turn started lowered paused lowers_turn nested_ended hosted nested_turn
+unfolding started_up made action_turn instantiating_turn post_return finished passed_on returned returning_turn leaving_turn stack_ended moved running_turn with_arguments entered arriving_turn taken item_turn free_turn call_begun call_ended back_from back_turn reply allowed calling_turn started lowered paused lowers_turn nested_ended refused hosted nested_turn
 wants_place =
     let g : Graph = measuring in
     let s : Script = script_of 1 (value.String text ∷ []) in
@@ -98,7 +98,7 @@ wants_place =
     let a1 = walks 2 g s w (instantiated 1 (store_of (gives 32))) _ a0 in
     let a2 = at_world g s w wants_place_1 wants_place_2 _ a1 (with_plan wants_place_1 (text_in text (λ to. Gives (to ∷ 6 ∷ []))) tt text_plan) in
     let a3 = walks 9 g s w (wants_place_2) _ a2 in
-    shows g s w wants_place_3 _ _ _ _ _ a3 refl refl refl refl
+    shows g s w wants_place_3 _ Fuel _ _ _ a3 refl refl refl refl
 
 abbrev too_far_1 : World
 too_far_1 = walk 2 measuring (script_of 10 (value.String text ∷ [])) (instantiated 1 (store_of (gives 35)))
@@ -110,7 +110,7 @@ abbrev too_far_3 : World
 too_far_3 = walk 9 measuring (script_of 10 (value.String text ∷ [])) (too_far_2)
 
 pub too_far : Measures (gives 35) 10 (begins_measuring) (Trapped 1 trap.Bounds) 2 (replicate 40 0)
-unfolding started_up made action_turn instantiating_turn post_return finished passed_on returned returning_turn leaving_turn stack_ended moved running_turn with_arguments entered arriving_turn taken item_turn free_turn call_begun call_ended back_from back_turn reply allowed calling_turn started lowered paused lowers_turn nested_ended hosted nested_turn
+unfolding started_up made action_turn instantiating_turn post_return finished passed_on returned returning_turn leaving_turn stack_ended moved running_turn with_arguments entered arriving_turn taken item_turn free_turn call_begun call_ended back_from back_turn reply allowed calling_turn started lowered paused lowers_turn nested_ended refused hosted nested_turn
 too_far =
     let g : Graph = measuring in
     let s : Script = script_of 10 (value.String text ∷ []) in
@@ -119,7 +119,7 @@ too_far =
     let a1 = walks 2 g s w (instantiated 1 (store_of (gives 35))) _ a0 in
     let a2 = at_world g s w too_far_1 too_far_2 _ a1 (with_plan too_far_1 (text_in text (λ to. Gives (to ∷ 6 ∷ []))) tt text_plan) in
     let a3 = walks 9 g s w (too_far_2) _ a2 in
-    shows g s w too_far_3 _ _ _ _ _ a3 refl refl refl refl
+    shows g s w too_far_3 _ (Trapped 1 trap.Bounds) _ _ _ a3 refl refl refl refl
 
 abbrev realloc_calls_1 : World
 realloc_calls_1 = walk 2 measuring (script_of 10 (value.String text ∷ [])) (instantiated 1 (store_of calls_with_ask))
@@ -131,7 +131,7 @@ abbrev realloc_calls_3 : World
 realloc_calls_3 = walk 9 measuring (script_of 10 (value.String text ∷ [])) (realloc_calls_2)
 
 pub realloc_calls : Measures calls_with_ask 10 (begins_measuring ++ line.Do 1 builtin.Lower (1 ∷ 6 ∷ []) ∷ []) (Trapped 1 trap.CannotLeave) 4 (replicate 40 0)
-unfolding started_up made action_turn instantiating_turn post_return finished passed_on returned returning_turn leaving_turn stack_ended moved running_turn with_arguments entered arriving_turn taken item_turn free_turn call_begun call_ended back_from back_turn reply allowed calling_turn started lowered paused lowers_turn nested_ended hosted nested_turn
+unfolding started_up made action_turn instantiating_turn post_return finished passed_on returned returning_turn leaving_turn stack_ended moved running_turn with_arguments entered arriving_turn taken item_turn free_turn call_begun call_ended back_from back_turn reply allowed calling_turn started lowered paused lowers_turn nested_ended refused hosted nested_turn
 realloc_calls =
     let g : Graph = measuring in
     let s : Script = script_of 10 (value.String text ∷ []) in
@@ -140,7 +140,7 @@ realloc_calls =
     let a1 = walks 2 g s w (instantiated 1 (store_of calls_with_ask)) _ a0 in
     let a2 = at_world g s w realloc_calls_1 realloc_calls_2 _ a1 (with_plan realloc_calls_1 (text_in text (λ to. Gives (to ∷ 6 ∷ []))) tt text_plan) in
     let a3 = walks 9 g s w (realloc_calls_2) _ a2 in
-    shows g s w realloc_calls_3 _ _ _ _ _ a3 refl refl refl refl
+    shows g s w realloc_calls_3 _ (Trapped 1 trap.CannotLeave) _ _ _ a3 refl refl refl refl
 
 -- Numbers are passed.
 abbrev doubled_done_1 : World
@@ -180,7 +180,7 @@ abbrev doubled_done_12 : World
 doubled_done_12 = walk 9 doubling (script_of 7 (value.U32 4 ∷ [])) (doubled_done_11)
 
 pub doubled_done : RunOf doubling 7 (value.U32 4 ∷ []) (doubled) Done 7
-unfolding started_up made action_turn instantiating_turn post_return finished passed_on returned returning_turn leaving_turn stack_ended moved running_turn with_arguments entered arriving_turn taken item_turn free_turn call_begun call_ended back_from back_turn reply allowed calling_turn started lowered paused lowers_turn nested_ended hosted nested_turn
+unfolding started_up made action_turn instantiating_turn post_return finished passed_on returned returning_turn leaving_turn stack_ended moved running_turn with_arguments entered arriving_turn taken item_turn free_turn call_begun call_ended back_from back_turn reply allowed calling_turn started lowered paused lowers_turn nested_ended refused hosted nested_turn
 doubled_done =
     let g : Graph = doubling in
     let s : Script = script_of 7 (value.U32 4 ∷ []) in
@@ -198,7 +198,7 @@ doubled_done =
     let a10 = walks 4 g s w (doubled_done_9) _ a9 in
     let a11 = steps_to g s w doubled_done_10 doubled_done_11 _ _ a10 (ends g s doubled_done_10 (8 ∷ []) (Ok (Some (u32 8))) refl tt tt refl refl tt (ap (typed_result type.U32) (u32_result of_one.params [] 8)) tt) in
     let a12 = walks 9 g s w (doubled_done_11) _ a11 in
-    shows g s w doubled_done_12 _ _ _ _ _ a12 refl refl refl refl
+    shows g s w doubled_done_12 _ Done _ _ _ a12 refl refl refl refl
 
 abbrev doubled_wants_1 : World
 doubled_wants_1 = with_types (words 2 1)
@@ -222,7 +222,7 @@ abbrev doubled_wants_7 : World
 doubled_wants_7 = walk 9 doubling (script_of 6 (value.U32 4 ∷ [])) (doubled_wants_6)
 
 pub doubled_wants : RunOf doubling 6 (value.U32 4 ∷ []) (begins (u32 4 ∷ []) ++ calls_child (4 ∷ 4 ∷ [])) Fuel 6
-unfolding started_up made action_turn instantiating_turn post_return finished passed_on returned returning_turn leaving_turn stack_ended moved running_turn with_arguments entered arriving_turn taken item_turn free_turn call_begun call_ended back_from back_turn reply allowed calling_turn started lowered paused lowers_turn nested_ended hosted nested_turn
+unfolding started_up made action_turn instantiating_turn post_return finished passed_on returned returning_turn leaving_turn stack_ended moved running_turn with_arguments entered arriving_turn taken item_turn free_turn call_begun call_ended back_from back_turn reply allowed calling_turn started lowered paused lowers_turn nested_ended refused hosted nested_turn
 doubled_wants =
     let g : Graph = doubling in
     let s : Script = script_of 6 (value.U32 4 ∷ []) in
@@ -235,7 +235,7 @@ doubled_wants =
     let a5 = steps_to g s w doubled_wants_4 doubled_wants_5 _ _ a4 (enters g s doubled_wants_4 (values.Record (value.U32 4 ∷ value.U32 4 ∷ [])) refl tt tt refl (ap (λ (r : Result Value LiftTrap). Some r) two_lifted)) in
     let a6 = at_world g s w doubled_wants_5 doubled_wants_6 _ a5 (with_plan doubled_wants_5 (Gives (4 ∷ 4 ∷ [])) tt two_plan) in
     let a7 = walks 9 g s w (doubled_wants_6) _ a6 in
-    shows g s w doubled_wants_7 _ _ _ _ _ a7 refl refl refl refl
+    shows g s w doubled_wants_7 _ Fuel _ _ _ a7 refl refl refl refl
 
 abbrev post_return_calls_1 : World
 post_return_calls_1 = with_types (words 2 1)
@@ -256,7 +256,7 @@ abbrev post_return_calls_6 : World
 post_return_calls_6 = walk 9 calling_behind (script_of 10 ([])) (post_return_calls_5)
 
 pub post_return_calls : RunOf calling_behind 10 [] (begins [] ++ line.Return 1 (Some (u32 5)) ∷ line.Do 1 builtin.Lower (5 ∷ 5 ∷ []) ∷ []) (Trapped 1 trap.CannotLeave) 5
-unfolding started_up made action_turn instantiating_turn post_return finished passed_on returned returning_turn leaving_turn stack_ended moved running_turn with_arguments entered arriving_turn taken item_turn free_turn call_begun call_ended back_from back_turn reply allowed calling_turn started lowered paused lowers_turn nested_ended hosted nested_turn
+unfolding started_up made action_turn instantiating_turn post_return finished passed_on returned returning_turn leaving_turn stack_ended moved running_turn with_arguments entered arriving_turn taken item_turn free_turn call_begun call_ended back_from back_turn reply allowed calling_turn started lowered paused lowers_turn nested_ended refused hosted nested_turn
 post_return_calls =
     let g : Graph = calling_behind in
     let s : Script = script_of 10 ([]) in
@@ -268,7 +268,7 @@ post_return_calls =
     let a4 = walks 3 g s w (post_return_calls_3) _ a3 in
     let a5 = steps_to g s w post_return_calls_4 post_return_calls_5 _ _ a4 (ends g s post_return_calls_4 (5 ∷ []) (Ok (Some (u32 5))) refl tt tt refl refl tt (ap (typed_result type.U32) (u32_result [] [] 5)) tt) in
     let a6 = walks 9 g s w (post_return_calls_5) _ a5 in
-    shows g s w post_return_calls_6 _ _ _ _ _ a6 refl refl refl refl
+    shows g s w post_return_calls_6 _ (Trapped 1 trap.CannotLeave) _ _ _ a6 refl refl refl refl
 
 -- Nothing is passed to a child.
 abbrev no_char_1 : World
@@ -299,7 +299,7 @@ abbrev no_char_9 : World
 no_char_9 = walk 9 asking_for_char (script_of 10 ([])) (no_char_8)
 
 pub no_char : RunOf asking_for_char 10 [] (begins [] ++ calls_child []) (Trapped 2 trap.BadChar) 3
-unfolding started_up made action_turn instantiating_turn post_return finished passed_on returned returning_turn leaving_turn stack_ended moved running_turn with_arguments entered arriving_turn taken item_turn free_turn call_begun call_ended back_from back_turn reply allowed calling_turn started lowered paused lowers_turn nested_ended hosted nested_turn
+unfolding started_up made action_turn instantiating_turn post_return finished passed_on returned returning_turn leaving_turn stack_ended moved running_turn with_arguments entered arriving_turn taken item_turn free_turn call_begun call_ended back_from back_turn reply allowed calling_turn started lowered paused lowers_turn nested_ended refused hosted nested_turn
 no_char =
     let g : Graph = asking_for_char in
     let s : Script = script_of 10 ([]) in
@@ -314,7 +314,7 @@ no_char =
     let a7 = walks 3 g s w (no_char_6) _ a6 in
     let a8 = steps_to g s w no_char_7 no_char_8 _ _ a7 (ends g s no_char_7 (0xD800 ∷ []) (Err (record { why = BadChar; place = 0 })) refl tt tt refl refl tt (ap (typed_result type.Char) char_result) tt) in
     let a9 = walks 9 g s w (no_char_8) _ a8 in
-    shows g s w no_char_9 _ _ _ _ _ a9 refl refl refl refl
+    shows g s w no_char_9 _ (Trapped 2 trap.BadChar) _ _ _ a9 refl refl refl refl
 
 abbrev reentrant_1 : World
 reentrant_1 = walk 8 coming_back (script_of 10 ([])) (first_world coming_back)
@@ -335,7 +335,7 @@ abbrev reentrant_6 : World
 reentrant_6 = walk 9 coming_back (script_of 10 ([])) (reentrant_5)
 
 pub reentrant : RunOf coming_back 10 [] (begins [] ++ calls_child [] ++ line.Do 2 builtin.Lower [] ∷ []) (Trapped 2 trap.Reentrant) 3
-unfolding started_up made action_turn instantiating_turn post_return finished passed_on returned returning_turn leaving_turn stack_ended moved running_turn with_arguments entered arriving_turn taken item_turn free_turn call_begun call_ended back_from back_turn reply allowed calling_turn started lowered paused lowers_turn nested_ended hosted nested_turn
+unfolding started_up made action_turn instantiating_turn post_return finished passed_on returned returning_turn leaving_turn stack_ended moved running_turn with_arguments entered arriving_turn taken item_turn free_turn call_begun call_ended back_from back_turn reply allowed calling_turn started lowered paused lowers_turn nested_ended refused hosted nested_turn
 reentrant =
     let g : Graph = coming_back in
     let s : Script = script_of 10 ([]) in
@@ -347,4 +347,4 @@ reentrant =
     let a4 = steps_to g s w reentrant_3 reentrant_4 _ _ a3 (enters g s reentrant_3 (values.Record []) refl tt tt refl (ap (λ (r : Result Value LiftTrap). Some r) (none_lifted None))) in
     let a5 = at_world g s w reentrant_4 reentrant_5 _ a4 (with_plan reentrant_4 (Gives []) tt (none_plan None)) in
     let a6 = walks 9 g s w (reentrant_5) _ a5 in
-    shows g s w reentrant_6 _ _ _ _ _ a6 refl refl refl refl
+    shows g s w reentrant_6 _ (Trapped 2 trap.Reentrant) _ _ _ a6 refl refl refl refl

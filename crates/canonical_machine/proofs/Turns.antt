@@ -1,13 +1,15 @@
 -- What a turn does with fuel: turns without cost, turns that may cost a unit, and how they are put together.
 use Rattle.std.proofs.Common.{◌≡◌, ◌≤◌, ◌<◌, ◌⊎◌, inl, inr, ℕ, ◌+◌, Bool, true, false, nat_lt, List, refl, arith, Option, Some, None, if◌then◌else◌}
 use Rattle.std.proofs.lemmas.Bool.Decides.{nat_tests}
+use Rattle.comp_graph.specs.Graph.{Lifted}
 use Rattle.script_reader.specs.Script.{Script}
 use Rattle.trace_show.specs.declared.label.Label.{Label}
 use Rattle.canonical_machine.specs.declared.run_end.RunEnd.{RunEnd}
 use Rattle.canonical_machine.specs.declared.run_end.RunEnd.TheVariants.{Done, Trapped, Deadlock, Fuel}
-use Rattle.canonical_machine.specs.World.{World}
+use Rattle.canonical_machine.specs.World.{Task, World}
 use Rattle.canonical_machine.specs.Edits.{unit_spent}
-use Rattle.canonical_machine.specs.Turn.{Turn, Steps, Ends, Stuck, behind, given, charged}
+use Rattle.canonical_machine.specs.Reading.{acting, func_of}
+use Rattle.canonical_machine.specs.Turn.{Turn, Steps, Ends, Stuck, behind, given, with_func, charged}
 
 -- a unit or none is spent, one only where one is left
 abbrev pub Spends : ℕ → ℕ → ℕ → Type 0
@@ -39,6 +41,9 @@ costless_plain s w Stuck h = tt
 pub given_costless : {A : Type 0} (w : World) (o : Option A) (f : A → Turn) → ((x : A) → Costless w (f x)) → Costless w (given o f)
 given_costless w None f h = tt
 given_costless w (Some x) f h = h x
+
+pub with_func_costless : (w : World) (more : ℕ → Task → Lifted → Turn) → ((t : ℕ) (task : Task) (f : Lifted) → Costless w (more t task f)) → Costless w (with_func w more)
+with_func_costless w more h = given_costless w (acting w) _ (λ a. given_costless w (func_of a.1.callee) _ (λ f. h a.0 a.1 f))
 
 pub given_plain : {A : Type 0} (s : Script) (w : World) (o : Option A) (f : A → Turn) → ((x : A) → Plain s w (f x)) → Plain s w (given o f)
 given_plain s w None f h = tt

@@ -1,6 +1,6 @@
 -- Runs in pieces: so many steps, as they are computed; a step that is known; and a plan in place of an equal one.
 use Rattle.std.proofs.Common.{◌≡◌, ◌∙◌, ℕ, zero, suc, List, [], ◌∷◌, ◌++◌, refl, sym, ap, subst, Option, Some, None, replicate}
-use Rattle.std.specs.Prelude.{Result, Ok, unwrap_or}
+use Rattle.std.specs.Prelude.{Result, Ok, Err, unwrap_or}
 use Rattle.std.specs.List.{slice_get}
 use Rattle.std.proofs.lemmas.Grind.{flat_map-append}
 use Rattle.core_machine.specs.Stack.{Stack, Given}
@@ -16,6 +16,7 @@ use Rattle.trace_show.specs.declared.label.Label.TheVariants as line
 use Rattle.trace_show.specs.declared.typed.TypedValue.{TypedValue}
 use Rattle.canonical_machine.specs.declared.run_end.RunEnd.{RunEnd}
 use Rattle.canonical_machine.specs.Passing.{arguments_plan}
+use Rattle.canonical_machine.specs.Traps.{lift_name}
 use Rattle.canonical_machine.specs.Control.{Control, Free, Instantiates, Runs, Calls, Arrives, Lowers, Quiet, Back, Leaves, Doomed, Lowering, Starts}
 use Rattle.canonical_machine.specs.World.{Init, Nobody, New, Acting, Task, World, new_task}
 use Rattle.canonical_machine.specs.Edits.{with_control, in_state, unstacked}
@@ -173,6 +174,22 @@ pub enters : (g : Graph) (s : Script) (w : World) (v : Value) → w.control ≡ 
     → IsThere (func_of (the_task w).callee) → (the_task w).state ≡ New → arguments_of g w.store (the_task w).caller ≡ Some (Ok v)
     → next g s w ≡ Steps (line.Enter (the_number w) ∷ []) (entered_world v w)
 enters g s w v c a i n r = enters_as g s w (the_number w) (the_task w) (the_func w) v c (found (acting w) _ a) (found (func_of (the_task w).callee) _ i) n r
+
+-- A task enters whose arguments are not lifted.
+abbrev pub doomed_world : LiftTrap → World → World
+doomed_world e w = with_control (Doomed (the_number w) (lift_name e.why)) (in_state (the_number w) Acting w)
+
+enters_doomed_as : (g : Graph) (s : Script) (w : World) (t : ℕ) (task : Task) (f : Lifted) (e : LiftTrap) → w.control ≡ Arrives → acting w ≡ Some (t, task)
+    → func_of task.callee ≡ Some f → task.state ≡ New → arguments_of g w.store task.caller ≡ Some (Err e)
+    → next g s w ≡ Steps (line.Enter t ∷ []) (with_control (Doomed t (lift_name e.why)) (in_state t Acting w))
+unfolding arriving_turn entered with_arguments
+enters_doomed_as g s w t task f e c a i n r = rw (c, a, i, n, r) refl
+
+pub enters_doomed : (g : Graph) (s : Script) (w : World) (e : LiftTrap) → w.control ≡ Arrives → IsThere (acting w)
+    → IsThere (func_of (the_task w).callee) → (the_task w).state ≡ New → arguments_of g w.store (the_task w).caller ≡ Some (Err e)
+    → next g s w ≡ Steps (line.Enter (the_number w) ∷ []) (doomed_world e w)
+enters_doomed g s w e c a i n r =
+    enters_doomed_as g s w (the_number w) (the_task w) (the_func w) e c (found (acting w) _ a) (found (func_of (the_task w).callee) _ i) n r
 
 -- A task's function has ended, and its result is lifted so.
 ends_as : (g : Graph) (s : Script) (w : World) (t : ℕ) (task : Task) (f : Lifted) (k : Stack) (words : List ℕ) (r : Result (Option TypedValue) LiftTrap)

@@ -40,7 +40,7 @@ unfoldable pub taken : Call → Lifted → World → Turn
 taken call f w =
     Steps (line.Take (w.taken + 1) (length w.tasks) call.name (arguments_typed f call.values) ∷ []) (begun (Func f) (Host call.values) (item_taken w))
 
--- Where no item is left, all is done if each task has exited. None can go on otherwise: a task that runs stands on the chain.
+-- Where no item is left, all is done if each task has exited. Else no task can go on: a task that runs stands on the chain.
 abbrev pub end_of : List ℕ → RunEnd
 end_of [] = Done
 end_of (t ∷ tasks) = Deadlock (t ∷ tasks)

@@ -1,6 +1,6 @@
 -- The moves of core functions (Core 2.0, section 4.4; Component Model, CanonicalABI.md, `canon lift`): the acting task's stack makes a
--- move. An instruction costs a unit, and so do a call of a function of the host and a trap; the end of a block or a function costs
--- none, and neither does a function of the host that runs alone.
+-- move. An instruction costs a unit, also where it calls a function of the host or traps. The end of a block or a function costs none,
+-- and neither does a function of the host that runs alone.
 use Rattle.std.specs.Prelude.{ℕ, Bool, true, false, List}
 use Rattle.std.specs.List.{slice_get}
 use Rattle.core_machine.specs.Stack.{Stack, Running}

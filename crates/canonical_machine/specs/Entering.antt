@@ -6,7 +6,6 @@
 -- is a trap, since each of these is the caller of the next. So no task of the instance holds exclusive entry, none waits to enter, and
 -- there is no backpressure.
 use Rattle.std.specs.Prelude.{ℕ, [], ◌∷◌, Option, Some, None, Result, Ok, Err}
-use Rattle.std.specs.List.{slice_get}
 use Rattle.std.specs.Option.{option_map}
 use Rattle.core_machine.specs.Store.{Store}
 use Rattle.ca_types.specs.declared.value.Value.{Value}
@@ -20,8 +19,8 @@ use Rattle.canonical_machine.specs.Traps.{lift_name}
 use Rattle.canonical_machine.specs.Control.{Starts, Lowering, Lowers}
 use Rattle.canonical_machine.specs.World.{Subtask, Caller, Nobody, Host, Guest, Acting, New, TaskState, Task, World}
 use Rattle.canonical_machine.specs.Edits.{in_state}
-use Rattle.canonical_machine.specs.Reading.{memory_of, realloc_of, bytes_of, lower_of, acting, func_of}
-use Rattle.canonical_machine.specs.Turn.{Turn, Stuck, silent, doomed, behind, given}
+use Rattle.canonical_machine.specs.Reading.{memory_of, realloc_of, bytes_of, lower_at}
+use Rattle.canonical_machine.specs.Turn.{Turn, Stuck, silent, doomed, behind, given, with_func}
 
 -- The arguments of a call: those of the script, or what a task passes to a function that it lowers.
 abbrev pub passed : Store → Subtask → Lower → Result Value LiftTrap
@@ -30,7 +29,7 @@ passed s subtask l = arguments_lifted l.func_type (bytes_of s (memory_of s l.opt
 abbrev pub arguments_of : Graph → Store → Caller → Option (Result Value LiftTrap)
 arguments_of g s Nobody = None
 arguments_of g s (Host values) = Some (Ok (value.Record values))
-arguments_of g s (Guest subtask) = option_map (λ canon. passed s subtask (lower_of canon)) (slice_get g.canons subtask.canon)
+arguments_of g s (Guest subtask) = option_map (λ l. passed s subtask l) (lower_at g subtask.canon)
 
 -- The lowering of arguments acts for the task that is called.
 abbrev pub arguments_lowering : Store → ℕ → Lifted → Lowering
@@ -54,4 +53,4 @@ entered g t task New f w =
 entered g t task state f w = Stuck
 
 unfoldable pub arriving_turn : Graph → World → Turn
-arriving_turn g w = given (acting w) (λ a. given (func_of a.1.callee) (λ f. entered g a.0 a.1 a.1.state f w))
+arriving_turn g w = with_func w (λ t task f. entered g t task task.state f w)

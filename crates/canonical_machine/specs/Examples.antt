@@ -1,6 +1,6 @@
 -- Small graphs and stores, whose runs the laws `examples` have (Component Model, CanonicalABI.md, `canon lift` and `canon lower`;
 -- Core 2.0, section 4.4).
-use Rattle.std.specs.Prelude.{◌≡◌, ℕ, pos, codes, List, [], ◌∷◌, ◌++◌, map, replicate, Option, Some, None}
+use Rattle.std.specs.Prelude.{◌≡◌, ◌+◌, ℕ, pos, codes, List, [], ◌∷◌, ◌++◌, map, replicate, Option, Some, None}
 use Rattle.wasm_module.specs.declared.types.ValType.TheVariants.{I32}
 use Rattle.wasm_module.specs.declared.types.FuncType as core
 use Rattle.wasm_module.specs.declared.instr.Instr.TheVariants.{Drop, LocalGet, I32Const, Numeric}
@@ -34,6 +34,7 @@ use Rattle.comp_graph.specs.declared.graph.Lift.{Lift}
 use Rattle.comp_graph.specs.declared.graph.CanonFunc.{CanonFunc}
 use Rattle.comp_graph.specs.declared.graph.CanonFunc.TheVariants as canon_func
 use Rattle.comp_graph.specs.Graph.{CoreMake, Graph, no_options}
+use Rattle.script_reader.specs.declared.script.Item.{Item}
 use Rattle.script_reader.specs.declared.script.Item.TheVariants as item
 use Rattle.script_reader.specs.Script.{Script}
 use Rattle.trace_show.specs.declared.builtin.Builtin.TheVariants as builtin
@@ -55,7 +56,8 @@ pub record Shows (g : Graph) (s : Script) (w : World) (labels : List Label) (end
   pub begun : dumped_instances last ≡ replicate instances []
   pub left : dumped_memories last ≡ memories
 
--- Types of functions: of two numbers, of one, of none, from a text, to a character, to a pair, and to nothing.
+-- Types of functions: of two numbers, of one, of none, from a text, from
+-- seventeen bytes, from a character, to one, to a pair, and to nothing.
 abbrev pub numbers : List (List ℕ) → List Param
 numbers labels = map (λ label. record { label = label; val_type = type.U32 }) labels
 
@@ -70,6 +72,16 @@ of_none = record { params = []; result = Some type.U32 }
 
 abbrev pub of_text : FuncType
 of_text = record { params = record { label = codes "a"; val_type = type.String } ∷ []; result = Some type.U32 }
+
+-- seventeen bytes, and as many parameters
+abbrev pub seventeen : List ℕ
+seventeen = 1 ∷ 2 ∷ 3 ∷ 4 ∷ 5 ∷ 6 ∷ 7 ∷ 8 ∷ 9 ∷ 10 ∷ 11 ∷ 12 ∷ 13 ∷ 14 ∷ 15 ∷ 16 ∷ 17 ∷ []
+
+abbrev pub of_many : FuncType
+of_many = record { params = map (λ n. record { label = (0x60 + n) ∷ []; val_type = type.U8 }) seventeen; result = Some type.U32 }
+
+abbrev pub of_char : FuncType
+of_char = record { params = record { label = codes "a"; val_type = type.Char } ∷ []; result = None }
 
 abbrev pub to_char : FuncType
 to_char = record { params = []; result = Some type.Char }
@@ -166,11 +178,17 @@ adding_child = module_of (words 2 1 ∷ []) 0 ((0, adds) ∷ []) None
 abbrev pub doubling : Graph
 doubling = root_and_child of_two adding_child (module_of (words 2 1 ∷ words 1 1 ∷ []) 1 ((1, calls_doubled End) ∷ []) None) of_one no_options
 
--- the root's post-return calls it with the result twice
-abbrev pub calling_behind : Graph
-calling_behind =
-    root_and_child of_two adding_child (module_of (words 2 1 ∷ words 0 1 ∷ words 1 0 ∷ []) 1 ((1, gives 5) ∷ (2, calls_doubled (Plain Drop End)) ∷ []) None) of_none
+-- The root's function gives 5, and this is its post-return: it calls the child's function with the result twice, or calls nothing.
+abbrev pub with_post_return : Expr → Graph
+with_post_return body =
+    root_and_child of_two adding_child (module_of (words 2 1 ∷ words 0 1 ∷ words 1 0 ∷ []) 1 ((1, gives 5) ∷ (2, body) ∷ []) None) of_none
     (record { memory = None; realloc = None; post_return = Some (func_at 1 2) })
+
+abbrev pub calling_behind : Graph
+calling_behind = with_post_return (calls_doubled (Plain Drop End))
+
+abbrev pub dropping_behind : Graph
+dropping_behind = with_post_return (Plain (LocalGet 0) (Plain Drop End))
 
 -- the root calls a child's function whose word is no character
 abbrev pub asking_for_char : Graph
@@ -178,16 +196,40 @@ asking_for_char =
     root_and_child to_char (module_of (words 0 1 ∷ []) 0 ((0, gives 0xD800) ∷ []) None)
     (module_of (words 0 1 ∷ words 0 0 ∷ []) 1 ((1, calls (Plain Drop End)) ∷ []) None) to_nothing no_options
 
--- a function of the root that starts calls a child's function
+-- the root calls a child's function with a word that is no character
+abbrev pub passing_no_char : Graph
+passing_no_char =
+    root_and_child of_char (module_of (words 1 0 ∷ []) 0 ((0, End) ∷ []) None)
+    (module_of (words 1 0 ∷ words 0 0 ∷ []) 1 ((1, Plain (I32Const (pos 0xD800)) (calls End)) ∷ []) None) to_nothing no_options
+
+-- a function that does nothing
+abbrev pub idle : ModuleTree
+idle = module_of (words 0 0 ∷ []) 0 ((0, End) ∷ []) None
+
+-- A function of the root with this body, beside such a function of a child: it calls the child's, calls it when it starts, or traps.
+abbrev pub beside_idle : Expr → Option ℕ → Graph
+beside_idle body start = root_and_child to_nothing idle (module_of (words 0 0 ∷ []) 1 ((0, body) ∷ []) start) to_nothing no_options
+
+abbrev pub calling : Graph
+calling = beside_idle (calls End) None
+
 abbrev pub calling_at_start : Graph
-calling_at_start =
-    root_and_child to_nothing (module_of (words 0 0 ∷ []) 0 ((0, End) ∷ []) None) (module_of (words 0 0 ∷ []) 1 ((0, calls End) ∷ []) (Some 1)) to_nothing no_options
+calling_at_start = beside_idle (calls End) (Some 1)
+
+abbrev pub trapping : Graph
+trapping = beside_idle (Plain instr.Unreachable End) None
+
+-- The root calls a function of its own, and not the child's.
+abbrev pub calling_itself : Graph
+calling_itself =
+    graph_of child_first (makes 0 idle [] ∷ makes 0 (module_of (words 0 0 ∷ []) 1 ((0, calls End) ∷ []) None) (0 ∷ []) ∷ [])
+    (lowers 0 (lifts 0 (func_at 0 0) no_options) to_nothing ∷ []) to_nothing (lifts 0 (func_at 1 1) no_options)
 
 -- The root gives its own function to its child, whose function calls it, and calls the child's function.
 abbrev pub coming_back : Graph
 coming_back =
     graph_of (Begin 0 ∷ Make 0 ∷ Begin 1 ∷ Make 1 ∷ Make 2 ∷ [])
-    (makes 0 (module_of (words 0 0 ∷ []) 0 ((0, End) ∷ []) None) [] ∷ makes 1 (module_of (words 0 0 ∷ []) 1 ((0, calls End) ∷ []) None) (0 ∷ [])
+    (makes 0 idle [] ∷ makes 1 (module_of (words 0 0 ∷ []) 1 ((0, calls End) ∷ []) None) (0 ∷ [])
     ∷ makes 0 (module_of (words 0 0 ∷ []) 1 ((0, calls End) ∷ []) None) (1 ∷ []) ∷ [])
     (lowers 1 (lifts 0 (func_at 0 0) no_options) to_nothing ∷ lowers 0 (lifts 1 (func_at 1 1) no_options) to_nothing ∷ []) to_nothing (lifts 0 (func_at 2 1) no_options)
 
@@ -211,6 +253,19 @@ store_of realloc = record {
   memories = record { bytes = replicate 40 0; maximum = None } ∷ [];
   globals = [];
   instances = record { types = []; funcs = 0 ∷ 1 ∷ 2 ∷ []; tables = []; memories = 0 ∷ []; globals = [] } ∷ [];
+}
+
+-- One component instance with such a memory, a function of a place that gives the place, and a realloc that gives this one.
+abbrev pub placing : Graph
+placing = graph_of [] [] [] of_many (lifts 0 (func_at 0 0) (record { memory = Some first_memory; realloc = Some (func_at 0 1); post_return = None }))
+
+abbrev pub placing_store : ℕ → Store
+placing_store place = record {
+  funcs = own (words 1 1) (Plain (LocalGet 0) End) ∷ own (words 4 1) (gives place) ∷ [];
+  tables = [];
+  memories = record { bytes = replicate 40 0; maximum = None } ∷ [];
+  globals = [];
+  instances = record { types = []; funcs = 0 ∷ 1 ∷ []; tables = []; memories = 0 ∷ []; globals = [] } ∷ [];
 }
 
 -- Two component instances whose core instances were made, each with a memory. In that of the child a pair stands at place 8, and
@@ -245,7 +300,8 @@ pair_store place = record {
       ∷ record { types = []; funcs = 0 ∷ 2 ∷ []; tables = []; memories = 1 ∷ []; globals = [] } ∷ [];
 }
 
--- a world in which so many component instances were made
+-- A world that no instantiation leads to, so small that it can be computed: so many component instances have begun, and this is the
+-- store.
 abbrev pub instantiated : ℕ → Store → World
 instantiated instances s = record {
   store = s;
@@ -257,13 +313,23 @@ instantiated instances s = record {
   taken = 0;
 }
 
--- Scripts: one call of `run`, with so many units.
+-- Scripts: one call of `run`, with so many units, or two without arguments.
+abbrev pub call_of : List Value → Item
+call_of values = item.Call (record { name = run_name; values = values })
+
 abbrev pub script_of : ℕ → List Value → Script
-script_of fuel values = record { fuel = fuel; items = item.Call (record { name = run_name; values = values }) ∷ [] }
+script_of fuel values = record { fuel = fuel; items = call_of values ∷ [] }
+
+abbrev pub twice : ℕ → Script
+twice fuel = record { fuel = fuel; items = call_of [] ∷ call_of [] ∷ [] }
 
 -- what such a script comes to on a graph
 abbrev pub RunOf : Graph → ℕ → List Value → List Label → RunEnd → ℕ → Type 0
 RunOf g fuel values labels end units = Shows g (script_of fuel values) (first_world g) labels end units 2 []
+
+-- what two calls come to
+abbrev pub RunTwice : Graph → ℕ → List Label → RunEnd → ℕ → Type 0
+RunTwice g fuel labels end units = Shows g (twice fuel) (first_world g) labels end units 2 []
 
 -- the text, whose bytes are these
 abbrev pub text : List ℕ
@@ -272,6 +338,10 @@ text = 0x68 ∷ 0xC3 ∷ 0xA9 ∷ 0x6C ∷ 0x6C ∷ 0x6F ∷ []
 abbrev pub Measures : Expr → ℕ → List Label → RunEnd → ℕ → List ℕ → Type 0
 Measures realloc fuel labels end units bytes =
     Shows measuring (script_of fuel (value.String text ∷ [])) (instantiated 1 (store_of realloc)) labels end units 1 (bytes ∷ [])
+
+abbrev pub Places : ℕ → List Label → RunEnd → ℕ → List ℕ → Type 0
+Places place labels end units bytes =
+    Shows placing (script_of 10 (map (λ n. value.U8 n) seventeen)) (instantiated 1 (placing_store place)) labels end units 1 (bytes ∷ [])
 
 abbrev pub Pairs : ℕ → List Label → RunEnd → ℕ → List ℕ → Type 0
 Pairs place labels end units bytes = Shows pairing (script_of 10 []) (instantiated 2 (pair_store place)) labels end units 2 (child_bytes ∷ bytes ∷ [])
@@ -286,9 +356,17 @@ begins args = line.Take 1 1 run_name args ∷ line.Enter 1 ∷ []
 abbrev pub returns : ℕ → Option TypedValue → List Label
 returns task result = line.Return task result ∷ line.Exit task ∷ []
 
--- task 1 calls a function of the second component instance, and the task that it makes enters
+-- A task calls a function of the second component instance, and the task that it makes, of this number, enters.
+abbrev pub calls_in : ℕ → ℕ → List ℕ → List Label
+calls_in task callee words = line.Do task builtin.Lower words ∷ line.Call task callee 2 ∷ line.Enter callee ∷ []
+
 abbrev pub calls_child : List ℕ → List Label
-calls_child words = line.Do 1 builtin.Lower words ∷ line.Call 1 2 2 ∷ line.Enter 2 ∷ []
+calls_child words = calls_in 1 2 words
+
+-- a call of the script, by this task, that calls the child, all without arguments and results
+abbrev pub called_through : ℕ → ℕ → ℕ → List Label
+called_through call task callee =
+    line.Take call task run_name [] ∷ line.Enter task ∷ [] ++ calls_in task callee [] ++ returns callee None ++ line.Got task [] ∷ returns task None
 
 abbrev pub doubled : List Label
 doubled =
@@ -297,6 +375,9 @@ doubled =
 
 abbrev pub begins_measuring : List Label
 begins_measuring = begins (record { value = value.String text; val_type = type.String } ∷ [])
+
+abbrev pub begins_placing : List Label
+begins_placing = begins (map (λ n. record { value = value.U8 n; val_type = type.U8 }) seventeen)
 
 -- task 1 asks for a pair, which task 2 returns
 abbrev pub pair_returned : ℕ → List Label

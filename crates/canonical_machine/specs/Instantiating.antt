@@ -1,6 +1,6 @@
 -- Instantiation (Component Model, Explainer.md, "Instance Definitions"; Core 2.0, section 4.5.4): task 0 goes through the graph's
 -- plan, in file order. A component instance begins, or a core instance is made: with its parts, its segments and its start function.
--- None of this has lines, and only the instructions of start functions cost fuel.
+-- Task 0 has no `enter` and no `exit`, and only the instructions of start functions cost fuel.
 use Rattle.std.specs.Prelude.{ℕ, ◌+◌, List, Option, Some, None}
 use Rattle.std.specs.List.{slice_get}
 use Rattle.core_machine.specs.Stack.{Stack}

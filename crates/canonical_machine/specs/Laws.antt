@@ -1,7 +1,10 @@
--- What holds of all runs (Component Model, Concurrency.md; CanonicalABI.md, `canon lift`): a graph and a script have at most one run; a
--- step of nested code leaves nearly all as it is; and what ends mean.
-use Rattle.std.specs.Prelude.{◌≡◌, ◌≤◌, ◌<◌, ◌⊎◌, ◌+◌, ℕ, List, [], ◌++◌, length, None}
+-- What holds of all runs (Component Model, Concurrency.md, "Nondeterminism"; CanonicalABI.md, "Storing": `realloc`; `canon lift`:
+-- `post_return`): a graph and a script have at most one run; a step of nested code leaves nearly all as it is, and what follows
+-- it; and what ends mean.
+use Rattle.std.specs.Prelude.{◌≡◌, ◌≤◌, ◌<◌, ◌⊎◌, ◌+◌, ℕ, List, [], ◌∷◌, ◌++◌, length, None}
 use Rattle.std.specs.List.{slice_get, AllByRecursion}
+use Rattle.core_machine.specs.Store.{Store}
+use Rattle.value_lower.specs.Plan.{Plan}
 use Rattle.comp_graph.specs.Graph.{Graph}
 use Rattle.script_reader.specs.Script.{Script}
 use Rattle.trace_show.specs.declared.builtin.Builtin.{Builtin}
@@ -10,10 +13,11 @@ use Rattle.trace_show.specs.declared.label.Label.TheVariants as line
 use Rattle.trace_show.specs.declared.trap.TrapName.{TrapName}
 use Rattle.canonical_machine.specs.declared.run_end.RunEnd.{RunEnd}
 use Rattle.canonical_machine.specs.declared.run_end.RunEnd.TheVariants.{Done, Trapped, Fuel}
-use Rattle.canonical_machine.specs.Control.{Free, Nested, Behind, Quiet, Doomed}
+use Rattle.canonical_machine.specs.Control.{Control, Free, Nested, Behind, InLowering, BeforeLeaving, Lowers, Quiet, Leaves, Doomed}
 use Rattle.canonical_machine.specs.World.{World}
 use Rattle.canonical_machine.specs.Reading.{unfinished}
 use Rattle.canonical_machine.specs.Turn.{Turn, Steps, Ends, Stuck}
+use Rattle.canonical_machine.specs.Nested.{EndsIn, hosted_next}
 use Rattle.canonical_machine.specs.Next.{next}
 use Rattle.canonical_machine.specs.Run.{Reaches, RunsFrom, Runs}
 
@@ -50,15 +54,26 @@ pub record IsQuiet (w v : World) : Type 0 where
   pub chain : v.chain ≡ w.chain
   pub taken : v.taken ≡ w.taken
 
+-- The control behind a step of nested code: the same code further on, with the same behind it; of a realloc that gave a place, its
+-- lowering with the plan behind this place; of a post-return that ended, the exit of the acting task; or a trap of the task that it
+-- names.
+abbrev pub FollowsNested : Nested → Behind → Store → Control → Type 0
+FollowsNested n b s (Quiet m c) = (m ≡ record n { state = m.state }) × (c ≡ b)
+FollowsNested n b s (Lowers l plan) =
+    (k : ℕ → Plan) × (place : ℕ) × (words : List ℕ) × (b ≡ InLowering l k) × (hosted_next n.state s ≡ EndsIn (place ∷ words)) × (plan ≡ k place)
+FollowsNested n b s Leaves = (words : List ℕ) × (b ≡ BeforeLeaving) × (hosted_next n.state s ≡ EndsIn words)
+FollowsNested n b s (Doomed t why) = t ≡ n.blame
+FollowsNested n b s control = ⊥
+
 -- A step of nested code changes the control, the store and the units, and no more. Its lines are calls of the task that it acts
 -- for. It ends a run for want of fuel alone.
-abbrev pub IsQuietTurn : ℕ → World → Turn → Type 0
-IsQuietTurn t w (Steps labels v) = IsQuiet w v × AllByRecursion (IsCallOf t) labels
-IsQuietTurn t w (Ends end) = end ≡ Fuel
-IsQuietTurn t w Stuck = Unit {0}
+abbrev pub IsQuietTurn : Nested → Behind → World → Turn → Type 0
+IsQuietTurn n b w (Steps labels v) = IsQuiet w v × AllByRecursion (IsCallOf n.acts_for) labels × FollowsNested n b w.store v.control
+IsQuietTurn n b w (Ends end) = end ≡ Fuel
+IsQuietTurn n b w Stuck = Unit {0}
 
 abbrev pub NestedIsQuiet : Type 0
-NestedIsQuiet = (g : Graph) (s : Script) (w : World) (n : Nested) (b : Behind) → w.control ≡ Quiet n b → IsQuietTurn n.acts_for w (next g s w)
+NestedIsQuiet = (g : Graph) (s : Script) (w : World) (n : Nested) (b : Behind) → w.control ≡ Quiet n b → IsQuietTurn n b w (next g s w)
 
 -- What ends mean.
 
@@ -70,7 +85,7 @@ DoomedEnds = (g : Graph) (s : Script) (w : World) (t : ℕ) (why : TrapName) →
 abbrev pub TrapIsMet : Type 0
 TrapIsMet = (g : Graph) (s : Script) (w : World) (t : ℕ) (why : TrapName) → next g s w ≡ Ends (Trapped t why) → w.control ≡ Doomed t why
 
--- A run is done where no task runs, no item is left, and each task but task 0 has exited.
+-- A run is done only where no task runs, no item is left, and each task but task 0 has exited.
 abbrev pub DoneIsAll : Type 0
 DoneIsAll =
     (g : Graph) (s : Script) (w : World) → next g s w ≡ Ends Done → (w.control ≡ Free) × (slice_get s.items w.taken ≡ None) × (unfinished w ≡ [])

@@ -10,6 +10,7 @@ pub mod Returning
 pub mod CoreSteps
 pub mod Entering
 pub mod Calling
+pub mod Pausing
 pub mod Lowering
 pub mod Nested
 pub mod Reply

@@ -1,36 +1,17 @@
 -- How a lowering goes on (Component Model, CanonicalABI.md, "Storing" and "Flat Lowering"): its plan is followed up to the next
 -- realloc, which runs on a stack of its own, or to its end. Up to there all is one step, which costs nothing and has no line.
-use Rattle.std.specs.Prelude.{ℕ, List, [], ◌∷◌, length}
+use Rattle.std.specs.Prelude.{ℕ, List}
 use Rattle.core_machine.specs.Store.{Function, found_at}
 use Rattle.core_machine.specs.Step.{start}
-use Rattle.value_lower.specs.declared.ends.LowerWhy.{LowerWhy}
-use Rattle.value_lower.specs.Plan.{Ask, Plan, Gives, Fails, Asks, Size, Put}
-use Rattle.value_lower.specs.Following.{written}
+use Rattle.value_lower.specs.Plan.{Ask, Plan}
 use Rattle.canonical_machine.specs.Traps.{lower_name}
 use Rattle.canonical_machine.specs.Control.{Then, Starts, Resolves, Lowering, Going, Nested, InLowering, Runs, Quiet}
 use Rattle.canonical_machine.specs.World.{World}
 use Rattle.canonical_machine.specs.Edits.{with_memory, stacked, result_kept}
-use Rattle.canonical_machine.specs.Reading.{func_address, bytes_of, acting, func_of}
-use Rattle.canonical_machine.specs.Turn.{Turn, silent, doomed, given}
+use Rattle.canonical_machine.specs.Reading.{func_address, bytes_of}
+use Rattle.canonical_machine.specs.Pausing.{Paused, Words, Failed, Asked, settle, ask_words}
+use Rattle.canonical_machine.specs.Turn.{Turn, silent, doomed, given, with_func}
 use Rattle.canonical_machine.specs.Returning.{finished}
-
--- where a plan pauses: at its core values, at the reason why it fails, or at a realloc, with how it goes on behind its answer
-pub data Paused : Type 0 where
-  Words : List ℕ → Paused
-  Failed : LowerWhy → Paused
-  Asked : Ask → (ℕ → Plan) → Paused
-
--- Over a memory of these bytes: where the plan pauses, and the bytes then.
-abbrev pub settle : Plan → List ℕ → Paused × List ℕ
-settle (Gives words) bytes = (Words words, bytes)
-settle (Fails why) bytes = (Failed why, bytes)
-settle (Asks ask k) bytes = (Asked ask k, bytes)
-settle (Size k) bytes = settle (k (length bytes)) bytes
-settle (Put place more k) bytes = settle k (written place more bytes)
-
--- the words that a realloc is called with
-abbrev pub ask_words : Ask → List ℕ
-ask_words ask = ask.old ∷ ask.old_size ∷ ask.align ∷ ask.size ∷ []
 
 -- the realloc of a lowering, which is called
 abbrev pub nested_of : Lowering → Ask → ℕ × Function → Nested
@@ -39,8 +20,8 @@ nested_of l ask f = record { state = Going (start f.1 f.0 (ask_words ask)); inst
 -- The core function of the acting task starts with these words.
 unfoldable pub started : List ℕ → World → Turn
 started words w =
-    given (acting w) (λ a. given (func_of a.1.callee) (λ f. given (found_at w.store.funcs (func_address w.store f.core)) (λ function.
-    silent Runs (stacked a.0 (start function.1 function.0 words) w))))
+    with_func w (λ t task f. given (found_at w.store.funcs (func_address w.store f.core)) (λ function.
+    silent Runs (stacked t (start function.1 function.0 words) w)))
 
 -- by what follows a lowering that gives these words
 unfoldable pub lowered : Then → List ℕ → World → Turn

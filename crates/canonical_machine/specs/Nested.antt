@@ -1,23 +1,23 @@
 -- Nested code (Component Model, CanonicalABI.md, "Storing": `realloc`; `canon lift`: `post_return`): a realloc or a post-return runs on
--- a stack of its own. Each of its instructions costs a unit. The instance whose code it is may not be left, so that a call of a
--- function that the Canonical ABI makes is written and then is a trap.
-use Rattle.std.specs.Prelude.{ℕ, Bool, true, List, [], ◌∷◌}
+-- a stack of its own. Each of its instructions costs a unit. The instance whose code it is may not be left while it runs, so that a
+-- call of a function that this instance made is written and then is a trap.
+use Rattle.std.specs.Prelude.{ℕ, nat_eq, Bool, true, if◌then◌else◌, List, [], ◌∷◌}
 use Rattle.std.specs.List.{slice_get}
 use Rattle.core_machine.specs.declared.trap.Trap.{Trap}
 use Rattle.core_machine.specs.Store.{Store}
 use Rattle.core_machine.specs.Stack.{Stack}
 use Rattle.core_machine.specs.Step.{Move, Goes, Traps, next}
 use Rattle.core_machine.specs.Step as core
+use Rattle.comp_graph.specs.declared.graph.CanonFunc.{CanonFunc}
 use Rattle.comp_graph.specs.Graph.{Graph}
 use Rattle.script_reader.specs.Script.{Script}
 use Rattle.trace_show.specs.declared.label.Label.TheVariants as line
-use Rattle.trace_show.specs.declared.trap.TrapName.{TrapName}
 use Rattle.trace_show.specs.declared.trap.TrapName.TheVariants as trap
 use Rattle.canonical_machine.specs.Traps.{core_name}
 use Rattle.canonical_machine.specs.Control.{HostedState, Going, AtCall, Nested, Behind, InLowering, BeforeLeaving, Lowers, Quiet, Leaves}
 use Rattle.canonical_machine.specs.World.{World}
 use Rattle.canonical_machine.specs.Edits.{with_store}
-use Rattle.canonical_machine.specs.Reading.{builtin_of}
+use Rattle.canonical_machine.specs.Reading.{builtin_of, inst_of_canon}
 use Rattle.canonical_machine.specs.Turn.{Turn, Stuck, silent, doomed, behind, given, charged}
 use Rattle.canonical_machine.specs.CoreSteps.{costs}
 
@@ -28,8 +28,8 @@ pub data HostedTurn : Type 0 where
   EndsIn : List ℕ → HostedTurn
   -- An instruction traps.
   TrapsBy : Trap → HostedTurn
-  -- Its call of the function of the host with this number, with these words, is refused.
-  Refused : ℕ → List ℕ → TrapName → HostedTurn
+  -- It calls the function of the host with this number, with these words.
+  CallsHost : ℕ → List ℕ → HostedTurn
   NoRule : HostedTurn
 
 abbrev pub hosted_move : Stack → Store → Move → HostedTurn
@@ -41,7 +41,7 @@ hosted_move k s core.Stuck = NoRule
 
 abbrev pub hosted_next : HostedState → Store → HostedTurn
 hosted_next (Going k) s = hosted_move k s (next s k)
-hosted_next (AtCall number words k) s = Refused number words trap.CannotLeave
+hosted_next (AtCall number words k) s = CallsHost number words
 
 -- what follows nested code that ended with these words: a realloc gives one word, the place
 unfoldable pub nested_ended : Behind → List ℕ → World → Turn
@@ -49,12 +49,16 @@ nested_ended (InLowering l k) (place ∷ words) w = silent (Lowers l (k place)) 
 nested_ended (InLowering l k) [] w = Stuck
 nested_ended BeforeLeaving words w = silent Leaves w
 
+-- Core code calls only what its own component instance made, so that there is no rule for a function of another one.
+unfoldable pub refused : Nested → List ℕ → CanonFunc → World → Turn
+refused n words canon w =
+    if nat_eq (inst_of_canon canon) n.inst then behind (line.Do n.acts_for (builtin_of canon) words ∷ []) (doomed n.blame trap.CannotLeave w) else Stuck
+
 unfoldable pub hosted : Graph → Script → Nested → Behind → HostedTurn → World → Turn
 hosted g s n b (On paid state store) w = charged paid s w (λ v. silent (Quiet (record n { state = state }) b) (with_store store v))
 hosted g s n b (EndsIn words) w = nested_ended b words w
 hosted g s n b (TrapsBy why) w = charged true s w (λ v. doomed n.blame (core_name why) v)
-hosted g s n b (Refused number words why) w =
-    given (slice_get g.canons number) (λ canon. behind (line.Do n.acts_for (builtin_of canon) words ∷ []) (doomed n.blame why w))
+hosted g s n b (CallsHost number words) w = given (slice_get g.canons number) (λ canon. refused n words canon w)
 hosted g s n b NoRule w = Stuck
 
 unfoldable pub nested_turn : Graph → Script → Nested → Behind → World → Turn

@@ -1,5 +1,5 @@
--- The machine (Component Model, CanonicalABI.md and Concurrency.md): what comes next in a world, by its control. A row reads no
--- control but the one that it is of.
+-- The machine (Component Model, CanonicalABI.md, `canon lift` and `canon lower`; Concurrency.md, "Summary"): what comes next in a world,
+-- by its control. No case reads the world's control.
 use Rattle.comp_graph.specs.Graph.{Graph}
 use Rattle.script_reader.specs.Script.{Script}
 use Rattle.canonical_machine.specs.declared.run_end.RunEnd.TheVariants.{Trapped}

@@ -1,6 +1,6 @@
 -- What is read of graphs and worlds (Component Model, CanonicalABI.md, "Canonical ABI Options", "Task State" and "Subtask State";
 -- Core 2.0, section 4.2): addresses of core definitions, options, tasks, and what is computed of them.
-use Rattle.std.specs.Prelude.{ℕ, zero, suc, ◌+◌, Bool, true, false, ◌&&◌, ◌||◌, nat_eq, not, if◌then◌else◌, List, [], ◌∷◌, length, drop, Option, Some, None}
+use Rattle.std.specs.Prelude.{ℕ, zero, suc, ◌+◌, Bool, true, false, ◌||◌, nat_eq, if◌then◌else◌, List, [], ◌∷◌, length, drop, Option, Some, None}
 use Rattle.std.specs.List.{slice_get}
 use Rattle.std.specs.Option.{option_and_then, option_map}
 use Rattle.core_machine.specs.Store.{Store, Instance, found_at}
@@ -15,10 +15,9 @@ use Rattle.comp_graph.specs.declared.graph.Options.{Options}
 use Rattle.comp_graph.specs.declared.graph.Lower.{Lower}
 use Rattle.comp_graph.specs.declared.graph.CanonFunc.{CanonFunc}
 use Rattle.comp_graph.specs.declared.graph.CanonFunc.TheVariants as canon_func
-use Rattle.comp_graph.specs.Graph.{Lifted}
+use Rattle.comp_graph.specs.Graph.{Graph, Lifted}
 use Rattle.trace_show.specs.declared.builtin.Builtin.{Builtin}
 use Rattle.trace_show.specs.declared.builtin.Builtin.TheVariants as builtin
-use Rattle.canonical_machine.specs.Control.{Control, Lowers, Quiet}
 use Rattle.canonical_machine.specs.World.{Callee, Init, Func, Subtask, Caller, Nobody, Host, Guest, Resolution, Unresolved, Returned, TaskState, New, Exited, Task, World}
 
 -- Addresses. The core instance of number k has address k, and so has the core function that the Canonical ABI makes as that of
@@ -64,8 +63,12 @@ builtin_of (canon_func.Lower l) = builtin.Lower
 abbrev pub inst_of_canon : CanonFunc → ℕ
 inst_of_canon (canon_func.Lower l) = l.instance
 
-abbrev pub lower_of : CanonFunc → Lower
-lower_of (canon_func.Lower l) = l
+-- the call of a function that is lowered, where it is one; and that of this number
+abbrev pub lower_of : CanonFunc → Option Lower
+lower_of (canon_func.Lower l) = Some l
+
+abbrev pub lower_at : Graph → ℕ → Option Lower
+lower_at g number = option_and_then lower_of (slice_get g.canons number)
 
 abbrev pub lifted_of : Lower → Lifted
 lifted_of l = record { instance = l.lift.instance; core = l.lift.core; options = l.lift.options; func_type = l.func_type }
@@ -105,8 +108,8 @@ abbrev pub is_in : ℕ → Option Lifted → Bool
 is_in inst None = false
 is_in inst (Some f) = nat_eq f.instance inst
 
--- Whether a task, its caller, its caller's caller or so on, so many of them, runs a function of a component instance. Whether they
--- still run does not matter.
+-- Whether this component instance is that of the task, of its caller, of its caller's caller or so on, so many of them, whether or not
+-- they still run.
 abbrev pub is_among : (ℕ → Bool) → Option Subtask → Bool
 is_among test None = false
 is_among test (Some subtask) = test subtask.by
@@ -138,16 +141,11 @@ unfinished_from number (task ∷ tasks) = kept_unless (has_exited task.state) nu
 abbrev pub unfinished : World → List ℕ
 unfinished w = unfinished_from 1 (drop 1 w.tasks)
 
--- May-leave. While all is instantiated, while values are lowered into a component instance, and while a post-return of it runs, it
--- may call no function that the Canonical ABI makes.
-abbrev pub is_held : ℕ → Control → Bool
-is_held inst (Lowers l plan) = nat_eq l.inst inst
-is_held inst (Quiet n b) = nat_eq n.inst inst
-is_held inst _ = false
-
+-- May-leave: once all is instantiated, a task may call the functions that the Canonical ABI makes. `Nested` has the rule for a realloc
+-- and a post-return.
 abbrev pub is_instantiated : List Task → Bool
 is_instantiated [] = false
 is_instantiated (init ∷ tasks) = has_exited init.state
 
-abbrev pub may_leave : World → ℕ → Bool
-may_leave w inst = is_instantiated w.tasks && not (is_held inst w.control)
+abbrev pub may_leave : World → Bool
+may_leave w = is_instantiated w.tasks

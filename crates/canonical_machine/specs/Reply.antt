@@ -1,5 +1,5 @@
 -- Calls of the core functions that the Canonical ABI makes (Component Model, CanonicalABI.md, `canon lower`; "Component Instance State":
--- `may_leave`): the line comes first, and then none may be called where the instance may not be left.
+-- `may_leave`): the line comes first, and then none may be called before all is instantiated.
 use Rattle.std.specs.Prelude.{ℕ, if◌then◌else◌, List, [], ◌∷◌}
 use Rattle.std.specs.List.{slice_get}
 use Rattle.comp_graph.specs.declared.graph.CanonFunc.{CanonFunc}
@@ -8,7 +8,7 @@ use Rattle.comp_graph.specs.Graph.{Graph}
 use Rattle.trace_show.specs.declared.label.Label.TheVariants as line
 use Rattle.trace_show.specs.declared.trap.TrapName.TheVariants as trap
 use Rattle.canonical_machine.specs.World.{World}
-use Rattle.canonical_machine.specs.Reading.{builtin_of, inst_of_canon, lifted_of, acting, may_leave}
+use Rattle.canonical_machine.specs.Reading.{builtin_of, lifted_of, acting, may_leave}
 use Rattle.canonical_machine.specs.Turn.{Turn, doomed, behind, given}
 use Rattle.canonical_machine.specs.Calling.{call_begun}
 
@@ -17,7 +17,7 @@ unfoldable pub reply : ℕ → ℕ → CanonFunc → List ℕ → World → Turn
 reply t number (canon_func.Lower l) words w = call_begun t number (lifted_of l) words w
 
 unfoldable pub allowed : ℕ → ℕ → CanonFunc → List ℕ → World → Turn
-allowed t number canon words w = if may_leave w (inst_of_canon canon) then reply t number canon words w else doomed t trap.CannotLeave w
+allowed t number canon words w = if may_leave w then reply t number canon words w else doomed t trap.CannotLeave w
 
 unfoldable pub calling_turn : Graph → ℕ → List ℕ → World → Turn
 calling_turn g number words w =

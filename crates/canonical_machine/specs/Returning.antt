@@ -2,7 +2,6 @@
 -- lifted, the task resolves, which lowers the result into its caller at once, the post-return runs, and the task exits. No handle
 -- is passed, so no borrow handle can be live.
 use Rattle.std.specs.Prelude.{ℕ, List, [], ◌∷◌, Option, Some, None, Result, Ok, Err}
-use Rattle.std.specs.List.{slice_get}
 use Rattle.core_machine.specs.Store.{Function, found_at}
 use Rattle.core_machine.specs.Step.{start}
 use Rattle.ca_types.specs.declared.types.ValType.{ValType}
@@ -19,8 +18,8 @@ use Rattle.canonical_machine.specs.Traps.{lift_name}
 use Rattle.canonical_machine.specs.Control.{Control, Free, Resolves, Lowering, Going, Nested, BeforeLeaving, Lowers, Quiet, Back, Leaves}
 use Rattle.canonical_machine.specs.World.{Subtask, Caller, Guest, Returned, Exited, Task, World}
 use Rattle.canonical_machine.specs.Edits.{with_control, unchained, in_state, resolved}
-use Rattle.canonical_machine.specs.Reading.{func_address, memory_of, realloc_of, bytes_of, lower_of, acting, func_of}
-use Rattle.canonical_machine.specs.Turn.{Turn, Steps, silent, doomed, behind, given}
+use Rattle.canonical_machine.specs.Reading.{func_address, memory_of, realloc_of, bytes_of, lower_at, acting}
+use Rattle.canonical_machine.specs.Turn.{Turn, Steps, silent, doomed, behind, given, with_func}
 
 -- a result with its type
 abbrev pub typed_result : ValType → Result Value LiftTrap → Result (Option TypedValue) LiftTrap
@@ -55,13 +54,13 @@ post_return t f ended (Some ref) w =
 
 -- The acting task has resolved, and what it resolved to has reached its caller.
 unfoldable pub finished : List ℕ → World → Turn
-finished ended w = given (acting w) (λ a. given (func_of a.1.callee) (λ f. post_return a.0 f ended f.options.post_return w))
+finished ended w = with_func w (λ t task f. post_return t f ended f.options.post_return w)
 
 -- A result goes into the caller, where a task called. The script takes it by its line.
 unfoldable pub passed_on : Graph → ℕ → Caller → List ℕ → Option TypedValue → World → Turn
 passed_on g t (Guest subtask) ended (Some result) w =
-    given (slice_get g.canons subtask.canon) (λ canon.
-    silent (Lowers (result_lowering w t subtask (lower_of canon) ended) (result_plan (lower_of canon).func_type result.val_type result.value subtask.words)) w)
+    given (lower_at g subtask.canon) (λ l.
+    silent (Lowers (result_lowering w t subtask l ended) (result_plan l.func_type result.val_type result.value subtask.words)) w)
 passed_on g t caller ended result w = finished ended w
 
 -- A task resolves by its line, before its result is lowered.

@@ -1,4 +1,4 @@
--- Runs (Component Model, Concurrency.md): the steps of the machine from a world on, with their lines, up to an end.
+-- Runs (Component Model, Concurrency.md, "Summary"): the steps of the machine from a world on, with their lines, up to an end.
 use Rattle.std.specs.Prelude.{◌≡◌, List, [], ◌∷◌, ◌++◌}
 use Rattle.std.specs.List.{flat_map}
 use Rattle.comp_graph.specs.Graph.{Graph}

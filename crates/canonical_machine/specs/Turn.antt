@@ -1,13 +1,15 @@
--- What comes next in a run (Component Model, Concurrency.md): a step with its lines, or the end.
+-- What comes next in a run (Component Model, Concurrency.md, "Summary"): a step with its lines, or the end.
 use Rattle.std.specs.Prelude.{ℕ, nat_lt, Bool, true, false, if◌then◌else◌, List, [], ◌++◌, Option, Some, None}
+use Rattle.comp_graph.specs.Graph.{Lifted}
 use Rattle.script_reader.specs.Script.{Script}
 use Rattle.trace_show.specs.declared.label.Label.{Label}
 use Rattle.trace_show.specs.declared.trap.TrapName.{TrapName}
 use Rattle.canonical_machine.specs.declared.run_end.RunEnd.{RunEnd}
 use Rattle.canonical_machine.specs.declared.run_end.RunEnd.TheVariants.{Fuel}
 use Rattle.canonical_machine.specs.Control.{Control, Doomed}
-use Rattle.canonical_machine.specs.World.{World}
+use Rattle.canonical_machine.specs.World.{Task, World}
 use Rattle.canonical_machine.specs.Edits.{with_control, unit_spent}
+use Rattle.canonical_machine.specs.Reading.{acting, func_of}
 
 pub data Turn : Type 0 where
   Steps : List Label → World → Turn
@@ -29,10 +31,14 @@ behind lines (Steps more w) = Steps (lines ++ more) w
 behind lines (Ends end) = Ends end
 behind lines Stuck = Stuck
 
--- what comes of something that is looked up. Where nothing is there no rule applies
+-- What comes of something that is looked up. Where nothing is there no rule applies.
 abbrev pub given : {A : Type 0} → Option A → (A → Turn) → Turn
 given None f = Stuck
 given (Some x) f = f x
+
+-- what comes of the acting task, by its number, and of the function that it runs
+abbrev pub with_func : World → (ℕ → Task → Lifted → Turn) → Turn
+with_func w more = given (acting w) (λ a. given (func_of a.1.callee) (λ f. more a.0 a.1 f))
 
 -- A step that costs a unit of fuel comes where one is left, and spends it; else the run ends. This holds also where the step would
 -- come to a trap.

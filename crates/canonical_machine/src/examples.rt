@@ -6,7 +6,7 @@ ghost use Rattle.trace_show.specs.declared.builtin.Builtin.TheVariants as builti
 ghost use Rattle.trace_show.specs.declared.label.Label.TheVariants as line;
 ghost use Rattle.trace_show.specs.declared.trap.TrapName.TheVariants as trap;
 ghost use Rattle.canonical_machine.specs.declared.run_end.RunEnd.TheVariants.{Done, Trapped, Fuel};
-ghost use Rattle.canonical_machine.specs.Examples.{RunOf, Measures, Pairs, doubling, calling_behind, asking_for_char, calling_at_start, coming_back, gives, calls_with_ask, text, u32, begins, calls_child, doubled, begins_measuring, pair_bytes, pair_returned};
+ghost use Rattle.canonical_machine.specs.Examples.{RunOf, RunTwice, Measures, Places, Pairs, seventeen, doubling, calling_behind, dropping_behind, asking_for_char, passing_no_char, calling, calling_at_start, calling_itself, trapping, coming_back, gives, calls_with_ask, text, u32, begins, returns, calls_child, called_through, doubled, begins_measuring, begins_placing, pair_bytes, pair_returned};
 
 /// A call of a child's function by the root, with its argument twice: seven units, one for the item and three for each core
 /// function. With six the last instruction of the child's does not come.
@@ -15,12 +15,27 @@ pub fn calls()
     ensures wants { RunOf doubling 6 (value.U32 4 ∷ []) (begins (u32 4 ∷ []) ++ calls_child (4 ∷ 4 ∷ [])) Fuel 6 }
 {}
 
-/// Traps of calls: a call that comes back to an instance among its callers, which names the task that calls; a result that is no
-/// character, which names the task that returns it; and a call in a start function, which names task 0.
+/// Two calls of a script, one behind the other, each of which calls the child: the tasks are numbered as they are made, so that the
+/// second call is task 3.
+pub fn two_calls()
+    ensures { RunTwice calling 4 (called_through 1 1 2 ++ called_through 2 3 4) Done 4 }
+{}
+
+/// Traps of calls: a call that comes back to an instance among its callers, or to the caller's own, which names the task that calls; a
+/// result that is no character, which names the task that returns it; an argument that is none, which names the task that has entered;
+/// and a call in a start function, which names task 0.
 pub fn call_traps()
     ensures reentrant { RunOf coming_back 10 [] (begins [] ++ calls_child [] ++ line.Do 2 builtin.Lower [] ∷ []) (Trapped 2 trap.Reentrant) 3 }
+    ensures itself { RunOf calling_itself 10 [] (begins [] ++ line.Do 1 builtin.Lower [] ∷ []) (Trapped 1 trap.Reentrant) 2 }
     ensures no_char { RunOf asking_for_char 10 [] (begins [] ++ calls_child []) (Trapped 2 trap.BadChar) 3 }
+    ensures argument { RunOf passing_no_char 10 [] (begins [] ++ calls_child (0xD800 ∷ [])) (Trapped 2 trap.BadChar) 3 }
     ensures at_start { RunOf calling_at_start 10 [] (line.Do 0 builtin.Lower [] ∷ []) (Trapped 0 trap.CannotLeave) 1 }
+{}
+
+/// An instruction that traps costs its unit, without which the run ends for want of fuel.
+pub fn instruction_traps()
+    ensures traps { RunOf trapping 2 [] (begins []) (Trapped 1 trap.Unreachable) 2 }
+    ensures wants { RunOf trapping 1 [] (begins []) Fuel 1 }
 {}
 
 /// A text as an argument: its bytes stand where the realloc says. The realloc's instruction costs a unit, for want of which the run
@@ -29,6 +44,19 @@ pub fn places()
     ensures measured { Measures (gives 32) 10 (begins_measuring ++ line.Return 1 (Some (u32 6)) ∷ line.Exit 1 ∷ []) Done 3 (replicate 32 0 ++ text ++ 0 ∷ 0 ∷ []) }
     ensures wants { Measures (gives 32) 1 begins_measuring Fuel 1 (replicate 40 0) }
     ensures too_far { Measures (gives 35) 10 begins_measuring (Trapped 1 trap.Bounds) 2 (replicate 40 0) }
+{}
+
+/// A post-return runs behind the line of the return. Each of its two instructions costs a unit, without which the task does not exit.
+pub fn post_returns()
+    ensures exits { RunOf dropping_behind 4 [] (begins [] ++ returns 1 (Some (u32 5))) Done 4 }
+    ensures wants { RunOf dropping_behind 3 [] (begins [] ++ line.Return 1 (Some (u32 5)) ∷ []) Fuel 3 }
+{}
+
+/// Seventeen parameters, in place of which the core function gets one place, which the realloc gives: they stand there one behind the
+/// other, up to the end of the memory, and a byte further is a trap.
+pub fn parameters_in_memory()
+    ensures stand { Places 23 (begins_placing ++ returns 1 (Some (u32 23))) Done 3 (replicate 23 0 ++ seventeen) }
+    ensures too_far { Places 24 begins_placing (Trapped 1 trap.Bounds) 2 (replicate 40 0) }
 {}
 
 /// A realloc may call no function that is lowered, and neither may a post-return, whose task has returned by then.

@@ -10,7 +10,8 @@ pub fn one_run()
 {}
 
 /// A step of nested code, of a realloc or of a post-return, changes the control, the store and the units alone, and its lines are
-/// calls of the task that it acts for.
+/// calls of the task that it acts for. Behind it the same code goes on; or the lowering does, with the place that the realloc gave; or
+/// the task exits, behind its post-return; or the task that the code names has come to a trap.
 pub fn nested_is_quiet()
     ensures { NestedIsQuiet }
 {}
@@ -21,7 +22,7 @@ pub fn traps_are_met()
     ensures met { TrapIsMet }
 {}
 
-/// A run is done where nothing is left, and fuel ends it only where no unit is left.
+/// A run is done only where nothing is left, and fuel ends it only where no unit is left.
 pub fn ends_mean()
     ensures done { DoneIsAll }
     ensures fuel { FuelIsSpent }

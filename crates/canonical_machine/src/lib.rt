@@ -2,13 +2,13 @@
 //! and `canon lower`; Concurrency.md): definitions and laws, without a body.
 //!
 //! Values of every type are passed but handles and the ends of streams and futures. `specs/World` says what a world is, and
-//! `specs/Control` what it may do next; `specs/Next` gives the one next step or the end, by cases on that, each case in a file of its
-//! own; `specs/Edits` has every change that a step makes of a world, and `specs/Reading` what it looks up. `specs/Run` says what a
-//! run is, with its lines and its end, and `specs/Dump` what it leaves. Values are lifted and lowered as `value_lift` and
-//! `value_lower` say; a lowering is followed step by step, so that each instruction of a realloc is a step of the run.
+//! `specs/Control` what it may do next; `specs/Next` gives the one next step or the end, by cases on that; `specs/Edits` has every
+//! change that a step makes of a world, and `specs/Reading` what it looks up. `specs/Run` says what a run is, with its lines and its
+//! end, and `specs/Dump` what it leaves. Values are lifted and lowered as `value_lift` and `value_lower` say; a lowering is followed
+//! step by step, so that each instruction of a realloc is a step of the run.
 //!
-//! The laws say that a graph and a script have at most one run, what a step of a realloc or a post-return leaves alone, and what ends
-//! mean. That a run never comes to `Stuck`, so that each has an end, is not proved.
+//! The laws say that a graph and a script have at most one run, what a step of a realloc or a post-return leaves alone and what comes
+//! behind it, and what ends mean. That each run comes to an end, and never to `Stuck`, is not proved.
 //!
 //! - `run_end`: how a run ends
 //! - `laws`: what holds of all runs

@@ -1,0 +1,5 @@
+use Rattle.canonical_machine.proofs.MoreSamples.{traps, traps_wants}
+use Rattle.canonical_machine.proofs.examples.instruction_traps.Goals as goal
+
+pub returns : goal.returns
+returns c = record { traps = traps; wants = traps_wants }
