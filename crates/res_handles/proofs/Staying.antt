@@ -18,7 +18,7 @@ use Rattle.res_handles.specs.Refusals.{unlent, owned, owned_by, that_is, handle_
 use Rattle.res_handles.specs.Calls.{own_handle, borrow_handle, with_lends, relent_by, view_at}
 use Rattle.res_handles.specs.Runs.{Call, LowersOwn, LowersBorrow, LiftsOwn, LiftsBorrow, Drops, EndsLend, AddsOther, RemovesOther, WritesOther, IsOther, Passes, after, slots_after, IsRun}
 use Rattle.res_handles.specs.Laws.{IsHandle, IsOfResource}
-use Rattle.res_handles.proofs.Found.{IsFound, handle_found}
+use Rattle.res_handles.proofs.Found.{IsFound, handle_found, passed}
 use Rattle.res_handles.proofs.Sound.{lent_found, relent_is, run_sound, written_here, added_at}
 
 -- what was lowered
@@ -117,10 +117,6 @@ equal n m e = elim (cases_eq n m) [
 tested : (x : Handle) (resource : ℕ) (test : Handle → Result Handle Refusal) → IsOk (that_is test (if nat_eq x.resource resource then Ok x else Err OtherType)) → x.resource ≡ resource
 tested x resource test h = equal x.resource resource (was_true (nat_eq x.resource resource) x test h)
 
-was_passed : (b : Bool) (x : Handle) (test : Handle → Result Handle Refusal) → IsOk (that_is test (if b then Ok x else Err OtherType)) → IsOk (test x)
-was_passed true x test h = h
-was_passed false x test h = cc
-
 is_own : (o : Ownership) (x : Handle) → IsOk (owned_by o x) → o ≡ Own
 is_own Own x h = refl
 is_own (Borrow t) x h = cc
@@ -136,7 +132,7 @@ own_of None resource h = cc
 own_of (Some seen.Other) resource h = cc
 own_of (Some (seen.ReadableEnd _)) resource h = cc
 own_of (Some (seen.Handle x)) resource h =
-    (x.rep, (tested x resource owned h, refl, is_own x.ownership x (was_passed (nat_eq x.resource resource) x owned h)))
+    (x.rep, (tested x resource owned h, refl, is_own x.ownership x (passed (nat_eq x.resource resource) x OtherType owned h)))
 
 dropped_of : (entry : Option EntryView) (resource : ℕ) → IsOk (dropped_in entry resource) → IsOfResource resource entry
 dropped_of None resource h = cc

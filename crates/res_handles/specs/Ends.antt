@@ -16,22 +16,21 @@ abbrev pub idle_end : ℕ → ReadableEnd
 idle_end number = record { number = number; is_idle = true }
 
 -- the number of an end, if it is idle,
-abbrev pub if_idle : ReadableEnd → Result ℕ Refusal
-if_idle x = if x.is_idle then Ok x.number else Err NotIdle
+abbrev pub idle_number : ReadableEnd → Result ℕ Refusal
+idle_number x = if x.is_idle then Ok x.number else Err NotIdle
 
 -- and where it is known whether it is of the type that is wanted
 abbrev pub end_of : Bool → ReadableEnd → Result ℕ Refusal
 end_of false x = Err OtherType
-end_of true x = if_idle x
+end_of true x = idle_number x
 
--- What is answered where an end of a type is wanted, of an entry and the type that it has as an end: of an end of this type its
--- number, if it is idle, and no end of another type.
+-- What is answered where an end of a type is wanted, by what the entry is and the type that it has as an end.
 abbrev pub EndAnswer : {T : Type 0} → Option EntryView → Option T → T → Result ℕ Refusal → Type 0
 EndAnswer None end_type wanted answer = answer ≡ Err Absent
 EndAnswer (Some seen.Other) end_type wanted answer = answer ≡ Err OtherKind
 EndAnswer (Some (seen.Handle _)) end_type wanted answer = answer ≡ Err OtherKind
 EndAnswer (Some (seen.ReadableEnd x)) end_type wanted answer =
-    ((end_type ≡ Some wanted) × (answer ≡ if_idle x)) ⊎ ((end_type ≢ Some wanted) × (answer ≡ Err OtherType))
+    ((end_type ≡ Some wanted) × (answer ≡ idle_number x)) ⊎ ((end_type ≢ Some wanted) × (answer ≡ Err OtherType))
 
 module _ {E T : Type 0} where
   -- the type of the end at an index

@@ -43,7 +43,8 @@ pub fn lift_end<E: Entry + Drop>(
 ///
 /// # Errors
 ///
-/// `TableFull` exactly where 65,535 entries are live, and `Memory` for want of memory. The table has the entries that it had.
+/// `TableFull` exactly where 65,535 entries are live, and `Memory` for want of memory, or where no more owners of the type can be
+/// counted. The table has the entries that it had.
 pub fn lower_end<E: Entry + Drop>(
     table: &mut Table<E>,
     end_type: &E::EndType,

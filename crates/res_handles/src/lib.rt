@@ -6,7 +6,7 @@
 //! lower an end, each with its tests in their order. What was done is not kept: a clause `stands` says for every history of the
 //! table what a call adds to it, and a clause `run` for every run of calls. By the laws of runs the number of lends that a handle
 //! keeps is that of its open loans, and the live borrow handles of a task rise by one with each that is lowered for it and fall by
-//! one with each that is dropped. A handle stays what it was lowered as until it is lifted or dropped.
+//! one with each that is dropped. A handle stays what it was lowered as, but for its lends, until it is lifted as own or dropped.
 //!
 //! - `handle`: a handle
 //! - `entry`: what an entry of a table is, for handles and ends

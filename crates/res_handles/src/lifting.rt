@@ -38,7 +38,7 @@ pub fn lift_own<E: Entry + Drop>(
 }
 
 /// Lifts a borrow of a handle of a resource: the handle is lent once more, and its representation is answered. This takes no
-/// memory. The loan is ended by `end_lend`.
+/// memory. The caller ends the loan by `end_lend`, when the resolution of the subtask is delivered.
 ///
 /// # Errors
 ///
