@@ -23,7 +23,8 @@ pub record IsKept (entry : Option EntryView) : Type 0 where
   pub found : IsFound entry
   pub lends : lends_in entry ≡ 0
 
-passed : (b : Bool) (x : Handle) (why : Refusal) (test : Handle → Result Handle Refusal) → IsOk (that_is test (if b then Ok x else Err why)) → IsOk (test x)
+-- a test that was passed behind that of the resource
+pub passed : (b : Bool) (x : Handle) (why : Refusal) (test : Handle → Result Handle Refusal) → IsOk (that_is test (if b then Ok x else Err why)) → IsOk (test x)
 passed true x why test h = h
 passed false x why test h = cc
 

@@ -4,3 +4,4 @@ pub mod Found
 pub mod Seen
 pub mod Sound
 pub mod Standing
+pub mod Staying

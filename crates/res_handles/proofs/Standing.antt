@@ -1,6 +1,6 @@
 -- What the calls add to a run, and to a history.
-use Rattle.std.proofs.Common.{◌≡◌, ℕ, ◌<◌, ◌≤◌, sym, ap, refl, ◌∙◌, arith, subst, List, ◌∷◌, Bool, Option, Some, None, IsSome, Result, Ok, Err}
-use Rattle.std.specs.Prelude.{option_map, IsOk, OnOk, MatchResult}
+use Rattle.std.proofs.Common.{◌≡◌, ℕ, ◌<◌, ◌≤◌, sym, ap, refl, ◌∙◌, arith, subst, List, ◌∷◌, Bool, true, false, Option, Some, None, IsSome, Result, Ok, Err, inl, inr}
+use Rattle.std.specs.Prelude.{◌↔◌, option_map, IsTrue, IsOk, OnOk, MatchResult}
 use Rattle.handle_table.specs.Calls.{Added}
 use Rattle.handle_table.specs.History.{Event, live}
 use Rattle.handle_table.specs.Laws.{with_changed}
@@ -8,13 +8,14 @@ use Rattle.handle_table.specs.Slots.{Slots, TableState, added, removed, with_ent
 use Rattle.handle_table.proofs.Histories.{shows_entry}
 use Rattle.handle_table.proofs.Writes.{writes_after}
 use Rattle.res_handles.specs.declared.handle.Handle.{Handle}
+use Rattle.res_handles.specs.declared.readable_end.ReadableEnd.{ReadableEnd}
 use Rattle.res_handles.specs.declared.entry.EntryView.{EntryView}
 use Rattle.res_handles.specs.declared.entry.EntryView.TheVariants as seen
 use Rattle.res_handles.specs.declared.refusal.Refusal.{Refusal}
 use Rattle.res_handles.specs.declared.refusal.LowerError.{LowerError}
 use Rattle.res_handles.specs.Refusals.{handle_in, own_in, dropped_in}
 use Rattle.res_handles.specs.Calls.{own_handle, borrow_handle, lends_in, view_at, shown, with_lends, relent_by, lent, given_back, NotLowered}
-use Rattle.res_handles.specs.Ends.{idle_end, end_in}
+use Rattle.res_handles.specs.Ends.{idle_end, end_of, EndAnswer}
 use Rattle.res_handles.specs.Runs.{Call, LowersOwn, LowersBorrow, LiftsOwn, LiftsBorrow, Drops, EndsLend, AddsOther, RemovesOther, WritesOther, IsOther, ComesOf}
 use Rattle.res_handles.specs.Laws.{OthersComeAndGo}
 use Rattle.res_handles.proofs.Seen.{shown_at, shown_count, shown_removed, shown_entry, shown_added, shown_lent, shown_given_back, comes}
@@ -80,18 +81,24 @@ others {E} view = record {
 }
 
 -- ends
-idle_found : (entry : Option EntryView) (is_of_type : Bool) (number : ℕ) → end_in entry is_of_type ≡ Ok number → IsOther entry
-idle_found None t n e = cc
-idle_found (Some seen.Other) t n e = cc
-idle_found (Some (seen.Handle x)) t n e = cc
-idle_found (Some (seen.ReadableEnd x)) t n e = tt
+pub end_answered : {T : Type 0} (is_of_type : Bool) (end_type : Option T) (wanted : T) (x : ReadableEnd) → (IsTrue is_of_type ↔ (end_type ≡ Some wanted))
+    → EndAnswer (Some (seen.ReadableEnd x)) end_type wanted (end_of is_of_type x)
+end_answered true end_type wanted x is = inl (is.0 refl, refl)
+end_answered false end_type wanted x is = inr ((λ e. (let no : IsTrue false = is.1 e in cc)), refl)
 
-pub lifts_end_run : {E : Type 0} (view : E → EntryView) (s t : Slots E) (index : ℕ) (is_of_type : Bool) (number : ℕ) → end_in (view_at view s index) is_of_type ≡ Ok number → t ≡ removed index s
+end_found : {T : Type 0} (entry : Option EntryView) (end_type : Option T) (wanted : T) (number : ℕ) → EndAnswer entry end_type wanted (Ok number) → IsOther entry
+end_found None t w n a = cc
+end_found (Some seen.Other) t w n a = tt
+end_found (Some (seen.Handle x)) t w n a = cc
+end_found (Some (seen.ReadableEnd x)) t w n a = tt
+
+pub lifts_end_run : {E T : Type 0} (view : E → EntryView) (s t : Slots E) (index : ℕ) (end_type : Option T) (wanted : T) (number : ℕ)
+    → EndAnswer (view_at view s index) end_type wanted (Ok number) → t ≡ removed index s
     → (r : List Call) → ComesOf r (shown view s) → ComesOf (RemovesOther index ∷ r) (shown view t)
-lifts_end_run {E} view s t index is_of_type number e is r c =
+lifts_end_run {E} view s t index end_type wanted number a is r c =
     let P : Slots E → Type 0 = λ u. ComesOf (RemovesOther index ∷ r) (shown view u) in
     let o : OthersComeAndGo view = others view in
-    subst P (sym is) (o.removes r s index (idle_found (view_at view s index) is_of_type number e) c)
+    subst P (sym is) (o.removes r s index (end_found (view_at view s index) end_type wanted number a) c)
 
 pub lowers_end_run : {E : Type 0} (view : E → EntryView) (entry : E) (number : ℕ) → view entry ≡ seen.ReadableEnd (idle_end number) → (old new : TableState E) (result : Result ℕ LowerError)
     → MatchResult result (λ i. Added old entry i new) (λ e. NotLowered old e new)

@@ -17,7 +17,8 @@ of_resource resource x = if nat_eq x.resource resource then Ok x else Err OtherT
 abbrev pub unlent : Handle → Result Handle Refusal
 unlent x = if nat_eq x.lends 0 then Ok x else Err Lent
 
--- an own handle of which nothing is lent
+-- an own handle of which nothing is lent. The standard traps without a reason, and tests the lends first: that `NotOwn` comes before
+-- `Lent` is the order of this project.
 abbrev pub owned_by : Ownership → Handle → Result Handle Refusal
 owned_by Own x = unlent x
 owned_by (Borrow _) x = Err NotOwn

@@ -17,20 +17,20 @@ pub enum EntryView {
 
 /// Entries of a table, some of which are handles, and some readable ends.
 ///
-/// Contracts see what an entry is, whether it is an end of a type, and the entries that are made of a handle and of an end.
+/// Contracts see what an entry is, the type of an end, and the entries that are made of a handle and of an end.
 pub trait Entry {
-    ghost use Rattle.std.specs.Prelude.{◌≡◌, ℕ, Bool, true, IfOk};
+    ghost use Rattle.std.specs.Prelude.{◌≡◌, ◌↔◌, ℕ, Option, Some, IsTrue, IfOk};
     ghost use Rattle.res_handles.specs.declared.handle.Handle.{Handle};
     ghost use Rattle.res_handles.specs.Ends.{idle_end};
     ghost use Rattle.res_handles.specs.declared.entry.EntryView.{EntryView};
     ghost use Rattle.res_handles.specs.declared.entry.EntryView.TheVariants as seen;
 
-    /// The types of streams and futures, with those of their elements.
+    /// The types of readable ends: each stands for a stream or a future, with the type of its elements where it has one.
     type EndType;
 
     ghost view: { Self → EntryView };
 
-    ghost is_of: { Self → Self.EndType → Bool };
+    ghost end_type: { Self → Option Self.EndType };
 
     ghost made: { Handle → Self };
 
@@ -40,22 +40,22 @@ pub trait Entry {
     fn view(&self) -> EntryView
         ensures { result ≡ view self.now };
 
-    /// Whether the entry is an end of a stream or a future of this type.
-    fn is_of(&self, end_type: &Self::EndType) -> bool
-        ensures { result ≡ is_of self.now end_type.now };
+    /// Whether the entry is an end of this type.
+    fn is_of(&self, wanted: &Self::EndType) -> bool
+        ensures { IsTrue result ↔ (end_type self.now ≡ Some wanted.now) };
 
     /// The entry that is this handle.
     fn of_handle(handle: Handle) -> Self
         ensures { result ≡ made handle };
 
-    /// The entry that is the idle readable end of the stream or the future of this type and number. It fails only for want of
-    /// memory.
-    fn of_end(end_type: &Self::EndType, number: u32) -> Result<Self, AllocError>
-        ensures { IfOk result (λ e. e ≡ made_end end_type.now number) };
+    /// The entry that is the idle readable end of the stream or the future of this type and number. It fails for want of memory, or
+    /// where no more owners of a type can be counted.
+    fn of_end(wanted: &Self::EndType, number: u32) -> Result<Self, AllocError>
+        ensures { IfOk result (λ e. e ≡ made_end wanted.now number) };
 
     ghost made_is_seen: { (x : Handle) → view (made x) ≡ seen.Handle x };
 
     ghost made_end_is_seen: { (t : Self.EndType) (n : ℕ) → view (made_end t n) ≡ seen.ReadableEnd (idle_end n) };
 
-    ghost made_end_is_of: { (t : Self.EndType) (n : ℕ) → is_of (made_end t n) t ≡ true };
+    ghost made_end_has_type: { (t : Self.EndType) (n : ℕ) → end_type (made_end t n) ≡ Some t };
 }

@@ -22,7 +22,8 @@ pub struct Handle {
     pub resource: u32,
     /// The representation, by which the resource's own instance knows what the handle names.
     pub rep: u32,
-    /// How many borrows are lifted from it for subtasks whose resolution isn't delivered yet.
+    /// How many borrows are lifted from it whose loans aren't ended: the caller ends a loan when the resolution of the subtask for
+    /// which the borrow was lifted is delivered.
     pub lends: u64,
     /// Whether it owns what it names.
     pub ownership: Ownership,

@@ -3,10 +3,10 @@
 ghost use Rattle.std.specs.Prelude.{◌≡◌};
 ghost use Rattle.res_handles.specs.Calls.{is_defined};
 
-/// An instance into which is lowered, and the task for which that is done.
+/// An instance into which values are lowered, and the task for which that is done.
 #[derive(Clone, Copy)]
 pub struct Home<'a> {
-    /// The number of the task: the callee for arguments, the caller for a result.
+    /// The number of the task: the callee for arguments, the caller for a result, and for a copy of elements the task that reads.
     pub task: u32,
     /// The numbers of the resources that the instance defines.
     pub resources: &'a [u32],

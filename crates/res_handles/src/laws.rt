@@ -4,7 +4,7 @@ ghost use Rattle.std.specs.Prelude.{[]};
 ghost use Rattle.handle_table.specs.Slots.{no_slots};
 ghost use Rattle.res_handles.specs.Calls.{shown};
 ghost use Rattle.res_handles.specs.Runs.{ComesOf};
-ghost use Rattle.res_handles.specs.Laws.{LendsAreOpenLoans, LentIsKept, NothingRemovedIsLent, BorrowsChange, OthersComeAndGo};
+ghost use Rattle.res_handles.specs.Laws.{LendsAreOpenLoans, LentIsKept, NothingRemovedIsLent, BorrowsChange, LoweredIsAsGiven, HandlesStay, TakenIsAsAsked, OthersComeAndGo};
 
 use crate::entry::Entry;
 
@@ -27,6 +27,18 @@ pub fn nothing_removed_is_lent()
 /// dropped, and changes by nothing else.
 pub fn borrows_rise_and_fall_by_one()
     ensures { BorrowsChange }
+{}
+
+/// What is lowered is a handle of the resource, the representation and the task that were given, and stays one until it is
+/// lifted as own or dropped.
+pub fn handles_stay_as_lowered()
+    ensures lowered { LoweredIsAsGiven }
+    ensures stays { HandlesStay }
+{}
+
+/// What is lifted, lent or dropped is a handle of the resource that was asked for, and own where it is lifted as own.
+pub fn what_is_taken_is_as_asked()
+    ensures { TakenIsAsAsked }
 {}
 
 /// A new table comes of no call.

@@ -5,7 +5,8 @@
 //! readable ends (`Entry`). The calls lift a handle out of the table, lend it, lower one into it, drop it and read it, and lift and
 //! lower an end, each with its tests in their order. What was done is not kept: a clause `stands` says for every history of the
 //! table what a call adds to it, and a clause `run` for every run of calls. By the laws of runs the number of lends that a handle
-//! keeps is that of its open loans, and the live borrow handles of a task change by one.
+//! keeps is that of its open loans, and the live borrow handles of a task rise by one with each that is lowered for it and fall by
+//! one with each that is dropped. A handle stays what it was lowered as, but for its lends, until it is lifted as own or dropped.
 //!
 //! - `handle`: a handle
 //! - `entry`: what an entry of a table is, for handles and ends
@@ -13,11 +14,11 @@
 //! - `home`: where and for which task a borrow is lowered
 //! - `lifting`: handles that are lifted, lent, dropped and read
 //! - `lowering`: handles that are lowered
-//! - `ending`: readable ends that are lifted and lowered; `readable_end`: such an end
+//! - `ends`: readable ends that are lifted and lowered; `readable_end`: such an end
 //! - `laws`: what holds of every run of calls
 #![tactic(auto)]
 
-mod ending;
+mod ends;
 mod entry;
 mod handle;
 mod home;
@@ -29,7 +30,7 @@ mod refusal;
 #[cfg(test)]
 mod tests;
 
-pub use ending::{lift_end, lower_end};
+pub use ends::{lift_end, lower_end};
 pub use entry::{Entry, EntryView};
 pub use handle::{Handle, Ownership};
 pub use home::Home;

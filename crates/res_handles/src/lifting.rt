@@ -38,7 +38,7 @@ pub fn lift_own<E: Entry + Drop>(
 }
 
 /// Lifts a borrow of a handle of a resource: the handle is lent once more, and its representation is answered. This takes no
-/// memory. The loan is ended by `end_lend`.
+/// memory. The caller ends the loan by `end_lend`, when the resolution of the subtask is delivered.
 ///
 /// # Errors
 ///
@@ -68,9 +68,10 @@ pub fn end_lend<E: Entry + Drop>(table: &mut Table<E>, index: u32)
     ensures stands { (h : List (Event E)) (x : handles.Handle) → view_at E.view table.old.slots index ≡ Some (seen.Handle x) → StandsFor h table.old.slots → StandsFor (with_changed index (E.made (with_lends (x.lends - 1) x)) h) table.new.slots }
     ensures run { (r : List Call) → ComesOf r (shown E.view table.old.slots) → ComesOf (EndsLend index ∷ r) (shown E.view table.new.slots) }
 {
-    if let Some(EntryView::Handle(handle)) = seen(table, index) {
-        relend(table, index, handle.with_lends(handle.lends - 1));
-    }
+    let Some(EntryView::Handle(handle)) = seen(table, index) else {
+        unreachable!()
+    };
+    relend(table, index, handle.with_lends(handle.lends - 1));
 }
 
 /// Drops a handle of a resource: it leaves the table, and is answered. This takes no memory.
@@ -122,8 +123,7 @@ fn found<E: Entry + Drop>(table: &Table<E>, index: u32, resource: u32) -> Result
 {
     match seen(table, index) {
         None => Err(Refusal::Absent),
-        Some(EntryView::ReadableEnd(_)) => Err(Refusal::OtherKind),
-        Some(EntryView::Other) => Err(Refusal::OtherKind),
+        Some(EntryView::ReadableEnd(_) | EntryView::Other) => Err(Refusal::OtherKind),
         Some(EntryView::Handle(handle)) => handle.if_of(resource),
     }
 }
@@ -132,20 +132,16 @@ fn found<E: Entry + Drop>(table: &Table<E>, index: u32, resource: u32) -> Result
 fn owned<E: Entry + Drop>(table: &Table<E>, index: u32, resource: u32) -> Result<Handle, Refusal>
     ensures { result ≡ own_in (view_at E.view table.now.slots index) resource }
 {
-    match found(table, index, resource) {
-        Ok(handle) => handle.if_owned(),
-        Err(why) => Err(why),
-    }
+    let handle = found(table, index, resource)?;
+    handle.if_owned()
 }
 
 /// The handle of a resource at an index, of which nothing is lent.
 fn unlent<E: Entry + Drop>(table: &Table<E>, index: u32, resource: u32) -> Result<Handle, Refusal>
     ensures { result ≡ dropped_in (view_at E.view table.now.slots index) resource }
 {
-    match found(table, index, resource) {
-        Ok(handle) => handle.if_unlent(),
-        Err(why) => Err(why),
-    }
+    let handle = found(table, index, resource)?;
+    handle.if_unlent()
 }
 
 /// Puts a handle in the place of the one at an index.
@@ -153,7 +149,8 @@ fn relend<E: Entry + Drop>(table: &mut Table<E>, index: u32, handle: Handle)
     requires { IsSome (entry_at table.old.slots index) }
     ensures { table.new ≡ with_write table.old index (E.made handle) }
 {
-    if let Some(entry) = table.get_mut(index) {
-        *entry = E::of_handle(handle);
-    }
+    let Some(entry) = table.get_mut(index) else {
+        unreachable!()
+    };
+    *entry = E::of_handle(handle);
 }

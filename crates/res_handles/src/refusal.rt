@@ -22,6 +22,6 @@ pub enum Refusal {
 pub enum LowerError {
     /// The table has 65,535 live entries.
     TableFull,
-    /// There is no memory for one more.
+    /// There is no memory for one more, or no more owners of an end's type can be counted.
     Memory,
 }

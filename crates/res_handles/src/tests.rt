@@ -19,8 +19,7 @@ enum Thing {
 }
 
 impl Entry for Thing {
-    ghost use Rattle.std.specs.Prelude.{refl, true, false, nat_eq};
-    ghost use Rattle.std.proofs.Common.{eq-eqb};
+    ghost use Rattle.std.specs.Prelude.{refl, true, Some, None};
     ghost use Rattle.res_handles.specs.declared.entry.EntryView.TheVariants as seen;
     ghost use Rattle.res_handles.specs.declared.tests.Thing.TheVariants as thing;
 
@@ -29,7 +28,7 @@ impl Entry for Thing {
 
     ghost view = { elim [ thing.Handle x ↦ seen.Handle x | thing.End _ n idle ↦ seen.ReadableEnd (record { number = n; is_idle = idle }) | thing.Number _ ↦ seen.Other ] };
 
-    ghost is_of = { elim [ thing.Handle x ↦ λ t. false | thing.End s _ _ ↦ λ t. nat_eq s t | thing.Number _ ↦ λ t. false ] };
+    ghost end_type = { elim [ thing.Handle _ ↦ None | thing.End t _ _ ↦ Some t | thing.Number _ ↦ None ] };
 
     ghost made = { λ x. thing.Handle x };
 
@@ -46,11 +45,10 @@ impl Entry for Thing {
         }
     }
 
-    fn is_of(&self, end_type: &u32) -> bool {
+    fn is_of(&self, wanted: &u32) -> bool {
         match self {
-            Thing::Handle(_) => false,
-            Thing::End(own_type, _, _) => *own_type == *end_type,
-            Thing::Number(_) => false,
+            Thing::End(end_type, _, _) => *end_type == *wanted,
+            Thing::Handle(_) | Thing::Number(_) => false,
         }
     }
 
@@ -58,15 +56,15 @@ impl Entry for Thing {
         Thing::Handle(handle)
     }
 
-    fn of_end(end_type: &u32, number: u32) -> Result<Thing, AllocError> {
-        Ok(Thing::End(*end_type, number, true))
+    fn of_end(wanted: &u32, number: u32) -> Result<Thing, AllocError> {
+        Ok(Thing::End(*wanted, number, true))
     }
 
     ghost made_is_seen = { λ x. refl };
 
     ghost made_end_is_seen = { λ t n. refl };
 
-    ghost made_end_is_of = { λ t n. eq-eqb t t refl };
+    ghost made_end_has_type = { λ t n. refl };
 }
 
 /// The lends of the handle at an index.

@@ -5,7 +5,7 @@ ghost use Rattle.handle_table.specs.Calls.{Added};
 ghost use Rattle.handle_table.specs.History.{Event, Add, Remove, next_index, most_live};
 ghost use Rattle.handle_table.specs.Slots.{removed, StandsFor};
 ghost use Rattle.res_handles.specs.Calls.{view_at, shown};
-ghost use Rattle.res_handles.specs.Ends.{idle_end, end_in, typed_at, EndNotLowered};
+ghost use Rattle.res_handles.specs.Ends.{idle_end, end_type_at, EndAnswer, EndNotLowered};
 ghost use Rattle.res_handles.specs.Runs.{Call, AddsOther, RemovesOther, ComesOf};
 ghost use Rattle.res_handles.specs.declared.entry.EntryView.TheVariants as seen;
 
@@ -17,8 +17,8 @@ use handle_table::Table;
 /// The greatest number of live entries.
 const MOST_LIVE: u32 = 65_535;
 
-/// Lifts the readable end of a stream or a future of a type: it leaves the table, and its number is answered. This takes no
-/// memory.
+/// Lifts the idle readable end of a type: it leaves the table, and the number of its stream or future is answered. This takes no
+/// memory. The caller takes the end out of the waitable set that it is in.
 ///
 /// # Errors
 ///
@@ -26,15 +26,15 @@ const MOST_LIVE: u32 = 65_535;
 pub fn lift_end<E: Entry + Drop>(
     table: &mut Table<E>,
     index: u32,
-    end_type: &E::EndType,
+    wanted: &E::EndType,
 ) -> Result<u32, Refusal>
-    ensures value { result ≡ end_in (view_at E.view table.old.slots index) (typed_at E.is_of table.old.slots index end_type.now) }
+    ensures value { EndAnswer (view_at E.view table.old.slots index) (end_type_at E.end_type table.old.slots index) wanted.now result }
     ensures exact { MatchResult result (λ _. table.new.slots ≡ removed index table.old.slots) (λ _. table.new ≡ table.old) }
     ensures spare { OnOk result (table.old.spare + 1 ≤ table.new.spare) }
     ensures stands { OnOk result ((h : List (Event E)) → StandsFor h table.old.slots → StandsFor (Remove index ∷ h) table.new.slots) }
     ensures run { OnOk result ((r : List Call) → ComesOf r (shown E.view table.old.slots) → ComesOf (RemovesOther index ∷ r) (shown E.view table.new.slots)) }
 {
-    let number = idle(table, index, end_type)?;
+    let number = idle(table, index, wanted)?;
     table.remove(index);
     Ok(number)
 }
@@ -43,7 +43,8 @@ pub fn lift_end<E: Entry + Drop>(
 ///
 /// # Errors
 ///
-/// `TableFull` exactly where 65,535 entries are live, and `Memory` for want of memory. The table has the entries that it had.
+/// `TableFull` exactly where 65,535 entries are live, and `Memory` for want of memory, or where no more owners of the type can be
+/// counted. The table has the entries that it had.
 pub fn lower_end<E: Entry + Drop>(
     table: &mut Table<E>,
     end_type: &E::EndType,
@@ -64,19 +65,15 @@ pub fn lower_end<E: Entry + Drop>(
 }
 
 /// The number of the idle readable end of a type at an index.
-fn idle<E: Entry + Drop>(
-    table: &Table<E>,
-    index: u32,
-    end_type: &E::EndType,
-) -> Result<u32, Refusal>
-    ensures { result ≡ end_in (view_at E.view table.now.slots index) (typed_at E.is_of table.now.slots index end_type.now) }
+#[tactic(auto, using(crate::proofs::Standing::end_answered))]
+fn idle<E: Entry + Drop>(table: &Table<E>, index: u32, wanted: &E::EndType) -> Result<u32, Refusal>
+    ensures { EndAnswer (view_at E.view table.now.slots index) (end_type_at E.end_type table.now.slots index) wanted.now result }
 {
     match table.get(index) {
         None => Err(Refusal::Absent),
         Some(entry) => match entry.view() {
-            EntryView::Handle(_) => Err(Refusal::OtherKind),
-            EntryView::Other => Err(Refusal::OtherKind),
-            EntryView::ReadableEnd(end) => end.if_idle(entry.is_of(end_type)),
+            EntryView::Handle(_) | EntryView::Other => Err(Refusal::OtherKind),
+            EntryView::ReadableEnd(end) => end.if_idle(entry.is_of(wanted)),
         },
     }
 }

@@ -1,6 +1,6 @@
 use Rattle.std.proofs.Common.{rules}
 use Rattle.res_handles.proofs.Standing.{lowers_end_run}
-use Rattle.res_handles.proofs.ending.lower_end.Goals as goal
+use Rattle.res_handles.proofs.ends.lower_end.Goals as goal
 
 pub returns-in-Ok-clause-run : goal.returns-in-Ok-clause-run
 returns-in-Ok-clause-run g c =
