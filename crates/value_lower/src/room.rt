@@ -1,6 +1,6 @@
 //! Rooms.
 
-ghost use Rattle.std.specs.Prelude.{◌≡◌, ◌+◌, ◌≤◌, ◌^◌, ◌++◌, length, take, drop};
+ghost use Rattle.std.specs.Prelude.{◌≡◌, ◌+◌, ◌≤◌, ◌^◌, ◌++◌, length, take, drop, IfOk};
 
 use crate::ends::RoomEnd;
 use std::alloc::Global;
@@ -37,7 +37,7 @@ pub trait Room {
         ensures wrote { wrote self.old place bytes.now self.new };
 
     /// A new place for so many bytes, at a multiple of an alignment, in place of an old one: the call of the realloc of the canonical
-    /// options. Whether the place fits is not said: whoever asks tests it. The memory gets no shorter.
+    /// options. Whether the place fits is not said: whoever asks tests it. Where there is a place, the memory gets no shorter.
     ///
     /// # Errors
     ///
@@ -51,5 +51,5 @@ pub trait Room {
         size: u32,
     ) -> Result<u32, RoomEnd<Self::Trap>>
         ensures answers { answers self.old (record { old = old; old_size = old_size; align = align; size = size }) result self.new }
-        ensures grows { length (memory self.old) ≤ length (memory self.new) };
+        ensures grows { IfOk result (λ place. length (memory self.old) ≤ length (memory self.new)) };
 }
