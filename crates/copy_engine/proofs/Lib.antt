@@ -1,0 +1,3 @@
+pub mod Bytes
+pub mod Nesting
+pub mod Seen

@@ -1,0 +1,31 @@
+-- The stack is typed: so it ends with one i32, and the store that is left extends the one before.
+use Rattle.std.proofs.Common.{[], ◌∷◌}
+use Rattle.wasm_module.specs.declared.types.ValType.TheVariants.{I32}
+use Rattle.core_machine.specs.Typed.{StackTyped}
+use Rattle.copy_engine.proofs.Nesting.{run_typed, ends_with_one, steps_grow}
+use Rattle.copy_engine.proofs.nested.run_realloc.Goals as goal
+
+pub run-requires : goal.run-requires
+run-requires c =
+    let there = c.requires.there in
+    let begins = c.in-Ok.ensures in
+    record {
+      typed = (I32 ∷ [], run_typed c.args.store.now c.args.address there.0 begins.0 c.args.words.now c.in-Ok.running c.function_count-count.ensures.typed there.1 there.2 c.requires.words begins.1 begins.2);
+    }
+
+pub only_word-requires : goal.only_word-requires
+only_word-requires c =
+    let there = c.requires.there in
+    let begins = c.in-Ok.ensures in
+    let stack : StackTyped c.args.store.now (I32 ∷ []) c.in-Ok.running =
+    run_typed c.args.store.now c.args.address there.0 begins.0 c.args.words.now c.in-Ok.running c.function_count-count.ensures.typed there.1 there.2 c.requires.words begins.1 begins.2 in
+    ends_with_one c.args.store.now c.run.new.store c.in-Ok.running c.args.fuel.now c.run.new.fuel c.in-Done.words c.function_count-count.ensures.typed stack c.in-Done.ensures.gives
+
+pub returns-in-Done-clause-grows : goal.returns-in-Done-clause-grows
+returns-in-Done-clause-grows c =
+    let there = c.requires.there in
+    let begins = c.in-Ok.ensures in
+    let stack : StackTyped c.args.store.now (I32 ∷ []) c.in-Ok.running =
+    run_typed c.args.store.now c.args.address there.0 begins.0 c.args.words.now c.in-Ok.running c.function_count-count.ensures.typed there.1 there.2 c.requires.words begins.1 begins.2 in
+    let comes = c.in-Done.ensures.gives in
+    λ memory. steps_grow comes.spent c.args.store.now c.run.new.store c.in-Ok.running comes.last memory c.function_count-count.ensures.typed stack comes.steps
