@@ -1,12 +1,15 @@
 -- What is followed in a room is followed over what the room works on, and the room keeps its references.
-use Rattle.std.proofs.Common.{◌≡◌, ◌≤◌, ℕ, List, length, refl, ap, ◌∙◌, subst, inl, inr}
+use Rattle.std.proofs.Common.{◌≡◌, ◌≤◌, ℕ, List, length, ap, ◌∙◌, subst, inl, inr, Result, Ok, Err}
 use Rattle.value_lower.specs.Plan.{Plan, Gives, Fails, Asks, Size, Put}
-use Rattle.value_lower.specs.Following.{Came, Follows, written}
+use Rattle.value_lower.specs.declared.ends.RoomEnd.TheVariants.{Trapped, NoFuel, Memory}
+use Rattle.value_lower.specs.declared.ends.LowerError.{LowerError}
+use Rattle.value_lower.specs.declared.ends.LowerError.TheVariants as error
+use Rattle.value_lower.specs.Following.{Came, Words, Failed, Ended, Follows, Comes, written}
 use Rattle.copy_engine.specs.declared.store_room.LowerOptions.{LowerOptions}
 use Rattle.copy_engine.specs.declared.store_room.StoreRoom.{StoreRoom}
 use Rattle.copy_engine.specs.declared.nested.NestedTrap.{NestedTrap}
 use Rattle.copy_engine.specs.Nested.{RoomState, memory_with, Stores, Reallocs}
-use Rattle.copy_engine.specs.Rooms.{Same, state_of, memory_of, answers_of, wrote_of}
+use Rattle.copy_engine.specs.Rooms.{Same, IfTold, state_of, memory_of, answers_of, wrote_of}
 
 same_self : (r s : StoreRoom) → s ≡ r → Same r s
 same_self r s e = record {
@@ -52,3 +55,21 @@ follows_seen (Put place bytes k) r s came f =
       (f.1.0.0, subst (λ (o : LowerOptions). memory_with o (state_of mid) ≡ written place bytes (memory_of r)) same f.1.1),
       subst (λ (o : LowerOptions). With o k (state_of mid) came (state_of s)) same (follows_seen k mid s came f.2),
     )
+
+-- The same of what a call comes to.
+pub comes_seen : {A : Type 0} (plan : Plan) (words : A → List ℕ) (r s : StoreRoom) (result : Result A (LowerError NestedTrap))
+    → Comes answers_of memory_of wrote_of plan words r result s
+    → Comes (Reallocs r.options) (memory_with r.options) (Stores r.options) plan words (state_of r) result (state_of s)
+comes_seen plan words r s (Ok x) h = follows_seen plan r s (Words (words x)) h
+comes_seen plan words r s (Err (error.Failed why)) h = follows_seen plan r s (Failed why) h
+comes_seen plan words r s (Err (error.Ended (Trapped why))) h = follows_seen plan r s (Ended (Trapped why)) h
+comes_seen plan words r s (Err (error.Ended NoFuel)) h = follows_seen plan r s (Ended NoFuel) h
+comes_seen plan words r s (Err (error.Ended Memory)) h = tt
+
+pub comes_same : {A : Type 0} (plan : Plan) (words : A → List ℕ) (r s : StoreRoom) (result : Result A (LowerError NestedTrap))
+    → Comes answers_of memory_of wrote_of plan words r result s → IfTold result (Same r s)
+comes_same plan words r s (Ok x) h = follows_same plan r s (Words (words x)) h
+comes_same plan words r s (Err (error.Failed why)) h = follows_same plan r s (Failed why) h
+comes_same plan words r s (Err (error.Ended (Trapped why))) h = follows_same plan r s (Ended (Trapped why)) h
+comes_same plan words r s (Err (error.Ended NoFuel)) h = follows_same plan r s (Ended NoFuel) h
+comes_same plan words r s (Err (error.Ended Memory)) h = tt

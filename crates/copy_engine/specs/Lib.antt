@@ -1,3 +1,2 @@
 pub mod Nested
 pub mod Rooms
-pub mod Laws
