@@ -14,7 +14,7 @@ use laid_types::{LaidType, LaidTypes, ValTypeLayer};
 use std::alloc::Global;
 use std::fmt::Write;
 use std::test::Fail;
-use value_lower::{LowerError, RoomEnd, Words, lower_flat, lower_placed, store, store_list};
+use value_lower::{LowerError, RoomEnd, Words};
 
 /// Adds a type by its name to a table, and answers its number.
 pub(crate) fn add_type(alloc: Global, types: &mut LaidTypes, name: &str) -> Result<usize, Fail> {
@@ -122,7 +122,7 @@ pub(crate) fn all_stored(
     if !may_all_lower(values, t) {
         return Err(Fail::new("misfit"));
     }
-    store_told(alloc, store_list(alloc, room, place, values, t))
+    store_told(alloc, room.store_list(alloc, place, values, t))
 }
 
 /// How one value is lowered.
@@ -145,8 +145,8 @@ pub(crate) fn lowered(
         return Err(Fail::new("misfit"));
     }
     match how {
-        Lowers::Flat => words_told(alloc, lower_flat(alloc, room, value, t)),
-        Lowers::Placed => place_told(alloc, lower_placed(alloc, room, value, t)),
-        Lowers::StoredAt(place) => store_told(alloc, store(alloc, room, place, value, t)),
+        Lowers::Flat => words_told(alloc, room.lower_flat(alloc, value, t)),
+        Lowers::Placed => place_told(alloc, room.lower_placed(alloc, value, t)),
+        Lowers::StoredAt(place) => store_told(alloc, room.store(alloc, place, value, t)),
     }
 }
