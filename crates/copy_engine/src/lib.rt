@@ -2,9 +2,11 @@
 //! CanonicalABI.md, "Lifting and Lowering Context").
 //!
 //! - `store_room`: a memory of a store with the options' realloc, as a room of value_lower; `lowering`: values into it
+//! - `laws`: what a lowering comes to, as steps
 //! - `nested`: runs of a realloc on a stack of its own, and why they trap; `memories`: the bytes of a store's memory
 #![tactic(auto)]
 
+pub mod laws;
 mod lowering;
 mod memories;
 mod nested;
