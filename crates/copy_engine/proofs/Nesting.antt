@@ -101,9 +101,12 @@ longer_at memory s t (Some m) there x =
 pub longer : (memory : ℕ) (s t : Store) → Extends s t → length (bytes_in memory s) ≤ length (bytes_in memory t)
 longer memory s t x = longer_at memory s t (slice_get s.memories memory) refl x
 
-pub steps_grow : (spent : ℕ) (s t : Store) (k l : Stack) (memory : ℕ) → StoreTyped s → StackTyped s (I32 ∷ []) k → Steps spent s k t l
-    → length (bytes_in memory s) ≤ length (bytes_in memory t)
-steps_grow spent s t k l memory typed stack steps = longer memory s t (never_stuck spent s t (I32 ∷ []) k l typed stack steps).0
+-- Nor do they by the steps of a stack that calls the function at an address.
+pub steps_grow : (spent : ℕ) (s t : Store) (address : ℕ) (f g : Function) (words : List ℕ) (k l : Stack) → StoreTyped s → slice_get s.funcs address ≡ Some f → is_realloc f ≡ true
+    → AreWords (I32 ∷ I32 ∷ I32 ∷ I32 ∷ []) words → slice_get s.funcs address ≡ Some g → k ≡ start g address words → Steps spent s k t l
+    → (memory : ℕ) → length (bytes_in memory s) ≤ length (bytes_in memory t)
+steps_grow spent s t address f g words k l typed there is are also begins steps memory =
+    longer memory s t (never_stuck spent s t (I32 ∷ []) k l typed (run_typed s address f g words k typed there is are also begins) steps).0
 
 -- The function that a realloc calls is there.
 -- what a test leaves of it

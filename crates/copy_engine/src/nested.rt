@@ -1,12 +1,13 @@
 //! Code of the guest that runs on a stack of its own, while values are lowered.
 
-ghost use Rattle.std.specs.Prelude.{◌≡◌, ◌<◌, ◌≤◌, ◌^◌, ◌∷◌, [], true, ℕ, length, Some, None, IfOk, MatchOption};
+ghost use Rattle.std.specs.Prelude.{◌≡◌, ◌<◌, ◌≤◌, ◌^◌, ◌∷◌, [], true, ℕ, length, Some, None, IfOk, IfErr, MatchOption};
 ghost use Rattle.std.specs.List.{slice_get};
 ghost use Rattle.wasm_module.specs.declared.types.ValType.TheVariants.{I32};
 ghost use Rattle.wasm_numbers.specs.Types.{AreWords};
 ghost use Rattle.core_machine.specs.Store.{Function};
 ghost use Rattle.core_machine.specs.Step.{start};
 ghost use Rattle.wasm_store.specs.Views.{function_of};
+ghost use Rattle.value_lower.specs.Following.{IsTold};
 ghost use Rattle.copy_engine.specs.Nested.{is_realloc, realloc_in, bytes_in, NestedGives};
 
 use ca_base::Fuel;
@@ -79,7 +80,8 @@ pub(crate) fn run_realloc(
     requires there { (f : Function) × (slice_get store.old.funcs address ≡ Some f) × (is_realloc f ≡ true) }
     requires words { AreWords (I32 ∷ I32 ∷ I32 ∷ I32 ∷ []) words.now }
     ensures gives { (f : Function) → slice_get store.old.funcs address ≡ Some f → NestedGives (record { store = store.old; units = fuel.old; call = call.old }) (start f address words.now) result (record { store = store.new; units = fuel.new; call = call.new }) }
-    ensures grows { IfOk result (λ place. (memory : ℕ) → length (bytes_in memory store.old) ≤ length (bytes_in memory store.new)) }
+    ensures grows { (memory : ℕ) → IfOk result (λ place. length (bytes_in memory store.old) ≤ length (bytes_in memory store.new)) }
+    ensures grows_without { (memory : ℕ) → IfErr result (λ end. IsTold end (length (bytes_in memory store.old) ≤ length (bytes_in memory store.new))) }
 {
     // Its clause says that the store is typed.
     let _count = store.function_count();

@@ -1,7 +1,7 @@
 //! Tests of values that are lowered into a memory of a store, whose module's own function gives out the places.
 //!
-//! - `cases`: lines, each with a body of that function; `lines`: what a line says; `modules`: the module with such a body
-//! - `lowering`: what is lowered into a room, as text
+//! - `reallocs`: lines, each with a body of that function; `lines`: what a line says
+//! - `lowering`: what is lowered into a room, as text; `modules`: a store with a module
 #![tactic(auto)]
 
 #[cfg(test)]

@@ -1,6 +1,6 @@
-//! What a line says: what is lowered, the body of the realloc, the units of fuel, and the bytes that are looked at.
+//! What a line says: what is lowered, the code of the realloc, the units of fuel, and a place in the memory.
 
-use crate::lowering::{Lowers, add_type, all_stored, lowered, words_text};
+use crate::lowering::{add_type, write_all_stored, write_lowered, write_words};
 use crate::modules::{add_module, module_with};
 use ca_base::Fuel;
 use cases::Answers;
@@ -13,7 +13,7 @@ use type_texts::{value_of, values_of};
 use wasm_store::Store;
 use wasm_valid::Valid;
 
-/// What is lowered, by its words.
+/// What is lowered.
 #[derive(Clone, Copy)]
 struct Lowered<'t> {
     how: &'t str,
@@ -21,121 +21,18 @@ struct Lowered<'t> {
     values: &'t str,
 }
 
-/// Where the bytes stand that are looked at, and how many they are.
+/// What a line says.
 #[derive(Clone, Copy)]
-struct Look {
-    place: usize,
-    count: usize,
-}
-
-/// The options, by the text of the body: `host` names the function of the host, and `none` no function.
-fn options(body: &str) -> LowerOptions {
-    let realloc = match body {
-        "none" => None,
-        "host" => Some(1),
-        _ => Some(2),
-    };
-    LowerOptions { memory: 0, realloc }
-}
-
-/// The body of the module's function.
-fn body_of(body: &str) -> &str {
-    match body {
-        "none" | "host" => "00 00 0b",
-        _ => body,
-    }
-}
-
-/// What comes of lowering in a room.
-fn in_room(
-    alloc: Global,
-    room: &mut StoreRoom<'_>,
-    what: Lowered<'_>,
-    t: &LaidType<'_>,
-) -> Result<String, Fail> {
-    if let Some(place) = what.how.strip_prefix("all ") {
-        let values = values_of(alloc, what.values)?;
-        return all_stored(alloc, room, place.parse::<u32>()?, &values, t);
-    }
-    let how = match what.how {
-        "flat" => Lowers::Flat,
-        "place" => Lowers::Placed,
-        place => Lowers::StoredAt(place.parse::<u32>()?),
-    };
-    let value = value_of(alloc, what.values)?;
-    lowered(alloc, room, how, &value, t)
-}
-
-/// What comes of lowering over a store and its fuel, and the call of the host that is kept.
-fn over_store(
-    alloc: Global,
-    store: &mut Store,
-    fuel: &mut Fuel,
-    body: &str,
-    what: Lowered<'_>,
-) -> Result<String, Fail> {
-    let mut types = LaidTypes::new(alloc);
-    let number = add_type(alloc, &mut types, what.type_name)?;
-    let t = types.get(number).ok_or("no type")?;
-    let mut call = None;
-    let mut room = StoreRoom::new(store, fuel, &mut call, options(body));
-    let mut text = in_room(alloc, &mut room, what, &t)?;
-    write_call(alloc, &mut text, &call)?;
-    Ok(text)
-}
-
-/// Writes the call of the host, where there is one.
-fn write_call(alloc: Global, text: &mut String, call: &Option<HostCall>) -> Result<(), Fail> {
-    if let Some(call) = call {
-        let words = words_text(alloc, call.words.as_slice())?;
-        write!(text, " at {} ({words})", call.address)?;
-    }
-    Ok(())
-}
-
-/// Writes the units that are left, the size of the memory, and the bytes that are looked at.
-fn write_store(text: &mut String, store: &Store, fuel: &Fuel, look: Look) -> Result<(), Fail> {
-    let left = fuel.left();
-    if store.memory_count() == 0 {
-        return Err(Fail::new("no memory"));
-    }
-    let bytes = store.memory(0);
-    let size = bytes.len();
-    write!(text, " | {left} | {size} | ")?;
-    for byte in bytes.iter().skip(look.place).take(look.count) {
-        write!(text, "{byte:02x}")?;
-    }
-    Ok(())
-}
-
-/// What comes of a line in the module with this body.
-fn told(
-    alloc: Global,
-    valid: Valid,
-    body: &str,
-    what: Lowered<'_>,
+struct Line<'t> {
+    what: Lowered<'t>,
+    code: &'t str,
     units: u64,
-    look: Look,
-) -> Result<String, Fail> {
-    let mut store = Store::new(alloc);
-    add_module(alloc, &mut store, &valid)?;
-    let mut fuel = Fuel::new(units);
-    let mut text = over_store(alloc, &mut store, &mut fuel, body, what)?;
-    write_store(&mut text, &store, &fuel, look)?;
-    Ok(text)
+    place: usize,
 }
 
-/// What is looked at.
-fn look_of(text: &str) -> Result<Look, Fail> {
-    let (place, count) = text.split_once(' ').ok_or("no place")?;
-    Ok(Look {
-        place: place.parse::<usize>()?,
-        count: count.parse::<usize>()?,
-    })
-}
-
-/// What is lowered.
+/// What is lowered, of a text.
 fn lowered_of(text: &str) -> Result<Lowered<'_>, Fail> {
+    let (_title, text) = text.split_once(" | ").ok_or("no way")?;
     let (how, text) = text.split_once(" | ").ok_or("no type")?;
     let (type_name, values) = text.split_once(" | ").ok_or("no values")?;
     Ok(Lowered {
@@ -145,20 +42,152 @@ fn lowered_of(text: &str) -> Result<Lowered<'_>, Fail> {
     })
 }
 
-/// Lines of what is lowered: a title, how, the type, the values, the body of the realloc, the units of fuel, and a place and a number
-/// of bytes. The answer is what comes of it, with the call of the host that is kept, then the units that are left, how many bytes the
-/// memory has, and those bytes.
+/// What a line says, of its text.
+fn line_of(text: &str) -> Result<Line<'_>, Fail> {
+    let (text, place) = text.rsplit_once(" | ").ok_or("no place")?;
+    let (text, units) = text.rsplit_once(" | ").ok_or("no units")?;
+    let (text, code) = text.rsplit_once(" | ").ok_or("no code")?;
+    let what = lowered_of(text)?;
+    let units = units.parse::<u64>()?;
+    let place = place.parse::<usize>()?;
+    Ok(Line {
+        what,
+        code,
+        units,
+        place,
+    })
+}
+
+/// The options, by the code: `host` stands for the function of the host, and `none` for no function.
+fn options(code: &str) -> LowerOptions {
+    let realloc = match code {
+        "none" => None,
+        "host" => Some(1),
+        _ => Some(2),
+    };
+    LowerOptions { memory: 0, realloc }
+}
+
+/// The code section of the module.
+fn section_of(code: &str) -> &str {
+    match code {
+        "none" | "host" => "0a0501 0300 00 0b",
+        _ => code,
+    }
+}
+
+/// Writes what comes of lowering in a room.
+fn write_room(
+    alloc: Global,
+    room: &mut StoreRoom<'_>,
+    what: Lowered<'_>,
+    t: &LaidType<'_>,
+    text: &mut String,
+) -> Result<(), Fail> {
+    if what.how == "all at 8" {
+        let values = values_of(alloc, what.values)?;
+        return write_all_stored(alloc, room, &values, t, text);
+    }
+    let value = value_of(alloc, what.values)?;
+    write_lowered(alloc, room, what.how, &value, t, text)
+}
+
+/// Writes the call of the host, where there is one.
+fn write_call(call: &Option<HostCall>, text: &mut String) -> Result<(), Fail> {
+    let Some(call) = call else {
+        return Ok(());
+    };
+    let address = call.address;
+    write!(text, ": {address} ")?;
+    write_words(call.words.as_slice(), text)
+}
+
+/// Writes what comes of lowering over a store and its fuel, and the call of the host that is kept.
+fn write_over(
+    alloc: Global,
+    store: &mut Store,
+    fuel: &mut Fuel,
+    line: Line<'_>,
+    t: &LaidType<'_>,
+    text: &mut String,
+) -> Result<(), Fail> {
+    let mut call = None;
+    let mut room = StoreRoom::new(store, fuel, &mut call, options(line.code));
+    write_room(alloc, &mut room, line.what, t, text)?;
+    write_call(&call, text)
+}
+
+/// Adds the type to a table, and writes what comes of lowering.
+fn write_typed(
+    alloc: Global,
+    types: &mut LaidTypes,
+    store: &mut Store,
+    fuel: &mut Fuel,
+    line: Line<'_>,
+    text: &mut String,
+) -> Result<(), Fail> {
+    let number = add_type(alloc, types, line.what.type_name)?;
+    let t = types.get(number).ok_or("no type")?;
+    write_over(alloc, store, fuel, line, &t, text)
+}
+
+/// Writes the units that are left, the size of the memory, and four bytes at a place.
+fn write_store(store: &Store, fuel: &Fuel, place: usize, text: &mut String) -> Result<(), Fail> {
+    if store.memory_count() == 0 {
+        return Err(Fail::new("no memory"));
+    }
+    let left = fuel.left();
+    let bytes = store.memory(0);
+    let size = bytes.len();
+    write!(text, " | {left} | {size} | ")?;
+    for byte in bytes.iter().skip(place).take(4) {
+        write!(text, "{byte:02x}")?;
+    }
+    Ok(())
+}
+
+/// Writes what comes of a line in a store.
+fn write_line(
+    alloc: Global,
+    store: &mut Store,
+    valid: &Valid,
+    line: Line<'_>,
+    text: &mut String,
+) -> Result<(), Fail> {
+    add_module(alloc, store, valid)?;
+    let mut fuel = Fuel::new(line.units);
+    let mut types = LaidTypes::new(alloc);
+    write_typed(alloc, &mut types, store, &mut fuel, line, text)?;
+    write_store(store, &fuel, line.place, text)
+}
+
+/// Writes what comes of a line in the module.
+fn write_module(
+    alloc: Global,
+    valid: &Valid,
+    line: Line<'_>,
+    text: &mut String,
+) -> Result<(), Fail> {
+    let mut store = Store::new(alloc);
+    write_line(alloc, &mut store, valid, line, text)
+}
+
+/// Writes what comes of a line.
+fn write_told(alloc: Global, line: Line<'_>, text: &mut String) -> Result<(), Fail> {
+    let valid = module_with(alloc, section_of(line.code))?;
+    write_module(alloc, &valid, line, text)
+}
+
+/// Lines of what is lowered: a title, how, the type, the values, the code section with the realloc, the units of fuel, and a place. The
+/// answer is what comes of it, with the call of the host that is kept, then the units that are left, how many bytes the memory has, and
+/// the four bytes at the place.
 pub(crate) struct Reallocs;
 
 impl Answers for Reallocs {
     fn answer(alloc: Global, given: &str) -> Result<String, Fail> {
-        let (given, look) = given.rsplit_once(" | ").ok_or("no bytes")?;
-        let (given, units) = given.rsplit_once(" | ").ok_or("no units")?;
-        let (given, body) = given.rsplit_once(" | ").ok_or("no body")?;
-        let (_title, given) = given.split_once(" | ").ok_or("no title")?;
-        let what = lowered_of(given)?;
-        let look = look_of(look)?;
-        let valid = module_with(alloc, body_of(body))?;
-        told(alloc, valid, body, what, units.parse::<u64>()?, look)
+        let line = line_of(given)?;
+        let mut text = String::new(alloc);
+        write_told(alloc, line, &mut text)?;
+        Ok(text)
     }
 }

@@ -14,74 +14,75 @@ use laid_types::{LaidType, LaidTypes, ValTypeLayer};
 use std::alloc::Global;
 use std::fmt::Write;
 use std::test::Fail;
-use value_lower::{LowerError, RoomEnd, Words};
+use value_lower::{LowerError, LowerWhy, RoomEnd, Words};
 
 /// Adds a type by its name to a table, and answers its number.
 pub(crate) fn add_type(alloc: Global, types: &mut LaidTypes, name: &str) -> Result<usize, Fail> {
-    match name {
-        "string" => Ok(types.add(alloc, &ValTypeLayer::String)?),
-        "u32" => Ok(types.add(alloc, &ValTypeLayer::U32)?),
-        "u16 list" => {
-            let part = types.add(alloc, &ValTypeLayer::U16)?;
-            Ok(types.add(alloc, &ValTypeLayer::List(part))?)
-        }
-        _ => Err(Fail::new("no type")),
-    }
+    let layer = match name {
+        "string" => ValTypeLayer::String,
+        "u32" => ValTypeLayer::U32,
+        _ => ValTypeLayer::List(types.add(alloc, &ValTypeLayer::U16)?),
+    };
+    Ok(types.add(alloc, &layer)?)
 }
 
 /// The name of a trap.
-fn trap_told(trap: NestedTrap) -> &'static str {
+fn trap_name(trap: NestedTrap) -> &'static str {
     match trap {
-        NestedTrap::Core(Trap::Unreachable) => "Unreachable",
+        NestedTrap::Core(Trap::Unreachable) => "unreachable",
         NestedTrap::Core(_) => "another trap",
-        NestedTrap::CannotLeave => "CannotLeave",
-        NestedTrap::NoRealloc => "NoRealloc",
+        NestedTrap::CannotLeave => "host called",
+        NestedTrap::NoRealloc => "no realloc",
     }
 }
 
-/// The text of why nothing is lowered.
-fn error_told(alloc: Global, error: LowerError<NestedTrap>) -> Result<String, Fail> {
+/// Why nothing is lowered.
+fn error_name(error: LowerError<NestedTrap>) -> &'static str {
     match error {
-        LowerError::Failed(why) => Ok(format!(in alloc; "{why:?}")?),
-        LowerError::Ended(RoomEnd::Trapped(trap)) => Ok(String::from_str(alloc, trap_told(trap))?),
-        LowerError::Ended(RoomEnd::NoFuel) => Ok(String::from_str(alloc, "NoFuel")?),
-        LowerError::Ended(RoomEnd::Memory) => Err(Fail::new("want of memory")),
+        LowerError::Failed(LowerWhy::Misaligned) => "misaligned",
+        LowerError::Failed(LowerWhy::Bounds) => "bounds",
+        LowerError::Ended(RoomEnd::Trapped(trap)) => trap_name(trap),
+        LowerError::Ended(RoomEnd::NoFuel) => "no fuel",
+        LowerError::Ended(RoomEnd::Memory) => "no memory",
     }
 }
 
-/// The text of a store.
-fn store_told(alloc: Global, stored: Result<(), LowerError<NestedTrap>>) -> Result<String, Fail> {
+/// The name of what a store comes to.
+fn stored_name(stored: Result<(), LowerError<NestedTrap>>) -> &'static str {
     match stored {
-        Ok(()) => Ok(String::from_str(alloc, "stored")?),
-        Err(error) => error_told(alloc, error),
+        Ok(()) => "stored",
+        Err(error) => error_name(error),
     }
 }
 
-/// The text of a place.
-fn place_told(alloc: Global, placed: Result<u32, LowerError<NestedTrap>>) -> Result<String, Fail> {
+/// Writes a place, or why there is none.
+fn write_place(placed: Result<u32, LowerError<NestedTrap>>, text: &mut String) -> Result<(), Fail> {
     match placed {
-        Ok(place) => Ok(format!(in alloc; "at {place}")?),
-        Err(error) => error_told(alloc, error),
+        Ok(place) => write!(text, "{place}")?,
+        Err(error) => text.push_str(error_name(error))?,
     }
+    Ok(())
 }
 
-/// The text of core values, with a space between them.
-pub(crate) fn words_text(alloc: Global, words: &[u64]) -> Result<String, Fail> {
-    let mut text = String::new(alloc);
-    for word in words {
-        write!(text, " {word}")?;
+/// Writes core values, with a space between them.
+pub(crate) fn write_words(words: &[u64], text: &mut String) -> Result<(), Fail> {
+    for (place, word) in words.iter().enumerate() {
+        if place > 0 {
+            text.push(' ')?;
+        }
+        write!(text, "{word}")?;
     }
-    Ok(String::from_str(alloc, text.trim_start())?)
+    Ok(())
 }
 
-/// The text of core values, or of why there are none.
-fn words_told(
-    alloc: Global,
+/// Writes core values, or why there are none.
+fn write_flat(
     lowered: Result<Words, LowerError<NestedTrap>>,
-) -> Result<String, Fail> {
+    text: &mut String,
+) -> Result<(), Fail> {
     match lowered {
-        Ok(words) => words_text(alloc, words.as_slice()),
-        Err(error) => error_told(alloc, error),
+        Ok(words) => write_words(words.as_slice(), text),
+        Err(error) => Ok(text.push_str(error_name(error))?),
     }
 }
 
@@ -111,42 +112,36 @@ fn may_all_lower(values: &[Value], t: &LaidType<'_>) -> bool
     !holds(t) && values.iter().all(|value| fits(value, t.val_type()))
 }
 
-/// What comes of storing values one after the other from a place on.
-pub(crate) fn all_stored(
+/// Writes what comes of storing values one after the other from the place 8 on.
+pub(crate) fn write_all_stored(
     alloc: Global,
     room: &mut StoreRoom<'_>,
-    place: u32,
     values: &[Value],
     t: &LaidType<'_>,
-) -> Result<String, Fail> {
+    text: &mut String,
+) -> Result<(), Fail> {
     if !may_all_lower(values, t) {
         return Err(Fail::new("misfit"));
     }
-    store_told(alloc, room.store_list(alloc, place, values, t))
+    let stored = room.store_list(alloc, 8, values, t);
+    Ok(text.push_str(stored_name(stored))?)
 }
 
-/// How one value is lowered.
-#[derive(Clone, Copy)]
-pub(crate) enum Lowers {
-    Flat,
-    Placed,
-    StoredAt(u32),
-}
-
-/// What comes of lowering a value.
-pub(crate) fn lowered(
+/// Writes what comes of lowering a value: flat, placed, or stored at the place 4.
+pub(crate) fn write_lowered(
     alloc: Global,
     room: &mut StoreRoom<'_>,
-    how: Lowers,
+    how: &str,
     value: &Value,
     t: &LaidType<'_>,
-) -> Result<String, Fail> {
+    text: &mut String,
+) -> Result<(), Fail> {
     if !may_lower(value, t) || t.flat().len() > 16 {
         return Err(Fail::new("misfit"));
     }
     match how {
-        Lowers::Flat => words_told(alloc, room.lower_flat(alloc, value, t)),
-        Lowers::Placed => place_told(alloc, room.lower_placed(alloc, value, t)),
-        Lowers::StoredAt(place) => store_told(alloc, room.store(alloc, place, value, t)),
+        "flat" => write_flat(room.lower_flat(alloc, value, t), text),
+        "placed" => write_place(room.lower_placed(alloc, value, t), text),
+        _ => Ok(text.push_str(stored_name(room.store(alloc, 4, value, t)))?),
     }
 }

@@ -14,50 +14,53 @@ use wasm_valid::Valid;
 const FRONT: &str =
     "0061736d01000000 010d0260047f7f7f7f017f60017f00 020d02016d01680001016d01720000 03020100 0503010001";
 
-/// Puts bytes behind others, and before them how many they are, which is below 128.
-fn push_sized(bytes: &mut Vec<u8>, content: &[u8]) -> Result<(), Fail> {
-    bytes.push((content.len() % 128) as u8)?;
-    bytes.extend_from_slice(content)?;
-    Ok(())
-}
-
-/// The module in which this is the body of the function.
-pub(crate) fn module_with(alloc: Global, body: &str) -> Result<Valid, Fail> {
-    let body = bytes_of(alloc, body)?;
-    let mut content = Vec::from_slice(alloc, &[1])?;
-    push_sized(&mut content, &body)?;
+/// The module with this code section.
+pub(crate) fn module_with(alloc: Global, code: &str) -> Result<Valid, Fail> {
     let mut bytes = bytes_of(alloc, FRONT)?;
-    bytes.push(10)?;
-    push_sized(&mut bytes, &content)?;
+    let code = bytes_of(alloc, code)?;
+    bytes.extend_from_slice(&code)?;
     valid_of(alloc, &bytes)
 }
 
-/// So many parameters i32.
-fn params(alloc: Global, count: u32) -> Result<Seq<ValType>, Fail> {
-    let mut params = Seq::new(alloc);
+/// So many values i32.
+fn numbers(alloc: Global, count: u32) -> Result<Seq<ValType>, Fail> {
+    let mut types = Seq::new(alloc);
     for _ in 0..count {
-        params.push(ValType::I32)?;
+        types.push(ValType::I32)?;
     }
-    Ok(params)
+    Ok(types)
 }
 
-/// The type of a function of the host of so many parameters and results.
-fn host_type(alloc: Global, count: u32, results: u32) -> Result<FuncType, Fail> {
-    Ok(FuncType {
-        params: params(alloc, count)?,
-        results: params(alloc, results)?,
-    })
+/// Adds a function of the host of so many parameters and results to a store.
+fn add_host(
+    alloc: Global,
+    store: &mut Store,
+    params: u32,
+    results: u32,
+) -> Result<External, Fail> {
+    let params = numbers(alloc, params)?;
+    let results = numbers(alloc, results)?;
+    Ok(External::Func(store.host(FuncType { params, results })?))
+}
+
+/// Adds an instance of a module with these imports to a store.
+fn add_instance(
+    alloc: Global,
+    store: &mut Store,
+    valid: &Valid,
+    imports: &[External],
+) -> Result<(), Fail> {
+    if !store.matches(valid, imports) {
+        return Err(Fail::new("other imports"));
+    }
+    store.add(alloc, valid, imports)?;
+    Ok(())
 }
 
 /// Adds the functions of the host and an instance of the module to a store: the functions are then 0 and 1, that of the module 2, and
 /// the memory 0.
 pub(crate) fn add_module(alloc: Global, store: &mut Store, valid: &Valid) -> Result<(), Fail> {
-    let host = store.host(host_type(alloc, 1, 0)?)?;
-    let other = store.host(host_type(alloc, 4, 1)?)?;
-    let imports = [External::Func(host), External::Func(other)];
-    if !store.matches(valid, imports.as_slice()) {
-        return Err(Fail::new("other imports"));
-    }
-    store.add(alloc, valid, imports.as_slice())?;
-    Ok(())
+    let first = add_host(alloc, store, 1, 0)?;
+    let second = add_host(alloc, store, 4, 1)?;
+    add_instance(alloc, store, valid, &[first, second])
 }
