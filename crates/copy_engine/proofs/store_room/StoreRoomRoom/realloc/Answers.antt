@@ -12,3 +12,9 @@ returns-clause-answers c =
       answered c.args.self.now.options (state_of c.args.self.now) _ _ c.run_realloc.result c.in-Some.address found.0 _ found.1 gives (search rules),
       record { store = refl; fuel = refl; call = refl; options = refl },
     )
+
+pub returns-clause-grows : goal.returns-clause-grows
+returns-clause-grows c = c.run_realloc.ensures.grows c.args.self.now.options.memory
+
+pub returns-clause-grows_without : goal.returns-clause-grows_without
+returns-clause-grows_without c = c.run_realloc.ensures.grows_without c.args.self.now.options.memory
