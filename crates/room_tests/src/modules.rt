@@ -32,12 +32,7 @@ fn numbers(alloc: Global, count: u32) -> Result<Seq<ValType>, Fail> {
 }
 
 /// Adds a function of the host of so many parameters and results to a store.
-fn add_host(
-    alloc: Global,
-    store: &mut Store,
-    params: u32,
-    results: u32,
-) -> Result<External, Fail> {
+fn add_host(alloc: Global, store: &mut Store, params: u32, results: u32) -> Result<External, Fail> {
     let params = numbers(alloc, params)?;
     let results = numbers(alloc, results)?;
     Ok(External::Func(store.host(FuncType { params, results })?))
