@@ -65,7 +65,7 @@ realloc_in address s = if_realloc (found_at s.funcs address)
 abbrev pub begun : ℕ × Function → Ask → Stack
 begun f ask = start f.1 f.0 (ask.old ∷ ask.old_size ∷ ask.align ∷ ask.size ∷ [])
 
--- What a stack that gives a place comes to by its moves, each of which is paid: it ends with the place, traps, or calls a function of
+-- What a stack that gives a place comes to by its moves, each for what it costs: it ends with the place, traps, or calls a function of
 -- the host, which is kept; or its next move costs a unit while none is left. Of want of memory no more is said than that no unit is added.
 abbrev pub NestedGives : RoomState → Stack → Result ℕ (RoomEnd NestedTrap) → RoomState → Type 0
 NestedGives r k (Ok place) s = Comes r.store k r.units s.store s.units (Ends (place ∷ [])) × (s.call ≡ r.call)

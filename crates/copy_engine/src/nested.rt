@@ -34,7 +34,7 @@ pub enum NestedTrap {
     Core(Trap),
     /// A function of the host is called.
     CannotLeave,
-    /// There is no function to call of four i32 that gives one. Valid options come to this for no value of their types.
+    /// There is no function to call of four i32 that gives one. Linking asks for one where a value of the types may need a place.
     NoRealloc,
 }
 

@@ -23,7 +23,8 @@ pub struct LowerOptions {
 /// and the same fuel, where each instruction costs its unit. Such code may call no function of the host: where it does, it ends, and
 /// the call is kept.
 ///
-/// All that a lowering changes is its caller's: the store, the fuel and the call that is kept. So it is known once the room is gone.
+/// All that a lowering changes is its caller's: the store, the fuel and the call that is kept. So it is known once the room is
+/// gone, but after want of memory.
 #[derive(Drop)]
 pub struct StoreRoom<'a> {
     store: &'a mut Store,
