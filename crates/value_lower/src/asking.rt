@@ -43,7 +43,7 @@ pub(crate) fn ask<R: Room>(
     ensures follows { (k : ℕ → Plan) → Runs R.answers R.memory R.wrote (asked count align size k) k room.old result room.new }
     ensures bytes { IfOk result (λ place. HasBytes place size (length (R.memory room.new))) }
     ensures few { IfOk result (λ place. count < 2 ^ 32) }
-    ensures grows { IfOk result (λ place. length (R.memory room.old) ≤ length (R.memory room.new)) }
+    ensures grows { length (R.memory room.old) ≤ length (R.memory room.new) }
 {
     if count >= 1 << 32 || size >= 1 << 32 {
         return Err(LowerError::Failed(LowerWhy::Bounds));
@@ -61,7 +61,7 @@ pub(crate) fn text_in<R: Room>(
 ) -> Result<u32, LowerError<R::Trap>>
     ensures follows { (k : ℕ → Plan) → Runs R.answers R.memory R.wrote (text_in text.now k) k room.old result room.new }
     ensures few { IfOk result (λ place. length text.now < 2 ^ 32) }
-    ensures grows { IfOk result (λ place. length (R.memory room.old) ≤ length (R.memory room.new)) }
+    ensures grows { length (R.memory room.old) ≤ length (R.memory room.new) }
 {
     let bytes = text.as_bytes();
     let place = ask(alloc, room, bytes.len(), 1, bytes.len() as u128)?;

@@ -1,6 +1,6 @@
 //! Rooms.
 
-ghost use Rattle.std.specs.Prelude.{◌≡◌, ◌+◌, ◌≤◌, ◌^◌, ◌++◌, length, take, drop, IfOk, IfErr};
+ghost use Rattle.std.specs.Prelude.{◌≡◌, ◌+◌, ◌≤◌, ◌^◌, ◌++◌, length, take, drop};
 
 use crate::ends::RoomEnd;
 use std::alloc::Global;
@@ -14,7 +14,6 @@ pub trait Room {
     ghost use Rattle.std.specs.Prelude.{ℕ, List, Result};
     ghost use Rattle.value_lower.specs.declared.ends.RoomEnd.{RoomEnd};
     ghost use Rattle.value_lower.specs.Plan.{Ask};
-    ghost use Rattle.value_lower.specs.Following.{IsTold};
 
     /// Why code of the guest trapped.
     type Trap: Drop;
@@ -38,8 +37,7 @@ pub trait Room {
         ensures wrote { wrote self.old place bytes.now self.new };
 
     /// A new place for so many bytes, at a multiple of an alignment, in place of an old one: the call of the realloc of the canonical
-    /// options. Whether the place fits is not said: whoever asks tests it. The memory gets no shorter; for want of memory of the program
-    /// nothing is said of it.
+    /// options. Whether the place fits is not said: whoever asks tests it. The memory gets no shorter.
     ///
     /// # Errors
     ///
@@ -53,6 +51,5 @@ pub trait Room {
         size: u32,
     ) -> Result<u32, RoomEnd<Self::Trap>>
         ensures answers { answers self.old (record { old = old; old_size = old_size; align = align; size = size }) result self.new }
-        ensures grows { IfOk result (λ place. length (memory self.old) ≤ length (memory self.new)) }
-        ensures grows_without { IfErr result (λ end. IsTold end (length (memory self.old) ≤ length (memory self.new))) };
+        ensures grows { length (memory self.old) ≤ length (memory self.new) };
 }

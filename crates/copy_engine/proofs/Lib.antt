@@ -1,4 +1,0 @@
-pub mod Bytes
-pub mod Nesting
-pub mod Seen
-pub mod Stepping

@@ -1,3 +1,0 @@
-pub mod Nested
-pub mod Rooms
-pub mod Turns
