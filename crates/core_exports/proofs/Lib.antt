@@ -3,3 +3,5 @@ pub mod FirstTypes
 pub mod Fit
 pub mod Named
 pub mod Passed
+pub mod Placed
+pub mod There

@@ -3,7 +3,7 @@
 ghost use Rattle.std.specs.Prelude.{◌≡◌, IfOk};
 ghost use Rattle.std.specs.List.{slice_get};
 ghost use Rattle.std.specs.Option.{option_and_then};
-ghost use Rattle.wasm_module.specs.Spaces.{imported_tables, imported_memories};
+ghost use Rattle.wasm_module.specs.Spaces.{func_space, imported_tables, imported_memories};
 ghost use Rattle.comp_graph.specs.CoreItems.{item_of, table_space, memory_space};
 ghost use Rattle.comp_linking.specs.Definitions.{core_named, exports_of};
 
@@ -64,6 +64,13 @@ impl<'a> CoreModule<'a> {
         ensures { result.now ≡ self.now }
     {
         self.valid
+    }
+
+    /// The index of the type of the function of an index.
+    pub fn type_index(&self, func: u32) -> Option<u32>
+        ensures { result ≡ slice_get (func_space self.now) func }
+    {
+        self.space.funcs().get(func as usize).copied()
     }
 
     /// What an export offers in the core instance of this number.

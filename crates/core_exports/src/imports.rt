@@ -1,23 +1,28 @@
 //! What a core module that is instantiated is passed for its imports.
 
-ghost use Rattle.std.specs.Prelude.{◌≡◌, ◌<◌, Some, None, Ok, Err, MatchResult, IfOk, nat_lt, length, map};
-ghost use Rattle.std.specs.List.{list_all, slice_get};
+ghost use Rattle.std.specs.Prelude.{◌≡◌, ◌<◌, List, Some, Ok, Err, MatchResult, IfOk, nat_lt, length, map};
+ghost use Rattle.std.specs.List.{list_all, slice_get, AllByRecursion};
 ghost use Rattle.ca_base.specs.Faults.{IfFault};
+ghost use Rattle.wasm_module.specs.declared.module.ModuleTree.{ModuleTree};
 ghost use Rattle.comp_tree.specs.declared.core_instances.CoreArgument.{CoreArgument};
+ghost use Rattle.comp_graph.specs.declared.graph.CanonFunc.{CanonFunc};
 ghost use Rattle.comp_graph.specs.CoreItems.{extern_of};
+ghost use Rattle.comp_graph.specs.Graph.{CoreMake, IsItem};
 ghost use Rattle.comp_linking.specs.Tests as tests;
 ghost use Rattle.comp_linking.specs.Computed.{imports_outcome};
+ghost use Rattle.core_exports.specs.Modules.{AreModulesOf, AreAllThere};
 
 use crate::arguments::{Arguments, all_found};
 use crate::core_item::CoreItem;
 use crate::exports::CoreExports;
+use crate::modules::CoreModules;
 use crate::names::are_distinct;
 use ca_base::{MemoryOr, Seq};
 use comp_graph::CoreExtern;
 use comp_linking::LinkWhy;
 use comp_tree::CoreArgument;
 use std::alloc::{AllocError, Global};
-use wasm_module::{Import, ModuleTree};
+use wasm_module::ModuleTree;
 
 /// Whether the core instance of each argument is there, where there are so many.
 fn are_there(count: usize, arguments: &[CoreArgument]) -> bool
@@ -28,20 +33,27 @@ fn are_there(count: usize, arguments: &[CoreArgument]) -> bool
         .all(|argument| (argument.instance as usize) < count)
 }
 
-/// Whether each item is what its import asks for.
-#[tactic(auto, using(crate::proofs::Fit::none_fit, crate::proofs::Fit::one_fits, crate::proofs::Fit::one_less, crate::proofs::Fit::one_fits_not))]
-fn all_fit(tree: &ModuleTree, imports: &[Import], items: &[CoreItem]) -> bool
-    ensures { result ≡ tests.all_fit tree.now imports.now items.now }
+/// Whether each item is what its import of the module of a number asks for. It fails for want of memory alone.
+fn all_fit<'a>(
+    alloc: Global,
+    made: &mut CoreModules<'a>,
+    number: usize,
+    tree: &ModuleTree,
+    items: &[CoreItem<'a>],
+) -> Result<bool, AllocError>
+    ensures fit { (cores : List CoreMake) (canons : List CanonFunc) → AreModulesOf made.old cores → slice_get made.old.modules.items number ≡ Some tree.now → AllByRecursion (IsItem cores canons) items.now → IfOk result (λ fit. fit ≡ tests.all_fit tree.now tree.now.imports items.now) }
+    ensures same { made.new ≡ made.old }
 {
+    let imports = tree.imports.as_slice();
     for at in 0..imports.len() {
         let Some(item) = items.get(at) else {
-            return false;
+            return Ok(false);
         };
-        if !item.fits(tree, imports[at].desc) {
-            return false;
+        if !made.fits(alloc, number, tree, item, imports[at].desc)? {
+            return Ok(false);
         }
     }
-    true
+    Ok(true)
 }
 
 /// The items without their types.
@@ -55,22 +67,29 @@ pub fn externs_of(alloc: Global, items: &[CoreItem]) -> Result<Seq<CoreExtern>, 
     Ok(externs)
 }
 
-/// What the imports of a core module are passed, of these core instances and arguments; or why it is not instantiated.
+/// What the imports of the core module of a number are passed, of these core instances and arguments; or why it is not instantiated.
 pub fn imports_passed<'a>(
     alloc: Global,
+    made: &mut CoreModules<'a>,
+    number: usize,
     instances: &[CoreExports<'a>],
     arguments: &[CoreArgument],
-    tree: &ModuleTree,
 ) -> Result<Vec<CoreItem<'a>>, MemoryOr<LinkWhy>>
-    ensures { MatchResult result (λ v. imports_outcome instances.now tree.now arguments.now ≡ Ok v.items) (λ e. IfFault e (λ w. imports_outcome instances.now tree.now arguments.now ≡ Err w)) }
+    ensures passed { (cores : List CoreMake) (canons : List CanonFunc) (m : ModuleTree) → AreModulesOf made.old cores → AreAllThere cores canons instances.now → slice_get made.old.modules.items number ≡ Some m → MatchResult result (λ v. imports_outcome instances.now m arguments.now ≡ Ok v.items) (λ e. IfFault e (λ w. imports_outcome instances.now m arguments.now ≡ Err w)) }
+    ensures same { made.new ≡ made.old }
 {
+    let Some(tree) = made.tree(number) else {
+        return Err(MemoryOr::Fault(LinkWhy::Index));
+    };
     if !are_there(instances.len(), arguments) {
         return Err(MemoryOr::Fault(LinkWhy::Index));
     }
     let named = Arguments::new(alloc, arguments)?;
-    let imports = tree.imports.as_slice();
-    let items = all_found(alloc, instances, &named, imports)?;
-    if !(are_distinct(alloc, arguments)? && all_fit(tree, imports, &items)) {
+    let items = all_found(alloc, instances, &named, tree.imports.as_slice())?;
+    if !are_distinct(alloc, arguments)? {
+        return Err(MemoryOr::Fault(LinkWhy::Typing));
+    }
+    if !all_fit(alloc, made, number, tree, &items)? {
         return Err(MemoryOr::Fault(LinkWhy::Typing));
     }
     Ok(items)

@@ -4,11 +4,11 @@
 //! which takes no room for what its module exports. A look-up by name takes as long as a map's. What `comp_linking` defines
 //! is what contracts speak of.
 //!
-//! - `few_types`: the types of the core values in which values are passed
 //! - `lowered`: the types of core functions to which functions are lowered
 //! - `core_item`: core definitions with their types, and what imports ask for
 //! - `core_module`: core modules, with their index spaces and their exports by name
 //! - `inline_exports` and `exports`: what core instances export
+//! - `modules`: core modules by their numbers, and where types of functions stand
 //! - `arguments` and `imports`: what a core module that is instantiated is passed for its imports
 //! - `aliases`: what an alias of an export of a core instance stands for
 //! - `options`: the options of lifts and lowers, and what they give
@@ -21,10 +21,10 @@ mod arguments;
 mod core_item;
 mod core_module;
 mod exports;
-mod few_types;
 mod imports;
 mod inline_exports;
 mod lowered;
+mod modules;
 mod names;
 mod needs;
 mod options;
@@ -35,6 +35,7 @@ pub use core_module::CoreModule;
 pub use exports::CoreExports;
 pub use imports::{externs_of, imports_passed};
 pub use inline_exports::{InlineExport, InlineExports};
+pub use modules::CoreModules;
 pub use names::{are_distinct, missing};
 pub use needs::{can_be_lifted, can_be_lowered};
 pub use options::{Given, are_there, stand_once};

@@ -6,9 +6,9 @@ ghost use Rattle.ca_types.specs.Flat.{at_most, out_place, returned};
 ghost use Rattle.comp_graph.specs.Needs.{core_val, lowered_type};
 ghost use Rattle.type_tables.specs.Laid.{IsLaid};
 
-use crate::few_types::{FewTypes, passed, val_type_of};
 use crate::needs::{PARAM_LIMIT, RESULT_LIMIT};
 use ca_types::CoreType;
+use core_types::{FewTypes, passed, val_type_of};
 use std::marker::Model;
 use std::slice;
 use type_tables::LaidFunc;

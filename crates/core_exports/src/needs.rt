@@ -11,8 +11,8 @@ ghost use Rattle.comp_linking.specs.Canons.{is_of_core_type};
 ghost use Rattle.type_tables.specs.Laid.{IsLaid};
 
 use crate::core_item::CoreItem;
-use crate::few_types::passed;
 use crate::options::Given;
+use core_types::passed;
 use type_tables::LaidFunc;
 use wasm_module::{ValType, are_same};
 

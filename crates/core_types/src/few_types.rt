@@ -10,7 +10,7 @@ use wasm_module::ValType;
 
 /// At most 17 types of core values: those of parameters, and of one place in memory behind them. Contracts see the types.
 #[derive(Drop)]
-pub(crate) struct FewTypes {
+pub struct FewTypes {
     types: [ValType; 17],
     count: u8,
 }
@@ -69,7 +69,7 @@ impl FewTypes {
 }
 
 /// The type of core values that a flat type is.
-pub(crate) fn val_type_of(flat: CoreType) -> ValType
+pub fn val_type_of(flat: CoreType) -> ValType
     ensures { result ≡ core_val flat }
 {
     match flat {
@@ -91,7 +91,7 @@ fn val_types_of(flat: &[CoreType]) -> FewTypes
 }
 
 /// The types in which values of flat types are passed: of more than so many it is one place in memory.
-pub(crate) fn passed(flat: &[CoreType], most: usize) -> FewTypes
+pub fn passed(flat: &[CoreType], most: usize) -> FewTypes
     requires { most ≤ 16 }
     ensures types { result ≡ map core_val (at_most most flat.now) }
     ensures few { length result ≤ 16 }
