@@ -48,22 +48,27 @@ def short_names(count, letters):
     return [short_name(number, letters) for number in range(count)]
 
 
-def module(names):
-    """A core module with one function, from nothing to nothing, which it exports under these names."""
+def taking(params):
+    """The type of a core function from so many numbers to nothing."""
+    return b"\x60" + vec([b"\x7f"] * params) + b"\x00"
+
+
+def module(names, params=0):
+    """A core module with one function, from so many numbers to nothing, which it exports under these names."""
     return (
         MODULE
-        + section(1, vec([b"\x60\x00\x00"]))
+        + section(1, vec([taking(params)]))
         + section(3, vec([u32(0)]))
         + section(7, vec(name(text) + b"\x00" + u32(0) for text in names))
         + section(10, vec([b"\x02\x00\x0b"]))
     )
 
 
-def importing(names):
-    """A core module that imports so many functions, from nothing to nothing, under these names."""
+def importing(names, params=0):
+    """A core module that imports a function under each of these names, from so many numbers to nothing."""
     return (
         MODULE
-        + section(1, vec([b"\x60\x00\x00"]))
+        + section(1, vec([taking(params)]))
         + section(2, vec(name("m") + name(text) + b"\x00" + u32(0) for text in names))
     )
 

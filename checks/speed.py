@@ -265,12 +265,32 @@ def lowered_imports_again(count):
     return lowered_imports(count, 255)
 
 
+def imported_wide(count):
+    """A core function of so many parameters, and as many imports of it."""
+    modules = formats.section(1, formats.module(["f"], count)) + formats.section(1, formats.importing(["f"] * count, count))
+    return formats.component(modules, formats.instance(), formats.instance(1, ["m"])), b"", 1
+
+
+def imported_wide_inline(count):
+    """The same through a core instance of inline exports."""
+    parts = [
+        formats.section(1, formats.module(["f"], count)) + formats.section(1, formats.importing(["f"] * count, count)),
+        formats.instance(),
+        formats.aliases(["f"]),
+        formats.inline_instance(["f"]),
+        formats.instances(1, 1, ["m"], 1),
+    ]
+    return formats.component(*parts), b"", 1
+
+
 CASES = [
     Case("exports of a core module", 400_000, module_exports),
     Case("labels of a function type", 400_000, labels),
     Case("aliases of a core instance with 1,000 exports", 400_000, few_exports),
     Case("aliases of a core instance with as many exports", 400_000, many_exports),
     Case("imports of a core module", 400_000, imports),
+    Case("imports of a core function of as many parameters", 400_000, imported_wide),
+    Case("imports of a core function of as many parameters, by a core instance of inline exports", 400_000, imported_wide_inline),
     Case("arguments of a core module", 400_000, arguments),
     Case("inline exports of a core instance, and aliases of them", 300_000, inline_exports),
     Case("exports of a component", 400_000, component_exports),

@@ -178,7 +178,7 @@ root_called k l funcs root live (bases, h) scope is called =
     let here : exports_at l 0 ≡ s.0.exports = ap (λ (o : Option Spaces). exports_or o) s.1.there in
     called (world_of bases k) s.0.exports h.instances (is bases l s.0 s.1).exports ∙ ap callables (sym here)
 
-pub graph_told : (k : Linker) (l : Linking) (g : Graph) → state.Stands k l → g.plan ≡ k.plan.items → g.instance_count ≡ length k.scopes.items → g.cores ≡ k.cores.items
+pub graph_told : (k : Linker) (l : Linking) (g : Graph) → state.Stands k l → g.plan ≡ k.plan.items → g.instance_count ≡ length k.scopes.items → g.cores ≡ k.cores.makes
     → g.canons ≡ k.canons.items → g.exports ≡ map export_of (callables (exports_at l 0)) → g.lifts ≡ map lift_of (callables (exports_at l 0)) → g ≡ graph_of l
 graph_told k l g (bases, h) plan count cores canons exports lifts =
     let a : g.plan ≡ l.plan = plan ∙ sym h.plan in

@@ -14,7 +14,7 @@ use Rattle.comp_graph.specs.CoreItems.{core_func_of}
 use Rattle.comp_graph.specs.Closed.{Closed, Value, Func, Instance}
 use Rattle.comp_linking.specs.declared.fault.LinkWhy.{LinkWhy}
 use Rattle.comp_linking.specs.declared.fault.LinkWhy.TheVariants as why
-use Rattle.comp_linking.specs.Definitions.{CoreItem, CoreExport, Lifted}
+use Rattle.comp_linking.specs.Definitions.{CoreItem, Lifted}
 use Rattle.comp_linking.specs.declared.reach.Reach.{Reach}
 use Rattle.comp_linking.specs.Runs.{reaches, runs_lift}
 use Rattle.comp_linking.specs.Spaces.{Spaces, Linking}
@@ -29,20 +29,17 @@ use Rattle.comp_link.specs.Told.{IsReason}
 use Rattle.comp_link.proofs.Told.{reason_after}
 
 -- The instantiation of a core module that is there: where its imports are refused, and where they are passed.
-module _ (l : Linking) (n : ℕ) (s : Spaces) (index : ℕ) (arguments : List CoreArgument) (m tree : ModuleTree) (instances : List (List CoreExport)) (is : slice_get s.core_modules index ≡ Some m) (tree_is : tree ≡ m) (same : s.core_instances ≡ instances) where
-  passed : imports_outcome s.core_instances m arguments ≡ imports_outcome instances tree arguments
-  passed = rw (same, tree_is) refl
+module _ (l : Linking) (n : ℕ) (s : Spaces) (index : ℕ) (arguments : List CoreArgument) (m : ModuleTree) (is : slice_get s.core_modules index ≡ Some m) where
+  pub imports_refused : (e : MemoryOr LinkWhy) → IsReason e (imports_outcome s.core_instances m arguments) → IsReason e (core_instance_outcome l n s (made_core.Instantiate index arguments))
+  imports_refused e h = rw is (reason_after e (imports_outcome s.core_instances m arguments) _ h)
 
-  pub imports_refused : (e : MemoryOr LinkWhy) → IsReason e (imports_outcome instances tree arguments) → IsReason e (core_instance_outcome l n s (made_core.Instantiate index arguments))
-  imports_refused e h = rw (is, passed) (reason_after e (imports_outcome instances tree arguments) _ h)
-
-  pub within_limit : (items : List CoreItem) → imports_outcome instances tree arguments ≡ Ok items → length l.cores < instance_limit
+  pub within_limit : (items : List CoreItem) → imports_outcome s.core_instances m arguments ≡ Ok items → length l.cores < instance_limit
       → core_instance_outcome l n s (made_core.Instantiate index arguments) ≡ Ok (Makes (core_made l n s m items))
-  within_limit items h within = rw (is, passed ∙ h, lt-ltb (length l.cores) instance_limit within) refl
+  within_limit items h within = rw (is, h, lt-ltb (length l.cores) instance_limit within) refl
 
-  pub past_limit : (items : List CoreItem) → imports_outcome instances tree arguments ≡ Ok items → instance_limit ≤ length l.cores
+  pub past_limit : (items : List CoreItem) → imports_outcome s.core_instances m arguments ≡ Ok items → instance_limit ≤ length l.cores
       → core_instance_outcome l n s (made_core.Instantiate index arguments) ≡ Err why.Limit
-  past_limit items h past = rw (is, passed ∙ h, le-ltb (length l.cores) instance_limit past) refl
+  past_limit items h past = rw (is, h, le-ltb (length l.cores) instance_limit past) refl
 
 -- The lift of a core item, by its tests.
 abbrev lift_tests : Bool → Bool → Option FuncRef → Bool → (FuncRef → Lifted) → Result Lifted LinkWhy

@@ -1,12 +1,14 @@
 mod Calling
 pub mod CanonParts
 pub mod CoreParts
+mod CoresKept
 pub mod Growth
 mod Keeping
 pub mod LevelsSeen
 pub mod Loops
 pub mod NamedSteps
 mod Passing
+mod Reaching
 pub mod Scopes
 pub mod SeenTold
 pub mod SortsTold

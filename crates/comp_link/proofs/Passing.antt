@@ -24,8 +24,10 @@ use Rattle.comp_link.specs.declared.instances.Next.TheVariants as next
 use Rattle.comp_link.specs.State.{world_of, IsKept, IsLive, IsState, Stands, IsAt, IsMade}
 use Rattle.comp_link.specs.Told.{IsReason, IsTold}
 use Rattle.comp_link.specs.Next.{IsNext}
+use Rattle.comp_link.specs.Reached.{IsReached, component_begins}
 use Rattle.comp_link.specs.Running.{inside, placed_error, next_of}
 use Rattle.comp_link.proofs.Keeping.{maker_stays}
+use Rattle.comp_link.proofs.Reaching.{step_reached}
 
 -- what calls answer that go on
 abbrev pub done : Result (Unit {0}) (MemoryOr LinkFault)
@@ -86,14 +88,19 @@ module _ (within : Run) (k : Linker) (l : Linking) (n : ℕ) (s : Spaces) (place
   placed_made (Ok (Starts c given)) h = absurd h
   placed_made (Err w) h = absurd h
 
-  pub placed_begins : (new : Linker) (answer : Result (Unit {0}) (MemoryOr LinkFault)) (component : Bor Component) (around : List ℕ) (arguments : InstanceRef) → slice_get l.scopes n ≡ Some s → IsLive k n
-      → ((bases : List Exports) (given : Exports) → IsAt bases k n l s → IsInstance k.types (world_of bases k) arguments given
+  pub placed_begins : (new : Linker) (answer : Result (Unit {0}) (MemoryOr LinkFault)) (item : Item) (component : Bor Component) (around : List ℕ) (arguments : InstanceRef) → slice_get l.scopes n ≡ Some s → IsLive k n → IsReached l
+      → ((bases : List Exports) (given : Exports) → IsAt bases k n l s → IsReached (begun l (record { items = component.now.items; around = around }) given) → IsInstance k.types (world_of bases k) arguments given
       → IsTold (λ _ next. Stands new next) answer (after (within (begun l (record { items = component.now.items; around = around }) given) (length l.scopes) component.now.items) (λ inner. Ok (with_instance inner n s (length l.scopes)))))
-      → (r : Result Outcome LinkWhy) → IsTold (IsNext k l) (comes (next.Begins component around arguments)) r → IsTold (λ _ next. Stands new next) answer (after (placed_at place r) (behind within l n s))
-  placed_begins new answer component around arguments there live nested (Ok (Makes made)) h = absurd h
-  placed_begins new answer component around arguments there live nested (Ok (Starts c given)) (same, (bases, state, instance)) =
-      subst (λ (c : Closure). IsTold (λ _ next. Stands new next) answer (behind within l n s (Starts c given))) (sym same) (nested bases given (record { state = state; there = there; live = live }) instance)
-  placed_begins new answer component around arguments there live nested (Err w) h = absurd h
+      → IsTold (IsNext k l) (comes (next.Begins component around arguments)) (item_outcome l n s item) → IsTold (λ _ next. Stands new next) answer (after (placed_at place (item_outcome l n s item)) (behind within l n s))
+  placed_begins new answer item component around arguments there live reached nested told = by (item_outcome l n s item) refl told
+    where
+      by : (r : Result Outcome LinkWhy) → item_outcome l n s item ≡ r → IsTold (IsNext k l) (comes (next.Begins component around arguments)) r → IsTold (λ _ next. Stands new next) answer (after (placed_at place r) (behind within l n s))
+      by (Ok (Makes made)) is h = absurd h
+      by (Ok (Starts c given)) is (same, (bases, state, instance)) =
+          let begins : IsReached (begun l (record { items = component.now.items; around = around }) given) = subst (λ (c : Closure). IsReached (begun l c given)) same (component_begins l n s item c given reached there is) in
+          subst (λ (c : Closure). IsTold (λ _ next. Stands new next) answer (behind within l n s (Starts c given))) (sym same)
+          (nested bases given (record { state = state; there = there; live = live }) begins instance)
+      by (Err w) is h = absurd h
 
 pub placed_refused : (within : Run) (k : Linker) (l : Linking) (n : ℕ) (s : Spaces) (place : ℕ) (e : MemoryOr LinkWhy) (r : Result Outcome LinkWhy) → IsReason e r → IsReason (placed_error place e) (after (placed_at place r) (behind within l n s))
 placed_refused within k l n s place e r h = reason_after (placed_error place e) (placed_at place r) (behind within l n s) (reason_placed place e r h)
@@ -128,12 +135,15 @@ run_is : (depth : ℕ) (l : Linking) (n : ℕ) (items : List (Placed Item)) → 
 run_is zero l n items = refl
 run_is (suc depth) l n items = refl
 
--- What is behind some items is what is behind those that are left.
-abbrev pub Goes : ℕ → ℕ → Linking → List (Placed Item) → List (Placed Item) → Linker → Type 0
-Goes depth n first items rest k = (last : Linking) × Stands k last × (run_within depth first n items ≡ run_within depth last n rest)
+-- What is behind some items is what is behind those that are left, of a linking that is come to.
+pub record Goes (depth n : ℕ) (first : Linking) (items rest : List (Placed Item)) (k : Linker) : Type 0 where
+  pub last : Linking
+  pub stands : Stands k last
+  pub reached : IsReached last
+  pub same : run_within depth first n items ≡ run_within depth last n rest
 
-pub goes_first : (depth n : ℕ) (first : Linking) (items : List (Placed Item)) (bases : List Exports) (k : Linker) → IsState bases k first → Goes depth n first items (drop 0 items) k
-goes_first depth n first items bases k h = (first, (bases, h), refl)
+pub goes_first : (depth n : ℕ) (first : Linking) (items : List (Placed Item)) (bases : List Exports) (k : Linker) → IsState bases k first → IsReached first → Goes depth n first items (drop 0 items) k
+goes_first depth n first items bases k h reached = record { last = first; stands = (bases, h); reached = reached; same = refl }
 
 module _ (depth n : ℕ) (first : Linking) (items : List (Placed Item)) (at : ℕ) (placed : Placed Item) (within : at < length items) (is : placed ≡ get_or items at placed) (old : Linker) (here : n < length old.scopes.items) (live : IsLive old n) where
   left : (last : Linking) (s : Spaces) → slice_get last.scopes n ≡ Some s → run_within depth first n items ≡ run_within depth last n (drop at items)
@@ -144,28 +154,34 @@ module _ (depth n : ℕ) (first : Linking) (items : List (Placed Item)) (at : �
       ∙ ap (λ (o : Option Spaces). after (step (inside depth) last n placed o) (λ next. run (inside depth) next n (drop (at + 1) items))) there
 
   pub goes_on : (new : Linker) → Goes depth n first items (drop at items) old
-      → ((bases : List Exports) (l : Linking) (s : Spaces) → IsAt bases old n l s → IsTold (λ _ next. Stands new next) done (step (inside depth) l n placed (Some s)))
+      → ((bases : List Exports) (l : Linking) (s : Spaces) → IsAt bases old n l s → IsReached l → IsTold (λ _ next. Stands new next) done (step (inside depth) l n placed (Some s)))
       → Goes depth n first items (drop (at + 1) items) new
-  goes_on new (last, (bases, state), e) told =
-      let s = spaces_at bases old last n state here live in
-      by s.0 s.1.there (step (inside depth) last n placed (Some s.0)) refl (told bases last s.0 s.1)
+  goes_on new goes told =
+      let s = spaces_at goes.stands.0 old goes.last n goes.stands.1 here live in
+      by s.0 s.1.there (step (inside depth) goes.last n placed (Some s.0)) refl (told goes.stands.0 goes.last s.0 s.1 goes.reached)
     where
-      by : (s : Spaces) → slice_get last.scopes n ≡ Some s → (r : Result Linking LinkFault) → step (inside depth) last n placed (Some s) ≡ r
+      by : (s : Spaces) → slice_get goes.last.scopes n ≡ Some s → (r : Result Linking LinkFault) → step (inside depth) goes.last n placed (Some s) ≡ r
           → IsTold (λ _ next. Stands new next) done r → Goes depth n first items (drop (at + 1) items) new
-      by s there (Ok next) does h =
-          (next, h, left last s there e ∙ ap (λ (r : Result Linking LinkFault). after r (λ next. run (inside depth) next n (drop (at + 1) items))) does ∙ sym (run_is depth next n (drop (at + 1) items)))
+      by s there (Ok next) does h = record {
+        last = next;
+        stands = h;
+        reached = step_reached depth goes.last n s placed next goes.reached there does;
+        same =
+            left goes.last s there goes.same ∙ ap (λ (r : Result Linking LinkFault). after r (λ next. run (inside depth) next n (drop (at + 1) items))) does
+            ∙ sym (run_is depth next n (drop (at + 1) items));
+      }
       by s there (Err fault) does h = absurd h
 
   pub goes_wrong : (e : MemoryOr LinkFault) → Goes depth n first items (drop at items) old
-      → ((bases : List Exports) (l : Linking) (s : Spaces) → IsAt bases old n l s → IsReason e (step (inside depth) l n placed (Some s)))
+      → ((bases : List Exports) (l : Linking) (s : Spaces) → IsAt bases old n l s → IsReached l → IsReason e (step (inside depth) l n placed (Some s)))
       → IsReason e (run_within depth first n items)
-  goes_wrong error (last, (bases, state), e) told =
-      let s = spaces_at bases old last n state here live in
-      subst (λ (r : Result Linking LinkFault). IsReason error r) (sym (left last s.0 s.1.there e))
-      (reason_after error (step (inside depth) last n placed (Some s.0)) (λ next. run (inside depth) next n (drop (at + 1) items)) (told bases last s.0 s.1))
+  goes_wrong error goes told =
+      let s = spaces_at goes.stands.0 old goes.last n goes.stands.1 here live in
+      subst (λ (r : Result Linking LinkFault). IsReason error r) (sym (left goes.last s.0 s.1.there goes.same))
+      (reason_after error (step (inside depth) goes.last n placed (Some s.0)) (λ next. run (inside depth) next n (drop (at + 1) items)) (told goes.stands.0 goes.last s.0 s.1 goes.reached))
 
 pub goes_last : (depth n : ℕ) (first : Linking) (items : List (Placed Item)) (at : ℕ) (k : Linker) → length items ≤ at → Goes depth n first items (drop at items) k
     → IsTold (λ _ last. Stands k last) done (run_within depth first n items)
-goes_last depth n first items at k past (last, stands, e) =
+goes_last depth n first items at k past goes =
     subst (λ (r : Result Linking LinkFault). IsTold (λ _ last. Stands k last) done r)
-    (sym (e ∙ run_is depth last n (drop at items) ∙ ap (run (inside depth) last n) (drop_all at items past))) stands
+    (sym (goes.same ∙ run_is depth goes.last n (drop at items) ∙ ap (run (inside depth) goes.last n) (drop_all at items past))) goes.stands

@@ -16,6 +16,7 @@ use Rattle.instance_tables.specs.declared.references.InstanceRef.{InstanceRef}
 use Rattle.instance_tables.specs.References.{World, Stays, WorldStays, with_base, IsListing}
 use Rattle.instance_tables.specs.Instances.{AreInstances, GivesInstance}
 use Rattle.instance_tables.proofs.Growing.{more_bases, stays_before}
+use Rattle.comp_link.specs.Cores.{CoreLists}
 use Rattle.comp_link.specs.declared.scope.Scope.{Scope}
 use Rattle.comp_link.specs.declared.linker.Linker.{Linker}
 use Rattle.comp_link.specs.State.{world_of, IsScope, IsKept, ended, IsLive, IsState, IsAt, IsThere}
@@ -28,12 +29,12 @@ same_world w = record { components = λ number x h. h; bases = λ number x h. h;
 -- a state stays where the tables behind it have grown
 pub state_stays : (bases more : List Exports) (k m : Linker) (l : Linking)
     → Grows k.types m.types → WorldStays (world_of bases k) (world_of more m) → AreInstances m.types (world_of more m) m.instances
-    → m.scopes ≡ k.scopes → m.cores ≡ k.cores → m.canons ≡ k.canons → m.plan ≡ k.plan → m.reach ≡ k.reach → IsState bases k l → IsState more m l
+    → m.scopes ≡ k.scopes → m.cores.makes ≡ k.cores.makes → m.canons ≡ k.canons → m.plan ≡ k.plan → m.reach ≡ k.reach → IsState bases k l → IsState more m l
 state_stays bases more k m l types world instances scopes cores canons plan reach h = record {
   instances = instances;
   scopes = subst (λ (v : Linker). AllZip (IsKept m.types (world_of more m)) v.scopes.items l.scopes) (ap (λ scopes. record k { scopes = scopes }) (sym scopes))
       (zips_weaker (IsKept k.types (world_of bases k)) (IsKept m.types (world_of more m)) (kept_stays k.types m.types (world_of bases k) (world_of more m) types world) k.scopes.items l.scopes h.scopes);
-  cores = h.cores ∙ ap (λ cores. cores.items) (sym cores);
+  cores = h.cores ∙ sym cores;
   canons = h.canons ∙ ap (λ canons. canons.items) (sym canons);
   plan = h.plan ∙ ap (λ plan. plan.items) (sym plan);
   reach = h.reach ∙ sym reach;
@@ -132,7 +133,7 @@ pub components_more : (bases : List Exports) (k m : Linker) (n : ℕ) (l : Linki
 components_more bases k m n l s c same is at = subst (λ (v : Linker). IsAt bases v n l s) (sym same) (record { state = state; there = at.there; live = at.live })
   where
     world : World
-    world = record { components = m.components.items; bases = bases; modules = k.modules.items }
+    world = record { components = m.components.items; bases = bases; modules = k.cores.modules }
 
     stays : WorldStays (world_of bases k) world
     stays = record {
@@ -145,21 +146,21 @@ components_more bases k m n l s c same is at = subst (λ (v : Linker). IsAt base
     state = state_stays bases bases k (record k { components = m.components }) l (grows_refl k.types) stays (instances_stay k.types k.types (world_of bases k) world (grows_refl k.types) stays k.instances refl at.state.instances) refl refl refl refl refl at.state
 
 pub modules_more : (bases : List Exports) (k m : Linker) (n : ℕ) (l : Linking) (s : Spaces) (made : ModuleTree)
-    → m ≡ record k { modules = m.modules } → m.modules.items ≡ k.modules.items ++ made ∷ [] → IsAt bases k n l s → IsAt bases m n l s
+    → m ≡ record k { cores = m.cores } → m.cores ≡ record k.cores { modules = k.cores.modules ++ made ∷ [] } → IsAt bases k n l s → IsAt bases m n l s
 modules_more bases k m n l s made same is at = subst (λ (v : Linker). IsAt bases v n l s) (sym same) (record { state = state; there = at.there; live = at.live })
   where
     world : World
-    world = record { components = k.components.items; bases = bases; modules = m.modules.items }
+    world = record { components = k.components.items; bases = bases; modules = m.cores.modules }
 
     stays : WorldStays (world_of bases k) world
     stays = record {
       components = λ number x h. h;
       bases = λ number x h. h;
-      modules = subst (λ (ms : List ModuleTree). Stays k.modules.items ms) (sym is) (stays_before k.modules.items (made ∷ []));
+      modules = subst (λ (ms : List ModuleTree). Stays k.cores.modules ms) (sym (ap (λ (cs : CoreLists). cs.modules) is)) (stays_before k.cores.modules (made ∷ []));
     }
 
-    state : IsState bases (record k { modules = m.modules }) l
-    state = state_stays bases bases k (record k { modules = m.modules }) l (grows_refl k.types) stays (instances_stay k.types k.types (world_of bases k) world (grows_refl k.types) stays k.instances refl at.state.instances) refl refl refl refl refl at.state
+    state : IsState bases (record k { cores = m.cores }) l
+    state = state_stays bases bases k (record k { cores = m.cores }) l (grows_refl k.types) stays (instances_stay k.types k.types (world_of bases k) world (grows_refl k.types) stays k.instances refl at.state.instances) refl (ap (λ (cs : CoreLists). cs.makes) is) refl refl refl at.state
 
 -- one instance more
 pub instance_more : (bases : List Exports) (k m : Linker) (l : Linking) (exports : Exports)

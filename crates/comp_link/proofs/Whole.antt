@@ -50,8 +50,8 @@ module _ (reach : Reach) (c : Component) (k : Linker) (told : IsTold (λ _ last.
       let same = as_many found.1.0 k found.0 found.1.1 in
       omega (arith, few.0, same)
 
-  pub few_cores : length k.cores.items ≤ core_instance_limit
+  pub few_cores : length k.cores.makes ≤ core_instance_limit
   few_cores =
       let few = graphs_are_few reach c (graph_of found.0) found.2 in
-      let same : length found.0.cores ≡ length k.cores.items = ap length found.1.1.cores in
+      let same : length found.0.cores ≡ length k.cores.makes = ap length found.1.1.cores in
       omega (arith, few.1, same)

@@ -1,8 +1,9 @@
 -- Lists whose elements stand beside one another.
-use Rattle.std.proofs.Common.{◌≡◌, ◌<◌, arith, ℕ, zero, suc, List, [], ◌∷◌, ◌++◌, length, map, refl, ap, subst, sym, ◌∙◌, Option, Some, None}
+use Rattle.std.proofs.Common.{◌≡◌, ◌<◌, ◌≤◌, arith, ℕ, zero, suc, List, [], ◌∷◌, ◌++◌, length, map, refl, ap, subst, sym, ◌∙◌, Option, Some, None}
 use Rattle.std.specs.Prelude.{set, get_or}
 use Rattle.std.specs.List.{slice_get, AllZip}
 use Rattle.std.specs.Option.{option_and_then, option_copied}
+use Rattle.std.proofs.lemmas.Option.{slice_get_within}
 use Rattle.type_meanings.specs.Meant.{IsFoundAs}
 use denote.Ref.{Bor}
 
@@ -99,6 +100,10 @@ found_lent R xs zs ys n r h is same = lent_as R r (slice_get ys n) (found_in R x
 numbered : {A : Type 0} (xs : List A) (o : Option ℕ) (found : Option A) → IsFoundAs (λ (n : ℕ) (x : A). slice_get xs n ≡ Some x) o found → option_and_then (λ (n : ℕ). slice_get xs n) o ≡ found
 numbered xs None found h = sym h
 numbered xs (Some n) found h = h.2 ∙ sym h.1
+
+-- a number behind the last one is that of nothing
+pub not_past : {A : Type 0} (xs : List A) (n : ℕ) (found : Option A) → length xs ≤ n → IsFoundAs (λ (n : ℕ) (x : A). slice_get xs n ≡ Some x) (Some n) found → ⊥
+not_past xs n found past h = let within = slice_get_within xs n h.0 h.2 in omega (arith, past, within)
 
 itself : {A : Type 0} (r : Option (Bor A)) → IsFoundAs (λ (b : Bor A) (x : A). b.now ≡ x) r (option_copied r)
 itself None = refl

@@ -1,5 +1,7 @@
 pub mod Called
+pub mod Cores
 pub mod Next
+pub mod Reached
 pub mod Ready
 pub mod Running
 pub mod Sorts

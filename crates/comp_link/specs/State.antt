@@ -17,7 +17,7 @@ use Rattle.comp_link.specs.declared.linker.Linker.{Linker}
 
 -- what stands behind the numbers of a linker whose instances so far have these exports
 abbrev pub world_of : List Exports → Linker → World
-world_of bases k = record { components = k.components.items; bases = bases; modules = k.modules.items }
+world_of bases k = record { components = k.components.items; bases = bases; modules = k.cores.modules }
 
 -- a core module, by its number
 abbrev pub IsModule : World → ℕ → ModuleTree → Type 0
@@ -69,7 +69,7 @@ StayLive old new = (n : ℕ) → IsLive old n → IsLive new n
 pub record IsState (bases : List Exports) (k : Linker) (l : Linking) : Type 0 where
   pub instances : AreInstances k.types (world_of bases k) k.instances
   pub scopes : AllZip (IsKept k.types (world_of bases k)) k.scopes.items l.scopes
-  pub cores : l.cores ≡ k.cores.items
+  pub cores : l.cores ≡ k.cores.makes
   pub canons : l.canons ≡ k.canons.items
   pub plan : l.plan ≡ k.plan.items
   pub reach : l.reach ≡ k.reach

@@ -12,6 +12,7 @@ ghost use Rattle.type_tables.specs.Table.{Table};
 ghost use Rattle.instance_tables.specs.References.{World};
 ghost use Rattle.comp_link.specs.State.{IsScope, IsAt, IsMade, ended};
 ghost use Rattle.comp_link.specs.Told.{IsTold};
+ghost use Rattle.comp_link.specs.Reached.{IsReached};
 
 use crate::link_fault::ItemError;
 use crate::linker::{INSTANCE_LIMIT, Linker};
@@ -19,7 +20,7 @@ use crate::scope::Scope;
 use ca_base::MemoryOr;
 use comp_linking::LinkWhy;
 use comp_tree::{CoreArgument, CoreInlineExport, CoreInstance};
-use core_exports::{InlineExport, InlineExports, are_distinct, externs_of, imports_passed};
+use core_exports::{InlineExport, InlineExports, are_distinct, externs_of};
 use std::alloc::Global;
 
 /// Links the instantiation of a core module.
@@ -31,22 +32,19 @@ fn link_instantiation(
     arguments: &[CoreArgument],
 ) -> Result<(), ItemError>
     requires { n < length linker.old.scopes.items }
-    ensures made { (bases : List Exports) (l : Linking) (s : Spaces) → IsAt bases linker.old n l s → IsTold (λ _ outcome. IsMade linker.new outcome) result (core_instance_outcome l n s (made_core.Instantiate index arguments.now)) }
+    ensures made { (bases : List Exports) (l : Linking) (s : Spaces) → IsAt bases linker.old n l s → IsReached l → IsTold (λ _ outcome. IsMade linker.new outcome) result (core_instance_outcome l n s (made_core.Instantiate index arguments.now)) }
     ensures scopes { OnOk result (length linker.new.scopes.items ≡ length linker.old.scopes.items) }
     ensures live { OnOk result (ended linker.new ≡ ended linker.old) }
 {
-    let Some(made) = linker.module(n, index) else {
+    let Some(module) = linker.module(n, index) else {
         return Err(MemoryOr::Fault(LinkWhy::Index));
     };
-    let made = made.share()?;
-    let instances = linker.scope(n).core_instances.as_slice();
-    let tree = made.get().valid().tree();
-    let items = imports_passed(alloc, instances, arguments, tree)?;
+    let items = linker.passed(alloc, n, module, arguments)?;
     if linker.core_count() >= INSTANCE_LIMIT {
         return Err(MemoryOr::Fault(LinkWhy::Limit));
     }
     let externs = externs_of(alloc, &items)?;
-    linker.add_core_instance(n, made, externs)?;
+    linker.add_core_instance(n, module, externs)?;
     Ok(())
 }
 
@@ -125,7 +123,7 @@ pub fn link_core_instance<'a>(
     made: &'a CoreInstance,
 ) -> Result<(), ItemError>
     requires { n < length linker.old.scopes.items }
-    ensures made { (bases : List Exports) (l : Linking) (s : Spaces) → IsAt bases linker.old n l s → IsTold (λ _ outcome. IsMade linker.new outcome) result (core_instance_outcome l n s made.now) }
+    ensures made { (bases : List Exports) (l : Linking) (s : Spaces) → IsAt bases linker.old n l s → IsReached l → IsTold (λ _ outcome. IsMade linker.new outcome) result (core_instance_outcome l n s made.now) }
     ensures scopes { OnOk result (length linker.new.scopes.items ≡ length linker.old.scopes.items) }
     ensures live { OnOk result (ended linker.new ≡ ended linker.old) }
 {

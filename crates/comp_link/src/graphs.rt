@@ -243,7 +243,7 @@ pub fn graph_of<'a>(alloc: Global, linker: Linker<'a>) -> Result<Graph<'a>, Allo
     requires root { 0 < length linker.scopes.items }
     requires live { IsLive linker 0 }
     requires few { length linker.scopes.items ≤ instance_limit }
-    requires few_cores { length linker.cores.items ≤ core_instance_limit }
+    requires few_cores { length linker.cores.makes ≤ core_instance_limit }
     ensures { IfOk result (λ g. (l : Linking) → state.Stands linker.entry l → g ≡ linked.graph_of l) }
 {
     let funcs = graph_funcs(alloc, &linker)?;
@@ -251,7 +251,7 @@ pub fn graph_of<'a>(alloc: Global, linker: Linker<'a>) -> Result<Graph<'a>, Allo
     Ok(Graph::new(
         Seq::from_vec(linker.plan),
         count,
-        linker.cores,
+        linker.cores.into_makes(),
         Seq::from_vec(linker.canons),
         Seq::from_vec(funcs.exports),
         Seq::from_vec(funcs.lifts),

@@ -9,7 +9,8 @@
 //! - `core_instances`, `core_aliases`, `lifts`, `lowers`, `aliases`, `types`, `instances`, `imports` and `exports`: what each kind
 //!   of item makes
 //! - `named` and `seen`: definitions under names, and definitions as they are asked for
-//! - `linker`, of `scope`: linking as it stands, and the index spaces of a component instance
+//! - `linker`, of `scope` and `cores`: linking as it stands, the index spaces of a component instance, and the core modules with
+//!   the core instances that are made of them
 //! - `graphs`, of `funcs` and `canons`: the graph of what is linked
 //! - `link_fault`: why a linking ends without a graph
 #![tactic(auto)]
@@ -18,6 +19,7 @@ mod aliases;
 mod canons;
 mod core_aliases;
 mod core_instances;
+mod cores;
 mod exports;
 mod funcs;
 mod graphs;

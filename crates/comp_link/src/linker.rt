@@ -1,8 +1,10 @@
 //! Linking as it stands: what the component instances that have begun have in their index spaces, and what was made.
 
-ghost use Rattle.std.specs.Prelude.{◌≡◌, ◌≢◌, ◌<◌, ◌+◌, ◌∷◌, ◌++◌, [], List, ℕ, false, Some, map, length, IfOk, OnOk, IsTrue};
+ghost use Rattle.std.specs.Prelude.{◌≡◌, ◌≢◌, ◌<◌, ◌+◌, ◌∷◌, ◌++◌, [], List, ℕ, false, Some, Ok, Err, map, length, IfSome, IfOk, OnOk, MatchResult, IsTrue};
 ghost use Rattle.std.specs.List.{slice_get};
 ghost use Rattle.std.specs.Option.{option_and_then, option_copied};
+ghost use Rattle.ca_base.specs.Faults.{IfFault};
+ghost use Rattle.wasm_module.specs.declared.module.ModuleTree.{ModuleTree};
 ghost use Rattle.comp_graph.specs.Closed.{Extern, Externs};
 ghost use Rattle.comp_linking.specs.Definitions.{CoreItem, extern_of, Lifted, Closure, Definition, AComponent, AModule, Exports, types_of};
 ghost use Rattle.comp_linking.specs.Tests.{are_types};
@@ -10,21 +12,25 @@ ghost use Rattle.comp_linking.specs.Spaces.{Spaces, Linking, with_core_item, wit
 ghost use Rattle.comp_linking.specs.Canons.{Given, options_of};
 ghost use Rattle.comp_linking.specs.Items.{core_made, lower_made, with_import, with_export};
 ghost use Rattle.comp_linking.specs.Linked.{root_begun, begun, with_instance};
+ghost use Rattle.comp_linking.specs.Computed.{imports_outcome};
 ghost use Rattle.type_tables.specs.Table.{IsName, IsExtern, IsInstanceType};
 ghost use Rattle.instance_tables.specs.declared.references.DefinitionRef.{DefinitionRef};
 ghost use Rattle.instance_tables.specs.References.{IsInstance, IsLifted, IsListing};
 ghost use Rattle.instance_tables.specs.References as references;
 ghost use Rattle.instance_tables.specs.Fit.{IsFit};
 ghost use Rattle.type_meanings.specs.Meant.{IsFoundAs};
+ghost use Rattle.comp_link.specs.Reached.{IsReached};
 ghost use Rattle.comp_link.specs.State.{world_of, IsScope, IsKept, IsState, IsAt, IsThere, IsLive, Stands, ended};
 
 use crate::canons::lowered_to;
+use crate::cores::Cores;
+use crate::link_fault::ItemError;
 use crate::scope::{Scope, Standing};
 use ca_base::{Name, Seq};
 use ca_types::Shared;
-use comp_graph::{Action, CanonFunc, CoreExtern, CoreMake, Options};
+use comp_graph::{Action, CanonFunc, CoreExtern, Options};
 use comp_linking::Reach;
-use comp_tree::Component;
+use comp_tree::{Component, CoreArgument};
 use core_exports::{CoreExports, CoreItem, CoreModule, InlineExports};
 use instance_tables::{DefinitionRef, Fit, InstanceRef, Instances, LiftedRef};
 use std::alloc::{AllocError, Global};
@@ -45,12 +51,10 @@ pub struct Linker<'a> {
     pub instances: Instances,
     /// The components, by their numbers.
     pub components: Vec<Standing<'a>>,
-    /// The core modules, by their numbers.
-    pub modules: Vec<Shared<CoreModule<'a>>>,
     /// The component instances that have begun, in order of beginning.
     pub scopes: Vec<Scope<'a>>,
-    /// The core instances that are made of modules, in order of making.
-    pub cores: Vec<CoreMake<'a>>,
+    /// The core modules, by their numbers, and the core instances that are made of them, in order of making.
+    pub cores: Cores<'a>,
     /// The core functions that functions are lowered to, in order of making.
     pub canons: Vec<CanonFunc>,
     /// What is made, in file order.
@@ -75,9 +79,8 @@ impl<'a> Linker<'a> {
             types: Types::new(alloc),
             instances: Instances::new(alloc),
             components: Vec::new(alloc),
-            modules: Vec::new(alloc),
             scopes,
-            cores: Vec::new(alloc),
+            cores: Cores::new(alloc),
             canons: Vec::new(alloc),
             plan,
             reach,
@@ -107,12 +110,36 @@ impl<'a> Linker<'a> {
         item_numbered(&self.components, self.scopes[n].component(index))
     }
 
-    /// The core module of an index of a component instance.
-    pub fn module(&self, n: usize, index: u32) -> Option<&Shared<CoreModule<'a>>>
+    /// The number of the core module of an index of a component instance.
+    pub fn module(&self, n: usize, index: u32) -> Option<usize>
         requires { n < length self.now.scopes.items }
-        ensures { (bases : List Exports) (l : Linking) (s : Spaces) → IsAt bases self.now n l s → IsFoundAs (λ m x. m.now ≡ x) result (slice_get s.core_modules index) }
+        ensures found { (bases : List Exports) (l : Linking) (s : Spaces) → IsAt bases self.now n l s → IsFoundAs (λ number m. slice_get self.now.cores.modules number ≡ Some m) result (slice_get s.core_modules index) }
+        ensures there { IfSome result (λ number. number < length self.now.cores.modules) }
     {
-        item_numbered(&self.modules, self.scopes[n].module(index))
+        let Some(number) = self.scopes[n].module(index) else {
+            return None;
+        };
+        if number >= self.cores.module_count() {
+            return None;
+        }
+        Some(number)
+    }
+
+    /// What the imports of the core module of a number are passed, of the core instances of a component instance and these
+    /// arguments; or why it is not instantiated.
+    pub fn passed(
+        &mut self,
+        alloc: Global,
+        n: usize,
+        number: usize,
+        arguments: &[CoreArgument],
+    ) -> Result<Vec<CoreItem<'a>>, ItemError>
+        requires { n < length self.old.scopes.items }
+        ensures told { (bases : List Exports) (l : Linking) (s : Spaces) (m : ModuleTree) → IsAt bases self.old n l s → IsReached l → slice_get self.old.cores.modules number ≡ Some m → MatchResult result (λ v. imports_outcome s.core_instances m arguments.now ≡ Ok v.items) (λ e. IfFault e (λ w. imports_outcome s.core_instances m arguments.now ≡ Err w)) }
+        ensures same { self.new ≡ self.old }
+    {
+        let instances = self.scopes[n].core_instances.as_slice();
+        self.cores.passed(alloc, number, instances, arguments)
     }
 
     /// How many component instances have begun.
@@ -126,7 +153,7 @@ impl<'a> Linker<'a> {
     pub fn core_count(&self) -> usize
         ensures { (bases : List Exports) (l : Linking) → IsState bases self.now l → result ≡ length l.cores }
     {
-        self.cores.len()
+        self.cores.count()
     }
 
     /// The number of a name.
@@ -172,8 +199,7 @@ impl<'a> Linker<'a> {
         ensures scopes { OnOk result (length self.new.scopes.items ≡ length self.old.scopes.items) }
         ensures live { OnOk result (ended self.new ≡ ended self.old) }
     {
-        let number = self.modules.len();
-        self.modules.push(made)?;
+        let number = self.cores.add_module(made)?;
         self.add(n, DefinitionRef::Module(number))?;
         Ok(())
     }
@@ -220,23 +246,23 @@ impl<'a> Linker<'a> {
         Ok(())
     }
 
-    /// Adds a core instance of a module whose imports are these items.
+    /// Adds a core instance of the module of a number, whose imports are these items.
     pub fn add_core_instance(
         &mut self,
         n: usize,
-        made: Shared<CoreModule<'a>>,
+        number: usize,
         imports: Seq<CoreExtern>,
     ) -> Result<(), AllocError>
-        requires { n < length self.old.scopes.items }
-        ensures ok { OnOk result ((bases : List Exports) (l : Linking) (s : Spaces) (items : List CoreItem) → IsAt bases self.old n l s → imports ≡ map extern_of items → IsState bases self.new (core_made l n s made.entry items)) }
+        requires here { n < length self.old.scopes.items }
+        requires there { number < length self.old.cores.modules }
+        ensures ok { OnOk result ((bases : List Exports) (l : Linking) (s : Spaces) (m : ModuleTree) (items : List CoreItem) → IsAt bases self.old n l s → slice_get self.old.cores.modules number ≡ Some m → imports ≡ map extern_of items → IsState bases self.new (core_made l n s m items)) }
         ensures scopes { OnOk result (length self.new.scopes.items ≡ length self.old.scopes.items) }
         ensures live { OnOk result (ended self.new ≡ ended self.old) }
     {
-        let number = self.cores.len();
-        let valid = made.get().valid();
-        self.cores.push(CoreMake::new(valid, imports, n))?;
-        self.plan.push(Action::Make(number))?;
-        self.scopes[n].add_core_instance(CoreExports::of_module(number, made))?;
+        let instance = self.cores.count();
+        let exports = self.cores.add_instance(number, imports, n)?;
+        self.plan.push(Action::Make(instance))?;
+        self.scopes[n].add_core_instance(exports)?;
         Ok(())
     }
 

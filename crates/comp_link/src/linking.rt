@@ -16,6 +16,7 @@ ghost use Rattle.comp_link.specs.State.{world_of, IsState, IsAt, IsMade, IsLive,
 ghost use Rattle.comp_link.specs.State as state;
 ghost use Rattle.comp_link.specs.Told.{IsTold};
 ghost use Rattle.comp_link.specs.Next.{IsNext};
+ghost use Rattle.comp_link.specs.Reached.{IsReached};
 ghost use Rattle.comp_link.specs.Running.{inside, placed_error, next_of};
 
 use crate::aliases::link_alias;
@@ -108,7 +109,7 @@ fn link_item<'a>(
     item: &'a Item,
 ) -> Result<Next<'a>, ItemError>
     requires { n < length linker.old.scopes.items }
-    ensures made { (bases : List Exports) (l : Linking) (s : Spaces) → IsAt bases linker.old n l s → IsTold (IsNext linker.new l) result (item_outcome l n s item.now) }
+    ensures made { (bases : List Exports) (l : Linking) (s : Spaces) → IsAt bases linker.old n l s → IsReached l → IsTold (IsNext linker.new l) result (item_outcome l n s item.now) }
     ensures scopes { OnOk result (length linker.new.scopes.items ≡ length linker.old.scopes.items) }
     ensures live { OnOk result (ended linker.new ≡ ended linker.old) }
 {
@@ -146,7 +147,7 @@ fn link_placed<'a>(
     depth: usize,
 ) -> Result<(), LinkError>
     requires { n < length linker.old.scopes.items }
-    ensures told { (bases : List Exports) (l : Linking) (s : Spaces) → IsAt bases linker.old n l s → IsTold (λ _ next. state.Stands linker.new next) result (step (inside depth) l n placed.now (Some s)) }
+    ensures told { (bases : List Exports) (l : Linking) (s : Spaces) → IsAt bases linker.old n l s → IsReached l → IsTold (λ _ next. state.Stands linker.new next) result (step (inside depth) l n placed.now (Some s)) }
     ensures scopes { OnOk result (length linker.old.scopes.items ≤ length linker.new.scopes.items) }
     ensures live { OnOk result (StayLive linker.old linker.new) }
 {
@@ -175,7 +176,7 @@ fn link_nested<'a>(
     depth: usize,
 ) -> Result<(), LinkError>
     requires { n < length linker.old.scopes.items }
-    ensures told { (bases : List Exports) (l : Linking) (s : Spaces) (given : Exports) → IsAt bases linker.old n l s → IsInstance linker.old.types (world_of bases linker.old) arguments given → IsTold (λ _ next. state.Stands linker.new next) result (after (inside depth (begun l (record { items = component.now.items; around = around }) given) (length l.scopes) component.now.items) (λ inner. Ok (with_instance inner n s (length l.scopes)))) }
+    ensures told { (bases : List Exports) (l : Linking) (s : Spaces) (given : Exports) → IsAt bases linker.old n l s → IsReached (begun l (record { items = component.now.items; around = around }) given) → IsInstance linker.old.types (world_of bases linker.old) arguments given → IsTold (λ _ next. state.Stands linker.new next) result (after (inside depth (begun l (record { items = component.now.items; around = around }) given) (length l.scopes) component.now.items) (λ inner. Ok (with_instance inner n s (length l.scopes)))) }
     ensures scopes { OnOk result (length linker.old.scopes.items ≤ length linker.new.scopes.items) }
     ensures live { OnOk result (StayLive linker.old linker.new) }
 {
@@ -196,7 +197,7 @@ fn link_inside<'a>(
     depth: usize,
 ) -> Result<(), LinkError>
     requires { n < length linker.old.scopes.items }
-    ensures told { (bases : List Exports) (l : Linking) → IsState bases linker.old l → IsLive linker.old n → IsTold (λ _ last. state.Stands linker.new last) result (inside depth l n items.now) }
+    ensures told { (bases : List Exports) (l : Linking) → IsState bases linker.old l → IsLive linker.old n → IsReached l → IsTold (λ _ last. state.Stands linker.new last) result (inside depth l n items.now) }
     ensures scopes { OnOk result (length linker.old.scopes.items ≤ length linker.new.scopes.items) }
     ensures live { OnOk result (StayLive linker.old linker.new) }
 {
@@ -216,7 +217,7 @@ fn link_items<'a>(
     depth: usize,
 ) -> Result<(), LinkError>
     requires { n < length linker.old.scopes.items }
-    ensures told { (bases : List Exports) (l : Linking) → IsState bases linker.old l → IsLive linker.old n → IsTold (λ _ last. state.Stands linker.new last) result (run_within depth l n items.now) }
+    ensures told { (bases : List Exports) (l : Linking) → IsState bases linker.old l → IsLive linker.old n → IsReached l → IsTold (λ _ last. state.Stands linker.new last) result (run_within depth l n items.now) }
     ensures scopes { OnOk result (length linker.old.scopes.items ≤ length linker.new.scopes.items) }
     ensures live { OnOk result (StayLive linker.old linker.new) }
 {

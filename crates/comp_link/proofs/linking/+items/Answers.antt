@@ -23,7 +23,7 @@ use Rattle.comp_link.proofs.States.{live_same, before_live, last_live}
 use Rattle.comp_link.proofs.linking.+items.Goals as goal
 
 pub link_nested-returns-in_err-link_inside-clause-told : goal.link_nested-returns-in_err-link_inside-clause-told
-link_nested-returns-in_err-link_inside-clause-told t c = λ bases l s given at instance.
+link_nested-returns-in_err-link_inside-clause-told t c = λ bases l s given at reached instance.
     let component : Closure = record { items = c.args.component.now.items; around = c.args.around } in
     let state = c.in_ok-begin.ensures.ok bases l component given at.state refl instance in
     let many = as_many bases c.args.linker.now l at.state in
@@ -31,12 +31,12 @@ link_nested-returns-in_err-link_inside-clause-told t c = λ bases l s given at i
     let begins = last_live c.args.linker.now c.begin.new.self c.len-instance.result c.in_ok-begin.ensures.live (c.len-instance.ensures ∙ c.args.linker.now.scopes.ok.0) in
     let told : IsReason {A = Linking} c.in_err-link_inside.field-0.0 (inside c.args.depth (begun l component given) c.len-instance.result c.args.component.now.items) =
     subst (λ (items : List (Placed Item)). IsReason {A = Linking} c.in_err-link_inside.field-0.0 (inside c.args.depth (begun l component given) c.len-instance.result items)) c.as_slice.ensures
-    (c.in_err-link_inside.ensures.told bases (begun l component given) state begins) in
+    (c.in_err-link_inside.ensures.told bases (begun l component given) state begins reached) in
     let p = err_from_is_err_and c.from_residual-in_err-link_inside.result c.from_residual-in_err-link_inside.ensures.1 in
     rw (p.1, p.2) (nested_refused c.args.depth l c.args.n s component given c.link_inside.new.linker c.link_inside.new.linker c.len-instance.result same c.in_err-link_inside.field-0.0 told)
 
 pub link_nested-returns-clause-told : goal.link_nested-returns-clause-told
-link_nested-returns-clause-told t c = λ bases l s given at instance.
+link_nested-returns-clause-told t c = λ bases l s given at reached instance.
     let component : Closure = record { items = c.args.component.now.items; around = c.args.around } in
     let state = c.in_ok-begin.ensures.ok bases l component given at.state refl instance in
     let many = as_many bases c.args.linker.now l at.state in
@@ -45,7 +45,7 @@ link_nested-returns-clause-told t c = λ bases l s given at instance.
     let below : c.args.n < length l.scopes = omega (arith, c.requires, many) in
     let told : IsTold (λ _ last. Stands c.link_inside.new.linker last) done (inside c.args.depth (begun l component given) c.len-instance.result c.args.component.now.items) =
     subst (λ (items : List (Placed Item)). IsTold (λ _ last. Stands c.link_inside.new.linker last) done (inside c.args.depth (begun l component given) c.len-instance.result items)) c.as_slice.ensures
-    (c.in_ok-link_inside.ensures.told bases (begun l component given) state begins) in
+    (c.in_ok-link_inside.ensures.told bases (begun l component given) state begins reached) in
     nested_told c.args.depth l c.args.n s component given c.link_inside.new.linker c.end.new.self at.there (c.in_ok-link_inside.ensures.live c.args.n (before_live c.args.linker.now c.begin.new.self c.args.n c.in_ok-begin.ensures.live at.live)) below c.len-instance.result same told
     (λ others last there. c.in_ok-end.ensures.ok others last s there)
 
@@ -55,19 +55,19 @@ link_placed-link_nested-requires t c =
     (search (rules, arith, c.decreases), omega (arith, c.requires, same))
 
 pub link_placed-returns-in-Ok-Begins-clause-told : goal.link_placed-returns-in-Ok-Begins-clause-told
-link_placed-returns-in-Ok-Begins-clause-told t c = λ bases l s at.
+link_placed-returns-in-Ok-Begins-clause-told t c = λ bases l s at reached.
     let told : IsTold (IsNext c.link_item.new.linker l) (Ok (next.Begins c.in-Ok-Begins.component c.in-Ok-Begins.around c.in-Ok-Begins.arguments)) (item_outcome l c.args.n s c.args.placed.now.item) =
     subst (λ (x : Result Next (MemoryOr LinkWhy)). IsTold (IsNext c.link_item.new.linker l) x (item_outcome l c.args.n s c.args.placed.now.item)) (c.in-Ok-Begins.is ∙ ap (λ (x : Next). (let r : Result Next (MemoryOr LinkWhy) = Ok x in r)) c.in-Ok-Begins.field-0-is)
-    (c.link_item.ensures.made bases l s at) in
-    placed_begins (inside c.args.depth) c.link_item.new.linker l c.args.n s c.args.placed.now.place c.link_nested.new.linker c.link_nested.result c.in-Ok-Begins.component c.in-Ok-Begins.around c.in-Ok-Begins.arguments at.there (live_same c.args.linker.now c.link_item.new.linker c.args.n c.in-Ok-Begins.ensures.live at.live)
-    (λ others given here instance. c.link_nested.ensures.told others l s given here instance) (item_outcome l c.args.n s c.args.placed.now.item) told
+    (c.link_item.ensures.made bases l s at reached) in
+    placed_begins (inside c.args.depth) c.link_item.new.linker l c.args.n s c.args.placed.now.place c.link_nested.new.linker c.link_nested.result c.args.placed.now.item c.in-Ok-Begins.component c.in-Ok-Begins.around c.in-Ok-Begins.arguments at.there (live_same c.args.linker.now c.link_item.new.linker c.args.n c.in-Ok-Begins.ensures.live at.live) reached
+    (λ others given here begins instance. c.link_nested.ensures.told others l s given here begins instance) told
 
 pub link_items-returns-in_err-link_placed-clause-told : goal.link_items-returns-in_err-link_placed-clause-told
-link_items-returns-in_err-link_placed-clause-told t c = λ bases l h live.
+link_items-returns-in_err-link_placed-clause-told t c = λ bases l h live reached.
     let p = err_from_is_err_and c.from_residual.result c.from_residual.ensures.1 in
     rw (p.1, p.2)
     (goes_wrong c.args.depth c.args.n l c.args.items.now c.loop-placed.placed-index c.placed-item.result c.loop-placed-test.true c.placed-item.is c.loop-placed.linker c.loop-placed.invariant.0 (c.loop-placed.invariant.2 c.args.n live) c.in_err-link_placed.field-0.0
-    (c.loop-placed.invariant.3 bases l h live) (λ others last s at. c.in_err-link_placed.ensures.told others last s at))
+    (c.loop-placed.invariant.3 bases l h live reached) (λ others last s at come. c.in_err-link_placed.ensures.told others last s at come))
 
 pub link_items-loop-placed-preserved : goal.link_items-loop-placed-preserved
 link_items-loop-placed-preserved t c =
@@ -75,14 +75,14 @@ link_items-loop-placed-preserved t c =
       omega (arith, longer, c.loop-placed.invariant.0),
       omega (arith, longer, c.loop-placed.invariant.1),
       λ m live. c.in_ok-link_placed.ensures.live m (c.loop-placed.invariant.2 m live),
-      λ bases first h live.
+      λ bases first h live reached.
           goes_on c.args.depth c.args.n first c.args.items.now c.loop-placed.placed-index c.placed-item.result c.loop-placed-test.true c.placed-item.is c.loop-placed.linker c.loop-placed.invariant.0 (c.loop-placed.invariant.2 c.args.n live)
-          c.link_placed.new.linker (c.loop-placed.invariant.3 bases first h live) (λ others last s at. c.in_ok-link_placed.ensures.told others last s at),
+          c.link_placed.new.linker (c.loop-placed.invariant.3 bases first h live reached) (λ others last s at come. c.in_ok-link_placed.ensures.told others last s at come),
     )
 
 pub link_items-returns-clause-told : goal.link_items-returns-clause-told
-link_items-returns-clause-told t c = λ bases l h live.
-    goes_last c.args.depth c.args.n l c.args.items.now c.loop-placed.placed-index c.loop-placed.linker (omega (arith, c.loop-placed-test.false)) (c.loop-placed.invariant.3 bases l h live)
+link_items-returns-clause-told t c = λ bases l h live reached.
+    goes_last c.args.depth c.args.n l c.args.items.now c.loop-placed.placed-index c.loop-placed.linker (omega (arith, c.loop-placed-test.false)) (c.loop-placed.invariant.3 bases l h live reached)
 
 pub link_nested-returns-clause-live : goal.link_nested-returns-clause-live
 link_nested-returns-clause-live t c = λ m live.

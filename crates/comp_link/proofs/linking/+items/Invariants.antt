@@ -4,6 +4,7 @@ use Rattle.std.proofs.Common.{◌<◌, ◌≤◌, ◌+◌, ◌*◌, List, length
 use Rattle.comp_linking.specs.Definitions.{Exports}
 use Rattle.comp_linking.specs.Spaces.{Linking}
 use Rattle.comp_link.specs.State.{IsLive, StayLive, IsState}
+use Rattle.comp_link.specs.Reached.{IsReached}
 use Rattle.comp_link.proofs.Passing.{Goes}
 use Rattle.comp_link.proofs.linking.+items.Given as goal
 
@@ -23,4 +24,4 @@ abbrev pub invariant-link_items-loop-placed : goal.invariant-link_items-loop-pla
 invariant-link_items-loop-placed l =
     (l.n < length l.linker.scopes.items) × (length l.fn.linker.scopes.items ≤ length l.linker.scopes.items)
     × StayLive l.fn.linker l.linker
-    × ((bases : List Exports) (first : Linking) → IsState bases l.fn.linker first → IsLive l.fn.linker l.n → Goes l.depth l.n first l.items (drop l.placed-index l.items) l.linker)
+    × ((bases : List Exports) (first : Linking) → IsState bases l.fn.linker first → IsLive l.fn.linker l.n → IsReached first → Goes l.depth l.n first l.items (drop l.placed-index l.items) l.linker)

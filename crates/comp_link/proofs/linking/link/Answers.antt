@@ -8,6 +8,7 @@ use Rattle.comp_linking.specs.Linked.{root_begun}
 use Rattle.comp_linking.specs.Computed.{run_within}
 use Rattle.comp_link.specs.State.{Stands}
 use Rattle.comp_link.specs.Told.{IsReason, IsTold}
+use Rattle.comp_link.specs.Reached.{root_begins}
 use Rattle.comp_link.proofs.Passing.{done}
 use Rattle.comp_link.proofs.Whole.{refused_told, linked_told, few_scopes, few_cores}
 use Rattle.comp_link.proofs.linking.link.Goals as goal
@@ -18,25 +19,25 @@ returns-in_err-link_items-clause-refused c =
     rw (p.1, p.2)
     (refused_told c.args.reach c.args.component.now c.in_err-link_items.field-0.0
     (subst (λ (items : List (Placed Item)). IsReason {A = Linking} c.in_err-link_items.field-0.0 (run_within instance_limit (root_begun c.args.reach) 0 items)) c.as_slice-items.ensures
-    (c.in_err-link_items.ensures.told [] (root_begun c.args.reach) c.in_ok-linker.ensures.ok c.in_ok-linker.ensures.live)))
+    (c.in_err-link_items.ensures.told [] (root_begun c.args.reach) c.in_ok-linker.ensures.ok c.in_ok-linker.ensures.live (root_begins c.args.reach))))
 
 pub graph_of-requires-clause-few : goal.graph_of-requires-clause-few
 graph_of-requires-clause-few c =
     few_scopes c.args.reach c.args.component.now c.link_items.new.linker
     (subst (λ (items : List (Placed Item)). IsTold (λ _ last. Stands c.link_items.new.linker last) done (run_within instance_limit (root_begun c.args.reach) 0 items)) c.as_slice-items.ensures
-    (c.in_ok-link_items.ensures.told [] (root_begun c.args.reach) c.in_ok-linker.ensures.ok c.in_ok-linker.ensures.live))
+    (c.in_ok-link_items.ensures.told [] (root_begun c.args.reach) c.in_ok-linker.ensures.ok c.in_ok-linker.ensures.live (root_begins c.args.reach)))
 
 pub graph_of-requires-clause-few_cores : goal.graph_of-requires-clause-few_cores
 graph_of-requires-clause-few_cores c =
     few_cores c.args.reach c.args.component.now c.link_items.new.linker
     (subst (λ (items : List (Placed Item)). IsTold (λ _ last. Stands c.link_items.new.linker last) done (run_within instance_limit (root_begun c.args.reach) 0 items)) c.as_slice-items.ensures
-    (c.in_ok-link_items.ensures.told [] (root_begun c.args.reach) c.in_ok-linker.ensures.ok c.in_ok-linker.ensures.live))
+    (c.in_ok-link_items.ensures.told [] (root_begun c.args.reach) c.in_ok-linker.ensures.ok c.in_ok-linker.ensures.live (root_begins c.args.reach)))
 
 pub returns-clause-ok : goal.returns-clause-ok
 returns-clause-ok c =
     linked_told c.args.reach c.args.component.now c.link_items.new.linker
     (subst (λ (items : List (Placed Item)). IsTold (λ _ last. Stands c.link_items.new.linker last) done (run_within instance_limit (root_begun c.args.reach) 0 items)) c.as_slice-items.ensures
-    (c.in_ok-link_items.ensures.told [] (root_begun c.args.reach) c.in_ok-linker.ensures.ok c.in_ok-linker.ensures.live)) _ c.in_ok-graph_of.ensures
+    (c.in_ok-link_items.ensures.told [] (root_begun c.args.reach) c.in_ok-linker.ensures.ok c.in_ok-linker.ensures.live (root_begins c.args.reach))) _ c.in_ok-graph_of.ensures
 
 pub returns-clause-shallow : goal.returns-clause-shallow
 returns-clause-shallow c = c.graphs_are_sound.ensures.shallow c.args.reach c.args.component.now _ (returns-clause-ok c)
