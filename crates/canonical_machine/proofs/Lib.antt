@@ -1,3 +1,6 @@
+pub mod Changed
+pub mod Ordered
+pub mod OrderSteps
 pub mod Turns
 pub mod Rows
 pub mod Says

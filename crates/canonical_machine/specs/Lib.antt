@@ -18,4 +18,5 @@ pub mod Next
 pub mod Run
 pub mod Dump
 pub mod Laws
+pub mod Tasks
 pub mod Examples

@@ -1,6 +1,7 @@
 //! What holds of all runs.
 
 ghost use Rattle.canonical_machine.specs.Laws.{OneRun, OneRunFrom, FewerAreAFront, NestedIsQuiet, DoomedEnds, TrapIsMet, DoneIsAll, FuelIsSpent, StepsSpendOneOrNone};
+ghost use Rattle.canonical_machine.specs.Tasks.{FirstOrdered, OrderStays};
 
 /// A graph and a script have at most one run. Of steps from a world fewer are a front of more.
 pub fn one_run()
@@ -31,4 +32,12 @@ pub fn ends_mean()
 /// A step spends a unit of fuel or none, and one only where one is left.
 pub fn steps_spend()
     ensures { StepsSpendOneOrNone }
+{}
+
+/// Each task but task 0 runs a function, of the script's calls an export and of a task's calls one that is lowered. Those on the
+/// chain wait for the one before them, which they called, and the acting one is as what the run does next asks. So it is in the first
+/// world, and it stays so in every step.
+pub fn tasks_stay_ordered()
+    ensures first { FirstOrdered }
+    ensures stays { OrderStays }
 {}
