@@ -1,6 +1,15 @@
 pub mod Changed
 pub mod Ordered
 pub mod OrderSteps
+pub mod Bytes
+pub mod Moved
+pub mod Limits
+pub mod Imports
+pub mod Made
+pub mod Aligns
+pub mod Graphs
+pub mod Plans
+pub mod Words
 pub mod Turns
 pub mod Rows
 pub mod Says

@@ -19,4 +19,7 @@ pub mod Run
 pub mod Dump
 pub mod Laws
 pub mod Tasks
+pub mod Sound
+pub mod Kept
+pub mod KeptLaws
 pub mod Examples
