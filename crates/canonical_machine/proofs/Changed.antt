@@ -1,5 +1,5 @@
 -- Lists in which one item is changed, or to which one is added.
-use Rattle.std.proofs.Common.{◌≡◌, ◌≢◌, ◌<◌, ℕ, zero, suc, List, [], ◌∷◌, ◌++◌, length, refl, ap, arith, Some}
+use Rattle.std.proofs.Common.{◌≡◌, ◌≢◌, ◌<◌, ◌+◌, ℕ, zero, suc, List, [], ◌∷◌, ◌++◌, length, drop, refl, ap, ◌∙◌, subst, arith, Some, None}
 use Rattle.std.specs.List.{slice_get, AllByRecursion}
 use Rattle.canonical_machine.specs.Edits.{changed_at}
 
@@ -34,3 +34,26 @@ pub get_front : {A : Type 0} (xs more : List A) (n : ℕ) (x : A) → slice_get 
 get_front [] more n x h = cc
 get_front (y ∷ xs) more zero x h = h
 get_front (y ∷ xs) more (suc n) x h = get_front xs more n x h
+
+-- what holds of all items, where it holds of the changed one
+pub all_but : {A : Type 0} (P : A → Type 0) (n : ℕ) (f : A → A) (xs : List A) (x : A) → slice_get xs n ≡ Some x → P (f x) → AllByRecursion P xs → AllByRecursion P (changed_at n f xs)
+all_but P n f [] x e p h = tt
+all_but P zero f (y ∷ xs) x e p h = let same : x ≡ y = cc in (subst (λ y. P (f y)) same p, h.1)
+all_but P (suc n) f (y ∷ xs) x e p h = (h.0, all_but P n f xs x e p h.1)
+
+-- a list from an item on
+pub drop_some : {A : Type 0} (xs : List A) (n : ℕ) (x : A) → slice_get xs n ≡ Some x → drop n xs ≡ x ∷ drop (suc n) xs
+drop_some [] n x h = cc
+drop_some (y ∷ xs) zero x h = let same : y ≡ x = cc in ap (λ y. y ∷ xs) same
+drop_some (y ∷ xs) (suc n) x h = drop_some xs n x h
+
+pub drop_next : {A : Type 0} (xs : List A) (n : ℕ) (x : A) → slice_get xs n ≡ Some x → drop n xs ≡ x ∷ drop (n + 1) xs
+drop_next xs n x h =
+    let one : suc n ≡ n + 1 = omega arith in
+    drop_some xs n x h ∙ ap (λ (k : ℕ). x ∷ drop k xs) one
+
+pub drop_none : {A : Type 0} (xs : List A) (n : ℕ) → slice_get xs n ≡ None → drop n xs ≡ []
+drop_none [] zero h = refl
+drop_none [] (suc n) h = refl
+drop_none (y ∷ xs) zero h = cc
+drop_none (y ∷ xs) (suc n) h = drop_none xs n h

@@ -163,7 +163,7 @@ export_there g sound name f e =
         let whole : (let k : Lifted = record { instance = l.instance; core = l.core; options = l.options; func_type = e.func_type } in k) ≡ f = cc in
         subst (IsUsed g) whole (subst (λ (lift : Lift). IsLiftThere g.cores g.canons e.func_type lift) same z.2)
 
-same_func : (f h : Lifted) → Func f ≡ Func h → f ≡ h
+pub same_func : (f h : Lifted) → Func f ≡ Func h → f ≡ h
 same_func f h e = cc
 
 pub callee_there : (g : Graph) → IsSoundGraph g → (caller : Caller) (callee : Callee) (f : Lifted) → IsCalleeOf g caller callee → callee ≡ Func f → IsUsed g f

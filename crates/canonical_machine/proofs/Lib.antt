@@ -8,6 +8,9 @@ pub mod Imports
 pub mod Made
 pub mod Aligns
 pub mod Graphs
+pub mod Staying
+pub mod Returns
+pub mod CoreKept
 pub mod Plans
 pub mod Words
 pub mod Turns

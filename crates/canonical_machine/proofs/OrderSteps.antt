@@ -151,7 +151,7 @@ running_moved g (Traps why) w called h = ordered g (with_control (Doomed h.numbe
 running_moved g core.Stuck w called h = tt
 
 with_stack_begun : (k : Stack) (n : ℕ) (w : World) → (h : IsInit (Begins n) OneStack w.tasks w.chain) → IsBegun (with_stack 0 k w).tasks w.chain
-with_stack_begun k n w h = (n, init_changed w.tasks w.chain (Begins n) (Begins n) OneStack OneStack _ h h.state_is (k, ap (λ (ks : List Stack). k ∷ drop 1 ks) h.stacks_are.1))
+with_stack_begun k n w h = (n, init_changed w.tasks w.chain (Begins n) (Begins n) OneStack OneStack _ h h.callee_is h.state_is (k, ap (λ (ks : List Stack). k ∷ drop 1 ks) h.stacks_are.1))
 
 begun_moved : (g : Graph) (m : Move) (n : ℕ) (w : World) → AreCalled g w.tasks → (h : IsInit (Begins n) OneStack w.tasks w.chain) → Leads g (moved g 0 h.task m w)
 unfolding moved stack_ended
@@ -161,10 +161,10 @@ begun_moved g (Calls address words k) n w called h =
     ordered g (with_control (control.Calls address words) (with_stack 0 k w)) (called_changed g 0 _ w.tasks (λ task is. is) called) (inl (with_stack_begun k n w h))
 begun_moved g (core.Ends words) n w called h =
     let v : World = unstacked 0 w in
-    let none : IsInit (Begins n) NoStack v.tasks v.chain = init_changed w.tasks w.chain (Begins n) (Begins n) OneStack NoStack _ h h.state_is (ap (drop 1) h.stacks_are.1) in
+    let none : IsInit (Begins n) NoStack v.tasks v.chain = init_changed w.tasks w.chain (Begins n) (Begins n) OneStack NoStack _ h h.callee_is h.state_is (ap (drop 1) h.stacks_are.1) in
     subst (λ (state : TaskState). Leads g (stack_ended g 0 h.task state words v)) (sym h.state_is)
     (ordered g (with_control (Instantiates n) (in_state 0 Acting v)) (called_changed g 0 _ v.tasks (λ task is. is) (called_changed g 0 _ w.tasks (λ task is. is) called))
-    (init_changed v.tasks v.chain (Begins n) Acting NoStack NoStack _ none refl none.stacks_are))
+    (init_changed v.tasks v.chain (Begins n) Acting NoStack NoStack _ none none.callee_is refl none.stacks_are))
 begun_moved g (Traps why) n w called h = ordered g (with_control (Doomed 0 (core_name why)) w) called tt
 begun_moved g core.Stuck n w called h = tt
 
@@ -186,9 +186,9 @@ unfolding started_up
 started_up_leads g n None w called h = ordered g (with_control (Instantiates n) w) called h
 started_up_leads g n (Some k) w called h =
     let v : World = in_state 0 (Begins n) w in
-    let begins : IsInit (Begins n) NoStack v.tasks v.chain = init_changed w.tasks w.chain Acting (Begins n) NoStack NoStack _ h refl h.stacks_are in
+    let begins : IsInit (Begins n) NoStack v.tasks v.chain = init_changed w.tasks w.chain Acting (Begins n) NoStack NoStack _ h h.callee_is refl h.stacks_are in
     ordered g (with_control Runs (stacked 0 k v)) (called_changed g 0 _ v.tasks (λ task is. is) (called_changed g 0 _ w.tasks (λ task is. is) called))
-    (inl (n, init_changed v.tasks v.chain (Begins n) (Begins n) NoStack OneStack _ begins begins.state_is (k, ap (λ (ks : List Stack). k ∷ ks) begins.stacks_are)))
+    (inl (n, init_changed v.tasks v.chain (Begins n) (Begins n) NoStack OneStack _ begins begins.callee_is begins.state_is (k, ap (λ (ks : List Stack). k ∷ ks) begins.stacks_are)))
 
 made_leads : (g : Graph) (n : ℕ) (c : CoreMake) (imports : List External) (r : Instantiation) (w : World) → AreCalled g w.tasks → IsInit Acting NoStack w.tasks w.chain
     → Leads g (made n c imports r w)
@@ -443,7 +443,7 @@ by_control g s w (Doomed t why) called h = tt
 
 pub first_ordered : FirstOrdered
 first_ordered g =
-    ordered g (first_world g) (refl, tt) (record { task = record { callee = Init; caller = Nobody; stacks = []; resolution = Unresolved; state = Acting }; tasks_are = refl; chain_is = refl; state_is = refl; stacks_are = refl })
+    ordered g (first_world g) (refl, tt) (record { task = record { callee = Init; caller = Nobody; stacks = []; resolution = Unresolved; state = Acting }; tasks_are = refl; chain_is = refl; callee_is = refl; state_is = refl; stacks_are = refl })
 
 pub order_stays : OrderStays
 order_stays g s w v labels h e = subst (Leads g) e (by_control g s (with_control Free w) w.control h.called h.chain)

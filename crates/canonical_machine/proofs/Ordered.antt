@@ -6,7 +6,7 @@ use Rattle.core_machine.proofs.Zips.{get_behind}
 use Rattle.core_machine.proofs.Lists.{all_append}
 use Rattle.core_machine.specs.Stack.{Stack}
 use Rattle.comp_graph.specs.Graph.{Graph}
-use Rattle.canonical_machine.specs.World.{Callee, Subtask, Caller, Nobody, Host, Guest, Resolution, Unresolved, TaskState, AfterCall, Task, World, new_task}
+use Rattle.canonical_machine.specs.World.{Callee, Init, Subtask, Caller, Nobody, Host, Guest, Resolution, Unresolved, TaskState, AfterCall, Task, World, new_task}
 use Rattle.canonical_machine.specs.Edits.{changed_at, caller_changed}
 use Rattle.canonical_machine.specs.Reading.{acting}
 use Rattle.canonical_machine.specs.Tasks.{IsCalleeOf, AreCalled, caller_number, IsAt, OneStack, IsSoFar, AreWaiting, Acts, IsInit}
@@ -149,12 +149,13 @@ init_acting w state S h =
     ap (λ (chain : List ℕ). acting (let v : World = record w { chain = chain } in v)) h.chain_is
     ∙ ap (λ (tasks : List Task). acting (let v : World = record w { chain = 0 ∷ []; tasks = tasks } in v)) h.tasks_are
 
-pub init_changed : (tasks : List Task) (chain : List ℕ) (state next : TaskState) (S T : List Stack → Type 0) (f : Task → Task) (h : IsInit state S tasks chain) → (f h.task).state ≡ next
+pub init_changed : (tasks : List Task) (chain : List ℕ) (state next : TaskState) (S T : List Stack → Type 0) (f : Task → Task) (h : IsInit state S tasks chain) → (f h.task).callee ≡ Init → (f h.task).state ≡ next
     → T (f h.task).stacks → IsInit next T (changed_at 0 f tasks) chain
-init_changed tasks chain state next S T f h e stacks = record {
+init_changed tasks chain state next S T f h init e stacks = record {
   task = f h.task;
   tasks_are = ap (λ (tasks : List Task). changed_at 0 f tasks) h.tasks_are;
   chain_is = h.chain_is;
+  callee_is = init;
   state_is = e;
   stacks_are = stacks;
 }

@@ -68,6 +68,7 @@ pub record IsInit (state : TaskState) (HasStacks : List Stack → Type 0) (tasks
   pub task : Task
   pub tasks_are : tasks ≡ task ∷ []
   pub chain_is : chain ≡ 0 ∷ []
+  pub callee_is : task.callee ≡ Init
   pub state_is : task.state ≡ state
   pub stacks_are : HasStacks task.stacks
 
