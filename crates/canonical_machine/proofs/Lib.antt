@@ -11,6 +11,7 @@ pub mod Graphs
 pub mod Staying
 pub mod Returns
 pub mod CoreKept
+pub mod CallsKept
 pub mod Plans
 pub mod Words
 pub mod Turns

@@ -248,7 +248,7 @@ call_leads g number l words w e called h =
         acts_changed w.tasks w.chain (So Acting Unresolved OneStack) (λ t task. IsSoFar (AfterCall (length v.tasks)) Unresolved OneStack task) f h (λ task. refl)
         (record { lifted = h.holds.lifted; runs = h.holds.runs; state_is = ap AfterCall (sym (changed_length h.number f w.tasks)); resolution_is = h.holds.resolution_is; stacks_are = h.holds.stacks_are })
 
-not_instantiated : (w : World) (n : ℕ) → IsInit (Begins n) OneStack w.tasks w.chain → may_leave w ≡ false
+pub not_instantiated : (w : World) (n : ℕ) → IsInit (Begins n) OneStack w.tasks w.chain → may_leave w ≡ false
 not_instantiated w n h =
     ap (λ (tasks : List Task). is_instantiated tasks) h.tasks_are ∙ ap (λ (state : TaskState). is_instantiated ((let t : Task = record h.task { state = state } in t) ∷ [])) h.state_is
 
