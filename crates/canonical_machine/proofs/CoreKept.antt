@@ -46,7 +46,7 @@ use Rattle.canonical_machine.proofs.Returns.{Ground, kept, ground_on, ground_cha
 use Rattle.canonical_machine.proofs.Staying.{GoesOn, all_still, by_still, all_wait_later, typed_later, Spot, spot_of, spot_init, spot_acting, spot_changed, at_spot, to_spot, all_wait_changed, acting_changed}
 
 -- Where a stack goes on, functions and instances stay as they are.
-abbrev MoveSame : Store → Move → Type 0
+abbrev pub MoveSame : Store → Move → Type 0
 MoveSame s (Goes costs t l) = (t.funcs ≡ s.funcs) × IsOnward s t
 MoveSame s (Calls address words l) = Unit {0}
 MoveSame s (core.Ends words) = Unit {0}

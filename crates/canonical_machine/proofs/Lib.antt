@@ -12,6 +12,8 @@ pub mod Staying
 pub mod Returns
 pub mod CoreKept
 pub mod CallsKept
+pub mod LowerKept
+pub mod Worlds
 pub mod Plans
 pub mod Words
 pub mod Turns

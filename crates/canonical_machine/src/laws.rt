@@ -2,6 +2,7 @@
 
 ghost use Rattle.canonical_machine.specs.Laws.{OneRun, OneRunFrom, FewerAreAFront, NestedIsQuiet, DoomedEnds, TrapIsMet, DoneIsAll, FuelIsSpent, StepsSpendOneOrNone};
 ghost use Rattle.canonical_machine.specs.Tasks.{FirstOrdered, OrderStays};
+ghost use Rattle.canonical_machine.specs.KeptLaws.{FirstKept, StaysKept, StuckOnlyAtOthers};
 
 /// A graph and a script have at most one run. Of steps from a world fewer are a front of more.
 pub fn one_run()
@@ -40,4 +41,12 @@ pub fn steps_spend()
 pub fn tasks_stay_ordered()
     ensures first { FirstOrdered }
     ensures stays { OrderStays }
+{}
+
+/// What a run of a sound script keeps of its worlds holds of the first one, and stays in every step. Where it holds there is a next
+/// move, unless nested code calls a core function of the Canonical ABI that another component instance made.
+pub fn worlds_are_kept()
+    ensures first { FirstKept }
+    ensures stays { StaysKept }
+    ensures moves { StuckOnlyAtOthers }
 {}
