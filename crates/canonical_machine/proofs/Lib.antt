@@ -19,6 +19,7 @@ pub mod Words
 pub mod Turns
 pub mod Rows
 pub mod Says
+pub mod Fuel
 pub mod Quiets
 pub mod Runs
 pub mod Passed

@@ -1,5 +1,5 @@
 -- What a run of a sound script keeps of its worlds: it holds of the first one, and stays; and where it holds there is a next move.
-use Rattle.std.proofs.Common.{◌≡◌, ◌≢◌, ◌++◌, ℕ, false, nat_eq, List, [], ◌∷◌, map, refl, sym, ap, ◌∙◌, subst, arith, append-nil, Some}
+use Rattle.std.proofs.Common.{◌≡◌, ◌≢◌, ◌⊎◌, inl, inr, ◌++◌, ℕ, false, nat_eq, List, [], ◌∷◌, map, refl, sym, ap, ◌∙◌, subst, arith, append-nil, Some}
 use Rattle.std.proofs.lemmas.Bool.Decides.{nat_tests}
 use Rattle.std.specs.List.{slice_get, AllByRecursion}
 use Rattle.core_machine.specs.Store.{Function, Host as HostFunction, Store}
@@ -12,13 +12,15 @@ use Rattle.canonical_machine.specs.Control.{Control, Free, Instantiates, Runs, C
 use Rattle.canonical_machine.specs.World.{World, first_store, first_world}
 use Rattle.canonical_machine.specs.Edits.{with_control}
 use Rattle.canonical_machine.specs.Reading.{inst_of_canon}
-use Rattle.canonical_machine.specs.Turn.{Turn, Steps, Stuck}
+use Rattle.canonical_machine.specs.Turn.{Turn, Steps, Ends, Stuck}
 use Rattle.canonical_machine.specs.Nested.{CallsHost, hosted_next}
 use Rattle.canonical_machine.specs.Next.{next_by, next}
 use Rattle.canonical_machine.specs.Sound.{IsSound}
 use Rattle.canonical_machine.specs.Tasks.{AreCalled, IsChain}
 use Rattle.canonical_machine.specs.Kept.{HasHosts, IsKeptBy, IsTypedWorld}
-use Rattle.canonical_machine.specs.KeptLaws.{IsKept, FirstKept, StaysKept, CallsOthers, StuckOnlyAtOthers}
+use Rattle.canonical_machine.specs.KeptLaws.{IsKept, FirstKept, StaysKept, CallsOthers, StuckOnlyAtOthers, StepsOnce, EndsOnce, OneNext}
+use Rattle.canonical_machine.specs.declared.run_end.RunEnd.{RunEnd}
+use Rattle.canonical_machine.specs.Run.{Reaches}
 use Rattle.canonical_machine.proofs.OrderSteps.{first_ordered, order_stays}
 use Rattle.canonical_machine.proofs.Made.{none_made}
 use Rattle.canonical_machine.proofs.Returns.{Ground, Keeps}
@@ -95,3 +97,39 @@ stays_kept g s w v labels h e = record {
 
 pub stuck_only_at_others : StuckOnlyAtOthers
 stuck_only_at_others g s w h e = subst (Keeps g (CallsOthers g w)) e (keeps g s w h)
+
+-- One move comes next.
+
+steps_same : (labels others : List Label) (v u : World) → Steps labels v ≡ Steps others u → (others ≡ labels) × (u ≡ v)
+steps_same labels others v u h = (cc, cc)
+
+ends_same : (end other : RunEnd) → Ends end ≡ Ends other → other ≡ end
+ends_same end other h = cc
+
+steps_is_no_end : (labels : List Label) (v : World) (end : RunEnd) → Steps labels v ≡ Ends end → ⊥
+steps_is_no_end labels v end h = cc
+
+pub reached_kept : (g : Graph) (s : Script) (steps : List (List Label)) (w v : World) → IsKept g s w → Reaches g s w steps v → IsKept g s v
+reached_kept g s [] w v h r = subst (IsKept g s) (sym r) h
+reached_kept g s (labels ∷ steps) w v h r = reached_kept g s steps r.0 v (stays_kept g s w r.0 labels h r.1) r.2
+
+one_move : (g : Graph) (s : Script) (w : World) → IsKept g s w → (t : Turn) → next g s w ≡ t → (StepsOnce g s w ⊎ EndsOnce g s w) ⊎ CallsOthers g w
+one_move g s w h (Steps labels v) e =
+    inl (inl (record {
+      labels = labels;
+      later = v;
+      steps = e;
+      only = λ others u k. steps_same labels others v u (sym e ∙ k);
+      no_end = λ end k. steps_is_no_end labels v end (sym e ∙ k);
+    }))
+one_move g s w h (Ends end) e =
+    inl (inr (record {
+      end = end;
+      ends = e;
+      only = λ other k. ends_same end other (sym e ∙ k);
+      no_step = λ labels v k. steps_is_no_end labels v end (sym k ∙ e);
+    }))
+one_move g s w h Stuck e = inr (stuck_only_at_others g s w h e)
+
+pub one_next : OneNext
+one_next g s steps w sound r = one_move g s w (reached_kept g s steps (first_world g) w (first_kept g s sound) r) (next g s w) refl

@@ -1,6 +1,6 @@
 -- What a run of a sound script keeps of its worlds (Core 2.0, the appendix on soundness): it holds of the first one, and stays in every
 -- step; and where it holds there is a next move.
-use Rattle.std.specs.Prelude.{◌≡◌, ◌≢◌, ℕ, List, Some}
+use Rattle.std.specs.Prelude.{◌≡◌, ◌≢◌, ◌⊎◌, ℕ, List, Some}
 use Rattle.std.specs.List.{slice_get}
 use Rattle.comp_graph.specs.declared.graph.CanonFunc.{CanonFunc}
 use Rattle.comp_graph.specs.Graph.{Graph}
@@ -9,7 +9,8 @@ use Rattle.trace_show.specs.declared.label.Label.{Label}
 use Rattle.canonical_machine.specs.Control.{Nested, Behind, Quiet}
 use Rattle.canonical_machine.specs.World.{World, first_world}
 use Rattle.canonical_machine.specs.Reading.{inst_of_canon}
-use Rattle.canonical_machine.specs.Turn.{Steps, Stuck}
+use Rattle.canonical_machine.specs.declared.run_end.RunEnd.{RunEnd}
+use Rattle.canonical_machine.specs.Turn.{Steps, Ends, Stuck}
 use Rattle.canonical_machine.specs.Nested.{CallsHost, hosted_next}
 use Rattle.canonical_machine.specs.Next.{next}
 use Rattle.canonical_machine.specs.Run.{Reaches}
@@ -43,3 +44,24 @@ pub record CallsOthers (g : Graph) (w : World) : Type 0 where
 -- Where no rule applies, it does.
 abbrev pub StuckOnlyAtOthers : Type 0
 StuckOnlyAtOthers = (g : Graph) (s : Script) (w : World) → IsKept g s w → next g s w ≡ Stuck → CallsOthers g w
+
+-- A step comes next: with these lines, to this world, and no other. No end comes.
+pub record StepsOnce (g : Graph) (s : Script) (w : World) : Type 0 where
+  pub labels : List Label
+  pub later : World
+  pub steps : next g s w ≡ Steps labels later
+  pub only : (others : List Label) (other : World) → next g s w ≡ Steps others other → (others ≡ labels) × (other ≡ later)
+  pub no_end : (end : RunEnd) → next g s w ≢ Ends end
+
+-- An end comes next: this one, and no other. No step comes.
+pub record EndsOnce (g : Graph) (s : Script) (w : World) : Type 0 where
+  pub end : RunEnd
+  pub ends : next g s w ≡ Ends end
+  pub only : (other : RunEnd) → next g s w ≡ Ends other → other ≡ end
+  pub no_step : (labels : List Label) (later : World) → next g s w ≢ Steps labels later
+
+-- Wherever a run of a sound script comes, one move comes next, unless nested code calls what another component instance made.
+abbrev pub OneNext : Type 0
+OneNext =
+    (g : Graph) (s : Script) (steps : List (List Label)) (w : World) → IsSound g s → Reaches g s (first_world g) steps w
+    → (StepsOnce g s w ⊎ EndsOnce g s w) ⊎ CallsOthers g w

@@ -22,4 +22,5 @@ pub mod Tasks
 pub mod Sound
 pub mod Kept
 pub mod KeptLaws
+pub mod FuelLaws
 pub mod Examples

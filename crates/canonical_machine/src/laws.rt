@@ -2,7 +2,8 @@
 
 ghost use Rattle.canonical_machine.specs.Laws.{OneRun, OneRunFrom, FewerAreAFront, NestedIsQuiet, DoomedEnds, TrapIsMet, DoneIsAll, FuelIsSpent, StepsSpendOneOrNone};
 ghost use Rattle.canonical_machine.specs.Tasks.{FirstOrdered, OrderStays};
-ghost use Rattle.canonical_machine.specs.KeptLaws.{FirstKept, StaysKept, StuckOnlyAtOthers};
+ghost use Rattle.canonical_machine.specs.FuelLaws.{EndsTheSame, GoesOnBehind};
+ghost use Rattle.canonical_machine.specs.KeptLaws.{FirstKept, StaysKept, StuckOnlyAtOthers, OneNext};
 
 /// A graph and a script have at most one run. Of steps from a world fewer are a front of more.
 pub fn one_run()
@@ -49,4 +50,17 @@ pub fn worlds_are_kept()
     ensures first { FirstKept }
     ensures stays { StaysKept }
     ensures moves { StuckOnlyAtOthers }
+{}
+
+/// At each world of the run of a sound script one move comes next, and it is the only one, unless nested code calls a core function of
+/// the Canonical ABI that another component instance made.
+pub fn one_next()
+    ensures { OneNext }
+{}
+
+/// With more fuel a run that ended otherwise is the same, and one that ended for want of fuel goes on from its last world, behind its
+/// lines.
+pub fn more_fuel_goes_on()
+    ensures same { EndsTheSame }
+    ensures behind { GoesOnBehind }
 {}
