@@ -20,6 +20,10 @@ pub mod Turns
 pub mod Rows
 pub mod Says
 pub mod Fuel
+pub mod Within
+pub mod Owned
+pub mod ApartSteps
+pub mod Apart
 pub mod Quiets
 pub mod Runs
 pub mod Passed

@@ -194,11 +194,11 @@ hosted_typed g s tasks results (Going k) ground h = move_hosted g s tasks result
 hosted_typed g s tasks results (AtCall number words k) ground h = h
 
 -- what nested code gives, by what follows it
-abbrev gives : Behind → List ValType
+abbrev pub gives : Behind → List ValType
 gives (InLowering l k) = realloc_type.results
 gives BeforeLeaving = []
 
-state_of : (g : Graph) (s : Store) (n : Nested) (b : Behind) (task : Task) → IsNestedFor g s n b task → IsHosted g s (gives b) n.state
+pub state_of : (g : Graph) (s : Store) (n : Nested) (b : Behind) (task : Task) → IsNestedFor g s n b task → IsHosted g s (gives b) n.state
 state_of g s n (InLowering l k) task h = h.0
 state_of g s n BeforeLeaving task h = h.0
 

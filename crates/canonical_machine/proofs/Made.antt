@@ -38,7 +38,7 @@ leaves_map P Q f (Makes t) h = f t h
 leaves_map P Q f (SegmentBounds t) h = f t h
 
 -- It holds where it holds before the segments, and each segment that is written keeps it.
-written_leaves : {A : Type 0} (P : Store → Type 0) (Q : A → Type 0) (f : Store → A → Option Store) → ((u v : Store) (x : A) → Q x → P u → f u x ≡ Some v → P v) → (more : Store → Instantiation) → ((u : Store) → P u → LeavesWith P (more u)) → (xs : List A) → AllByRecursion Q xs → (u : Store) → P u → LeavesWith P (all_written f xs u more)
+pub written_leaves : {A : Type 0} (P : Store → Type 0) (Q : A → Type 0) (f : Store → A → Option Store) → ((u v : Store) (x : A) → Q x → P u → f u x ≡ Some v → P v) → (more : Store → Instantiation) → ((u : Store) → P u → LeavesWith P (more u)) → (xs : List A) → AllByRecursion Q xs → (u : Store) → P u → LeavesWith P (all_written f xs u more)
 written_leaves P Q f step more last [] q u h = last u h
 written_leaves P Q f step more last (x ∷ xs) q u h = by (f u x) refl (λ v k. written_leaves P Q f step more last xs q.1 v k)
   where
@@ -47,7 +47,7 @@ written_leaves P Q f step more last (x ∷ xs) q u h = by (f u x) refl (λ v k. 
     by (Some v) e others = others v (step u v x q.0 h e)
 
 -- Segments leave the functions and the instances as they are, and memories of bytes where what is written is bytes.
-record IsWritten (u v : Store) : Type 0 where
+pub record IsWritten (u v : Store) : Type 0 where
   pub funcs : v.funcs ≡ u.funcs
   pub instances : v.instances ≡ u.instances
   pub bytes : HasBytesAlone u → HasBytesAlone v
@@ -64,7 +64,7 @@ table_keeps at entries (Some t) u v h =
     by true w h k = subst (IsWritten u) (some_same w v h) k
     by false w h k = cc
 
-bytes_keep : (at : ℕ) (bytes : List ℕ) (index : Option ℕ) (u v : Store) → AreBytes bytes → into_memory at bytes (found_at u.memories index) u ≡ Some v → IsWritten u v
+pub bytes_keep : (at : ℕ) (bytes : List ℕ) (index : Option ℕ) (u v : Store) → AreBytes bytes → into_memory at bytes (found_at u.memories index) u ≡ Some v → IsWritten u v
 bytes_keep at bytes None u v all h = cc
 bytes_keep at bytes (Some address) u v all h = of (slice_get u.memories address) refl h
   where
@@ -134,7 +134,7 @@ made_still s t cores x e h = record {
   each = λ n c k. (let i = h.each n c k in (i.0, still s.instances t.instances n i.0 x.instances i.1, made_later c.of_module s t i.0 x i.2));
 }
 
-get_last : {A : Type 0} (xs : List A) (y : A) (n : ℕ) (x : A) → slice_get (xs ++ y ∷ []) n ≡ Some x → (slice_get xs n ≡ Some x) ⊎ ((n ≡ length xs) × (y ≡ x))
+pub get_last : {A : Type 0} (xs : List A) (y : A) (n : ℕ) (x : A) → slice_get (xs ++ y ∷ []) n ≡ Some x → (slice_get xs n ≡ Some x) ⊎ ((n ≡ length xs) × (y ≡ x))
 get_last [] y zero x h = inr (refl, cc)
 get_last [] y (suc n) x h = cc
 get_last (z ∷ xs) y zero x h = inl h

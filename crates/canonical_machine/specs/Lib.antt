@@ -23,4 +23,5 @@ pub mod Sound
 pub mod Kept
 pub mod KeptLaws
 pub mod FuelLaws
+pub mod Owners
 pub mod Examples

@@ -3,6 +3,7 @@
 ghost use Rattle.canonical_machine.specs.Laws.{OneRun, OneRunFrom, FewerAreAFront, NestedIsQuiet, DoomedEnds, TrapIsMet, DoneIsAll, FuelIsSpent, StepsSpendOneOrNone};
 ghost use Rattle.canonical_machine.specs.Tasks.{FirstOrdered, OrderStays};
 ghost use Rattle.canonical_machine.specs.FuelLaws.{EndsTheSame, GoesOnBehind};
+ghost use Rattle.canonical_machine.specs.Owners.{FirstApart, ApartStays, NeverStuck, OneNextApart};
 ghost use Rattle.canonical_machine.specs.KeptLaws.{FirstKept, StaysKept, StuckOnlyAtOthers, OneNext};
 
 /// A graph and a script have at most one run. Of steps from a world fewer are a front of more.
@@ -63,4 +64,14 @@ pub fn one_next()
 pub fn more_fuel_goes_on()
     ensures same { EndsTheSame }
     ensures behind { GoesOnBehind }
+{}
+
+/// Where what a core instance imports, and what a lift or a lower uses, was made by its own component instance, core code calls only
+/// what its own component instance made: in the first world, and in every step. So a world that is kept is not stuck, and wherever a
+/// run of a sound script comes one move comes next, and it is the only one.
+pub fn worlds_stay_apart()
+    ensures first { FirstApart }
+    ensures stays { ApartStays }
+    ensures never_stuck { NeverStuck }
+    ensures one_next { OneNextApart }
 {}
