@@ -1,11 +1,11 @@
 -- Alignments are at most 8.
-use Rattle.std.proofs.Common.{◌≡◌, ◌∙◌, ◌≤◌, ℕ, max, nat_le, if◌then◌else◌, List, [], ◌∷◌, map, length, Option, Some, None, ap, sym, subst, arith}
-use Rattle.ca_types.specs.declared.types.ValType.{ValType, out-ValType, roll-ValType}
+use Rattle.std.proofs.Common.{◌≡◌, ◌∙◌, ◌≤◌, ℕ, nat_le, if◌then◌else◌, List, [], ◌∷◌, map, length, Option, Some, None, ap, sym, subst, arith}
+use Rattle.ca_types.specs.declared.types.ValType.{ValType, roll-ValType}
 use Rattle.ca_types.specs.declared.types.Case.{Case}
 use Rattle.ca_types.specs.declared.types.Field.{Field}
 use Rattle.ca_types.specs.declared.types.ValType.TheOpen as F
 use Rattle.ca_types.specs.declared.types.ValType.TheViews.{roll-Case, roll-Field}
-use Rattle.ca_types.specs.declared.types.ValType.TheFolds.{ind-ValType, map-ValType, map-Case, map-Field}
+use Rattle.ca_types.specs.declared.types.ValType.TheFolds.{ind-ValType, map-ValType, map-Case}
 use Rattle.ca_types.specs.Layout.{Laid, laid, laid_step, top_align, there, tag_size, bits_size}
 use Rattle.ca_types.proofs.Folds.{held}
 use Rattle.core_machine.proofs.Lists.{if_both}

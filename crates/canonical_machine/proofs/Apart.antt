@@ -1,56 +1,22 @@
 -- Core code calls only what its own component instance made, so that no world that is kept is stuck.
-use Rattle.std.proofs.Common.{◌≡◌, ◌≢◌, ◌⊎◌, inl, inr, ◌+◌, ℕ, Bool, true, false, nat_eq, nat_lt, List, [], ◌∷◌, ◌++◌, length, refl, sym, ap, ◌∙◌, subst, Option, Some, None, Result, Ok, Err, if◌then◌else◌}
-use Rattle.std.specs.List.{slice_get, AllByRecursion, AllZip}
-use Rattle.std.specs.Option.{option_map, option_and_then, IfSome}
-use Rattle.ca_base.specs.Names.{first_named}
-use Rattle.ca_types.specs.declared.value.Value.{Value}
-use Rattle.ca_types.specs.declared.exports.Export.{Export}
-use Rattle.value_lift.specs.declared.trap.LiftTrap.{LiftTrap}
-use Rattle.value_lower.specs.Plan.{Ask, Plan}
-use Rattle.core_machine.specs.Store.{Function, Own, Host as HostFunction, Instance, Store, found_at}
-use Rattle.core_machine.specs.Stack.{Frame, Stack, Running, AtHost, Given}
+use Rattle.std.proofs.Common.{◌≡◌, inl, inr, ℕ, List, [], ◌∷◌, sym, ap, ◌∙◌, subst, Some}
+use Rattle.std.specs.Option.{option_map}
+use Rattle.core_machine.specs.Store.{Store}
+use Rattle.core_machine.specs.Stack.{Stack}
 use Rattle.core_machine.specs.Step.{Move, Goes, Calls, Traps, start, next}
 use Rattle.core_machine.specs.Step as core
-use Rattle.core_machine.specs.Instantiation.{External, Instantiation, Makes, instance_of, instantiated, start_call}
-use Rattle.core_machine.specs.Instantiation as core_instance
-use Rattle.core_machine.specs.Typed.{StackTyped}
-use Rattle.core_machine.specs.Laws.{MoveTyped}
-use Rattle.core_machine.proofs.Lists.{all_at, found_there}
-use Rattle.core_machine.proofs.Moving.{moves_typed}
-use Rattle.comp_graph.specs.declared.graph.Action.{Action}
-use Rattle.comp_graph.specs.declared.graph.Action.TheVariants.{Begin, Make}
-use Rattle.comp_graph.specs.declared.graph.CanonFunc.{CanonFunc}
-use Rattle.comp_graph.specs.declared.graph.CanonFunc.TheVariants as canon_func
-use Rattle.comp_graph.specs.declared.graph.FuncRef.{FuncRef}
-use Rattle.comp_graph.specs.declared.graph.Lift.{Lift}
-use Rattle.comp_graph.specs.declared.graph.Lower.{Lower}
-use Rattle.comp_graph.specs.declared.graph.Options.{Options}
-use Rattle.comp_graph.specs.Graph.{CoreMake, Graph, Lifted, func_at, func_named, lifted_as, names}
+use Rattle.comp_graph.specs.Graph.{Graph}
 use Rattle.script_reader.specs.Script.{Script}
-use Rattle.script_reader.specs.declared.script.Item.{Item}
-use Rattle.script_reader.specs.declared.script.Item.TheVariants as item
 use Rattle.trace_show.specs.declared.label.Label.{Label}
-use Rattle.trace_show.specs.declared.label.Label.TheVariants as line
-use Rattle.trace_show.specs.declared.trap.TrapName.TheVariants as trap
-use Rattle.trace_show.specs.declared.typed.TypedValue.{TypedValue}
-use Rattle.canonical_machine.specs.declared.run_end.RunEnd.TheVariants.{Fuel}
-use Rattle.canonical_machine.specs.Control.{Control, Free, Instantiates, Runs, Arrives, Lowers, Quiet, Back, Leaves, Doomed, Then, Starts, Resolves, Lowering, HostedState, Going, AtCall, Nested, Behind, InLowering, BeforeLeaving}
-use Rattle.canonical_machine.specs.Control as control
-use Rattle.canonical_machine.specs.World.{Callee, Init, Func, Subtask, Caller, Nobody, Host, Guest, TaskState, New, Acting, AfterCall, Begins, Exited, Task, World, first_world}
-use Rattle.canonical_machine.specs.Edits.{with_control, with_store, with_memory, unit_spent, rewritten, in_state, resolved, result_kept, unstacked}
-use Rattle.canonical_machine.specs.Reading.{func_address, memory_of, realloc_of, bytes_of, externals, lower_of, lower_at, lifted_of, task_at, acting, func_of, subtask_of, subtask_state, inst_of_canon, builtin_of, is_reentrant, may_leave}
-use Rattle.canonical_machine.specs.Turn.{Turn, Steps, Ends, Stuck, silent, doomed, behind, given, with_func, charged}
-use Rattle.canonical_machine.specs.Sound.{IsSound}
-use Rattle.canonical_machine.specs.Tasks.{IsCalleeOf, AreCalled}
-use Rattle.canonical_machine.specs.KeptLaws.{IsKept, CallsOthers, StepsOnce, EndsOnce}
-use Rattle.canonical_machine.specs.Nested.{HostedTurn, On, EndsIn, TrapsBy, CallsHost, NoRule, hosted_move, hosted_next}
-use Rattle.canonical_machine.specs.Next.{next_by}
-use Rattle.canonical_machine.specs.Next as machine
+use Rattle.canonical_machine.specs.Control.{HostedState, Going, AtCall}
+use Rattle.canonical_machine.specs.World.{World, first_world}
+use Rattle.canonical_machine.specs.Reading.{inst_of_canon}
+use Rattle.canonical_machine.specs.KeptLaws.{IsKept, CallsOthers}
+use Rattle.canonical_machine.specs.Nested.{CallsHost, hosted_move, hosted_next}
 use Rattle.canonical_machine.specs.Run.{Reaches}
-use Rattle.canonical_machine.specs.Owners.{owner_of_core, owner_of_canon, owner_of_func, owner_of_extern, AreOptionsOf, IsCanonApart, IsApart, IsFuncOf, IsOwned, AreOwnedBy, AreOwned, IsStackOf, IsStateOf, HasOwnRealloc, IsBehindApart, IsControlApart, IsApartWorld, FirstApart, ApartStays, NeverStuck, OneNextApart}
-use Rattle.canonical_machine.proofs.Imports.{map_some, then_some}
+use Rattle.canonical_machine.specs.Owners.{owner_of_canon, IsApart, IsStateOf, IsBehindApart, IsControlApart, IsApartWorld, NeverStuck, OneNextApart}
 use Rattle.canonical_machine.proofs.ApartSteps.{first_apart, apart_stays}
-use Rattle.canonical_machine.proofs.Worlds.{stays_kept, first_kept, stuck_only_at_others, one_next, reached_kept}
+use Rattle.canonical_machine.proofs.Worlds.{stays_kept, first_kept, stuck_only_at_others, one_next}
 
 -- Nested code of a component instance calls no function that another one made.
 

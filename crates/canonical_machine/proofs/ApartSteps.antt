@@ -1,13 +1,13 @@
 -- What component instances make is used by them alone in every step.
-use Rattle.std.proofs.Common.{◌≡◌, ◌≢◌, ◌⊎◌, inl, inr, ◌+◌, ℕ, zero, suc, drop, Bool, true, false, nat_eq, nat_lt, List, [], ◌∷◌, ◌++◌, length, refl, sym, ap, ◌∙◌, subst, Option, Some, None, Result, Ok, Err, if◌then◌else◌}
-use Rattle.std.specs.List.{slice_get, AllByRecursion, AllZip}
+use Rattle.std.proofs.Common.{◌≡◌, ◌+◌, ℕ, zero, suc, drop, Bool, true, false, nat_eq, nat_lt, List, [], ◌∷◌, length, refl, sym, ap, ◌∙◌, subst, Option, Some, None, Result, Ok, Err, if◌then◌else◌}
+use Rattle.std.specs.List.{slice_get, AllByRecursion}
 use Rattle.std.specs.Option.{option_map, option_and_then, IfSome}
 use Rattle.ca_base.specs.Names.{first_named}
 use Rattle.ca_types.specs.declared.value.Value.{Value}
 use Rattle.ca_types.specs.declared.exports.Export.{Export}
 use Rattle.value_lift.specs.declared.trap.LiftTrap.{LiftTrap}
-use Rattle.value_lower.specs.Plan.{Ask, Plan}
-use Rattle.core_machine.specs.Store.{Function, Own, Host as HostFunction, Instance, Store, found_at}
+use Rattle.value_lower.specs.Plan.{Plan}
+use Rattle.core_machine.specs.Store.{Function, Own, Host as HostFunction, Store, found_at}
 use Rattle.wasm_memory.specs.Memories.{MemoryState}
 use Rattle.core_machine.specs.Stack.{Frame, Stack, Running, AtHost, Given}
 use Rattle.core_machine.specs.Step.{Move, Goes, Calls, Traps, start, next}
@@ -15,7 +15,7 @@ use Rattle.core_machine.specs.Step as core
 use Rattle.core_machine.specs.Instantiation.{External, Instantiation, Makes, instance_of, instantiated, start_call}
 use Rattle.core_machine.specs.Instantiation as core_instance
 use Rattle.wasm_module.specs.declared.types.ValType.{ValType}
-use Rattle.core_machine.specs.Typed.{StoreTyped, StackTyped}
+use Rattle.core_machine.specs.Typed.{StoreTyped}
 use Rattle.core_machine.specs.Laws.{MoveTyped}
 use Rattle.core_machine.proofs.Lists.{all_at, found_there}
 use Rattle.core_machine.proofs.Moving.{moves_typed}
@@ -40,40 +40,35 @@ use Rattle.canonical_machine.specs.Control.{Control, Free, Instantiates, Runs, A
 use Rattle.canonical_machine.specs.Control as control
 use Rattle.canonical_machine.specs.World.{Callee, Init, Func, Subtask, Caller, Nobody, Host, Guest, TaskState, New, Acting, AfterCall, Begins, Exited, Task, World, first_world}
 use Rattle.canonical_machine.specs.Edits.{with_control, with_store, with_memory, unit_spent, instance_begun, unchained, rewritten, in_state, resolved, stacked, with_stack, unstacked, answered, told, result_kept}
-use Rattle.canonical_machine.specs.Reading.{func_address, memory_of, realloc_of, bytes_of, externals, lower_of, lower_at, lifted_of, task_at, acting, func_of, subtask_of, subtask_state, inst_of_canon, builtin_of, is_reentrant, may_leave}
-use Rattle.canonical_machine.specs.Turn.{Turn, Steps, Ends, Stuck, silent, doomed, behind, given, with_func, charged}
+use Rattle.canonical_machine.specs.Reading.{func_address, realloc_of, bytes_of, externals, lower_of, lower_at, lifted_of, task_at, acting, func_of, subtask_of, subtask_state, inst_of_canon, builtin_of, is_reentrant, may_leave}
+use Rattle.canonical_machine.specs.Turn.{Turn, Steps, Ends, Stuck, silent, doomed, behind, given, charged}
 use Rattle.canonical_machine.specs.Sound.{IsSound}
 use Rattle.canonical_machine.specs.Tasks.{IsCalleeOf, AreCalled}
-use Rattle.canonical_machine.specs.KeptLaws.{IsKept, CallsOthers, StepsOnce, EndsOnce}
 use Rattle.canonical_machine.specs.Nested.{HostedTurn, On, EndsIn, TrapsBy, CallsHost, NoRule, hosted_move, hosted_next}
 use Rattle.canonical_machine.specs.Next.{next_by}
-use Rattle.canonical_machine.specs.Next as machine
-use Rattle.canonical_machine.specs.Run.{Reaches}
-use Rattle.canonical_machine.specs.Owners.{owner_of_core, owner_of_canon, owner_of_func, owner_of_extern, AreOptionsOf, IsCanonApart, IsApart, IsFuncOf, IsOwned, IsEntryOwned, AreOwnedBy, AreOwned, IsStackOf, IsStateOf, HasOwnRealloc, IsBehindApart, IsControlApart, IsApartWorld, FirstApart, ApartStays, NeverStuck, OneNextApart}
-use Rattle.canonical_machine.proofs.Imports.{map_some, then_some}
-use Rattle.canonical_machine.specs.Passing.{arguments_plan}
+use Rattle.canonical_machine.specs.Owners.{owner_of_core, owner_of_func, owner_of_extern, AreOptionsOf, IsCanonApart, IsApart, IsFuncOf, IsOwned, IsEntryOwned, AreOwnedBy, AreOwned, IsStackOf, IsStateOf, HasOwnRealloc, IsBehindApart, IsControlApart, IsApartWorld, FirstApart, ApartStays}
+use Rattle.canonical_machine.proofs.Imports.{then_some}
 use Rattle.canonical_machine.specs.Traps.{lift_name, lower_name, core_name}
-use Rattle.canonical_machine.specs.Returning.{result_of, result_lowering, post_return_call, post_return, finished, passed_on, returned, returning_turn, control_behind, left_chain, leaving_turn}
+use Rattle.canonical_machine.specs.Returning.{result_lowering, post_return_call, post_return, finished, passed_on, returned, returning_turn, control_behind, left_chain, leaving_turn}
 use Rattle.canonical_machine.specs.CoreSteps.{costs, stack_ended, moved, running_turn}
 use Rattle.canonical_machine.specs.Instantiating.{started_up, made, action_turn, instantiating_turn}
 use Rattle.canonical_machine.specs.Entering.{arguments_of, arguments_lowering, with_arguments, entered, arriving_turn}
 use Rattle.canonical_machine.specs.Calling.{taken, item_turn, free_turn, call_begun, call_ended, back_from, back_turn}
 use Rattle.canonical_machine.specs.Reply.{reply, allowed, calling_turn}
 use Rattle.canonical_machine.specs.Pausing.{Paused, Words, Failed, Asked, settle, ask_words}
-use Rattle.canonical_machine.specs.Lowering.{nested_of, started, lowered, paused, left_by, lowers_turn}
+use Rattle.canonical_machine.specs.Lowering.{nested_of, started, lowered, paused, lowers_turn}
 use Rattle.canonical_machine.specs.Nested.{nested_ended, refused, hosted, nested_turn}
-use Rattle.canonical_machine.specs.Kept.{HasHosts, WereMadeSoFar, IsHosted, IsKeptBy}
+use Rattle.canonical_machine.specs.Kept.{WereMadeSoFar, IsHosted, IsKeptBy}
 use Rattle.canonical_machine.specs.Sound as sounds
 use Rattle.canonical_machine.proofs.Changed.{drop_next}
 use Rattle.canonical_machine.proofs.Graphs.{hosts_of}
 use Rattle.canonical_machine.proofs.Imports.{Hosts}
 use Rattle.canonical_machine.proofs.Made.{LeavesWith}
-use Rattle.canonical_machine.proofs.Moved.{IsOnward}
 use Rattle.canonical_machine.proofs.CoreKept.{MoveSame, move_same}
 use Rattle.canonical_machine.proofs.LowerKept.{gives, state_of}
 use Rattle.canonical_machine.proofs.Ordered.{callee_same, called_changed}
 use Rattle.canonical_machine.proofs.Owned.{owned_later, owned_same, same_keeps, func_owned, made_owned}
-use Rattle.canonical_machine.proofs.Within.{StackWithin, MoveWithin, Closed, next_within}
+use Rattle.canonical_machine.proofs.Within.{MoveWithin, Closed, next_within}
 use Rattle.canonical_machine.specs.World.{Returned}
 
 -- a turn whose step leaves a world in which they are
@@ -381,11 +376,11 @@ move_of : (g : Graph) (s : Store) (owner : ℕ) (results : List ValType) (f : Fr
     → MoveWithin (λ number. owner_of_core g number ≡ Some owner) (IsOwned g s owner) m → TurnOf g owner s (hosted_move (Running f fs) s m)
 move_of g s owner results f fs (Goes paid t (Running h hs)) typed same within = (same.0, same.1.0, same.1.2, within)
 move_of g s owner results f fs (Goes paid t (AtHost address words)) typed same within = (
-      same.0,
-      same.1.0,
-      same.1.2,
-      subst (IsFuncOf g owner address) (some_same within.0 (HostFunction typed.2.0) (sym within.1 ∙ (ap (λ (fs : List Function). slice_get fs address) (sym same.0) ∙ typed.2.1))) within.2,
-    )
+  same.0,
+  same.1.0,
+  same.1.2,
+  subst (IsFuncOf g owner address) (some_same within.0 (HostFunction typed.2.0) (sym within.1 ∙ (ap (λ (fs : List Function). slice_get fs address) (sym same.0) ∙ typed.2.1))) within.2,
+)
 move_of g s owner results f fs (Goes paid t (Given words)) typed same within = (same.0, same.1.0, same.1.2, tt)
 move_of g s owner results f fs (Calls address words l) typed same within =
     (refl, refl, refl, subst (IsFuncOf g owner address) (some_same within.0.0 (HostFunction typed.0) (sym within.0.1 ∙ typed.1)) within.0.2)

@@ -1,5 +1,5 @@
 -- What is kept where calls are made, where tasks enter, and where control goes back.
-use Rattle.std.proofs.Common.{◌≡◌, ◌⊎◌, inl, inr, ◌<◌, ◌≤◌, ◌+◌, ℕ, zero, suc, Bool, true, false, nat_eq, List, [], ◌∷◌, ◌++◌, drop, length, refl, sym, ap, ◌∙◌, subst, arith, Option, Some, None, Result, Ok, Err, if◌then◌else◌}
+use Rattle.std.proofs.Common.{◌≡◌, ◌⊎◌, inl, inr, ◌<◌, ℕ, zero, suc, Bool, true, List, [], ◌∷◌, ◌++◌, drop, length, refl, sym, ap, ◌∙◌, subst, arith, Option, Some, None, Result, Ok, Err, if◌then◌else◌}
 use Rattle.std.specs.List.{slice_get, AllByRecursion}
 use Rattle.std.specs.Option.{option_map, IsSome}
 use Rattle.wasm_module.specs.declared.types.ValType as core_val
@@ -19,7 +19,7 @@ use Rattle.lowered_values.specs.Values.{IsOf}
 use Rattle.comp_graph.specs.declared.graph.CanonFunc.{CanonFunc}
 use Rattle.comp_graph.specs.declared.graph.CanonFunc.TheVariants as canon_func
 use Rattle.comp_graph.specs.declared.graph.Lower.{Lower}
-use Rattle.comp_graph.specs.Needs.{lifted_type, lowered_type, lift_needs_realloc}
+use Rattle.comp_graph.specs.Needs.{lowered_type, lift_needs_realloc}
 use Rattle.comp_graph.specs.Graph.{Graph, Lifted, canon_type, func_named}
 use Rattle.script_reader.specs.declared.script.Call.{Call}
 use Rattle.script_reader.specs.declared.script.Item.{Item}
@@ -27,26 +27,26 @@ use Rattle.script_reader.specs.declared.script.Item.TheVariants as item
 use Rattle.script_reader.specs.Script.{Script}
 use Rattle.trace_show.specs.declared.label.Label.TheVariants as line
 use Rattle.trace_show.specs.declared.trap.TrapName.TheVariants as trap
-use Rattle.canonical_machine.specs.Control.{Control, Free, Runs, Arrives, Lowers, Back, Leaves, Doomed, Starts, Lowering}
+use Rattle.canonical_machine.specs.Control.{Runs, Lowers, Doomed, Starts, Lowering}
 use Rattle.canonical_machine.specs.World.{Callee, Init, Func, Subtask, Caller, Nobody, Host, Guest, Unresolved, Returned, TaskState, New, Acting as IsActing, AfterCall, Begins, Exited, Task, World, new_task}
 use Rattle.canonical_machine.specs.Edits.{with_control, item_taken, changed_at, in_state, answered_stacks, answered, caller_changed, told}
-use Rattle.canonical_machine.specs.Passing.{params_type, arguments_lifted, arguments_plan}
-use Rattle.canonical_machine.specs.Reading.{memory_of, realloc_of, bytes_of, lower_at, lifted_of, task_at, acting, subtask_of, state_number, subtask_state, is_reentrant, may_leave, builtin_of}
+use Rattle.canonical_machine.specs.Passing.{params_type, arguments_plan}
+use Rattle.canonical_machine.specs.Reading.{memory_of, bytes_of, lifted_of, task_at, acting, subtask_of, state_number, subtask_state, is_reentrant, may_leave, builtin_of}
 use Rattle.canonical_machine.specs.Traps.{lift_name}
-use Rattle.canonical_machine.specs.Turn.{Turn, Steps, doomed, given, charged}
+use Rattle.canonical_machine.specs.Turn.{doomed, given}
 use Rattle.canonical_machine.specs.Entering.{passed, arguments_of, arguments_lowering, with_arguments, entered, arriving_turn}
 use Rattle.canonical_machine.specs.Returning.{control_behind, left_chain, leaving_turn}
 use Rattle.canonical_machine.specs.Calling.{begun, called_by, taken, item_turn, free_turn, call_begun, call_ended, back_from, back_turn}
 use Rattle.canonical_machine.specs.Reply.{reply, allowed, calling_turn}
 use Rattle.canonical_machine.specs.Sound.{AreBytes, IsSoundGraph, IsSoundCall, IsSoundItem, IsSound}
-use Rattle.canonical_machine.specs.Tasks.{IsCalleeOf, AreCalled, caller_number, IsAt, NoStack, OneStack, IsSoFar, AreWaiting, Acts, IsInit, IsBegun, IsRunning, IsResolved, IsBack}
-use Rattle.canonical_machine.specs.Kept.{WereMade, AreMadeBy, core_params, core_results, params_by, results_by, caller_params, caller_results, kept_result, HasNoResult, HasResult, HasArguments, IsWaiting, WaitsFor, AllWait, AreTyped, IsCalling, IsPlanned, Takes, IsLoweringFor, memory_size, Acting, IsAnsweredBy, IsKeptBy}
-use Rattle.canonical_machine.proofs.Changed.{changed_length, changed_there, changed_other, within, get_front}
+use Rattle.canonical_machine.specs.Tasks.{IsCalleeOf, AreCalled, caller_number, IsAt, NoStack, OneStack, IsSoFar, AreWaiting, Acts, IsBegun, IsRunning, IsResolved, IsBack}
+use Rattle.canonical_machine.specs.Kept.{WereMade, AreMadeBy, core_params, core_results, params_by, results_by, caller_results, kept_result, HasNoResult, HasResult, HasArguments, IsWaiting, WaitsFor, AllWait, AreTyped, IsCalling, IsPlanned, Takes, IsLoweringFor, memory_size, Acting, IsAnsweredBy, IsKeptBy}
+use Rattle.canonical_machine.proofs.Changed.{changed_there, changed_other, within, get_front}
 use Rattle.canonical_machine.proofs.Graphs.{IsUsed, same_func, lower_there, callee_there, realloc_is, realloc_some}
 use Rattle.canonical_machine.proofs.Imports.{map_some}
 use Rattle.canonical_machine.proofs.OrderSteps.{not_instantiated}
 use Rattle.canonical_machine.proofs.Returns.{Ground, kept, ground_tasks, ground_changed, Keeps, found_keeps, behind_keeps, either_keeps, charged_keeps, func_keeps}
-use Rattle.canonical_machine.proofs.Staying.{Spot, Rising, spot_of, spot_init, spot_acting, spot_changed, at_spot, to_spot, waiting_rises, all_wait_same, all_wait_changed, acting_changed, types_same, result_same, memory_bytes}
+use Rattle.canonical_machine.proofs.Staying.{Spot, Rising, spot_of, spot_init, spot_acting, spot_changed, at_spot, to_spot, waiting_rises, all_wait_same, all_wait_changed, acting_changed, result_same, memory_bytes}
 use Rattle.canonical_machine.proofs.Words.{arguments_planned, arguments_are}
 
 -- Calls of the script.
@@ -62,15 +62,17 @@ unfolding taken
 taken_keeps g E call w c ground none made =
     let callee : Callee = Func c.lifted in
     let caller : Caller = Host call.values in
-    kept g (begun callee caller (item_taken w)) (ground_tasks g w.store w.tasks (w.tasks ++ new_task callee caller ∷ []) (no_results_more w.tasks callee caller refl ground.results) ground)
-    (made, record {
-      number = length w.tasks;
-      below = [];
-      chain_is = ap (λ (chain : List ℕ). length w.tasks ∷ chain) none;
-      task = new_task callee caller;
-      there = get_behind w.tasks (new_task callee caller) [];
-      holds = (c.values, tt);
-    })
+    kept g (begun callee caller (item_taken w)) (ground_tasks g w.store w.tasks (w.tasks ++ new_task callee caller ∷ []) (no_results_more w.tasks callee caller refl ground.results) ground) (
+      made,
+      record {
+        number = length w.tasks;
+        below = [];
+        chain_is = ap (λ (chain : List ℕ). length w.tasks ∷ chain) none;
+        task = new_task callee caller;
+        there = get_behind w.tasks (new_task callee caller) [];
+        holds = (c.values, tt);
+      },
+    )
 
 pub free_keeps : (g : Graph) (E : Type 0) (s : Script) (w : World) → IsSound g s → Ground g w.store w.tasks → w.chain ≡ [] → WereMade w.store g.cores → Keeps g E (free_turn g s w)
 unfolding free_turn item_turn
@@ -94,43 +96,53 @@ call_keeps g E number l words w ground a made at fits waits wait =
     either_keeps g E (is_reentrant w l.lift.instance a.number) _ _ (λ e. kept g (with_control (Doomed a.number trap.Reentrant) w) ground tt)
     (λ e.
     kept g (begun callee caller v)
-    (ground_tasks g w.store v.tasks (v.tasks ++ new_task callee caller ∷ []) (no_results_more v.tasks callee caller refl first.results) first)
-    (made, record {
-      number = length v.tasks;
-      below = a.number ∷ a.below;
-      chain_is = ap (λ (chain : List ℕ). length v.tasks ∷ chain) a.chain_is;
-      task = new_task callee caller;
-      there = get_behind v.tasks (new_task callee caller) [];
-      holds = (
-        subst (λ (o : Option CanonFunc). AreWords (params_by o) words) (sym at) fits,
-        (
+    (ground_tasks g w.store v.tasks (v.tasks ++ new_task callee caller ∷ []) (no_results_more v.tasks callee caller refl first.results) first) (
+      made,
+      record {
+        number = length v.tasks;
+        below = a.number ∷ a.below;
+        chain_is = ap (λ (chain : List ℕ). length v.tasks ∷ chain) a.chain_is;
+        task = new_task callee caller;
+        there = get_behind v.tasks (new_task callee caller) [];
+        holds = (
+          subst (λ (o : Option CanonFunc). AreWords (params_by o) words) (sym at) fits,
           (
-            new_task callee caller,
-            get_behind v.tasks (new_task callee caller) [],
-            (change a.task, get_front v.tasks (new_task callee caller ∷ []) a.number (change a.task) there, subst (λ (o : Option CanonFunc). AllByRecursion (IsWaiting w.store (results_by o) (core_results a.task.callee)) a.task.stacks) (sym at) waits),
+            (
+              new_task callee caller,
+              get_behind v.tasks (new_task callee caller) [],
+              (change a.task, get_front v.tasks (new_task callee caller ∷ []) a.number (change a.task) there, subst (λ (o : Option CanonFunc). AllByRecursion (IsWaiting w.store (results_by o) (core_results a.task.callee)) a.task.stacks) (sym at) waits),
+            ),
+            all_wait_same g w.store v.tasks (v.tasks ++ new_task callee caller ∷ []) a.number a.below rising (λ n few. same_front v.tasks n (omega (arith, few, less)))
+                (all_wait_changed g w.store w.tasks a.number a.below change rising (λ task. refl) wait),
           ),
-          all_wait_same g w.store v.tasks (v.tasks ++ new_task callee caller ∷ []) a.number a.below rising (λ n few. same_front v.tasks n (omega (arith, few, less)))
-          (all_wait_changed g w.store w.tasks a.number a.below change rising (λ task. refl) wait),
-        ),
-      );
-    }))
+        );
+      },
+    ))
   where
     callee : Callee
     callee = Func (lifted_of l)
+
     caller : Caller
     caller = Guest (called_by a.number number words)
+
     change : Task → Task
     change task = record task { state = AfterCall (length w.tasks) }
+
     v : World
     v = in_state a.number (AfterCall (length w.tasks)) w
+
     first : Ground g w.store v.tasks
     first = ground_changed g w.store w.tasks a.number change (λ task own. own) ground
+
     there : slice_get v.tasks a.number ≡ Some (change a.task)
     there = changed_there a.number change w.tasks a.task a.there
+
     rising : Rising a.number a.below
     rising = waiting_rises w.tasks a.number a.below a.waiting
+
     less : a.number < length v.tasks
     less = within v.tasks a.number (change a.task) there
+
     same_front : (xs : List Task) (n : ℕ) → n < length xs → slice_get (xs ++ new_task callee caller ∷ []) n ≡ slice_get xs n
     same_front [] n few = absurd (omega (arith, few))
     same_front (x ∷ xs) zero few = refl
@@ -316,18 +328,20 @@ left g s tasks t (u ∷ below) task there made has order wait =
     let same : called.0 ≡ task = some_task called.0 task (sym called.1 ∙ there) in
     let waits : IsSoFar (AfterCall t) Unresolved OneStack caller = subst (IsSoFar (AfterCall t) Unresolved OneStack) (some_task order.1.0 caller (sym order.1.1 ∙ called.2.1)) order.1.2 in
     let answer : IsAnsweredBy g s others (AfterCall t) caller =
-    (f task, changed_there t f tasks task there, (has, subst (λ (c : Task). WaitsFor g s c.caller caller) same called.2.2)) in
-    (made, record {
-      number = u;
-      below = below;
-      chain_is = refl;
-      task = caller;
-      there = changed_other t u f tasks (omega (arith, less)) ∙ called.2.1;
-      holds = (
-        subst (λ (state : TaskState). IsAnsweredBy g s others state caller) (sym waits.state_is) answer,
-        all_wait_same g s tasks others u below (waiting_rises tasks u below order.3) (λ n few. changed_other t n f tasks (omega (arith, few, less))) wait.1,
-      );
-    })
+    (f task, changed_there t f tasks task there, (has, subst (λ (c : Task). WaitsFor g s c.caller caller) same called.2.2)) in (
+      made,
+      record {
+        number = u;
+        below = below;
+        chain_is = refl;
+        task = caller;
+        there = changed_other t u f tasks (omega (arith, less)) ∙ called.2.1;
+        holds = (
+          subst (λ (state : TaskState). IsAnsweredBy g s others state caller) (sym waits.state_is) answer,
+          all_wait_same g s tasks others u below (waiting_rises tasks u below order.3) (λ n few. changed_other t n f tasks (omega (arith, few, less))) wait.1,
+        );
+      },
+    )
   where
     some_task : (x y : Task) → Some x ≡ Some y → x ≡ y
     some_task x y h = cc

@@ -1,11 +1,11 @@
 -- What is kept in the moves of core functions, and in instantiation.
-use Rattle.std.proofs.Common.{◌≡◌, ◌⊎◌, inl, inr, ◌<◌, ◌+◌, ℕ, zero, suc, Bool, true, false, List, [], ◌∷◌, ◌++◌, drop, length, refl, sym, ap, ◌∙◌, subst, arith, append_assoc, append-nil, length-append, Option, Some, None}
+use Rattle.std.proofs.Common.{◌≡◌, ◌⊎◌, inl, inr, ◌+◌, ℕ, zero, suc, List, [], ◌∷◌, ◌++◌, drop, length, refl, sym, ap, ◌∙◌, subst, arith, append_assoc, append-nil, length-append, Option, Some, None}
 use Rattle.std.specs.List.{slice_get, AllByRecursion}
 use Rattle.wasm_module.specs.declared.types.ValType.{ValType}
 use Rattle.wasm_module.specs.declared.types.FuncType as core_type
 use Rattle.wasm_numbers.specs.Types.{AreWords}
 use Rattle.wasm_valid.specs.Modules.{Typed}
-use Rattle.core_machine.specs.Store.{Function, Host as HostFunction, Store}
+use Rattle.core_machine.specs.Store.{Store}
 use Rattle.core_machine.specs.Stack.{Stack}
 use Rattle.core_machine.specs.Step.{Move, Goes, Calls, Traps, units, next}
 use Rattle.core_machine.specs.Step as core
@@ -13,37 +13,35 @@ use Rattle.core_machine.specs.Instantiation.{External, Instantiation, Makes, ins
 use Rattle.core_machine.specs.Instantiation as core_instance
 use Rattle.core_machine.specs.Typed.{Extends, StoreTyped, StackTyped}
 use Rattle.core_machine.specs.Laws.{MoveTyped, AddedTyped}
-use Rattle.core_machine.proofs.Lists.{all_at, all_drop}
+use Rattle.core_machine.proofs.Lists.{all_at}
 use Rattle.core_machine.proofs.Zips.{get_behind}
 use Rattle.core_machine.proofs.Moving.{moves_typed}
 use Rattle.core_machine.proofs.Adding.{adds_typed}
 use Rattle.core_machine.proofs.Keeping.{steps_keep}
 use Rattle.comp_graph.specs.declared.graph.Action.{Action}
 use Rattle.comp_graph.specs.declared.graph.Action.TheVariants.{Begin, Make}
-use Rattle.comp_graph.specs.declared.graph.CanonFunc.{CanonFunc}
 use Rattle.comp_graph.specs.Graph.{CoreMake, Graph, Lifted, canon_type, AreImported}
 use Rattle.script_reader.specs.Script.{Script}
 use Rattle.trace_show.specs.declared.trap.TrapName.TheVariants as trap
 use Rattle.canonical_machine.specs.Control.{Control, Free, Instantiates, Runs, Doomed}
 use Rattle.canonical_machine.specs.Control as control
-use Rattle.canonical_machine.specs.World.{Callee, Init, Func, Caller, Unresolved, TaskState, Acting as IsActing, Begins, Exited, Task, World}
-use Rattle.canonical_machine.specs.Edits.{with_control, with_store, instance_begun, unchained, changed_at, in_state, stacked, with_stack, unstacked}
+use Rattle.canonical_machine.specs.World.{Callee, Unresolved, TaskState, Acting as IsActing, Begins, Exited, Task, World}
+use Rattle.canonical_machine.specs.Edits.{with_control, with_store, instance_begun, unchained, in_state, stacked, with_stack, unstacked}
 use Rattle.canonical_machine.specs.Reading.{externals, acting, func_of}
 use Rattle.canonical_machine.specs.Traps.{core_name}
-use Rattle.canonical_machine.specs.Turn.{Turn, Steps, given, charged}
 use Rattle.canonical_machine.specs.CoreSteps.{costs, stack_ended, moved, running_turn}
 use Rattle.canonical_machine.specs.Instantiating.{started_up, made, action_turn, instantiating_turn}
 use Rattle.canonical_machine.specs.Sound.{IsSoundGraph, HasBytes}
 use Rattle.canonical_machine.specs.Sound as sounds
-use Rattle.canonical_machine.specs.Tasks.{IsCalleeOf, AreCalled, NoStack, OneStack, IsSoFar, Acts, IsInit, IsBegun, IsRunning}
-use Rattle.canonical_machine.specs.Kept.{HasBytesAlone, WereMade, WereMadeSoFar, AreMadeBy, core_results, kept_result, HasNoResult, HasResult, IsWaiting, AllWait, AreTyped, IsCalling, Acting}
+use Rattle.canonical_machine.specs.Tasks.{IsCalleeOf, AreCalled, NoStack, OneStack, IsSoFar, IsInit, IsBegun, IsRunning}
+use Rattle.canonical_machine.specs.Kept.{HasBytesAlone, WereMade, WereMadeSoFar, AreMadeBy, core_results, kept_result, HasNoResult, IsWaiting, AllWait, AreTyped, IsCalling, Acting}
 use Rattle.canonical_machine.proofs.Changed.{drop_next, drop_none}
 use Rattle.canonical_machine.proofs.Graphs.{IsUsed, CanonThere, canon_at, callee_there, hosts_of}
 use Rattle.canonical_machine.proofs.Imports.{ImportsAreThere, imports_match, imported_behind}
 use Rattle.canonical_machine.proofs.Made.{LeavesWith, LeavesMore, leaves_one_more}
 use Rattle.canonical_machine.proofs.Moved.{IsOnward, MoveKeeps, next_keeps}
 use Rattle.canonical_machine.proofs.Returns.{Ground, kept, ground_on, ground_changed, Keeps, found_keeps, charged_keeps, returning_keeps}
-use Rattle.canonical_machine.proofs.Staying.{GoesOn, all_still, by_still, all_wait_later, typed_later, Spot, spot_of, spot_init, spot_acting, spot_changed, at_spot, to_spot, all_wait_changed, acting_changed}
+use Rattle.canonical_machine.proofs.Staying.{GoesOn, by_still, all_wait_later, Spot, spot_of, spot_init, spot_acting, spot_changed, at_spot, all_wait_changed, acting_changed}
 
 -- Where a stack goes on, functions and instances stay as they are.
 abbrev pub MoveSame : Store → Move → Type 0

@@ -1,14 +1,13 @@
 -- What is lifted and lowered in a sound graph is there, and so are the core functions that the Canonical ABI makes.
 use Rattle.std.proofs.Common.{◌≡◌, ℕ, zero, suc, List, [], ◌∷◌, ◌++◌, map, refl, sym, ap, ◌∙◌, subst, append-nil, Option, Some, None}
-use Rattle.std.specs.List.{slice_get, AllByRecursion, AllZip}
+use Rattle.std.specs.List.{slice_get, AllByRecursion}
 use Rattle.std.specs.Option.{option_map, option_and_then, IfSome, IsSome}
 use Rattle.ca_base.specs.Names.{first_named}
 use Rattle.ca_types.specs.declared.exports.Export.{Export}
 use Rattle.ca_types.specs.declared.types.FuncType.{FuncType}
 use Rattle.wasm_module.specs.declared.types.FuncType as core
-use Rattle.wasm_module.specs.declared.module.ModuleTree.{ModuleTree}
 use Rattle.wasm_module.specs.Spaces.{type_of_func}
-use Rattle.core_machine.specs.Store.{Function, Own, Host, type_of, Store, found_at}
+use Rattle.core_machine.specs.Store.{Function, Host, type_of, Store, found_at}
 use Rattle.core_machine.specs.Laws.{IsOwn}
 use Rattle.core_machine.proofs.Lists.{all_at, all_map, all_append}
 use Rattle.core_machine.proofs.Zips.{zip_at}
@@ -22,7 +21,7 @@ use Rattle.comp_graph.specs.declared.graph.Lower.{Lower}
 use Rattle.comp_graph.specs.declared.graph.CanonFunc.{CanonFunc}
 use Rattle.comp_graph.specs.declared.graph.CanonFunc.TheVariants as canon_func
 use Rattle.comp_graph.specs.Needs.{realloc_type, post_return_type}
-use Rattle.comp_graph.specs.Graph.{CoreMake, Graph, Lifted, canon_type, core_type, func_at, func_named, lifted_as, names, IsIn, IsMemoryThere, IsLiftThere, IsLowerThere, IsCanonThere, AreMade, none_made, instance_made, canon_made}
+use Rattle.comp_graph.specs.Graph.{CoreMake, Graph, Lifted, canon_type, core_type, func_at, func_named, lifted_as, names, IsMemoryThere, IsLiftThere, IsLowerThere, IsCanonThere, AreMade, none_made, instance_made, canon_made}
 use Rattle.canonical_machine.specs.World.{Callee, Init, Func, Caller, Nobody, Host as HostCaller, Guest}
 use Rattle.canonical_machine.specs.Reading.{func_address, realloc_of, lower_of, lower_at, lifted_of}
 use Rattle.canonical_machine.specs.Sound.{IsSoundGraph}

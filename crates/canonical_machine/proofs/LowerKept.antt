@@ -1,5 +1,5 @@
 -- What is kept in lowerings and in nested code.
-use Rattle.std.proofs.Common.{◌≡◌, ◌≢◌, ◌<◌, ◌≤◌, ◌+◌, ◌^◌, ℕ, Bool, true, false, nat_eq, List, [], ◌∷◌, drop, length, refl, sym, ap, ◌∙◌, subst, arith, Option, Some, None, if◌then◌else◌}
+use Rattle.std.proofs.Common.{◌≡◌, ◌≤◌, ℕ, true, false, nat_eq, List, [], ◌∷◌, length, refl, sym, ◌∙◌, subst, arith, Option, Some, None}
 use Rattle.std.specs.List.{slice_get, AllByRecursion}
 use Rattle.std.specs.Option.{IsSome}
 use Rattle.wasm_module.specs.declared.types.ValType.{ValType}
@@ -13,33 +13,32 @@ use Rattle.core_machine.specs.Laws.{MoveTyped}
 use Rattle.core_machine.proofs.Lists.{all_at}
 use Rattle.core_machine.proofs.Adding.{found_is}
 use Rattle.core_machine.proofs.Moving.{moves_typed}
-use Rattle.core_machine.proofs.Stores.{store_same, stays_typed}
-use Rattle.value_lower.specs.Plan.{Ask, Plan}
+use Rattle.core_machine.proofs.Stores.{store_same}
+use Rattle.value_lower.specs.Plan.{Plan}
 use Rattle.comp_graph.specs.declared.graph.CanonFunc.{CanonFunc}
 use Rattle.comp_graph.specs.Needs.{lifted_type, realloc_type}
 use Rattle.comp_graph.specs.Graph.{Graph, Lifted}
 use Rattle.script_reader.specs.Script.{Script}
 use Rattle.trace_show.specs.declared.label.Label.TheVariants as line
 use Rattle.trace_show.specs.declared.trap.TrapName.TheVariants as trap
-use Rattle.canonical_machine.specs.Control.{Control, Runs, Lowers, Quiet, Leaves, Doomed, Then, Starts, Resolves, Lowering, HostedState, Going, AtCall, Nested, Behind, InLowering, BeforeLeaving}
-use Rattle.canonical_machine.specs.World.{Callee, Func, Caller, Unresolved, Returned, Acting as IsActing, Task, World}
+use Rattle.canonical_machine.specs.Control.{Runs, Lowers, Quiet, Leaves, Doomed, Then, Starts, Resolves, Lowering, HostedState, Going, AtCall, Nested, Behind, InLowering, BeforeLeaving}
+use Rattle.canonical_machine.specs.World.{Callee, Func, Unresolved, Returned, Acting as IsActing, Task, World}
 use Rattle.canonical_machine.specs.Edits.{with_control, with_store, with_memory, changed_at, stacked, caller_changed, result_kept, rewritten}
-use Rattle.canonical_machine.specs.Reading.{func_address, bytes_of, acting, func_of, builtin_of, inst_of_canon}
+use Rattle.canonical_machine.specs.Reading.{func_address, bytes_of, builtin_of, inst_of_canon}
 use Rattle.canonical_machine.specs.Returning.{finished}
 use Rattle.canonical_machine.specs.Pausing.{Paused, Words, Failed, Asked, settle, ask_words}
 use Rattle.canonical_machine.specs.Traps.{lower_name, core_name}
-use Rattle.canonical_machine.specs.Turn.{Turn, Stuck, doomed, behind, given}
-use Rattle.canonical_machine.specs.CoreSteps.{costs}
-use Rattle.canonical_machine.specs.Lowering.{nested_of, started, lowered, paused, left_by, lowers_turn}
+use Rattle.canonical_machine.specs.Turn.{Stuck, doomed, behind}
+use Rattle.canonical_machine.specs.Lowering.{nested_of, started, lowered, paused, lowers_turn}
 use Rattle.canonical_machine.specs.Nested.{HostedTurn, On, EndsIn, TrapsBy, CallsHost, NoRule, hosted_move, hosted_next, nested_ended, refused, hosted, nested_turn}
 use Rattle.canonical_machine.specs.Sound.{IsSoundGraph}
-use Rattle.canonical_machine.specs.Tasks.{IsCalleeOf, AreCalled, NoStack, IsSoFar, Acts, IsLowering, IsBefore}
+use Rattle.canonical_machine.specs.Tasks.{IsCalleeOf, AreCalled, NoStack, IsSoFar, Acts, IsLowering}
 use Rattle.canonical_machine.specs.Kept.{WereMade, AreMadeBy, core_params, core_results, caller_results, kept_result, HasNoResult, HasResult, AllWait, AreTyped, IsPlanned, Takes, HasEnded, IsFunction, IsLoweringFor, IsHosted, memory_size, IsNestedFor, Acting}
 use Rattle.canonical_machine.proofs.Changed.{all_but}
 use Rattle.canonical_machine.proofs.CoreKept.{MoveSame, move_same, goes_on}
 use Rattle.canonical_machine.proofs.Graphs.{IsUsed, CanonThere, canon_at, callee_there, func_there, func_found}
-use Rattle.canonical_machine.proofs.Returns.{typed_start, Ground, kept, ground_on, ground_tasks, ground_changed, Keeps, found_keeps, behind_keeps, either_keeps, charged_keeps, func_keeps, finished_keeps}
-use Rattle.canonical_machine.proofs.Staying.{GoesOn, all_still, all_wait_later, size_later, lowering_later, hosted_later, nested_later, Spot, spot_of, spot_acting, spot_changed, at_spot, to_spot, all_wait_changed, acting_changed, types_same, result_kept_has, IsSettled, Settled, settled, rewritten_goes_on, memory_bytes}
+use Rattle.canonical_machine.proofs.Returns.{typed_start, Ground, kept, ground_on, ground_tasks, ground_changed, Keeps, found_keeps, either_keeps, charged_keeps, func_keeps, finished_keeps}
+use Rattle.canonical_machine.proofs.Staying.{GoesOn, all_still, all_wait_later, size_later, lowering_later, Spot, spot_of, spot_changed, at_spot, all_wait_changed, acting_changed, types_same, result_kept_has, IsSettled, Settled, settled, rewritten_goes_on, memory_bytes}
 
 -- The function of a task, of an acting task.
 used_by : (g : Graph) → IsSoundGraph g → (tasks : List Task) (t : ℕ) (task : Task) (f : Lifted) → AreCalled g tasks → slice_get tasks t ≡ Some task → task.callee ≡ Func f → IsUsed g f
@@ -149,10 +148,11 @@ paused_keeps g E sound l count (Asked ask k) w called a ground made few b =
     subst (λ (f : Function). StackTyped w.store realloc_type.results (start f r.address (ask_words ask))) r.same
     (typed_start w.store r.address r.there.0 realloc_type (ask_words ask) ground.store r.there.1 r.there.2 b.holds.0.1.1) in
     found_keeps g E (found_at w.store.funcs l.realloc) (r.address, r.function) _ r.found
-    (kept g (with_control (Quiet n (InLowering l k)) w) ground
-    (made,
-    acting_less g w.store w.tasks w.chain (λ task. IsLoweringFor w.store l task × IsSettled (IsSome l.realloc) (Takes g l.next task) count (Asked ask k)) (λ task. IsNestedFor g w.store n (InLowering l k) task)
-    (λ task h. (typed, h.0, λ place later low more. h.1.2 place later low (omega (arith, few, more)))) b))
+    (kept g (with_control (Quiet n (InLowering l k)) w) ground (
+      made,
+      acting_less g w.store w.tasks w.chain (λ task. IsLoweringFor w.store l task × IsSettled (IsSome l.realloc) (Takes g l.next task) count (Asked ask k)) (λ task. IsNestedFor g w.store n (InLowering l k) task)
+          (λ task h. (typed, h.0, λ place later low more. h.1.2 place later low (omega (arith, few, more)))) b,
+    ))
 
 pub lowers_keeps : (g : Graph) (E : Type 0) → IsSoundGraph g → (l : Lowering) (plan : Plan) (w : World) → AreCalled g w.tasks → (a : IsLowering l.next w.tasks w.chain) → Ground g w.store w.tasks
     → WereMade w.store g.cores
@@ -215,11 +215,12 @@ nested_ended_keeps : (g : Graph) (E : Type 0) (n : Nested) (b : Behind) (words :
 unfolding nested_ended
 nested_ended_keeps g E n (InLowering l k) [] w ground made fits a = absurd fits
 nested_ended_keeps g E n (InLowering l k) (place ∷ words) w ground made fits a =
-    kept g (with_control (Lowers l (k place)) w) ground
-    (made,
-    acting_less g w.store w.tasks w.chain (λ task. IsNestedFor g w.store n (InLowering l k) task)
-    (λ task. IsLoweringFor w.store l task × IsPlanned (IsSome l.realloc) (Takes g l.next task) (memory_size w.store l.memory) (k place))
-    (λ task h. (h.1, h.2 place (memory_size w.store l.memory) fits.0 (omega arith))) a)
+    kept g (with_control (Lowers l (k place)) w) ground (
+      made,
+      acting_less g w.store w.tasks w.chain (λ task. IsNestedFor g w.store n (InLowering l k) task)
+          (λ task. IsLoweringFor w.store l task × IsPlanned (IsSome l.realloc) (Takes g l.next task) (memory_size w.store l.memory) (k place))
+          (λ task h. (h.1, h.2 place (memory_size w.store l.memory) fits.0 (omega arith))) a,
+    )
 nested_ended_keeps g E n BeforeLeaving words w ground made fits a =
     kept g (with_control Leaves w) ground (made, acting_less g w.store w.tasks w.chain (λ task. IsNestedFor g w.store n BeforeLeaving task) (HasResult g) (λ task h. h.1) a)
 
@@ -230,10 +231,11 @@ hosted_keeps : (g : Graph) (E : Type 0) (s : Script) (n : Nested) (b : Behind) (
 unfolding hosted refused
 hosted_keeps g E s n b (On paid state t) w ground made typed a other =
     charged_keeps g E paid s w _ (λ units.
-    kept g (with_control (Quiet (record n { state = state }) b) (with_store t (record w { units = units }))) (ground_on g w.store t w.tasks typed.0 ground)
-    (all_still g w.store t typed.0 made,
-    acting_later g w.store t w.tasks w.chain (λ task. IsNestedFor g w.store n b task) (λ task. IsNestedFor g t (record n { state = state }) b task) typed.0
-    (λ task h. nested_on g w.store t n state b task typed.0 typed.1 h) a))
+    kept g (with_control (Quiet (record n { state = state }) b) (with_store t (record w { units = units }))) (ground_on g w.store t w.tasks typed.0 ground) (
+      all_still g w.store t typed.0 made,
+      acting_later g w.store t w.tasks w.chain (λ task. IsNestedFor g w.store n b task) (λ task. IsNestedFor g t (record n { state = state }) b task) typed.0
+          (λ task h. nested_on g w.store t n state b task typed.0 typed.1 h) a,
+    ))
 hosted_keeps g E s n b (EndsIn words) w ground made typed a other = nested_ended_keeps g E n b words w ground made typed a
 hosted_keeps g E s n b (TrapsBy why) w ground made typed a other =
     charged_keeps g E true s w (λ v. doomed n.blame (core_name why) v) (λ units. kept g (with_control (Doomed n.blame (core_name why)) (record w { units = units })) ground tt)

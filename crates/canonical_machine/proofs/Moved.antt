@@ -1,5 +1,5 @@
 -- Steps leave the instances and the tables of a store as they are, and its memories as memories of bytes.
-use Rattle.std.proofs.Common.{◌≡◌, ℕ, zero, suc, ◌+◌, ◌%◌, Bool, true, false, ◌&&◌, nat_le, List, [], ◌∷◌, length, refl, ap, ◌∙◌, subst, arith, Option, Some, None, Result, Ok, Err}
+use Rattle.std.proofs.Common.{◌≡◌, ℕ, zero, suc, ◌+◌, ◌%◌, Bool, true, false, ◌&&◌, nat_le, List, [], ◌∷◌, length, refl, arith, Option, Some, None, Result, Ok, Err}
 use Rattle.std.specs.List.{slice_get}
 use Rattle.std.specs.Option.{option_map}
 use Rattle.wasm_module.specs.declared.types.FuncType.{FuncType}
@@ -247,4 +247,3 @@ pub next_keeps : (s : Store) (k : Stack) → MoveKeeps s (next s k)
 next_keeps s (Running f fs) = in_keeps (slice_get s.instances f.instance) s f fs
 next_keeps s (AtHost address words) = tt
 next_keeps s (Given words) = tt
-

@@ -1,8 +1,8 @@
 -- Tasks stay ordered in every step.
-use Rattle.std.proofs.Common.{◌≡◌, ◌<◌, ◌≤◌, ◌⊎◌, inl, inr, ℕ, zero, suc, ◌+◌, Bool, true, false, nat_eq, nat_lt, List, [], ◌∷◌, ◌++◌, length, drop, refl, sym, ap, ◌∙◌, subst, arith, Option, Some, None, Result, Ok, Err, if◌then◌else◌}
+use Rattle.std.proofs.Common.{◌≡◌, ◌<◌, ◌⊎◌, inl, inr, ℕ, zero, suc, ◌+◌, Bool, true, false, nat_eq, nat_lt, List, [], ◌∷◌, length, drop, refl, sym, ap, ◌∙◌, subst, arith, Option, Some, None, Result, Ok, Err, if◌then◌else◌}
 use Rattle.std.specs.List.{slice_get}
 use Rattle.std.specs.Option.{option_and_then}
-use Rattle.core_machine.specs.Store.{Store, Function, found_at}
+use Rattle.core_machine.specs.Store.{found_at}
 use Rattle.core_machine.specs.Stack.{Stack}
 use Rattle.core_machine.specs.Step.{Move, Goes, Calls, Traps, start}
 use Rattle.core_machine.specs.Step as core
@@ -10,7 +10,7 @@ use Rattle.core_machine.specs.Instantiation.{External, Instantiation, Makes, ins
 use Rattle.core_machine.specs.Instantiation as core_instance
 use Rattle.ca_types.specs.declared.value.Value.{Value}
 use Rattle.value_lift.specs.declared.trap.LiftTrap.{LiftTrap}
-use Rattle.value_lower.specs.Plan.{Ask, Plan}
+use Rattle.value_lower.specs.Plan.{Plan}
 use Rattle.comp_graph.specs.declared.graph.Action.{Action}
 use Rattle.comp_graph.specs.declared.graph.Action.TheVariants.{Begin, Make}
 use Rattle.comp_graph.specs.declared.graph.CanonFunc.{CanonFunc}
@@ -24,30 +24,28 @@ use Rattle.script_reader.specs.declared.script.Item.{Item}
 use Rattle.script_reader.specs.declared.script.Item.TheVariants as item
 use Rattle.trace_show.specs.declared.label.Label.{Label}
 use Rattle.trace_show.specs.declared.label.Label.TheVariants as line
-use Rattle.trace_show.specs.declared.trap.TrapName.{TrapName}
 use Rattle.trace_show.specs.declared.trap.TrapName.TheVariants as trap
 use Rattle.trace_show.specs.declared.typed.TypedValue.{TypedValue}
-use Rattle.canonical_machine.specs.declared.run_end.RunEnd.{RunEnd}
 use Rattle.canonical_machine.specs.declared.run_end.RunEnd.TheVariants.{Fuel}
 use Rattle.canonical_machine.specs.Control.{Control, Free, Instantiates, Runs, Arrives, Lowers, Quiet, Back, Leaves, Doomed, Then, Starts, Resolves, Lowering, Nested, Behind, InLowering, BeforeLeaving}
 use Rattle.canonical_machine.specs.Control as control
-use Rattle.canonical_machine.specs.World.{Callee, Init, Func, Subtask, Caller, Nobody, Host, Guest, Resolution, Unresolved, Returned, TaskState, New, Acting, AfterCall, Begins, Exited, Task, World, new_task, first_world}
-use Rattle.canonical_machine.specs.Edits.{with_control, with_store, with_memory, unit_spent, item_taken, instance_begun, task_made, chained, unchained, changed_at, with_task, in_state, resolved, stacked, with_stack, unstacked, answered_stacks, answered, caller_changed, told, result_kept}
+use Rattle.canonical_machine.specs.World.{Callee, Init, Func, Subtask, Caller, Nobody, Host, Guest, Resolution, Unresolved, Returned, TaskState, New, Acting, AfterCall, Begins, Exited, Task, World, first_world}
+use Rattle.canonical_machine.specs.Edits.{with_control, with_store, with_memory, unit_spent, item_taken, instance_begun, unchained, changed_at, in_state, resolved, stacked, with_stack, unstacked, answered_stacks, answered, caller_changed, told, result_kept}
 use Rattle.canonical_machine.specs.Reading.{bytes_of, externals, lower_of, lower_at, lifted_of, task_at, acting, func_of, subtask_of, subtask_state, is_reentrant, is_instantiated, may_leave, builtin_of, inst_of_canon, func_address}
 use Rattle.canonical_machine.specs.Traps.{lift_name, lower_name, core_name}
-use Rattle.canonical_machine.specs.Turn.{Turn, Steps, Ends, Stuck, silent, doomed, behind, given, with_func, charged}
-use Rattle.canonical_machine.specs.Returning.{result_of, post_return, finished, passed_on, returned, returning_turn, control_behind, left_chain, leaving_turn}
+use Rattle.canonical_machine.specs.Turn.{Turn, Steps, Ends, Stuck, doomed, behind, given, with_func, charged}
+use Rattle.canonical_machine.specs.Returning.{post_return, finished, passed_on, returned, returning_turn, control_behind, left_chain, leaving_turn}
 use Rattle.canonical_machine.specs.CoreSteps.{costs, stack_ended, moved, running_turn}
 use Rattle.canonical_machine.specs.Instantiating.{started_up, made, action_turn, instantiating_turn}
 use Rattle.canonical_machine.specs.Entering.{arguments_of, with_arguments, entered, arriving_turn}
 use Rattle.canonical_machine.specs.Calling.{begun, called_by, taken, item_turn, free_turn, call_begun, call_ended, back_from, back_turn}
 use Rattle.canonical_machine.specs.Reply.{reply, allowed, calling_turn}
 use Rattle.canonical_machine.specs.Pausing.{Paused, Words, Failed, Asked, settle}
-use Rattle.canonical_machine.specs.Lowering.{started, lowered, paused, left_by, lowers_turn}
+use Rattle.canonical_machine.specs.Lowering.{started, lowered, paused, lowers_turn}
 use Rattle.canonical_machine.specs.Nested.{HostedTurn, On, EndsIn, TrapsBy, CallsHost, NoRule, hosted_next, nested_ended, refused, hosted, nested_turn}
-use Rattle.canonical_machine.specs.Next.{next_by, next}
-use Rattle.canonical_machine.specs.Tasks.{IsCalleeOf, AreCalled, caller_number, IsAt, NoStack, OneStack, IsSoFar, AreWaiting, Acts, IsInit, IsBegun, IsRunning, IsResolved, IsLowering, IsBefore, IsBack, IsChain, AreOrdered, FirstOrdered, OrderStays}
-use Rattle.canonical_machine.proofs.Changed.{changed_length, changed_there, changed_other}
+use Rattle.canonical_machine.specs.Next.{next_by}
+use Rattle.canonical_machine.specs.Tasks.{AreCalled, caller_number, IsAt, NoStack, OneStack, IsSoFar, AreWaiting, Acts, IsInit, IsBegun, IsRunning, IsResolved, IsLowering, IsBefore, IsBack, IsChain, AreOrdered, FirstOrdered, OrderStays}
+use Rattle.canonical_machine.proofs.Changed.{changed_length, changed_other}
 use Rattle.canonical_machine.proofs.Ordered.{number_same, callee_same, at_changed, waiting_same, acting_is, acts_as, acts_changed, acts_beside, begun_acts, called_acts, called_more, called_changed, init_acting, init_changed}
 
 -- a turn whose step leaves ordered tasks
@@ -237,12 +235,16 @@ call_leads g number l words w e called h =
   where
     callee : Callee
     callee = Func (lifted_of l)
+
     caller : Caller
     caller = Guest (called_by h.number number words)
+
     f : Task → Task
     f task = record task { state = AfterCall (length w.tasks) }
+
     v : World
     v = in_state h.number (AfterCall (length w.tasks)) w
+
     waits : Acts v.tasks v.chain (λ t task. IsSoFar (AfterCall (length v.tasks)) Unresolved OneStack task)
     waits =
         acts_changed w.tasks w.chain (So Acting Unresolved OneStack) (λ t task. IsSoFar (AfterCall (length v.tasks)) Unresolved OneStack task) f h (λ task. refl)
@@ -409,7 +411,7 @@ left g tasks t (u ∷ below) is h =
         waits = h.1.2;
         called = at_changed tasks t (λ task. caller_number task.caller ≡ Some u) (λ task. caller_number task.caller ≡ Some u) f (λ task e. e) h.0;
         over = at_changed tasks t (IsSoFar Acting Returned NoStack) (IsSoFar Exited Returned NoStack) f (λ task e.
-        record { lifted = e.lifted; runs = e.runs; state_is = refl; resolution_is = e.resolution_is; stacks_are = e.stacks_are }) is;
+            record { lifted = e.lifted; runs = e.runs; state_is = refl; resolution_is = e.resolution_is; stacks_are = e.stacks_are }) is;
       };
       waiting = waiting_same tasks (changed_at t f tasks) u below (λ n few. changed_other t n f tasks (omega (arith, few, less))) h.3;
     }

@@ -1,12 +1,12 @@
 -- Tasks that stay ordered where one of them is changed, or one is made.
-use Rattle.std.proofs.Common.{◌≡◌, ◌≢◌, ◌<◌, ◌≤◌, ◌⊎◌, inl, inr, ℕ, zero, suc, List, [], ◌∷◌, ◌++◌, length, refl, sym, ap, ◌∙◌, subst, arith, Option, Some, None}
-use Rattle.std.specs.List.{slice_get, AllByRecursion}
+use Rattle.std.proofs.Common.{◌≡◌, ◌<◌, ◌≤◌, ℕ, zero, suc, List, [], ◌∷◌, ◌++◌, length, refl, sym, ap, ◌∙◌, subst, arith, Some, None}
+use Rattle.std.specs.List.{slice_get}
 use Rattle.std.specs.Option.{option_map}
 use Rattle.core_machine.proofs.Zips.{get_behind}
 use Rattle.core_machine.proofs.Lists.{all_append}
 use Rattle.core_machine.specs.Stack.{Stack}
 use Rattle.comp_graph.specs.Graph.{Graph}
-use Rattle.canonical_machine.specs.World.{Callee, Init, Subtask, Caller, Nobody, Host, Guest, Resolution, Unresolved, TaskState, AfterCall, Task, World, new_task}
+use Rattle.canonical_machine.specs.World.{Callee, Init, Subtask, Caller, Nobody, Host, Guest, Unresolved, TaskState, AfterCall, Task, World, new_task}
 use Rattle.canonical_machine.specs.Edits.{changed_at, caller_changed}
 use Rattle.canonical_machine.specs.Reading.{acting}
 use Rattle.canonical_machine.specs.Tasks.{IsCalleeOf, AreCalled, caller_number, IsAt, OneStack, IsSoFar, AreWaiting, Acts, IsInit}

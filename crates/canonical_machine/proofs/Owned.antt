@@ -1,30 +1,28 @@
 -- What component instances make is used by them alone, also where one more core instance is made.
-use Rattle.std.proofs.Common.{◌≡◌, ◌⊎◌, inl, inr, ◌<◌, ◌≤◌, ◌+◌, ℕ, zero, suc, Bool, true, false, nat_le, if◌then◌else◌, List, [], ◌∷◌, ◌++◌, length, map, set, replicate, refl, sym, ap, ◌∙◌, subst, arith, length-append, Option, Some, None}
+use Rattle.std.proofs.Common.{◌≡◌, ◌⊎◌, inl, inr, ◌<◌, ◌+◌, ℕ, zero, suc, Bool, true, false, nat_le, if◌then◌else◌, List, [], ◌∷◌, ◌++◌, length, map, set, refl, sym, ap, ◌∙◌, subst, arith, length-append, Option, Some, None}
 use Rattle.std.proofs.lemmas.List.{length-map}
 use Rattle.std.specs.List.{slice_get, flat_map, range_with_len, AllByRecursion, AllZip}
-use Rattle.std.specs.Option.{option_map, option_and_then}
+use Rattle.std.specs.Option.{option_map}
 use Rattle.wasm_module.specs.declared.types.Limits.{Limits}
 use Rattle.wasm_module.specs.declared.module.Func.{Func}
 use Rattle.wasm_module.specs.declared.module.ElementSegment.{ElementSegment}
 use Rattle.wasm_module.specs.declared.module.DataSegment.{DataSegment}
 use Rattle.wasm_module.specs.declared.module.ModuleTree.{ModuleTree}
 use Rattle.wasm_memory.specs.Memories.{MemoryState}
-use Rattle.core_machine.specs.Store.{Function, Own, Host, Table, Instance, Store, found_at, table_at, memory_at}
+use Rattle.core_machine.specs.Store.{Function, Host, Table, Instance, Store, found_at, memory_at}
 use Rattle.core_machine.specs.Instantiation.{External, FuncAddress, TableAddress, MemoryAddress, GlobalAddress, func_address, table_address, instance_of, new_func, new_table, allocated, with_table, overwritten, into_table, into_memory, element_written, data_written, init_value, Instantiation, Makes, all_written, instantiated}
 use Rattle.core_machine.specs.Typed.{Keeps, IsSame}
 use Rattle.core_machine.proofs.Lists.{all_at, all_map, all_append, all_replicate, all_overwritten, found_there, keeps_append}
 use Rattle.core_machine.proofs.Stores.{still, same_later}
 use Rattle.core_machine.proofs.Zips.{StandsAt, numbered, all_true}
-use Rattle.comp_graph.specs.declared.graph.CoreRef.{CoreRef}
 use Rattle.comp_graph.specs.declared.graph.FuncRef.{FuncRef}
 use Rattle.comp_graph.specs.declared.graph.FuncRef.TheVariants as func_ref
 use Rattle.comp_graph.specs.declared.graph.CoreExtern.{CoreExtern}
 use Rattle.comp_graph.specs.declared.graph.CoreExtern.TheVariants as extern
-use Rattle.comp_graph.specs.declared.graph.CanonFunc.{CanonFunc}
 use Rattle.comp_graph.specs.Graph.{CoreMake, Graph, canon_type}
 use Rattle.canonical_machine.specs.Reading.{inst_of_canon, address_in, external_of, externals}
 use Rattle.canonical_machine.specs.Reading as reading
-use Rattle.canonical_machine.specs.Owners.{owner_of_core, owner_of_canon, owner_of_func, owner_of_extern, IsFuncOf, IsOwned, IsEntryOwned, AreOwnedBy, AreOwned}
+use Rattle.canonical_machine.specs.Owners.{owner_of_core, owner_of_func, owner_of_extern, IsOwned, IsEntryOwned, AreOwnedBy, AreOwned}
 use Rattle.canonical_machine.proofs.Changed.{within, get_front}
 use Rattle.canonical_machine.proofs.Imports.{Hosts, map_some, then_some}
 use Rattle.canonical_machine.proofs.Made.{LeavesWith, written_leaves, get_last}

@@ -1,9 +1,7 @@
 -- The plans by which a value is lowered ask for places where they are given out, and put bytes inside.
-use Rattle.std.proofs.Common.{◌≡◌, ◌∙◌, ◌≤◌, ◌<◌, ◌+◌, ◌-◌, ◌*◌, ◌%◌, ◌^◌, ◌==◌, ◌&&◌, ◌||◌, ◌⊎◌, inl, inr, cond, nat_lt, nat_le, ℕ, zero, suc, Bool, true, false, List, [], ◌∷◌, ◌++◌, map, length, replicate, Option, Some, None, refl, ap, sym, subst, arith, append-nil, append_assoc, suc-mul}
+use Rattle.std.proofs.Common.{◌≡◌, ◌∙◌, ◌≤◌, ◌<◌, ◌+◌, ◌*◌, ◌%◌, ◌^◌, ◌==◌, ◌&&◌, ◌||◌, inl, inr, cond, nat_lt, nat_le, ℕ, zero, suc, Bool, true, false, List, [], ◌∷◌, ◌++◌, map, length, replicate, Option, Some, None, refl, ap, sym, subst, arith, suc-mul}
 use Rattle.std.proofs.lemmas.Bool.{cond_both, ltb-true, leb-true}
 use Rattle.std.proofs.lemmas.List.{length-map, length-replicate}
-use Rattle.std.specs.List.{slice_get}
-use Rattle.std.specs.Option.{option_and_then}
 use Rattle.std.specs.Str.{IsUtf8}
 use Rattle.std.specs.Int.{Width, w8, w16, w32, w64, byte_len, bytes_low_first, to_le_bytes, cast_unsigned}
 use mir.Val.{bits}
@@ -17,8 +15,6 @@ use Rattle.ca_types.specs.declared.value.Value.{Value}
 use Rattle.ca_types.specs.declared.value.Value.TheOpen as V
 use Rattle.ca_types.specs.declared.value.Value.TheViews as values
 use Rattle.ca_types.specs.declared.value.Value.TheVariants as plain
-use Rattle.ca_types.specs.declared.core_type.CoreType.{CoreType}
-use Rattle.ca_types.specs.declared.core_type.CoreType.TheVariants.{I32}
 use Rattle.ca_types.specs.Ends.{some_true}
 use Rattle.ca_types.specs.Flat.{flat}
 use Rattle.ca_types.specs.Layout.{Laid, laid, laid_step, tag_size, bits_size, aligned, tagged}
@@ -27,14 +23,11 @@ use Rattle.laid_types.specs.Gathered.{lists, list_over}
 use Rattle.laid_types.specs.Parts.{parts_of, parts_case, part_at, case_count, payload_place, layouts}
 use Rattle.laid_types.proofs.HeldByParts.{list_by_parts}
 use Rattle.value_lower.specs.declared.ends.LowerWhy.TheVariants.{Misaligned, Bounds}
-use Rattle.value_lower.specs.Plan.{Ask, Plan, Gives, Fails, Asks, Size, Put}
-use Rattle.value_lower.specs.Lowering.{lowered, store, flat_words, tested, asked, text_in, list_in, pointed, elements_from, fields_from, payload_at, case_from, number_bytes, bits_of, flags_number, field_words, payload_words, filled, stored, flat_lowered, placed, plain_word}
-use Rattle.value_lower.proofs.Giving.{AllGive, tested_gives}
-use Rattle.value_lower.proofs.Counts.{good}
+use Rattle.value_lower.specs.Plan.{Plan, Gives, Fails, Asks, Size, Put}
+use Rattle.value_lower.specs.Lowering.{lowered, store, flat_words, tested, asked, text_in, list_in, pointed, elements_from, fields_from, payload_at, case_from, number_bytes, flags_number, field_words, payload_words, filled, stored, flat_lowered, placed}
 use Rattle.value_lift.specs.Bytes.{width_of}
 use Rattle.value_lift.specs.Pieces.{part_in}
 use Rattle.value_lift.specs.Room.{end_behind}
-use Rattle.value_lift.specs.WordStanding as lift
 use Rattle.value_lift.proofs.Equations.{layouts_in, laid_is}
 use Rattle.value_lift.proofs.Forms.{IsRow, HasCases}
 use Rattle.value_lift.proofs.Rooms.{row_room, end_up, tagged_is, case_room, tag_bytes, flag_bytes}
@@ -43,10 +36,6 @@ use Rattle.value_lift.proofs.Views.{out_bool, out_s8, out_u8, out_s16, out_u16, 
 use Rattle.lowered_values.specs.Values.{IsOf, AllAre, EachIs, PayloadIs, bool_is, s8_is, u8_is, s16_is, u16_is, s32_is, u32_is, s64_is, u64_is, char_is, string_is, list_is, record_is, tuple_is, flags_are, case_is, enum_is, none_is, some_is, ok_is, err_is, none_are, more_are, no_types, more_types, no_payload_is, payload_is}
 use Rattle.lowered_values.proofs.ByKind.{stored_by, lowered_payload}
 use Rattle.lowered_values.proofs.WordsByKind.{words_by, list_words, row_words, case_plan}
-use Rattle.lowered_values.proofs.Widths.{flat_gives, placed_gives}
-use Rattle.wasm_numbers.specs.Types.{AreWords}
-use Rattle.comp_graph.specs.Needs.{realloc_type}
-use Rattle.canonical_machine.specs.Pausing.{ask_words}
 use Rattle.canonical_machine.specs.Sound.{AreBytes}
 use Rattle.canonical_machine.specs.Kept.{IsPlanned}
 use Rattle.canonical_machine.proofs.Bytes.{le_bytes}
@@ -176,9 +165,9 @@ module _ (A : Type 0) where
   asked_fits count align size n k a low h =
       cond_both (nat_lt count (2 ^ 32) && nat_lt size (2 ^ 32)) (Asks (record { old = 0; old_size = 0; align = align; size = size }) (λ place. tested place align size (k place))) (Fails Bounds) (Fits n)
       (λ e. (
-      a,
-      (omega arith, (omega arith, (omega (arith, low), (second_low count size e, tt)))),
-      λ place m small more. tested_fits place align size m (k place) (λ inside. h place m more inside),
+        a,
+        (omega arith, (omega arith, (omega (arith, low), (second_low count size e, tt)))),
+        λ place m small more. tested_fits place align size m (k place) (λ inside. h place m more inside),
       )) (λ e. tt)
 
   pointed_fits : (place to count n : ℕ) (k : Plan) → place + 8 ≤ n → Fits n k → Fits n (pointed place to count k)
@@ -315,9 +304,11 @@ module _ (A : Type 0) where
       let tag_room : tag_size count ≤ payload_place t = omega arith in
       let behind : Plan = payload_at p (lowered_payload payload) (place + payload_place t) k in
       subst (λ (q : Plan). Fits n q)
-      (sym (variant_stored i payload t place k ∙ ap (λ (o : Option ValType). Put place bytes (payload_at o (lowered_payload payload) (place + payload_place t) k)) part))
-      (le_bytes w (i % 2 ^ bits w), omega (arith, room, inside, tag_room, long, short),
-      goes (λ l. asks (case_list t y i p e kind at l)) (place + payload_place t) n k (λ q f. omega (arith, room, payload_inside t q i own (part ∙ f))) h)
+      (sym (variant_stored i payload t place k ∙ ap (λ (o : Option ValType). Put place bytes (payload_at o (lowered_payload payload) (place + payload_place t) k)) part)) (
+        le_bytes w (i % 2 ^ bits w),
+        omega (arith, room, inside, tag_room, long, short),
+        goes (λ l. asks (case_list t y i p e kind at l)) (place + payload_place t) n k (λ q f. omega (arith, room, payload_inside t q i own (part ∙ f))) h,
+      )
 
   no_payload_stored : Payload None None
   no_payload_stored asks place n k room h = h n (omega arith)

@@ -1,12 +1,11 @@
 -- What is kept where a task's core function has ended: its result is lifted and passed on, and its post-return runs.
-use Rattle.std.proofs.Common.{◌≡◌, ◌<◌, ◌+◌, ℕ, Bool, true, false, nat_lt, List, [], ◌∷◌, drop, length, refl, sym, ap, ◌∙◌, subst, Option, Some, None, Result, Ok, Err, if◌then◌else◌}
+use Rattle.std.proofs.Common.{◌≡◌, ◌+◌, ℕ, Bool, true, false, nat_lt, List, [], ◌∷◌, refl, sym, ap, ◌∙◌, subst, Option, Some, None, Result, Ok, Err, if◌then◌else◌}
 use Rattle.std.specs.List.{slice_get, AllByRecursion}
 use Rattle.std.specs.Option.{IfSome, IsSome}
 use Rattle.wasm_module.specs.declared.types.ValType as core_val
 use Rattle.wasm_module.specs.declared.types.FuncType as core
 use Rattle.wasm_numbers.specs.Types.{AreWords}
 use Rattle.core_machine.specs.Store.{Function, type_of, Store, found_at}
-use Rattle.core_machine.specs.Stack.{Stack}
 use Rattle.core_machine.specs.Step.{start}
 use Rattle.core_machine.specs.Typed.{StoreTyped, StackTyped}
 use Rattle.core_machine.proofs.Moving.{starts_typed}
@@ -20,20 +19,20 @@ use Rattle.comp_graph.specs.declared.graph.CanonFunc.{CanonFunc}
 use Rattle.comp_graph.specs.declared.graph.FuncRef.{FuncRef}
 use Rattle.comp_graph.specs.declared.graph.Lower.{Lower}
 use Rattle.comp_graph.specs.Needs.{lifted_type, lowered_type, post_return_type, lower_needs_realloc}
-use Rattle.comp_graph.specs.Graph.{Graph, Lifted, core_type, IsLiftThere}
+use Rattle.comp_graph.specs.Graph.{Graph, Lifted, core_type}
 use Rattle.script_reader.specs.Script.{Script}
 use Rattle.trace_show.specs.declared.label.Label.{Label}
 use Rattle.trace_show.specs.declared.label.Label.TheVariants as line
 use Rattle.trace_show.specs.declared.typed.TypedValue.{TypedValue}
 use Rattle.canonical_machine.specs.declared.run_end.RunEnd.TheVariants.{Fuel}
-use Rattle.canonical_machine.specs.Control.{Control, Resolves, Lowering, Going, Nested, BeforeLeaving, Lowers, Quiet, Leaves, Doomed}
+use Rattle.canonical_machine.specs.Control.{Resolves, Lowering, Nested, BeforeLeaving, Lowers, Quiet, Leaves, Doomed}
 use Rattle.canonical_machine.specs.World.{Callee, Func, Caller, Nobody, Host, Guest, Unresolved, Returned, Task, World}
 use Rattle.canonical_machine.specs.Edits.{with_control, unit_spent, changed_at, resolved}
 use Rattle.canonical_machine.specs.Passing.{result_lifted, result_plan}
-use Rattle.canonical_machine.specs.Reading.{func_address, memory_of, realloc_of, bytes_of, lower_at, lifted_of, acting, func_of}
+use Rattle.canonical_machine.specs.Reading.{func_address, memory_of, bytes_of, lower_at, lifted_of, acting, func_of}
 use Rattle.canonical_machine.specs.Returning.{typed_result, result_of, result_lowering, post_return_call, post_return, finished, passed_on, returned, returning_turn}
 use Rattle.canonical_machine.specs.Traps.{lift_name}
-use Rattle.canonical_machine.specs.Turn.{Turn, Steps, Ends, Stuck, doomed, behind, given, with_func, charged}
+use Rattle.canonical_machine.specs.Turn.{Turn, Steps, Ends, Stuck, behind, given, with_func, charged}
 use Rattle.canonical_machine.specs.Sound.{AreBytes, IsSoundGraph}
 use Rattle.canonical_machine.specs.Tasks.{IsCalleeOf}
 use Rattle.canonical_machine.specs.Kept.{HasHosts, HasBytesAlone, WereMade, core_results, results_by, caller_results, kept_result, HasNoResult, HasResult, AllWait, IsPlanned, Takes, IsLoweringFor, memory_size, IsNestedFor, IsKeptBy, IsTypedWorld}

@@ -1,35 +1,33 @@
 -- What is kept stays where a store goes on, and where a task is changed.
-use Rattle.std.proofs.Common.{◌≡◌, ◌≢◌, ◌<◌, ◌≤◌, ◌+◌, ℕ, zero, suc, List, [], ◌∷◌, ◌++◌, length, drop, refl, sym, ap, ◌∙◌, subst, arith, Option, Some, None, ◌^◌, length-append}
+use Rattle.std.proofs.Common.{◌≡◌, ◌<◌, ◌≤◌, ◌+◌, ℕ, List, [], ◌∷◌, length, refl, sym, ap, ◌∙◌, subst, arith, Option, Some, None, ◌^◌, length-append}
 use Rattle.std.proofs.lemmas.List.{length-take, length-drop}
 use Rattle.std.specs.List.{slice_get, AllByRecursion}
-use Rattle.std.specs.Option.{option_map, IsSome}
+use Rattle.std.specs.Option.{option_map}
 use Rattle.wasm_module.specs.declared.types.ValType.{ValType}
 use Rattle.wasm_module.specs.declared.types.FuncType as core
 use Rattle.wasm_numbers.specs.Types.{AreWords}
 use Rattle.wasm_memory.specs.Memories.{MemoryState, with_bytes}
-use Rattle.core_machine.specs.Store.{Function, type_of, Store, found_at}
+use Rattle.core_machine.specs.Store.{Store, found_at}
 use Rattle.core_machine.specs.Stack.{Stack}
 use Rattle.core_machine.specs.Step.{resume}
-use Rattle.core_machine.specs.Effects as core_effects
-use Rattle.core_machine.specs.Typed.{Extends, StoreTyped, StackTyped, IsLaterMemory, MemoryTyped}
+use Rattle.core_machine.specs.Typed.{Extends, StoreTyped, StackTyped, MemoryTyped}
 use Rattle.core_machine.proofs.Lists.{all_at, all_map, all_set}
 use Rattle.core_machine.proofs.Stores.{stays_typed, still, memory_changed, store_same}
 use Rattle.core_machine.proofs.Memories.{memory_rewritten}
-use Rattle.value_lower.specs.Plan.{Ask, Plan, Gives, Fails, Asks, Size, Put}
+use Rattle.value_lower.specs.Plan.{Plan, Gives, Fails, Asks, Size, Put}
 use Rattle.value_lower.specs.Following.{written}
-use Rattle.comp_graph.specs.declared.graph.CanonFunc.{CanonFunc}
 use Rattle.comp_graph.specs.Needs.{realloc_type}
 use Rattle.comp_graph.specs.Graph.{Graph}
-use Rattle.canonical_machine.specs.Control.{Then, Starts, Resolves, Lowering, HostedState, Going, AtCall, Nested, Behind, InLowering, BeforeLeaving}
-use Rattle.canonical_machine.specs.World.{Callee, Subtask, Caller, Nobody, Host, Guest, Unresolved, TaskState, New, Acting as IsActing, AfterCall, Begins, Exited, Task, World}
+use Rattle.canonical_machine.specs.Control.{Lowering, HostedState, Going, AtCall, Nested, Behind, InLowering, BeforeLeaving}
+use Rattle.canonical_machine.specs.World.{Subtask, Caller, Nobody, Host, Guest, TaskState, New, Acting as IsActing, AfterCall, Begins, Exited, Task, World}
 use Rattle.canonical_machine.specs.Edits.{changed_at, caller_changed, rewritten}
 use Rattle.canonical_machine.specs.Reading.{acting, bytes_of_memory, bytes_of}
 use Rattle.canonical_machine.specs.Pausing.{Paused, Words, Failed, Asked, settle, ask_words}
 use Rattle.canonical_machine.specs.Sound.{AreBytes}
-use Rattle.canonical_machine.specs.Tasks.{IsAt, IsSoFar, AreWaiting, Acts, IsInit}
-use Rattle.canonical_machine.specs.Kept.{HasHosts, HasBytesAlone, WereMade, WereMadeSoFar, AreMadeBy, core_results, caller_results, kept_result, HasNoResult, HasResult, IsWaiting, WaitsFor, AllWait, AreTyped, IsPlanned, IsFunction, IsLoweringFor, IsHosted, memory_size, IsNestedFor, HasActing, Acting}
+use Rattle.canonical_machine.specs.Tasks.{IsAt, AreWaiting, Acts, IsInit}
+use Rattle.canonical_machine.specs.Kept.{HasHosts, HasBytesAlone, WereMade, WereMadeSoFar, AreMadeBy, core_results, caller_results, kept_result, IsWaiting, WaitsFor, AllWait, IsPlanned, IsFunction, IsLoweringFor, IsHosted, memory_size, IsNestedFor, Acting}
 use Rattle.canonical_machine.proofs.Bytes.{between}
-use Rattle.canonical_machine.proofs.Changed.{changed_there, changed_other, within, get_front}
+use Rattle.canonical_machine.proofs.Changed.{changed_there, changed_other}
 use Rattle.canonical_machine.proofs.Made.{made_still}
 
 -- A store that has the functions and instances of another one, extends it and is typed.
@@ -181,8 +179,7 @@ pub all_wait_changed : (g : Graph) (s : Store) (tasks : List Task) (t : ℕ) (be
 all_wait_changed g s tasks t [] f rising keeps h = tt
 all_wait_changed g s tasks t (u ∷ below) f rising keeps h =
     let less : u < t = rising.0 in
-    let called : IsAt tasks t (λ called. IsAt tasks u (λ task. WaitsFor g s called.caller task)) = h.0 in
-    (
+    let called : IsAt tasks t (λ called. IsAt tasks u (λ task. WaitsFor g s called.caller task)) = h.0 in (
       (
         f called.0,
         changed_there t f tasks called.0 called.1,

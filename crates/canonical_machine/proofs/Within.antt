@@ -1,5 +1,5 @@
 -- Core code stays within instances that call only one another's functions.
-use Rattle.std.proofs.Common.{◌≡◌, ℕ, zero, suc, nat_le, List, [], ◌∷◌, length, refl, sym, ap, ◌∙◌, subst, Option, Some, None}
+use Rattle.std.proofs.Common.{◌≡◌, ℕ, zero, suc, nat_le, List, [], ◌∷◌, length, refl, Option, Some, None}
 use Rattle.std.specs.List.{slice_get, AllByRecursion}
 use Rattle.std.specs.Option.{option_map}
 use Rattle.wasm_module.specs.declared.types.FuncType.{FuncType}
@@ -8,7 +8,7 @@ use Rattle.wasm_module.specs.declared.instr.BlockType.{BlockType}
 use Rattle.wasm_module.specs.declared.instr.Instr.{Instr}
 use Rattle.wasm_module.specs.declared.instr.Instr.TheVariants as instr
 use Rattle.wasm_module.specs.Expr.{Expr, End, Plain, Block, Loop, If, IfElse}
-use Rattle.core_machine.specs.Store.{Function, Own, Host, type_of, Table, Instance, Store, found_at, func_at, table_at}
+use Rattle.core_machine.specs.Store.{Function, Own, Host, type_of, Table, Instance, Store, found_at, table_at}
 use Rattle.core_machine.specs.Stack.{Label, Frame, Stack, Running, AtHost, Given}
 use Rattle.core_machine.specs.Effects.{Effect, Leaves, Fails, NoRule, effect}
 use Rattle.core_machine.specs.Step.{Move, Goes, Calls, Ends, Traps, Stuck, ended, branched_to, branched_if, branched_by, table_label, frame_limit, invoked, called, same_signature, called_as, called_entry, called_through, by_effect, moved, chosen, move_at, move_in, next}

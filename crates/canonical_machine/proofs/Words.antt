@@ -1,5 +1,5 @@
 -- Arguments and results: what is lifted is of its type, and the plans by which it is lowered give words that core functions take.
-use Rattle.std.proofs.Common.{◌≡◌, ◌∙◌, ◌≤◌, ◌<◌, ◌+◌, ◌||◌, ◌%◌, ◌^◌, suc, nat_lt, nat_le, ℕ, Bool, true, false, if◌then◌else◌, List, [], ◌∷◌, ◌++◌, map, length, Option, Some, None, Result, Ok, Err, refl, ap, sym, subst, arith, length-append}
+use Rattle.std.proofs.Common.{◌≡◌, ◌∙◌, ◌≤◌, ◌<◌, ◌+◌, ◌%◌, ◌^◌, suc, nat_lt, nat_le, ℕ, Bool, true, false, if◌then◌else◌, List, [], ◌∷◌, ◌++◌, map, length, Option, Some, None, Result, Ok, Err, refl, ap, sym, subst, arith, length-append}
 use Rattle.std.proofs.lemmas.Bool.Decides.{nat_tests}
 use Rattle.std.proofs.lemmas.List.{length-map}
 use Rattle.std.specs.Prelude.{slice_index}
@@ -7,11 +7,9 @@ use Rattle.std.specs.List.{flat_map}
 use Rattle.ca_types.specs.declared.core_type.CoreType.{CoreType}
 use Rattle.ca_types.specs.declared.core_type.CoreType.TheVariants.{I32, I64}
 use Rattle.ca_types.specs.declared.types.ValType.{ValType}
-use Rattle.ca_types.specs.declared.types.ValType.TheViews as types
 use Rattle.ca_types.specs.declared.types.Param.{Param}
 use Rattle.ca_types.specs.declared.types.FuncType.{FuncType}
 use Rattle.ca_types.specs.declared.value.Value.{Value}
-use Rattle.ca_types.specs.Ends.{some_true}
 use Rattle.ca_types.specs.Flat.{flat, all_of, at_most, out_place, returned, flat_params, flat_payload}
 use Rattle.ca_types.specs.Layout.{laid}
 use Rattle.laid_types.specs.Lists.{has_list, held_list}
@@ -36,7 +34,7 @@ use Rattle.lowered_values.specs.Lifted as lifted
 use Rattle.lowered_values.proofs.Lifted.{flat_standing, loaded_values_are}
 use Rattle.lowered_values.proofs.Widths.{flat_gives, placed_gives}
 use Rattle.core_machine.proofs.Lists.{if_both}
-use Rattle.comp_graph.specs.Needs.{core_val, lifted_type, lowered_type, flat_param_limit, flat_result_limit, hold_list, lift_needs_realloc, lower_needs_realloc}
+use Rattle.comp_graph.specs.Needs.{core_val, lifted_type, lowered_type, flat_param_limit, hold_list, lift_needs_realloc, lower_needs_realloc}
 use Rattle.canonical_machine.specs.Passing.{params_type, params_in_memory, result_in_memory, arguments_lifted, arguments_plan, result_lifted, result_plan, last_of}
 use Rattle.canonical_machine.specs.Sound.{AreBytes}
 use Rattle.canonical_machine.specs.Kept.{IsPlanned}

@@ -1,9 +1,9 @@
 -- What a run of a sound script keeps of its worlds: it holds of the first one, and stays; and where it holds there is a next move.
-use Rattle.std.proofs.Common.{◌≡◌, ◌≢◌, ◌⊎◌, inl, inr, ◌++◌, ℕ, false, nat_eq, List, [], ◌∷◌, map, refl, sym, ap, ◌∙◌, subst, arith, append-nil, Some}
+use Rattle.std.proofs.Common.{◌≡◌, ◌≢◌, ◌⊎◌, inl, inr, ℕ, false, nat_eq, List, [], ◌∷◌, map, refl, sym, ◌∙◌, subst, arith, append-nil, Some}
 use Rattle.std.proofs.lemmas.Bool.Decides.{nat_tests}
 use Rattle.std.specs.List.{slice_get, AllByRecursion}
-use Rattle.core_machine.specs.Store.{Function, Host as HostFunction, Store}
-use Rattle.core_machine.specs.Typed.{StoreTyped, FunctionTyped}
+use Rattle.core_machine.specs.Store.{Host as HostFunction, Store}
+use Rattle.core_machine.specs.Typed.{FunctionTyped}
 use Rattle.comp_graph.specs.declared.graph.CanonFunc.{CanonFunc}
 use Rattle.comp_graph.specs.Graph.{Graph, canon_type}
 use Rattle.script_reader.specs.Script.{Script}
@@ -17,7 +17,7 @@ use Rattle.canonical_machine.specs.Nested.{CallsHost, hosted_next}
 use Rattle.canonical_machine.specs.Next.{next_by, next}
 use Rattle.canonical_machine.specs.Sound.{IsSound}
 use Rattle.canonical_machine.specs.Tasks.{AreCalled, IsChain}
-use Rattle.canonical_machine.specs.Kept.{HasHosts, IsKeptBy, IsTypedWorld}
+use Rattle.canonical_machine.specs.Kept.{IsKeptBy}
 use Rattle.canonical_machine.specs.KeptLaws.{IsKept, FirstKept, StaysKept, CallsOthers, StuckOnlyAtOthers, StepsOnce, EndsOnce, OneNext}
 use Rattle.canonical_machine.specs.declared.run_end.RunEnd.{RunEnd}
 use Rattle.canonical_machine.specs.Run.{Reaches}

@@ -16,7 +16,7 @@ use Rattle.core_machine.specs.Instantiation.{LimitsMatch}
 use Rattle.core_machine.specs.Typed.{StoreTyped, HasContext, module_context, StackTyped}
 use Rattle.core_machine.specs.Laws.{IsOwn}
 use Rattle.ca_types.specs.declared.value.Value.TheViews as value
-use Rattle.value_lower.specs.Plan.{Ask, Plan, Gives, Fails, Asks, Size, Put}
+use Rattle.value_lower.specs.Plan.{Plan, Gives, Fails, Asks, Size, Put}
 use Rattle.lowered_values.specs.Values.{IsOf}
 use Rattle.comp_graph.specs.declared.graph.CanonFunc.{CanonFunc}
 use Rattle.comp_graph.specs.CoreItems.{table_space, memory_space}

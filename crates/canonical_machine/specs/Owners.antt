@@ -5,7 +5,7 @@ use Rattle.std.specs.Prelude.{◌≡◌, ◌≢◌, ◌⊎◌, ℕ, List, length
 use Rattle.std.specs.List.{slice_get, AllByRecursion}
 use Rattle.std.specs.Option.{option_map, IfSome}
 use Rattle.core_machine.specs.Store.{Function, Own, Host as HostFunction, Table, Instance, Store}
-use Rattle.core_machine.specs.Stack.{Frame, Stack, Running, AtHost, Given}
+use Rattle.core_machine.specs.Stack.{Stack, Running, AtHost, Given}
 use Rattle.comp_graph.specs.declared.graph.FuncRef.{FuncRef}
 use Rattle.comp_graph.specs.declared.graph.FuncRef.TheVariants as func_ref
 use Rattle.comp_graph.specs.declared.graph.CoreExtern.{CoreExtern}
@@ -16,7 +16,7 @@ use Rattle.comp_graph.specs.declared.graph.CanonFunc.TheVariants as canon_func
 use Rattle.comp_graph.specs.Graph.{Graph}
 use Rattle.script_reader.specs.Script.{Script}
 use Rattle.trace_show.specs.declared.label.Label.{Label}
-use Rattle.canonical_machine.specs.Control.{Control, Free, Instantiates, Runs, Calls, Arrives, Lowers, Quiet, Back, Leaves, Doomed, Lowering, HostedState, Going, AtCall, Behind, InLowering, BeforeLeaving}
+use Rattle.canonical_machine.specs.Control.{Control, Lowers, Quiet, Lowering, HostedState, Going, AtCall, Behind, InLowering, BeforeLeaving}
 use Rattle.canonical_machine.specs.World.{World, first_world}
 use Rattle.canonical_machine.specs.Reading.{inst_of_canon}
 use Rattle.canonical_machine.specs.Turn.{Steps, Stuck}

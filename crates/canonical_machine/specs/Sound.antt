@@ -1,6 +1,6 @@
 -- Graphs and scripts that run (Component Model, Explainer.md, "Instance Definitions"; CanonicalABI.md, `canon lift` and `canon lower`):
 -- what linking and reading give of them.
-use Rattle.std.specs.Prelude.{◌≡◌, ◌<◌, ℕ, suc, List, [], ◌∷◌, map, Some}
+use Rattle.std.specs.Prelude.{◌≡◌, ◌<◌, ℕ, suc, List, [], ◌∷◌, Some}
 use Rattle.std.specs.List.{AllByRecursion, AllZip}
 use Rattle.wasm_module.specs.declared.module.ModuleTree.{ModuleTree}
 use Rattle.wasm_valid.specs.Modules.{Typed}
