@@ -20,6 +20,8 @@ pub mod Turns
 pub mod Rows
 pub mod Says
 pub mod Fuel
+pub mod Over
+pub mod Deadlocks
 pub mod Within
 pub mod Owned
 pub mod ApartSteps

@@ -24,4 +24,5 @@ pub mod Kept
 pub mod KeptLaws
 pub mod FuelLaws
 pub mod Owners
+pub mod Over
 pub mod Examples

@@ -3,6 +3,7 @@
 ghost use Rattle.canonical_machine.specs.Laws.{OneRun, OneRunFrom, FewerAreAFront, NestedIsQuiet, DoomedEnds, TrapIsMet, DoneIsAll, FuelIsSpent, StepsSpendOneOrNone};
 ghost use Rattle.canonical_machine.specs.Tasks.{FirstOrdered, OrderStays};
 ghost use Rattle.canonical_machine.specs.FuelLaws.{EndsTheSame, GoesOnBehind};
+ghost use Rattle.canonical_machine.specs.Over.{FirstOver, OverStays, NoDeadlock};
 ghost use Rattle.canonical_machine.specs.Owners.{FirstApart, ApartStays, NeverStuck, OneNextApart};
 ghost use Rattle.canonical_machine.specs.KeptLaws.{FirstKept, StaysKept, StuckOnlyAtOthers, OneNext};
 
@@ -74,4 +75,12 @@ pub fn worlds_stay_apart()
     ensures stays { ApartStays }
     ensures never_stuck { NeverStuck }
     ensures one_next { OneNextApart }
+{}
+
+/// Each task that does not stand on the chain has exited: in the first world, and in every step. So no run ends with tasks that can not
+/// go on.
+pub fn tasks_are_over()
+    ensures first { FirstOver }
+    ensures stays { OverStays }
+    ensures no_deadlock { NoDeadlock }
 {}
