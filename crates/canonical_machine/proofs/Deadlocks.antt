@@ -1,20 +1,14 @@
 -- No run ends with tasks that can not go on.
-use Rattle.std.proofs.Common.{◌≡◌, ◌≢◌, ◌⊎◌, inl, inr, ◌+◌, ℕ, zero, suc, Bool, true, false, nat_lt, List, [], ◌∷◌, drop, refl, sym, ap, ◌∙◌, subst, Option, Some, None, if◌then◌else◌}
+use Rattle.std.proofs.Common.{◌≡◌, ◌⊎◌, inl, inr, ◌+◌, ℕ, suc, List, [], ◌∷◌, drop, refl, sym, ap, ◌∙◌, subst, Some}
 use Rattle.std.specs.List.{slice_get}
-use Rattle.comp_graph.specs.Graph.{Graph, func_named}
+use Rattle.comp_graph.specs.Graph.{Graph}
 use Rattle.script_reader.specs.Script.{Script}
-use Rattle.script_reader.specs.declared.script.Item.{Item}
-use Rattle.script_reader.specs.declared.script.Item.TheVariants as item
 use Rattle.trace_show.specs.declared.label.Label.{Label}
-use Rattle.canonical_machine.specs.declared.run_end.RunEnd.{RunEnd}
-use Rattle.canonical_machine.specs.declared.run_end.RunEnd.TheVariants.{Done, Trapped, Deadlock, Fuel}
-use Rattle.canonical_machine.specs.Control.{Control, Free}
+use Rattle.canonical_machine.specs.declared.run_end.RunEnd.TheVariants.{Done, Deadlock}
+use Rattle.canonical_machine.specs.Control.{Control}
 use Rattle.canonical_machine.specs.World.{TaskState, Exited, Task, World, first_world}
-use Rattle.canonical_machine.specs.Edits.{with_control}
 use Rattle.canonical_machine.specs.Reading.{has_exited, kept_unless, unfinished_from, unfinished}
-use Rattle.canonical_machine.specs.Turn.{Turn, Steps, Ends, Stuck, given, charged}
-use Rattle.canonical_machine.specs.Calling.{end_of, item_turn, free_turn, taken}
-use Rattle.canonical_machine.specs.Next.{next_by, next}
+use Rattle.canonical_machine.specs.Calling.{end_of}
 use Rattle.canonical_machine.specs.Run.{Reaches}
 use Rattle.canonical_machine.specs.Tasks.{AreOrdered, IsChain}
 use Rattle.canonical_machine.specs.Over.{Stands, OthersExited, NoDeadlock}

@@ -1,7 +1,6 @@
 -- Each task that does not stand on the chain has exited.
-use Rattle.std.proofs.Common.{◌++◌, ◌≡◌, ◌<◌, ◌⊎◌, inl, inr, ℕ, zero, suc, ◌+◌, Bool, true, false, nat_eq, nat_lt, List, [], ◌∷◌, length, drop, refl, sym, ap, ◌∙◌, subst, arith, Option, Some, None, Result, Ok, Err, if◌then◌else◌}
+use Rattle.std.proofs.Common.{◌++◌, ◌≡◌, ◌⊎◌, inl, inr, ℕ, zero, suc, ◌+◌, Bool, true, false, nat_eq, nat_lt, List, [], ◌∷◌, length, drop, refl, sym, ap, ◌∙◌, subst, Option, Some, None, Result, Ok, Err, if◌then◌else◌}
 use Rattle.std.specs.List.{slice_get}
-use Rattle.std.specs.Option.{option_and_then}
 use Rattle.core_machine.specs.Store.{found_at}
 use Rattle.core_machine.specs.Stack.{Stack}
 use Rattle.core_machine.specs.Step.{Move, Goes, Calls, Traps, start}
@@ -16,10 +15,8 @@ use Rattle.comp_graph.specs.declared.graph.Action.TheVariants.{Begin, Make}
 use Rattle.comp_graph.specs.declared.graph.CanonFunc.{CanonFunc}
 use Rattle.comp_graph.specs.declared.graph.CanonFunc.TheVariants as canon_func
 use Rattle.comp_graph.specs.declared.graph.FuncRef.{FuncRef}
-use Rattle.comp_graph.specs.declared.graph.Lower.{Lower}
 use Rattle.comp_graph.specs.Graph.{CoreMake, Graph, Lifted, func_named}
 use Rattle.script_reader.specs.Script.{Script}
-use Rattle.script_reader.specs.declared.script.Call.{Call}
 use Rattle.script_reader.specs.declared.script.Item.{Item}
 use Rattle.script_reader.specs.declared.script.Item.TheVariants as item
 use Rattle.trace_show.specs.declared.label.Label.{Label}
@@ -29,32 +26,26 @@ use Rattle.trace_show.specs.declared.typed.TypedValue.{TypedValue}
 use Rattle.canonical_machine.specs.declared.run_end.RunEnd.TheVariants.{Fuel}
 use Rattle.canonical_machine.specs.Control.{Control, Free, Instantiates, Runs, Arrives, Lowers, Quiet, Back, Leaves, Doomed, Then, Starts, Resolves, Lowering, Nested, Behind, InLowering, BeforeLeaving}
 use Rattle.canonical_machine.specs.Control as control
-use Rattle.canonical_machine.specs.World.{new_task, Callee, Init, Func, Subtask, Caller, Nobody, Host, Guest, Resolution, Unresolved, Returned, TaskState, New, Acting, AfterCall, Begins, Exited, Task, World, first_world}
-use Rattle.canonical_machine.specs.Edits.{with_control, with_store, with_memory, unit_spent, item_taken, instance_begun, unchained, changed_at, in_state, resolved, stacked, with_stack, unstacked, answered_stacks, answered, caller_changed, told, result_kept}
-use Rattle.canonical_machine.specs.Reading.{bytes_of, externals, lower_of, lower_at, lifted_of, task_at, acting, func_of, subtask_of, subtask_state, is_reentrant, is_instantiated, may_leave, builtin_of, inst_of_canon, func_address}
-use Rattle.canonical_machine.specs.Traps.{lift_name, lower_name, core_name}
-use Rattle.canonical_machine.specs.Turn.{silent, Turn, Steps, Ends, Stuck, doomed, behind, given, with_func, charged}
-use Rattle.canonical_machine.specs.Returning.{post_return, finished, passed_on, returned, returning_turn, control_behind, left_chain, leaving_turn}
+use Rattle.canonical_machine.specs.World.{new_task, Func, Subtask, Caller, Nobody, Host, Guest, Returned, TaskState, New, Acting, AfterCall, Begins, Exited, Task, World}
+use Rattle.canonical_machine.specs.Edits.{with_control, with_store, with_memory, unit_spent, changed_at, in_state, resolved, unstacked, told, result_kept}
+use Rattle.canonical_machine.specs.Reading.{bytes_of, externals, lower_at, lifted_of, task_at, acting, func_of, subtask_of, subtask_state, is_reentrant, may_leave, builtin_of, inst_of_canon, func_address}
+use Rattle.canonical_machine.specs.Traps.{core_name}
+use Rattle.canonical_machine.specs.Turn.{silent, Turn, Steps, Ends, Stuck, doomed, behind, given, charged}
+use Rattle.canonical_machine.specs.Returning.{post_return, finished, passed_on, returned, returning_turn, leaving_turn}
 use Rattle.canonical_machine.specs.CoreSteps.{costs, stack_ended, moved, running_turn}
 use Rattle.canonical_machine.specs.Instantiating.{started_up, made, action_turn, instantiating_turn}
 use Rattle.canonical_machine.specs.Entering.{arguments_of, with_arguments, entered, arriving_turn}
-use Rattle.canonical_machine.specs.Calling.{begun, called_by, taken, item_turn, free_turn, call_begun, call_ended, back_from, back_turn}
+use Rattle.canonical_machine.specs.Calling.{called_by, taken, item_turn, free_turn, call_begun, call_ended, back_from, back_turn}
 use Rattle.canonical_machine.specs.Reply.{reply, allowed, calling_turn}
 use Rattle.canonical_machine.specs.Pausing.{Paused, Words, Failed, Asked, settle}
 use Rattle.canonical_machine.specs.Lowering.{started, lowered, paused, lowers_turn}
 use Rattle.canonical_machine.specs.Nested.{HostedTurn, On, EndsIn, TrapsBy, CallsHost, NoRule, hosted_next, nested_ended, refused, hosted, nested_turn}
 use Rattle.canonical_machine.specs.Next.{next_by}
-use Rattle.canonical_machine.specs.Tasks.{AreCalled, caller_number, IsAt, NoStack, OneStack, IsSoFar, AreWaiting, Acts, IsInit, IsBegun, IsRunning, IsResolved, IsLowering, IsBefore, IsBack, IsChain, AreOrdered, FirstOrdered, OrderStays}
-
-use Rattle.canonical_machine.specs.declared.run_end.RunEnd.TheVariants.{Done, Trapped, Deadlock}
-use Rattle.canonical_machine.specs.Calling.{end_of}
-use Rattle.canonical_machine.specs.Reading.{has_exited, kept_unless, unfinished_from, unfinished}
-use Rattle.canonical_machine.specs.Run.{Reaches}
-use Rattle.canonical_machine.specs.Over.{Stands, OthersExited, FirstOver, OverStays, NoDeadlock}
+use Rattle.canonical_machine.specs.Tasks.{NoStack, IsInit, IsChain}
+use Rattle.canonical_machine.specs.Over.{Stands, OthersExited, FirstOver, OverStays}
 use Rattle.core_machine.proofs.Lists.{found_there}
 use Rattle.canonical_machine.proofs.Changed.{changed_there}
 use Rattle.canonical_machine.proofs.Made.{get_last}
-use Rattle.canonical_machine.proofs.OrderSteps.{first_ordered, order_stays}
 
 -- what stands in a list in which an item is changed
 changed_either : {A : Type 0} (t : ℕ) (f : A → A) (xs : List A) (n : ℕ) (y : A) → slice_get (changed_at t f xs) n ≡ Some y
