@@ -33,3 +33,4 @@ pub mod Walks
 pub mod Samples
 pub mod MoreSamples
 pub mod PairSamples
+pub mod ApartSamples
