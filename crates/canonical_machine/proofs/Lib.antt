@@ -22,6 +22,7 @@ pub mod Says
 pub mod Fuel
 pub mod Over
 pub mod Deadlocks
+pub mod Callers
 pub mod Within
 pub mod Owned
 pub mod ApartSteps

@@ -25,4 +25,5 @@ pub mod KeptLaws
 pub mod FuelLaws
 pub mod Owners
 pub mod Over
+pub mod Callers
 pub mod Examples

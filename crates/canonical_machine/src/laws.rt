@@ -3,6 +3,7 @@
 ghost use Rattle.canonical_machine.specs.Laws.{OneRun, OneRunFrom, FewerAreAFront, NestedIsQuiet, DoomedEnds, TrapIsMet, DoneIsAll, FuelIsSpent, StepsSpendOneOrNone};
 ghost use Rattle.canonical_machine.specs.Tasks.{FirstOrdered, OrderStays};
 ghost use Rattle.canonical_machine.specs.FuelLaws.{EndsTheSame, GoesOnBehind};
+ghost use Rattle.canonical_machine.specs.Callers.{CallersStay};
 ghost use Rattle.canonical_machine.specs.Over.{FirstOver, OverStays, NoDeadlock};
 ghost use Rattle.canonical_machine.specs.Owners.{FirstApart, ApartStays, NeverStuck, OneNextApart};
 ghost use Rattle.canonical_machine.specs.KeptLaws.{FirstKept, StaysKept, StuckOnlyAtOthers, OneNext};
@@ -83,4 +84,9 @@ pub fn tasks_are_over()
     ensures first { FirstOver }
     ensures stays { OverStays }
     ensures no_deadlock { NoDeadlock }
+{}
+
+/// No step changes what a task does, or which task called it.
+pub fn callers_stay()
+    ensures { CallersStay }
 {}
