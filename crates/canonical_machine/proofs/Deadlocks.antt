@@ -1,4 +1,4 @@
--- No run ends with tasks that can not go on.
+-- No run ends with tasks that cannot go on.
 use Rattle.std.proofs.Common.{◌≡◌, ◌⊎◌, inl, inr, ◌+◌, ℕ, suc, List, [], ◌∷◌, drop, refl, sym, ap, ◌∙◌, subst, Some}
 use Rattle.std.specs.List.{slice_get}
 use Rattle.comp_graph.specs.Graph.{Graph}
@@ -11,7 +11,7 @@ use Rattle.canonical_machine.specs.Reading.{has_exited, kept_unless, unfinished_
 use Rattle.canonical_machine.specs.Calling.{end_of}
 use Rattle.canonical_machine.specs.Run.{Reaches}
 use Rattle.canonical_machine.specs.Tasks.{AreOrdered, IsChain}
-use Rattle.canonical_machine.specs.Over.{Stands, OthersExited, NoDeadlock}
+use Rattle.canonical_machine.specs.Over.{Stands, IsOver, OthersExited, NoDeadlock}
 use Rattle.canonical_machine.proofs.OrderSteps.{first_ordered, order_stays}
 use Rattle.canonical_machine.proofs.Over.{first_over, over_stays}
 use Rattle.canonical_machine.proofs.Says.{deadlock_is_free}
@@ -29,9 +29,9 @@ rest_exited (task ∷ tasks) h = none_left tasks 1 (λ n t e. h (suc n) t e)
 all_exited : (w : World) → w.chain ≡ [] → OthersExited w.tasks w.chain → (n : ℕ) (task : Task) → slice_get w.tasks n ≡ Some task → task.state ≡ Exited
 all_exited w none o n task e = by (o n task e)
   where
-    by : Stands n w.chain ⊎ (task.state ≡ Exited) → task.state ≡ Exited
+    by : Stands n w.chain ⊎ IsOver task → task.state ≡ Exited
     by (inl s) = absurd (subst (Stands n) none s)
-    by (inr s) = s
+    by (inr s) = s.0
 
 reached_ordered : (g : Graph) (s : Script) (steps : List (List Label)) (w v : World) → AreOrdered g w → OthersExited w.tasks w.chain → Reaches g s w steps v → AreOrdered g v × OthersExited v.tasks v.chain
 reached_ordered g s [] w v h o r = subst (λ (v : World). AreOrdered g v × OthersExited v.tasks v.chain) (sym r) (h, o)

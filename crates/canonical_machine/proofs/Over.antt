@@ -31,7 +31,7 @@ use Rattle.canonical_machine.specs.Edits.{with_control, with_store, with_memory,
 use Rattle.canonical_machine.specs.Reading.{bytes_of, externals, lower_at, lifted_of, task_at, acting, func_of, subtask_of, subtask_state, is_reentrant, may_leave, builtin_of, inst_of_canon, func_address}
 use Rattle.canonical_machine.specs.Traps.{core_name}
 use Rattle.canonical_machine.specs.Turn.{silent, Turn, Steps, Ends, Stuck, doomed, behind, given, charged}
-use Rattle.canonical_machine.specs.Returning.{post_return, finished, passed_on, returned, returning_turn, leaving_turn}
+use Rattle.canonical_machine.specs.Returning.{left_chain, post_return, finished, passed_on, returned, returning_turn, leaving_turn}
 use Rattle.canonical_machine.specs.CoreSteps.{costs, stack_ended, moved, running_turn}
 use Rattle.canonical_machine.specs.Instantiating.{started_up, made, action_turn, instantiating_turn}
 use Rattle.canonical_machine.specs.Entering.{arguments_of, with_arguments, entered, arriving_turn}
@@ -41,11 +41,12 @@ use Rattle.canonical_machine.specs.Pausing.{Paused, Words, Failed, Asked, settle
 use Rattle.canonical_machine.specs.Lowering.{started, lowered, paused, lowers_turn}
 use Rattle.canonical_machine.specs.Nested.{HostedTurn, On, EndsIn, TrapsBy, CallsHost, NoRule, hosted_next, nested_ended, refused, hosted, nested_turn}
 use Rattle.canonical_machine.specs.Next.{next_by}
-use Rattle.canonical_machine.specs.Tasks.{NoStack, IsInit, IsChain}
-use Rattle.canonical_machine.specs.Over.{Stands, OthersExited, FirstOver, OverStays}
+use Rattle.canonical_machine.specs.Tasks.{NoStack, IsInit, IsChain, IsSoFar, IsResolved}
+use Rattle.canonical_machine.specs.Over.{Stands, IsOver, OthersExited, FirstOver, OverStays}
 use Rattle.core_machine.proofs.Lists.{found_there}
 use Rattle.canonical_machine.proofs.Changed.{changed_there}
 use Rattle.canonical_machine.proofs.Made.{get_last}
+use Rattle.canonical_machine.proofs.Ordered.{acting_is}
 
 -- what stands in a list in which an item is changed
 changed_either : {A : Type 0} (t : ℕ) (f : A → A) (xs : List A) (n : ℕ) (y : A) → slice_get (changed_at t f xs) n ≡ Some y
@@ -66,15 +67,15 @@ over_changed tasks chain t f stands o n task e = elim (changed_either t f tasks 
 ]
 
 -- a change that leaves states as they are
-over_kept : (tasks : List Task) (chain : List ℕ) (t : ℕ) (f : Task → Task) → ((task : Task) → (f task).state ≡ task.state) → OthersExited tasks chain → OthersExited (changed_at t f tasks) chain
+over_kept : (tasks : List Task) (chain : List ℕ) (t : ℕ) (f : Task → Task) → ((task : Task) → ((f task).state ≡ task.state) × ((f task).stacks ≡ task.stacks)) → OthersExited tasks chain → OthersExited (changed_at t f tasks) chain
 over_kept tasks chain t f keeps o n task e = elim (changed_either t f tasks n task e) [
   | inl own ↦ by own.1 (o n own.1.0 own.1.1)
   | inr old ↦ o n task old
 ]
   where
-    by : (x : (x : Task) × (slice_get tasks n ≡ Some x) × (task ≡ f x)) → Stands n chain ⊎ (x.0.state ≡ Exited) → Stands n chain ⊎ (task.state ≡ Exited)
+    by : (x : (x : Task) × (slice_get tasks n ≡ Some x) × (task ≡ f x)) → Stands n chain ⊎ IsOver x.0 → Stands n chain ⊎ IsOver task
     by x (inl s) = inl s
-    by x (inr s) = inr (ap (λ (y : Task). y.state) x.2 ∙ (keeps x.0 ∙ s))
+    by x (inr s) = inr (ap (λ (y : Task). y.state) x.2 ∙ ((keeps x.0).0 ∙ s.0), ap (λ (y : Task). y.stacks) x.2 ∙ ((keeps x.0).1 ∙ s.1))
 
 over_more : (tasks : List Task) (chain : List ℕ) (new : Task) → OthersExited tasks chain → OthersExited (tasks ++ new ∷ []) (length tasks ∷ chain)
 over_more tasks chain new o n task e = elim (get_last tasks new n task e) [
@@ -82,27 +83,33 @@ over_more tasks chain new o n task e = elim (get_last tasks new n task e) [
   | inr own ↦ inl (inl own.0)
 ]
   where
-    by : Stands n chain ⊎ (task.state ≡ Exited) → Stands n (length tasks ∷ chain) ⊎ (task.state ≡ Exited)
+    by : Stands n chain ⊎ IsOver task → Stands n (length tasks ∷ chain) ⊎ IsOver task
     by (inl s) = inl (inr s)
     by (inr s) = inr s
 
--- The first task of the chain exits.
-over_left : (tasks : List Task) (chain : List ℕ) (t : ℕ) (f : Task → Task) → ((task : Task) → (f task).state ≡ Exited) → slice_get chain 0 ≡ Some t → OthersExited tasks chain
+-- The first task of the chain exits, without a stack.
+some_task : (x y : Task) → Some x ≡ Some y → x ≡ y
+some_task x y h = cc
+
+over_left : (tasks : List Task) (chain : List ℕ) (t : ℕ) (own : Task) (f : Task → Task) → IsOver (f own) → slice_get tasks t ≡ Some own → slice_get chain 0 ≡ Some t → OthersExited tasks chain
     → OthersExited (changed_at t f tasks) (drop 1 chain)
-over_left tasks [] t f exits first o = cc
-over_left tasks (u ∷ below) t f exits first o = λ n task e. elim (changed_either t f tasks n task e) [
-  | inl own ↦ inr (ap (λ (y : Task). y.state) own.1.2 ∙ exits own.1.0)
+over_left tasks [] t own f over there first o = cc
+over_left tasks (u ∷ below) t own f over there first o = λ n task e. elim (changed_either t f tasks n task e) [
+  | inl x ↦ (
+      let same : x.1.0 ≡ own = some_task x.1.0 own (sym x.1.1 ∙ (ap (λ (k : ℕ). slice_get tasks k) x.0 ∙ there)) in
+      inr (subst IsOver (sym (x.1.2 ∙ ap f same)) over)
+      )
   | inr old ↦ by n task e old (o n task old)
 ]
   where
-    same : u ≡ t
-    same = cc
+    first_is : u ≡ t
+    first_is = cc
 
-    by : (n : ℕ) (task : Task) → slice_get (changed_at t f tasks) n ≡ Some task → slice_get tasks n ≡ Some task → Stands n (u ∷ below) ⊎ (task.state ≡ Exited) → Stands n below ⊎ (task.state ≡ Exited)
+    by : (n : ℕ) (task : Task) → slice_get (changed_at t f tasks) n ≡ Some task → slice_get tasks n ≡ Some task → Stands n (u ∷ below) ⊎ IsOver task → Stands n below ⊎ IsOver task
     by n task e old (inl (inl s)) =
-        let there : slice_get (changed_at t f tasks) n ≡ Some (f task) = subst (λ (k : ℕ). slice_get (changed_at k f tasks) n ≡ Some (f task)) (s ∙ same) (changed_there n f tasks task old) in
-        let is : task ≡ f task = cc (e, there) in
-        inr (ap (λ (y : Task). y.state) is ∙ exits task)
+        let there_now : slice_get (changed_at t f tasks) n ≡ Some (f own) = ap (λ (k : ℕ). slice_get (changed_at t f tasks) k) (s ∙ first_is) ∙ changed_there t f tasks own there in
+        let is : task ≡ f own = some_task task (f own) (sym e ∙ there_now) in
+        inr (subst IsOver (sym is) over)
     by n task e old (inl (inr s)) = inl s
     by n task e old (inr s) = inr s
 
@@ -203,7 +210,7 @@ instantiating_over g n w h o = by (slice_get g.plan n)
     makes c imports (Makes t) = starts (n + 1) (start_call c.of_module (instance_of c.of_module imports w.store) t) (with_store t w) stands o
 
     by : (a : Option Action) → Over (action_turn g n a w)
-    by None = over_left w.tasks w.chain 0 (λ task. record task { state = Exited }) (λ task. refl) first o
+    by None = over_left w.tasks w.chain 0 h.task (λ task. record task { state = Exited }) (refl, h.stacks_are) (ap (λ (ts : List Task). slice_get ts 0) h.tasks_are) first o
     by (Some (Begin number)) = o
     by (Some (Make number)) = given_over (slice_get g.cores number) _ (λ c e. given_over (externals w.store c.imports) _ (λ imports f. makes c imports (instantiated c.of_module imports w.store)))
 
@@ -255,7 +262,7 @@ lowers_over l plan w o = by (settle plan (bytes_of w.store l.memory)).0 (with_me
 
     next_is : (n : Then) (words : List ℕ) (v : World) → OthersExited v.tasks v.chain → Over (lowered n words v)
     next_is Starts words v p = starts words v p
-    next_is (Resolves to ended) words v p = finished_over ended (result_kept to words v) (over_kept v.tasks v.chain to _ (λ task. refl) p)
+    next_is (Resolves to ended) words v p = finished_over ended (result_kept to words v) (over_kept v.tasks v.chain to _ (λ task. (refl, refl)) p)
 
     by : (p : Paused) (v : World) → OthersExited v.tasks v.chain → Over (paused l p v)
     by (Words words) v p = next_is l.next words v p
@@ -290,7 +297,7 @@ back_over w o = given_over (acting w) _ (λ a e. by a e a.1.state)
     got a e callee subtask (suc (suc state)) =
         let v : World = told callee (suc (suc state)) w in
         let u : World = in_state a.0 Acting v in
-        over_changed u.tasks u.chain a.0 _ (acting_stands w a e) (over_changed v.tasks v.chain a.0 _ (acting_stands w a e) (over_kept w.tasks w.chain callee _ (λ task. refl) o))
+        over_changed u.tasks u.chain a.0 _ (acting_stands w a e) (over_changed v.tasks v.chain a.0 _ (acting_stands w a e) (over_kept w.tasks w.chain callee _ (λ task. (refl, refl)) o))
 
     by : (a : ℕ × Task) → acting w ≡ Some a → (state : TaskState) → Over (back_from a.0 state w)
     by a e New = tt
@@ -299,9 +306,11 @@ back_over w o = given_over (acting w) _ (λ a e. by a e a.1.state)
     by a e Exited = tt
     by a e (AfterCall callee) = given_over (task_at w callee) _ (λ task i. given_over (subtask_of task.caller) _ (λ subtask j. got a e callee subtask (subtask_state task)))
 
-leaving_over : (w : World) → OthersExited w.tasks w.chain → Over (leaving_turn w)
+leaving_over : (w : World) → IsResolved w.tasks w.chain → OthersExited w.tasks w.chain → Over (leaving_turn w)
 unfolding leaving_turn
-leaving_over w o = given_over (acting w) _ (λ a e. over_left w.tasks w.chain a.0 (λ task. record task { state = Exited }) (λ task. refl) (acting_first w a e) o)
+leaving_over w h o =
+    subst (λ (a : Option (ℕ × Task)). Over (given a (λ a. Steps (line.Exit a.0 ∷ []) (left_chain (in_state a.0 Exited w))))) (sym (acting_is w (λ t task. IsSoFar Acting Returned NoStack task) h))
+    (over_left w.tasks w.chain h.number h.task (λ task. record task { state = Exited }) (refl, h.holds.stacks_are) h.there (ap (λ (chain : List ℕ). slice_get chain 0) h.chain_is) o)
 
 over_by : (g : Graph) (s : Script) (w : World) (c : Control) → IsChain c w.tasks w.chain → OthersExited w.tasks w.chain → Over (next_by g s w c)
 over_by g s w Free h o = free_over g s w o
@@ -312,7 +321,7 @@ over_by g s w Arrives h o = arriving_over g w o
 over_by g s w (Lowers l plan) h o = lowers_over l plan w o
 over_by g s w (Quiet n b) h o = nested_over g s n b w o
 over_by g s w Back h o = back_over w o
-over_by g s w Leaves h o = leaving_over w o
+over_by g s w Leaves h o = leaving_over w h o
 over_by g s w (Doomed t why) h o = tt
 
 -- The laws.

@@ -97,6 +97,6 @@ fuel_is_spent g s w e = says g s w (Ends Fuel) e
 pub steps_spend_one_or_none : StepsSpendOneOrNone
 steps_spend_one_or_none g s w v labels e = says g s w (Steps labels v) e
 
--- A run ends with tasks that can not go on only where none runs.
+-- A run ends with tasks that cannot go on only where none runs.
 pub deadlock_is_free : (g : Graph) (s : Script) (w : World) (tasks : List ℕ) → next g s w ≡ Ends (Deadlock tasks) → (w.control ≡ Free) × (end_of (unfinished w) ≡ Deadlock tasks)
 deadlock_is_free g s w tasks e = says g s w (Ends (Deadlock tasks)) e

@@ -1,5 +1,5 @@
 -- Tasks that are over (Component Model, CanonicalABI.md, "Task State"; Concurrency.md, "Summary"): each task that does not stand on the
--- chain has exited, so that no run ends with tasks that can not go on.
+-- chain has exited and has no stack, so that no run ends with tasks that cannot go on.
 use Rattle.std.specs.Prelude.{◌≡◌, ◌≢◌, ◌⊎◌, ℕ, List, [], ◌∷◌, Some}
 use Rattle.std.specs.List.{slice_get}
 use Rattle.comp_graph.specs.Graph.{Graph}
@@ -17,8 +17,12 @@ abbrev pub Stands : ℕ → List ℕ → Type 0
 Stands n [] = ⊥
 Stands n (t ∷ below) = (n ≡ t) ⊎ Stands n below
 
+-- a task that has exited, and has no stack
+abbrev pub IsOver : Task → Type 0
+IsOver task = (task.state ≡ Exited) × (task.stacks ≡ [])
+
 abbrev pub OthersExited : List Task → List ℕ → Type 0
-OthersExited tasks chain = (n : ℕ) (task : Task) → slice_get tasks n ≡ Some task → Stands n chain ⊎ (task.state ≡ Exited)
+OthersExited tasks chain = (n : ℕ) (task : Task) → slice_get tasks n ≡ Some task → Stands n chain ⊎ IsOver task
 
 -- So it is in the first world, and so it stays.
 abbrev pub FirstOver : Type 0

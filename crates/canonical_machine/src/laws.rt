@@ -78,8 +78,8 @@ pub fn worlds_stay_apart()
     ensures one_next { OneNextApart }
 {}
 
-/// Each task that does not stand on the chain has exited: in the first world, and in every step. So no run ends with tasks that can not
-/// go on.
+/// Each task that does not stand on the chain has exited and has no stack: in the first world, and in every step. So no run ends with
+/// tasks that cannot go on.
 pub fn tasks_are_over()
     ensures first { FirstOver }
     ensures stays { OverStays }
