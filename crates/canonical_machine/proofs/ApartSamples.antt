@@ -1,7 +1,6 @@
 -- Graphs whose component instances use only what they made, and one in which they do not.
-use Rattle.std.proofs.Common.{◌≡◌, ℕ, Some, refl}
-use Rattle.canonical_machine.specs.Owners.{IsApart}
-use Rattle.canonical_machine.specs.Examples.{calling_across, AreApart, ArePlanned, IsNotApart}
+use Rattle.std.proofs.Common.{◌≡◌, ℕ, refl, arith, Some}
+use Rattle.canonical_machine.specs.Examples.{AreApart, ArePlanned, IsNotApart}
 
 pub are_apart : AreApart
 are_apart = (
@@ -23,5 +22,8 @@ are_apart = (
 pub are_planned : ArePlanned
 are_planned = ((refl, (refl, refl)), (refl, (refl, (refl, refl))))
 
+some_same : (a b : ℕ) → Some a ≡ Some b → a ≡ b
+some_same a b h = cc
+
 pub is_not_apart : IsNotApart
-is_not_apart h = (let e : Some {A = ℕ} 1 ≡ Some 0 = h.imports.1.0.0 in cc)
+is_not_apart h = let e : 1 ≡ 0 = some_same 1 0 h.imports.1.0.0 in omega (arith, e)

@@ -1,5 +1,5 @@
 -- No step changes what a task does, or who called it.
-use Rattle.std.proofs.Common.{◌++◌, ◌≡◌, ◌⊎◌, inl, inr, ℕ, zero, suc, ◌+◌, Bool, true, false, nat_eq, nat_lt, List, [], ◌∷◌, length, drop, refl, sym, ap, ◌∙◌, subst, Option, Some, None, Result, Ok, Err, if◌then◌else◌}
+use Rattle.std.proofs.Common.{◌++◌, ◌≡◌, ℕ, zero, suc, ◌+◌, Bool, true, false, nat_eq, nat_lt, List, [], ◌∷◌, length, refl, ◌∙◌, subst, Option, Some, None, Result, Ok, Err, if◌then◌else◌}
 use Rattle.std.specs.List.{slice_get}
 use Rattle.core_machine.specs.Store.{found_at}
 use Rattle.core_machine.specs.Stack.{Stack}
@@ -41,10 +41,6 @@ use Rattle.canonical_machine.specs.Pausing.{Paused, Words, Failed, Asked, settle
 use Rattle.canonical_machine.specs.Lowering.{started, lowered, paused, lowers_turn}
 use Rattle.canonical_machine.specs.Nested.{HostedTurn, On, EndsIn, TrapsBy, CallsHost, NoRule, hosted_next, nested_ended, refused, hosted, nested_turn}
 use Rattle.canonical_machine.specs.Next.{next_by}
-use Rattle.canonical_machine.specs.Tasks.{NoStack, IsInit, IsChain}
-use Rattle.core_machine.proofs.Lists.{found_there}
-use Rattle.canonical_machine.proofs.Changed.{changed_there}
-
 use Rattle.canonical_machine.specs.Callers.{IsCalledAlike, AreKeptIn, CallersStay}
 use Rattle.canonical_machine.proofs.Changed.{get_front}
 use Rattle.canonical_machine.proofs.Ordered.{number_same}

@@ -1,17 +1,13 @@
--- What a task does, and who called it, does not change (Component Model, CanonicalABI.md, "Task State" and "Subtask State"); and a task
--- that waits for another one waits with a stack that goes on with the answer.
+-- What a task does, and which task called it, does not change (Component Model, CanonicalABI.md, "Task State" and "Subtask State").
 use Rattle.std.specs.Prelude.{◌≡◌, ℕ, List, Some}
-use Rattle.std.specs.List.{slice_get, AllByRecursion}
-use Rattle.core_machine.specs.Stack.{Stack, Running, AtHost, Given}
+use Rattle.std.specs.List.{slice_get}
 use Rattle.comp_graph.specs.Graph.{Graph}
 use Rattle.script_reader.specs.Script.{Script}
 use Rattle.trace_show.specs.declared.label.Label.{Label}
-use Rattle.canonical_machine.specs.Control.{Control, Calls}
-use Rattle.canonical_machine.specs.World.{AfterCall, Task, World, first_world}
-use Rattle.canonical_machine.specs.Reading.{acting}
+use Rattle.canonical_machine.specs.World.{Task, World}
 use Rattle.canonical_machine.specs.Turn.{Steps}
 use Rattle.canonical_machine.specs.Next.{next}
-use Rattle.canonical_machine.specs.Tasks.{caller_number, AreOrdered}
+use Rattle.canonical_machine.specs.Tasks.{caller_number}
 
 -- Each task of the one list is in the other one too, does the same and was called by the same task.
 abbrev pub IsCalledAlike : Task → Task → Type 0

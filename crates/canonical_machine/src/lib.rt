@@ -23,7 +23,7 @@ mod laws;
 mod run_end;
 
 pub use laws::{
-    callers_stay, ends_mean, more_fuel_goes_on, nested_is_quiet, one_next, one_run, steps_spend, tasks_are_over,
-    tasks_stay_ordered, traps_are_met, worlds_are_kept, worlds_stay_apart,
+    callers_stay, ends_mean, more_fuel_goes_on, nested_is_quiet, one_next, one_run, steps_spend,
+    tasks_are_over, tasks_stay_ordered, traps_are_met, worlds_are_kept, worlds_stay_apart,
 };
 pub use run_end::RunEnd;
