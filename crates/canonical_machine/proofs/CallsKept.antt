@@ -40,7 +40,7 @@ use Rattle.canonical_machine.specs.Calling.{begun, called_by, taken, item_turn, 
 use Rattle.canonical_machine.specs.Reply.{reply, allowed, calling_turn}
 use Rattle.canonical_machine.specs.Sound.{AreBytes, IsSoundGraph, IsSoundCall, IsSoundItem, IsSound}
 use Rattle.canonical_machine.specs.Tasks.{IsCalleeOf, AreCalled, caller_number, IsAt, NoStack, OneStack, IsSoFar, AreWaiting, Acts, IsBegun, IsRunning, IsResolved, IsBack}
-use Rattle.canonical_machine.specs.Kept.{WereMade, AreMadeBy, core_params, core_results, params_by, results_by, caller_results, kept_result, HasNoResult, HasResult, HasArguments, IsWaiting, WaitsFor, AllWait, AreTyped, IsCalling, IsPlanned, Takes, IsLoweringFor, memory_size, Acting, IsAnsweredBy, IsKeptBy}
+use Rattle.canonical_machine.specs.Kept.{WereMade, AreMadeBy, core_params, core_results, params_by, results_by, caller_results, kept_result, HasNoResult, HasResult, HasArguments, IsWaiting, WaitsFor, AllWait, AreTyped, IsCalling, IsPlanned, Takes, IsLoweringFor, memory_size, IsOfActing, IsAnsweredBy, IsKeptBy}
 use Rattle.canonical_machine.proofs.Changed.{changed_there, changed_other, within, get_front}
 use Rattle.canonical_machine.proofs.Graphs.{IsUsed, same_func, lower_there, callee_there, realloc_is, realloc_some}
 use Rattle.canonical_machine.proofs.Imports.{map_some}
@@ -149,7 +149,7 @@ call_keeps g E number l words w ground a made at fits waits wait =
     same_front (x ∷ xs) (suc n) few = same_front xs n (omega (arith, few))
 
 pub calling_keeps : (g : Graph) (E : Type 0) (number : ℕ) (words : List ℕ) (w : World) → IsBegun w.tasks w.chain ⊎ IsRunning w.tasks w.chain → Ground g w.store w.tasks
-    → Acting g w.store w.tasks w.chain (λ task. AreMadeBy g w.store task.state × IsCalling g w.store number words task) → Keeps g E (calling_turn g number words w)
+    → IsOfActing g w.store w.tasks w.chain (λ task. AreMadeBy g w.store task.state × IsCalling g w.store number words task) → Keeps g E (calling_turn g number words w)
 unfolding calling_turn allowed reply
 calling_keeps g E number words w (inl a) ground b =
     let h : Spot w.tasks w.chain = spot_init w.tasks w.chain (Begins a.0) OneStack a.1 in
@@ -219,7 +219,7 @@ arguments_there g sound s f (Guest subtask) bytes is has =
     }
 
 pub arriving_keeps : (g : Graph) (E : Type 0) → IsSoundGraph g → (w : World) → AreCalled g w.tasks → (a : Acts w.tasks w.chain (λ t task. IsSoFar New Unresolved NoStack task)) → Ground g w.store w.tasks
-    → WereMade w.store g.cores → Acting g w.store w.tasks w.chain (λ task. HasArguments g task.caller task.callee) → Keeps g E (arriving_turn g w)
+    → WereMade w.store g.cores → IsOfActing g w.store w.tasks w.chain (λ task. HasArguments g task.caller task.callee) → Keeps g E (arriving_turn g w)
 unfolding arriving_turn entered
 arriving_keeps g E sound w called a ground made b =
     let h : Spot w.tasks w.chain = spot_of w.tasks w.chain (λ t task. IsSoFar New Unresolved NoStack task) a in
@@ -284,7 +284,7 @@ answers_typed s asked results words [] fits h = tt
 answers_typed s asked results words (k ∷ ks) fits h = (h.0 words fits, answers_typed s asked results words ks fits h.1)
 
 pub back_keeps : (g : Graph) (E : Type 0) (w : World) → (a : Acts w.tasks w.chain (λ t task. IsBack w.tasks t task)) → Ground g w.store w.tasks → WereMade w.store g.cores
-    → Acting g w.store w.tasks w.chain (λ task. IsAnsweredBy g w.store w.tasks task.state task) → Keeps g E (back_turn w)
+    → IsOfActing g w.store w.tasks w.chain (λ task. IsAnsweredBy g w.store w.tasks task.state task) → Keeps g E (back_turn w)
 unfolding back_turn back_from
 back_keeps g E w a ground made b =
     let h : Spot w.tasks w.chain = spot_of w.tasks w.chain (λ t task. IsBack w.tasks t task) a in
@@ -347,7 +347,7 @@ left g s tasks t (u ∷ below) task there made has order wait =
     some_task x y h = cc
 
 pub leaving_keeps : (g : Graph) (E : Type 0) (w : World) → (a : IsResolved w.tasks w.chain) → Ground g w.store w.tasks → WereMade w.store g.cores
-    → Acting g w.store w.tasks w.chain (λ task. HasResult g task) → Keeps g E (leaving_turn w)
+    → IsOfActing g w.store w.tasks w.chain (λ task. HasResult g task) → Keeps g E (leaving_turn w)
 unfolding leaving_turn
 leaving_keeps g E w a ground made b =
     let h : Spot w.tasks w.chain = spot_of w.tasks w.chain (λ t task. IsSoFar IsActing Returned NoStack task) a in

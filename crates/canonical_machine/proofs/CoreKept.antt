@@ -34,7 +34,7 @@ use Rattle.canonical_machine.specs.Instantiating.{started_up, made, action_turn,
 use Rattle.canonical_machine.specs.Sound.{IsSoundGraph, HasBytes}
 use Rattle.canonical_machine.specs.Sound as sounds
 use Rattle.canonical_machine.specs.Tasks.{IsCalleeOf, AreCalled, NoStack, OneStack, IsSoFar, IsInit, IsBegun, IsRunning}
-use Rattle.canonical_machine.specs.Kept.{HasBytesAlone, WereMade, WereMadeSoFar, AreMadeBy, core_results, kept_result, HasNoResult, IsWaiting, AllWait, AreTyped, IsCalling, Acting}
+use Rattle.canonical_machine.specs.Kept.{HasBytesAlone, WereMade, WereMadeSoFar, AreMadeBy, core_results, kept_result, HasNoResult, IsWaiting, AllWait, AreTyped, IsCalling, IsOfActing}
 use Rattle.canonical_machine.proofs.Changed.{drop_next, drop_none}
 use Rattle.canonical_machine.proofs.Graphs.{IsUsed, CanonThere, canon_at, callee_there, hosts_of}
 use Rattle.canonical_machine.proofs.Imports.{ImportsAreThere, imports_match, imported_behind}
@@ -126,7 +126,7 @@ first_typed : (s : Store) (results : List ValType) (ks : List Stack) (k : Stack)
 first_typed s results ks k e h = (let p : AllByRecursion (StackTyped s results) (k ∷ []) = subst (AllByRecursion (StackTyped s results)) e h in p.0)
 
 pub running_keeps : (g : Graph) (E : Type 0) → IsSoundGraph g → (s : Script) (w : World) → AreCalled g w.tasks → IsBegun w.tasks w.chain ⊎ IsRunning w.tasks w.chain → Ground g w.store w.tasks
-    → Acting g w.store w.tasks w.chain (λ task. AreMadeBy g w.store task.state × AreTyped w.store task) → Keeps g E (running_turn g s w)
+    → IsOfActing g w.store w.tasks w.chain (λ task. AreMadeBy g w.store task.state × AreTyped w.store task) → Keeps g E (running_turn g s w)
 unfolding running_turn
 running_keeps g E sound s w called (inl a) ground b =
     let h : Spot w.tasks w.chain = spot_init w.tasks w.chain (Begins a.0) OneStack a.1 in

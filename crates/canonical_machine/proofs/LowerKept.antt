@@ -33,7 +33,7 @@ use Rattle.canonical_machine.specs.Lowering.{nested_of, started, lowered, paused
 use Rattle.canonical_machine.specs.Nested.{HostedTurn, On, EndsIn, TrapsBy, CallsHost, NoRule, hosted_move, hosted_next, nested_ended, refused, hosted, nested_turn}
 use Rattle.canonical_machine.specs.Sound.{IsSoundGraph}
 use Rattle.canonical_machine.specs.Tasks.{IsCalleeOf, AreCalled, NoStack, IsSoFar, Acts, IsLowering}
-use Rattle.canonical_machine.specs.Kept.{WereMade, AreMadeBy, core_params, core_results, caller_results, kept_result, HasNoResult, HasResult, AllWait, AreTyped, IsPlanned, Takes, HasEnded, IsFunction, IsLoweringFor, IsHosted, memory_size, IsNestedFor, Acting}
+use Rattle.canonical_machine.specs.Kept.{WereMade, AreMadeBy, core_params, core_results, caller_results, kept_result, HasNoResult, HasResult, AllWait, AreTyped, IsPlanned, Takes, HasEnded, IsFunction, IsLoweringFor, IsHosted, memory_size, IsNestedFor, IsOfActing}
 use Rattle.canonical_machine.proofs.Changed.{all_but}
 use Rattle.canonical_machine.proofs.CoreKept.{MoveSame, move_same, goes_on}
 use Rattle.canonical_machine.proofs.Graphs.{IsUsed, CanonThere, canon_at, callee_there, func_there, func_found}
@@ -91,7 +91,7 @@ resolved_keeps g E sound to ended words w called a ground made takes fits wait =
     not_both e = cc
 
 lowered_keeps : (g : Graph) (E : Type 0) → IsSoundGraph g → (n : Then) (words : List ℕ) (w : World) → AreCalled g w.tasks → (a : IsLowering n w.tasks w.chain) → Ground g w.store w.tasks
-    → WereMade w.store g.cores → Acting g w.store w.tasks w.chain (λ task. HasEnded n task × Takes g n task words) → Keeps g E (lowered n words w)
+    → WereMade w.store g.cores → IsOfActing g w.store w.tasks w.chain (λ task. HasEnded n task × Takes g n task words) → Keeps g E (lowered n words w)
 unfolding lowered
 lowered_keeps g E sound Starts words w called a ground made b =
     let own = at_spot g w.store w.tasks w.chain (λ task. HasEnded Starts task × Takes g Starts task words) (spot_of w.tasks w.chain (λ t task. IsSoFar IsActing Unresolved NoStack task) a) b in
@@ -105,11 +105,11 @@ lowered_keeps g E sound (Resolves to ended) words w called a ground made b =
 -- Lowerings.
 
 -- what is kept of the acting task is less
-acting_less : (g : Graph) (s : Store) (tasks : List Task) (chain : List ℕ) (P Q : Task → Type 0) → ((task : Task) → P task → Q task) → Acting g s tasks chain P → Acting g s tasks chain Q
+acting_less : (g : Graph) (s : Store) (tasks : List Task) (chain : List ℕ) (P Q : Task → Type 0) → ((task : Task) → P task → Q task) → IsOfActing g s tasks chain P → IsOfActing g s tasks chain Q
 acting_less g s tasks chain P Q f h = record { number = h.number; below = h.below; chain_is = h.chain_is; task = h.task; there = h.there; holds = (f h.task h.holds.0, h.holds.1) }
 
 -- and in a later store
-acting_later : (g : Graph) (s t : Store) (tasks : List Task) (chain : List ℕ) (P Q : Task → Type 0) → GoesOn s t → ((task : Task) → P task → Q task) → Acting g s tasks chain P → Acting g t tasks chain Q
+acting_later : (g : Graph) (s t : Store) (tasks : List Task) (chain : List ℕ) (P Q : Task → Type 0) → GoesOn s t → ((task : Task) → P task → Q task) → IsOfActing g s tasks chain P → IsOfActing g t tasks chain Q
 acting_later g s t tasks chain P Q x f h = record {
   number = h.number;
   below = h.below;
@@ -135,7 +135,7 @@ some_there s (Some a) i h =
 
 paused_keeps : (g : Graph) (E : Type 0) → IsSoundGraph g → (l : Lowering) (count : ℕ) (p : Paused) (w : World) → AreCalled g w.tasks → (a : IsLowering l.next w.tasks w.chain) → Ground g w.store w.tasks
     → WereMade w.store g.cores → count ≤ memory_size w.store l.memory
-    → Acting g w.store w.tasks w.chain (λ task. IsLoweringFor w.store l task × IsSettled (IsSome l.realloc) (Takes g l.next task) count p) → Keeps g E (paused l p w)
+    → IsOfActing g w.store w.tasks w.chain (λ task. IsLoweringFor w.store l task × IsSettled (IsSome l.realloc) (Takes g l.next task) count p) → Keeps g E (paused l p w)
 unfolding paused
 paused_keeps g E sound l count (Words words) w called a ground made few b =
     lowered_keeps g E sound l.next words w called a ground made
@@ -156,7 +156,7 @@ paused_keeps g E sound l count (Asked ask k) w called a ground made few b =
 
 pub lowers_keeps : (g : Graph) (E : Type 0) → IsSoundGraph g → (l : Lowering) (plan : Plan) (w : World) → AreCalled g w.tasks → (a : IsLowering l.next w.tasks w.chain) → Ground g w.store w.tasks
     → WereMade w.store g.cores
-    → Acting g w.store w.tasks w.chain (λ task. IsLoweringFor w.store l task × IsPlanned (IsSome l.realloc) (Takes g l.next task) (memory_size w.store l.memory) plan) → Keeps g E (lowers_turn l plan w)
+    → IsOfActing g w.store w.tasks w.chain (λ task. IsLoweringFor w.store l task × IsPlanned (IsSome l.realloc) (Takes g l.next task) (memory_size w.store l.memory) plan) → Keeps g E (lowers_turn l plan w)
 unfolding lowers_turn
 lowers_keeps g E sound l plan w called a ground made b =
     let bytes : List ℕ = bytes_of w.store l.memory in
@@ -211,7 +211,7 @@ nested_on g s t n state (InLowering l k) task x goes h =
 nested_on g s t n state BeforeLeaving task x goes h = (goes, h.1)
 
 nested_ended_keeps : (g : Graph) (E : Type 0) (n : Nested) (b : Behind) (words : List ℕ) (w : World) → Ground g w.store w.tasks → WereMade w.store g.cores → AreWords (gives b) words
-    → Acting g w.store w.tasks w.chain (λ task. IsNestedFor g w.store n b task) → Keeps g E (nested_ended b words w)
+    → IsOfActing g w.store w.tasks w.chain (λ task. IsNestedFor g w.store n b task) → Keeps g E (nested_ended b words w)
 unfolding nested_ended
 nested_ended_keeps g E n (InLowering l k) [] w ground made fits a = absurd fits
 nested_ended_keeps g E n (InLowering l k) (place ∷ words) w ground made fits a =
@@ -225,7 +225,7 @@ nested_ended_keeps g E n BeforeLeaving words w ground made fits a =
     kept g (with_control Leaves w) ground (made, acting_less g w.store w.tasks w.chain (λ task. IsNestedFor g w.store n BeforeLeaving task) (HasResult g) (λ task h. h.1) a)
 
 hosted_keeps : (g : Graph) (E : Type 0) (s : Script) (n : Nested) (b : Behind) (t : HostedTurn) (w : World) → Ground g w.store w.tasks → WereMade w.store g.cores → HostedTyped g w.store (gives b) t
-    → Acting g w.store w.tasks w.chain (λ task. IsNestedFor g w.store n b task)
+    → IsOfActing g w.store w.tasks w.chain (λ task. IsNestedFor g w.store n b task)
     → ((number : ℕ) (words : List ℕ) (canon : CanonFunc) → t ≡ CallsHost number words → slice_get g.canons number ≡ Some canon → nat_eq (inst_of_canon canon) n.inst ≡ false → E)
     → Keeps g E (hosted g s n b t w)
 unfolding hosted refused
@@ -246,7 +246,7 @@ hosted_keeps g E s n b (CallsHost number words) w ground made typed a other =
 hosted_keeps g E s n b NoRule w ground made typed a other = absurd typed
 
 pub nested_keeps : (g : Graph) (E : Type 0) (s : Script) (n : Nested) (b : Behind) (w : World) → Ground g w.store w.tasks → WereMade w.store g.cores
-    → Acting g w.store w.tasks w.chain (λ task. IsNestedFor g w.store n b task)
+    → IsOfActing g w.store w.tasks w.chain (λ task. IsNestedFor g w.store n b task)
     → ((number : ℕ) (words : List ℕ) (canon : CanonFunc) → hosted_next n.state w.store ≡ CallsHost number words → slice_get g.canons number ≡ Some canon → nat_eq (inst_of_canon canon) n.inst ≡ false → E)
     → Keeps g E (nested_turn g s n b w)
 unfolding nested_turn

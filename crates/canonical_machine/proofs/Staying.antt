@@ -25,7 +25,7 @@ use Rattle.canonical_machine.specs.Reading.{acting, bytes_of_memory, bytes_of}
 use Rattle.canonical_machine.specs.Pausing.{Paused, Words, Failed, Asked, settle, ask_words}
 use Rattle.canonical_machine.specs.Sound.{AreBytes}
 use Rattle.canonical_machine.specs.Tasks.{IsAt, AreWaiting, Acts, IsInit}
-use Rattle.canonical_machine.specs.Kept.{HasHosts, HasBytesAlone, WereMade, WereMadeSoFar, AreMadeBy, core_results, caller_results, kept_result, IsWaiting, WaitsFor, AllWait, IsPlanned, IsFunction, IsLoweringFor, IsHosted, memory_size, IsNestedFor, Acting}
+use Rattle.canonical_machine.specs.Kept.{HasHosts, HasBytesAlone, WereMade, WereMadeSoFar, AreMadeBy, core_results, caller_results, kept_result, IsWaiting, WaitsFor, AllWait, IsPlanned, IsFunction, IsLoweringFor, IsHosted, memory_size, IsNestedFor, IsOfActing}
 use Rattle.canonical_machine.proofs.Bytes.{between}
 use Rattle.canonical_machine.proofs.Changed.{changed_there, changed_other}
 use Rattle.canonical_machine.proofs.Made.{made_still}
@@ -136,7 +136,7 @@ pub spot_acting : (w : World) (h : Spot w.tasks w.chain) → acting w ≡ Some (
 spot_acting w h = ap (λ (chain : List ℕ). acting (let v : World = record w { chain = chain } in v)) h.chain_is ∙ ap (option_map (λ (task : Task). (h.number, task))) h.there
 
 -- What is kept of the acting task is kept at its spot.
-pub at_spot : (g : Graph) (s : Store) (tasks : List Task) (chain : List ℕ) (P : Task → Type 0) (h : Spot tasks chain) → Acting g s tasks chain P → P h.task × AllWait g s tasks h.number h.below
+pub at_spot : (g : Graph) (s : Store) (tasks : List Task) (chain : List ℕ) (P : Task → Type 0) (h : Spot tasks chain) → IsOfActing g s tasks chain P → P h.task × AllWait g s tasks h.number h.below
 at_spot g s tasks chain P h k =
     let same : k.number ∷ k.below ≡ h.number ∷ h.below = sym k.chain_is ∙ h.chain_is in
     let number : k.number ≡ h.number = head_same k.number h.number k.below h.below same in
@@ -144,7 +144,7 @@ at_spot g s tasks chain P h k =
     let task : k.task ≡ h.task = some_same k.task h.task (sym k.there ∙ (ap (λ (n : ℕ). slice_get tasks n) number ∙ h.there)) in
     (subst P task k.holds.0, subst (λ (n : ℕ). AllWait g s tasks n h.below) number (subst (λ (b : List ℕ). AllWait g s tasks k.number b) below k.holds.1))
 
-pub to_spot : (g : Graph) (s : Store) (tasks : List Task) (chain : List ℕ) (P : Task → Type 0) (h : Spot tasks chain) → P h.task → AllWait g s tasks h.number h.below → Acting g s tasks chain P
+pub to_spot : (g : Graph) (s : Store) (tasks : List Task) (chain : List ℕ) (P : Task → Type 0) (h : Spot tasks chain) → P h.task → AllWait g s tasks h.number h.below → IsOfActing g s tasks chain P
 to_spot g s tasks chain P h p w = record { number = h.number; below = h.below; chain_is = h.chain_is; task = h.task; there = h.there; holds = (p, w) }
 
 abbrev pub spot_changed : (tasks : List Task) (chain : List ℕ) (h : Spot tasks chain) (f : Task → Task) → Spot (changed_at h.number f tasks) chain
@@ -194,7 +194,7 @@ all_wait_changed g s tasks t (u ∷ below) f rising keeps h =
 
 -- The acting task is changed.
 pub acting_changed : (g : Graph) (s : Store) (tasks : List Task) (chain : List ℕ) (P : Task → Type 0) (h : Spot tasks chain) (f : Task → Task) → KeepsTypes g f → P (f h.task)
-    → AllWait g s tasks h.number h.below → Acting g s (changed_at h.number f tasks) chain P
+    → AllWait g s tasks h.number h.below → IsOfActing g s (changed_at h.number f tasks) chain P
 acting_changed g s tasks chain P h f keeps p w =
     to_spot g s (changed_at h.number f tasks) chain P (spot_changed tasks chain h f) p (all_wait_changed g s tasks h.number h.below f h.rising keeps w)
 

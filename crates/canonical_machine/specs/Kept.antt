@@ -198,8 +198,8 @@ pub record HasActing (tasks : List Task) (chain : List ℕ) (P : ℕ → Task �
   pub holds : P number task below
 
 -- something of the acting task, and all behind it wait
-abbrev pub Acting : Graph → Store → List Task → List ℕ → (Task → Type 0) → Type 0
-Acting g s tasks chain P = HasActing tasks chain (λ t task below. P task × AllWait g s tasks t below)
+abbrev pub IsOfActing : Graph → Store → List Task → List ℕ → (Task → Type 0) → Type 0
+IsOfActing g s tasks chain P = HasActing tasks chain (λ t task below. P task × AllWait g s tasks t below)
 
 -- the result of the task that the acting one called is what it waits for
 abbrev pub IsAnsweredBy : Graph → Store → List Task → TaskState → Task → Type 0
@@ -209,14 +209,14 @@ IsAnsweredBy g s tasks state task = Unit {0}
 abbrev pub IsKeptBy : Graph → Store → Control → List Task → List ℕ → Type 0
 IsKeptBy g s Free tasks chain = WereMade s g.cores
 IsKeptBy g s (Instantiates n) tasks chain = WereMadeSoFar g s n
-IsKeptBy g s Runs tasks chain = Acting g s tasks chain (λ task. AreMadeBy g s task.state × AreTyped s task)
-IsKeptBy g s (Calls number words) tasks chain = Acting g s tasks chain (λ task. AreMadeBy g s task.state × IsCalling g s number words task)
-IsKeptBy g s Arrives tasks chain = WereMade s g.cores × Acting g s tasks chain (λ task. HasArguments g task.caller task.callee)
+IsKeptBy g s Runs tasks chain = IsOfActing g s tasks chain (λ task. AreMadeBy g s task.state × AreTyped s task)
+IsKeptBy g s (Calls number words) tasks chain = IsOfActing g s tasks chain (λ task. AreMadeBy g s task.state × IsCalling g s number words task)
+IsKeptBy g s Arrives tasks chain = WereMade s g.cores × IsOfActing g s tasks chain (λ task. HasArguments g task.caller task.callee)
 IsKeptBy g s (Lowers l plan) tasks chain =
-    WereMade s g.cores × Acting g s tasks chain (λ task. IsLoweringFor s l task × IsPlanned (IsSome l.realloc) (Takes g l.next task) (memory_size s l.memory) plan)
-IsKeptBy g s (Quiet n b) tasks chain = WereMade s g.cores × Acting g s tasks chain (λ task. IsNestedFor g s n b task)
-IsKeptBy g s Back tasks chain = WereMade s g.cores × Acting g s tasks chain (λ task. IsAnsweredBy g s tasks task.state task)
-IsKeptBy g s Leaves tasks chain = WereMade s g.cores × Acting g s tasks chain (λ task. HasResult g task)
+    WereMade s g.cores × IsOfActing g s tasks chain (λ task. IsLoweringFor s l task × IsPlanned (IsSome l.realloc) (Takes g l.next task) (memory_size s l.memory) plan)
+IsKeptBy g s (Quiet n b) tasks chain = WereMade s g.cores × IsOfActing g s tasks chain (λ task. IsNestedFor g s n b task)
+IsKeptBy g s Back tasks chain = WereMade s g.cores × IsOfActing g s tasks chain (λ task. IsAnsweredBy g s tasks task.state task)
+IsKeptBy g s Leaves tasks chain = WereMade s g.cores × IsOfActing g s tasks chain (λ task. HasResult g task)
 IsKeptBy g s (Doomed t why) tasks chain = Unit {0}
 
 pub record IsTypedWorld (g : Graph) (w : World) : Type 0 where
