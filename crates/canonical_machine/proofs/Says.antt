@@ -26,7 +26,7 @@ IsDone s w c = (c ≡ Free) × (slice_get s.items w.taken ≡ None) × (unfinish
 abbrev EndSays : Script → World → Control → RunEnd → Type 0
 EndSays s w c Done = IsDone s w c
 EndSays s w c (Trapped t why) = c ≡ Doomed t why
-EndSays s w c (Deadlock tasks) = Unit {0}
+EndSays s w c (Deadlock tasks) = (c ≡ Free) × (end_of (unfinished w) ≡ Deadlock tasks)
 EndSays s w c Fuel = s.fuel ≤ w.units
 
 abbrev TurnSays : Script → World → Control → Turn → Type 0
@@ -53,7 +53,7 @@ taken_free call f w = refl
 
 end_says : (s : Script) (w : World) (tasks : List ℕ) → slice_get s.items w.taken ≡ None → unfinished w ≡ tasks → EndSays s w Free (end_of tasks)
 end_says s w [] none e = (refl, none, e)
-end_says s w (t ∷ tasks) none e = tt
+end_says s w (t ∷ tasks) none e = (refl, ap end_of e)
 
 item_says : (g : Graph) (s : Script) (w : World) (o : Option Item) → slice_get s.items w.taken ≡ o → TurnSays s w Free (item_turn g s o w)
 unfolding item_turn
@@ -96,3 +96,7 @@ fuel_is_spent g s w e = says g s w (Ends Fuel) e
 
 pub steps_spend_one_or_none : StepsSpendOneOrNone
 steps_spend_one_or_none g s w v labels e = says g s w (Steps labels v) e
+
+-- A run ends with tasks that cannot go on only where none runs.
+pub deadlock_is_free : (g : Graph) (s : Script) (w : World) (tasks : List ℕ) → next g s w ≡ Ends (Deadlock tasks) → (w.control ≡ Free) × (end_of (unfinished w) ≡ Deadlock tasks)
+deadlock_is_free g s w tasks e = says g s w (Ends (Deadlock tasks)) e

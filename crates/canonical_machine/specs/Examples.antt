@@ -45,6 +45,8 @@ use Rattle.canonical_machine.specs.declared.run_end.RunEnd.{RunEnd}
 use Rattle.canonical_machine.specs.Control.{Free}
 use Rattle.canonical_machine.specs.World.{Init, Nobody, Unresolved, Exited, World, first_world}
 use Rattle.canonical_machine.specs.Run.{RunsFrom}
+use Rattle.canonical_machine.specs.Sound.{Makes}
+use Rattle.canonical_machine.specs.Owners.{IsApart}
 use Rattle.canonical_machine.specs.Dump.{dumped_instances, dumped_memories}
 
 -- From a world the run has these lines and this end, where so many units are used, so many component instances have begun and the
@@ -383,3 +385,17 @@ begins_placing = begins (map (λ n. record { value = value.U8 n; val_type = type
 abbrev pub pair_returned : ℕ → List Label
 pair_returned place =
     begins [] ++ calls_child (place ∷ []) ++ line.Return 2 (Some (record { value = values.Record (value.U32 5 ∷ value.U32 6 ∷ []); val_type = pair })) ∷ []
+
+-- Graphs whose component instances use only what they made, and whose plan makes each core instance in order.
+abbrev pub AreApart : Type 0
+AreApart = IsApart calling_behind × IsApart coming_back
+
+abbrev pub ArePlanned : Type 0
+ArePlanned = Makes 0 calling_behind.plan calling_behind.cores × Makes 0 coming_back.plan coming_back.cores
+
+-- In this one the root imports what its child made.
+abbrev pub calling_across : Graph
+calling_across = record calling_behind { canons = lowers 1 (lifts 1 (func_at 0 0) no_options) of_two ∷ [] }
+
+abbrev pub IsNotApart : Type 0
+IsNotApart = IsApart calling_across → ⊥

@@ -18,4 +18,12 @@ pub mod Next
 pub mod Run
 pub mod Dump
 pub mod Laws
+pub mod Tasks
+pub mod Sound
+pub mod Kept
+pub mod KeptLaws
+pub mod FuelLaws
+pub mod Owners
+pub mod Over
+pub mod Callers
 pub mod Examples

@@ -6,7 +6,7 @@ ghost use Rattle.trace_show.specs.declared.builtin.Builtin.TheVariants as builti
 ghost use Rattle.trace_show.specs.declared.label.Label.TheVariants as line;
 ghost use Rattle.trace_show.specs.declared.trap.TrapName.TheVariants as trap;
 ghost use Rattle.canonical_machine.specs.declared.run_end.RunEnd.TheVariants.{Done, Trapped, Fuel};
-ghost use Rattle.canonical_machine.specs.Examples.{RunOf, RunTwice, Measures, Places, Pairs, seventeen, doubling, calling_behind, dropping_behind, asking_for_char, passing_no_char, calling, calling_at_start, calling_itself, trapping, coming_back, gives, calls_with_ask, text, u32, begins, returns, calls_child, called_through, doubled, begins_measuring, begins_placing, pair_bytes, pair_returned};
+ghost use Rattle.canonical_machine.specs.Examples.{RunOf, RunTwice, Measures, Places, Pairs, seventeen, doubling, calling_behind, dropping_behind, asking_for_char, passing_no_char, calling, calling_at_start, calling_itself, trapping, coming_back, gives, calls_with_ask, text, u32, begins, returns, calls_child, called_through, doubled, begins_measuring, begins_placing, pair_bytes, pair_returned, AreApart, ArePlanned, IsNotApart};
 
 /// A call of a child's function by the root, with its argument twice: seven units, one for the item and three for each core
 /// function. With six the last instruction of the child's does not come.
@@ -71,4 +71,12 @@ pub fn results_in_memory()
     ensures stands { Pairs 16 (pair_returned 16 ++ line.Exit 2 ∷ line.Got 1 [] ∷ line.Return 1 None ∷ line.Exit 1 ∷ []) Done 4 (replicate 16 0 ++ pair_bytes) }
     ensures misaligned { Pairs 18 (pair_returned 18) (Trapped 2 trap.Misaligned) 4 (replicate 24 0) }
     ensures too_far { Pairs 20 (pair_returned 20) (Trapped 2 trap.Bounds) 4 (replicate 24 0) }
+{}
+
+/// In these graphs each component instance uses only what it made, and the plan makes each core instance in order. In the last one the
+/// root imports a function that its child made.
+pub fn graphs_apart()
+    ensures apart { AreApart }
+    ensures planned { ArePlanned }
+    ensures across { IsNotApart }
 {}

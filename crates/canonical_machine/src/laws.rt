@@ -1,6 +1,12 @@
 //! What holds of all runs.
 
 ghost use Rattle.canonical_machine.specs.Laws.{OneRun, OneRunFrom, FewerAreAFront, NestedIsQuiet, DoomedEnds, TrapIsMet, DoneIsAll, FuelIsSpent, StepsSpendOneOrNone};
+ghost use Rattle.canonical_machine.specs.Tasks.{FirstOrdered, OrderStays};
+ghost use Rattle.canonical_machine.specs.FuelLaws.{EndsTheSame, GoesOnBehind};
+ghost use Rattle.canonical_machine.specs.Callers.{CallersStay};
+ghost use Rattle.canonical_machine.specs.Over.{FirstOver, OverStays, NoDeadlock};
+ghost use Rattle.canonical_machine.specs.Owners.{FirstApart, ApartStays, NeverStuck, OneNextApart};
+ghost use Rattle.canonical_machine.specs.KeptLaws.{FirstKept, StaysKept, StuckOnlyAtOthers, OneNext};
 
 /// A graph and a script have at most one run. Of steps from a world fewer are a front of more.
 pub fn one_run()
@@ -31,4 +37,56 @@ pub fn ends_mean()
 /// A step spends a unit of fuel or none, and one only where one is left.
 pub fn steps_spend()
     ensures { StepsSpendOneOrNone }
+{}
+
+/// Each task but task 0 runs a function, of the script's calls an export and of a task's calls one that is lowered. Those on the
+/// chain wait for the one before them, which they called, and the acting one is as what the run does next asks. So it is in the first
+/// world, and it stays so in every step.
+pub fn tasks_stay_ordered()
+    ensures first { FirstOrdered }
+    ensures stays { OrderStays }
+{}
+
+/// What a run of a sound script keeps of its worlds holds of the first one, and stays in every step. Where it holds there is a next
+/// move, unless nested code calls a core function of the Canonical ABI that another component instance made.
+pub fn worlds_are_kept()
+    ensures first { FirstKept }
+    ensures stays { StaysKept }
+    ensures moves { StuckOnlyAtOthers }
+{}
+
+/// At each world of the run of a sound script one move comes next, and it is the only one, unless nested code calls a core function of
+/// the Canonical ABI that another component instance made.
+pub fn one_next()
+    ensures { OneNext }
+{}
+
+/// With more fuel a run that ended otherwise is the same, and one that ended for want of fuel goes on from its last world, behind its
+/// lines.
+pub fn more_fuel_goes_on()
+    ensures same { EndsTheSame }
+    ensures behind { GoesOnBehind }
+{}
+
+/// Where what a core instance imports, and what a lift or a lower uses, was made by its own component instance, core code calls only
+/// what its own component instance made: in the first world, and in every step. So a world that is kept is not stuck, and wherever a
+/// run of a sound script comes one move comes next, and it is the only one.
+pub fn worlds_stay_apart()
+    ensures first { FirstApart }
+    ensures stays { ApartStays }
+    ensures never_stuck { NeverStuck }
+    ensures one_next { OneNextApart }
+{}
+
+/// Each task that does not stand on the chain has exited and has no stack: in the first world, and in every step. So no run ends with
+/// tasks that cannot go on.
+pub fn tasks_are_over()
+    ensures first { FirstOver }
+    ensures stays { OverStays }
+    ensures no_deadlock { NoDeadlock }
+{}
+
+/// No step changes what a task does, or which task called it.
+pub fn callers_stay()
+    ensures { CallersStay }
 {}

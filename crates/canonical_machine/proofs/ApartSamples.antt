@@ -1,0 +1,29 @@
+-- Graphs whose component instances use only what they made, and one in which they do not.
+use Rattle.std.proofs.Common.{◌≡◌, ℕ, refl, arith, Some}
+use Rattle.canonical_machine.specs.Examples.{AreApart, ArePlanned, IsNotApart}
+
+pub are_apart : AreApart
+are_apart = (
+  record {
+    imports = (tt, ((refl, tt), tt));
+    lifts = (record { realloc = tt; post_return = refl }, tt);
+    lowers = ((record { realloc = tt; post_return = tt }, record { realloc = tt; post_return = tt }), tt);
+  },
+  record {
+    imports = (tt, ((refl, tt), ((refl, tt), tt)));
+    lifts = (record { realloc = tt; post_return = tt }, tt);
+    lowers = (
+      (record { realloc = tt; post_return = tt }, record { realloc = tt; post_return = tt }),
+      ((record { realloc = tt; post_return = tt }, record { realloc = tt; post_return = tt }), tt),
+    );
+  },
+)
+
+pub are_planned : ArePlanned
+are_planned = ((refl, (refl, refl)), (refl, (refl, (refl, refl))))
+
+some_same : (a b : ℕ) → Some a ≡ Some b → a ≡ b
+some_same a b h = cc
+
+pub is_not_apart : IsNotApart
+is_not_apart h = let e : 1 ≡ 0 = some_same 1 0 h.imports.1.0.0 in omega (arith, e)

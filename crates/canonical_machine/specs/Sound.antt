@@ -1,0 +1,57 @@
+-- Graphs and scripts that run (Component Model, Explainer.md, "Instance Definitions"; CanonicalABI.md, `canon lift` and `canon lower`):
+-- what linking and reading give of them.
+use Rattle.std.specs.Prelude.{◌≡◌, ◌<◌, ℕ, suc, List, [], ◌∷◌, Some}
+use Rattle.std.specs.List.{AllByRecursion, AllZip}
+use Rattle.wasm_module.specs.declared.module.ModuleTree.{ModuleTree}
+use Rattle.wasm_valid.specs.Modules.{Typed}
+use Rattle.core_machine.specs.Instantiation.{InRange}
+use Rattle.ca_types.specs.declared.value.Value.TheViews as value
+use Rattle.ca_types.specs.declared.exports.Export.{Export}
+use Rattle.lowered_values.specs.Values.{IsOf}
+use Rattle.comp_graph.specs.declared.graph.Action.{Action}
+use Rattle.comp_graph.specs.declared.graph.Action.TheVariants.{Begin, Make}
+use Rattle.comp_graph.specs.Graph.{CoreMake, Graph, Lifted, AreImported, AreMade, IsLiftThere, func_named}
+use Rattle.script_reader.specs.declared.script.Call.{Call}
+use Rattle.script_reader.specs.declared.script.Item.{Item}
+use Rattle.script_reader.specs.declared.script.Item.TheVariants as item
+use Rattle.script_reader.specs.Script.{Script}
+use Rattle.canonical_machine.specs.Passing.{params_type}
+
+-- bytes as numbers
+abbrev pub AreBytes : List ℕ → Type 0
+AreBytes bytes = AllByRecursion (λ byte. byte < 256) bytes
+
+-- A module's data are bytes.
+abbrev pub HasBytes : ModuleTree → Type 0
+HasBytes m = AllByRecursion (λ segment. AreBytes segment.bytes) m.data_segments
+
+-- What is left of a plan makes these core instances, one behind the other, the first of which has this number.
+abbrev pub Makes : ℕ → List Action → List CoreMake → Type 0
+Makes number [] cores = cores ≡ []
+Makes number (Begin instance ∷ actions) cores = Makes number actions cores
+Makes number (Make made ∷ actions) [] = ⊥
+Makes number (Make made ∷ actions) (c ∷ cores) = (made ≡ number) × Makes (suc number) actions cores
+
+-- A graph of valid modules, no memory of which begins with more pages than any may have. What is imported, lifted and lowered is there,
+-- of what was made before it, and the plan makes each core instance, in order.
+pub record IsSoundGraph (g : Graph) : Type 0 where
+  pub valid : AllByRecursion (λ c. Typed c.of_module) g.cores
+  pub in_range : AllByRecursion (λ c. InRange c.of_module) g.cores
+  pub bytes : AllByRecursion (λ c. HasBytes c.of_module) g.cores
+  pub imported : AreImported g.canons [] g.cores
+  pub lifts : AllZip (λ (e : Export) lift. IsLiftThere g.cores g.canons e.func_type lift) g.exports g.lifts
+  pub made : AreMade g.cores g.canons
+  pub planned : Makes 0 g.plan g.cores
+
+-- A call names an export, and its values are of the types of the parameters.
+pub record IsSoundCall (g : Graph) (call : Call) : Type 0 where
+  pub lifted : Lifted
+  pub named : func_named g call.name ≡ Some lifted
+  pub values : IsOf (params_type lifted.func_type) (value.Record call.values)
+
+abbrev pub IsSoundItem : Graph → Item → Type 0
+IsSoundItem g (item.Call call) = IsSoundCall g call
+
+pub record IsSound (g : Graph) (s : Script) : Type 0 where
+  pub graph : IsSoundGraph g
+  pub items : AllByRecursion (IsSoundItem g) s.items
