@@ -5,7 +5,7 @@ use Rattle.core_machine.specs.Store.{Function, type_of, Store}
 use Rattle.core_machine.specs.Stack.{Stack, AtHost, Given}
 use Rattle.core_machine.specs.Step.{Move, Calls, Ends}
 use Rattle.wasm_execution.specs.Waiting.{Waiting}
-use Rattle.wasm_execution.specs.Run.{Comes, Asks}
+use Rattle.wasm_execution.specs.Run.{Comes, Asks, GivesUp}
 use Rattle.wasm_execution.proofs.Ends.{no_steps}
 
 pub alone_asks : (s : Store) (address fuel : ℕ) (args words : List ℕ) (w : Waiting) (function : Function) → words ≡ args → w.stack ≡ Given [] → slice_get s.funcs address ≡ Some function → w.count ≡ length (type_of function).results → Asks s (AtHost address args) fuel s fuel address words w
@@ -30,3 +30,6 @@ given_done s fuel words given same = record {
   moves = ap (λ (ws : List ℕ). let m : Move = Ends ws in m) (sym same);
   paid = omega arith;
 }
+
+pub gives_up_at_once : (s : Store) (k : Stack) (fuel : ℕ) → GivesUp s k fuel s fuel
+gives_up_at_once s k fuel = record { spent = 0; last = k; steps = no_steps s k; paid = omega arith; one_more = omega arith }

@@ -10,7 +10,6 @@ use Rattle.wasm_module.specs.declared.types.ValType.TheVariants.{I32}
 use Rattle.wasm_module.specs.declared.types.FuncType.{FuncType}
 use Rattle.wasm_module.specs.declared.instr.Instr.TheVariants as instr
 use Rattle.wasm_module.specs.Expr.{Expr, Plain}
-use Rattle.wasm_module.specs.SameTypes as valid
 use Rattle.wasm_valid.specs.Context.{arrow}
 use Rattle.wasm_valid.specs.Instrs.{where_there}
 use Rattle.wasm_valid.specs.Typing.{Takes, Turns}

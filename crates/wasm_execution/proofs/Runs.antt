@@ -12,7 +12,7 @@ use Rattle.core_machine.proofs.Moving.{never_stuck}
 use Rattle.wasm_execution.specs.declared.frame.Frame.{Frame}
 use Rattle.wasm_execution.specs.Places.{frame_of}
 use Rattle.wasm_execution.specs.Stacks.{frames_of}
-use Rattle.wasm_execution.specs.Run.{Comes, Waits}
+use Rattle.wasm_execution.specs.Run.{Comes, Waits, GivesUp}
 use Rattle.wasm_execution.specs.Stepping.{IsTyped, HasNext, Reaches}
 use Rattle.wasm_execution.proofs.Ends.{steps_after, no_steps, one_step, ended_next, ended_back}
 use Rattle.wasm_execution.proofs.Paying.{next_costs}
@@ -95,6 +95,17 @@ waits_there s t k f fs before after h sound none more =
       none = none;
       costs = next_costs t f fs there.owner there.there more sound.moving;
     }
+
+-- Memory is wanting where steps have led to, or in a step behind them that was paid.
+pub gives_up : (s t : Store) (k l : stack.Stack) (before after : ℕ) → Stands s k before t after l → GivesUp s k before t after
+gives_up s t k l before after h =
+    let p = h.paid in
+    record { spent = h.spent; last = l; steps = h.steps; paid = omega (arith, p); one_more = omega (arith, p) }
+
+pub gives_up_paid : (s t : Store) (k l : stack.Stack) (before after : ℕ) → Stands s k before t (after + 1) l → GivesUp s k before t after
+gives_up_paid s t k l before after h =
+    let p = h.paid in
+    record { spent = h.spent; last = l; steps = h.steps; paid = omega (arith, p); one_more = omega (arith, p) }
 
 -- Frames that wait, by the list of the program.
 pub frames_push : (callers : List Frame) (f : Frame) → frames_of (callers ++ f ∷ []) ≡ frame_of f ∷ frames_of callers

@@ -29,10 +29,19 @@ pub record Asks (s : Store) (k : Stack) (before : ℕ) (t : Store) (after addres
   pub there : slice_get t.funcs address ≡ Some function
   pub count : waiting.count ≡ length (type_of function).results
 
+-- The stack is given up for want of memory. Steps lead to the store that is left, and each was paid; one unit more may be
+-- spent, on a step that was not made.
+pub record GivesUp (s : Store) (k : Stack) (before : ℕ) (t : Store) (after : ℕ) : Type 0 where
+  pub spent : ℕ
+  pub last : Stack
+  pub steps : Steps spent s k t last
+  pub paid : after + spent ≤ before
+  pub one_more : before ≤ after + spent + 1
+
 -- what came of a stack, a store and so much fuel: the store and the fuel that are left
 abbrev pub RunGives : Store → Stack → ℕ → Outcome → Store → ℕ → Type 0
 RunGives s k before (outcome.Done words) t after = Comes s k before t after (Ends words)
 RunGives s k before (outcome.Calls address words waiting) t after = Asks s k before t after address words waiting
 RunGives s k before (outcome.Trapped why) t after = Comes s k before t after (Traps why)
 RunGives s k before (outcome.NoFuel later) t after = Waits s k before t after later
-RunGives s k before outcome.Memory t after = after ≤ before
+RunGives s k before outcome.Memory t after = GivesUp s k before t after

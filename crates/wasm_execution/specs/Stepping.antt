@@ -97,6 +97,10 @@ Pauses s f before pause.NoFuel t g after = Reaches s f before t after g × (afte
 Pauses s f before (pause.Calls address) t g after = (last : Frame) × Reaches s f before t (after + 1) last × CallsThere t last address g
 Pauses s f before (pause.Traps why) t g after = (last : Frame) × Reaches s f before t (after + 1) last × Fails t last why
 
+-- A frame ends for want of memory in a step that was paid and not made. The steps before it lead to the store that is left.
+abbrev pub Halts : Store → Frame → ℕ → Store → ℕ → Type 0
+Halts s f before t after = (last : Frame) × Reaches s f before t (after + 1) last
+
 -- An instruction comes next, or the function has ended.
 abbrev pub ComesTo : Bool → Frame → Type 0
 ComesTo true g = HasNext g.rest

@@ -21,6 +21,8 @@ use wasm_store::{FunctionInstance, Store};
 
 /// Runs a stack until it ends, calls a function of the host, traps, or fuel is wanting (Core 2.0, section 4.4). Each
 /// instruction costs one unit of fuel, also one that traps or calls; ends of blocks and functions cost nothing.
+///
+/// Where memory runs out, the store is as the steps that were made left it. Each was paid, and at most one unit more is gone.
 pub fn run(alloc: Global, running: Running, store: &mut Store, fuel: &mut Fuel) -> Outcome
     requires typed { (results : List ValType) × StackTyped store.old results running }
     ensures gives { RunGives store.old running fuel.old result store.new fuel.new }

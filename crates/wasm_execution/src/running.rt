@@ -95,6 +95,7 @@ pub enum Outcome {
     Trapped(Trap),
     /// The next instruction came while no fuel was left. The stack can run on.
     NoFuel(Running),
-    /// No memory was left. The stack is given up.
+    /// No memory was left for a step, and the stack is given up. The store is as the steps before it left it; of fuel the unit of that
+    /// step may be spent too.
     Memory,
 }

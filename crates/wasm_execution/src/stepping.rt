@@ -1,6 +1,6 @@
 //! Single instructions.
 
-ghost use Rattle.std.specs.Prelude.{◌≡◌, ◌⊎◌, IfOk, Some, ℕ, List};
+ghost use Rattle.std.specs.Prelude.{◌≡◌, ◌⊎◌, IfOk, OnErr, Some, ℕ, List};
 ghost use Rattle.std.specs.List.{slice_get};
 ghost use Rattle.wasm_module.specs.declared.instr.Instr.{Instr};
 ghost use Rattle.wasm_module.specs.declared.instr.Instr.TheVariants as instr;
@@ -33,6 +33,8 @@ pub(crate) enum Step {
 }
 
 /// Makes the next instruction of a function.
+///
+/// `Memory` comes where memory runs out, and then the store is as it was.
 pub(crate) fn make_step(frame: &mut Frame, store: &mut Store) -> Result<Step, Memory>
     requires placed { IsPlaced frame.old }
     requires store { StoreTyped store.old }
@@ -40,6 +42,7 @@ pub(crate) fn make_step(frame: &mut Frame, store: &mut Store) -> Result<Step, Me
     requires next { HasNext (frame_of frame.old).rest }
     ensures placed { IfOk result (λ s. PlacedAfter s frame.new) }
     ensures gives { IfOk result (λ s. StepGives store.old (frame_of frame.old) s store.new (frame_of frame.new)) }
+    ensures stays { OnErr result (store.new ≡ store.old) }
 {
     match frame.control() {
         Control::Unreachable => Ok(Step::Traps(Trap::Unreachable)),
@@ -115,6 +118,8 @@ fn return_from(frame: &mut Frame) -> Step
 }
 
 /// Makes an instruction that leaves the blocks and calls around it as they are.
+///
+/// `Memory` comes where memory runs out, and then the store is as it was.
 fn make_effect(frame: &mut Frame, store: &mut Store) -> Result<Step, Memory>
     requires placed { IsPlaced frame.old }
     requires store { StoreTyped store.old }
@@ -122,6 +127,7 @@ fn make_effect(frame: &mut Frame, store: &mut Store) -> Result<Step, Memory>
     requires next { (p : Instr) × (r : Expr) × ((frame_of frame.old).rest ≡ Plain p r) × IsEffect p }
     ensures placed { IfOk result (λ s. PlacedAfter s frame.new) }
     ensures gives { IfOk result (λ s. StepGives store.old (frame_of frame.old) s store.new (frame_of frame.new)) }
+    ensures stays { OnErr result (store.new ≡ store.old) }
 {
     let Some(Op::Plain(instr)) = frame.code.op_at(frame.at) else {
         unreachable!()

@@ -1,10 +1,10 @@
 //! The function that runs, up to a pause: its end, a call, a trap, or want of fuel.
 
-ghost use Rattle.std.specs.Prelude.{◌≡◌, ◌≤◌, IfOk, true, false};
+ghost use Rattle.std.specs.Prelude.{◌≡◌, IfOk, OnErr, true, false};
 ghost use Rattle.core_machine.specs.Typed.{StoreTyped};
 ghost use Rattle.wasm_module.specs.Expr.{End};
 ghost use Rattle.wasm_execution.specs.Places.{frame_of, IsPlaced};
-ghost use Rattle.wasm_execution.specs.Stepping.{IsTyped, LeavesTo, ComesTo, Pauses, PlacedAt};
+ghost use Rattle.wasm_execution.specs.Stepping.{IsTyped, LeavesTo, ComesTo, Pauses, Halts, PlacedAt};
 
 use crate::frame::Frame;
 use crate::stepping::{Step, make_step};
@@ -26,6 +26,8 @@ pub(crate) enum Pause {
 }
 
 /// Runs a function up to a pause. Each instruction costs one unit, and ends cost nothing.
+///
+/// `Memory` comes where memory runs out. Then the frame is of no use, and the store is that of the steps that were made.
 pub(crate) fn run_function(
     frame: &mut Frame,
     store: &mut Store,
@@ -34,9 +36,9 @@ pub(crate) fn run_function(
     requires placed { IsPlaced frame.old }
     requires store { StoreTyped store.old }
     requires typed { IsTyped store.old (frame_of frame.old) }
-    ensures fuel { fuel.new ≤ fuel.old }
     ensures placed { IfOk result (λ p. PlacedAt p frame.new) }
     ensures pauses { IfOk result (λ p. Pauses store.old (frame_of frame.old) fuel.old p store.new (frame_of frame.new) fuel.new) }
+    ensures halts { OnErr result (Halts store.old (frame_of frame.old) fuel.old store.new fuel.new) }
 {
     while to_instruction(frame) {
         if !fuel.spend() {

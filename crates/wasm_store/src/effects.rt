@@ -1,6 +1,6 @@
 //! Instructions that leave the blocks and calls around them as they are (Core 2.0, sections 4.4.1, 4.4.4, 4.4.5 and 4.4.7).
 
-ghost use Rattle.std.specs.Prelude.{◌≡◌, reverse, IfOk, Some};
+ghost use Rattle.std.specs.Prelude.{◌≡◌, reverse, IfOk, OnErr, Some};
 ghost use Rattle.std.specs.List.{slice_get};
 ghost use Rattle.core_machine.specs.Store.{Instance};
 ghost use Rattle.core_machine.specs.Effects.{effect};
@@ -19,7 +19,7 @@ impl Store {
     /// Makes an instruction of an instance over locals and operands, the last one at the end. The answer is its trap, where it
     /// traps.
     ///
-    /// `Memory` comes where memory runs out. Then nothing is said of locals and operands.
+    /// `Memory` comes where memory runs out, and then the store is as it was. Nothing is said of locals and operands then.
     pub fn effect(
         &mut self,
         instr: &Instr,
@@ -29,6 +29,7 @@ impl Store {
     ) -> Result<Option<Trap>, Memory>
         requires fits { (i : Instance) × (slice_get self.old.instances instance ≡ Some i) × Fits instr.now i self.old locals.old.items (reverse operands.old.items) }
         ensures gives { IfOk result (λ trap. (i : Instance) × (slice_get self.old.instances instance ≡ Some i) × Gives self.old (effect instr.now i self.old locals.old.items (reverse operands.old.items)) trap self.new locals.new.items (reverse operands.new.items)) }
+        ensures err { OnErr result (self.new ≡ self.old) }
     {
         match instr {
             Instr::Nop => Ok(None),

@@ -8,7 +8,7 @@ use Rattle.wasm_execution.specs.declared.turn.Pause.TheVariants as pause
 use Rattle.wasm_execution.specs.declared.invoking.Invoked.TheVariants as call
 use Rattle.wasm_execution.specs.Places.{frame_of, IsPlaced}
 use Rattle.wasm_execution.specs.Stacks.{frames_of}
-use Rattle.wasm_execution.proofs.Runs.{Iterated, iterated_none, paused, went_back, went_on, waits_there, comes_trap, comes_end, frames_push}
+use Rattle.wasm_execution.proofs.Runs.{Iterated, iterated_none, paused, went_back, went_on, waits_there, comes_trap, comes_end, gives_up, gives_up_paid, frames_push}
 use Rattle.wasm_execution.proofs.Pausing.{at_pause, at_invoked, all_last, call_moves, asks_there}
 use Rattle.wasm_execution.proofs.execution.run_frames.Goals as goal
 
@@ -78,3 +78,21 @@ returns-in-Ok-Limit c =
     let m = at_invoked c.run_function.new.store (frame_of c.run_function.new.frame) c.loop-pause.callers.items c.in-Calls.address e.0 c.in-Ok-Limit.field-0 call.Limit c.invoke.new.callers.items c.in-Ok-Limit.field-0-is e.2 in
     let goes = call_moves c.run_function.new.store p.0 (frame_of c.run_function.new.frame) (frames_of c.loop-pause.callers.items) c.in-Calls.address e.0 (Traps StackLimit) p.2 e.1 m in
     record { gives = comes_trap c.args.store.now c.run_function.new.store (stack.Running (frame_of c.args.top) (frames_of c.args.callers.items)) p.0 (frames_of c.loop-pause.callers.items) c.args.fuel.now c.run_function.new.fuel StackLimit it.stands goes }
+
+pub returns-in_default : goal.returns-in_default
+returns-in_default c =
+    let h = c.in_default.ensures.halts in
+    let it = paused c.args.store.now c.loop-pause.store c.run_function.new.store (stack.Running (frame_of c.args.top) (frames_of c.args.callers.items)) (frame_of c.loop-pause.top) h.0 (frames_of c.loop-pause.callers.items) c.args.fuel.now c.loop-pause.fuel (c.run_function.new.fuel + 1) c.loop-pause.invariant.stands c.loop-pause.invariant.sound h.1 in
+    record { gives = gives_up_paid c.args.store.now c.run_function.new.store (stack.Running (frame_of c.args.top) (frames_of c.args.callers.items)) (stack.Running h.0 (frames_of c.loop-pause.callers.items)) c.args.fuel.now c.run_function.new.fuel it.stands }
+
+pub returns-in-Err : goal.returns-in-Err
+returns-in-Err c =
+    let p = at_pause c.loop-pause.store (frame_of c.loop-pause.top) c.loop-pause.fuel c.in-Ok.pause pause.Ended c.run_function.new.store (frame_of c.run_function.new.frame) c.run_function.new.fuel c.in-Ended.is c.in-Ok.ensures.pauses in
+    let it = paused c.args.store.now c.loop-pause.store c.run_function.new.store (stack.Running (frame_of c.args.top) (frames_of c.args.callers.items)) (frame_of c.loop-pause.top) (frame_of c.run_function.new.frame) (frames_of c.loop-pause.callers.items) c.args.fuel.now c.loop-pause.fuel c.run_function.new.fuel c.loop-pause.invariant.stands c.loop-pause.invariant.sound p.0 in
+    record { gives = gives_up c.args.store.now c.run_function.new.store (stack.Running (frame_of c.args.top) (frames_of c.args.callers.items)) (stack.Running (frame_of c.run_function.new.frame) (frames_of c.loop-pause.callers.items)) c.args.fuel.now c.run_function.new.fuel it.stands }
+
+pub returns-in-Err-invoke : goal.returns-in-Err-invoke
+returns-in-Err-invoke c =
+    let p = at_pause c.loop-pause.store (frame_of c.loop-pause.top) c.loop-pause.fuel c.in-Ok.pause (pause.Calls c.in-Calls.address) c.run_function.new.store (frame_of c.run_function.new.frame) c.run_function.new.fuel c.in-Calls.is c.in-Ok.ensures.pauses in
+    let it = paused c.args.store.now c.loop-pause.store c.run_function.new.store (stack.Running (frame_of c.args.top) (frames_of c.args.callers.items)) (frame_of c.loop-pause.top) p.0 (frames_of c.loop-pause.callers.items) c.args.fuel.now c.loop-pause.fuel (c.run_function.new.fuel + 1) c.loop-pause.invariant.stands c.loop-pause.invariant.sound p.1 in
+    record { gives = gives_up_paid c.args.store.now c.run_function.new.store (stack.Running (frame_of c.args.top) (frames_of c.args.callers.items)) (stack.Running p.0 (frames_of c.loop-pause.callers.items)) c.args.fuel.now c.run_function.new.fuel it.stands }

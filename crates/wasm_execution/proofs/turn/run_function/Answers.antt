@@ -2,7 +2,7 @@ use Rattle.std.proofs.Common.{◌≡◌, ◌+◌, arith}
 use Rattle.wasm_execution.specs.Places.{frame_of}
 use Rattle.wasm_execution.proofs.Ends.{none_left, one_less}
 use Rattle.wasm_execution.proofs.Turns.{turn_ready, turn_goes, reaches_end, kept_fuel}
-use Rattle.wasm_execution.proofs.Stepped.{gave_goes, placed_goes, turn_calls, turn_traps}
+use Rattle.wasm_execution.proofs.Stepped.{gave_goes, placed_goes, turn_calls, turn_traps, turn_halts, on_err}
 use Rattle.wasm_execution.proofs.turn.run_function.Goals as goal
 
 pub returns-then-not-spend-clause-pauses : goal.returns-then-not-spend-clause-pauses
@@ -41,3 +41,8 @@ returns-in-Traps-clause-pauses c =
 pub returns-clause-pauses : goal.returns-clause-pauses
 returns-clause-pauses c =
     (reaches_end c.args.store.now c.loop-fuel.store (frame_of c.args.frame.now) (frame_of c.loop-fuel.frame) (frame_of c.to_instruction.new.frame) c.args.fuel.now c.loop-fuel.fuel c.loop-fuel.invariant.reaches c.loop-fuel.invariant.typed c.to_instruction.ensures.leaves, c.loop-fuel-test.ensures.comes.0, c.loop-fuel-test.ensures.comes.1)
+
+pub returns-in_err-make_step-clause-halts : goal.returns-in_err-make_step-clause-halts
+returns-in_err-make_step-clause-halts c =
+    let one : c.loop-fuel.fuel ≡ c.spend.new.self + 1 = one_less c.loop-fuel.fuel c.spend.new.self c.spend.result c.spend.ensures.spent.0 c.if-not-spend.false c.spend.ensures.left in
+    on_err c.from_residual.result _ (turn_halts c.args.store.now c.loop-fuel.store c.make_step.new.store (frame_of c.args.frame.now) (frame_of c.loop-fuel.frame) (frame_of c.to_instruction.new.frame) c.args.fuel.now c.loop-fuel.fuel c.spend.new.self c.loop-fuel.invariant.reaches c.loop-fuel.invariant.typed c.to_instruction.ensures.leaves one c.in_err-make_step.ensures.stays)
