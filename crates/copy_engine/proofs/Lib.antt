@@ -1,0 +1,4 @@
+pub mod Bytes
+pub mod Nesting
+pub mod Seen
+pub mod Stepping

@@ -1,0 +1,11 @@
+-- What is followed in the room is followed over its store.
+use Rattle.std.proofs.Common.{[]}
+use Rattle.value_lower.specs.Lowering.{stored}
+use Rattle.copy_engine.proofs.Seen.{comes_seen, comes_same}
+use Rattle.copy_engine.proofs.store_room.StoreRoom.store.Goals as goal
+
+pub returns-clause-same : goal.returns-clause-same
+returns-clause-same c = comes_same (stored c.args.t.now c.args.value.now c.args.place) (λ _. []) c.args.self.now c.store.new.room c.store.result c.store.ensures
+
+pub returns-clause-lowers : goal.returns-clause-lowers
+returns-clause-lowers c = comes_seen (stored c.args.t.now c.args.value.now c.args.place) (λ _. []) c.args.self.now c.store.new.room c.store.result c.store.ensures

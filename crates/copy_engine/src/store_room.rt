@@ -1,0 +1,98 @@
+//! Rooms over a store.
+
+ghost use Rattle.std.specs.Prelude.{◌≡◌};
+ghost use Rattle.copy_engine.specs.Rooms.{state_of};
+
+use crate::memories::{put_in, size_in};
+use crate::nested::{HostCall, NestedTrap, realloc_in, run_realloc};
+use ca_base::Fuel;
+use std::alloc::Global;
+use value_lower::{Room, RoomEnd};
+use wasm_store::Store;
+
+/// What canonical options say of a lowering (Component Model, CanonicalABI.md, "Lifting and Lowering Context").
+#[derive(Clone, Copy)]
+pub struct LowerOptions {
+    /// The address of the memory.
+    pub memory: usize,
+    /// The address of the function that gives out places in it, where the options have one.
+    pub realloc: Option<usize>,
+}
+
+/// A memory of a store in which values are lowered. A realloc runs the options' function on a stack of its own, over the same store
+/// and the same fuel, where each instruction costs its unit. Such code may call no function of the host: where it does, it ends, and
+/// the call is kept.
+///
+/// All that a lowering changes is its caller's: the store, the fuel and the call that is kept. So it is known once the room is
+/// gone. Each call of the room says it of every answer; the lowerings, which are made of such calls, say nothing of it where they
+/// answer want of memory.
+#[derive(Drop)]
+pub struct StoreRoom<'a> {
+    store: &'a mut Store,
+    fuel: &'a mut Fuel,
+    call: &'a mut Option<HostCall>,
+    options: LowerOptions,
+}
+
+impl<'a> StoreRoom<'a> {
+    /// The room of these options over a store and its fuel. What is kept of a call of the host goes to `call`.
+    pub fn new(
+        store: &'a mut Store,
+        fuel: &'a mut Fuel,
+        call: &'a mut Option<HostCall>,
+        options: LowerOptions,
+    ) -> StoreRoom<'a>
+        ensures same_store { result.store.ghost_name ≡ store.entry.ghost_name }
+        ensures same_fuel { result.fuel.ghost_name ≡ fuel.entry.ghost_name }
+        ensures same_call { result.call.ghost_name ≡ call.entry.ghost_name }
+        ensures options { result.options ≡ options }
+        ensures state { state_of result ≡ record { store = store.old; units = fuel.old; call = call.old } }
+    {
+        StoreRoom {
+            store,
+            fuel,
+            call,
+            options,
+        }
+    }
+}
+
+impl<'a> Room for StoreRoom<'a> {
+    ghost use Rattle.copy_engine.specs.Rooms.{memory_of, answers_of, wrote_of};
+
+    type Trap = NestedTrap;
+
+    ghost memory = { memory_of };
+
+    ghost answers = { answers_of };
+
+    ghost wrote = { wrote_of };
+
+    fn size(&self) -> u64 {
+        size_in(self.store, self.options.memory)
+    }
+
+    fn put(&mut self, place: u32, bytes: &[u8]) {
+        put_in(self.store, self.options.memory, place, bytes);
+    }
+
+    fn realloc(
+        &mut self,
+        alloc: Global,
+        old: u32,
+        old_size: u32,
+        align: u32,
+        size: u32,
+    ) -> Result<u32, RoomEnd<NestedTrap>> {
+        let Some(address) = realloc_in(self.store, self.options.realloc) else {
+            return Err(RoomEnd::Trapped(NestedTrap::NoRealloc));
+        };
+        let words = [
+            u64::from(old),
+            u64::from(old_size),
+            u64::from(align),
+            u64::from(size),
+        ];
+        run_realloc(alloc, self.store, self.fuel, self.call, address, &words)
+    }
+}

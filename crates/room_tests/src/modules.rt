@@ -1,0 +1,67 @@
+//! A store with two instances of the module in which a realloc stands.
+
+use ca_base::Seq;
+use cases::bytes_of;
+use module_texts::valid_of;
+use std::alloc::Global;
+use std::test::Fail;
+use wasm_module::{FuncType, ValType};
+use wasm_store::{External, Store};
+use wasm_valid::Valid;
+
+/// The preamble of a core module, and the sections before its code: the types (i32, i32, i32, i32) -> i32 and (i32) -> (), a function of
+/// the host of each, of the second one first, one function of the first type, and a memory of a page.
+const FRONT: &str =
+    "0061736d01000000 010d0260047f7f7f7f017f60017f00 020d02016d01680001016d01720000 03020100 0503010001";
+
+/// The module with this code section.
+pub(crate) fn module_with(alloc: Global, code: &str) -> Result<Valid, Fail> {
+    let mut bytes = bytes_of(alloc, FRONT)?;
+    let code = bytes_of(alloc, code)?;
+    bytes.extend_from_slice(&code)?;
+    valid_of(alloc, &bytes)
+}
+
+/// So many values i32.
+fn numbers(alloc: Global, count: u32) -> Result<Seq<ValType>, Fail> {
+    let mut types = Seq::new(alloc);
+    for _ in 0..count {
+        types.push(ValType::I32)?;
+    }
+    Ok(types)
+}
+
+/// Adds a function of the host of so many parameters and results to a store.
+fn add_host(alloc: Global, store: &mut Store, params: u32, results: u32) -> Result<External, Fail> {
+    let params = numbers(alloc, params)?;
+    let results = numbers(alloc, results)?;
+    Ok(External::Func(store.host(FuncType { params, results })?))
+}
+
+/// Adds an instance of a module with these imports to a store.
+fn add_instance(
+    alloc: Global,
+    store: &mut Store,
+    valid: &Valid,
+    imports: &[External],
+) -> Result<(), Fail> {
+    if !store.matches(valid, imports) {
+        return Err(Fail::new("other imports"));
+    }
+    store.add(alloc, valid, imports)?;
+    Ok(())
+}
+
+/// Adds functions of the host and two instances of the module to a store. The functions are then: of the host 0, (i32) -> (), and 1, of
+/// four i32 to one; those of the instances 2 and 3; of the host 4, of four i32 to none, and 5, of three i32 to one. The memories are 0 and
+/// 1, each of one instance.
+pub(crate) fn add_all(alloc: Global, store: &mut Store, valid: &Valid) -> Result<(), Fail> {
+    let first = add_host(alloc, store, 1, 0)?;
+    let second = add_host(alloc, store, 4, 1)?;
+    let imports = [first, second];
+    add_instance(alloc, store, valid, &imports)?;
+    add_instance(alloc, store, valid, &imports)?;
+    add_host(alloc, store, 4, 0)?;
+    add_host(alloc, store, 3, 1)?;
+    Ok(())
+}
