@@ -4,6 +4,7 @@ use Rattle.std.specs.Prelude.{List}
 use Rattle.wasm_module.specs.declared.module.ModuleTree.{ModuleTree}
 use Rattle.comp_graph.specs.Graph.{CoreMake}
 
+-- both lists
 pub record CoreLists : Type 0 where
   pub modules : List ModuleTree
   pub makes : List CoreMake

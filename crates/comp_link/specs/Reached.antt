@@ -1,6 +1,7 @@
 -- The linkings that linking comes to (Component Model, Explainer.md, "Instance Definitions"): the root begins; an item of a component
 -- instance makes what it makes, or begins an instance of a component; and a component instance ends, with which the one that made it
--- has one instance more. When it may end is left open: each linking that linking comes to is one of these.
+-- has one instance more. Which items come, in which component instance, and when an instance ends, is left open: each linking that
+-- linking comes to is one of these, and others are too.
 use Rattle.std.specs.Prelude.{◌≡◌, ℕ, Some, Ok}
 use Rattle.std.specs.List.{slice_get}
 use Rattle.comp_tree.specs.declared.items.Item.{Item}

@@ -119,6 +119,7 @@ impl<'a> Linker<'a> {
         let Some(number) = self.scopes[n].module(index) else {
             return None;
         };
+        // Each number in an index space is one of a core module. The test shows it, also to callers that know of no linking.
         if number >= self.cores.module_count() {
             return None;
         }

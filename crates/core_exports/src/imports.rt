@@ -1,6 +1,6 @@
 //! What a core module that is instantiated is passed for its imports.
 
-ghost use Rattle.std.specs.Prelude.{◌≡◌, ◌<◌, List, Some, Ok, Err, MatchResult, IfOk, nat_lt, length, map};
+ghost use Rattle.std.specs.Prelude.{◌≡◌, ◌<◌, List, Some, None, Ok, Err, MatchResult, IfOk, nat_lt, length, map};
 ghost use Rattle.std.specs.List.{list_all, slice_get, AllByRecursion};
 ghost use Rattle.ca_base.specs.Faults.{IfFault};
 ghost use Rattle.wasm_module.specs.declared.module.ModuleTree.{ModuleTree};
@@ -8,6 +8,7 @@ ghost use Rattle.comp_tree.specs.declared.core_instances.CoreArgument.{CoreArgum
 ghost use Rattle.comp_graph.specs.declared.graph.CanonFunc.{CanonFunc};
 ghost use Rattle.comp_graph.specs.CoreItems.{extern_of};
 ghost use Rattle.comp_graph.specs.Graph.{CoreMake, IsItem};
+ghost use Rattle.comp_linking.specs.declared.fault.LinkWhy.TheVariants as why;
 ghost use Rattle.comp_linking.specs.Tests as tests;
 ghost use Rattle.comp_linking.specs.Computed.{imports_outcome};
 ghost use Rattle.core_exports.specs.Modules.{AreModulesOf, AreAllThere};
@@ -67,7 +68,15 @@ pub fn externs_of(alloc: Global, items: &[CoreItem]) -> Result<Seq<CoreExtern>, 
     Ok(externs)
 }
 
-/// What the imports of the core module of a number are passed, of these core instances and arguments; or why it is not instantiated.
+/// What the imports of the core module of a number are passed, of these core instances and arguments, or the first reason against it:
+/// where `made` says rightly which module each core instance is made of, and all that the core instances export is there (Component
+/// Model, Explainer.md, "Instance Definitions"; Core 2.0, section 3.2.8).
+///
+/// # Errors
+///
+/// `Index` where no module has the number, or an argument's core instance is not there; `Missing` with the first name that an import
+/// does not find; `Typing` where an argument stands twice, or an import finds another item than it asks for. `Memory` is want of
+/// memory.
 pub fn imports_passed<'a>(
     alloc: Global,
     made: &mut CoreModules<'a>,
@@ -76,6 +85,7 @@ pub fn imports_passed<'a>(
     arguments: &[CoreArgument],
 ) -> Result<Vec<CoreItem<'a>>, MemoryOr<LinkWhy>>
     ensures passed { (cores : List CoreMake) (canons : List CanonFunc) (m : ModuleTree) → AreModulesOf made.old cores → AreAllThere cores canons instances.now → slice_get made.old.modules.items number ≡ Some m → MatchResult result (λ v. imports_outcome instances.now m arguments.now ≡ Ok v.items) (λ e. IfFault e (λ w. imports_outcome instances.now m arguments.now ≡ Err w)) }
+    ensures none { slice_get made.old.modules.items number ≡ None → MatchResult result (λ v. ⊥) (λ e. IfFault e (λ w. w ≡ why.Index)) }
     ensures same { made.new ≡ made.old }
 {
     let Some(tree) = made.tree(number) else {

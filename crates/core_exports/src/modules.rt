@@ -16,7 +16,8 @@ use core_types::{ModuleType, ModuleTypes};
 use std::alloc::{AllocError, Global};
 use wasm_module::{ImportDesc, ModuleTree};
 
-/// Core modules, of which of them each core instance is made, and their types.
+/// Core modules, which of them each core instance is made of, and their types. `AreModulesOf` says when the three agree; what is
+/// answered of imports is told where they do.
 #[derive(Drop)]
 pub struct CoreModules<'a> {
     /// The core modules, by their numbers.

@@ -78,7 +78,7 @@ impl<'a> ModuleTypes<'a> {
         if first == self.first_of(alloc, right, right_type)? {
             return Ok(true);
         }
-        // A difference ends linking, so this comes once.
+        // Types of one content have one first, which their text tells, so these differ.
         Ok(is_same_func(left_type, right_type))
     }
 
