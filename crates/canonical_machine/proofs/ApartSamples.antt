@@ -1,6 +1,6 @@
--- Graphs whose component instances use only what they made, and one in which they do not.
+-- Graphs whose component instances import and call only what they made, and those in which they do not.
 use Rattle.std.proofs.Common.{◌≡◌, ℕ, refl, arith, Some}
-use Rattle.canonical_machine.specs.Examples.{AreApart, ArePlanned, IsNotApart}
+use Rattle.canonical_machine.specs.Examples.{AreApart, ArePlanned, IsNotApart, HasOtherRealloc}
 
 pub are_apart : AreApart
 are_apart = (
@@ -17,13 +17,26 @@ are_apart = (
       ((record { realloc = tt; post_return = tt }, record { realloc = tt; post_return = tt }), tt),
     );
   },
+  record {
+    imports = (tt, (tt, ((refl, tt), tt)));
+    lifts = (record { realloc = refl; post_return = tt }, tt);
+    lowers = tt;
+  },
+  record {
+    imports = (tt, ((refl, tt), tt));
+    lifts = (record { realloc = tt; post_return = tt }, tt);
+    lowers = ((record { realloc = tt; post_return = tt }, record { realloc = tt; post_return = tt }), tt);
+  },
 )
 
 pub are_planned : ArePlanned
-are_planned = ((refl, (refl, refl)), (refl, (refl, (refl, refl))))
+are_planned = ((refl, (refl, refl)), (refl, (refl, (refl, refl))), (refl, (refl, (refl, refl))), (refl, (refl, refl)))
 
 some_same : (a b : ℕ) → Some a ≡ Some b → a ≡ b
 some_same a b h = cc
 
 pub is_not_apart : IsNotApart
 is_not_apart h = let e : 1 ≡ 0 = some_same 1 0 h.imports.1.0.0 in omega (arith, e)
+
+pub has_other_realloc : HasOtherRealloc
+has_other_realloc h = let e : 1 ≡ 0 = some_same 1 0 h.lifts.0.realloc in omega (arith, e)

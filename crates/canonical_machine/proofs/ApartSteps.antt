@@ -66,7 +66,7 @@ use Rattle.canonical_machine.proofs.Imports.{Hosts}
 use Rattle.canonical_machine.proofs.Made.{LeavesWith}
 use Rattle.canonical_machine.proofs.CoreKept.{MoveSame, move_same}
 use Rattle.canonical_machine.proofs.LowerKept.{gives, state_of}
-use Rattle.canonical_machine.proofs.Ordered.{callee_same, called_changed}
+use Rattle.canonical_machine.proofs.Ordered.{called_same, called_changed, called_at}
 use Rattle.canonical_machine.proofs.Owned.{owned_later, owned_same, same_keeps, func_owned, made_owned}
 use Rattle.canonical_machine.proofs.Within.{MoveWithin, Closed, next_within}
 use Rattle.canonical_machine.specs.World.{Returned}
@@ -131,7 +131,7 @@ func_is Init f h = cc
 func_is (Func l) f h = ap Func (some_same l f h)
 
 callee_apart : (g : Graph) → IsApart g → (caller : Caller) (callee : Callee) (f : Lifted) → IsCalleeOf g caller callee → callee ≡ Func f → HasOptions g f
-callee_apart g a Nobody callee f h e = let none : Init ≡ Func f = sym h ∙ e in cc
+callee_apart g a Nobody callee f h e = absurd h
 callee_apart g a (Host values) callee f h e = subst (HasOptions g) (same h.1 (sym h.3 ∙ e)) (export_apart g a h.0 h.1 h.2)
   where
     same : (k : Lifted) → Func k ≡ Func f → k ≡ f
@@ -145,7 +145,8 @@ callee_apart g a (Guest subtask) callee f h e = subst (HasOptions g) (same (lift
 acting_apart : (g : Graph) → IsApart g → (w : World) → AreCalled g w.tasks → (a : ℕ × Task) (f : Lifted) → acting w ≡ Some a → func_of a.1.callee ≡ Some f → HasOptions g f
 acting_apart g apart w called a f e k =
     let there = found_there w.tasks (slice_get w.chain 0) a e in
-    callee_apart g apart a.1.caller a.1.callee f (all_at (λ (task : Task). IsCalleeOf g task.caller task.callee) w.tasks a.0 a.1 called there.1) (func_is a.1.callee f k)
+    let runs : a.1.callee ≡ Func f = func_is a.1.callee f k in
+    callee_apart g apart a.1.caller a.1.callee f (called_at g w.tasks a.0 a.1 f called there.1 runs) runs
 
 options_realloc : (g : Graph) (s : Store) (owner : ℕ) (options : Options) → Hosts g.canons s → AreOwned g s → AreOptionsOf g owner options → (address : ℕ) → realloc_of s options ≡ Some address
     → IsOwned g s owner address
@@ -205,7 +206,7 @@ returned_parts g a t caller ended (Err trap) w k = apart g (with_control (Doomed
 returned_parts g a t caller ended (Ok result) w k =
     behind_parts g (line.Return t result ∷ []) _
     (passed_parts g a t caller ended result (resolved t Returned w)
-    (record { called = called_changed g t (λ task. record task { resolution = Returned }) w.tasks (λ task is. is) k.called; hosts = k.hosts; owned = k.owned }))
+    (record { called = called_changed g t (λ task. record task { resolution = Returned }) w.tasks (λ n task is. is) k.called; hosts = k.hosts; owned = k.owned }))
 
 -- Core functions.
 
@@ -222,7 +223,7 @@ unfolding moved
 moved_parts g a t task (Goes paid u l) w same k = apart g (with_control Runs (with_stack t l (with_store u w))) (k.owned.0, owned_same g k.owned.0 w.store u same.0 same.1.0 same.1.2 k.owned.1) tt
 moved_parts g a t task (Calls address words l) w same k = apart g (with_control (control.Calls address words) (with_stack t l w)) k.owned tt
 moved_parts g a t task (core.Ends words) w same k =
-    ended_parts g a t task task.state words (unstacked t w) (record { called = called_changed g t _ w.tasks (λ task is. is) k.called; hosts = k.hosts; owned = k.owned })
+    ended_parts g a t task task.state words (unstacked t w) (record { called = called_changed g t _ w.tasks (λ n task is. is) k.called; hosts = k.hosts; owned = k.owned })
 moved_parts g a t task (Traps why) w same k = apart g (with_control (Doomed t (core_name why)) w) k.owned tt
 moved_parts g a t task core.Stuck w same k = tt
 
@@ -322,7 +323,7 @@ lowered_parts g a Starts words w k = started_parts g words w k.owned
 lowered_parts g a (Resolves to ended) words w k =
     finished_parts g a ended (result_kept to words w)
     (record {
-      called = called_changed g to _ w.tasks (λ task is. callee_same g (λ subtask. record subtask { result = words }) (λ subtask. refl) task.caller task.callee is) k.called;
+      called = called_changed g to _ w.tasks (λ n task is. called_same g (λ subtask. record subtask { result = words }) (λ subtask. refl) n task.caller task.callee is) k.called;
       hosts = k.hosts;
       owned = k.owned;
     })

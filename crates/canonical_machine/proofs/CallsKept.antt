@@ -28,7 +28,7 @@ use Rattle.script_reader.specs.Script.{Script}
 use Rattle.trace_show.specs.declared.label.Label.TheVariants as line
 use Rattle.trace_show.specs.declared.trap.TrapName.TheVariants as trap
 use Rattle.canonical_machine.specs.Control.{Runs, Lowers, Doomed, Starts, Lowering}
-use Rattle.canonical_machine.specs.World.{Callee, Init, Func, Subtask, Caller, Nobody, Host, Guest, Unresolved, Returned, TaskState, New, Acting as IsActing, AfterCall, Begins, Exited, Task, World, new_task}
+use Rattle.canonical_machine.specs.World.{Callee, Func, Subtask, Caller, Nobody, Host, Guest, Unresolved, Returned, TaskState, New, Acting as IsActing, AfterCall, Begins, Exited, Task, World, new_task}
 use Rattle.canonical_machine.specs.Edits.{with_control, item_taken, changed_at, in_state, answered_stacks, answered, caller_changed, told}
 use Rattle.canonical_machine.specs.Passing.{params_type, arguments_plan}
 use Rattle.canonical_machine.specs.Reading.{memory_of, bytes_of, lifted_of, task_at, acting, subtask_of, state_number, subtask_state, is_reentrant, may_leave, builtin_of}
@@ -42,6 +42,7 @@ use Rattle.canonical_machine.specs.Sound.{AreBytes, IsSoundGraph, IsSoundCall, I
 use Rattle.canonical_machine.specs.Tasks.{IsCalleeOf, AreCalled, caller_number, IsAt, NoStack, OneStack, IsSoFar, AreWaiting, Acts, IsBegun, IsRunning, IsResolved, IsBack}
 use Rattle.canonical_machine.specs.Kept.{WereMade, AreMadeBy, core_params, core_results, params_by, results_by, caller_results, kept_result, HasNoResult, HasResult, HasArguments, IsWaiting, WaitsFor, AllWait, AreTyped, IsCalling, IsPlanned, Takes, IsLoweringFor, memory_size, IsOfActing, IsAnsweredBy, IsKeptBy}
 use Rattle.canonical_machine.proofs.Changed.{changed_there, changed_other, within, get_front}
+use Rattle.canonical_machine.proofs.Ordered.{called_at}
 use Rattle.canonical_machine.proofs.Graphs.{IsUsed, same_func, lower_there, callee_there, realloc_is, realloc_some}
 use Rattle.canonical_machine.proofs.Imports.{map_some}
 use Rattle.canonical_machine.proofs.OrderSteps.{not_instantiated}
@@ -203,7 +204,7 @@ ok_value v u h = cc
 
 arguments_there : (g : Graph) → IsSoundGraph g → (s : Store) (f : Lifted) (caller : Caller) → ((memory : Option ℕ) → AreBytes (bytes_of s memory)) → IsCalleeOf g caller (Func f) → HasArguments g caller (Func f)
     → HasThem g s f caller
-arguments_there g sound s f Nobody bytes is has = let none : Func f ≡ Init = is in cc
+arguments_there g sound s f Nobody bytes is has = absurd is
 arguments_there g sound s f (Host values) bytes is has =
     record { arguments = Ok (value.Record values); are = refl; typed = λ v e. subst (IsOf (params_type f.func_type)) (ok_value (value.Record values) v e) has }
 arguments_there g sound s f (Guest subtask) bytes is has =
@@ -225,7 +226,7 @@ arriving_keeps g E sound w called a ground made b =
     let h : Spot w.tasks w.chain = spot_of w.tasks w.chain (λ t task. IsSoFar New Unresolved NoStack task) a in
     let own = at_spot g w.store w.tasks w.chain (λ task. HasArguments g task.caller task.callee) h b in
     let f : Lifted = a.holds.lifted in
-    let is : IsCalleeOf g a.task.caller a.task.callee = all_at (λ (task : Task). IsCalleeOf g task.caller task.callee) w.tasks a.number a.task called a.there in
+    let is : IsCalleeOf g a.task.caller a.task.callee = called_at g w.tasks a.number a.task f called a.there a.holds.runs in
     let used : IsUsed g f = callee_there g sound a.task.caller a.task.callee f is a.holds.runs in
     let them : HasThem g w.store f a.task.caller =
     arguments_there g sound w.store f a.task.caller (λ memory. memory_bytes w.store memory ground.bytes) (subst (IsCalleeOf g a.task.caller) a.holds.runs is) (subst (HasArguments g a.task.caller) a.holds.runs own.0) in

@@ -36,6 +36,7 @@ use Rattle.canonical_machine.specs.Sound as sounds
 use Rattle.canonical_machine.specs.Tasks.{IsCalleeOf, AreCalled, NoStack, OneStack, IsSoFar, IsInit, IsBegun, IsRunning}
 use Rattle.canonical_machine.specs.Kept.{HasBytesAlone, WereMade, WereMadeSoFar, AreMadeBy, core_results, kept_result, HasNoResult, IsWaiting, AllWait, AreTyped, IsCalling, IsOfActing}
 use Rattle.canonical_machine.proofs.Changed.{drop_next, drop_none}
+use Rattle.canonical_machine.proofs.Ordered.{called_at}
 use Rattle.canonical_machine.proofs.Graphs.{IsUsed, CanonThere, canon_at, callee_there, hosts_of}
 use Rattle.canonical_machine.proofs.Imports.{ImportsAreThere, imports_match, imported_behind}
 use Rattle.canonical_machine.proofs.Made.{LeavesWith, LeavesMore, leaves_one_more}
@@ -71,7 +72,7 @@ ended_running g E sound words w called ground a made wait fits =
     let h : Spot w.tasks w.chain = spot_of w.tasks w.chain (λ t task. IsSoFar IsActing Unresolved OneStack task) a in
     let f : Lifted = a.holds.lifted in
     let change : Task → Task = λ task. record task { stacks = drop 1 task.stacks } in
-    let is : IsCalleeOf g a.task.caller a.task.callee = all_at (λ (task : Task). IsCalleeOf g task.caller task.callee) w.tasks a.number a.task called a.there in
+    let is : IsCalleeOf g a.task.caller a.task.callee = called_at g w.tasks a.number a.task f called a.there a.holds.runs in
     let used : IsUsed g f = callee_there g sound a.task.caller a.task.callee f is a.holds.runs in
     let none : kept_result a.task.caller ≡ [] = all_at HasNoResult w.tasks a.number a.task ground.results a.there a.holds.resolution_is in
     subst (λ (state : TaskState). Keeps g E (stack_ended g a.number a.task state words (unstacked a.number w))) (sym a.holds.state_is)

@@ -33,7 +33,7 @@ all_exited w none o n task e = by (o n task e)
     by (inl s) = absurd (subst (Stands n) none s)
     by (inr s) = s.0
 
-reached_ordered : (g : Graph) (s : Script) (steps : List (List Label)) (w v : World) → AreOrdered g w → OthersExited w.tasks w.chain → Reaches g s w steps v → AreOrdered g v × OthersExited v.tasks v.chain
+pub reached_ordered : (g : Graph) (s : Script) (steps : List (List Label)) (w v : World) → AreOrdered g w → OthersExited w.tasks w.chain → Reaches g s w steps v → AreOrdered g v × OthersExited v.tasks v.chain
 reached_ordered g s [] w v h o r = subst (λ (v : World). AreOrdered g v × OthersExited v.tasks v.chain) (sym r) (h, o)
 reached_ordered g s (labels ∷ steps) w v h o r = reached_ordered g s steps r.0 v (order_stays g s w r.0 labels h r.1) (over_stays g s w r.0 labels h o r.1) r.2
 

@@ -22,7 +22,7 @@ use Rattle.comp_graph.specs.declared.graph.CanonFunc.{CanonFunc}
 use Rattle.comp_graph.specs.declared.graph.CanonFunc.TheVariants as canon_func
 use Rattle.comp_graph.specs.Needs.{realloc_type, post_return_type}
 use Rattle.comp_graph.specs.Graph.{CoreMake, Graph, Lifted, canon_type, core_type, func_at, func_named, lifted_as, names, IsMemoryThere, IsLiftThere, IsLowerThere, IsCanonThere, AreMade, none_made, instance_made, canon_made}
-use Rattle.canonical_machine.specs.World.{Callee, Init, Func, Caller, Nobody, Host as HostCaller, Guest}
+use Rattle.canonical_machine.specs.World.{Callee, Func, Caller, Nobody, Host as HostCaller, Guest}
 use Rattle.canonical_machine.specs.Reading.{func_address, realloc_of, lower_of, lower_at, lifted_of}
 use Rattle.canonical_machine.specs.Sound.{IsSoundGraph}
 use Rattle.canonical_machine.specs.Tasks.{IsCalleeOf}
@@ -166,7 +166,7 @@ pub same_func : (f h : Lifted) → Func f ≡ Func h → f ≡ h
 same_func f h e = cc
 
 pub callee_there : (g : Graph) → IsSoundGraph g → (caller : Caller) (callee : Callee) (f : Lifted) → IsCalleeOf g caller callee → callee ≡ Func f → IsUsed g f
-callee_there g sound Nobody callee f h e = let none : Init ≡ Func f = sym h ∙ e in cc
+callee_there g sound Nobody callee f h e = absurd h
 callee_there g sound (HostCaller values) callee f h e = subst (IsUsed g) (same_func h.1 f (sym h.3 ∙ e)) (export_there g sound h.0 h.1 h.2)
 callee_there g sound (Guest subtask) callee f h e = subst (IsUsed g) (same_func (lifted_of h.0) f (sym h.2 ∙ e)) (lower_there g sound subtask.canon h.0 h.1).uses.lift
 

@@ -22,6 +22,7 @@ pub mod Says
 pub mod Fuel
 pub mod Over
 pub mod Deadlocks
+pub mod Trapped
 pub mod Callers
 pub mod Within
 pub mod Owned
@@ -35,3 +36,4 @@ pub mod Samples
 pub mod MoreSamples
 pub mod PairSamples
 pub mod ApartSamples
+pub mod SoundSamples

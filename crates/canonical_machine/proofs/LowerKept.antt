@@ -10,7 +10,6 @@ use Rattle.core_machine.specs.Step.{Move, Goes, Traps, start, next}
 use Rattle.core_machine.specs.Step as core
 use Rattle.core_machine.specs.Typed.{StackTyped}
 use Rattle.core_machine.specs.Laws.{MoveTyped}
-use Rattle.core_machine.proofs.Lists.{all_at}
 use Rattle.core_machine.proofs.Adding.{found_is}
 use Rattle.core_machine.proofs.Moving.{moves_typed}
 use Rattle.core_machine.proofs.Stores.{store_same}
@@ -32,10 +31,11 @@ use Rattle.canonical_machine.specs.Turn.{Stuck, doomed, behind}
 use Rattle.canonical_machine.specs.Lowering.{nested_of, started, lowered, paused, lowers_turn}
 use Rattle.canonical_machine.specs.Nested.{HostedTurn, On, EndsIn, TrapsBy, CallsHost, NoRule, hosted_move, hosted_next, nested_ended, refused, hosted, nested_turn}
 use Rattle.canonical_machine.specs.Sound.{IsSoundGraph}
-use Rattle.canonical_machine.specs.Tasks.{IsCalleeOf, AreCalled, NoStack, IsSoFar, Acts, IsLowering}
+use Rattle.canonical_machine.specs.Tasks.{AreCalled, NoStack, IsSoFar, Acts, IsLowering}
 use Rattle.canonical_machine.specs.Kept.{WereMade, AreMadeBy, core_params, core_results, caller_results, kept_result, HasNoResult, HasResult, AllWait, AreTyped, IsPlanned, Takes, HasEnded, IsFunction, IsLoweringFor, IsHosted, memory_size, IsNestedFor, IsOfActing}
 use Rattle.canonical_machine.proofs.Changed.{all_but}
 use Rattle.canonical_machine.proofs.CoreKept.{MoveSame, move_same, goes_on}
+use Rattle.canonical_machine.proofs.Ordered.{called_at}
 use Rattle.canonical_machine.proofs.Graphs.{IsUsed, CanonThere, canon_at, callee_there, func_there, func_found}
 use Rattle.canonical_machine.proofs.Returns.{typed_start, Ground, kept, ground_on, ground_tasks, ground_changed, Keeps, found_keeps, either_keeps, charged_keeps, func_keeps, finished_keeps}
 use Rattle.canonical_machine.proofs.Staying.{GoesOn, all_still, all_wait_later, size_later, lowering_later, Spot, spot_of, spot_changed, at_spot, all_wait_changed, acting_changed, types_same, result_kept_has, IsSettled, Settled, settled, rewritten_goes_on, memory_bytes}
@@ -43,7 +43,7 @@ use Rattle.canonical_machine.proofs.Staying.{GoesOn, all_still, all_wait_later, 
 -- The function of a task, of an acting task.
 used_by : (g : Graph) → IsSoundGraph g → (tasks : List Task) (t : ℕ) (task : Task) (f : Lifted) → AreCalled g tasks → slice_get tasks t ≡ Some task → task.callee ≡ Func f → IsUsed g f
 used_by g sound tasks t task f called there runs =
-    callee_there g sound task.caller task.callee f (all_at (λ (task : Task). IsCalleeOf g task.caller task.callee) tasks t task called there) runs
+    callee_there g sound task.caller task.callee f (called_at g tasks t task f called there runs) runs
 
 -- What follows a lowering.
 

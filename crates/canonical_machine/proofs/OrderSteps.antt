@@ -44,9 +44,9 @@ use Rattle.canonical_machine.specs.Pausing.{Paused, Words, Failed, Asked, settle
 use Rattle.canonical_machine.specs.Lowering.{started, lowered, paused, lowers_turn}
 use Rattle.canonical_machine.specs.Nested.{HostedTurn, On, EndsIn, TrapsBy, CallsHost, NoRule, hosted_next, nested_ended, refused, hosted, nested_turn}
 use Rattle.canonical_machine.specs.Next.{next_by}
-use Rattle.canonical_machine.specs.Tasks.{AreCalled, caller_number, IsAt, NoStack, OneStack, IsSoFar, AreWaiting, Acts, IsInit, IsBegun, IsRunning, IsResolved, IsLowering, IsBefore, IsBack, IsChain, AreOrdered, FirstOrdered, OrderStays}
+use Rattle.canonical_machine.specs.Tasks.{AreCalled, caller_number, IsAt, NoStack, OneStack, IsSoFar, AreWaiting, Acts, IsInit, IsBegun, IsRunning, IsResolved, ActsFirst, IsLowering, IsBefore, IsBack, IsChain, AreOrdered, FirstOrdered, OrderStays}
 use Rattle.canonical_machine.proofs.Changed.{changed_length, changed_other}
-use Rattle.canonical_machine.proofs.Ordered.{number_same, callee_same, at_changed, waiting_same, acting_is, acts_as, acts_changed, acts_beside, begun_acts, called_acts, called_more, called_changed, init_acting, init_changed}
+use Rattle.canonical_machine.proofs.Ordered.{number_same, called_same, at_changed, waiting_same, acting_is, acts_as, acts_changed, acts_beside, begun_acts, called_acts, called_more, called_changed, init_acting, init_changed}
 
 -- a turn whose step leaves ordered tasks
 abbrev pub Leads : Graph → Turn → Type 0
@@ -91,15 +91,15 @@ func_leads g w P h more l = acting_leads g w P h _ (given_leads g (func_of h.tas
 abbrev So : TaskState → Resolution → (List Stack → Type 0) → ℕ → Task → Type 0
 So state resolution S t task = IsSoFar state resolution S task
 
-post_return_leads : (g : Graph) (t : ℕ) (f : Lifted) (ended : List ℕ) (o : Option FuncRef) (w : World) → AreCalled g w.tasks → IsResolved w.tasks w.chain → Leads g (post_return t f ended o w)
+post_return_leads : (g : Graph) (t : ℕ) (f : Lifted) (ended : List ℕ) (o : Option FuncRef) (w : World) → AreCalled g w.tasks → ActsFirst t w.chain → IsResolved w.tasks w.chain → Leads g (post_return t f ended o w)
 unfolding post_return
-post_return_leads g t f ended None w called h = ordered g (with_control Leaves w) called h
-post_return_leads g t f ended (Some ref) w called h =
-    given_leads g (found_at w.store.funcs (func_address w.store ref)) _ (λ function e. ordered g (with_control (Quiet _ BeforeLeaving) w) called h)
+post_return_leads g t f ended None w called first h = ordered g (with_control Leaves w) called h
+post_return_leads g t f ended (Some ref) w called first h =
+    given_leads g (found_at w.store.funcs (func_address w.store ref)) _ (λ function e. ordered g (with_control (Quiet _ BeforeLeaving) w) called (first, h))
 
 finished_leads : (g : Graph) (ended : List ℕ) (w : World) → AreCalled g w.tasks → IsResolved w.tasks w.chain → Leads g (finished ended w)
 unfolding finished
-finished_leads g ended w called h = func_leads g w (So Acting Returned NoStack) h _ (λ f. post_return_leads g h.number f ended f.options.post_return w called h)
+finished_leads g ended w called h = func_leads g w (So Acting Returned NoStack) h _ (λ f. post_return_leads g h.number f ended f.options.post_return w called (h.below, h.chain_is) h)
 
 passed_leads : (g : Graph) (caller : Caller) (ended : List ℕ) (result : Option TypedValue) (w : World) → AreCalled g w.tasks → (h : IsResolved w.tasks w.chain)
     → Leads g (passed_on g h.number caller ended result w)
@@ -109,17 +109,18 @@ passed_leads g (Host values) ended result w called h = finished_leads g ended w 
 passed_leads g (Guest subtask) ended None w called h = finished_leads g ended w called h
 passed_leads g (Guest subtask) ended (Some result) w called h =
     given_leads g (lower_at g subtask.canon) _ (λ l e.
-    ordered g (with_control (Lowers _ _) w) called (acts_as w.tasks w.chain (So Acting Returned NoStack) (λ t task. (h.number ≡ t) × IsSoFar Acting Returned NoStack task) h (refl, h.holds)))
+    ordered g (with_control (Lowers _ _) w) called
+    ((h.below, h.chain_is), acts_as w.tasks w.chain (So Acting Returned NoStack) (λ t task. (h.number ≡ t) × IsSoFar Acting Returned NoStack task) h (refl, h.holds)))
 
 returned_leads : (g : Graph) (caller : Caller) (ended : List ℕ) (r : Result (Option TypedValue) LiftTrap) (w : World) → AreCalled g w.tasks
     → (h : Acts w.tasks w.chain (So Acting Unresolved NoStack)) → Leads g (returned g h.number caller ended r w)
 unfolding returned
-returned_leads g caller ended (Err trap) w called h = ordered g (with_control (Doomed h.number (lift_name trap.why)) w) called tt
+returned_leads g caller ended (Err trap) w called h = ordered g (with_control (Doomed h.number (lift_name trap.why)) w) called (h.below, h.chain_is)
 returned_leads g caller ended (Ok result) w called h =
     let f : Task → Task = λ task. record task { resolution = Returned } in
     let later : IsResolved (resolved h.number Returned w).tasks w.chain = acts_changed w.tasks w.chain (So Acting Unresolved NoStack) (So Acting Returned NoStack) f h (λ task. refl)
     (record { lifted = h.holds.lifted; runs = h.holds.runs; state_is = h.holds.state_is; resolution_is = refl; stacks_are = h.holds.stacks_are }) in
-    behind_leads g (line.Return h.number result ∷ []) _ (passed_leads g caller ended result (resolved h.number Returned w) (called_changed g h.number f w.tasks (λ task is. is) called) later)
+    behind_leads g (line.Return h.number result ∷ []) _ (passed_leads g caller ended result (resolved h.number Returned w) (called_changed g h.number f w.tasks (λ n task is. is) called) later)
 
 -- Core functions.
 
@@ -131,7 +132,7 @@ ended_leads g words w called h =
     (record { lifted = h.holds.lifted; runs = h.holds.runs; state_is = h.holds.state_is; resolution_is = h.holds.resolution_is; stacks_are = ap (drop 1) h.holds.stacks_are.1 }) in
     subst (λ (state : TaskState). Leads g (stack_ended g h.number h.task state words (unstacked h.number w))) (sym h.holds.state_is)
     (given_leads g (func_of h.task.callee) _ (λ l e.
-    returned_leads g h.task.caller words _ (unstacked h.number w) (called_changed g h.number f w.tasks (λ task is. is) called) later))
+    returned_leads g h.task.caller words _ (unstacked h.number w) (called_changed g h.number f w.tasks (λ n task is. is) called) later))
 
 with_stack_running : (g : Graph) (k : Stack) (w : World) → (h : IsRunning w.tasks w.chain) → IsRunning (with_stack h.number k w).tasks w.chain
 with_stack_running g k w h =
@@ -141,11 +142,11 @@ with_stack_running g k w h =
 running_moved : (g : Graph) (m : Move) (w : World) → AreCalled g w.tasks → (h : IsRunning w.tasks w.chain) → Leads g (moved g h.number h.task m w)
 unfolding moved
 running_moved g (Goes paid s k) w called h =
-    ordered g (with_control Runs (with_stack h.number k (with_store s w))) (called_changed g h.number _ w.tasks (λ task is. is) called) (inr (with_stack_running g k w h))
+    ordered g (with_control Runs (with_stack h.number k (with_store s w))) (called_changed g h.number _ w.tasks (λ n task is. is) called) (inr (with_stack_running g k w h))
 running_moved g (Calls address words k) w called h =
-    ordered g (with_control (control.Calls address words) (with_stack h.number k w)) (called_changed g h.number _ w.tasks (λ task is. is) called) (inr (with_stack_running g k w h))
+    ordered g (with_control (control.Calls address words) (with_stack h.number k w)) (called_changed g h.number _ w.tasks (λ n task is. is) called) (inr (with_stack_running g k w h))
 running_moved g (core.Ends words) w called h = ended_leads g words w called h
-running_moved g (Traps why) w called h = ordered g (with_control (Doomed h.number (core_name why)) w) called tt
+running_moved g (Traps why) w called h = ordered g (with_control (Doomed h.number (core_name why)) w) called (h.below, h.chain_is)
 running_moved g core.Stuck w called h = tt
 
 with_stack_begun : (k : Stack) (n : ℕ) (w : World) → (h : IsInit (Begins n) OneStack w.tasks w.chain) → IsBegun (with_stack 0 k w).tasks w.chain
@@ -154,16 +155,16 @@ with_stack_begun k n w h = (n, init_changed w.tasks w.chain (Begins n) (Begins n
 begun_moved : (g : Graph) (m : Move) (n : ℕ) (w : World) → AreCalled g w.tasks → (h : IsInit (Begins n) OneStack w.tasks w.chain) → Leads g (moved g 0 h.task m w)
 unfolding moved stack_ended
 begun_moved g (Goes paid s k) n w called h =
-    ordered g (with_control Runs (with_stack 0 k (with_store s w))) (called_changed g 0 _ w.tasks (λ task is. is) called) (inl (with_stack_begun k n w h))
+    ordered g (with_control Runs (with_stack 0 k (with_store s w))) (called_changed g 0 _ w.tasks (λ n task is. is) called) (inl (with_stack_begun k n w h))
 begun_moved g (Calls address words k) n w called h =
-    ordered g (with_control (control.Calls address words) (with_stack 0 k w)) (called_changed g 0 _ w.tasks (λ task is. is) called) (inl (with_stack_begun k n w h))
+    ordered g (with_control (control.Calls address words) (with_stack 0 k w)) (called_changed g 0 _ w.tasks (λ n task is. is) called) (inl (with_stack_begun k n w h))
 begun_moved g (core.Ends words) n w called h =
     let v : World = unstacked 0 w in
     let none : IsInit (Begins n) NoStack v.tasks v.chain = init_changed w.tasks w.chain (Begins n) (Begins n) OneStack NoStack _ h h.callee_is h.state_is (ap (drop 1) h.stacks_are.1) in
     subst (λ (state : TaskState). Leads g (stack_ended g 0 h.task state words v)) (sym h.state_is)
-    (ordered g (with_control (Instantiates n) (in_state 0 Acting v)) (called_changed g 0 _ v.tasks (λ task is. is) (called_changed g 0 _ w.tasks (λ task is. is) called))
+    (ordered g (with_control (Instantiates n) (in_state 0 Acting v)) (called_changed g 0 _ v.tasks (λ n task is. is) (called_changed g 0 _ w.tasks (λ n task is. is) called))
     (init_changed v.tasks v.chain (Begins n) Acting NoStack NoStack _ none none.callee_is refl none.stacks_are))
-begun_moved g (Traps why) n w called h = ordered g (with_control (Doomed 0 (core_name why)) w) called tt
+begun_moved g (Traps why) n w called h = ordered g (with_control (Doomed 0 (core_name why)) w) called ([], h.chain_is)
 begun_moved g core.Stuck n w called h = tt
 
 running_leads : (g : Graph) (s : Script) (w : World) → AreCalled g w.tasks → IsBegun w.tasks w.chain ⊎ IsRunning w.tasks w.chain → Leads g (running_turn g s w)
@@ -185,19 +186,19 @@ started_up_leads g n None w called h = ordered g (with_control (Instantiates n) 
 started_up_leads g n (Some k) w called h =
     let v : World = in_state 0 (Begins n) w in
     let begins : IsInit (Begins n) NoStack v.tasks v.chain = init_changed w.tasks w.chain Acting (Begins n) NoStack NoStack _ h h.callee_is refl h.stacks_are in
-    ordered g (with_control Runs (stacked 0 k v)) (called_changed g 0 _ v.tasks (λ task is. is) (called_changed g 0 _ w.tasks (λ task is. is) called))
+    ordered g (with_control Runs (stacked 0 k v)) (called_changed g 0 _ v.tasks (λ n task is. is) (called_changed g 0 _ w.tasks (λ n task is. is) called))
     (inl (n, init_changed v.tasks v.chain (Begins n) (Begins n) NoStack OneStack _ begins begins.callee_is begins.state_is (k, ap (λ (ks : List Stack). k ∷ ks) begins.stacks_are)))
 
 made_leads : (g : Graph) (n : ℕ) (c : CoreMake) (imports : List External) (r : Instantiation) (w : World) → AreCalled g w.tasks → IsInit Acting NoStack w.tasks w.chain
     → Leads g (made n c imports r w)
 unfolding made
-made_leads g n c imports (core_instance.SegmentBounds s) w called h = ordered g (with_control (Doomed 0 trap.SegmentBounds) (with_store s w)) called tt
+made_leads g n c imports (core_instance.SegmentBounds s) w called h = ordered g (with_control (Doomed 0 trap.SegmentBounds) (with_store s w)) called ([], h.chain_is)
 made_leads g n c imports (Makes s) w called h = started_up_leads g (n + 1) _ (with_store s w) called h
 
 action_leads : (g : Graph) (n : ℕ) (o : Option Action) (w : World) → AreCalled g w.tasks → IsInit Acting NoStack w.tasks w.chain → Leads g (action_turn g n o w)
 unfolding action_turn
 action_leads g n None w called h =
-    ordered g (with_control Free (unchained (in_state 0 Exited w))) (called_changed g 0 _ w.tasks (λ task is. is) called) (ap (λ (c : List ℕ). drop 1 c) h.chain_is)
+    ordered g (with_control Free (unchained (in_state 0 Exited w))) (called_changed g 0 _ w.tasks (λ n task is. is) called) (ap (λ (c : List ℕ). drop 1 c) h.chain_is)
 action_leads g n (Some (Begin number)) w called h = ordered g (with_control (Instantiates (n + 1)) (instance_begun w)) called h
 action_leads g n (Some (Make number)) w called h =
     given_leads g (slice_get g.cores number) _ (λ c e.
@@ -229,8 +230,8 @@ call_leads : (g : Graph) (number : ℕ) (l : Lower) (words : List ℕ) (w : Worl
     → Leads g (call_begun h.number number (lifted_of l) words w)
 unfolding call_begun
 call_leads g number l words w e called h =
-    either_leads g (is_reentrant w l.lift.instance h.number) _ _ (ordered g (with_control (Doomed h.number trap.Reentrant) w) called tt)
-    (ordered g (begun callee caller v) (called_more g v.tasks callee caller (l, e, refl) (called_changed g h.number f w.tasks (λ task is. is) called))
+    either_leads g (is_reentrant w l.lift.instance h.number) _ _ (ordered g (with_control (Doomed h.number trap.Reentrant) w) called (h.below, h.chain_is))
+    (ordered g (begun callee caller v) (called_more g v.tasks callee caller (l, e, refl) (called_changed g h.number f w.tasks (λ n task is. is) called))
     (called_acts v.tasks v.chain (So New Unresolved NoStack) callee caller waits refl (record { lifted = lifted_of l; runs = refl; state_is = refl; resolution_is = refl; stacks_are = refl })))
   where
     callee : Callee
@@ -260,22 +261,22 @@ calling_leads g number words w called (inl h) =
     found_leads g (acting w) (0, h.1.task) _ (init_acting w (Begins h.0) OneStack h.1)
     (given_leads g (slice_get g.canons number) _ (λ canon e.
     behind_leads g (line.Do 0 (builtin_of canon) words ∷ []) _ (subst (λ (b : Bool). Leads g (if b then reply 0 number canon words w else doomed 0 trap.CannotLeave w)) (sym (not_instantiated w h.0 h.1))
-    (ordered g (with_control (Doomed 0 trap.CannotLeave) w) called tt))))
+    (ordered g (with_control (Doomed 0 trap.CannotLeave) w) called ([], h.1.chain_is)))))
 calling_leads g number words w called (inr h) =
     acting_leads g w (So Acting Unresolved OneStack) h _
     (given_leads g (slice_get g.canons number) _ (λ canon e.
-    behind_leads g (line.Do h.number (builtin_of canon) words ∷ []) _ (either_leads g (may_leave w) _ _ (by canon e) (ordered g (with_control (Doomed h.number trap.CannotLeave) w) called tt))))
+    behind_leads g (line.Do h.number (builtin_of canon) words ∷ []) _ (either_leads g (may_leave w) _ _ (by canon e) (ordered g (with_control (Doomed h.number trap.CannotLeave) w) called (h.below, h.chain_is)))))
   where
     by : (canon : CanonFunc) → slice_get g.canons number ≡ Some canon → Leads g (reply h.number number canon words w)
     by (canon_func.Lower l) e = call_leads g number l words w (ap (option_and_then lower_of) e) called h
 
 -- Entry and lowerings.
 
-with_arguments_leads : (g : Graph) (t : ℕ) (f : Lifted) (r : Result Value LiftTrap) (w : World) → AreCalled g w.tasks → Acts w.tasks w.chain (So Acting Unresolved NoStack)
+with_arguments_leads : (g : Graph) (t : ℕ) (f : Lifted) (r : Result Value LiftTrap) (w : World) → AreCalled g w.tasks → ActsFirst t w.chain → Acts w.tasks w.chain (So Acting Unresolved NoStack)
     → Leads g (with_arguments t f r w)
 unfolding with_arguments
-with_arguments_leads g t f (Err trap) w called h = ordered g (with_control (Doomed t (lift_name trap.why)) w) called tt
-with_arguments_leads g t f (Ok v) w called h = ordered g (with_control (Lowers _ _) w) called h
+with_arguments_leads g t f (Err trap) w called first h = ordered g (with_control (Doomed t (lift_name trap.why)) w) called first
+with_arguments_leads g t f (Ok v) w called first h = ordered g (with_control (Lowers _ _) w) called (first, h)
 
 arriving_leads : (g : Graph) (w : World) → AreCalled g w.tasks → Acts w.tasks w.chain (So New Unresolved NoStack) → Leads g (arriving_turn g w)
 unfolding arriving_turn entered
@@ -283,7 +284,7 @@ arriving_leads g w called h =
     func_leads g w (So New Unresolved NoStack) h _ (λ f.
     subst (λ (state : TaskState). Leads g (entered g h.number h.task state f w)) (sym h.holds.state_is)
     (behind_leads g (line.Enter h.number ∷ []) _ (given_leads g (arguments_of g w.store h.task.caller) _ (λ r e.
-    with_arguments_leads g h.number f r (in_state h.number Acting w) (called_changed g h.number _ w.tasks (λ task is. is) called)
+    with_arguments_leads g h.number f r (in_state h.number Acting w) (called_changed g h.number _ w.tasks (λ n task is. is) called) (h.below, h.chain_is)
     (acts_changed w.tasks w.chain (So New Unresolved NoStack) (So Acting Unresolved NoStack) _ h (λ task. refl)
     (record { lifted = h.holds.lifted; runs = h.holds.runs; state_is = refl; resolution_is = h.holds.resolution_is; stacks_are = h.holds.stacks_are }))))))
 
@@ -293,7 +294,7 @@ started_leads g words w called h =
     func_leads g w (So Acting Unresolved NoStack) h _ (λ f.
     given_leads g (found_at w.store.funcs (func_address w.store f.core)) _ (λ function e.
     let k : Stack = start function.1 function.0 words in
-    ordered g (with_control Runs (stacked h.number k w)) (called_changed g h.number _ w.tasks (λ task is. is) called)
+    ordered g (with_control Runs (stacked h.number k w)) (called_changed g h.number _ w.tasks (λ n task is. is) called)
     (inr (acts_changed w.tasks w.chain (So Acting Unresolved NoStack) (So Acting Unresolved OneStack) _ h (λ task. refl)
     (record { lifted = h.holds.lifted; runs = h.holds.runs; state_is = h.holds.state_is; resolution_is = h.holds.resolution_is; stacks_are = (k, ap (λ (ks : List Stack). k ∷ ks) h.holds.stacks_are) })))))
 
@@ -305,7 +306,7 @@ kept_leads : (g : Graph) (to : ℕ) (ended words : List ℕ) (w : World) → Are
 kept_leads g to ended words w called h =
     subst (λ (n : ℕ). Leads g (finished ended (result_kept n words w))) (sym h.holds.0)
     (finished_leads g ended (result_kept h.number words w)
-    (called_changed g h.number (Keeping words) w.tasks (λ task is. callee_same g (λ subtask. record subtask { result = words }) (λ subtask. refl) task.caller task.callee is) called)
+    (called_changed g h.number (Keeping words) w.tasks (λ n task is. called_same g (λ subtask. record subtask { result = words }) (λ subtask. refl) n task.caller task.callee is) called)
     (acts_changed w.tasks w.chain (λ t task. (to ≡ t) × IsSoFar Acting Returned NoStack task) (So Acting Returned NoStack) (Keeping words) h
     (λ task. number_same (λ subtask. record subtask { result = words }) (λ subtask. refl) task.caller)
     (record { lifted = h.holds.1.lifted; runs = h.holds.1.runs; state_is = h.holds.1.state_is; resolution_is = h.holds.1.resolution_is; stacks_are = h.holds.1.stacks_are })))
@@ -315,18 +316,18 @@ unfolding lowered
 lowered_leads g Starts words w called h = started_leads g words w called h
 lowered_leads g (Resolves to ended) words w called h = kept_leads g to ended words w called h
 
-paused_leads : (g : Graph) (l : Lowering) (p : Paused) (w : World) → AreCalled g w.tasks → IsLowering l.next w.tasks w.chain → Leads g (paused l p w)
+paused_leads : (g : Graph) (l : Lowering) (p : Paused) (w : World) → AreCalled g w.tasks → ActsFirst l.blame w.chain → IsLowering l.next w.tasks w.chain → Leads g (paused l p w)
 unfolding paused
-paused_leads g l (Words words) w called h = lowered_leads g l.next words w called h
-paused_leads g l (Failed why) w called h = ordered g (with_control (Doomed l.blame (lower_name why)) w) called tt
-paused_leads g l (Asked ask k) w called h =
-    given_leads g (found_at w.store.funcs l.realloc) _ (λ f e. ordered g (with_control (Quiet _ (InLowering l k)) w) called h)
+paused_leads g l (Words words) w called first h = lowered_leads g l.next words w called h
+paused_leads g l (Failed why) w called first h = ordered g (with_control (Doomed l.blame (lower_name why)) w) called first
+paused_leads g l (Asked ask k) w called first h =
+    given_leads g (found_at w.store.funcs l.realloc) _ (λ f e. ordered g (with_control (Quiet _ (InLowering l k)) w) called (first, (first, h)))
 
-lowers_leads : (g : Graph) (l : Lowering) (plan : Plan) (w : World) → AreCalled g w.tasks → IsLowering l.next w.tasks w.chain → Leads g (lowers_turn l plan w)
+lowers_leads : (g : Graph) (l : Lowering) (plan : Plan) (w : World) → AreCalled g w.tasks → ActsFirst l.blame w.chain → IsLowering l.next w.tasks w.chain → Leads g (lowers_turn l plan w)
 unfolding lowers_turn
-lowers_leads g l plan w called h =
+lowers_leads g l plan w called first h =
     let p = settle plan (bytes_of w.store l.memory) in
-    paused_leads g l p.0 (with_memory l.memory p.1 w) called h
+    paused_leads g l p.0 (with_memory l.memory p.1 w) called first h
 
 -- Nested code.
 
@@ -336,25 +337,25 @@ nested_ended_leads g (InLowering l k) [] w called h = tt
 nested_ended_leads g (InLowering l k) (place ∷ words) w called h = ordered g (with_control (Lowers l (k place)) w) called h
 nested_ended_leads g BeforeLeaving words w called h = ordered g (with_control Leaves w) called h
 
-refused_leads : (g : Graph) (n : Nested) (words : List ℕ) (canon : CanonFunc) (w : World) → AreCalled g w.tasks → Leads g (refused n words canon w)
+refused_leads : (g : Graph) (n : Nested) (words : List ℕ) (canon : CanonFunc) (w : World) → AreCalled g w.tasks → ActsFirst n.blame w.chain → Leads g (refused n words canon w)
 unfolding refused
-refused_leads g n words canon w called =
+refused_leads g n words canon w called first =
     either_leads g (nat_eq (inst_of_canon canon) n.inst) (behind (line.Do n.acts_for (builtin_of canon) words ∷ []) (doomed n.blame trap.CannotLeave w)) Stuck
-    (ordered g (with_control (Doomed n.blame trap.CannotLeave) w) called tt) tt
+    (ordered g (with_control (Doomed n.blame trap.CannotLeave) w) called first) tt
 
-hosted_leads : (g : Graph) (s : Script) (n : Nested) (b : Behind) (t : HostedTurn) (w : World) → AreCalled g w.tasks → IsBefore b w.tasks w.chain → Leads g (hosted g s n b t w)
+hosted_leads : (g : Graph) (s : Script) (n : Nested) (b : Behind) (t : HostedTurn) (w : World) → AreCalled g w.tasks → ActsFirst n.blame w.chain → IsBefore b w.tasks w.chain → Leads g (hosted g s n b t w)
 unfolding hosted
-hosted_leads g s n b (On paid state store) w called h =
-    charged_leads g paid s w _ (λ units. ordered g (with_control (Quiet (record n { state = state }) b) (with_store store (record w { units = units }))) called h)
-hosted_leads g s n b (EndsIn words) w called h = nested_ended_leads g b words w called h
-hosted_leads g s n b (TrapsBy why) w called h =
-    charged_leads g true s w (λ v. doomed n.blame (core_name why) v) (λ units. ordered g (with_control (Doomed n.blame (core_name why)) (record w { units = units })) called tt)
-hosted_leads g s n b (CallsHost number words) w called h = given_leads g (slice_get g.canons number) _ (λ canon e. refused_leads g n words canon w called)
-hosted_leads g s n b NoRule w called h = tt
+hosted_leads g s n b (On paid state store) w called first h =
+    charged_leads g paid s w _ (λ units. ordered g (with_control (Quiet (record n { state = state }) b) (with_store store (record w { units = units }))) called (first, h))
+hosted_leads g s n b (EndsIn words) w called first h = nested_ended_leads g b words w called h
+hosted_leads g s n b (TrapsBy why) w called first h =
+    charged_leads g true s w (λ v. doomed n.blame (core_name why) v) (λ units. ordered g (with_control (Doomed n.blame (core_name why)) (record w { units = units })) called first)
+hosted_leads g s n b (CallsHost number words) w called first h = given_leads g (slice_get g.canons number) _ (λ canon e. refused_leads g n words canon w called first)
+hosted_leads g s n b NoRule w called first h = tt
 
-nested_leads : (g : Graph) (s : Script) (n : Nested) (b : Behind) (w : World) → AreCalled g w.tasks → IsBefore b w.tasks w.chain → Leads g (nested_turn g s n b w)
+nested_leads : (g : Graph) (s : Script) (n : Nested) (b : Behind) (w : World) → AreCalled g w.tasks → ActsFirst n.blame w.chain → IsBefore b w.tasks w.chain → Leads g (nested_turn g s n b w)
 unfolding nested_turn
-nested_leads g s n b w called h = hosted_leads g s n b (hosted_next n.state w.store) w called h
+nested_leads g s n b w called first h = hosted_leads g s n b (hosted_next n.state w.store) w called first h
 
 -- Control goes back, and a task leaves.
 
@@ -378,8 +379,8 @@ got_leads g callee subtask (suc (suc state)) w called h =
     acts_changed u.tasks u.chain (So Acting Unresolved OneStack) (So Acting Unresolved OneStack) (λ task. record task { stacks = answered_stacks subtask.result task.stacks }) two (λ task. refl)
     (record { lifted = two.holds.lifted; runs = two.holds.runs; state_is = two.holds.state_is; resolution_is = two.holds.resolution_is; stacks_are = (core.resume subtask.result two.holds.stacks_are.0, ap (answered_stacks subtask.result) two.holds.stacks_are.1) }) in
     ordered g (with_control Runs (answered h.number subtask.result u))
-    (called_changed g h.number _ u.tasks (λ task is. is) (called_changed g h.number _ v.tasks (λ task is. is)
-    (called_changed g callee (Told (suc (suc state))) w.tasks (λ task is. callee_same g (λ subtask. record subtask { told = suc (suc state) }) (λ subtask. refl) task.caller task.callee is) called)))
+    (called_changed g h.number _ u.tasks (λ n task is. is) (called_changed g h.number _ v.tasks (λ n task is. is)
+    (called_changed g callee (Told (suc (suc state))) w.tasks (λ n task is. called_same g (λ subtask. record subtask { told = suc (suc state) }) (λ subtask. refl) n task.caller task.callee is) called)))
     (inr three)
 
 back_leads : (g : Graph) (w : World) → AreCalled g w.tasks → Acts w.tasks w.chain (λ t task. IsBack w.tasks t task) → Leads g (back_turn w)
@@ -420,7 +421,7 @@ leaving_leads : (g : Graph) (w : World) → AreCalled g w.tasks → IsResolved w
 unfolding leaving_turn
 leaving_leads g w called h =
     acting_leads g w (So Acting Returned NoStack) h _
-    (ordered g (left_chain (in_state h.number Exited w)) (called_changed g h.number _ w.tasks (λ task is. is) called)
+    (ordered g (left_chain (in_state h.number Exited w)) (called_changed g h.number _ w.tasks (λ n task is. is) called)
     (subst (λ (chain : List ℕ). IsChain (control_behind (drop 1 chain)) (in_state h.number Exited w).tasks (drop 1 chain)) (sym h.chain_is)
     (left g w.tasks h.number h.below (h.task, h.there, h.holds) h.waiting)))
 
@@ -435,8 +436,8 @@ by_control g s w (Instantiates n) called h = instantiating_leads g n w called h
 by_control g s w Runs called h = running_leads g s w called h
 by_control g s w (control.Calls number words) called h = calling_leads g number words w called h
 by_control g s w Arrives called h = arriving_leads g w called h
-by_control g s w (Lowers l plan) called h = lowers_leads g l plan w called h
-by_control g s w (Quiet n b) called h = nested_leads g s n b w called h
+by_control g s w (Lowers l plan) called h = lowers_leads g l plan w called h.0 h.1
+by_control g s w (Quiet n b) called h = nested_leads g s n b w called h.0 h.1
 by_control g s w Back called h = back_leads g w called h
 by_control g s w Leaves called h = leaving_leads g w called h
 by_control g s w (Doomed t why) called h = tt
@@ -445,7 +446,7 @@ by_control g s w (Doomed t why) called h = tt
 
 pub first_ordered : FirstOrdered
 first_ordered g =
-    ordered g (first_world g) (refl, tt) (record { task = record { callee = Init; caller = Nobody; stacks = []; resolution = Unresolved; state = Acting }; tasks_are = refl; chain_is = refl; callee_is = refl; state_is = refl; stacks_are = refl })
+    ordered g (first_world g) (refl, refl, tt) (record { task = record { callee = Init; caller = Nobody; stacks = []; resolution = Unresolved; state = Acting }; tasks_are = refl; chain_is = refl; callee_is = refl; state_is = refl; stacks_are = refl })
 
 pub order_stays : OrderStays
 order_stays g s w v labels h e = subst (Leads g) e (by_control g s (with_control Free w) w.control h.called h.chain)

@@ -3,10 +3,10 @@ use Rattle.std.proofs.Common.{◌≡◌, ◌<◌, ◌≤◌, ℕ, zero, suc, Lis
 use Rattle.std.specs.List.{slice_get}
 use Rattle.std.specs.Option.{option_map}
 use Rattle.core_machine.proofs.Zips.{get_behind}
-use Rattle.core_machine.proofs.Lists.{all_append}
+use Rattle.core_machine.proofs.Lists.{all_at, all_append}
 use Rattle.core_machine.specs.Stack.{Stack}
-use Rattle.comp_graph.specs.Graph.{Graph}
-use Rattle.canonical_machine.specs.World.{Callee, Init, Subtask, Caller, Nobody, Host, Guest, Unresolved, TaskState, AfterCall, Task, World, new_task}
+use Rattle.comp_graph.specs.Graph.{Graph, Lifted}
+use Rattle.canonical_machine.specs.World.{Callee, Init, Func, Subtask, Caller, Nobody, Host, Guest, Unresolved, TaskState, AfterCall, Task, World, new_task}
 use Rattle.canonical_machine.specs.Edits.{changed_at, caller_changed}
 use Rattle.canonical_machine.specs.Reading.{acting}
 use Rattle.canonical_machine.specs.Tasks.{IsCalleeOf, AreCalled, caller_number, IsAt, OneStack, IsSoFar, AreWaiting, Acts, IsInit}
@@ -19,11 +19,21 @@ number_same f same Nobody = refl
 number_same f same (Host values) = refl
 number_same f same (Guest subtask) = ap (λ n. Some n) (same subtask)
 
-pub callee_same : (g : Graph) (f : Subtask → Subtask) → ((subtask : Subtask) → (f subtask).canon ≡ subtask.canon) → (caller : Caller) (callee : Callee) → IsCalleeOf g caller callee
+callee_same : (g : Graph) (f : Subtask → Subtask) → ((subtask : Subtask) → (f subtask).canon ≡ subtask.canon) → (caller : Caller) (callee : Callee) → IsCalleeOf g caller callee
     → IsCalleeOf g (caller_changed f caller) callee
 callee_same g f same Nobody callee h = h
 callee_same g f same (Host values) callee h = h
 callee_same g f same (Guest subtask) callee h = subst (λ n. IsCalleeOf g (Guest (record subtask { canon = n })) callee) (sym (same subtask)) h
+
+-- what the task of a number does, by who calls it
+abbrev pub IsCalledAt : Graph → ℕ → Caller → Callee → Type 0
+IsCalledAt g zero caller callee = (caller ≡ Nobody) × (callee ≡ Init)
+IsCalledAt g (suc n) caller callee = IsCalleeOf g caller callee
+
+pub called_same : (g : Graph) (f : Subtask → Subtask) → ((subtask : Subtask) → (f subtask).canon ≡ subtask.canon) → (n : ℕ) (caller : Caller) (callee : Callee) → IsCalledAt g n caller callee
+    → IsCalledAt g n (caller_changed f caller) callee
+called_same g f same zero caller callee h = (ap (caller_changed f) h.0, h.1)
+called_same g f same (suc n) caller callee h = callee_same g f same caller callee h
 
 -- Tasks by their numbers.
 
@@ -136,11 +146,25 @@ called_acts tasks chain P callee caller h e p =
     same_front (x ∷ xs) (suc n) few = same_front xs n (omega (arith, few))
 
 pub called_more : (g : Graph) (tasks : List Task) (callee : Callee) (caller : Caller) → IsCalleeOf g caller callee → AreCalled g tasks → AreCalled g (tasks ++ new_task callee caller ∷ [])
-called_more g tasks callee caller is h = all_append (λ (task : Task). IsCalleeOf g task.caller task.callee) tasks (new_task callee caller ∷ []) h (is, tt)
+called_more g [] callee caller is h = absurd h
+called_more g (init ∷ tasks) callee caller is h = (h.0, h.1, all_append (λ (task : Task). IsCalleeOf g task.caller task.callee) tasks (new_task callee caller ∷ []) h.2 (is, tt))
 
-pub called_changed : (g : Graph) (t : ℕ) (f : Task → Task) (tasks : List Task) → ((task : Task) → IsCalleeOf g task.caller task.callee → IsCalleeOf g (f task).caller (f task).callee)
+pub called_changed : (g : Graph) (t : ℕ) (f : Task → Task) (tasks : List Task) → ((n : ℕ) (task : Task) → IsCalledAt g n task.caller task.callee → IsCalledAt g n (f task).caller (f task).callee)
     → AreCalled g tasks → AreCalled g (changed_at t f tasks)
-called_changed g t f tasks keeps h = all_changed (λ (task : Task). IsCalleeOf g task.caller task.callee) t f tasks keeps h
+called_changed g t f [] keeps h = absurd h
+called_changed g zero f (init ∷ tasks) keeps h =
+    let first : ((f init).caller ≡ Nobody) × ((f init).callee ≡ Init) = keeps 0 init (h.0, h.1) in
+    (first.0, first.1, h.2)
+called_changed g (suc t) f (init ∷ tasks) keeps h = (h.0, h.1, all_changed (λ (task : Task). IsCalleeOf g task.caller task.callee) t f tasks (keeps 1) h.2)
+
+-- A task that runs a function is called.
+pub called_at : (g : Graph) (tasks : List Task) (t : ℕ) (task : Task) (f : Lifted) → AreCalled g tasks → slice_get tasks t ≡ Some task → task.callee ≡ Func f → IsCalleeOf g task.caller task.callee
+called_at g [] t task f h there runs = absurd h
+called_at g (init ∷ tasks) zero task f h there runs =
+    let same : init ≡ task = cc in
+    let none : Init ≡ Func f = sym (subst (λ (task : Task). task.callee ≡ Init) same h.1) ∙ runs in
+    cc
+called_at g (init ∷ tasks) (suc t) task f h there runs = all_at (λ (task : Task). IsCalleeOf g task.caller task.callee) tasks t task h.2 there
 
 -- Task 0 alone.
 

@@ -36,13 +36,13 @@ use Rattle.canonical_machine.specs.Examples.{pair, to_pair, child_bytes, of_two,
 flat_by : (t : ValType) (y : F.ValType-F ValType Case Field) → out-ValType t ≡ y → flat t ≡ flat_step (flats_in y)
 flat_by t y e = flat_is t ∙ ap (λ (y : F.ValType-F ValType Case Field). flat_step (flats_in y)) e
 
-u32_flat : flat leaves.U32 ≡ I32 ∷ []
+pub u32_flat : flat leaves.U32 ≡ I32 ∷ []
 u32_flat = flat_by leaves.U32 F.U32 out_u32
 
 char_flat : flat leaves.Char ≡ I32 ∷ []
 char_flat = flat_by leaves.Char F.Char out_char
 
-string_flat : flat leaves.String ≡ I32 ∷ I32 ∷ []
+pub string_flat : flat leaves.String ≡ I32 ∷ I32 ∷ []
 string_flat = flat_by leaves.String F.String out_string
 
 -- Lifting.

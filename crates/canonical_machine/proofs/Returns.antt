@@ -143,8 +143,7 @@ passed_keeps : (g : Graph) (E : Type 0) → IsSoundGraph g → (caller : Caller)
     → (h : Spot w.tasks w.chain) (f : Lifted) → h.task.callee ≡ Func f → IsUsed g f → AreWords (lifted_type f.func_type).results ended → h.task.caller ≡ caller → IsCalleeOf g caller (Func f)
     → kept_result caller ≡ [] → ResultIs f.func_type result → AllWait g w.store w.tasks h.number h.below → Keeps g E (passed_on g h.number caller ended result w)
 unfolding passed_on
-passed_keeps g E sound Nobody ended result w ground made h f runs used fits e is none r wait =
-    finished_keeps g E ended w ground made h f runs used fits (subst (λ (c : Caller). AreWords (caller_results g c) (kept_result c)) (sym e) tt) wait
+passed_keeps g E sound Nobody ended result w ground made h f runs used fits e is none r wait = absurd is
 passed_keeps g E sound (Host values) ended result w ground made h f runs used fits e is none r wait =
     finished_keeps g E ended w ground made h f runs used fits (subst (λ (c : Caller). AreWords (caller_results g c) (kept_result c)) (sym e) tt) wait
 passed_keeps g E sound (Guest subtask) ended None w ground made h f runs used fits e is none r wait =

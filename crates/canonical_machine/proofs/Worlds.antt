@@ -57,7 +57,7 @@ keeps_by g s w (Instantiates n) sound called order ground k = instantiating_keep
 keeps_by g s w Runs sound called order ground k = running_keeps g _ sound.graph s w called order ground k
 keeps_by g s w (Calls number words) sound called order ground k = calling_keeps g _ number words w order ground k
 keeps_by g s w Arrives sound called order ground k = arriving_keeps g _ sound.graph w called order ground k.0 k.1
-keeps_by g s w (Lowers l plan) sound called order ground k = lowers_keeps g _ sound.graph l plan w called order ground k.0 k.1
+keeps_by g s w (Lowers l plan) sound called order ground k = lowers_keeps g _ sound.graph l plan w called order.1 ground k.0 k.1
 keeps_by g s w (Quiet n b) sound called order ground k =
     nested_keeps g _ s n b w ground k.0 k.1 (λ number words canon calls there e. other_calls g (Quiet n b) w n b number words canon refl calls there e)
 keeps_by g s w Back sound called order ground k = back_keeps g _ w order ground k.0 k.1

@@ -3,6 +3,7 @@
 use Rattle.std.specs.Prelude.{◌≡◌, ◌+◌, ℕ, pos, codes, List, [], ◌∷◌, ◌++◌, map, replicate, Option, Some, None}
 use Rattle.wasm_module.specs.declared.types.ValType.TheVariants.{I32}
 use Rattle.wasm_module.specs.declared.types.FuncType as core
+use Rattle.wasm_module.specs.declared.types.Limits.{Limits}
 use Rattle.wasm_module.specs.declared.instr.Instr.TheVariants.{Drop, LocalGet, I32Const, Numeric}
 use Rattle.wasm_module.specs.declared.instr.Instr.TheVariants as instr
 use Rattle.wasm_module.specs.declared.instr.NumericOp.TheVariants.{Binary}
@@ -45,7 +46,7 @@ use Rattle.canonical_machine.specs.declared.run_end.RunEnd.{RunEnd}
 use Rattle.canonical_machine.specs.Control.{Free}
 use Rattle.canonical_machine.specs.World.{Init, Nobody, Unresolved, Exited, World, first_world}
 use Rattle.canonical_machine.specs.Run.{RunsFrom}
-use Rattle.canonical_machine.specs.Sound.{Makes}
+use Rattle.canonical_machine.specs.Sound.{Makes, IsSoundGraph, IsSound}
 use Rattle.canonical_machine.specs.Owners.{IsApart}
 use Rattle.canonical_machine.specs.Dump.{dumped_instances, dumped_memories}
 
@@ -386,12 +387,38 @@ abbrev pub pair_returned : ℕ → List Label
 pair_returned place =
     begins [] ++ calls_child (place ∷ []) ++ line.Return 2 (Some (record { value = values.Record (value.U32 5 ∷ value.U32 6 ∷ []); val_type = pair })) ∷ []
 
--- Graphs whose component instances use only what they made, and whose plan makes each core instance in order.
+-- The limits of a memory; a module that has such a memory, and a realloc; and one that imports a memory, and has a function of a text
+-- that gives the number of its bytes.
+abbrev pub one_page : Limits
+one_page = record { min = 1; max = None }
+
+abbrev pub allocating : ModuleTree
+allocating = record (module_of (words 4 1 ∷ []) 0 ((0, gives 16) ∷ []) None) { memories = one_page ∷ [] }
+
+abbrev pub importing : ModuleTree
+importing = record (module_of (words 2 1 ∷ []) 0 ((0, Plain (LocalGet 1) End) ∷ []) None) {
+  imports = record { «module» = codes "m"; name = codes "n"; desc = wanted.Memory one_page } ∷ [];
+}
+
+-- A child, whose core instance is made first, and the root, which makes a core instance with a memory and one that imports it, and lifts
+-- the function of that one with the memory and with the realloc of the core instance of this number.
+abbrev pub sharing : ℕ → Graph
+sharing instance =
+    graph_of (Begin 0 ∷ Begin 1 ∷ Make 0 ∷ Make 1 ∷ Make 2 ∷ [])
+    (makes 1 allocating [] ∷ makes 0 allocating []
+    ∷ (record { of_module = importing; imports = extern.Memory (record { instance = 1; index = 0 }) ∷ []; owner = 0 }) ∷ [])
+    [] of_text
+    (lifts 0 (func_at 2 0) (record { memory = Some (record { instance = 1; index = 0 }); realloc = Some (func_at instance 0); post_return = None }))
+
+-- Graphs in which what a core instance imports, and the realloc and the post-return of a lift or a lower, were made by its own component
+-- instance, and whose plan makes each core instance in order.
 abbrev pub AreApart : Type 0
-AreApart = IsApart calling_behind × IsApart coming_back
+AreApart = IsApart calling_behind × IsApart coming_back × IsApart (sharing 1) × IsApart doubling
 
 abbrev pub ArePlanned : Type 0
-ArePlanned = Makes 0 calling_behind.plan calling_behind.cores × Makes 0 coming_back.plan coming_back.cores
+ArePlanned =
+    Makes 0 calling_behind.plan calling_behind.cores × Makes 0 coming_back.plan coming_back.cores × Makes 0 (sharing 1).plan (sharing 1).cores
+    × Makes 0 doubling.plan doubling.cores
 
 -- In this one the root imports what its child made.
 abbrev pub calling_across : Graph
@@ -399,3 +426,24 @@ calling_across = record calling_behind { canons = lowers 1 (lifts 1 (func_at 0 0
 
 abbrev pub IsNotApart : Type 0
 IsNotApart = IsApart calling_across → ⊥
+
+-- In this one the root lifts with the realloc of its child.
+abbrev pub HasOtherRealloc : Type 0
+HasOtherRealloc = IsApart (sharing 0) → ⊥
+
+-- Graphs and scripts of which all holds that linking and reading give: with a number as argument, and with a text.
+abbrev pub AreSound : Type 0
+AreSound = IsSound doubling (script_of 7 (value.U32 4 ∷ [])) × IsSound (sharing 1) (script_of 7 (value.String text ∷ []))
+
+-- A script names no export of the graph.
+abbrev pub NamesNothing : Type 0
+NamesNothing = IsSound doubling (record { fuel = 7; items = item.Call (record { name = codes "go"; values = value.U32 4 ∷ [] }) ∷ [] }) → ⊥
+
+-- A graph lifts a function of a text without a realloc.
+abbrev pub without_realloc : Graph
+without_realloc = record (sharing 1) {
+  lifts = lifts 0 (func_at 2 0) (record { memory = Some (record { instance = 1; index = 0 }); realloc = None; post_return = None }) ∷ [];
+}
+
+abbrev pub HasNoRealloc : Type 0
+HasNoRealloc = IsSoundGraph without_realloc → ⊥

@@ -127,7 +127,7 @@ IsWaiting s asked results k = (answers : List ℕ) → AreWords asked answers �
 abbrev pub WaitsFor : Graph → Store → Caller → Task → Type 0
 WaitsFor g s caller task = AllByRecursion (IsWaiting s (caller_results g caller) (core_results task.callee)) task.stacks
 
--- So it is for each task on the chain behind a task.
+-- So it is for those on the chain but a task: the first waits for that task, and each other one for a later task, which it called.
 abbrev pub AllWait : Graph → Store → List Task → ℕ → List ℕ → Type 0
 AllWait g s tasks t [] = Unit {0}
 AllWait g s tasks t (u ∷ below) = IsAt tasks t (λ called. IsAt tasks u (λ task. WaitsFor g s called.caller task)) × AllWait g s tasks u below
@@ -188,7 +188,7 @@ IsNestedFor g s n BeforeLeaving task = IsHosted g s [] n.state × HasResult g ta
 
 -- By what the run does next.
 
--- a chain with an acting task, of whose number, of which and of the tasks behind which something holds
+-- a chain with an acting task: something holds of its number, of the task and of the others on the chain
 pub record HasActing (tasks : List Task) (chain : List ℕ) (P : ℕ → Task → List ℕ → Type 0) : Type 0 where
   pub number : ℕ
   pub below : List ℕ
@@ -197,7 +197,7 @@ pub record HasActing (tasks : List Task) (chain : List ℕ) (P : ℕ → Task �
   pub there : slice_get tasks number ≡ Some task
   pub holds : P number task below
 
--- something of the acting task, and all behind it wait
+-- something of the acting task, and the others on the chain wait
 abbrev pub IsOfActing : Graph → Store → List Task → List ℕ → (Task → Type 0) → Type 0
 IsOfActing g s tasks chain P = HasActing tasks chain (λ t task below. P task × AllWait g s tasks t below)
 

@@ -14,12 +14,13 @@ use Rattle.trace_show.specs.declared.trap.TrapName.{TrapName}
 use Rattle.canonical_machine.specs.declared.run_end.RunEnd.{RunEnd}
 use Rattle.canonical_machine.specs.declared.run_end.RunEnd.TheVariants.{Done, Trapped, Fuel}
 use Rattle.canonical_machine.specs.Control.{Control, Free, Nested, Behind, InLowering, BeforeLeaving, Lowers, Quiet, Leaves, Doomed}
-use Rattle.canonical_machine.specs.World.{World}
+use Rattle.canonical_machine.specs.World.{World, first_world}
 use Rattle.canonical_machine.specs.Reading.{unfinished}
 use Rattle.canonical_machine.specs.Turn.{Turn, Steps, Ends, Stuck}
 use Rattle.canonical_machine.specs.Nested.{EndsIn, hosted_next}
 use Rattle.canonical_machine.specs.Next.{next}
 use Rattle.canonical_machine.specs.Run.{Reaches, RunsFrom, Runs}
+use Rattle.canonical_machine.specs.Tasks.{ActsFirst}
 
 -- At most one run.
 
@@ -84,6 +85,12 @@ DoomedEnds = (g : Graph) (s : Script) (w : World) (t : ℕ) (why : TrapName) →
 -- A trap ends a run only where that task has come to it.
 abbrev pub TrapIsMet : Type 0
 TrapIsMet = (g : Graph) (s : Script) (w : World) (t : ℕ) (why : TrapName) → next g s w ≡ Ends (Trapped t why) → w.control ≡ Doomed t why
+
+-- A trap ends a run only where the task that it names is the acting one, the first of the chain.
+abbrev pub TrapsNameTheActingTask : Type 0
+TrapsNameTheActingTask =
+    (g : Graph) (s : Script) (steps : List (List Label)) (w : World) (t : ℕ) (why : TrapName) → Reaches g s (first_world g) steps w
+    → next g s w ≡ Ends (Trapped t why) → ActsFirst t w.chain
 
 -- A run is done only where no task runs, no item is left, and each task but task 0 has exited.
 abbrev pub DoneIsAll : Type 0

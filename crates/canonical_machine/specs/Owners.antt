@@ -1,6 +1,6 @@
 -- Core definitions do not leave the component instance that makes them (Component Model, Explainer.md, "Instance Definitions" and
--- "Canonical Definitions"): what a core instance imports, and what a lift or a lower uses, was made by its own component instance, and
--- so core code calls only functions of its own component instance.
+-- "Canonical Definitions"): what a core instance imports, and the realloc and the post-return of a lift or a lower, were made by its own
+-- component instance, and so core code calls only functions of its own component instance.
 use Rattle.std.specs.Prelude.{◌≡◌, ◌≢◌, ◌⊎◌, ℕ, List, length, Option, Some, None}
 use Rattle.std.specs.List.{slice_get, AllByRecursion}
 use Rattle.std.specs.Option.{option_map, IfSome}
@@ -50,6 +50,7 @@ pub record AreOptionsOf (g : Graph) (owner : ℕ) (options : Options) : Type 0 w
 abbrev pub IsCanonApart : Graph → CanonFunc → Type 0
 IsCanonApart g (canon_func.Lower l) = AreOptionsOf g l.instance l.options × AreOptionsOf g l.lift.instance l.lift.options
 
+-- What a core instance imports, and the realloc and the post-return of a lift or a lower, were made by its own component instance.
 pub record IsApart (g : Graph) : Type 0 where
   pub imports : AllByRecursion (λ c. AllByRecursion (λ e. owner_of_extern g e ≡ Some c.owner) c.imports) g.cores
   pub lifts : AllByRecursion (λ lift. AreOptionsOf g lift.instance lift.options) g.lifts

@@ -73,7 +73,7 @@ unfoldable pub returning_turn : Graph → ℕ → Task → Lifted → List ℕ �
 returning_turn g t task f ended w =
     returned g t task.caller ended (result_of f.func_type f.func_type.result (bytes_of w.store (memory_of w.store f.options)) ended) w
 
--- A task exits. Control goes to the one before it on the chain, where there is one.
+-- A task exits. Control goes to the task that waits for it, where there is one.
 abbrev pub control_behind : List ℕ → Control
 control_behind [] = Free
 control_behind (t ∷ below) = Back

@@ -14,14 +14,16 @@ use Rattle.canonical_machine.specs.Reading.{lower_at, lifted_of, subtask_of}
 use Rattle.canonical_machine.specs.Turn.{Steps}
 use Rattle.canonical_machine.specs.Next.{next}
 
--- What a task does, by who calls it: the script calls functions that are exported, and a task those that are lowered.
+-- What a task does that is called: the script calls functions that are exported, and a task those that are lowered.
 abbrev pub IsCalleeOf : Graph → Caller → Callee → Type 0
-IsCalleeOf g Nobody callee = callee ≡ Init
+IsCalleeOf g Nobody callee = ⊥
 IsCalleeOf g (Host values) callee = (name : List ℕ) × (f : Lifted) × (func_named g name ≡ Some f) × (callee ≡ Func f)
 IsCalleeOf g (Guest subtask) callee = (l : Lower) × (lower_at g subtask.canon ≡ Some l) × (callee ≡ Func (lifted_of l))
 
+-- Task 0, which nobody calls, instantiates, and each other one is called.
 abbrev pub AreCalled : Graph → List Task → Type 0
-AreCalled g tasks = AllByRecursion (λ task. IsCalleeOf g task.caller task.callee) tasks
+AreCalled g [] = ⊥
+AreCalled g (init ∷ tasks) = (init.caller ≡ Nobody) × (init.callee ≡ Init) × AllByRecursion (λ task. IsCalleeOf g task.caller task.callee) tasks
 
 -- the number of the task that called, where a task did
 abbrev pub caller_number : Caller → Option ℕ
@@ -46,8 +48,8 @@ pub record IsSoFar (state : TaskState) (resolution : Resolution) (HasStacks : Li
   pub resolution_is : task.resolution ≡ resolution
   pub stacks_are : HasStacks task.stacks
 
--- The tasks before the acting one on the chain: each called the one behind it, which is a later one, and waits for it with its stack.
--- The script called the last of them.
+-- Those on the chain but the acting one wait for a later task, which they called, each with its stack. The script called the last
+-- one of the chain.
 abbrev pub AreWaiting : List Task → ℕ → List ℕ → Type 0
 AreWaiting tasks t [] = IsAt tasks t (λ task. caller_number task.caller ≡ None)
 AreWaiting tasks t (u ∷ below) =
@@ -83,13 +85,17 @@ IsRunning tasks chain = Acts tasks chain (λ t task. IsSoFar Acting Unresolved O
 abbrev pub IsResolved : List Task → List ℕ → Type 0
 IsResolved tasks chain = Acts tasks chain (λ t task. IsSoFar Acting Returned NoStack task)
 
+-- The task of this number is the acting one.
+abbrev pub ActsFirst : ℕ → List ℕ → Type 0
+ActsFirst t chain = (below : List ℕ) × (chain ≡ t ∷ below)
+
 -- where a lowering goes on, by what follows it: a task has entered, or the acting task has resolved
 abbrev pub IsLowering : Then → List Task → List ℕ → Type 0
 IsLowering Starts tasks chain = Acts tasks chain (λ t task. IsSoFar Acting Unresolved NoStack task)
 IsLowering (Resolves to ended) tasks chain = Acts tasks chain (λ t task. (to ≡ t) × IsSoFar Acting Returned NoStack task)
 
 abbrev pub IsBefore : Behind → List Task → List ℕ → Type 0
-IsBefore (InLowering l k) tasks chain = IsLowering l.next tasks chain
+IsBefore (InLowering l k) tasks chain = ActsFirst l.blame chain × IsLowering l.next tasks chain
 IsBefore BeforeLeaving tasks chain = IsResolved tasks chain
 
 -- The acting task waits for one that it called, which has returned and exited.
@@ -100,18 +106,18 @@ pub record IsBack (tasks : List Task) (t : ℕ) (task : Task) : Type 0 where
   pub called : IsAt tasks callee (λ other. caller_number other.caller ≡ Some t)
   pub over : IsAt tasks callee (IsSoFar Exited Returned NoStack)
 
--- The chain, by what the run does next.
+-- The chain, by what the run does next. A trap names the acting task, and so does what may come to one.
 abbrev pub IsChain : Control → List Task → List ℕ → Type 0
 IsChain Free tasks chain = chain ≡ []
 IsChain (Instantiates n) tasks chain = IsInit Acting NoStack tasks chain
 IsChain Runs tasks chain = IsBegun tasks chain ⊎ IsRunning tasks chain
 IsChain (Calls number words) tasks chain = IsBegun tasks chain ⊎ IsRunning tasks chain
 IsChain Arrives tasks chain = Acts tasks chain (λ t task. IsSoFar New Unresolved NoStack task)
-IsChain (Lowers l plan) tasks chain = IsLowering l.next tasks chain
-IsChain (Quiet n b) tasks chain = IsBefore b tasks chain
+IsChain (Lowers l plan) tasks chain = ActsFirst l.blame chain × IsLowering l.next tasks chain
+IsChain (Quiet n b) tasks chain = ActsFirst n.blame chain × IsBefore b tasks chain
 IsChain Back tasks chain = Acts tasks chain (λ t task. IsBack tasks t task)
 IsChain Leaves tasks chain = IsResolved tasks chain
-IsChain (Doomed t why) tasks chain = Unit {0}
+IsChain (Doomed t why) tasks chain = ActsFirst t chain
 
 pub record AreOrdered (g : Graph) (w : World) : Type 0 where
   pub called : AreCalled g w.tasks

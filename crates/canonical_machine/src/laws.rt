@@ -1,6 +1,6 @@
 //! What holds of all runs.
 
-ghost use Rattle.canonical_machine.specs.Laws.{OneRun, OneRunFrom, FewerAreAFront, NestedIsQuiet, DoomedEnds, TrapIsMet, DoneIsAll, FuelIsSpent, StepsSpendOneOrNone};
+ghost use Rattle.canonical_machine.specs.Laws.{OneRun, OneRunFrom, FewerAreAFront, NestedIsQuiet, DoomedEnds, TrapIsMet, TrapsNameTheActingTask, DoneIsAll, FuelIsSpent, StepsSpendOneOrNone};
 ghost use Rattle.canonical_machine.specs.Tasks.{FirstOrdered, OrderStays};
 ghost use Rattle.canonical_machine.specs.FuelLaws.{EndsTheSame, GoesOnBehind};
 ghost use Rattle.canonical_machine.specs.Callers.{CallersStay};
@@ -28,6 +28,11 @@ pub fn traps_are_met()
     ensures met { TrapIsMet }
 {}
 
+/// A trap that ends a run names the acting task, which is the first of the chain: while a graph is instantiated, task 0.
+pub fn traps_name_the_acting_task()
+    ensures { TrapsNameTheActingTask }
+{}
+
 /// A run is done only where nothing is left, and fuel ends it only where no unit is left.
 pub fn ends_mean()
     ensures done { DoneIsAll }
@@ -39,9 +44,9 @@ pub fn steps_spend()
     ensures { StepsSpendOneOrNone }
 {}
 
-/// Each task but task 0 runs a function, of the script's calls an export and of a task's calls one that is lowered. Those on the
-/// chain wait for the one before them, which they called, and the acting one is as what the run does next asks. So it is in the first
-/// world, and it stays so in every step.
+/// Task 0, which nobody calls, instantiates. Each other task is called and runs a function, of the script's calls an export and of a
+/// task's calls one that is lowered. Those on the chain but the acting one wait for a later task, which they called, and the acting one
+/// is as what the run does next asks. So it is in the first world, and it stays so in every step.
 pub fn tasks_stay_ordered()
     ensures first { FirstOrdered }
     ensures stays { OrderStays }
@@ -68,9 +73,9 @@ pub fn more_fuel_goes_on()
     ensures behind { GoesOnBehind }
 {}
 
-/// Where what a core instance imports, and what a lift or a lower uses, was made by its own component instance, core code calls only
-/// what its own component instance made: in the first world, and in every step. So a world that is kept is not stuck, and wherever a
-/// run of a sound script comes one move comes next, and it is the only one.
+/// Where what a core instance imports, and the realloc and the post-return of a lift or a lower, were made by its own component
+/// instance, core code calls only what its own component instance made: in the first world, and in every step. So a world that is kept
+/// is not stuck, and wherever a run of a sound script comes one move comes next, and it is the only one.
 pub fn worlds_stay_apart()
     ensures first { FirstApart }
     ensures stays { ApartStays }

@@ -8,10 +8,10 @@
 //! step by step, so that each instruction of a realloc is a step of the run.
 //!
 //! The laws say that a graph and a script have at most one run, what a step of a realloc or a post-return leaves alone and what comes
-//! behind it, and what ends mean. `specs/Tasks` says how tasks call and wait for one another, and `specs/Over` that no others are left;
-//! both hold in every run. `specs/Sound` says what linking and reading give of a graph and a script, `specs/Owners` that core
-//! definitions stay in their component instance, and `specs/Kept` what a run of such a script keeps of its worlds: so none of these is
-//! `Stuck`. With more fuel a run is the same or goes on. That each run comes to an end is not proved.
+//! behind it, what ends mean, and that a trap names the acting task. `specs/Tasks` says how tasks call and wait for one another, and
+//! `specs/Over` that no others are left; both hold in every run. `specs/Sound` says what linking and reading give of a graph and a
+//! script, `specs/Owners` that core definitions stay in their component instance, and `specs/Kept` what a run of such a script keeps of
+//! its worlds: so none of these is `Stuck`. With more fuel a run is the same or goes on. That each run comes to an end is not proved.
 //!
 //! - `run_end`: how a run ends
 //! - `laws`: what holds of all runs
@@ -24,6 +24,7 @@ mod run_end;
 
 pub use laws::{
     callers_stay, ends_mean, more_fuel_goes_on, nested_is_quiet, one_next, one_run, steps_spend,
-    tasks_are_over, tasks_stay_ordered, traps_are_met, worlds_are_kept, worlds_stay_apart,
+    tasks_are_over, tasks_stay_ordered, traps_are_met, traps_name_the_acting_task, worlds_are_kept,
+    worlds_stay_apart,
 };
 pub use run_end::RunEnd;
