@@ -31,6 +31,13 @@ pub mod Apart
 pub mod Quiets
 pub mod Runs
 pub mod Passed
+pub mod Holding
+pub mod Descents
+pub mod Waiting
+pub mod Soon
+pub mod Lowerings
+pub mod Ascents
+pub mod Ending
 pub mod Walks
 pub mod Samples
 pub mod MoreSamples

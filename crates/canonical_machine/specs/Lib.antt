@@ -26,4 +26,5 @@ pub mod FuelLaws
 pub mod Owners
 pub mod Over
 pub mod Callers
+pub mod Ending
 pub mod Examples

@@ -7,6 +7,7 @@ ghost use Rattle.canonical_machine.specs.Callers.{CallersStay};
 ghost use Rattle.canonical_machine.specs.Over.{FirstOver, OverStays, NoDeadlock};
 ghost use Rattle.canonical_machine.specs.Owners.{FirstApart, ApartStays, NeverStuck, OneNextApart};
 ghost use Rattle.canonical_machine.specs.KeptLaws.{FirstKept, StaysKept, StuckOnlyAtOthers, OneNext};
+ghost use Rattle.canonical_machine.specs.Ending.{EachRunEnds, OneRunComes};
 
 /// A graph and a script have at most one run. Of steps from a world fewer are a front of more.
 pub fn one_run()
@@ -94,4 +95,11 @@ pub fn tasks_are_over()
 /// No step changes what a task does, or which task called it.
 pub fn callers_stay()
     ensures { CallersStay }
+{}
+
+/// Each run of a sound script ends, where what a core instance imports, and the realloc and the post-return of a lift or a lower, were
+/// made by its own component instance: a graph and such a script have a run, with its lines, its last world and its end, and no other.
+pub fn runs_end()
+    ensures ends { EachRunEnds }
+    ensures one { OneRunComes }
 {}

@@ -11,7 +11,8 @@
 //! behind it, what ends mean, and that a trap names the acting task. `specs/Tasks` says how tasks call and wait for one another, and
 //! `specs/Over` that no others are left; both hold in every run. `specs/Sound` says what linking and reading give of a graph and a
 //! script, `specs/Owners` that core definitions stay in their component instance, and `specs/Kept` what a run of such a script keeps of
-//! its worlds: so none of these is `Stuck`. With more fuel a run is the same or goes on. That each run comes to an end is not proved.
+//! its worlds: so none of these is `Stuck`. `specs/Ending` says that each run of such a script comes to an end, so that it has exactly
+//! one. With more fuel a run is the same or goes on.
 //!
 //! - `run_end`: how a run ends
 //! - `laws`: what holds of all runs
@@ -23,8 +24,8 @@ mod laws;
 mod run_end;
 
 pub use laws::{
-    callers_stay, ends_mean, more_fuel_goes_on, nested_is_quiet, one_next, one_run, steps_spend,
-    tasks_are_over, tasks_stay_ordered, traps_are_met, traps_name_the_acting_task, worlds_are_kept,
-    worlds_stay_apart,
+    callers_stay, ends_mean, more_fuel_goes_on, nested_is_quiet, one_next, one_run, runs_end,
+    steps_spend, tasks_are_over, tasks_stay_ordered, traps_are_met, traps_name_the_acting_task,
+    worlds_are_kept, worlds_stay_apart,
 };
 pub use run_end::RunEnd;
