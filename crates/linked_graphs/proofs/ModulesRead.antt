@@ -1,4 +1,5 @@
--- What each core module has that is read of bytes, each module has that stands in a component that is read of bytes, at any depth.
+-- What each core module has that is read of bytes with some property, each module has that stands in a component that is read of such
+-- bytes, at any depth.
 use Rattle.std.proofs.Common.{◌≡◌, ℕ, zero, suc, Bool, true, false, List, [], ◌∷◌, sym, subst, rules}
 use Rattle.std.specs.Prelude.{◌==◌}
 use Rattle.std.specs.List.{AllByRecursion}
@@ -28,7 +29,6 @@ use Rattle.comp_reader.specs.Binary as file
 use Rattle.comp_reader.specs.Reasons.{numbers, reasons, unsupported}
 use Rattle.comp_linking.proofs.Holding.{all_both}
 use Rattle.comp_linking.proofs.Modules.{ModulesHave, ShapeHas, none_have, more_have}
-use Rattle.canonical_machine.specs.Sound.{AreBytes}
 use Rattle.linked_graphs.proofs.Bytes.{matches_bytes, GivesOn, choice_on, placed_on, sized_on}
 
 -- an item that has this, if it is a core module, or a component whose modules have it
@@ -177,30 +177,6 @@ module _ (R : ModuleTree → Type 0) where
   unfolding export
   export_gives s x t m = subst (ItemHas R) (sym m.3.3.3.3.0) (export_has (record { name = m.0; sort = m.3.0; index = m.3.3.0; desc = m.3.3.3.0 }))
 
-  -- Sections.
-  vec_on : (g : Grammar ComponentWhy Item) → Gives (ItemHas R) g → GivesOn (PlacedHave R) (placed_vec numbers g)
-  vec_on g h s x t bytes m = times_give (λ (p : Placed Item). ItemHas R p.item) (placed g) (placed_gives (ItemHas R) g h) m.0 m.1 x t m.3
-
-  custom_on : GivesOn (PlacedHave R) custom_items
-  unfolding custom_items
-  custom_on s x t bytes m = subst (PlacedHave R) (sym m.3.0) tt
-
-  nested_on : (inner : Grammar ComponentWhy Component) → GivesOn (λ (c : Component). ModulesHave R c.items) inner → GivesOn (PlacedHave R) (component_items inner)
-  unfolding component_items
-  nested_on inner h s x t bytes m = subst (PlacedHave R) (sym m.3.3.0) (nested_has m.3.0 (h m.1 m.3.0 m.3.1 (matches_bytes Here s m.0 m.1 bytes m.2) m.3.2), tt)
-
-  many_tested : (g : Grammar ComponentWhy (List (Placed Item))) (others : Grammar ComponentWhy (List (List (Placed Item)))) → GivesOn (PlacedHave R) g → GivesOn (AllByRecursion (PlacedHave R)) others
-      → (b : Bool) → GivesOn (AllByRecursion (PlacedHave R)) (Choose b (Give []) (g >>= (λ first. others >>= (λ more. Give (first ∷ more)))))
-  many_tested g others h r true s x t bytes m = subst (AllByRecursion (PlacedHave R)) (sym m.0) tt
-  many_tested g others h r false s x t bytes m =
-      subst (AllByRecursion (PlacedHave R)) (sym m.3.3.0) (h s m.0 m.1 bytes m.2, r m.1 m.3.0 m.3.1 (matches_bytes g s m.0 m.1 bytes m.2) m.3.2)
-
-  many_on : (g : Grammar ComponentWhy (List (Placed Item))) → GivesOn (PlacedHave R) g → (count : ℕ) → GivesOn (AllByRecursion (PlacedHave R)) (many count g)
-  unfolding many
-  many_on g h zero s x t bytes m = subst (AllByRecursion (PlacedHave R)) (sym m.0) tt
-  many_on g h (suc count) s x t bytes m =
-      many_tested g (many count g) h (λ u y v c n. many_on g h count u y v c n) _ m.1 x t (matches_bytes Left s m.0 m.1 bytes m.2) m.3
-
   joined_have : (parts : List (List (Placed Item))) → AllByRecursion (PlacedHave R) parts → PlacedHave R (joined parts)
   joined_have [] h = tt
   joined_have (part ∷ parts) h = all_both (λ (p : Placed Item). ItemHas R p.item) part (joined parts) h.0 (joined_have parts h.1)
@@ -209,49 +185,73 @@ module _ (R : ModuleTree → Type 0) where
   placed_have [] h = none_have R
   placed_have (placed ∷ items) h = more_have R placed items h.0 (placed_have items h.1)
 
-  module _ (reads : GivesOn (ItemHas R) core_module) where
-    module_on : GivesOn (PlacedHave R) module_items
-    unfolding module_items
-    module_on s x t bytes m = subst (PlacedHave R) (sym m.3.0) (placed_on (ItemHas R) core_module reads s m.0 m.1 bytes m.2, tt)
+  -- Sections, where core modules are read of bytes that have a property.
+  module _ (Q : ℕ → Type 0) (reads : GivesOn Q (ItemHas R) core_module) where
+    vec_on : (g : Grammar ComponentWhy Item) → Gives (ItemHas R) g → GivesOn Q (PlacedHave R) (placed_vec numbers g)
+    vec_on g h s x t bytes m = times_give (λ (p : Placed Item). ItemHas R p.item) (placed g) (placed_gives (ItemHas R) g h) m.0 m.1 x t m.3
 
-    plain_on : (id : ℕ) → GivesOn (PlacedHave R) (plain_payload id)
+    custom_on : GivesOn Q (PlacedHave R) custom_items
+    unfolding custom_items
+    custom_on s x t bytes m = subst (PlacedHave R) (sym m.3.0) tt
+
+    nested_on : (inner : Grammar ComponentWhy Component) → GivesOn Q (λ (c : Component). ModulesHave R c.items) inner → GivesOn Q (PlacedHave R) (component_items inner)
+    unfolding component_items
+    nested_on inner h s x t bytes m = subst (PlacedHave R) (sym m.3.3.0) (nested_has m.3.0 (h m.1 m.3.0 m.3.1 (matches_bytes Q Here s m.0 m.1 bytes m.2) m.3.2), tt)
+
+    many_tested : (g : Grammar ComponentWhy (List (Placed Item))) (others : Grammar ComponentWhy (List (List (Placed Item)))) → GivesOn Q (PlacedHave R) g → GivesOn Q (AllByRecursion (PlacedHave R)) others
+        → (b : Bool) → GivesOn Q (AllByRecursion (PlacedHave R)) (Choose b (Give []) (g >>= (λ first. others >>= (λ more. Give (first ∷ more)))))
+    many_tested g others h r true s x t bytes m = subst (AllByRecursion (PlacedHave R)) (sym m.0) tt
+    many_tested g others h r false s x t bytes m =
+        subst (AllByRecursion (PlacedHave R)) (sym m.3.3.0) (h s m.0 m.1 bytes m.2, r m.1 m.3.0 m.3.1 (matches_bytes Q g s m.0 m.1 bytes m.2) m.3.2)
+
+    many_on : (g : Grammar ComponentWhy (List (Placed Item))) → GivesOn Q (PlacedHave R) g → (count : ℕ) → GivesOn Q (AllByRecursion (PlacedHave R)) (many count g)
+    unfolding many
+    many_on g h zero s x t bytes m = subst (AllByRecursion (PlacedHave R)) (sym m.0) tt
+    many_on g h (suc count) s x t bytes m =
+        many_tested g (many count g) h (λ u y v c n. many_on g h count u y v c n) _ m.1 x t (matches_bytes Q Left s m.0 m.1 bytes m.2) m.3
+
+    module_on : GivesOn Q (PlacedHave R) module_items
+    unfolding module_items
+    module_on s x t bytes m = subst (PlacedHave R) (sym m.3.0) (placed_on Q (ItemHas R) core_module reads s m.0 m.1 bytes m.2, tt)
+
+    plain_on : (id : ℕ) → GivesOn Q (PlacedHave R) (plain_payload id)
     unfolding plain_payload
     plain_on id =
-        choice_on (PlacedHave R) custom_items (without_customs id) custom_on
-        (choice_on (PlacedHave R) module_items (without_modules id) module_on
-        (choice_on (PlacedHave R) (placed_vec numbers core_instance) (without_core_instances id) (vec_on core_instance core_instance_gives)
-        (choice_on (PlacedHave R) (placed_vec numbers instance) (without_instances id) (vec_on instance instance_gives)
-        (choice_on (PlacedHave R) (placed_vec numbers alias_item) (without_aliases id) (vec_on alias_item alias_gives)
-        (choice_on (PlacedHave R) (placed_vec numbers type_item) (without_types id) (vec_on type_item type_gives)
-        (choice_on (PlacedHave R) (placed_vec numbers canon) (without_canons id) (vec_on canon canon_gives)
-        (choice_on (PlacedHave R) (placed_vec numbers import) (placed_vec numbers export) (vec_on import import_gives) (vec_on export export_gives) (id == 10))
+        choice_on Q (PlacedHave R) custom_items (without_customs id) custom_on
+        (choice_on Q (PlacedHave R) module_items (without_modules id) module_on
+        (choice_on Q (PlacedHave R) (placed_vec numbers core_instance) (without_core_instances id) (vec_on core_instance core_instance_gives)
+        (choice_on Q (PlacedHave R) (placed_vec numbers instance) (without_instances id) (vec_on instance instance_gives)
+        (choice_on Q (PlacedHave R) (placed_vec numbers alias_item) (without_aliases id) (vec_on alias_item alias_gives)
+        (choice_on Q (PlacedHave R) (placed_vec numbers type_item) (without_types id) (vec_on type_item type_gives)
+        (choice_on Q (PlacedHave R) (placed_vec numbers canon) (without_canons id) (vec_on canon canon_gives)
+        (choice_on Q (PlacedHave R) (placed_vec numbers import) (placed_vec numbers export) (vec_on import import_gives) (vec_on export export_gives) (id == 10))
         (id == 8)) (id == 7)) (id == 6)) (id == 5)) (id == 2)) (id == 1)) (id == 0)
 
-    payload_on : (inner : Grammar ComponentWhy Component) (id : ℕ) → GivesOn (λ (c : Component). ModulesHave R c.items) inner → GivesOn (PlacedHave R) (payload inner id)
+    payload_on : (inner : Grammar ComponentWhy Component) (id : ℕ) → GivesOn Q (λ (c : Component). ModulesHave R c.items) inner → GivesOn Q (PlacedHave R) (payload inner id)
     unfolding payload
-    payload_on inner id h = choice_on (PlacedHave R) (component_items inner) (plain_payload id) (nested_on inner h) (plain_on id) (id == 4)
+    payload_on inner id h = choice_on Q (PlacedHave R) (component_items inner) (plain_payload id) (nested_on inner h) (plain_on id) (id == 4)
 
-    section_on : (inner : Grammar ComponentWhy Component) → GivesOn (λ (c : Component). ModulesHave R c.items) inner → GivesOn (PlacedHave R) (file.section inner)
+    section_on : (inner : Grammar ComponentWhy Component) → GivesOn Q (λ (c : Component). ModulesHave R c.items) inner → GivesOn Q (PlacedHave R) (file.section inner)
     unfolding file.section
     section_on inner h s x t bytes m =
         let id = m.3.0 in
-        choice_on (PlacedHave R) (sized numbers reasons (payload inner id)) (unsupported m.0 id)
-        (sized_on (PlacedHave R) numbers reasons (payload inner id) (payload_on inner id h)) (λ u y v c n. absurd n)
-        (is_section id) m.3.1 x t (matches_bytes Byte m.1 m.3.0 m.3.1 (matches_bytes Here s m.0 m.1 bytes m.2) m.3.2) m.3.3
+        choice_on Q (PlacedHave R) (sized numbers reasons (payload inner id)) (unsupported m.0 id)
+        (sized_on Q (PlacedHave R) numbers reasons (payload inner id) (payload_on inner id h)) (λ u y v c n. absurd n)
+        (is_section id) m.3.1 x t (matches_bytes Q Byte m.1 m.3.0 m.3.1 (matches_bytes Q Here s m.0 m.1 bytes m.2) m.3.2) m.3.3
 
-    component_on : (inner : Grammar ComponentWhy Component) → GivesOn (λ (c : Component). ModulesHave R c.items) inner → GivesOn (λ (c : Component). ModulesHave R c.items) (component_of inner)
+    component_on : (inner : Grammar ComponentWhy Component) → GivesOn Q (λ (c : Component). ModulesHave R c.items) inner → GivesOn Q (λ (c : Component). ModulesHave R c.items) (component_of inner)
     unfolding component_of
     component_on inner h s c t bytes m =
         let sections = m.3.0 in
-        let at_count = matches_bytes (fixed Magic preamble) s m.0 m.1 bytes m.2 in
-        let at_items = matches_bytes Left m.1 m.3.2.0 m.3.2.1 at_count m.3.2.2 in
+        let at_count = matches_bytes Q (fixed Magic preamble) s m.0 m.1 bytes m.2 in
+        let at_items = matches_bytes Q Left m.1 m.3.2.0 m.3.2.1 at_count m.3.2.2 in
         let all = many_on (file.section inner) (section_on inner h) m.3.2.0 m.3.2.1 sections m.3.1 at_items m.3.2.3 in
         subst (λ (c : Component). ModulesHave R c.items) (sym m.3.3.3.0) (placed_have (joined sections) (joined_have sections all))
 
-    within_on : (more : ℕ) → GivesOn (λ (c : Component). ModulesHave R c.items) (component_within more)
+    within_on : (more : ℕ) → GivesOn Q (λ (c : Component). ModulesHave R c.items) (component_within more)
     unfolding component_within
     within_on zero s c t bytes m = absurd m.3
     within_on (suc more) s c t bytes m = component_on (component_within more) (within_on more) s c t bytes m
 
-    pub component_has : (bytes : List ℕ) (c : Component) → AreBytes bytes → IsComponent bytes c → ModulesHave R c.items
+    pub component_has : (bytes : List ℕ) (c : Component) → AllByRecursion Q bytes → IsComponent bytes c → ModulesHave R c.items
     component_has bytes c h m = within_on depth_limit (file.file bytes) c (file.file_end bytes) h m

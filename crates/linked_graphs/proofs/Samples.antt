@@ -29,10 +29,11 @@ use Rattle.comp_linking.specs.Types.{InLevels, Declared, func_meaning, types_aro
 use Rattle.comp_linking.specs.Linked.{root_begun}
 use Rattle.comp_linking.specs.Computed.{after, Run, step, run, run_within, answer_of, linked}
 use Rattle.comp_linking.specs.Examples.{placed_from, root, of_one}
+use Rattle.comp_linking.proofs.Holding.{all_both}
 use Rattle.comp_linking.proofs.FlatLifts.{u32_flat, u32_holds_no_list}
 use Rattle.linked_graphs.specs.Laws.{IsSoundModule}
-use Rattle.linked_graphs.specs.Examples.{of_caller, child, begins, lowering, calling, lifting, parent, gives_u32, func_at, both, ModulesAreSound}
-use Rattle.linked_graphs.proofs.ModulesRead.{PlacedHave, module_has, nested_has, core_instance_has, instance_has, alias_has, type_has, canon_has, export_has, placed_have}
+use Rattle.linked_graphs.specs.Examples.{of_caller, making, exporting, child, begins, lowering, calling, lifting, parent, gives_u32, func_at, both, ModulesAreSound}
+use Rattle.linked_graphs.proofs.ModulesRead.{ItemHas, PlacedHave, module_has, nested_has, core_instance_has, instance_has, alias_has, type_has, canon_has, export_has, placed_have}
 
 func_rolled : (type : FuncType) (levels : List Level) → meaning_of (plain_type.Func type) levels ≡ func_meaning (types_around levels) type
 func_rolled type levels =
@@ -163,67 +164,31 @@ one_sound : IsSoundModule of_one
 one_sound = record { typed = typed of_one refl; in_range = (omega arith, tt); bytes = tt }
 
 caller_sound : IsSoundModule of_caller
-caller_sound = record { typed = typed of_caller refl; in_range = tt; bytes = tt }
+caller_sound = record { typed = typed of_caller refl; in_range = (omega arith, tt); bytes = ((omega arith, tt), tt) }
 
 child_have : PlacedHave IsSoundModule (placed_from 10 child)
-child_have = (
-  module_has IsSoundModule of_one one_sound,
-  (
-    core_instance_has IsSoundModule _,
-    (
-      alias_has IsSoundModule _,
-      (
-        type_has IsSoundModule _,
-        (
-          canon_has IsSoundModule _,
-          (
-            export_has IsSoundModule _,
-            tt,
-          ),
-        ),
-      ),
-    ),
-  ),
-)
+child_have =
+    all_both (λ (p : Placed Item). ItemHas IsSoundModule p.item) (placed_from 10 making) (placed_from 13 exporting)
+    (module_has IsSoundModule of_one one_sound, (core_instance_has IsSoundModule _, (alias_has IsSoundModule _, tt)))
+    (type_has IsSoundModule _, (canon_has IsSoundModule _, (export_has IsSoundModule _, tt)))
+
+begins_have : PlacedHave IsSoundModule (placed_from 0 begins)
+begins_have = (nested_has IsSoundModule _ (placed_have IsSoundModule (placed_from 10 child) child_have), (instance_has IsSoundModule _, tt))
+
+lowering_have : PlacedHave IsSoundModule (placed_from 2 lowering)
+lowering_have = (alias_has IsSoundModule _, (canon_has IsSoundModule _, (core_instance_has IsSoundModule _, tt)))
+
+calling_have : PlacedHave IsSoundModule (placed_from 5 calling)
+calling_have = (module_has IsSoundModule of_caller caller_sound, (core_instance_has IsSoundModule _, (alias_has IsSoundModule _, (alias_has IsSoundModule _, tt))))
+
+lifting_have : PlacedHave IsSoundModule (placed_from 9 lifting)
+lifting_have = (type_has IsSoundModule _, (canon_has IsSoundModule _, (export_has IsSoundModule _, tt)))
 
 parent_have : PlacedHave IsSoundModule (root parent).items
-parent_have = (
-  nested_has IsSoundModule _ (placed_have IsSoundModule (placed_from 10 child) child_have),
-  (
-    instance_has IsSoundModule _,
-    (
-      alias_has IsSoundModule _,
-      (
-        canon_has IsSoundModule _,
-        (
-          core_instance_has IsSoundModule _,
-          (
-            module_has IsSoundModule of_caller caller_sound,
-            (
-              core_instance_has IsSoundModule _,
-              (
-                alias_has IsSoundModule _,
-                (
-                  alias_has IsSoundModule _,
-                  (
-                    type_has IsSoundModule _,
-                    (
-                      canon_has IsSoundModule _,
-                      (
-                        export_has IsSoundModule _,
-                        tt,
-                      ),
-                    ),
-                  ),
-                ),
-              ),
-            ),
-          ),
-        ),
-      ),
-    ),
-  ),
-)
+parent_have =
+    all_both (λ (p : Placed Item). ItemHas IsSoundModule p.item) (placed_from 0 begins) (placed_from 2 (lowering ++ calling ++ lifting)) begins_have
+    (all_both (λ (p : Placed Item). ItemHas IsSoundModule p.item) (placed_from 2 lowering) (placed_from 5 (calling ++ lifting)) lowering_have
+    (all_both (λ (p : Placed Item). ItemHas IsSoundModule p.item) (placed_from 5 calling) (placed_from 9 lifting) calling_have lifting_have))
 
 pub modules_are_sound : ModulesAreSound
 modules_are_sound = placed_have IsSoundModule (root parent).items parent_have

@@ -1,10 +1,11 @@
 -- A component with a component inside (Component Model, Explainer.md, "Instance Definitions" and "Canonical Definitions"), and the graph
 -- to which it is linked.
-use Rattle.std.specs.Prelude.{codes, ℕ, List, [], ◌∷◌, ◌++◌, Some, None}
+use Rattle.std.specs.Prelude.{pos, codes, ℕ, List, [], ◌∷◌, ◌++◌, Some, None}
 use Rattle.ca_types.specs.declared.types.ValType.TheVariants as val_type
 use Rattle.ca_types.specs.declared.types.FuncType as of_graph
 use Rattle.wasm_module.specs.declared.types.ValType.TheVariants.{I32}
 use Rattle.wasm_module.specs.declared.instr.Instr.TheVariants.{Call}
+use Rattle.wasm_module.specs.declared.instr.ConstInstr.TheVariants.{I32Const}
 use Rattle.wasm_module.specs.declared.module.ExportDesc.TheVariants as offered
 use Rattle.wasm_module.specs.declared.module.ImportDesc.TheVariants as wanted
 use Rattle.wasm_module.specs.declared.module.ModuleTree.{ModuleTree}
@@ -34,19 +35,20 @@ use Rattle.canonical_machine.specs.Sound.{IsSoundGraph}
 use Rattle.canonical_machine.specs.Owners.{IsApart}
 use Rattle.linked_graphs.specs.Laws.{HasSoundModules}
 
--- A core module that imports a function, which gives an i32, and exports one that calls it, and one that takes what it gives.
+-- A core module that imports a function, which gives an i32, and exports one that calls it, and one that takes what it gives. Its
+-- memory begins with a byte of data.
 abbrev pub of_caller : ModuleTree
 of_caller = record {
   types = record { params = []; results = I32 ∷ [] } ∷ record { params = I32 ∷ []; results = [] } ∷ [];
   imports = record { «module» = codes "in"; name = codes "one"; desc = wanted.Func 0 } ∷ [];
   funcs = record { type_index = 0; locals = []; body = Plain (Call 0) End } ∷ record { type_index = 1; locals = []; body = End } ∷ [];
   tables = [];
-  memories = [];
+  memories = record { min = 1; max = None } ∷ [];
   globals = [];
   exports = record { name = codes "run"; desc = offered.Func 1 } ∷ record { name = codes "end"; desc = offered.Func 2 } ∷ [];
   start = None;
   element_segments = [];
-  data_segments = [];
+  data_segments = record { memory = 0; offset = I32Const (pos 0) ∷ []; bytes = 255 ∷ [] } ∷ [];
 }
 
 -- Items: a core instance of the first core module; the core function that a core instance exports; the type of functions that give a
@@ -64,9 +66,14 @@ abbrev pub export_func : List ℕ → ℕ → Item
 export_func name index = plain.Export (record { name = name; sort = sorts.Func; index = index; desc = None })
 
 -- The component inside lifts and exports a function of its core instance.
+abbrev pub making : List Item
+making = plain.CoreModule of_one ∷ make ∷ core_func 0 (codes "one") ∷ []
+
+abbrev pub exporting : List Item
+exporting = plain.Type (plain_type.Func giving) ∷ plain.Canon (Lift 0 [] 0) ∷ export_func (codes "one") 0 ∷ []
+
 abbrev pub child : List Item
-child =
-    plain.CoreModule of_one ∷ make ∷ core_func 0 (codes "one") ∷ plain.Type (plain_type.Func giving) ∷ plain.Canon (Lift 0 [] 0) ∷ export_func (codes "one") 0 ∷ []
+child = making ++ exporting
 
 -- The component around it lowers this function, passes it to its own core instance, and lifts a function of that one, with the other
 -- one as its post-return.

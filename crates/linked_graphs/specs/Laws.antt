@@ -35,6 +35,10 @@ PlansMakeInOrder = (reach : Reach) (c : Component) (g : Graph) → IsLinked reac
 abbrev pub LinkedGraphsAreApart : Type 0
 LinkedGraphsAreApart = (reach : Reach) (c : Component) (g : Graph) → IsLinked reach c g → IsApart g
 
+-- Modules that are read are typed and in range.
+abbrev pub ReadModulesAreTyped : Type 0
+ReadModulesAreTyped = (bytes : List ℕ) (c : Component) (m : ModuleTree) → IsComponent bytes c → StandsIn m c.items → Typed m × InRange m
+
 -- The data of a module are bytes of the file.
 abbrev pub ReadDataAreBytes : Type 0
 ReadDataAreBytes = (bytes : List ℕ) (c : Component) (m : ModuleTree) → AreBytes bytes → IsComponent bytes c → StandsIn m c.items → HasBytes m

@@ -1,7 +1,7 @@
 //! What holds of every linked graph, and of the modules that are read.
 
 ghost use Rattle.canonical_machine.specs.Sound.{AreBytes};
-ghost use Rattle.linked_graphs.specs.Laws.{LinkedGraphsAreSound, PlansMakeInOrder, LinkedGraphsAreApart, ReadDataAreBytes, ReadModulesAreSound, ReadGraphsAreSound};
+ghost use Rattle.linked_graphs.specs.Laws.{LinkedGraphsAreSound, PlansMakeInOrder, LinkedGraphsAreApart, ReadModulesAreTyped, ReadDataAreBytes, ReadModulesAreSound, ReadGraphsAreSound};
 
 use comp_linking::laws::graphs_are_sound;
 
@@ -18,6 +18,11 @@ pub fn linked_graphs_are_sound()
 /// component instance.
 pub fn linked_graphs_are_apart()
     ensures { LinkedGraphsAreApart }
+{}
+
+/// The modules that stand in a component that is read are typed, and no memory of theirs begins with more pages than any may have.
+pub fn read_modules_are_typed()
+    ensures { ReadModulesAreTyped }
 {}
 
 /// The data of modules that stand in a component that is read of bytes are bytes.

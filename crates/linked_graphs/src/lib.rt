@@ -2,8 +2,8 @@
 //! Definitions"): definitions and laws, without a body.
 //!
 //! The laws of `canonical_machine` ask two things of a graph: that it is sound, and that core definitions stay in the component
-//! instance that makes them. Here both are proved of every linked graph. Where the component is read of bytes, nothing is asked of its
-//! modules: they are typed, their memories are in range, and their data are bytes.
+//! instance that makes them. `specs/Laws` says of every linked graph that it has both. Of the modules of the component it asks that they
+//! are typed, that their memories are in range, and that their data are bytes; modules that are read of bytes are so.
 //!
 //! - `laws`: what holds of every linked graph, and of the modules that are read
 //! - `examples`: a component that is linked, and its graph
