@@ -1,5 +1,5 @@
--- What the graph of a component has (Component Model, Explainer.md, "Instance Definitions" and "Canonical Definitions"), where it is
--- linked, and where it was read before.
+-- What the graph of a component has, where it is linked (Component Model, Explainer.md, "Instance Definitions" and "Canonical
+-- Definitions"), and what its modules have, where it was read before (Binary.md, "Core Definitions"; Core 2.0, section 5.5).
 use Rattle.std.specs.Prelude.{ℕ, List}
 use Rattle.wasm_module.specs.declared.module.ModuleTree.{ModuleTree}
 use Rattle.wasm_valid.specs.Modules.{Typed}
