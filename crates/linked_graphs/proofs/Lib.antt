@@ -1,0 +1,11 @@
+pub mod Owning
+pub mod Keeping
+pub mod Places
+pub mod SpacesApart
+pub mod ItemsApart
+pub mod GraphsApart
+pub mod Bytes
+pub mod DataBytes
+pub mod ModulesRead
+pub mod SoundModules
+pub mod Samples

@@ -1,0 +1,51 @@
+-- What the graph of a component has, where it is linked (Component Model, Explainer.md, "Instance Definitions" and "Canonical
+-- Definitions"), and what its modules have, where it was read before (Binary.md, "Core Definitions"; Core 2.0, section 5.5).
+use Rattle.std.specs.Prelude.{ℕ, List}
+use Rattle.wasm_module.specs.declared.module.ModuleTree.{ModuleTree}
+use Rattle.wasm_valid.specs.Modules.{Typed}
+use Rattle.core_machine.specs.Instantiation.{InRange}
+use Rattle.comp_tree.specs.declared.items.Component.{Component}
+use Rattle.comp_reader.specs.Binary.{IsComponent}
+use Rattle.comp_graph.specs.Graph.{Graph}
+use Rattle.comp_linking.specs.declared.reach.Reach.{Reach}
+use Rattle.comp_linking.specs.Standing.{StandsIn}
+use Rattle.comp_linking.specs.Linked.{IsLinked}
+use Rattle.canonical_machine.specs.Sound.{AreBytes, HasBytes, Makes, IsSoundGraph}
+use Rattle.canonical_machine.specs.Owners.{IsApart}
+
+-- A module that is valid, no memory of which begins with more pages than any may have, and whose data are bytes.
+pub record IsSoundModule (m : ModuleTree) : Type 0 where
+  pub typed : Typed m
+  pub in_range : InRange m
+  pub bytes : HasBytes m
+
+-- So is each module that stands in a component.
+abbrev pub HasSoundModules : Component → Type 0
+HasSoundModules c = (m : ModuleTree) → StandsIn m c.items → IsSoundModule m
+
+-- Where a component has sound modules, its graph is sound.
+abbrev pub LinkedGraphsAreSound : Type 0
+LinkedGraphsAreSound = (reach : Reach) (c : Component) (g : Graph) → HasSoundModules c → IsLinked reach c g → IsSoundGraph g
+
+-- The plan of a graph makes each core instance, in order.
+abbrev pub PlansMakeInOrder : Type 0
+PlansMakeInOrder = (reach : Reach) (c : Component) (g : Graph) → IsLinked reach c g → Makes 0 g.plan g.cores
+
+-- Core definitions stay in the component instance that makes them.
+abbrev pub LinkedGraphsAreApart : Type 0
+LinkedGraphsAreApart = (reach : Reach) (c : Component) (g : Graph) → IsLinked reach c g → IsApart g
+
+-- Modules that are read are typed and in range.
+abbrev pub ReadModulesAreTyped : Type 0
+ReadModulesAreTyped = (bytes : List ℕ) (c : Component) (m : ModuleTree) → IsComponent bytes c → StandsIn m c.items → Typed m × InRange m
+
+-- The data of a module are bytes of the file.
+abbrev pub ReadDataAreBytes : Type 0
+ReadDataAreBytes = (bytes : List ℕ) (c : Component) (m : ModuleTree) → AreBytes bytes → IsComponent bytes c → StandsIn m c.items → HasBytes m
+
+-- What is read of bytes has sound modules, and so its graph is sound.
+abbrev pub ReadModulesAreSound : Type 0
+ReadModulesAreSound = (bytes : List ℕ) (c : Component) → AreBytes bytes → IsComponent bytes c → HasSoundModules c
+
+abbrev pub ReadGraphsAreSound : Type 0
+ReadGraphsAreSound = (reach : Reach) (bytes : List ℕ) (c : Component) (g : Graph) → AreBytes bytes → IsComponent bytes c → IsLinked reach c g → IsSoundGraph g

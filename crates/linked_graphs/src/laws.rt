@@ -1,0 +1,45 @@
+//! What holds of every linked graph, and of the modules that are read.
+
+ghost use Rattle.canonical_machine.specs.Sound.{AreBytes};
+ghost use Rattle.linked_graphs.specs.Laws.{LinkedGraphsAreSound, PlansMakeInOrder, LinkedGraphsAreApart, ReadModulesAreTyped, ReadDataAreBytes, ReadModulesAreSound, ReadGraphsAreSound};
+
+use comp_linking::laws::graphs_are_sound;
+
+/// The graph of a component whose modules are typed, in range and of bytes is sound. The plan of every linked graph makes its core
+/// instances, each once, in order.
+pub fn linked_graphs_are_sound()
+    ensures sound { LinkedGraphsAreSound }
+    ensures planned { PlansMakeInOrder }
+{
+    graphs_are_sound();
+}
+
+/// In a linked graph what a core instance imports, and the realloc and the post-return of a lift or a lower, were made by its own
+/// component instance.
+pub fn linked_graphs_are_apart()
+    ensures { LinkedGraphsAreApart }
+{}
+
+/// The modules that stand in a component that is read are typed, and no memory of theirs begins with more pages than any may have.
+pub fn read_modules_are_typed()
+    ensures { ReadModulesAreTyped }
+{}
+
+/// The data of modules that stand in a component that is read of bytes are bytes.
+pub fn read_data_are_bytes()
+    ensures { ReadDataAreBytes }
+{}
+
+/// The modules that stand in a component that is read of bytes are typed, in range and of bytes. So the graph to which it is linked is
+/// sound.
+pub fn read_graphs_are_sound()
+    ensures modules { ReadModulesAreSound }
+    ensures graphs { ReadGraphsAreSound }
+{
+    linked_graphs_are_sound();
+}
+
+/// A file of the program is one of bytes, as the laws of what is read of it ask.
+pub fn files_are_bytes(file: &[u8])
+    ensures { AreBytes file.now }
+{}
