@@ -17,7 +17,7 @@ use Rattle.core_machine.specs.Instantiation.{External, FuncAddress, TableAddress
 use Rattle.core_machine.specs.Typed.{IsLaterTable, IsLaterMemory, Extends, module_context}
 use Rattle.core_machine.proofs.Zips.{zip_at, zip_append, StandsAt, numbered}
 use Rattle.core_machine.proofs.Stores.{found_later, has_later}
-use Rattle.core_machine.proofs.Adding.{allocates, found_is, has_context}
+use Rattle.core_machine.proofs.AddedModules.{allocates, found_is, has_context}
 use Rattle.comp_graph.specs.CoreItems.{table_space, memory_space, MaxIsWithin, IsWithin}
 use Rattle.abi_machine.specs.Kept.{IsMadeOf}
 

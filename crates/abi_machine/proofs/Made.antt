@@ -12,7 +12,7 @@ use Rattle.core_machine.specs.Instantiation.{External, allocated, into_table, in
 use Rattle.core_machine.specs.Typed.{StoreTyped, Extends}
 use Rattle.core_machine.proofs.Zips.{all_true, get_behind}
 use Rattle.core_machine.proofs.Stores.{store_same, further, still}
-use Rattle.core_machine.proofs.Adding.{Behind, allocates, allocated_typed, into_table_typed, into_memory_typed, entries_typed}
+use Rattle.core_machine.proofs.AddedModules.{Behind, allocates, allocated_typed, into_table_typed, into_memory_typed, entries_typed}
 use Rattle.core_machine.proofs.Moving.{never_stuck}
 use Rattle.comp_graph.specs.Graph.{CoreMake}
 use Rattle.abi_machine.specs.Kept.{IsMadeOf, AreMade}

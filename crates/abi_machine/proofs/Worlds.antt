@@ -15,7 +15,7 @@ use Rattle.core_machine.specs.Laws.{MoveTyped, AddedTyped, IsOwn, HasNoHosts, Ad
 use Rattle.core_machine.proofs.Lists.{all_at}
 use Rattle.core_machine.proofs.Zips.{get_behind}
 use Rattle.core_machine.proofs.Moving.{moves_typed, starts_typed}
-use Rattle.core_machine.proofs.Adding.{adds_typed}
+use Rattle.core_machine.proofs.AddedModules.{adds_typed}
 use Rattle.core_machine.proofs.Changing.{empty_typed}
 use Rattle.core_machine.proofs.Keeping.{steps_keep, empty_has_none, adds_none}
 use Rattle.comp_graph.specs.declared.graph.CanonFunc.{CanonFunc}

@@ -16,7 +16,7 @@ use Rattle.core_machine.specs.Laws.{MoveTyped, AddedTyped}
 use Rattle.core_machine.proofs.Lists.{all_at}
 use Rattle.core_machine.proofs.Zips.{get_behind}
 use Rattle.core_machine.proofs.Moving.{moves_typed}
-use Rattle.core_machine.proofs.Adding.{adds_typed}
+use Rattle.core_machine.proofs.AddedModules.{adds_typed}
 use Rattle.core_machine.proofs.Keeping.{steps_keep}
 use Rattle.comp_graph.specs.declared.graph.Action.{Action}
 use Rattle.comp_graph.specs.declared.graph.Action.TheVariants.{Begin, Make}

@@ -11,7 +11,7 @@ use Rattle.core_machine.specs.Store.{Function, Host, type_of, Store, found_at}
 use Rattle.core_machine.specs.Laws.{IsOwn}
 use Rattle.core_machine.proofs.Lists.{all_at, all_map, all_append}
 use Rattle.core_machine.proofs.Zips.{zip_at}
-use Rattle.core_machine.proofs.Adding.{found_is}
+use Rattle.core_machine.proofs.AddedModules.{found_is}
 use Rattle.comp_graph.specs.declared.graph.CoreRef.{CoreRef}
 use Rattle.comp_graph.specs.declared.graph.FuncRef.{FuncRef}
 use Rattle.comp_graph.specs.declared.graph.FuncRef.TheVariants as func_ref

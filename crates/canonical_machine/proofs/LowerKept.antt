@@ -10,7 +10,7 @@ use Rattle.core_machine.specs.Step.{Move, Goes, Traps, start, next}
 use Rattle.core_machine.specs.Step as core
 use Rattle.core_machine.specs.Typed.{StackTyped}
 use Rattle.core_machine.specs.Laws.{MoveTyped}
-use Rattle.core_machine.proofs.Adding.{found_is}
+use Rattle.core_machine.proofs.AddedModules.{found_is}
 use Rattle.core_machine.proofs.Moving.{moves_typed}
 use Rattle.core_machine.proofs.Stores.{store_same}
 use Rattle.value_lower.specs.Plan.{Plan}

@@ -16,7 +16,7 @@ use Rattle.core_machine.specs.Instantiation.{External, new_func, new_memory, all
 use Rattle.core_machine.specs.Typed.{StoreTyped, Extends}
 use Rattle.core_machine.proofs.Zips.{get_behind}
 use Rattle.core_machine.proofs.Stores.{store_same, further, still}
-use Rattle.core_machine.proofs.Adding.{Behind, allocates, allocated_typed, into_table_typed, into_memory_typed, entries_typed}
+use Rattle.core_machine.proofs.AddedModules.{Behind, allocates, allocated_typed, into_table_typed, into_memory_typed, entries_typed}
 use Rattle.comp_graph.specs.Graph.{CoreMake, Graph}
 use Rattle.wasm_module.specs.declared.module.Func.{Func}
 use Rattle.core_machine.specs.Store.{Function}

@@ -13,9 +13,9 @@ use Rattle.core_machine.specs.Step.{Ends, start}
 use Rattle.core_machine.specs.Instantiation.{External, Instantiation, Makes, SegmentBounds, empty, instance_of, instantiated, start_call, ImportsMatch, InRange}
 use Rattle.core_machine.specs.Typed.{StoreTyped, HasContext, module_context, StackTyped}
 use Rattle.core_machine.specs.Laws.{AddsTyped, AddedTyped, StartsTyped, IsThere, HasNoHosts, AddsNoHosts, AddedWithoutHosts}
-use Rattle.wasm_store.specs.declared.adding.AddFault.{AddFault}
-use Rattle.wasm_store.specs.declared.adding.AddFault.TheVariants as fault
-use Rattle.wasm_store.specs.Parts.{FailsBy}
+use Rattle.core_machine.specs.declared.adding.AddFault.{AddFault}
+use Rattle.core_machine.specs.declared.adding.AddFault.TheVariants as fault
+use Rattle.core_machine.specs.Parts.{FailsBy}
 use Rattle.std.specs.Prelude.{is_some}
 use Rattle.trace_show.specs.declared.label.Label.{Label}
 use Rattle.wasm_execution.specs.Run.{Comes}

@@ -16,12 +16,12 @@ use abi_machine::RunEnd;
 use ca_base::{Fuel, Memory, Seq};
 use ca_types::Value;
 use comp_graph::FuncRef;
+use core_machine::Store;
 use core_machine::laws::{stores_without_hosts, typed_stacks_never_get_stuck};
 use script_reader::{Call, Item};
 use std::alloc::Global;
 use trace_show::Label;
 use wasm_execution::{Words, start};
-use wasm_store::Store;
 
 /// Runs the call of this number, appends its lines, and answers how the run ends, if it does so there.
 pub fn run_call(

@@ -9,12 +9,11 @@ ghost use Rattle.component_run.specs.Calling.{CoreGives};
 
 use abi_machine::RunEnd;
 use ca_base::{Fuel, Memory};
-use core_machine::Trap;
 use core_machine::laws::stores_without_hosts;
+use core_machine::{Store, Trap};
 use std::alloc::Global;
 use trace_show::TrapName;
 use wasm_execution::{Outcome, Running, Words, run};
-use wasm_store::Store;
 
 /// The name of a trap of a core function.
 fn trap_name(why: Trap) -> TrapName

@@ -2,13 +2,14 @@
 
 ghost use Rattle.std.specs.Prelude.{◌≡◌, ℕ, List, Some, IfOk, map};
 ghost use Rattle.core_machine.specs.Instantiation.{External as Address};
-ghost use Rattle.wasm_store.specs.Views.{address_of};
+ghost use Rattle.core_machine.specs.Views.{address_of};
 ghost use Rattle.abi_machine.specs.Machine.{external_of, externals};
 
 use ca_base::{Memory, Seq};
 use comp_graph::{CoreExtern, FuncRef};
+use core_machine::Store;
 use std::alloc::Global;
-use wasm_store::{External, Store};
+use wasm_code::External;
 
 /// What these imports are. All of them are there.
 pub fn externals_of(

@@ -19,10 +19,10 @@ use core_machine::laws::{
     added_modules_are_typed, changed_stores_are_typed, stores_without_hosts,
     typed_stacks_never_get_stuck,
 };
+use core_machine::{AddFault, Store};
 use std::alloc::Global;
 use trace_show::TrapName;
 use wasm_execution::start;
-use wasm_store::{AddFault, Store};
 use wasm_valid::Valid;
 
 /// Makes the core instances of a graph in a store with nothing, in order, as task 0. It answers how the run ends, if it

@@ -17,11 +17,11 @@ use crate::named_graph::NamedGraph;
 use abi_machine::{RunEnd, steps_use_their_cost, worlds_are_kept};
 use ca_base::{Fuel, Memory, Seq};
 use comp_graph::Graph;
+use core_machine::Store;
 use script_reader::{Item, Script};
 use std::alloc::Global;
 use trace_show::Label;
 use value_reader::sound_values_are_small;
-use wasm_store::Store;
 
 /// A run, from its first line to its end.
 #[derive(Drop)]

@@ -8,7 +8,7 @@ use Rattle.core_machine.specs.Store.{Store}
 use Rattle.core_machine.specs.Effects.{with_memory}
 use Rattle.core_machine.specs.Typed.{StoreTyped, MemoryTyped}
 use Rattle.core_machine.proofs.Lists.{all_at}
-use Rattle.wasm_store.specs.Lends.{memory_in}
+use Rattle.core_machine.specs.Lends.{memory_in}
 use Rattle.value_lower.specs.Following.{written}
 use Rattle.copy_engine.specs.Nested.{bytes_of, bytes_in, rewritten_at, with_bytes_in}
 

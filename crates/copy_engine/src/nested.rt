@@ -6,16 +6,15 @@ ghost use Rattle.wasm_module.specs.declared.types.ValType.TheVariants.{I32};
 ghost use Rattle.wasm_numbers.specs.Types.{AreWords};
 ghost use Rattle.core_machine.specs.Store.{Function};
 ghost use Rattle.core_machine.specs.Step.{start};
-ghost use Rattle.wasm_store.specs.Views.{function_of};
+ghost use Rattle.core_machine.specs.Views.{function_of};
 ghost use Rattle.copy_engine.specs.Nested.{is_realloc, realloc_in, bytes_in, NestedGives};
 
 use ca_base::Fuel;
-use core_machine::Trap;
+use core_machine::{FunctionInstance, Store, Trap};
 use std::alloc::Global;
 use value_lower::RoomEnd;
 use wasm_execution::{Outcome, Words, run, start};
 use wasm_module::{ValType, are_same};
-use wasm_store::{FunctionInstance, Store};
 
 /// A function of the host that nested code calls.
 #[derive(Drop)]

@@ -6,9 +6,9 @@ ghost use Rattle.copy_engine.specs.Rooms.{state_of};
 use crate::memories::{put_in, size_in};
 use crate::nested::{HostCall, NestedTrap, realloc_in, run_realloc};
 use ca_base::Fuel;
+use core_machine::Store;
 use std::alloc::Global;
 use value_lower::{Room, RoomEnd};
-use wasm_store::Store;
 
 /// What canonical options say of a lowering (Component Model, CanonicalABI.md, "Lifting and Lowering Context").
 #[derive(Clone, Copy)]

@@ -1,9 +1,13 @@
 pub mod Codes
 pub mod Effects
-pub mod Examples
+pub mod Fits
 pub mod Instantiation
 pub mod Laws
+pub mod Lends
+pub mod Matching
+pub mod Parts
 pub mod Stack
 pub mod Step
 pub mod Store
 pub mod Typed
+pub mod Views

@@ -13,11 +13,12 @@ use crate::running::{answered, called, given, name_of, run_for, told};
 use crate::words::words_of;
 use ca_base::Fuel;
 use cases::{Answers, bytes_of, check_lines};
+use core_machine::Store;
 use module_texts::valid_of;
 use std::alloc::Global;
 use std::test::Fail;
+use wasm_code::External;
 use wasm_execution::{Outcome, Running, Suspended};
-use wasm_store::{External, Store};
 use wasm_valid::Valid;
 
 /// The slice of fuel in which each body is run first.

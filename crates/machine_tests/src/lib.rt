@@ -3,7 +3,7 @@
 //! - `numbers`, `memories`, `blocks`, `calls`: what bodies of functions give, in texts; `bodies`: how these are compared
 //! - `stores`: modules and functions of the host in stores, and calls of them, in texts; `scripts`: what a line of them does
 //! - `modules`: modules of texts, and imports; `words`: words of texts; `running`: stacks that run, in slices of fuel
-//! - `laws`: the laws
+//! - `laws`: the laws; `examples`: the definitions on small examples, worked out by hand
 #![tactic(auto)]
 
 #[cfg(test)]
@@ -12,6 +12,8 @@ mod blocks;
 mod bodies;
 #[cfg(test)]
 mod calls;
+#[cfg(test)]
+mod examples;
 #[cfg(test)]
 mod frame;
 #[cfg(test)]

@@ -2,11 +2,12 @@
 
 use ca_base::Seq;
 use cases::bytes_of;
+use core_machine::Store;
 use module_texts::valid_of;
 use std::alloc::Global;
 use std::test::Fail;
+use wasm_code::External;
 use wasm_module::{FuncType, ValType};
-use wasm_store::{External, Store};
 use wasm_valid::Valid;
 
 /// The preamble of a core module, and the sections before its code: the types (i32, i32, i32, i32) -> i32 and (i32) -> (), a function of

@@ -1,10 +1,10 @@
-//! Operations once more. Each copy fails for want of memory alone.
+//! Operations and types once more. Each copy fails for want of memory alone.
 
 ghost use Rattle.std.specs.Prelude.{◌≡◌, IfOk};
 
 use ca_base::Seq;
 use std::alloc::{AllocError, Global};
-use wasm_module::{Body, Instr, Op};
+use wasm_module::{Body, FuncType, Instr, Op};
 
 /// A copy of a body.
 pub(crate) fn copy_body(alloc: Global, body: &Body) -> Result<Body, AllocError>
@@ -71,6 +71,26 @@ fn copy_instr(alloc: Global, instr: &Instr) -> Result<Instr, AllocError>
         Instr::I64Const(number) => Ok(Instr::I64Const(*number)),
         Instr::Numeric(op) => Ok(Instr::Numeric(*op)),
     }
+}
+
+/// Copies of function types. It fails for want of memory alone.
+pub fn copy_types(alloc: Global, types: &[FuncType]) -> Result<Seq<FuncType>, AllocError>
+    ensures { IfOk result (λ copies. copies ≡ types.now) }
+{
+    let mut copies = Vec::new(alloc);
+    for func_type in types {
+        copies.push(copy_type(alloc, func_type)?)?;
+    }
+    Ok(Seq::from_vec(copies))
+}
+
+/// A copy of a function type.
+fn copy_type(alloc: Global, func_type: &FuncType) -> Result<FuncType, AllocError>
+    ensures { IfOk result (λ copy. copy ≡ func_type.now) }
+{
+    let params = copy_seq(alloc, &func_type.params)?;
+    let results = copy_seq(alloc, &func_type.results)?;
+    Ok(FuncType { params, results })
 }
 
 /// A copy of a list.

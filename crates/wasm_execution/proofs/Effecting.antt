@@ -23,7 +23,7 @@ use Rattle.core_machine.specs.Typed.{known, StoreTyped, FrameTyped}
 use Rattle.core_machine.specs.Laws.{MoveTyped}
 use Rattle.core_machine.proofs.Framing.{over_takes}
 use Rattle.core_machine.proofs.Moving.{moves_typed}
-use Rattle.wasm_store.specs.Fits.{told_types, BeginWith, Keeps, Fits}
+use Rattle.core_machine.specs.Fits.{told_types, BeginWith, Keeps, Fits}
 use Rattle.wasm_execution.specs.declared.frame.Frame.{Frame}
 use Rattle.wasm_execution.specs.Places.{frame_of, IsPlaced}
 use Rattle.wasm_execution.specs.Stepping.{Onward, Fails, IsEffect}

@@ -7,7 +7,7 @@ use Rattle.core_machine.specs.declared.trap.Trap.{Trap}
 use Rattle.core_machine.specs.Effects.{Effect, Leaves, Fails}
 use Rattle.core_machine.specs.Store.{Store}
 use Rattle.std.proofs.Common.{List}
-use Rattle.wasm_store.specs.Fits.{Gives}
+use Rattle.core_machine.specs.Fits.{Gives}
 use Rattle.wasm_execution.specs.Places.{rest_at}
 use Rattle.wasm_execution.specs.Stepping.{IsEffect}
 use Rattle.wasm_execution.proofs.Placing.{RestOf, rest_of}

@@ -8,15 +8,14 @@ ghost use Rattle.wasm_module.specs.Expr.{Expr, Plain};
 ghost use Rattle.core_machine.specs.Store.{type_of};
 ghost use Rattle.core_machine.specs.Step.{same_signature};
 ghost use Rattle.core_machine.specs.Typed.{StoreTyped};
-ghost use Rattle.wasm_store.specs.Views.{function_of};
+ghost use Rattle.core_machine.specs.Views.{function_of};
 ghost use Rattle.wasm_execution.specs.Places.{frame_of, IsPlaced};
 ghost use Rattle.wasm_execution.specs.Stepping.{IsTyped, StepGives, PlacedAfter};
 
 use crate::frame::Frame;
 use crate::stepping::Step;
-use core_machine::Trap;
+use core_machine::{FunctionInstance, Store, Trap};
 use wasm_module::FuncType;
-use wasm_store::{FunctionInstance, Store};
 
 /// `call`.
 pub(crate) fn call(frame: &mut Frame, store: &Store, index: usize) -> Step

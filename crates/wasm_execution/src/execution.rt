@@ -15,9 +15,8 @@ use crate::invoking::{Invoked, give_back, invoke};
 use crate::running::{Frames, Outcome, Running, State, Suspended};
 use crate::turn::{Pause, run_function};
 use ca_base::{Fuel, Seq};
-use core_machine::Trap;
+use core_machine::{FunctionInstance, Store, Trap};
 use std::alloc::Global;
-use wasm_store::{FunctionInstance, Store};
 
 /// Runs a stack until it ends, calls a function of the host, traps, or fuel is wanting (Core 2.0, section 4.4). Each
 /// instruction costs one unit of fuel, also one that traps or calls; ends of blocks and functions cost nothing.

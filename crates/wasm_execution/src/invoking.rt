@@ -13,9 +13,9 @@ ghost use Rattle.wasm_execution.specs.Invoking.{InvokeGives};
 use crate::frame::Frame;
 use crate::starting::begin;
 use ca_base::Memory;
+use core_machine::{FunctionInstance, OwnFunction, Store};
 use std::alloc::{AllocError, Global};
 use wasm_module::FuncType;
-use wasm_store::{FunctionInstance, OwnFunction, Store};
 
 /// How many frames a stack may have.
 const FRAME_LIMIT: usize = 512;

@@ -11,10 +11,10 @@ ghost use Rattle.wasm_execution.specs.Zeros.{zeros};
 use crate::frame::Frame;
 use crate::running::{Frames, Running, State, Suspended};
 use ca_base::Memory;
+use core_machine::{FunctionInstance, OwnFunction, Store};
 use std::alloc::{AllocError, Global};
 use std::rc::Rc;
 use wasm_module::Locals;
-use wasm_store::{FunctionInstance, OwnFunction, Store};
 
 /// A call of the function at an address of the store, with these arguments. It fails for want of memory alone.
 pub fn start(alloc: Global, store: &Store, address: usize, args: &[u64]) -> Result<Running, Memory>

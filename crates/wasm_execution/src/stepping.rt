@@ -17,9 +17,8 @@ use crate::control::Control;
 use crate::entering::{enter_block, enter_loop, enter_one_of};
 use crate::frame::Frame;
 use ca_base::Memory;
-use core_machine::Trap;
+use core_machine::{Store, Trap};
 use wasm_module::{Instr, Op};
-use wasm_store::Store;
 
 /// What came of an instruction.
 #[derive(Clone, Copy)]

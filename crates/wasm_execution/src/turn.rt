@@ -9,8 +9,7 @@ ghost use Rattle.wasm_execution.specs.Stepping.{IsTyped, LeavesTo, ComesTo, Paus
 use crate::frame::Frame;
 use crate::stepping::{Step, make_step};
 use ca_base::{Fuel, Memory};
-use core_machine::Trap;
-use wasm_store::Store;
+use core_machine::{Store, Trap};
 
 /// Why a function pauses.
 #[derive(Clone, Copy)]

@@ -1,6 +1,6 @@
 -- The imports so far are those that were found.
 use Rattle.std.proofs.Common.{◌≡◌, Some, map, take}
-use Rattle.wasm_store.specs.Views.{address_of}
+use Rattle.core_machine.specs.Views.{address_of}
 use Rattle.abi_machine.specs.Machine.{externals}
 use Rattle.component_run.proofs.externals.externals_of.Given as goal
 

@@ -1,6 +1,6 @@
 use Rattle.std.proofs.Common.{List, Option, Some, sym, ap, ◌∙◌, map}
 use Rattle.core_machine.specs.Instantiation.{External}
-use Rattle.wasm_store.specs.Views.{address_of}
+use Rattle.core_machine.specs.Views.{address_of}
 use Rattle.component_run.proofs.CoreRuns.{ok_maps}
 use Rattle.component_run.proofs.Supplied.{found_match, there_of}
 use Rattle.component_run.proofs.Instancing.{makes_gives, bounds_gives, bounds_of, there_now, made_there, no_hosts_made, no_hosts_left, start_at}

@@ -1,9 +1,0 @@
-pub mod Entries
-pub mod Fitting
-pub mod Imports
-pub mod Instantiating
-pub mod Joining
-pub mod Loans
-pub mod Making
-pub mod Signatures
-pub mod Writing

@@ -1,6 +1,0 @@
--- The types so far.
-use Rattle.std.proofs.Common.{◌≡◌, take}
-use Rattle.wasm_store.proofs.parts.copied_types.Given as goal
-
-abbrev pub invariant-loop-func_type : goal.invariant-loop-func_type
-invariant-loop-func_type l = l.copies.items ≡ take l.func_type-index l.types
