@@ -12,8 +12,7 @@ mod blocks;
 mod bodies;
 #[cfg(test)]
 mod calls;
-#[cfg(test)]
-mod examples;
+pub mod examples;
 #[cfg(test)]
 mod frame;
 #[cfg(test)]
