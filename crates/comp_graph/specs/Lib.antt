@@ -2,3 +2,4 @@ pub mod Closed
 pub mod CoreItems
 pub mod Graph
 pub mod Needs
+pub mod Passed

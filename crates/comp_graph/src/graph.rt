@@ -2,9 +2,13 @@
 
 ghost use Rattle.std.specs.Prelude.{◌≡◌, ◌≤◌, ◌<◌, Some, length, map};
 ghost use Rattle.std.specs.List.{slice_get};
+ghost use Rattle.ca_types.specs.declared.exports.Export.{Export};
+ghost use Rattle.comp_graph.specs.declared.graph.CanonFunc.{CanonFunc};
 ghost use Rattle.comp_graph.specs.Graph as graphs;
-ghost use Rattle.comp_graph.specs.Graph.{core_instance_limit, instance_limit};
+ghost use Rattle.comp_graph.specs.Graph.{called_type, core_instance_limit, instance_limit};
+ghost use Rattle.comp_graph.specs.Passed.{AreCanonTypes, AreExportTypes, ArePassed};
 
+use crate::func_types::{GraphTypes, PassedTypes, passed_at};
 use ca_base::Seq;
 use ca_types::{Exports, FuncType, Shared};
 use std::marker::Model;
@@ -154,6 +158,9 @@ impl<'a> CoreMake<'a> {
 /// A component that is linked (Component Model, Explainer.md, "Instance Definitions"): what is made, in file order; the core
 /// instances, at most 256; the core functions that the Canonical ABI makes; the functions that can be called, and of each one the
 /// core function that it lifts. At most 256 component instances begin.
+///
+/// Beside what contracts see it has the types of what its functions pass, each laid out once: a type shares its parts, and a walk
+/// over it as a tree may take far longer than its file is long.
 #[derive(Drop)]
 pub struct Graph<'a> {
     plan: Seq<Action>,
@@ -162,6 +169,7 @@ pub struct Graph<'a> {
     canons: Seq<CanonFunc>,
     exports: Exports,
     lifts: Seq<Lift>,
+    types: GraphTypes,
 }
 
 impl<'a> Model for Graph<'a> {
@@ -174,6 +182,7 @@ impl<'a> Model for Graph<'a> {
     ghost use Rattle.comp_graph.specs.contracts.graph.CanonFunc as canon_func;
     ghost use Rattle.comp_graph.specs.contracts.graph.Lift as lift;
     ghost use Rattle.comp_graph.specs.Graph as graph;
+    ghost use Rattle.comp_graph.specs.Passed.{AreCanonTypes, AreExportTypes};
 
     ghost Value = { graph.Graph };
 
@@ -181,12 +190,12 @@ impl<'a> Model for Graph<'a> {
 
     ghost view = { λ g. record { plan = g.plan; instance_count = g.instance_count; cores = g.cores.items; canons = g.canons; exports = g.exports; lifts = g.lifts } };
 
-    ghost invariant = { λ g. (g.instance_count ≤ graph.instance_limit) × (length g.cores.items ≤ graph.core_instance_limit) × (length g.lifts ≡ length g.exports) };
+    ghost invariant = { λ g. (g.instance_count ≤ graph.instance_limit) × (length g.cores.items ≤ graph.core_instance_limit) × (length g.lifts ≡ length g.exports) × AreCanonTypes g.types.types g.types.canons g.canons × AreExportTypes g.types.types g.types.exports g.exports };
 }
 
 impl<'a> Graph<'a> {
     /// The graph of so many component instances, these core instances and these core functions that the Canonical ABI makes, each
-    /// in order of making, and these exports with the core function of each.
+    /// in order of making, and these exports with the core function of each, over the types of both.
     pub fn new(
         plan: Seq<Action>,
         instance_count: usize,
@@ -194,10 +203,13 @@ impl<'a> Graph<'a> {
         canons: Seq<CanonFunc>,
         exports: Exports,
         lifts: Seq<Lift>,
+        types: GraphTypes,
     ) -> Graph<'a>
         requires few_instances { instance_count ≤ instance_limit }
         requires few { length cores.items ≤ core_instance_limit }
         requires lifted { length lifts ≡ length exports }
+        requires canon_types { AreCanonTypes types.types types.canons canons }
+        requires export_types { AreExportTypes types.types types.exports exports }
         ensures { result ≡ record { plan = plan; instance_count = instance_count; cores = cores.entry.items; canons = canons; exports = exports; lifts = lifts } }
     {
         Graph {
@@ -207,6 +219,7 @@ impl<'a> Graph<'a> {
             canons,
             exports,
             lifts,
+            types,
         }
     }
 
@@ -253,5 +266,22 @@ impl<'a> Graph<'a> {
         ensures { slice_get self.now.lifts number ≡ Some result }
     {
         self.lifts.as_slice()[number]
+    }
+
+    /// The types of what the export of this number passes, which is there.
+    pub fn export_types(&self, number: usize) -> PassedTypes<'_>
+        requires { number < length self.now.exports }
+        ensures { (e : Export) → slice_get self.now.exports number ≡ Some e → ArePassed result e.func_type }
+    {
+        passed_at(&self.types.types, self.types.exports.as_slice(), number)
+    }
+
+    /// The types of what the function passes that the core function of this number calls, of those that the Canonical ABI makes, where it is
+    /// there.
+    pub fn canon_types(&self, number: usize) -> PassedTypes<'_>
+        requires { number < length self.now.canons }
+        ensures { (f : CanonFunc) → slice_get self.now.canons number ≡ Some f → ArePassed result (called_type f) }
+    {
+        passed_at(&self.types.types, self.types.canons.as_slice(), number)
     }
 }

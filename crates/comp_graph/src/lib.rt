@@ -2,14 +2,17 @@
 //!
 //! Linking makes a graph, and what runs a component reads it: which component instances begin and which core modules are
 //! instantiated, in which order, what their imports are, which core functions the Canonical ABI makes, and which functions can be
-//! called. `specs/Graph` says what a graph is and when its functions can be called, `specs/CoreItems` what core instances have, and
-//! `specs/Needs` what lifts and lowers need of them.
+//! called. `specs/Graph` says what a graph is and when its functions can be called, `specs/CoreItems` what core instances have,
+//! `specs/Needs` what lifts and lowers need of them, and `specs/Passed` which types of values functions pass.
 //!
+//! - `func_types`: function types over a table of types of values
 //! - `graph`: the graph
 #![tactic(auto)]
 
+mod func_types;
 mod graph;
 
+pub use func_types::{FuncTypes, GraphTypes, NumberedFunc, PassedTypes};
 pub use graph::{
     Action, CanonFunc, CoreExtern, CoreMake, CoreRef, FuncRef, Graph, Lift, Lower, Options,
 };

@@ -10,7 +10,9 @@ use Rattle.std.proofs.lemmas.Grind.{flat_map-append}
 use Rattle.std.proofs.lemmas.Option.{get_or_from_slice_get}
 use Rattle.std.proofs.lemmas.Slice.Zip.{AllZip-long}
 use Rattle.comp_linking.specs.Definitions.{Lifted, Definition, AFunc, AType, AComponent, AnInstance, AModule, Exports, EmptyInstance, WithExport}
+use Rattle.ca_types.specs.declared.types.FuncType.{FuncType}
 use Rattle.comp_graph.specs.Graph.{Graph}
+use Rattle.comp_graph.specs.Passed.{AreExportTypes}
 use Rattle.comp_linking.specs.Spaces.{Spaces, Linking}
 use Rattle.comp_linking.specs.Linked.{Callable, funcs_behind, called, callables, export_of, lift_of, exports_or, exports_at, graph_of}
 use Rattle.type_tables.specs.Table.{Table}
@@ -26,6 +28,9 @@ use Rattle.comp_link.specs.State as state
 use Rattle.comp_link.specs.State.{world_of, IsScope, IsLive, IsAt}
 use Rattle.comp_link.specs.declared.funcs.FuncLists.{FuncLists}
 use Rattle.comp_link.specs.Called.{func_of, funcs_of, named_behind, func_entry, func_entries, IsFuncEntry, AreFuncs, instance_cmp, listed_at, AreLists}
+use Rattle.comp_link.specs.declared.graphs.TypedCallables.{TypedCallables}
+use Rattle.comp_link.specs.Typed.{AreTyped}
+use Rattle.comp_link.proofs.Zips.{zips_more}
 use Rattle.comp_link.proofs.Passing.{as_many, spaces_at}
 use Rattle.instance_tables.specs.declared.instances.Instances.{Instances}
 use Rattle.instance_tables.proofs.PairOrder.{instance_same}
@@ -167,6 +172,17 @@ pub called_func : (t : Table) (w : World) (number : ℕ) (ref : DefinitionRef) (
 called_func t w number ref r (name, d) funcs old is h told =
     let p = is_func t w ref d r is h.1 in
     subst (λ (d : Definition). funcs ≡ old ++ called (name, d)) (sym p.1) (told (name, p.0) (h.0, p.2))
+
+-- The numbers of types beside functions that can be called.
+pub typed_more : (types : List FuncType) (old new : TypedCallables) (f : Callable) (n : ℕ) → slice_get types n ≡ Some f.func.func_type → new.funcs.items ≡ old.funcs.items ++ f ∷ [] → new.types.items ≡ old.types.items ++ n ∷ []
+    → AreTyped types old → AreTyped types new
+typed_more types old new f n is funcs numbers h = rw (funcs, numbers) (zips_more (λ (n : ℕ) (c : Callable). slice_get types n ≡ Some c.func.func_type) old.types.items old.funcs.items n f h is)
+
+pub exports_typed : (types : List FuncType) (numbers : List ℕ) (funcs : List Callable) → AllZip (λ (n : ℕ) (c : Callable). slice_get types n ≡ Some c.func.func_type) numbers funcs → AreExportTypes types numbers (map export_of funcs)
+exports_typed types [] [] h = tt
+exports_typed types [] (f ∷ funcs) h = absurd h
+exports_typed types (n ∷ numbers) [] h = absurd h
+exports_typed types (n ∷ numbers) (f ∷ funcs) h = (h.0, exports_typed types numbers funcs h.1)
 
 -- The graph of what is linked: the functions of the root that can be called, and what else it has.
 pub root_called : (k : Linker) (l : Linking) (funcs : List Callable) → 0 < length k.scopes.items → IsLive k 0 → state.Stands k l → (scope : Scope)

@@ -1,7 +1,12 @@
 -- Index spaces stand for what they stood for, where the tables grow.
-use Rattle.std.proofs.Common.{◌≡◌, ℕ, Option, Some, None}
+use Rattle.std.proofs.Common.{◌≡◌, ℕ, List, [], ◌∷◌, ◌++◌, Option, Some, None}
+use Rattle.std.specs.List.{slice_get}
 use Rattle.wasm_module.specs.declared.module.ModuleTree.{ModuleTree}
+use Rattle.ca_types.specs.declared.types.FuncType.{FuncType}
+use Rattle.comp_graph.specs.declared.graph.CanonFunc.{CanonFunc}
 use Rattle.comp_graph.specs.Closed.{Closed}
+use Rattle.comp_graph.specs.Graph.{called_type}
+use Rattle.comp_graph.specs.Passed.{AreCanonTypes}
 use Rattle.comp_linking.specs.Definitions.{Lifted, Closure, Exports}
 use Rattle.comp_linking.specs.Spaces.{Spaces}
 use Rattle.type_tables.specs.declared.refs.TypeRef.{TypeRef}
@@ -18,11 +23,19 @@ use Rattle.instance_tables.proofs.Growing.{instance_stays, listing_stays, bases_
 use Rattle.comp_link.specs.declared.scope.Scope.{Scope}
 use Rattle.type_meanings.specs.Levels.{IsClosure}
 use Rattle.comp_link.specs.State.{IsModule, AreGiven, IsScope, IsKept}
-use Rattle.comp_link.proofs.Zips.{zips_weaker}
+use Rattle.comp_link.proofs.Zips.{zips_weaker, zips_more}
 
 -- what is kept of a component instance that has not ended
 pub kept_whole : (t : Table) (w : World) (scope : Scope) (s : Spaces) → IsScope t w scope s → IsKept t w scope s
 kept_whole t w scope s h = record { types = h.types; components = h.components; whole = λ live. h }
+
+-- the numbers of the types of core functions that call functions
+pub canons_stay : (t u : Table) → Grows t u → (numbers : List ℕ) (canons : List CanonFunc) → AreCanonTypes t.funcs numbers canons → AreCanonTypes u.funcs numbers canons
+canons_stay t u g = zips_weaker (λ (n : ℕ) (f : CanonFunc). slice_get t.funcs n ≡ Some (called_type f)) (λ (n : ℕ) (f : CanonFunc). slice_get u.funcs n ≡ Some (called_type f)) (λ n f h. g.funcs n (called_type f) h)
+
+pub canons_more : (types : List FuncType) (numbers : List ℕ) (canons : List CanonFunc) (n : ℕ) (f : CanonFunc) (more : List ℕ) (made : List CanonFunc) → AreCanonTypes types numbers canons
+    → slice_get types n ≡ Some (called_type f) → more ≡ numbers ++ n ∷ [] → made ≡ canons ++ f ∷ [] → AreCanonTypes types more made
+canons_more types numbers canons n f more made h is put pushed = rw (put, pushed) (zips_more (λ (n : ℕ) (f : CanonFunc). slice_get types n ≡ Some (called_type f)) numbers canons n f h is)
 
 module _ (t u : Table) (v w : World) (types : Grows t u) (world : WorldStays v w) where
   lifted_stays : (ref : LiftedRef) (f : Lifted) → IsLifted t ref f → IsLifted u ref f

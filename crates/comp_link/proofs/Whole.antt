@@ -5,6 +5,7 @@ use Rattle.ca_base.specs.Faults.{IfFault}
 use Rattle.ca_base.specs.declared.memory.MemoryOr.{MemoryOr}
 use Rattle.ca_base.specs.declared.memory.MemoryOr.TheVariants.{Memory, Fault}
 use Rattle.comp_graph.specs.Graph.{Graph, instance_limit, core_instance_limit}
+use Rattle.comp_graph.specs.Passed.{AreCanonTypes}
 use Rattle.comp_tree.specs.declared.items.Component.{Component}
 use Rattle.comp_linking.specs.declared.fault.LinkFault.{LinkFault}
 use Rattle.comp_linking.specs.declared.reach.Reach.{Reach}
@@ -49,6 +50,9 @@ module _ (reach : Reach) (c : Component) (k : Linker) (told : IsTold (λ _ last.
       let few = graphs_are_few reach c (graph_of found.0) found.2 in
       let same = as_many found.1.0 k found.0 found.1.1 in
       omega (arith, few.0, same)
+
+  pub canons_typed : AreCanonTypes k.types.funcs k.canon_types.items k.canons.items
+  canons_typed = found.1.1.canon_types
 
   pub few_cores : length k.cores.makes ≤ core_instance_limit
   few_cores =

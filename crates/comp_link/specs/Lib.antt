@@ -7,3 +7,4 @@ pub mod Running
 pub mod Sorts
 pub mod State
 pub mod Told
+pub mod Typed

@@ -4,6 +4,7 @@
 use Rattle.std.specs.Prelude.{◌≡◌, ℕ, Bool, false, List, map, Option, Some, None}
 use Rattle.std.specs.List.{slice_get, AllZip}
 use Rattle.wasm_module.specs.declared.module.ModuleTree.{ModuleTree}
+use Rattle.comp_graph.specs.Passed.{AreCanonTypes}
 use Rattle.comp_linking.specs.Definitions.{Exports, export_names}
 use Rattle.comp_linking.specs.Spaces.{Spaces, Linking}
 use Rattle.comp_linking.specs.Computed.{Outcome, Makes, Starts}
@@ -71,6 +72,7 @@ pub record IsState (bases : List Exports) (k : Linker) (l : Linking) : Type 0 wh
   pub scopes : AllZip (IsKept k.types (world_of bases k)) k.scopes.items l.scopes
   pub cores : l.cores ≡ k.cores.makes
   pub canons : l.canons ≡ k.canons.items
+  pub canon_types : AreCanonTypes k.types.funcs k.canon_types.items k.canons.items
   pub plan : l.plan ≡ k.plan.items
   pub reach : l.reach ≡ k.reach
 

@@ -1,8 +1,10 @@
 //! What functions lift, and the core functions that they are lowered to.
 
-ghost use Rattle.std.specs.Prelude.{◌≡◌, IfOk, Some};
+ghost use Rattle.std.specs.Prelude.{◌≡◌, IfOk, IfSome, Some};
+ghost use Rattle.std.specs.List.{slice_get};
 ghost use Rattle.ca_types.specs.declared.types.FuncType as closed;
 ghost use Rattle.comp_graph.specs.declared.graph.CanonFunc.TheVariants as canon_func;
+ghost use Rattle.comp_graph.specs.Graph.{called_type};
 ghost use Rattle.type_tables.specs.Table.{IsFunc};
 
 use comp_graph::{CanonFunc, Lift, Lower, Options};
@@ -29,7 +31,8 @@ pub fn lowered_to(
     func: LiftedRef,
     options: Options,
 ) -> Result<Option<CanonFunc>, AllocError>
-    ensures { IfOk result (λ made. (f : closed.FuncType) → IsFunc types.now func.func_type f → made ≡ Some (canon_func.Lower (record { instance = instance; lift = record { instance = func.instance; core = func.core; options = func.options }; func_type = f; options = options }))) }
+    ensures lowered { IfOk result (λ made. (f : closed.FuncType) → IsFunc types.now func.func_type f → made ≡ Some (canon_func.Lower (record { instance = instance; lift = record { instance = func.instance; core = func.core; options = func.options }; func_type = f; options = options }))) }
+    ensures typed { IfOk result (λ made. IfSome made (λ f. slice_get types.now.funcs func.func_type.number ≡ Some (called_type f))) }
 {
     let Some(func_type) = types.func_at(func.func_type) else {
         return Ok(None);

@@ -1,8 +1,11 @@
 //! The graph of what is linked: the functions that can be called, and what they lift.
 
-ghost use Rattle.std.specs.Prelude.{◌≡◌, ◌<◌, ◌≤◌, ◌++◌, ℕ, List, codes, map, length, IfOk, OnOk};
+ghost use Rattle.std.specs.Prelude.{◌≡◌, ◌<◌, ◌≤◌, ◌∷◌, ◌++◌, [], ℕ, List, Some, codes, map, length, IfOk, IfSome, OnOk};
+ghost use Rattle.std.specs.List.{slice_get};
 ghost use Rattle.std.specs.Option.{option_to_list};
+ghost use Rattle.ca_types.specs.declared.types.FuncType.{FuncType};
 ghost use Rattle.comp_graph.specs.Graph.{instance_limit, core_instance_limit};
+ghost use Rattle.comp_graph.specs.Passed.{AreCanonTypes, AreExportTypes};
 ghost use Rattle.comp_linking.specs.Definitions.{Lifted, Definition, Exports};
 ghost use Rattle.comp_linking.specs.Spaces.{Linking};
 ghost use Rattle.comp_linking.specs.Linked as linked;
@@ -12,13 +15,14 @@ ghost use Rattle.instance_tables.specs.Instances.{AreInstances};
 ghost use Rattle.comp_link.specs.State as state;
 ghost use Rattle.comp_link.specs.State.{IsLive};
 ghost use Rattle.comp_link.specs.Called.{named_behind, IsFuncEntry, AreFuncs, AreLists};
+ghost use Rattle.comp_link.specs.Typed.{AreTyped};
 
 use crate::canons::lift_of;
 use crate::funcs::FuncLists;
 use crate::linker::{Linker, ROOT};
 use ca_base::{Name, Seq};
 use ca_types::Export;
-use comp_graph::{Graph, Lift};
+use comp_graph::{Graph, GraphTypes, Lift};
 use instance_tables::{DefinitionRef, InstanceRef, Instances, LiftedRef};
 use std::alloc::{AllocError, Global};
 use std::marker::Model;
@@ -61,6 +65,36 @@ impl Callable {
     }
 }
 
+/// Functions that can be called, and of each the number of its type.
+#[derive(Drop)]
+struct TypedCallables {
+    funcs: Vec<Callable>,
+    types: Vec<usize>,
+}
+
+impl TypedCallables {
+    /// No functions. They take no memory.
+    fn new(alloc: Global) -> TypedCallables
+        ensures funcs { result.funcs.items ≡ [] }
+        ensures typed { (types : List FuncType) → AreTyped types result }
+    {
+        TypedCallables {
+            funcs: Vec::new(alloc),
+            types: Vec::new(alloc),
+        }
+    }
+
+    /// Puts a function behind the others.
+    fn push(&mut self, func: Callable, number: usize) -> Result<(), AllocError>
+        ensures funcs { OnOk result (self.new.funcs.items ≡ self.old.funcs.items ++ func ∷ []) }
+        ensures typed { OnOk result ((types : List FuncType) → slice_get types number ≡ Some func.func.func_type → AreTyped types self.old → AreTyped types self.new) }
+    {
+        self.funcs.push(func)?;
+        self.types.push(number)?;
+        Ok(())
+    }
+}
+
 /// The name that is a text behind another one.
 fn joined(alloc: Global, front: &str, text: &str) -> Result<Name, AllocError>
     ensures { IfOk result (λ name. name ≡ front.now ++ text.now) }
@@ -77,7 +111,8 @@ fn func_named(
     front: &str,
     entry: (usize, LiftedRef),
 ) -> Result<Option<Callable>, AllocError>
-    ensures { IfOk result (λ o. (e : List ℕ × Lifted) → IsFuncEntry types.now entry e → option_to_list o ≡ named_behind front.now e) }
+    ensures named { IfOk result (λ o. (e : List ℕ × Lifted) → IsFuncEntry types.now entry e → option_to_list o ≡ named_behind front.now e) }
+    ensures typed { IfOk result (λ o. IfSome o (λ f. slice_get types.now.funcs entry.1.func_type.number ≡ Some f.func.func_type)) }
 {
     let (number, lifted) = entry;
     let Some(text) = types.text(number) else {
@@ -100,12 +135,13 @@ fn push_func(
     types: &Types<'_>,
     front: &str,
     entry: (usize, LiftedRef),
-    funcs: &mut Vec<Callable>,
+    funcs: &mut TypedCallables,
 ) -> Result<(), AllocError>
-    ensures { OnOk result ((e : List ℕ × Lifted) → IsFuncEntry types.now entry e → funcs.new.items ≡ funcs.old.items ++ named_behind front.now e) }
+    ensures funcs { OnOk result ((e : List ℕ × Lifted) → IsFuncEntry types.now entry e → funcs.new.funcs.items ≡ funcs.old.funcs.items ++ named_behind front.now e) }
+    ensures typed { OnOk result (AreTyped types.now.funcs funcs.old → AreTyped types.now.funcs funcs.new) }
 {
     if let Some(func) = func_named(alloc, types, front, entry)? {
-        funcs.push(func)?;
+        funcs.push(func, entry.1.func_type.number())?;
     }
     Ok(())
 }
@@ -116,9 +152,10 @@ fn push_funcs(
     types: &Types<'_>,
     front: &str,
     entries: &[(usize, LiftedRef)],
-    funcs: &mut Vec<Callable>,
+    funcs: &mut TypedCallables,
 ) -> Result<(), AllocError>
-    ensures { OnOk result ((given : Exports) → AreFuncs types.now entries.now given → funcs.new.items ≡ funcs.old.items ++ funcs_behind front.now given) }
+    ensures funcs { OnOk result ((given : Exports) → AreFuncs types.now entries.now given → funcs.new.funcs.items ≡ funcs.old.funcs.items ++ funcs_behind front.now given) }
+    ensures typed { OnOk result (AreTyped types.now.funcs funcs.old → AreTyped types.now.funcs funcs.new) }
 {
     for entry in entries {
         push_func(alloc, types, front, *entry, funcs)?;
@@ -134,10 +171,11 @@ fn push_instance(
     name: &str,
     instance: InstanceRef,
     lists: &mut FuncLists,
-    funcs: &mut Vec<Callable>,
+    funcs: &mut TypedCallables,
 ) -> Result<(), AllocError>
     requires { AreLists types.now instances.now lists.old }
-    ensures funcs { OnOk result ((w : World) (given : Exports) → AreInstances types.now w instances.now → IsInstance types.now w instance given → funcs.new.items ≡ funcs.old.items ++ funcs_behind (name.now ++ codes "#") given) }
+    ensures funcs { OnOk result ((w : World) (given : Exports) → AreInstances types.now w instances.now → IsInstance types.now w instance given → funcs.new.funcs.items ≡ funcs.old.funcs.items ++ funcs_behind (name.now ++ codes "#") given) }
+    ensures typed { OnOk result (AreTyped types.now.funcs funcs.old → AreTyped types.now.funcs funcs.new) }
     ensures lists { OnOk result (AreLists types.now instances.now lists.new) }
 {
     lists.list(alloc, types, instances, instance)?;
@@ -156,10 +194,11 @@ fn push_called(
     instances: &Instances,
     entry: (usize, DefinitionRef),
     lists: &mut FuncLists,
-    funcs: &mut Vec<Callable>,
+    funcs: &mut TypedCallables,
 ) -> Result<(), AllocError>
     requires { AreLists types.now instances.now lists.old }
-    ensures funcs { OnOk result ((w : World) (e : List ℕ × Definition) → AreInstances types.now w instances.now → IsEntry types.now w entry e → funcs.new.items ≡ funcs.old.items ++ called e) }
+    ensures funcs { OnOk result ((w : World) (e : List ℕ × Definition) → AreInstances types.now w instances.now → IsEntry types.now w entry e → funcs.new.funcs.items ≡ funcs.old.funcs.items ++ called e) }
+    ensures typed { OnOk result (AreTyped types.now.funcs funcs.old → AreTyped types.now.funcs funcs.new) }
     ensures lists { OnOk result (AreLists types.now instances.now lists.new) }
 {
     let (number, definition) = entry;
@@ -183,11 +222,12 @@ fn callables(
     types: &Types<'_>,
     instances: &Instances,
     entries: &[(usize, DefinitionRef)],
-) -> Result<Vec<Callable>, AllocError>
-    ensures { IfOk result (λ v. (w : World) (given : Exports) → AreInstances types.now w instances.now → IsListing types.now w entries.now given → v.items ≡ linked.callables given) }
+) -> Result<TypedCallables, AllocError>
+    ensures funcs { IfOk result (λ v. (w : World) (given : Exports) → AreInstances types.now w instances.now → IsListing types.now w entries.now given → v.funcs.items ≡ linked.callables given) }
+    ensures typed { IfOk result (λ v. AreTyped types.now.funcs v) }
 {
     let mut lists = FuncLists::new(alloc);
-    let mut funcs = Vec::new(alloc);
+    let mut funcs = TypedCallables::new(alloc);
     for entry in entries {
         push_called(alloc, types, instances, *entry, &mut lists, &mut funcs)?;
     }
@@ -216,11 +256,12 @@ fn exports_of(alloc: Global, funcs: Vec<Callable>) -> Result<Vec<Export>, AllocE
     Ok(exports)
 }
 
-/// The functions of a graph that can be called, with what each lifts.
+/// The functions of a graph that can be called, with what each lifts and the number of its type.
 #[derive(Drop)]
 struct GraphFuncs {
     exports: Vec<Export>,
     lifts: Vec<Lift>,
+    types: Vec<usize>,
 }
 
 /// The functions of the graph of what is linked that can be called.
@@ -230,12 +271,17 @@ fn graph_funcs(alloc: Global, linker: &Linker<'_>) -> Result<GraphFuncs, AllocEr
     ensures exports { IfOk result (λ f. (l : Linking) → state.Stands linker.now l → f.exports.items ≡ (linked.graph_of l).exports) }
     ensures lifts { IfOk result (λ f. (l : Linking) → state.Stands linker.now l → f.lifts.items ≡ (linked.graph_of l).lifts) }
     ensures many { IfOk result (λ f. length f.lifts.items ≡ length f.exports.items) }
+    ensures typed { IfOk result (λ f. AreExportTypes linker.now.types.funcs f.types.items f.exports.items) }
 {
     let entries = linker.scope(ROOT).exports.entries();
-    let funcs = callables(alloc, &linker.types, &linker.instances, entries)?;
-    let lifts = lifts_of(alloc, &funcs)?;
-    let exports = exports_of(alloc, funcs)?;
-    Ok(GraphFuncs { exports, lifts })
+    let listed = callables(alloc, &linker.types, &linker.instances, entries)?;
+    let lifts = lifts_of(alloc, &listed.funcs)?;
+    let exports = exports_of(alloc, listed.funcs)?;
+    Ok(GraphFuncs {
+        exports,
+        lifts,
+        types: listed.types,
+    })
 }
 
 /// The graph of what is linked.
@@ -244,10 +290,16 @@ pub fn graph_of<'a>(alloc: Global, linker: Linker<'a>) -> Result<Graph<'a>, Allo
     requires live { IsLive linker 0 }
     requires few { length linker.scopes.items ≤ instance_limit }
     requires few_cores { length linker.cores.makes ≤ core_instance_limit }
+    requires typed { AreCanonTypes linker.types.funcs linker.canon_types.items linker.canons.items }
     ensures { IfOk result (λ g. (l : Linking) → state.Stands linker.entry l → g ≡ linked.graph_of l) }
 {
     let funcs = graph_funcs(alloc, &linker)?;
     let count = linker.scopes.len();
+    let types = GraphTypes {
+        types: linker.types.into_func_types(),
+        canons: Seq::from_vec(linker.canon_types),
+        exports: Seq::from_vec(funcs.types),
+    };
     Ok(Graph::new(
         Seq::from_vec(linker.plan),
         count,
@@ -255,5 +307,6 @@ pub fn graph_of<'a>(alloc: Global, linker: Linker<'a>) -> Result<Graph<'a>, Allo
         Seq::from_vec(linker.canons),
         Seq::from_vec(funcs.exports),
         Seq::from_vec(funcs.lifts),
+        types,
     ))
 }

@@ -57,6 +57,8 @@ pub struct Linker<'a> {
     pub cores: Cores<'a>,
     /// The core functions that functions are lowered to, in order of making.
     pub canons: Vec<CanonFunc>,
+    /// The number of the type of the function that each of them calls.
+    pub canon_types: Vec<usize>,
     /// What is made, in file order.
     pub plan: Vec<Action>,
     /// How far linking goes.
@@ -82,6 +84,7 @@ impl<'a> Linker<'a> {
             scopes,
             cores: Cores::new(alloc),
             canons: Vec::new(alloc),
+            canon_types: Vec::new(alloc),
             plan,
             reach,
         })
@@ -287,6 +290,7 @@ impl<'a> Linker<'a> {
             return Ok(());
         };
         let item = CoreItem::lowered(number, laid);
+        self.canon_types.push(func.func_type.number())?;
         self.canons.push(made)?;
         self.scopes[n].add_core_item(item)?;
         Ok(())

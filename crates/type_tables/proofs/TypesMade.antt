@@ -9,6 +9,7 @@ use Rattle.ca_types.specs.declared.types.ValType.{ValType}
 use Rattle.ca_types.specs.declared.types.Param.{Param}
 use Rattle.ca_types.specs.declared.types.FuncType.{FuncType}
 use Rattle.comp_graph.specs.Closed.{Extern, Externs, WithExtern}
+use Rattle.comp_graph.specs.declared.func_types.NumberedFunc.{NumberedFunc}
 use Rattle.type_tables.specs.declared.labels.LabelledType.{LabelledType}
 use Rattle.type_tables.specs.declared.layers.ExternLayer.{ExternLayer}
 use Rattle.type_tables.specs.declared.layers.Layer.TheVariants as layer
@@ -79,10 +80,10 @@ pub func_more : (t u v : Table) (params : List LabelledType) (returned : Option 
 func_more t u v params returned others number g k made at type is =
     (others, returned, at, params_stay u v k others type.params (made type.params is.0), may_be_stays t v (grows_trans t u v g k) returned type.result is.1)
 
-pub func_found : (t : Table) (m : BTreeMap ℕ ℕ) (layer_number : ℕ) (o : Option ℕ) → IsKept m t → o ≡ get nat_cmp m layer_number
+pub func_found : (t : Table) (m : BTreeMap ℕ ℕ) (fs : List NumberedFunc) (layer_number : ℕ) (o : Option ℕ) → IsKept m fs t → o ≡ get nat_cmp m layer_number
     → IfSome o (λ number. (type : FuncType) → IsFuncLayer t.texts t.values t.layers layer_number type → IsFunc t (record { layer = layer_number; number = number }) type)
-func_found t m layer_number None kept found = tt
-func_found t m layer_number (Some number) kept found = λ type h.
+func_found t m fs layer_number None kept found = tt
+func_found t m fs layer_number (Some number) kept found = λ type h.
     let one = kept.funcs layer_number number (sym found) in
     (h, one.1.1 ∙ ap (λ (f : FuncType). Some f) (func_told t.texts t.values t.layers layer_number one.0 type one.1.0 h))
 

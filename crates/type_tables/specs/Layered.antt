@@ -1,11 +1,12 @@
 -- What numbers of layers stand for (Component Model, Explainer.md, "Type Definitions"): the closed types of comp_linking, layer
 -- by layer. A layer stands on others by their numbers, names are told by their numbers among the texts, and types of values by
 -- their numbers among the value types.
-use Rattle.std.specs.Prelude.{◌≡◌, ℕ, List, [], ◌∷◌, Option, Some, None}
+use Rattle.std.specs.Prelude.{◌≡◌, ℕ, List, [], ◌∷◌, Option, Some}
 use Rattle.std.specs.List.{slice_get}
 use Rattle.ca_types.specs.declared.types.ValType.{ValType}
 use Rattle.ca_types.specs.declared.types.Param.{Param}
 use Rattle.ca_types.specs.declared.types.FuncType.{FuncType}
+pub use Rattle.comp_graph.specs.Passed.{MayBeValue}
 use Rattle.comp_graph.specs.Closed.{Closed, Value, Func, Instance, Extern, OfFunc, OfType, OfInstance, Externs, EmptyType, WithExtern}
 use Rattle.type_tables.specs.declared.layers.TypeLayer.{TypeLayer}
 use Rattle.type_tables.specs.declared.layers.TypeLayer.TheVariants as of_type
@@ -13,12 +14,6 @@ use Rattle.type_tables.specs.declared.layers.ExternLayer.{ExternLayer}
 use Rattle.type_tables.specs.declared.layers.ExternLayer.TheVariants as of_extern
 use Rattle.type_tables.specs.declared.layers.Layer.{Layer}
 use Rattle.type_tables.specs.declared.layers.Layer.TheVariants as layer
-
--- The number of a value type that may be absent: it is there exactly where the type is.
-abbrev pub MayBeValue : List ValType → Option ℕ → Option ValType → Type 0
-MayBeValue values None None = Unit {0}
-MayBeValue values (Some number) (Some type) = slice_get values number ≡ Some type
-MayBeValue values number type = ⊥
 
 module _ (texts : List (List ℕ)) (values : List ValType) (layers : List Layer) where
   -- The layer of this number stands for these parameters: none, or one before others.

@@ -7,6 +7,7 @@ ghost use Rattle.type_tables.specs.Laid.{IsLaid};
 use crate::labels::{LabelledType, closed_func};
 use crate::laid_func::LaidFunc;
 use ca_types::{FuncType, Shared};
+use comp_graph::NumberedFunc;
 use std::alloc::{AllocError, Global};
 use std::marker::Model;
 use value_tables::ValueTypes;
@@ -54,6 +55,22 @@ impl KeptFunc {
         ensures { result.now ≡ self.now }
     {
         &self.func_type
+    }
+
+    /// The function type with the numbers of the types of what is passed.
+    pub(crate) fn numbered(
+        &self,
+        params: usize,
+        returned: Option<usize>,
+    ) -> Result<NumberedFunc, AllocError>
+        ensures { IfOk result (λ f. f ≡ record { func_type = self.now; params = params; returned = returned }) }
+    {
+        let func_type = self.func_type.share()?;
+        Ok(NumberedFunc {
+            func_type,
+            params,
+            returned,
+        })
     }
 
     /// What lifts ask of it.

@@ -1,6 +1,6 @@
 //! Labels with the numbers of value types, which function types are made of.
 
-ghost use Rattle.std.specs.Prelude.{◌<◌, length, IfOk};
+ghost use Rattle.std.specs.Prelude.{◌≡◌, ◌<◌, length, map, IfOk};
 ghost use Rattle.std.specs.List.{AllZip};
 ghost use Rattle.laid_types.specs.Layers.{IsThere};
 ghost use Rattle.type_tables.specs.Layered.{MayBeValue};
@@ -63,6 +63,16 @@ fn closed_result(
         Some(number) => Ok(Some(values.share(number)?)),
         None => Ok(None),
     }
+}
+
+/// The numbers of the parameters' types, in order.
+pub(crate) fn type_numbers(
+    alloc: Global,
+    params: &[LabelledType<'_>],
+) -> Result<Vec<usize>, AllocError>
+    ensures { IfOk result (λ numbers. numbers.items ≡ map (λ p. p.val_type) params.now) }
+{
+    params.iter().map(|param| param.val_type).collect(alloc)
 }
 
 /// The function type, whose parts are shared with the value types.

@@ -45,6 +45,15 @@ pub enum ExternRef {
     Instance(InstanceTypeRef),
 }
 
+impl FuncTypeRef {
+    /// Its number among the function types.
+    pub fn number(self) -> usize
+        ensures { result ≡ self.number }
+    {
+        self.number
+    }
+}
+
 impl TypeRef {
     /// The outer layer.
     pub(crate) fn layer(self) -> TypeLayer

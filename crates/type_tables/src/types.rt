@@ -6,19 +6,21 @@ ghost use Rattle.std.specs.Option.{MatchOption};
 ghost use Rattle.ca_types.specs.declared.types.FuncType.{FuncType};
 ghost use Rattle.ca_types.specs.declared.types.Param.{Param};
 ghost use Rattle.comp_graph.specs.Closed.{Closed, Externs, extern_named};
+ghost use Rattle.comp_graph.specs.Passed.{params_type, IsNumbered};
 ghost use Rattle.laid_types.specs.Layers.{AreThere, type_of, part_numbers};
 ghost use Rattle.type_tables.specs.Layered.{IsParams, IsFuncLayer};
-ghost use Rattle.type_tables.specs.Labels.{AreValues, IsParam, IsFuncOf};
+ghost use Rattle.type_tables.specs.Labels.{HaveTypes, AreValues, IsParam, IsFuncOf};
 ghost use Rattle.type_tables.specs.Laid.{IsLaid};
 ghost use Rattle.type_tables.specs.Table.{no_types, IsName, IsValue, IsFunc, IsType, IsInstanceType, MayBeExtern, MayBeEntry, in_order, Grows, AreDistinct};
 
 use crate::kept_func::KeptFunc;
-use crate::labels::LabelledType;
+use crate::labels::{LabelledType, type_numbers};
 use crate::laid_func::LaidFunc;
 use crate::layers::{Layer, Layers};
 use crate::listing::Listing;
 use crate::refs::{ExternRef, FuncTypeRef, InstanceTypeRef, TypeRef, are_same};
 use ca_types::{FuncType, Shared};
+use comp_graph::{FuncTypes, NumberedFunc};
 use laid_types::{LaidType, ValTypeLayer};
 use std::alloc::{AllocError, Global};
 use std::collections::BTreeMap;
@@ -34,6 +36,8 @@ pub struct Types<'a> {
     values: ValueTypes<'a>,
     layers: Layers,
     funcs: Vec<KeptFunc>,
+    /// The function types again, each with the numbers of the types of what it passes.
+    numbered: Vec<NumberedFunc>,
     instances: Vec<Listing<ExternRef>>,
     /// The number of the function type of a layer.
     func_numbers: BTreeMap<usize, usize>,
@@ -56,7 +60,7 @@ impl<'a> Model for Types<'a> {
 
     ghost view = { λ t. record { texts = t.names; values = t.values; layers = t.layers; funcs = t.funcs.items; instances = t.instances.items } };
 
-    ghost invariant = { λ t. IsKept t.func_numbers (record { texts = t.names; values = t.values; layers = t.layers; funcs = t.funcs.items; instances = t.instances.items }) };
+    ghost invariant = { λ t. IsKept t.func_numbers t.numbered.items (record { texts = t.names; values = t.values; layers = t.layers; funcs = t.funcs.items; instances = t.instances.items }) };
 }
 
 impl<'a> Types<'a> {
@@ -69,6 +73,7 @@ impl<'a> Types<'a> {
             values: ValueTypes::new(alloc),
             layers: Layers::new(alloc),
             funcs: Vec::new(alloc),
+            numbered: Vec::new(alloc),
             instances: Vec::new(alloc),
             func_numbers: BTreeMap::new(alloc),
             instance_numbers: BTreeMap::new(alloc),
@@ -200,10 +205,56 @@ impl<'a> Types<'a> {
         if let Some(number) = self.kept_func(layer) {
             return Ok(number);
         }
-        let func_type = KeptFunc::of(alloc, &self.values, params, returned)?;
-        let number = self.add_func(func_type)?;
+        let number = self.make_func(alloc, params, returned)?;
         self.keep_func(layer, number)?;
         Ok(number)
+    }
+
+    /// Adds a function type and the type of its arguments, and answers its number.
+    fn make_func(
+        &mut self,
+        alloc: Global,
+        params: &[LabelledType<'a>],
+        returned: Option<usize>,
+    ) -> Result<usize, AllocError>
+        requires { AreValues self.old.values params.now returned }
+        ensures ok { IfOk result (λ number. (made : FuncType) × IsFuncOf self.old.values params.now returned made × (slice_get self.new.funcs number ≡ Some made)) }
+        ensures grows { Grows self.old self.new }
+    {
+        let passed = self.params_type(alloc, params)?;
+        let func_type = self.closed_func(alloc, params, returned)?;
+        let numbered = func_type.numbered(passed, returned)?;
+        let number = self.add_func(func_type, numbered)?;
+        Ok(number)
+    }
+
+    /// The number of the tuple type of the parameters' types.
+    fn params_type(
+        &mut self,
+        alloc: Global,
+        params: &[LabelledType<'a>],
+    ) -> Result<usize, AllocError>
+        requires { HaveTypes self.old.values params.now }
+        ensures ok { IfOk result (λ number. (type : FuncType) → AllZip (IsParam self.old.values) params.now type.params → IsValue self.new number (params_type type)) }
+        ensures grows { Grows self.old self.new }
+    {
+        let numbers = type_numbers(alloc, params)?;
+        let number = self.value_type(alloc, &ValTypeLayer::Tuple(&numbers))?;
+        Ok(number)
+    }
+
+    /// The function type of parameters and a result.
+    fn closed_func(
+        &self,
+        alloc: Global,
+        params: &[LabelledType<'a>],
+        returned: Option<usize>,
+    ) -> Result<KeptFunc, AllocError>
+        requires { AreValues self.now.values params.now returned }
+        ensures { IfOk result (λ f. IsFuncOf self.now.values params.now returned f) }
+    {
+        let func_type = KeptFunc::of(alloc, &self.values, params, returned)?;
+        Ok(func_type)
     }
 
     /// The number of the function type of a layer, if it is there.
@@ -223,12 +274,16 @@ impl<'a> Types<'a> {
     }
 
     /// Adds a function type, and answers its number.
-    fn add_func(&mut self, func_type: KeptFunc) -> Result<usize, AllocError>
+    fn add_func(&mut self, func_type: KeptFunc, numbered: NumberedFunc) -> Result<usize, AllocError>
+        requires same { numbered.func_type ≡ func_type }
+        requires passed { IsNumbered self.old.values numbered }
         ensures ok { IfOk result (λ number. slice_get self.new.funcs number ≡ Some func_type) }
         ensures grows { Grows self.old self.new }
     {
         let number = self.funcs.len();
+        self.numbered.reserve(1)?;
         self.funcs.push(func_type)?;
+        self.numbered.push_reserved(numbered);
         Ok(number)
     }
 
@@ -305,7 +360,8 @@ impl<'a> Types<'a> {
 
     /// A function type, where its number is there.
     pub fn func_at(&self, func_type: FuncTypeRef) -> Option<&Shared<FuncType>>
-        ensures { (f : FuncType) → IsFunc self.now func_type f → MatchOption result ⊥ (λ t. t.now ≡ f) }
+        ensures stands { (f : FuncType) → IsFunc self.now func_type f → MatchOption result ⊥ (λ t. t.now ≡ f) }
+        ensures there { IfSome result (λ t. slice_get self.now.funcs func_type.number ≡ Some t.now) }
     {
         let kept = self.funcs.get(func_type.number)?;
         Some(kept.func_type())
@@ -351,5 +407,12 @@ impl<'a> Types<'a> {
         ensures { slice_get self.now.instances instance_type.number ≡ Some result.now }
     {
         &self.instances[instance_type.number]
+    }
+
+    /// The function types, with the types of values, each laid out.
+    pub fn into_func_types(self) -> FuncTypes
+        ensures { result ≡ self.entry.funcs }
+    {
+        FuncTypes::new(self.values.into_laid(), self.numbered)
     }
 }

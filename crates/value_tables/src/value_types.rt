@@ -146,4 +146,12 @@ impl<'a> ValueTypes<'a> {
         let val_type = self.value(number).share()?;
         Ok(val_type)
     }
+
+    /// The types, with what is computed of each, without what finds them.
+    pub fn into_laid(self) -> LaidTypes
+        ensures { result ≡ self.entry }
+    {
+        let ValueTypes { numbers: _, laid } = self;
+        laid
+    }
 }

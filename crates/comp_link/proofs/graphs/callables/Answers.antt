@@ -7,12 +7,13 @@ use Rattle.comp_link.proofs.graphs.callables.Goals as goal
 pub loop-entry-preserved : goal.loop-entry-preserved
 loop-entry-preserved c = record {
   lists = c.in_ok-push_called.ensures.lists;
+  typed = c.in_ok-push_called.ensures.typed c.loop-entry.invariant.typed;
   funcs = λ w given are is.
-      lists_more (IsEntry c.args.types.now w) called c.args.entries.now (listed given) [] c.loop-entry.funcs.items c.loop-entry.entry-index is (c.loop-entry.invariant.funcs w given are is)
-      _ c.push_called.new.funcs.items c.loop-entry-test.true (λ e h. c.in_ok-push_called.ensures.funcs w e are h);
+      lists_more (IsEntry c.args.types.now w) called c.args.entries.now (listed given) [] c.loop-entry.funcs.funcs.items c.loop-entry.entry-index is (c.loop-entry.invariant.funcs w given are is)
+      _ c.push_called.new.funcs.funcs.items c.loop-entry-test.true (λ e h. c.in_ok-push_called.ensures.funcs w e are h);
 }
 
-pub returns : goal.returns
-returns c = λ w given are is.
-    lists_all (IsEntry c.args.types.now w) called c.args.entries.now (listed given) [] c.loop-entry.funcs.items c.loop-entry.entry-index is (c.loop-entry.invariant.funcs w given are is) c.loop-entry-test.false
+pub returns-clause-funcs : goal.returns-clause-funcs
+returns-clause-funcs c = λ w given are is.
+    lists_all (IsEntry c.args.types.now w) called c.args.entries.now (listed given) [] c.loop-entry.funcs.funcs.items c.loop-entry.entry-index is (c.loop-entry.invariant.funcs w given are is) c.loop-entry-test.false
     ∙ sym (callables_listed given)

@@ -3,12 +3,18 @@ use Rattle.comp_graph.specs.Graph.{Graph}
 use Rattle.comp_link.proofs.Calling.{graph_told}
 use Rattle.comp_link.proofs.graphs.graph_of.Goals as goal
 
+pub new-requires-clause-canon_types : goal.new-requires-clause-canon_types
+new-requires-clause-canon_types c = rw (c.into_func_types.ensures, c.from_vec.ensures, c.from_vec-4.ensures) c.requires.typed
+
+pub new-requires-clause-export_types : goal.new-requires-clause-export_types
+new-requires-clause-export_types c = rw (c.into_func_types.ensures, c.from_vec-2.ensures, c.from_vec-5.ensures) c.in_ok-funcs.ensures.typed
+
 pub returns : goal.returns
 returns c = λ l stands.
     graph_told c.args.linker l c.new.result stands
-    (search (rules, c.new.ensures, c.from_vec.ensures))
+    (search (rules, c.new.ensures, c.from_vec-3.ensures))
     (search (rules, c.new.ensures, c.len-count.ensures))
     (search (rules, c.new.ensures, c.into_makes.ensures))
-    (search (rules, c.new.ensures, c.from_vec-2.ensures))
-    (ap (λ (g : Graph). g.exports) c.new.ensures ∙ c.from_vec-3.ensures ∙ c.in_ok-funcs.ensures.exports l stands)
-    (ap (λ (g : Graph). g.lifts) c.new.ensures ∙ c.from_vec-4.ensures ∙ c.in_ok-funcs.ensures.lifts l stands)
+    (search (rules, c.new.ensures, c.from_vec-4.ensures))
+    (ap (λ (g : Graph). g.exports) c.new.ensures ∙ c.from_vec-5.ensures ∙ c.in_ok-funcs.ensures.exports l stands)
+    (ap (λ (g : Graph). g.lifts) c.new.ensures ∙ c.from_vec-6.ensures ∙ c.in_ok-funcs.ensures.lifts l stands)

@@ -3,8 +3,11 @@ use Rattle.std.proofs.Common.{◌≡◌, ◌++◌, take}
 use Rattle.std.specs.List.{flat_map}
 use Rattle.comp_linking.specs.Definitions.{Exports}
 use Rattle.comp_link.specs.Called.{AreFuncs, funcs_of, named_behind}
+use Rattle.comp_link.specs.Typed.{AreTyped}
 use Rattle.comp_link.proofs.graphs.push_funcs.Given as goal
 
 abbrev pub invariant-loop-entry : goal.invariant-loop-entry
-invariant-loop-entry l = (given : Exports) → AreFuncs l.types l.entries given
-    → l.funcs.items ≡ l.fn.funcs.items ++ flat_map (named_behind l.front) (take l.entry-index (funcs_of given))
+invariant-loop-entry l = record {
+  funcs : (given : Exports) → AreFuncs l.types l.entries given → l.funcs.funcs.items ≡ l.fn.funcs.funcs.items ++ flat_map (named_behind l.front) (take l.entry-index (funcs_of given));
+  typed : AreTyped l.types.funcs l.fn.funcs → AreTyped l.types.funcs l.funcs;
+}

@@ -10,4 +10,4 @@ returns-clause-funcs c = λ w given are is.
     let found : listed_at c.list.new.self c.args.instance ≡ Some c.in-Some.listed.now = search (rules, c.get.ensures, c.in-Some.is) in
     let listed = subst (λ (es : List (ℕ × LiftedRef)). AreFuncs c.args.types.now es given) (sym c.as_slice.ensures) (c.in_ok-list.ensures.lists c.args.instance c.in-Some.listed.now found w given are is) in
     let front : c.as_str.result.now ≡ c.args.name.now ++ codes "#" = search (rules, c.as_str.ensures, c.in_ok-front.ensures, c.front.view_is) in
-    subst (λ (front : List ℕ). c.push_funcs.new.funcs.items ≡ c.args.funcs.now.items ++ funcs_behind front given) front (c.in_ok-push_funcs.ensures given listed)
+    subst (λ (front : List ℕ). c.push_funcs.new.funcs.funcs.items ≡ c.args.funcs.now.funcs.items ++ funcs_behind front given) front (c.in_ok-push_funcs.ensures.funcs given listed)

@@ -36,7 +36,7 @@ returns-then-not-has_lift c =
     let once : stand_once c.args.options.now ≡ true = sym c.stand_once.ensures ∙ c.if-not-stand_once.false in
     let lifts : can_be_lifted f c.args.item.now c.args.given.now ≡ true = sym (c.can_be_lifted.ensures f (c.in-Some.ensures f h)) ∙ c.if-not-can_be_lifted.false in
     let past : reaches c.args.reach (runs_lift c.args.options.now f) ≡ false =
-    ap (λ (t : FuncType). reaches c.args.reach (runs_lift c.args.options.now t)) (sym (c.get.ensures ∙ c.in-Some-func_at.ensures f h)) ∙ sym c.has_lift.ensures ∙ c.if-not-has_lift.true in
+    ap (λ (t : FuncType). reaches c.args.reach (runs_lift c.args.options.now t)) (sym (c.get.ensures ∙ c.in-Some-func_at.ensures.stands f h)) ∙ sym c.has_lift.ensures ∙ c.if-not-has_lift.true in
     told_why (IsLifted c.args.types.now) why.Limit (lifted_to c.args.reach c.args.n f c.args.item.now c.args.options.now c.args.given.now)
     (past_reach c.args.reach c.args.n f c.args.item.now c.args.options.now c.args.given.now once lifts c.in-Some-core_func.core (sym c.core_func.ensures ∙ c.in-Some-core_func.is) past)
 
@@ -46,7 +46,7 @@ returns c =
     let once : stand_once c.args.options.now ≡ true = sym c.stand_once.ensures ∙ c.if-not-stand_once.false in
     let lifts : can_be_lifted f c.args.item.now c.args.given.now ≡ true = sym (c.can_be_lifted.ensures f (c.in-Some.ensures f h)) ∙ c.if-not-can_be_lifted.false in
     let within : reaches c.args.reach (runs_lift c.args.options.now f) ≡ true =
-    ap (λ (t : FuncType). reaches c.args.reach (runs_lift c.args.options.now t)) (sym (c.get.ensures ∙ c.in-Some-func_at.ensures f h)) ∙ sym c.has_lift.ensures ∙ c.if-not-has_lift.false in
+    ap (λ (t : FuncType). reaches c.args.reach (runs_lift c.args.options.now t)) (sym (c.get.ensures ∙ c.in-Some-func_at.ensures.stands f h)) ∙ sym c.has_lift.ensures ∙ c.if-not-has_lift.false in
     told_value (IsLifted c.args.types.now) _ _ (lifted_to c.args.reach c.args.n f c.args.item.now c.args.options.now c.args.given.now)
     (is_lift c.args.reach c.args.n f c.args.item.now c.args.options.now c.args.given.now once lifts c.in-Some-core_func.core (sym c.core_func.ensures ∙ c.in-Some-core_func.is) within)
     (record { instance = refl; core = refl; options = sym c.options.ensures; func_type = h })

@@ -10,7 +10,7 @@ use Rattle.comp_link.specs.State.{Stands}
 use Rattle.comp_link.specs.Told.{IsReason, IsTold}
 use Rattle.comp_link.specs.Reached.{root_begins}
 use Rattle.comp_link.proofs.Passing.{done}
-use Rattle.comp_link.proofs.Whole.{refused_told, linked_told, few_scopes, few_cores}
+use Rattle.comp_link.proofs.Whole.{refused_told, linked_told, few_scopes, few_cores, canons_typed}
 use Rattle.comp_link.proofs.linking.link.Goals as goal
 
 pub returns-in_err-link_items-clause-refused : goal.returns-in_err-link_items-clause-refused
@@ -30,6 +30,12 @@ graph_of-requires-clause-few c =
 pub graph_of-requires-clause-few_cores : goal.graph_of-requires-clause-few_cores
 graph_of-requires-clause-few_cores c =
     few_cores c.args.reach c.args.component.now c.link_items.new.linker
+    (subst (λ (items : List (Placed Item)). IsTold (λ _ last. Stands c.link_items.new.linker last) done (run_within instance_limit (root_begun c.args.reach) 0 items)) c.as_slice-items.ensures
+    (c.in_ok-link_items.ensures.told [] (root_begun c.args.reach) c.in_ok-linker.ensures.ok c.in_ok-linker.ensures.live (root_begins c.args.reach)))
+
+pub graph_of-requires-clause-typed : goal.graph_of-requires-clause-typed
+graph_of-requires-clause-typed c =
+    canons_typed c.args.reach c.args.component.now c.link_items.new.linker
     (subst (λ (items : List (Placed Item)). IsTold (λ _ last. Stands c.link_items.new.linker last) done (run_within instance_limit (root_begun c.args.reach) 0 items)) c.as_slice-items.ensures
     (c.in_ok-link_items.ensures.told [] (root_begun c.args.reach) c.in_ok-linker.ensures.ok c.in_ok-linker.ensures.live (root_begins c.args.reach)))
 

@@ -20,6 +20,7 @@ returns-clause-ok c bases l s m items at is imports =
       scopes = (scope_set bases k c.args.n l s (with_core_instance s (exports_of m (length l.cores))) c.index_mut.result.now c.add_core_instance.new.self c.index_mut.ensures.value c.requires.here
           (λ h. subst (λ (es : List CoreExport). IsScope k.types w c.add_core_instance.new.self (with_core_instance s es)) exports (c.in_ok-add_core_instance.ensures.adds k.types w s h)) at).scopes;
       canons = at.state.canons;
+      canon_types = at.state.canon_types;
       cores = rw (at.state.cores, imports) refl;
       plan = rw (at.state.plan, c.in_ok-push.ensures.items, number) refl;
       reach = at.state.reach;

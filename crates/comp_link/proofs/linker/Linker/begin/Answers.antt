@@ -21,6 +21,7 @@ returns-clause-ok c bases l closure given h around is =
           (zips_more (IsKept k.types w) k.scopes.items l.scopes c.new.result (new_spaces (Some given) closure.around) h.scopes (kept_whole k.types w c.new.result (new_spaces (Some given) closure.around) begun));
       cores = h.cores;
       canons = h.canons;
+      canon_types = h.canon_types;
       plan = rw (h.plan, c.in_ok-push-2.ensures.items, number) refl;
       reach = h.reach;
     }

@@ -19,6 +19,7 @@ returns-clause-ok c =
           (sym (c.in_ok-push-2.ensures.items ∙ ap (λ (before : List Scope). before ++ c.new-3.result ∷ []) c.new-scopes.ensures.items)) (kept_whole c.new-4.result w c.new-3.result (new_spaces None []) root, tt);
       cores = ap (λ (cs : CoreLists). cs.makes) (sym c.new-7.ensures);
       canons = sym c.new-8.ensures.items;
+      canon_types = rw (c.new-9.ensures.items, c.new-8.ensures.items) tt;
       plan = sym (c.in_ok-push.ensures.items ∙ ap (λ (before : List Action). before ++ Begin 0 ∷ []) c.new-plan.ensures.items);
       reach = refl;
     }

@@ -5,5 +5,5 @@ use Rattle.type_tables.proofs.types.Types.extern_named.Goals as goal
 
 pub returns : goal.returns
 returns c =
-    let d = (subst (IsKept c.self.inside.func_numbers) c.self.view_is c.self.invariant).distinct in
+    let d = (subst (IsKept c.self.inside.func_numbers c.self.inside.numbered.items) c.self.view_is c.self.invariant).distinct in
     named_at c.args.self.now c.args.instance_type c.listing.result.now c.listing.ensures d c.args.name c.find.result c.find.ensures

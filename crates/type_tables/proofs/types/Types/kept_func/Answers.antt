@@ -8,4 +8,4 @@ use Rattle.type_tables.proofs.types.Types.kept_func.Goals as goal
 pub returns : goal.returns
 returns c =
     let found : c.copied.result ≡ get nat_cmp c.self.inside.func_numbers c.args.layer = search rules in
-    func_found c.args.self.now c.self.inside.func_numbers c.args.layer c.copied.result (subst (IsKept c.self.inside.func_numbers) c.self.view_is c.self.invariant) found
+    func_found c.args.self.now c.self.inside.func_numbers c.self.inside.numbered.items c.args.layer c.copied.result (subst (IsKept c.self.inside.func_numbers c.self.inside.numbered.items) c.self.view_is c.self.invariant) found

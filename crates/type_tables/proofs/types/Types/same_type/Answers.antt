@@ -7,6 +7,6 @@ use Rattle.type_tables.proofs.types.Types.same_type.Goals as goal
 
 pub returns : goal.returns
 returns c = λ f g h k.
-    let d = (subst (IsKept c.self.inside.func_numbers) c.self.view_is c.self.invariant).distinct in
+    let d = (subst (IsKept c.self.inside.func_numbers c.self.inside.numbered.items) c.self.view_is c.self.invariant).distinct in
     let tested : c.eq.result ≡ (type_eq.ghosts).eq (type_layer c.args.a) (type_layer c.args.b) = search rules in
     layers_tested (type_layer c.args.a) (type_layer c.args.b) c.eq.result tested (same_types c.args.self.now d c.args.a c.args.b f g h k)

@@ -1,0 +1,64 @@
+-- What functions pass, by numbers.
+use Rattle.std.proofs.Common.{◌≡◌, ◌<◌, ◌∙◌, ℕ, zero, suc, List, [], ◌∷◌, length, map, get_or, refl, ap, sym, subst, arith, Option, Some, None}
+use Rattle.std.specs.List.{slice_get, AllZip}
+use Rattle.std.specs.Option.{option_map, option_and_then}
+use Rattle.std.proofs.lemmas.Option.{slice_get_within, slice_get-map, slice_get_read}
+use Rattle.std.proofs.lemmas.List.{length-map}
+use Rattle.std.proofs.lemmas.Slice.Zip.{AllZip-long}
+use Rattle.ca_types.specs.declared.types.ValType.{ValType}
+use Rattle.ca_types.specs.declared.types.FuncType.{FuncType}
+use Rattle.comp_graph.specs.declared.func_types.NumberedFunc.{NumberedFunc}
+use Rattle.comp_graph.specs.declared.func_types.PassedTypes.{PassedTypes}
+use Rattle.comp_graph.specs.Passed.{params_type, MayBeValue, IsNumbered, ArePassed, HaveNumbers}
+
+pub params_there : (values : List ValType) (f : NumberedFunc) → IsNumbered values f → f.params < length values
+params_there values f h = slice_get_within values f.params (params_type f.func_type) h.params
+
+may_be_read : (values : List ValType) (number : Option ℕ) (type : Option ValType) → MayBeValue values number type → option_and_then (λ n. slice_get values n) number ≡ type
+may_be_read values None None h = refl
+may_be_read values (Some number) (Some type) h = h
+may_be_read values None (Some type) h = absurd h
+may_be_read values (Some number) None h = absurd h
+
+pub passed_told : (values : List ValType) (f : NumberedFunc) (types : PassedTypes) → IsNumbered values f → slice_get values f.params ≡ Some types.params → types.returned ≡ option_and_then (λ n. slice_get values n) f.returned → ArePassed types f.func_type
+passed_told values f types h params returned = record {
+  params = (let both : Some types.params ≡ Some (params_type f.func_type) = sym params ∙ h.params in cc);
+  returned = returned ∙ may_be_read values f.returned f.func_type.result h.returned;
+}
+
+-- What stands beside a number, and the number that stands beside a thing.
+pub beside_number : {A : Type 0} (types : List FuncType) (of : A → FuncType) (numbers : List ℕ) (xs : List A) → AllZip (λ (n : ℕ) (x : A). slice_get types n ≡ Some (of x)) numbers xs → HaveNumbers types numbers
+beside_number types of [] [] h at n is = cc
+beside_number types of [] (x ∷ xs) h at n is = absurd h
+beside_number types of (m ∷ numbers) [] h at n is = absurd h
+beside_number types of (m ∷ numbers) (x ∷ xs) h zero n is = let same : m ≡ n = cc in slice_get_within types n (of x) (ap (λ (n : ℕ). slice_get types n) (sym same) ∙ h.0)
+beside_number types of (m ∷ numbers) (x ∷ xs) h (suc at) n is = beside_number types of numbers xs h.1 at n is
+
+pub number_beside : {A : Type 0} (types : List FuncType) (of : A → FuncType) (numbers : List ℕ) (xs : List A) → AllZip (λ (n : ℕ) (x : A). slice_get types n ≡ Some (of x)) numbers xs
+    → (at : ℕ) (x : A) → slice_get xs at ≡ Some x → (n : ℕ) × (slice_get numbers at ≡ Some n) × (slice_get types n ≡ Some (of x))
+number_beside types of [] [] h at x is = cc
+number_beside types of [] (y ∷ xs) h at x is = absurd h
+number_beside types of (m ∷ numbers) [] h at x is = absurd h
+number_beside types of (m ∷ numbers) (y ∷ xs) h zero x is = let same : y ≡ x = cc in (m, refl, h.0 ∙ ap (λ y. Some (of y)) same)
+number_beside types of (m ∷ numbers) (y ∷ xs) h (suc at) x is = number_beside types of numbers xs h.1 at x is
+
+pub passed_by : {A : Type 0} (types : List FuncType) (of : A → FuncType) (numbers : List ℕ) (xs : List A) (at : ℕ) (passed : PassedTypes) → AllZip (λ (n : ℕ) (x : A). slice_get types n ≡ Some (of x)) numbers xs
+    → ((n : ℕ) (f : FuncType) → slice_get numbers at ≡ Some n → slice_get types n ≡ Some f → ArePassed passed f) → (x : A) → slice_get xs at ≡ Some x → ArePassed passed (of x)
+passed_by types of numbers xs at passed h told x is =
+    let p = number_beside types of numbers xs h at x is in
+    told p.0 (of x) p.1 p.2
+
+pub func_read : (funcs : List NumberedFunc) (types : List FuncType) (number : ℕ) (f : NumberedFunc) → map (λ (f : NumberedFunc). f.func_type) funcs ≡ types → number < length types → f ≡ get_or funcs number f
+    → (slice_get funcs number ≡ Some f) × (slice_get types number ≡ Some f.func_type)
+func_read funcs types number f view within is =
+    let long : length types ≡ length funcs = ap length (sym view) ∙ length-map funcs (λ (f : NumberedFunc). f.func_type) in
+    let there = slice_get_read funcs (length funcs) number f refl (omega (arith, within, long)) is in
+    (there, ap (λ (types : List FuncType). slice_get types number) (sym view) ∙ slice_get-map (λ (f : NumberedFunc). f.func_type) funcs number ∙ ap (option_map (λ (f : NumberedFunc). f.func_type)) there)
+
+pub passed_of : (types : List FuncType) (number : ℕ) (made : FuncType) (passed : PassedTypes) → slice_get types number ≡ Some made → ArePassed passed made → (f : FuncType) → slice_get types number ≡ Some f → ArePassed passed f
+passed_of types number made passed there h f is = subst (λ (f : FuncType). ArePassed passed f) (let both : Some made ≡ Some f = sym there ∙ is in cc) h
+
+pub number_within : {A : Type 0} (types : List FuncType) (of : A → FuncType) (numbers : List ℕ) (xs : List A) → AllZip (λ (n : ℕ) (x : A). slice_get types n ≡ Some (of x)) numbers xs → (at : ℕ) → at < length xs → at < length numbers
+number_within {A} types of numbers xs h at within =
+    let long : length xs ≡ length numbers = AllZip-long (λ (n : ℕ) (x : A). slice_get types n ≡ Some (of x)) numbers xs h in
+    omega (arith, long, within)
