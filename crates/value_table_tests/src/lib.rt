@@ -1,9 +1,8 @@
 //! Tests of types of values as numbers, and of function types over them: tables of cases, whose answers are derived by hand.
 //!
 //! A case is a line of a text: the layers of types one after the other, each with the numbers of the types before it, and the numbers
-//! that are wanted; or the types of a function's parameters and result, and what lifts ask of
-//! it, or how what it passes is laid out. Each test states how many cases it
-//! has.
+//! that are wanted; or the types of a function's parameters and result, and what lifts ask of it, or the sizes of what it passes. Each
+//! test states how many cases it has.
 //!
 //! - `putting`: layers of words, put into a table
 //! - `labelling`: function types of words, put into a table

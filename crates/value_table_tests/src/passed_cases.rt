@@ -37,9 +37,9 @@ fn passed(alloc: Global, types: &FuncTypes, number: usize) -> Result<String, Fai
 }
 
 /// Function types.
-struct Passed;
+struct Sizes;
 
-impl Answers for Passed {
+impl Answers for Sizes {
     fn answer(alloc: Global, given: &str) -> Result<String, Fail> {
         let mut types = Types::new(alloc);
         let made = func_type(alloc, &mut types, given)?;
@@ -49,5 +49,5 @@ impl Answers for Passed {
 
 #[test]
 fn passed_types_are_laid_out(rt: HostRuntime) -> Result<(), Fail> {
-    check_lines::<Passed>(rt.alloc(), PASSED, " = ", 6)
+    check_lines::<Sizes>(rt.alloc(), PASSED, " = ", 6)
 }
