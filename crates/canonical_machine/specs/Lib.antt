@@ -5,6 +5,7 @@ pub mod Reading
 pub mod Turn
 pub mod Traps
 pub mod Passing
+pub mod Plain
 pub mod Instantiating
 pub mod Returning
 pub mod CoreSteps

@@ -6,6 +6,17 @@ pub mod ItemsApart
 pub mod GraphsApart
 pub mod Bytes
 pub mod DataBytes
+mod ItemsRead
 pub mod ModulesRead
 pub mod SoundModules
 pub mod Samples
+mod Counting
+pub mod SoundCalls
+mod TypesStand
+mod CountedTypes
+mod CountedMeanings
+mod CountedSpaces
+mod CountedGraphs
+mod TypesRead
+mod ComponentTypes
+mod PlainTypes

@@ -1,17 +1,21 @@
 -- What the graph of a component has, where it is linked (Component Model, Explainer.md, "Instance Definitions" and "Canonical
 -- Definitions"), and what its modules have, where it was read before (Binary.md, "Core Definitions"; Core 2.0, section 5.5).
 use Rattle.std.specs.Prelude.{ℕ, List}
+use Rattle.std.specs.List.{AllByRecursion}
 use Rattle.wasm_module.specs.declared.module.ModuleTree.{ModuleTree}
 use Rattle.wasm_valid.specs.Modules.{Typed}
 use Rattle.core_machine.specs.Instantiation.{InRange}
 use Rattle.comp_tree.specs.declared.items.Component.{Component}
 use Rattle.comp_reader.specs.Binary.{IsComponent}
 use Rattle.comp_graph.specs.Graph.{Graph}
+use Rattle.script_reader.specs.Script.{Script, CallsExport}
 use Rattle.comp_linking.specs.declared.reach.Reach.{Reach}
 use Rattle.comp_linking.specs.Standing.{StandsIn}
 use Rattle.comp_linking.specs.Linked.{IsLinked}
-use Rattle.canonical_machine.specs.Sound.{AreBytes, HasBytes, Makes, IsSoundGraph}
+use Rattle.canonical_machine.specs.Sound.{AreBytes, HasBytes, Makes, IsSoundGraph, IsSound}
 use Rattle.canonical_machine.specs.Owners.{IsApart}
+use Rattle.canonical_machine.specs.Plain.{IsPlain}
+use Rattle.linked_graphs.specs.Counted.{HasCountedFuncs}
 
 -- A module that is valid, no memory of which begins with more pages than any may have, and whose data are bytes.
 pub record IsSoundModule (m : ModuleTree) : Type 0 where
@@ -49,3 +53,19 @@ ReadModulesAreSound = (bytes : List ℕ) (c : Component) → AreBytes bytes → 
 
 abbrev pub ReadGraphsAreSound : Type 0
 ReadGraphsAreSound = (reach : Reach) (bytes : List ℕ) (c : Component) (g : Graph) → AreBytes bytes → IsComponent bytes c → IsLinked reach c g → IsSoundGraph g
+
+-- What functions of a graph pass that is read of bytes and linked has types whose labels are counted.
+abbrev pub ReadTypesAreCounted : Type 0
+ReadTypesAreCounted =
+    (reach : Reach) (bytes : List ℕ) (c : Component) (g : Graph)
+    → AreBytes bytes → IsComponent bytes c → IsLinked reach c g → HasCountedFuncs g
+
+-- Such a graph passes no handle and no end.
+abbrev pub CountedGraphsArePlain : Type 0
+CountedGraphsArePlain = (g : Graph) → HasCountedFuncs g → IsPlain g
+
+-- A script whose items call exports of such a graph, which is sound, is sound.
+abbrev pub CallsAreSound : Type 0
+CallsAreSound =
+    (g : Graph) (s : Script)
+    → IsSoundGraph g → HasCountedFuncs g → AllByRecursion (CallsExport g.exports) s.items → IsSound g s

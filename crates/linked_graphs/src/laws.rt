@@ -1,7 +1,7 @@
 //! What holds of every linked graph, and of the modules that are read.
 
 ghost use Rattle.canonical_machine.specs.Sound.{AreBytes};
-ghost use Rattle.linked_graphs.specs.Laws.{LinkedGraphsAreSound, PlansMakeInOrder, LinkedGraphsAreApart, ReadModulesAreTyped, ReadDataAreBytes, ReadModulesAreSound, ReadGraphsAreSound};
+ghost use Rattle.linked_graphs.specs.Laws.{LinkedGraphsAreSound, PlansMakeInOrder, LinkedGraphsAreApart, ReadModulesAreTyped, ReadDataAreBytes, ReadModulesAreSound, ReadGraphsAreSound, ReadTypesAreCounted, CountedGraphsArePlain, CallsAreSound};
 
 use comp_linking::laws::graphs_are_sound;
 
@@ -42,4 +42,21 @@ pub fn read_graphs_are_sound()
 /// A file of the program is one of bytes, as the laws of what is read of it ask.
 pub fn files_are_bytes(file: &[u8])
     ensures { AreBytes file.now }
+{}
+
+/// The types of what functions of a component pass that is read of bytes and linked have counted labels: flags at most 32, and a
+/// variant and an enum fewer than 2^32. They hold no handle and no end.
+pub fn read_types_are_counted()
+    ensures { ReadTypesAreCounted }
+{}
+
+/// Functions that pass values of such types pass no handle and no end.
+pub fn counted_graphs_are_plain()
+    ensures { CountedGraphsArePlain }
+{}
+
+/// A script whose items call exports of a sound graph is sound, where its functions pass values of types whose labels are counted:
+/// what such a call passes is of its type.
+pub fn calls_are_sound()
+    ensures { CallsAreSound }
 {}
