@@ -13,4 +13,4 @@ mod nested;
 mod store_room;
 
 pub use nested::{HostCall, NestedTrap};
-pub use store_room::{LowerOptions, StoreRoom};
+pub use store_room::{LowerOptions, StoreRoom, Taken};

@@ -8,6 +8,7 @@ use crate::nested::{HostCall, NestedTrap, realloc_in, run_realloc};
 use ca_base::Fuel;
 use core_machine::Store;
 use std::alloc::Global;
+use std::mem;
 use value_lower::{Room, RoomEnd};
 
 /// What canonical options say of a lowering (Component Model, CanonicalABI.md, "Lifting and Lowering Context").
@@ -17,6 +18,17 @@ pub struct LowerOptions {
     pub memory: usize,
     /// The address of the function that gives out places in it, where the options have one.
     pub realloc: Option<usize>,
+}
+
+/// What a room works on, taken out of it.
+#[derive(Drop)]
+pub struct Taken {
+    /// The store.
+    pub store: Store,
+    /// The fuel that is left.
+    pub fuel: Fuel,
+    /// The call of the host that is kept.
+    pub call: Option<HostCall>,
 }
 
 /// A memory of a store in which values are lowered. A realloc runs the options' function on a stack of its own, over the same store
@@ -53,6 +65,17 @@ impl<'a> StoreRoom<'a> {
             fuel,
             call,
             options,
+        }
+    }
+
+    /// Takes out what the room works on. What it lends has an empty store then. So its caller knows it where only an answer tells it.
+    pub fn take_out(&mut self, alloc: Global) -> Taken
+        ensures { record { store = result.store; units = result.fuel; call = result.call } ≡ state_of self.old }
+    {
+        Taken {
+            store: mem::replace(self.store, Store::new(alloc)),
+            fuel: Fuel::new(self.fuel.left()),
+            call: self.call.take(),
         }
     }
 }

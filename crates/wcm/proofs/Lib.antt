@@ -1,4 +1,3 @@
-pub mod Modules
 pub mod Outcomes
 pub mod Rows
 pub mod Sounds

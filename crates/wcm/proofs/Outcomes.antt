@@ -1,6 +1,6 @@
--- Words whose files are told have exactly one outcome.
+-- Words whose files are told, of bytes, have exactly one outcome.
 use Rattle.std.proofs.Common.{◌≡◌, ◌⊎◌, ℕ, List, [], length, Option, Some, None, Result, Ok, Err, inl, inr, refl}
-use Rattle.std.specs.Option.{IsSome, MatchOption}
+use Rattle.std.specs.Option.{IfSome, IsSome, MatchOption}
 use Rattle.std.proofs.lemmas.Bool.{cases_lt}
 use Rattle.comp_tree.specs.declared.items.Component.{Component}
 use Rattle.comp_reader.specs.Binary.{IsComponent}
@@ -9,71 +9,73 @@ use Rattle.script_reader.specs.declared.fault.ScriptFault.{ScriptFault}
 use Rattle.script_reader.specs.Script.{Script, script}
 use Rattle.wcm.specs.declared.answer.Answer.{Answer}
 use Rattle.comp_graph.specs.Graph.{Graph}
-use Rattle.comp_linking.specs.declared.reach.Reach.TheVariants.{Runs}
+use Rattle.comp_linking.specs.declared.reach.Reach.TheVariants.{Whole}
 use Rattle.comp_linking.specs.Linked.{IsLinked}
 use Rattle.comp_linking.specs.Laws.{LinkedOrRefused}
-use Rattle.wcm.specs.Laws.{ScriptsAreSound, OneOutcome}
-use Rattle.abi_machine.specs.Laws.{EachRunEnds}
+use Rattle.wcm.specs.Laws.{HoldsBytes, ScriptsAreSound, OneOutcome}
+use Rattle.canonical_machine.specs.Sound.{AreBytes}
+use Rattle.canonical_machine.specs.Ending.{EachRunEnds}
+use Rattle.linked_graphs.specs.Laws.{LinkedGraphsAreApart}
 use Rattle.command_words.specs.Words.{Command, Run, Check, Show, command_of, component_file}
-use Rattle.wcm.specs.Outcome.{component_limit, too_long, refused_answer, link_refused_answer, script_refused_answer, accepted_answer, shown_answer, run_answer, reach_of, IsUsage, ScriptAnswers, LinkAnswers, FileAnswers, HeldScriptAnswers, GraphAnswers, HeldAnswers, CommandAnswers, DecidesAlone, IsScriptTold, IsCommandTold}
+use Rattle.wcm.specs.Outcome.{component_limit, too_long, refused_answer, link_refused_answer, script_refused_answer, accepted_answer, shown_answer, run_answer, IsUsage, ScriptAnswers, LinkAnswers, FileAnswers, HeldScriptAnswers, GraphAnswers, HeldAnswers, CommandAnswers, DecidesAlone, IsScriptTold, IsCommandTold}
 use Rattle.wcm.proofs.Rows.{usage_answer}
 use Rattle.wcm.proofs.Rows as only
 
-module _ (reading : OneReading) (links : LinkedOrRefused) (sound : ScriptsAreSound) (ends : EachRunEnds) where
-  by_script : (bytes text : List ℕ) (c : Component) (g : Graph) (r : Result Script ScriptFault) → IsComponent bytes c → IsLinked Runs c g → script g.exports text ≡ r → (a : Answer) × ScriptAnswers g text a
-  by_script bytes text c g (Err fault) i l h = (script_refused_answer fault, inl (fault, h, refl))
-  by_script bytes text c g (Ok s) i l h =
-      let run = ends g s (sound bytes text c g s i l h) in
-      (run_answer run.0 run.1, inr (s, h, (run.0, run.1, run.2, refl)))
+module _ (reading : OneReading) (links : LinkedOrRefused) (sound : ScriptsAreSound) (apart : LinkedGraphsAreApart) (ends : EachRunEnds) where
+  by_script : (bytes text : List ℕ) (c : Component) (g : Graph) (r : Result Script ScriptFault) → AreBytes bytes → IsComponent bytes c → IsLinked Whole c g → script g.exports text ≡ r → (a : Answer) × ScriptAnswers g text a
+  by_script bytes text c g (Err fault) b i l h = (script_refused_answer fault, inl (fault, h, refl))
+  by_script bytes text c g (Ok s) b i l h =
+      let run = ends g s (sound bytes text c g s b i l h) (apart Whole c g l) in
+      (run_answer run.0 run.2, inr (s, h, (run.0, run.1, run.2, run.3, refl)))
 
-  by_held_script : (bytes : List ℕ) (c : Component) (g : Graph) (o : Option (List ℕ)) → IsComponent bytes c → IsLinked Runs c g → IsSome o → (a : Answer) × HeldScriptAnswers g o a
-  by_held_script bytes c g None i l told = cc
-  by_held_script bytes c g (Some text) i l told = by_script bytes text c g (script g.exports text) i l refl
+  by_held_script : (bytes : List ℕ) (c : Component) (g : Graph) (o : Option (List ℕ)) → AreBytes bytes → IsComponent bytes c → IsLinked Whole c g → IsSome o → (a : Answer) × HeldScriptAnswers g o a
+  by_held_script bytes c g None b i l told = cc
+  by_held_script bytes c g (Some text) b i l told = by_script bytes text c g (script g.exports text) b i l refl
 
   -- the answer of a command behind a graph
-  by_command : (bytes : List ℕ) (command : Command) (held : List ℕ → Option (List ℕ)) (c : Component) (g : Graph) → IsComponent bytes c → IsLinked (reach_of command) c g → IsScriptTold command held → (a : Answer) × GraphAnswers command held g a
-  by_command bytes (Run f s) held c g i l told = by_held_script bytes c g (held s) i l told
-  by_command bytes (Check f) held c g i l told = (accepted_answer, refl)
-  by_command bytes (Show f) held c g i l told = (shown_answer g, refl)
+  by_command : (bytes : List ℕ) (command : Command) (held : List ℕ → Option (List ℕ)) (c : Component) (g : Graph) → AreBytes bytes → IsComponent bytes c → IsLinked Whole c g → IsScriptTold command held → (a : Answer) × GraphAnswers command held g a
+  by_command bytes (Run f s) held c g b i l told = by_held_script bytes c g (held s) b i l told
+  by_command bytes (Check f) held c g b i l told = (accepted_answer, refl)
+  by_command bytes (Show f) held c g b i l told = (shown_answer g, refl)
 
-  by_link : (bytes : List ℕ) (command : Command) (held : List ℕ → Option (List ℕ)) (c : Component) → IsComponent bytes c → IsScriptTold command held → (a : Answer) × LinkAnswers (reach_of command) c a (λ g. GraphAnswers command held g a)
-  by_link bytes command held c i told =
-      elim (links (reach_of command) c) [
+  by_link : (bytes : List ℕ) (command : Command) (held : List ℕ → Option (List ℕ)) (c : Component) → AreBytes bytes → IsComponent bytes c → IsScriptTold command held → (a : Answer) × LinkAnswers c a (λ g. GraphAnswers command held g a)
+  by_link bytes command held c b i told =
+      elim (links Whole c) [
         | inl good ↦
-            let a = by_command bytes command held c good.0 i good.1 told in
+            let a = by_command bytes command held c good.0 b i good.1 told in
             (a.0, inr (good.0, good.1, a.1))
         | inr bad ↦ (link_refused_answer bad.0, inl (bad.0, bad.1, refl))
       ]
 
-  by_file : (bytes : List ℕ) (command : Command) (held : List ℕ → Option (List ℕ)) → IsScriptTold command held → (a : Answer) × FileAnswers (reach_of command) bytes a (λ g. GraphAnswers command held g a)
-  by_file bytes command held told =
+  by_file : (bytes : List ℕ) (command : Command) (held : List ℕ → Option (List ℕ)) → AreBytes bytes → IsScriptTold command held → (a : Answer) × FileAnswers bytes a (λ g. GraphAnswers command held g a)
+  by_file bytes command held b told =
       elim (cases_lt component_limit (length bytes)) [
         | inl long ↦ (refused_answer too_long, inl (too_long, inl (long, refl), refl))
         | inr short ↦ elim (reading bytes) [
           | inl good ↦
-              let a = by_link bytes command held good.0 good.1 told in
+              let a = by_link bytes command held good.0 b good.1 told in
               (a.0, inr (good.0, (short, good.1), a.1))
           | inr bad ↦ (refused_answer bad.0, inl (bad.0, inr (short, bad.1), refl))
         ]
       ]
 
-  by_held : (held_file : Option (List ℕ)) (command : Command) (held : List ℕ → Option (List ℕ)) → MatchOption held_file ⊥ (λ bytes. DecidesAlone (reach_of command) bytes ⊎ IsScriptTold command held) → (a : Answer) × HeldAnswers (reach_of command) held_file a (λ g. GraphAnswers command held g a)
-  by_held None command held told = absurd told
-  by_held (Some bytes) command held told =
+  by_held : (held_file : Option (List ℕ)) (command : Command) (held : List ℕ → Option (List ℕ)) → IfSome held_file AreBytes → MatchOption held_file ⊥ (λ bytes. DecidesAlone bytes ⊎ IsScriptTold command held) → (a : Answer) × HeldAnswers held_file a (λ g. GraphAnswers command held g a)
+  by_held None command held b told = absurd told
+  by_held (Some bytes) command held b told =
       elim told [
         | inl alone ↦ elim alone [
           | inl bad ↦ (refused_answer bad.0, inl (bad.0, bad.1, refl))
           | inr bad ↦ (link_refused_answer bad.1, inr (bad.0, bad.2, inl (bad.1, bad.3, refl)))
         ]
-        | inr script ↦ by_file bytes command held script
+        | inr script ↦ by_file bytes command held b script
       ]
 
-  by_words : (held : List ℕ → Option (List ℕ)) (o : Option Command) → MatchOption o (Unit {0}) (λ command. IsCommandTold command held)
+  by_words : (held : List ℕ → Option (List ℕ)) (o : Option Command) → HoldsBytes held → MatchOption o (Unit {0}) (λ command. IsCommandTold command held)
       → (a : Answer) × MatchOption o (IsUsage a) (λ command. CommandAnswers command held a)
-  by_words held None told = (usage_answer [], record { status = refl; out = refl })
-  by_words held (Some command) told = by_held (held (component_file command)) command held told
+  by_words held None b told = (usage_answer [], record { status = refl; out = refl })
+  by_words held (Some command) b told = by_held (held (component_file command)) command held (b (component_file command)) told
 
   pub one_outcome : OneOutcome
-  one_outcome words held told =
-      let a = by_words held (command_of words) told in
+  one_outcome words held bytes told =
+      let a = by_words held (command_of words) bytes told in
       (a.0, a.1, λ other h. only.one_outcome words held a.0 other a.1 h)

@@ -16,20 +16,19 @@ use Rattle.wcm.specs.declared.answer.Answer.{Answer}
 use Rattle.wcm.specs.declared.status.Status.{Status}
 use Rattle.wcm.specs.declared.status.Status.TheVariants.{Done, Trap, Usage, Refused, LinkRefused, ScriptRefused, Fuel}
 use Rattle.trace_show.specs.declared.label.Label.{Label}
-use Rattle.abi_machine.specs.declared.run_end.RunEnd.{RunEnd}
-use Rattle.abi_machine.specs.declared.run_end.RunEnd.TheVariants as ends
+use Rattle.canonical_machine.specs.declared.run_end.RunEnd.{RunEnd}
+use Rattle.canonical_machine.specs.declared.run_end.RunEnd.TheVariants as ends
 use Rattle.comp_graph.specs.Graph.{Graph}
-use Rattle.comp_linking.specs.declared.reach.Reach.{Reach}
+use Rattle.comp_linking.specs.declared.reach.Reach.TheVariants.{Whole}
 use Rattle.comp_linking.specs.Linked.{IsLinked, IsLinkRefused}
-use Rattle.abi_machine.specs.World.{first_world}
 use Rattle.wcm.specs.Status.{status_of, IsBehindGraph}
 use Rattle.wcm.specs.Laws.{IsSameOutcome}
 use Rattle.command_words.specs.Words.{Command, Run, Check, Show, command_of, component_file}
 use Rattle.wcm.specs.Gives.{ScriptGives, GraphGives, CommandGives}
-use Rattle.wcm.specs.Outcome.{Outcome, reach_of, IsUsage, DecidesAlone, IsScriptTold, IsCommandTold, IsTold, IsComponentTold, IsComponentFile, IsRefusedFile, RunAnswers, ScriptAnswers, LinkAnswers, FileAnswers, HeldScriptAnswers, GraphAnswers, HeldAnswers, CommandAnswers, run_answer, refused_answer, link_refused_answer, script_refused_answer, accepted_answer, shown_answer, asks_of_graph, NamesRefused, NamesLinkRefused, NamesLinked, NamesAccepted, NamesGraph, NamesScriptRefused, NamesRun, NamesTrap, NamesDone}
+use Rattle.wcm.specs.Outcome.{Outcome, IsUsage, DecidesAlone, IsScriptTold, IsCommandTold, IsTold, IsComponentTold, IsComponentFile, IsRefusedFile, RunAnswers, ScriptAnswers, LinkAnswers, FileAnswers, HeldScriptAnswers, GraphAnswers, HeldAnswers, CommandAnswers, run_answer, refused_answer, link_refused_answer, script_refused_answer, accepted_answer, shown_answer, asks_of_graph, NamesRefused, NamesLinkRefused, NamesLinked, NamesAccepted, NamesGraph, NamesScriptRefused, NamesRun, NamesTrap, NamesDone}
 use Rattle.comp_linking.proofs.Following as following
 use Rattle.comp_linking.proofs.Following.{one_graph, linked_is_not_refused}
-use Rattle.abi_machine.proofs.Worlds.{one_run}
+use Rattle.canonical_machine.proofs.Runs.{one_run}
 
 -- what matches is not refused, and matches nothing else
 ok_inj : {A E : Type 0} {x y : A} → ◌≡◌ {A = Result A E} (Ok x) (Ok y) → x ≡ y
@@ -87,8 +86,8 @@ script_or_not exports bytes s e h k =
 -- The files have one answer.
 one_of_run : (g : Graph) (s : Script) (a b : Answer) → RunAnswers g s a → RunAnswers g s b → a ≡ b
 one_of_run g s a b h k =
-    let same = one_run g (first_world g s) h.0 k.0 h.1 k.1 h.2 k.2 in
-    h.3 ∙ (ap (λ (labels : List Label). run_answer labels h.1) same.0 ∙ (ap (λ (end : RunEnd). run_answer k.0 end) same.1 ∙ sym k.3))
+    let same = one_run g s h.0 k.0 h.1 k.1 h.2 k.2 h.3 k.3 in
+    h.4 ∙ (ap (λ (labels : List Label). run_answer labels h.2) same.0 ∙ (ap (λ (end : RunEnd). run_answer k.0 end) same.2 ∙ sym k.4))
 
 one_of_script : (g : Graph) (t : List ℕ) (a b : Answer) → ScriptAnswers g t a → ScriptAnswers g t b → a ≡ b
 one_of_script g t a b h k =
@@ -115,22 +114,22 @@ one_of_graph (Run file script) held g a b h k = one_of_held_script g (held scrip
 one_of_graph (Check file) held g a b h k = h ∙ sym k
 one_of_graph (Show file) held g a b h k = h ∙ sym k
 
-one_of_link : (c : Component) (command : Command) (held : List ℕ → Option (List ℕ)) (a b : Answer) → LinkAnswers (reach_of command) c a (λ g. GraphAnswers command held g a) → LinkAnswers (reach_of command) c b (λ g. GraphAnswers command held g b) → a ≡ b
+one_of_link : (c : Component) (command : Command) (held : List ℕ → Option (List ℕ)) (a b : Answer) → LinkAnswers c a (λ g. GraphAnswers command held g a) → LinkAnswers c b (λ g. GraphAnswers command held g b) → a ≡ b
 one_of_link c command held a b h k =
     elim h [
       | inl bad ↦ elim k [
-        | inl worse ↦ bad.2 ∙ (ap (λ (f : LinkFault). link_refused_answer f) (following.one_refusal (reach_of command) c bad.0 worse.0 bad.1 worse.1) ∙ sym worse.2)
-        | inr good ↦ absurd (linked_is_not_refused (reach_of command) c good.0 bad.0 good.1 bad.1)
+        | inl worse ↦ bad.2 ∙ (ap (λ (f : LinkFault). link_refused_answer f) (following.one_refusal Whole c bad.0 worse.0 bad.1 worse.1) ∙ sym worse.2)
+        | inr good ↦ absurd (linked_is_not_refused Whole c good.0 bad.0 good.1 bad.1)
       ]
       | inr good ↦ elim k [
-        | inl bad ↦ absurd (linked_is_not_refused (reach_of command) c good.0 bad.0 good.1 bad.1)
+        | inl bad ↦ absurd (linked_is_not_refused Whole c good.0 bad.0 good.1 bad.1)
         | inr better ↦
-            let same : better.0 ≡ good.0 = one_graph (reach_of command) c better.0 good.0 better.1 good.1 in
+            let same : better.0 ≡ good.0 = one_graph Whole c better.0 good.0 better.1 good.1 in
             one_of_graph command held good.0 a b good.2 (subst (λ (g : Graph). GraphAnswers command held g b) same better.2)
       ]
     ]
 
-one_of_file : (bytes : List ℕ) (command : Command) (held : List ℕ → Option (List ℕ)) (a b : Answer) → FileAnswers (reach_of command) bytes a (λ g. GraphAnswers command held g a) → FileAnswers (reach_of command) bytes b (λ g. GraphAnswers command held g b) → a ≡ b
+one_of_file : (bytes : List ℕ) (command : Command) (held : List ℕ → Option (List ℕ)) (a b : Answer) → FileAnswers bytes a (λ g. GraphAnswers command held g a) → FileAnswers bytes b (λ g. GraphAnswers command held g b) → a ≡ b
 one_of_file bytes command held a b h k =
     elim h [
       | inl bad ↦ elim k [
@@ -141,11 +140,11 @@ one_of_file bytes command held a b h k =
         | inl bad ↦ absurd (component_or_not bytes good.0 bad.0 good.1 bad.1)
         | inr better ↦
             let same : better.0 ≡ good.0 = one_component bytes better.0 good.0 better.1 good.1 in
-            one_of_link good.0 command held a b good.2 (subst (λ (c : Component). LinkAnswers (reach_of command) c b (λ g. GraphAnswers command held g b)) same better.2)
+            one_of_link good.0 command held a b good.2 (subst (λ (c : Component). LinkAnswers c b (λ g. GraphAnswers command held g b)) same better.2)
       ]
     ]
 
-one_of_held : (held_file : Option (List ℕ)) (command : Command) (held : List ℕ → Option (List ℕ)) (a b : Answer) → HeldAnswers (reach_of command) held_file a (λ g. GraphAnswers command held g a) → HeldAnswers (reach_of command) held_file b (λ g. GraphAnswers command held g b) → a ≡ b
+one_of_held : (held_file : Option (List ℕ)) (command : Command) (held : List ℕ → Option (List ℕ)) (a b : Answer) → HeldAnswers held_file a (λ g. GraphAnswers command held g a) → HeldAnswers held_file b (λ g. GraphAnswers command held g b) → a ≡ b
 one_of_held None command held a b h k = absurd h
 one_of_held (Some bytes) command held a b h k = one_of_file bytes command held a b h k
 
@@ -164,13 +163,13 @@ one_answer words held command a b e h k =
     subst (λ (o : Option Command). MatchOption o ((b.status ≡ a.status) × (b.out ≡ a.out)) (λ command. b ≡ a)) e (one_outcome words held a b h k)
 
 -- A file that decides alone is of no component that is linked.
-decided : (reach : Reach) (bytes : List ℕ) (c : Component) (g : Graph) → IsComponentFile bytes c → IsLinked reach c g → DecidesAlone reach bytes → ⊥
-decided reach bytes c g i l d =
+decided : (bytes : List ℕ) (c : Component) (g : Graph) → IsComponentFile bytes c → IsLinked Whole c g → DecidesAlone bytes → ⊥
+decided bytes c g i l d =
     elim d [
       | inl bad ↦ component_or_not bytes c bad.0 i bad.1
       | inr bad ↦
           let same : bad.0 ≡ c = one_component bytes bad.0 c bad.2 i in
-          linked_is_not_refused reach c g bad.1 l (subst (λ (d : Component). IsLinkRefused reach d bad.1) same bad.3)
+          linked_is_not_refused Whole c g bad.1 l (subst (λ (d : Component). IsLinkRefused Whole d bad.1) same bad.3)
     ]
 
 -- what is given behind a graph, where what the command asks for is told
@@ -184,20 +183,20 @@ given_graph (Check file) held g a h i = h
 given_graph (Show file) held g a h i = h
 
 -- what a component file gives is its answer, where the files that the command asks for are told
-given_file : (bytes : List ℕ) (command : Command) (held : List ℕ → Option (List ℕ)) (a : Answer) → FileAnswers (reach_of command) bytes a (λ g. GraphGives command held g a) → DecidesAlone (reach_of command) bytes ⊎ IsScriptTold command held → FileAnswers (reach_of command) bytes a (λ g. GraphAnswers command held g a)
+given_file : (bytes : List ℕ) (command : Command) (held : List ℕ → Option (List ℕ)) (a : Answer) → FileAnswers bytes a (λ g. GraphGives command held g a) → DecidesAlone bytes ⊎ IsScriptTold command held → FileAnswers bytes a (λ g. GraphAnswers command held g a)
 given_file bytes command held a h told =
     elim h [
       | inl bad ↦ inl bad
       | inr good ↦ elim good.2 [
         | inl bad ↦ inr (good.0, good.1, inl bad)
         | inr linked ↦ elim told [
-          | inl alone ↦ absurd (decided (reach_of command) bytes good.0 linked.0 good.1 linked.1 alone)
+          | inl alone ↦ absurd (decided bytes good.0 linked.0 good.1 linked.1 alone)
           | inr script ↦ inr (good.0, good.1, inr (linked.0, linked.1, given_graph command held linked.0 a linked.2 script))
         ]
       ]
     ]
 
-given_held : (held_file : Option (List ℕ)) (command : Command) (held : List ℕ → Option (List ℕ)) (a : Answer) → IfSome held_file (λ bytes. FileAnswers (reach_of command) bytes a (λ g. GraphGives command held g a)) → MatchOption held_file ⊥ (λ bytes. DecidesAlone (reach_of command) bytes ⊎ IsScriptTold command held) → HeldAnswers (reach_of command) held_file a (λ g. GraphAnswers command held g a)
+given_held : (held_file : Option (List ℕ)) (command : Command) (held : List ℕ → Option (List ℕ)) (a : Answer) → IfSome held_file (λ bytes. FileAnswers bytes a (λ g. GraphGives command held g a)) → MatchOption held_file ⊥ (λ bytes. DecidesAlone bytes ⊎ IsScriptTold command held) → HeldAnswers held_file a (λ g. GraphAnswers command held g a)
 given_held None command held a h told = absurd told
 given_held (Some bytes) command held a h told = given_file bytes command held a h told
 
@@ -247,9 +246,7 @@ refused_or_linked words held command g n m =
 link_or_linked : (words : List (List ℕ)) (held : List ℕ → Option (List ℕ)) (command : Command) (g : Graph) → NamesLinkRefused words held → NamesLinked words held command g → ⊥
 link_or_linked words held command g n m =
     let same : n.bytes ≡ m.bytes = same_bytes words held n.command command n.bytes m.bytes n.words_name m.words_name n.holds m.holds in
-    let named : n.command ≡ command = same_command words n.command command n.words_name m.words_name in
-    let refused : IsLinkRefused (reach_of command) n.component n.fault = subst (λ (c : Command). IsLinkRefused (reach_of c) n.component n.fault) named n.refused in
-    decided (reach_of command) m.bytes m.component g m.read m.linked (inr (n.component, n.fault, subst (λ (x : List ℕ). IsComponentFile x n.component) same n.read, refused))
+    decided m.bytes m.component g m.read m.linked (inr (n.component, n.fault, subst (λ (x : List ℕ). IsComponentFile x n.component) same n.read, n.refused))
 
 -- what came of the component file
 data CameOfFile (words : List (List ℕ)) (held : List ℕ → Option (List ℕ)) (s : Status) : Type 0 where
@@ -262,7 +259,7 @@ behind_graph (Run file script) held g a h = h.0
 behind_graph (Check file) held g a h = subst (λ (b : Answer). IsBehindGraph b.status) (sym h) tt
 behind_graph (Show file) held g a h = subst (λ (b : Answer). IsBehindGraph b.status) (sym h) tt
 
-came_of_file : (words : List (List ℕ)) (held : List ℕ → Option (List ℕ)) (command : Command) (o : Option (List ℕ)) (a : Answer) → command_of words ≡ Some command → held (component_file command) ≡ o → IsSome o → IfSome o (λ bytes. FileAnswers (reach_of command) bytes a (λ g. GraphGives command held g a)) → CameOfFile words held a.status
+came_of_file : (words : List (List ℕ)) (held : List ℕ → Option (List ℕ)) (command : Command) (o : Option (List ℕ)) (a : Answer) → command_of words ≡ Some command → held (component_file command) ≡ o → IsSome o → IfSome o (λ bytes. FileAnswers bytes a (λ g. GraphGives command held g a)) → CameOfFile words held a.status
 came_of_file words held command None a e h told gives = cc
 came_of_file words held command (Some bytes) a e h told gives =
     elim gives [
@@ -312,7 +309,7 @@ came_script words held a g t n h =
       | inl bad ↦ OfScript (ap (λ (b : Answer). b.status) bad.2) (record { graph = g; text = t; fault = bad.0; named = n; refused = bad.1 })
       | inr run ↦
           let r = run.2 in
-          OfRun r.1 (ap (λ (b : Answer). b.status) r.3) (record { graph = g; text = t; said = run.0; labels = r.0; named = n; read_script = run.1; runs = r.2 })
+          OfRun r.2 (ap (λ (b : Answer). b.status) r.4) (record { graph = g; text = t; said = run.0; labels = r.0; last = r.1; named = n; read_script = run.1; runs = r.3 })
     ]
 
 came_held_script : (words : List (List ℕ)) (held : List ℕ → Option (List ℕ)) (f s : List ℕ) (g : Graph) (o : Option (List ℕ)) (a : Answer) → NamesLinked words held (Run f s) g → held s ≡ o → HeldScriptAnswers g o a → Came words held a.status
@@ -325,7 +322,7 @@ came_graph words held (Run f s) g a n answers = came_held_script words held f s 
 came_graph words held (Check f) g a n answers = OfGraph (ap (λ (b : Answer). b.status) answers) (record { command = Check f; graph = g; named = n; asks = refl })
 came_graph words held (Show f) g a n answers = OfGraph (ap (λ (b : Answer). b.status) answers) (record { command = Show f; graph = g; named = n; asks = refl })
 
-came_held : (words : List (List ℕ)) (held : List ℕ → Option (List ℕ)) (command : Command) (o : Option (List ℕ)) (a : Answer) → command_of words ≡ Some command → held (component_file command) ≡ o → HeldAnswers (reach_of command) o a (λ g. GraphAnswers command held g a) → Came words held a.status
+came_held : (words : List (List ℕ)) (held : List ℕ → Option (List ℕ)) (command : Command) (o : Option (List ℕ)) (a : Answer) → command_of words ≡ Some command → held (component_file command) ≡ o → HeldAnswers o a (λ g. GraphAnswers command held g a) → Came words held a.status
 came_held words held command None a e h answers = absurd answers
 came_held words held command (Some bytes) a e h answers =
     elim answers [
@@ -354,6 +351,7 @@ of_script words held s k (OfGraph e n) = cc
 of_script words held s k (OfScript e n) = n
 of_script words held s k (OfRun ends.Done e n) = cc
 of_script words held s k (OfRun (ends.Trapped task why) e n) = cc
+of_script words held s k (OfRun (ends.Deadlock tasks) e n) = cc
 of_script words held s k (OfRun ends.Fuel e n) = cc
 
 of_done : (words : List (List ℕ)) (held : List ℕ → Option (List ℕ)) (s : Status) → s ≡ Done → Came words held s → NamesDone words held
@@ -363,6 +361,7 @@ of_done words held s k (OfGraph e n) = inl n
 of_done words held s k (OfScript e n) = cc
 of_done words held s k (OfRun ends.Done e n) = inr n
 of_done words held s k (OfRun (ends.Trapped task why) e n) = cc
+of_done words held s k (OfRun (ends.Deadlock tasks) e n) = cc
 of_done words held s k (OfRun ends.Fuel e n) = cc
 
 of_fuel : (words : List (List ℕ)) (held : List ℕ → Option (List ℕ)) (s : Status) → s ≡ Fuel → Came words held s → NamesRun words held ends.Fuel
@@ -372,6 +371,7 @@ of_fuel words held s k (OfGraph e n) = cc
 of_fuel words held s k (OfScript e n) = cc
 of_fuel words held s k (OfRun ends.Done e n) = cc
 of_fuel words held s k (OfRun (ends.Trapped task why) e n) = cc
+of_fuel words held s k (OfRun (ends.Deadlock tasks) e n) = cc
 of_fuel words held s k (OfRun ends.Fuel e n) = n
 
 of_trap : (words : List (List ℕ)) (held : List ℕ → Option (List ℕ)) (s : Status) → s ≡ Trap → Came words held s → NamesTrap words held
@@ -381,13 +381,14 @@ of_trap words held s k (OfGraph e n) = cc
 of_trap words held s k (OfScript e n) = cc
 of_trap words held s k (OfRun ends.Done e n) = cc
 of_trap words held s k (OfRun (ends.Trapped task why) e n) = (task, why, n)
+of_trap words held s k (OfRun (ends.Deadlock tasks) e n) = cc
 of_trap words held s k (OfRun ends.Fuel e n) = cc
 
 -- the outcome of words that name a component that is linked
 linked_outcome : (words : List (List ℕ)) (held : List ℕ → Option (List ℕ)) (command : Command) (g : Graph) (a : Answer) → NamesLinked words held command g → GraphAnswers command held g a → Outcome words held a
 linked_outcome words held command g a n h =
-    let file : FileAnswers (reach_of command) n.bytes a (λ g. GraphAnswers command held g a) = inr (n.component, n.read, inr (g, n.linked, h)) in
-    of_answers words held command a n.words_name (subst (λ (o : Option (List ℕ)). HeldAnswers (reach_of command) o a (λ g. GraphAnswers command held g a)) (sym n.holds) file)
+    let file : FileAnswers n.bytes a (λ g. GraphAnswers command held g a) = inr (n.component, n.read, inr (g, n.linked, h)) in
+    of_answers words held command a n.words_name (subst (λ (o : Option (List ℕ)). HeldAnswers o a (λ g. GraphAnswers command held g a)) (sym n.holds) file)
 
 -- such an outcome is the answer
 linked_answer : (words : List (List ℕ)) (held : List ℕ → Option (List ℕ)) (command : Command) (g : Graph) (a b : Answer) → NamesLinked words held command g → GraphAnswers command held g b → Outcome words held a → a ≡ b
@@ -405,7 +406,7 @@ row_script_refused words held command a e h =
 -- the status of a run
 run_status : (words : List (List ℕ)) (held : List ℕ → Option (List ℕ)) (a : Answer) (end : RunEnd) → Outcome words held a → NamesRun words held end → a.status ≡ status_of end
 run_status words held a end h n =
-    ap (λ (b : Answer). b.status) (script_answer words held n.graph n.text a (run_answer n.labels end) n.named (inr (n.said, n.read_script, (n.labels, end, n.runs, refl))) h)
+    ap (λ (b : Answer). b.status) (script_answer words held n.graph n.text a (run_answer n.labels end) n.named (inr (n.said, n.read_script, (n.labels, n.last, end, n.runs, refl))) h)
 
 -- the status of a graph that is checked or shown
 graph_status : (words : List (List ℕ)) (held : List ℕ → Option (List ℕ)) (a : Answer) (command : Command) (g : Graph) → Outcome words held a → NamesLinked words held command g → asks_of_graph command ≡ true → a.status ≡ Done

@@ -1,57 +1,57 @@
--- The graph of a component that is read and linked is sound, and so is a script that is read for it.
-use Rattle.std.proofs.Common.{◌≡◌, List, [], ◌∷◌, Result, Ok, subst}
+-- The graph of a component that is read and linked is apart and passes no handle and no end, and what is read as a script for it is sound.
+use Rattle.std.proofs.Common.{◌≡◌, List, Result, Ok, sym, subst}
 use Rattle.std.specs.Prelude.{IfOk}
 use Rattle.std.specs.List.{AllByRecursion}
-use Rattle.wasm_valid.specs.Modules.{Typed}
-use Rattle.core_machine.specs.Instantiation.{InRange}
 use Rattle.ca_types.specs.declared.exports.Export.{Export}
-use Rattle.comp_tree.specs.declared.items.Component.{Component}
-use Rattle.comp_graph.specs.Graph.{CoreMake, Graph, IsCallable}
-use Rattle.comp_linking.specs.declared.reach.Reach.TheVariants.{Runs}
-use Rattle.comp_linking.specs.Standing.{StandsIn}
-use Rattle.comp_linking.specs.Laws.{GraphsAreImported, GraphsAreCallable, ModulesStand}
+use Rattle.comp_graph.specs.Graph.{Graph}
+use Rattle.comp_linking.specs.declared.reach.Reach.TheVariants.{Whole}
 use Rattle.script_reader.specs.declared.fault.ScriptFault.{ScriptFault}
 use Rattle.script_reader.specs.Script.{Script, CallsExport}
 use Rattle.script_reader.specs.Laws.{ScriptsCallExports}
-use Rattle.abi_machine.specs.Laws.{SoundGraph}
-use Rattle.component_run.specs.Laws.{CallsAreSound}
+use Rattle.canonical_machine.specs.Sound.{IsSound}
+use Rattle.canonical_machine.specs.Owners.{IsApart}
+use Rattle.canonical_machine.specs.Plain.{IsPlain}
+use Rattle.canonical_machine.specs.declared.run_end.RunEnd.{RunEnd}
+use Rattle.canonical_machine.specs.declared.run_end.RunEnd.TheVariants as ends
+use Rattle.canonical_machine.specs.World.{World}
+use Rattle.canonical_machine.specs.Run.{Runs}
+use Rattle.canonical_machine.specs.Over.{NoDeadlock}
+use Rattle.trace_show.specs.declared.label.Label.{Label}
+use Rattle.world.specs.declared.script_run.Run.{Run}
+use Rattle.world.specs.Ran.{IsRunOf}
+use Rattle.wcm.specs.declared.status.Status.{Status}
+use Rattle.wcm.specs.Status.{status_of, IsBehindGraph}
+use Rattle.linked_graphs.specs.Laws.{LinkedGraphsAreApart, ReadGraphsAreSound, ReadTypesAreCounted, CountedGraphsArePlain, CallsAreSound}
 use Rattle.wcm.specs.Outcome.{IsOfComponent}
-use Rattle.wcm.specs.Laws.{LinkedGraphsAreSound, LinkedGraphsHaveSoundModules, ScriptsAreSound}
-use Rattle.wcm.proofs.Modules.{AllFit, component_typed}
+use Rattle.wcm.specs.Laws.{ScriptsAreSound}
 
--- The modules of the core instances stand in the component.
-all_typed : (c : Component) (cores : List CoreMake) → AllFit c → AllByRecursion (λ core. StandsIn core.of_module c.items) cores → AllByRecursion (λ core. Typed core.of_module) cores
-all_typed c [] fit stand = tt
-all_typed c (core ∷ cores) fit stand = ((fit core.of_module stand.0).typed, all_typed c cores fit stand.1)
+pub scripts_are_sound : ReadGraphsAreSound → ReadTypesAreCounted → ScriptsCallExports → CallsAreSound → ScriptsAreSound
+scripts_are_sound graphs counted called calls bytes text c g script are read links h =
+    calls g script (graphs Whole bytes c g are read links) (counted Whole bytes c g are read links) (called g.exports text script h)
 
-all_in_range : (c : Component) (cores : List CoreMake) → AllFit c → AllByRecursion (λ core. StandsIn core.of_module c.items) cores → AllByRecursion (λ core. InRange core.of_module) cores
-all_in_range c [] fit stand = tt
-all_in_range c (core ∷ cores) fit stand = ((fit core.of_module stand.0).range, all_in_range c cores fit stand.1)
+-- The graph of a component.
+pub apart_of : LinkedGraphsAreApart → (g : Graph) → IsOfComponent g → IsApart g
+apart_of apart g of = apart Whole of.0 g of.2
 
-pub have_sound_modules : GraphsAreImported → ModulesStand → LinkedGraphsHaveSoundModules
-have_sound_modules imported stand reach bytes c g read links =
-    let fit = component_typed bytes c read in
-    let stands = stand reach c g links in
-    record { valid = all_typed c g.cores fit stands; in_range = all_in_range c g.cores fit stands; imported = imported reach c g links }
-
-pub linked_graphs_are_sound : LinkedGraphsHaveSoundModules → GraphsAreCallable → LinkedGraphsAreSound
-linked_graphs_are_sound modules callable bytes c g read links =
-    let sound = modules Runs bytes c g read links in
-    let plain = (callable c g links).plain in
-    record { valid = sound.valid; in_range = sound.in_range; imported = sound.imported; plain = plain }
-
-pub scripts_are_sound : LinkedGraphsAreSound → GraphsAreCallable → ScriptsCallExports → CallsAreSound → ScriptsAreSound
-scripts_are_sound sound callable called calls bytes text c g script read links h =
-    calls g script.items (sound bytes c g read links) (callable c g links) (called g.exports text script h)
-
--- The graph of a component, as scripts call it.
-pub sound_of : LinkedGraphsAreSound → (g : Graph) → IsOfComponent Runs g → SoundGraph g
-sound_of sound g of = sound of.1.0 of.0 g of.1.1 of.2
-
-pub callable_of : GraphsAreCallable → (g : Graph) → IsOfComponent Runs g → IsCallable g
-callable_of callable g of = callable of.0 g of.2
+pub plain_of : ReadTypesAreCounted → CountedGraphsArePlain → (g : Graph) → IsOfComponent g → IsPlain g
+plain_of counted plain g of = plain g (counted Whole of.1.0 of.0 g of.1.1 of.1.2 of.2)
 
 -- What is read as a script for a graph.
-pub calls_of : (g : Graph) (exports : List Export) (r : Result Script ScriptFault) (script : Script) → exports ≡ g.exports → r ≡ Ok script → IfOk r (λ s. AllByRecursion (CallsExport exports) s.items) → AllByRecursion (CallsExport g.exports) script.items
+calls_of : (g : Graph) (exports : List Export) (r : Result Script ScriptFault) (script : Script) → exports ≡ g.exports → r ≡ Ok script → IfOk r (λ s. AllByRecursion (CallsExport exports) s.items) → AllByRecursion (CallsExport g.exports) script.items
 calls_of g exports r script e h calls =
     subst (λ (es : List Export). AllByRecursion (CallsExport es) script.items) e (subst (λ (r : Result Script ScriptFault). IfOk r (λ (s : Script). AllByRecursion (CallsExport exports) s.items)) h calls)
+
+pub sound_of : ReadGraphsAreSound → ReadTypesAreCounted → CallsAreSound → (g : Graph) (exports : List Export) (r : Result Script ScriptFault) (script : Script) → IsOfComponent g → exports ≡ g.exports → r ≡ Ok script
+    → IfOk r (λ s. AllByRecursion (CallsExport exports) s.items) → IsSound g script
+sound_of graphs counted calls g exports r script of e h called =
+    calls g script (graphs Whole of.1.0 of.0 g of.1.1 of.1.2 of.2) (counted Whole of.1.0 of.0 g of.1.1 of.1.2 of.2) (calls_of g exports r script e h called)
+
+-- The status of a run's end is none of a deadlock.
+given_end : NoDeadlock → (g : Graph) (s : Script) (labels : List Label) (last : World) (end : RunEnd) → Runs g s labels last end → IsBehindGraph (status_of end)
+given_end none g s labels last ends.Done r = tt
+given_end none g s labels last (ends.Trapped task why) r = tt
+given_end none g s labels last (ends.Deadlock tasks) r = absurd (none g s r.0 last tasks r.1 r.2)
+given_end none g s labels last ends.Fuel r = tt
+
+pub given_status : NoDeadlock → (g : Graph) (s : Script) (run : Run) (status : Status) → IsRunOf g s run → status ≡ status_of run.end → IsBehindGraph status
+given_status none g s run status ran e = subst IsBehindGraph (sym e) (given_end none g s run.labels ran.last run.end ran.runs)

@@ -4,7 +4,7 @@ use Rattle.std.specs.Prelude.{◌≡◌, ℕ, List, Option}
 use Rattle.std.specs.Option.{IfSome}
 use Rattle.wcm.specs.declared.answer.Answer.{Answer}
 use Rattle.comp_graph.specs.Graph.{Graph}
-use Rattle.wcm.specs.Outcome.{reach_of, ScriptAnswers, FileAnswers, accepted_answer, shown_answer}
+use Rattle.wcm.specs.Outcome.{ScriptAnswers, FileAnswers, accepted_answer, shown_answer}
 use Rattle.wcm.specs.Status.{IsBehindGraph}
 use Rattle.command_words.specs.Words.{Command, Run, Check, Show, component_file}
 
@@ -20,4 +20,4 @@ GraphGives (Show file) held g a = a ≡ shown_answer g
 
 -- an answer for a command, by what is held
 abbrev pub CommandGives : Command → (List ℕ → Option (List ℕ)) → Answer → Type 0
-CommandGives command held a = IfSome (held (component_file command)) (λ bytes. FileAnswers (reach_of command) bytes a (λ g. GraphGives command held g a))
+CommandGives command held a = IfSome (held (component_file command)) (λ bytes. FileAnswers bytes a (λ g. GraphGives command held g a))

@@ -1,7 +1,7 @@
 -- The outcome of a call of the program, from its words and the files that are held. The words lead to a command, and each
--- command has its own case: for all of them the component file and its linking decide it first, in this order, where `run` links
--- as far as can be run, and `check` and `show` over all that is read; behind a graph `check` and `show` tell of it, and for `run`
--- the script file and the run decide. The script is asked for behind a linked graph alone.
+-- command has its own case: for all of them the component file and its linking decide it first, in this order, and each links over
+-- all that is read; behind a graph `check` and `show` tell of it, and for `run` the script file and the run decide. The script is
+-- asked for behind a linked graph alone.
 use Rattle.std.specs.Prelude.{◌≡◌, ◌<◌, ◌≤◌, ◌⊎◌, ℕ, Bool, true, false, List, [], length, Option, Some, IsSome}
 use Rattle.std.specs.Option.{MatchOption}
 use Rattle.ca_base.specs.declared.refusal.Refusal.{Refusal}
@@ -15,16 +15,16 @@ use Rattle.comp_linking.specs.declared.fault.LinkFault.{LinkFault}
 use Rattle.comp_graph.specs.Graph.{Graph}
 use Rattle.trace_show.specs.declared.label.Label.{Label}
 use Rattle.trace_show.specs.LabelText.{trace_text}
-use Rattle.abi_machine.specs.declared.run_end.RunEnd.{RunEnd}
-use Rattle.abi_machine.specs.declared.run_end.RunEnd.TheVariants.{Trapped}
-use Rattle.abi_machine.specs.declared.run_end.RunEnd.TheVariants as ends
-use Rattle.abi_machine.specs.World.{first_world}
-use Rattle.abi_machine.specs.Run.{Runs, lines_of}
+use Rattle.canonical_machine.specs.declared.run_end.RunEnd.{RunEnd}
+use Rattle.canonical_machine.specs.declared.run_end.RunEnd.TheVariants.{Trapped}
+use Rattle.canonical_machine.specs.declared.run_end.RunEnd.TheVariants as ends
+use Rattle.canonical_machine.specs.World.{World}
+use Rattle.canonical_machine.specs.Run.{Runs, trace_of}
+use Rattle.canonical_machine.specs.Sound.{AreBytes}
 use Rattle.trace_show.specs.declared.trap.TrapName.{TrapName}
 use Rattle.wcm.specs.declared.answer.Answer.{Answer}
 use Rattle.wcm.specs.declared.status.Status.TheVariants.{Done, Usage, Refused, ScriptRefused, LinkRefused}
-use Rattle.comp_linking.specs.declared.reach.Reach.{Reach}
-use Rattle.comp_linking.specs.declared.reach.Reach.TheVariants as reaches
+use Rattle.comp_linking.specs.declared.reach.Reach.TheVariants.{Whole}
 use Rattle.comp_linking.specs.Linked.{IsLinked, IsLinkRefused}
 use Rattle.wcm.specs.Refusals.{refused_line, link_refused_line, script_refused_line}
 use Rattle.wcm.specs.Shown.{accepted_text, graph_text}
@@ -33,16 +33,10 @@ use Rattle.command_words.specs.Words.{Command, Run, Check, Show, command_of, com
 
 -- what is read of some bytes, and the graph of it
 abbrev pub IsRead : Component → Type 0
-IsRead c = (bytes : List ℕ) × IsComponent bytes c
+IsRead c = (bytes : List ℕ) × AreBytes bytes × IsComponent bytes c
 
-abbrev pub IsOfComponent : Reach → Graph → Type 0
-IsOfComponent reach g = (c : Component) × IsRead c × IsLinked reach c g
-
--- how far a command links: `run` within what can be run, `check` and `show` over all that is read
-abbrev pub reach_of : Command → Reach
-reach_of (Run file script) = reaches.Runs
-reach_of (Check file) = reaches.Whole
-reach_of (Show file) = reaches.Whole
+abbrev pub IsOfComponent : Graph → Type 0
+IsOfComponent g = (c : Component) × IsRead c × IsLinked Whole c g
 
 -- how many bytes a component file may have: 16 MiB
 abbrev pub component_limit : ℕ
@@ -85,11 +79,11 @@ shown_answer g = record { status = Done; out = graph_text g; err = [] }
 
 -- the answer of a run
 abbrev pub run_answer : List Label → RunEnd → Answer
-run_answer labels end = record { status = status_of end; out = trace_text (lines_of labels end); err = [] }
+run_answer labels end = record { status = status_of end; out = trace_text (trace_of labels end); err = [] }
 
 -- the answer is that of the run of the graph under this script
 abbrev pub RunAnswers : Graph → Script → Answer → Type 0
-RunAnswers g script a = (labels : List Label) × (end : RunEnd) × Runs g (first_world g script) labels end × (a ≡ run_answer labels end)
+RunAnswers g script a = (labels : List Label) × (last : World) × (end : RunEnd) × Runs g script labels last end × (a ≡ run_answer labels end)
 
 -- the answer for a graph and the bytes of a script file
 abbrev pub ScriptAnswers : Graph → List ℕ → Answer → Type 0
@@ -97,17 +91,17 @@ ScriptAnswers g text a =
     ((fault : ScriptFault) × IsScriptRefused g.exports text fault × (a ≡ script_refused_answer fault))
     ⊎ ((script : Script) × IsScript g.exports text script × RunAnswers g script a)
 
--- the answer for a component, where linking goes so far: it is not linked, or the answer is what is said behind its graph
-abbrev pub LinkAnswers : Reach → Component → Answer → (Graph → Type 0) → Type 0
-LinkAnswers reach c a behind =
-    ((fault : LinkFault) × IsLinkRefused reach c fault × (a ≡ link_refused_answer fault))
-    ⊎ ((g : Graph) × IsLinked reach c g × behind g)
+-- the answer for a component: it is not linked, or the answer is what is said behind its graph
+abbrev pub LinkAnswers : Component → Answer → (Graph → Type 0) → Type 0
+LinkAnswers c a behind =
+    ((fault : LinkFault) × IsLinkRefused Whole c fault × (a ≡ link_refused_answer fault))
+    ⊎ ((g : Graph) × IsLinked Whole c g × behind g)
 
 -- the answer for the bytes of a component file: they are refused, or the answer is that for their component
-abbrev pub FileAnswers : Reach → List ℕ → Answer → (Graph → Type 0) → Type 0
-FileAnswers reach bytes a behind =
+abbrev pub FileAnswers : List ℕ → Answer → (Graph → Type 0) → Type 0
+FileAnswers bytes a behind =
     ((refusal : Refusal ComponentWhy) × IsRefusedFile bytes refusal × (a ≡ refused_answer refusal))
-    ⊎ ((c : Component) × IsComponentFile bytes c × LinkAnswers reach c a behind)
+    ⊎ ((c : Component) × IsComponentFile bytes c × LinkAnswers c a behind)
 
 -- the answer for a graph and what is held as the script file
 abbrev pub HeldScriptAnswers : Graph → Option (List ℕ) → Answer → Type 0
@@ -120,23 +114,22 @@ GraphAnswers (Check file) held g a = a ≡ accepted_answer
 GraphAnswers (Show file) held g a = a ≡ shown_answer g
 
 -- the answer for what is held as the component file
-abbrev pub HeldAnswers : Reach → Option (List ℕ) → Answer → (Graph → Type 0) → Type 0
-HeldAnswers reach held_file a behind = MatchOption held_file ⊥ (λ bytes. FileAnswers reach bytes a behind)
+abbrev pub HeldAnswers : Option (List ℕ) → Answer → (Graph → Type 0) → Type 0
+HeldAnswers held_file a behind = MatchOption held_file ⊥ (λ bytes. FileAnswers bytes a behind)
 
 -- the answer for a command, where these files are held
 abbrev pub CommandAnswers : Command → (List ℕ → Option (List ℕ)) → Answer → Type 0
-CommandAnswers command held a =
-    HeldAnswers (reach_of command) (held (component_file command)) a (λ g. GraphAnswers command held g a)
+CommandAnswers command held a = HeldAnswers (held (component_file command)) a (λ g. GraphAnswers command held g a)
 
 -- the outcome of words, where these files are held
 abbrev pub Outcome : List (List ℕ) → (List ℕ → Option (List ℕ)) → Answer → Type 0
 Outcome words held a = MatchOption (command_of words) (IsUsage a) (λ command. CommandAnswers command held a)
 
--- the bytes of a component file decide the answer, where linking goes so far: they are refused, or their component is not linked
-abbrev pub DecidesAlone : Reach → List ℕ → Type 0
-DecidesAlone reach bytes =
+-- the bytes of a component file decide the answer: they are refused, or their component is not linked
+abbrev pub DecidesAlone : List ℕ → Type 0
+DecidesAlone bytes =
     ((refusal : Refusal ComponentWhy) × IsRefusedFile bytes refusal)
-    ⊎ ((c : Component) × (fault : LinkFault) × IsComponentFile bytes c × IsLinkRefused reach c fault)
+    ⊎ ((c : Component) × (fault : LinkFault) × IsComponentFile bytes c × IsLinkRefused Whole c fault)
 
 -- what a command asks for behind a graph is told: `run` asks for the script file, `check` and `show` for nothing
 abbrev pub IsScriptTold : Command → (List ℕ → Option (List ℕ)) → Type 0
@@ -147,7 +140,7 @@ IsScriptTold (Show file) held = Unit {0}
 -- the files that a command asks for are told: the component file, and the script file unless that one decides the answer
 abbrev pub IsCommandTold : Command → (List ℕ → Option (List ℕ)) → Type 0
 IsCommandTold command held =
-    MatchOption (held (component_file command)) ⊥ (λ bytes. DecidesAlone (reach_of command) bytes ⊎ IsScriptTold command held)
+    MatchOption (held (component_file command)) ⊥ (λ bytes. DecidesAlone bytes ⊎ IsScriptTold command held)
 
 -- the files that the words ask for are told
 abbrev pub IsTold : List (List ℕ) → (List ℕ → Option (List ℕ)) → Type 0
@@ -175,7 +168,7 @@ pub record NamesLinkRefused (words : List (List ℕ)) (held : List ℕ → Optio
   pub words_name : command_of words ≡ Some command
   pub holds : held (component_file command) ≡ Some bytes
   pub read : IsComponentFile bytes component
-  pub refused : IsLinkRefused (reach_of command) component fault
+  pub refused : IsLinkRefused Whole component fault
 
 -- the words name a component file that is linked to this graph, and this command for it
 pub record NamesLinked (words : List (List ℕ)) (held : List ℕ → Option (List ℕ)) (command : Command) (g : Graph) : Type 0 where
@@ -184,7 +177,7 @@ pub record NamesLinked (words : List (List ℕ)) (held : List ℕ → Option (Li
   pub words_name : command_of words ≡ Some command
   pub holds : held (component_file command) ≡ Some bytes
   pub read : IsComponentFile bytes component
-  pub linked : IsLinked (reach_of command) component g
+  pub linked : IsLinked Whole component g
 
 -- the words name a component that is linked, which they ask to check or to show
 abbrev pub asks_of_graph : Command → Bool
@@ -219,9 +212,10 @@ pub record NamesRun (words : List (List ℕ)) (held : List ℕ → Option (List 
   pub text : List ℕ
   pub said : Script
   pub labels : List Label
+  pub last : World
   pub named : NamesGraph words held graph text
   pub read_script : IsScript graph.exports text said
-  pub runs : Runs graph (first_world graph said) labels end
+  pub runs : Runs graph said labels last end
 
 -- the words name a component that is linked, and a script for it whose run ends in a trap
 abbrev pub NamesTrap : List (List ℕ) → (List ℕ → Option (List ℕ)) → Type 0

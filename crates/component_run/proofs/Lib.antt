@@ -1,9 +1,0 @@
-pub mod Arguments
-pub mod Behind
-pub mod Calls
-pub mod CoreRuns
-pub mod Fitting
-pub mod Instancing
-pub mod Leads
-pub mod Sounds
-pub mod Supplied

@@ -1,0 +1,5 @@
+use Rattle.wcm.proofs.Sounds.{given_status}
+use Rattle.wcm.proofs.answer.run_answer.Goals as goal
+
+pub returns-clause-status : goal.returns-clause-status
+returns-clause-status c = given_status c.tasks_are_over.ensures.no_deadlock c.args.graph.now c.args.script.now c.in_ok-run.run' c.status_of_end.result c.in_ok-run.ensures c.status_of_end.ensures

@@ -1,0 +1,25 @@
+use Rattle.world.proofs.StartRuns.{start_typed, start_done, start_traps, start_wants, call_within, start_cannot_leave}
+use Rattle.world.proofs.starting.run_start.Goals as goal
+
+pub run-requires : goal.run-requires
+run-requires c = record { typed = start_typed c.args.graph.now c.args.script.now c.args.state.now c.args.next c.args.running c.requires.sound c.requires.apart c.requires.at }
+
+pub returns-in-Done : goal.returns-in-Done
+returns-in-Done c = start_done c.args.graph.now c.args.script.now c.args.state.now c.args.next c.args.running _ c.run.new.store c.run.new.fuel c.requires.at c.in-Done.ensures.gives
+
+pub returns-in-Trapped : goal.returns-in-Trapped
+returns-in-Trapped c =
+    start_traps c.args.graph.now c.args.script.now c.args.state.now c.args.next c.args.running c.in-Trapped.why c.run.new.store c.run.new.fuel c.core_name.result c.requires.at c.in-Trapped.ensures.gives c.core_name.ensures
+
+pub returns-in-NoFuel : goal.returns-in-NoFuel
+returns-in-NoFuel c = start_wants c.args.graph.now c.args.script.now c.args.state.now c.args.next c.args.running c.in-NoFuel.running c.run.new.store c.run.new.fuel c.requires.at c.in-NoFuel.ensures.gives
+
+pub builtin_of-builtin-requires : goal.builtin_of-builtin-requires
+builtin_of-builtin-requires c =
+    call_within c.args.graph.now c.args.script.now c.args.state.now c.args.next c.args.running c.in-Calls.number c.in-Calls.words c.in-Calls.suspended c.run.new.store c.run.new.fuel c.requires.sound c.requires.apart c.requires.at
+    c.in-Calls.ensures.gives
+
+pub returns-in_ok-push-in-Calls : goal.returns-in_ok-push-in-Calls
+returns-in_ok-push-in-Calls c =
+    start_cannot_leave c.args.graph.now c.args.script.now c.args.state.now c.args.next c.args.running c.in-Calls.number c.in-Calls.words c.in-Calls.suspended c.run.new.store c.run.new.fuel
+    c.builtin_of-builtin.result c.push.new.self c.requires.sound c.requires.apart c.requires.at c.in-Calls.ensures.gives c.builtin_of-builtin.ensures c.in_ok-push-in-Calls.ensures.ok

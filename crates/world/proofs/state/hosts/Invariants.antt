@@ -1,0 +1,7 @@
+use Rattle.std.proofs.Common.{◌≡◌, map}
+use Rattle.core_machine.specs.Store.{Host}
+use Rattle.core_machine.specs.Instantiation.{empty}
+use Rattle.world.proofs.state.hosts.Given as goal
+
+abbrev pub invariant-loop-func_type : goal.invariant-loop-func_type
+invariant-loop-func_type l = l.store ≡ record empty { funcs = map Host l.yielded }

@@ -1,0 +1,136 @@
+-- What the parts of a run do with its data (Component Model, CanonicalABI.md, `canon lift` and `canon lower`): the fuel that they spend, the
+-- tasks that wait, and where a stack that runs leads.
+use Rattle.std.specs.Prelude.{◌≡◌, ◌≤◌, ◌<◌, ℕ, Bool, false, ◌||◌, List, [], ◌∷◌, ◌++◌, Option, Some, None, MatchOption}
+use Rattle.std.specs.List.{AllByRecursion}
+use Rattle.std.specs.Option.{option_map}
+use Rattle.core_machine.specs.Stack.{Stack, Running, AtHost, Given}
+use Rattle.core_machine.specs.Step.{resume}
+use Rattle.comp_graph.specs.declared.graph.Lower.{Lower}
+use Rattle.comp_graph.specs.Graph.{Graph}
+use Rattle.script_reader.specs.Script.{Script}
+use Rattle.canonical_machine.specs.declared.run_end.RunEnd.{RunEnd}
+use Rattle.canonical_machine.specs.Reading.{is_in, lower_at, lifted_of}
+use Rattle.world.specs.declared.running.Stop.{Stop}
+use Rattle.world.specs.declared.running.Stop.TheVariants as stop
+use Rattle.world.specs.declared.next_task.Leaving.{Leaving}
+use Rattle.world.specs.declared.next_task.Leaving.TheVariants as leaving
+use Rattle.world.specs.declared.next_task.Onward.{Onward}
+use Rattle.world.specs.declared.next_task.Onward.TheVariants as onward
+use Rattle.world.specs.declared.state.Waiter.{Waiter}
+use Rattle.world.specs.declared.state.RunState.{RunState}
+use Rattle.world.specs.Seen.{waiters, IsAtFree, IsAtArrival, IsAtReturn, EndsBy}
+use Rattle.world.specs.Points.{IsAtBack}
+
+-- a stack that is at no call of a core function of the Canonical ABI without a frame
+abbrev pub IsHeld : Stack → Type 0
+IsHeld (Running f fs) = Unit {0}
+IsHeld (AtHost address words) = ⊥
+IsHeld (Given words) = Unit {0}
+
+-- so are those of all tasks that wait
+abbrev pub AreHeld : List Waiter → Type 0
+AreHeld us = AllByRecursion (λ u. IsHeld u.stack.stack) us
+
+-- whether one of these tasks that wait called a function of this component instance
+abbrev pub is_called : Graph → List Waiter → ℕ → Bool
+is_called g [] inst = false
+is_called g (u ∷ us) inst = is_in inst (option_map lifted_of (lower_at g u.canon)) || is_called g us inst
+
+-- A part spends fuel or none, and leaves the tasks that wait as they are.
+pub record Spends (old new : RunState) : Type 0 where
+  pub left : new.left ≤ old.left
+  pub waiting : new.waiting.items ≡ old.waiting.items
+
+-- An item was taken, which costs a unit.
+pub record Takes (old new : RunState) : Type 0 where
+  pub left : new.left < old.left
+  pub waiting : new.waiting.items ≡ old.waiting.items
+
+-- A stack rests at a call: its task is the innermost that waits, on a stack that is held. One that was held has paid for the call.
+pub record Waits (old new : RunState) (k : Stack) : Type 0 where
+  pub left : new.left ≤ old.left
+  pub waiter : Waiter
+  pub more : new.waiting.items ≡ old.waiting.items ++ waiter ∷ []
+  pub held : IsHeld waiter.stack.stack
+  pub pays : IsHeld k → new.left < old.left
+
+-- what became of the data where this stack ran
+abbrev pub Stopped : RunState → RunState → Stack → Stop → Type 0
+Stopped old new k stop.AtCall = Waits old new k
+Stopped old new k (stop.Returns words) = Spends old new
+Stopped old new k (stop.Ends end) = Unit {0}
+
+-- The innermost task that waits calls a function of a component instance of which no other one that waits calls one.
+abbrev pub CallsAnother : Graph → List Waiter → Type 0
+CallsAnother g [] = ⊥
+CallsAnother g (u ∷ below) = (lower : Lower) × (lower_at g u.canon ≡ Some lower) × (is_called g below lower.lift.instance ≡ false)
+
+-- what became of the data where its call has begun
+pub record Begins (g : Graph) (old new : RunState) : Type 0 where
+  pub spends : Spends old new
+  pub another : CallsAnother g (waiters old)
+
+-- Control went back: one task less waits, and goes on on this stack.
+pub record GoesBack (old new : RunState) (words : List ℕ) (k : Stack) : Type 0 where
+  pub left : new.left ≤ old.left
+  pub waiter : Waiter
+  pub fewer : old.waiting.items ≡ new.waiting.items ++ waiter ∷ []
+  pub stack : k ≡ resume words waiter.stack.stack
+
+-- Where a run is when a task has exited.
+abbrev pub LeavesAt : Graph → Script → RunState → Leaving → Type 0
+LeavesAt g s run leaving.Free = IsAtFree g s run
+LeavesAt g s run (leaving.Back words) = IsAtBack g s run words
+LeavesAt g s run (leaving.Ends end) = EndsBy g s run end
+
+-- Where it goes on.
+abbrev pub GoesOnAt : Graph → Script → RunState → Onward → Type 0
+GoesOnAt g s run (onward.Arrives t) = IsAtArrival g s run t
+GoesOnAt g s run (onward.Returns t words) = IsAtReturn g s run t words
+GoesOnAt g s run (onward.Ends end) = EndsBy g s run end
+
+-- A call has begun behind it: one task more waits, on a stack that is held, and calls a function of a component instance of which none that
+-- waits calls one.
+pub record CallsMore (g : Graph) (old new : RunState) : Type 0 where
+  pub left : new.left ≤ old.left
+  pub waiter : Waiter
+  pub more : new.waiting.items ≡ old.waiting.items ++ waiter ∷ []
+  pub held : IsHeld waiter.stack.stack
+  pub another : CallsAnother g (waiter ∷ waiters old)
+
+-- What became of the data where a task has exited.
+abbrev pub Left : RunState → RunState → Leaving → Type 0
+Left old new leaving.Free = Spends old new
+Left old new (leaving.Back words) = Spends old new
+Left old new (leaving.Ends end) = Unit {0}
+
+-- the same where a part goes on or ends the run
+abbrev pub SpendsOrEnds : RunState → RunState → Option RunEnd → Type 0
+SpendsOrEnds old new ended = MatchOption ended (Spends old new) (λ end. Unit {0})
+
+-- What became of the data where a stack ran on, where a task entered and its stack ran, and where a task exited and control went back.
+abbrev pub WentOn : Graph → RunState → RunState → Stack → Onward → Type 0
+WentOn g old new k (onward.Arrives t) = CallsMore g old new × (IsHeld k → new.left < old.left)
+WentOn g old new k (onward.Returns t words) = Spends old new
+WentOn g old new k (onward.Ends end) = Unit {0}
+
+abbrev pub Descends : Graph → RunState → RunState → Onward → Type 0
+Descends g old new (onward.Arrives t) = CallsMore g old new
+Descends g old new (onward.Returns t words) = Spends old new
+Descends g old new (onward.Ends end) = Unit {0}
+
+abbrev pub Ascends : RunState → RunState → Onward → Type 0
+Ascends old new (onward.Arrives t) = (new.left < old.left) × AreHeld new.waiting.items
+Ascends old new (onward.Returns t words) = (new.left ≤ old.left) × ((u : Waiter) × (old.waiting.items ≡ new.waiting.items ++ u ∷ []))
+Ascends old new (onward.Ends end) = Unit {0}
+
+-- The core function of the task of this number has ended behind all calls that were begun.
+pub record IsReturned (g : Graph) (s : Script) (old new : RunState) (t : ℕ) (words : List ℕ) : Type 0 where
+  pub at : IsAtReturn g s new t words
+  pub left : new.left ≤ old.left
+  pub held : AreHeld new.waiting.items
+
+-- Tasks have exited, up to the one that the script called, or up to one that calls another function, for which it has paid.
+abbrev pub IsLeft : Graph → Script → RunState → RunState → Option ℕ → Type 0
+IsLeft g s old new None = IsAtFree g s new × (new.left ≤ old.left)
+IsLeft g s old new (Some t) = IsAtArrival g s new t × (new.left < old.left) × AreHeld new.waiting.items

@@ -1,0 +1,46 @@
+-- What holds of parts of runs (Component Model, Concurrency.md, "Summary"): they are put one behind the other, and safe worlds lead to safe
+-- worlds, in each of which something comes next.
+use Rattle.std.specs.Prelude.{◌≢◌, List, ◌++◌}
+use Rattle.comp_graph.specs.Graph.{Graph}
+use Rattle.script_reader.specs.Script.{Script}
+use Rattle.trace_show.specs.declared.label.Label.{Label}
+use Rattle.canonical_machine.specs.declared.run_end.RunEnd.{RunEnd}
+use Rattle.canonical_machine.specs.World.{World, first_world}
+use Rattle.canonical_machine.specs.Turn.{Turn, Steps, Ends, Stuck}
+use Rattle.canonical_machine.specs.Run.{RunsFrom}
+use Rattle.canonical_machine.specs.Sound.{IsSound}
+use Rattle.canonical_machine.specs.Owners.{IsApart}
+use Rattle.world.specs.Parts.{Leads, Meets, IsSafe}
+
+-- Behind a part there is another part, something that comes next, or the rest of a run.
+abbrev pub PartsJoin : Type 0
+PartsJoin =
+    (g : Graph) (s : Script) (w v u : World) (lines more : List Label) → Leads g s w lines v → Leads g s v more u → Leads g s w (lines ++ more) u
+
+abbrev pub MeetsBehind : Type 0
+MeetsBehind =
+    (g : Graph) (s : Script) (w v : World) (lines more : List Label) (turn : Turn) → Leads g s w lines v → Meets g s v more turn
+    → Meets g s w (lines ++ more) turn
+
+abbrev pub EndsBehind : Type 0
+EndsBehind =
+    (g : Graph) (s : Script) (w v last : World) (lines more : List Label) (end : RunEnd) → Leads g s w lines v → RunsFrom g s v more last end
+    → RunsFrom g s w (lines ++ more) last end
+
+-- What comes next is one step more, or ends the run.
+abbrev pub StepFollows : Type 0
+StepFollows = (g : Graph) (s : Script) (w v : World) (lines more : List Label) → Meets g s w lines (Steps more v) → Leads g s w (lines ++ more) v
+
+abbrev pub EndFollows : Type 0
+EndFollows =
+    (g : Graph) (s : Script) (w : World) (lines : List Label) (end : RunEnd) → Meets g s w lines (Ends end) → (last : World) × RunsFrom g s w lines last end
+
+-- The first world of a sound script on such a graph is safe, safe worlds lead to safe ones, and a rule applies in each.
+abbrev pub FirstSafe : Type 0
+FirstSafe = (g : Graph) (s : Script) → IsSound g s → IsApart g → IsSafe g s (first_world g)
+
+abbrev pub SafeStays : Type 0
+SafeStays = (g : Graph) (s : Script) (w v : World) (lines : List Label) → IsSafe g s w → Leads g s w lines v → IsSafe g s v
+
+abbrev pub SafeMoves : Type 0
+SafeMoves = (g : Graph) (s : Script) (w : World) (lines : List Label) (turn : Turn) → IsSafe g s w → Meets g s w lines turn → turn ≢ Stuck

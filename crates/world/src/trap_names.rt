@@ -1,0 +1,49 @@
+//! The names of traps.
+
+ghost use Rattle.std.specs.Prelude.{◌≡◌};
+ghost use Rattle.canonical_machine.specs.Traps.{core_name, lift_name, lower_name};
+
+use core_machine::Trap;
+use trace_show::TrapName;
+use value_lift::LiftWhy;
+use value_lower::LowerWhy;
+
+/// The name of a trap of an instruction.
+pub(crate) fn core_name(why: Trap) -> TrapName
+    ensures { result ≡ core_name why }
+{
+    match why {
+        Trap::Unreachable => TrapName::Unreachable,
+        Trap::DivideByZero => TrapName::DivideByZero,
+        Trap::DivideOverflow => TrapName::DivideOverflow,
+        Trap::MemoryBounds => TrapName::MemoryBounds,
+        Trap::TableBounds => TrapName::TableBounds,
+        Trap::NullElement => TrapName::NullElement,
+        Trap::OtherSignature => TrapName::OtherSignature,
+        Trap::StackLimit => TrapName::StackLimit,
+    }
+}
+
+/// The name of the reason why a value is not lifted.
+pub(crate) fn lift_name(why: LiftWhy) -> TrapName
+    ensures { result ≡ lift_name why }
+{
+    match why {
+        LiftWhy::Misaligned => TrapName::Misaligned,
+        LiftWhy::Bounds => TrapName::Bounds,
+        LiftWhy::BadChar => TrapName::BadChar,
+        LiftWhy::BadUtf8 => TrapName::BadUtf8,
+        LiftWhy::BadCase => TrapName::BadCase,
+        LiftWhy::TooLarge => TrapName::TooLarge,
+    }
+}
+
+/// The name of the reason why a value is not lowered.
+pub(crate) fn lower_name(why: LowerWhy) -> TrapName
+    ensures { result ≡ lower_name why }
+{
+    match why {
+        LowerWhy::Misaligned => TrapName::Misaligned,
+        LowerWhy::Bounds => TrapName::Bounds,
+    }
+}
