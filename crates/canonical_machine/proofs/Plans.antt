@@ -33,9 +33,9 @@ use Rattle.value_lift.proofs.Forms.{IsRow, HasCases}
 use Rattle.value_lift.proofs.Rooms.{row_room, end_up, tagged_is, case_room, tag_bytes, flag_bytes}
 use Rattle.value_lift.proofs.Stood.{parts_of_record, parts_of_tuple, case_part}
 use Rattle.value_lift.proofs.Views.{out_bool, out_s8, out_u8, out_s16, out_u16, out_s32, out_u32, out_s64, out_u64, out_char, out_string, out_flags, out_list, out_record, out_tuple, out_variant, out_enum, out_option, out_result}
-use Rattle.lowered_values.specs.Values.{IsOf, AllAre, EachIs, PayloadIs, bool_is, s8_is, u8_is, s16_is, u16_is, s32_is, u32_is, s64_is, u64_is, char_is, string_is, list_is, record_is, tuple_is, flags_are, case_is, enum_is, none_is, some_is, ok_is, err_is, none_are, more_are, no_types, more_types, no_payload_is, payload_is}
-use Rattle.lowered_values.proofs.ByKind.{stored_by, lowered_payload}
-use Rattle.lowered_values.proofs.WordsByKind.{words_by, list_words, row_words, case_plan}
+use Rattle.canonical_machine.specs.Values.{IsOf, AllAre, EachIs, PayloadIs, bool_is, s8_is, u8_is, s16_is, u16_is, s32_is, u32_is, s64_is, u64_is, char_is, string_is, list_is, record_is, tuple_is, flags_are, case_is, enum_is, none_is, some_is, ok_is, err_is, none_are, more_are, no_types, more_types, no_payload_is, payload_is}
+use Rattle.canonical_machine.proofs.ByKind.{stored_by, lowered_payload}
+use Rattle.canonical_machine.proofs.WordsByKind.{words_by, list_words, row_words, case_plan}
 use Rattle.canonical_machine.specs.Sound.{AreBytes}
 use Rattle.canonical_machine.specs.Kept.{IsPlanned}
 use Rattle.canonical_machine.proofs.Bytes.{le_bytes}

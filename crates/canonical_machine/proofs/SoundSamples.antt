@@ -19,7 +19,7 @@ use Rattle.laid_types.specs.Gathered.{lists, list_over}
 use Rattle.laid_types.specs.Parts.{parts_case}
 use Rattle.laid_types.proofs.HeldByParts.{list_by_parts}
 use Rattle.value_lift.proofs.Views.{out_u32, out_string}
-use Rattle.lowered_values.specs.Values.{u32_is, string_is, tuple_is, no_types, more_types}
+use Rattle.canonical_machine.specs.Values.{u32_is, string_is, tuple_is, no_types, more_types}
 use Rattle.comp_graph.specs.declared.graph.FuncRef.{FuncRef}
 use Rattle.comp_graph.specs.declared.graph.FuncRef.TheVariants as func_ref
 use Rattle.comp_graph.specs.declared.graph.CoreExtern.TheVariants as extern

@@ -29,10 +29,10 @@ use Rattle.value_lower.specs.Plan.{Plan, Gives, Fails, Asks, Size, Put}
 use Rattle.value_lower.specs.Lowering.{stored, flat_lowered, placed, store}
 use Rattle.value_lower.proofs.Giving.{AllGive, tested_gives}
 use Rattle.value_lower.proofs.Counts.{good}
-use Rattle.lowered_values.specs.Values.{IsOf}
-use Rattle.lowered_values.specs.Lifted as lifted
-use Rattle.lowered_values.proofs.Lifted.{flat_standing, loaded_values_are}
-use Rattle.lowered_values.proofs.Widths.{flat_gives, placed_gives}
+use Rattle.canonical_machine.specs.Values.{IsOf}
+use Rattle.canonical_machine.specs.LiftedValues as lifted
+use Rattle.canonical_machine.proofs.LiftedValues.{flat_standing, loaded_values_are}
+use Rattle.canonical_machine.proofs.Widths.{flat_gives, placed_gives}
 use Rattle.core_machine.proofs.Lists.{if_both}
 use Rattle.comp_graph.specs.Needs.{core_val, lifted_type, lowered_type, flat_param_limit, hold_list, lift_needs_realloc, lower_needs_realloc}
 use Rattle.canonical_machine.specs.Passing.{params_type, params_in_memory, result_in_memory, arguments_lifted, arguments_plan, result_lifted, result_plan, last_of}

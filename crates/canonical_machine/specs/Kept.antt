@@ -17,7 +17,7 @@ use Rattle.core_machine.specs.Typed.{StoreTyped, HasContext, module_context, Sta
 use Rattle.core_machine.specs.Laws.{IsOwn}
 use Rattle.ca_types.specs.declared.value.Value.TheViews as value
 use Rattle.value_lower.specs.Plan.{Plan, Gives, Fails, Asks, Size, Put}
-use Rattle.lowered_values.specs.Values.{IsOf}
+use Rattle.canonical_machine.specs.Values.{IsOf}
 use Rattle.comp_graph.specs.declared.graph.CanonFunc.{CanonFunc}
 use Rattle.comp_graph.specs.CoreItems.{table_space, memory_space}
 use Rattle.comp_graph.specs.Needs.{lifted_type, realloc_type}

@@ -1,3 +1,10 @@
+pub mod Values
+pub mod Settling
+pub mod ApartPlaces
+pub mod ValueLaws
+pub mod ValueRooms
+pub mod LiftedValues
+pub mod ValueExamples
 pub mod Control
 pub mod World
 pub mod Edits

@@ -1,8 +1,7 @@
 -- How arguments and results are passed (Component Model, CanonicalABI.md, "Flattening", "Flat Lifting" and "Flat Lowering"): in core
 -- values, or in memory, where they have too many core values. Arguments are passed as one tuple.
-use Rattle.std.specs.Prelude.{ℕ, nat_lt, Bool, slice_index, if◌then◌else◌, List, [], ◌∷◌, map, length, Result}
+use Rattle.std.specs.Prelude.{ℕ, nat_lt, Bool, slice_index, if◌then◌else◌, List, [], ◌∷◌, length, Result}
 use Rattle.ca_types.specs.declared.types.ValType.{ValType}
-use Rattle.ca_types.specs.declared.types.ValType.TheViews as val_type
 use Rattle.ca_types.specs.declared.types.FuncType.{FuncType}
 use Rattle.ca_types.specs.declared.value.Value.{Value}
 use Rattle.ca_types.specs.Flat.{flat_params, flat_payload}
@@ -12,9 +11,7 @@ use Rattle.value_lift.specs.Lifting.{load, lift_flat}
 use Rattle.value_lower.specs.Plan.{Plan}
 use Rattle.value_lower.specs.Lowering.{stored, flat_lowered, placed}
 use Rattle.comp_graph.specs.Needs.{flat_param_limit, flat_result_limit}
-
-abbrev pub params_type : FuncType → ValType
-params_type f = val_type.Tuple (map (λ p. p.val_type) f.params)
+pub use Rattle.comp_graph.specs.Passed.{params_type}
 
 -- whether parameters, and a result, have more core values than are passed as such
 abbrev pub params_in_memory : FuncType → Bool

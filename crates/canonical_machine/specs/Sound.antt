@@ -7,7 +7,7 @@ use Rattle.wasm_valid.specs.Modules.{Typed}
 use Rattle.core_machine.specs.Instantiation.{InRange}
 use Rattle.ca_types.specs.declared.value.Value.TheViews as value
 use Rattle.ca_types.specs.declared.exports.Export.{Export}
-use Rattle.lowered_values.specs.Values.{IsOf}
+use Rattle.canonical_machine.specs.Values.{IsOf}
 use Rattle.comp_graph.specs.declared.graph.Action.{Action}
 use Rattle.comp_graph.specs.declared.graph.Action.TheVariants.{Begin, Make}
 use Rattle.comp_graph.specs.Graph.{CoreMake, Graph, Lifted, AreImported, AreMade, IsLiftThere, func_named}

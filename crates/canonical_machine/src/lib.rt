@@ -14,14 +14,23 @@
 //! its worlds: so none of these is `Stuck`. `specs/Ending` says that each run of such a script comes to an end, so that it has exactly
 //! one. With more fuel a run is the same or goes on.
 //!
+//! Between lowering and lifting stands what the reallocs of a component answer: where the places lie apart, `specs/ApartPlaces`, a
+//! value that was lowered stands, and lifting gives it back. `specs/Values` says which values are of a type, `specs/Settling` how a
+//! plan goes over a memory, `specs/ValueRooms` how it does in a room, and `specs/ValueLaws` what holds then. What is lifted is of its
+//! type, `specs/LiftedValues`, so that it can be lowered again.
+//!
 //! - `run_end`: how a run ends
 //! - `laws`: what holds of all runs
-//! - `examples`: the definitions on small examples
+//! - `examples`: the machine on small examples
+//! - `value_laws`: what holds of values that were lowered, and of those that are lifted
+//! - `value_examples`: texts that are lowered into a small memory
 #![tactic(auto)]
 
 pub mod examples;
 mod laws;
 mod run_end;
+pub mod value_examples;
+mod value_laws;
 
 pub use laws::{
     callers_stay, ends_mean, more_fuel_goes_on, nested_is_quiet, one_next, one_run, runs_end,
@@ -29,3 +38,10 @@ pub use laws::{
     worlds_are_kept, worlds_stay_apart,
 };
 pub use run_end::RunEnd;
+pub use value_laws::{
+    core_values_are_typed, fitting_values_are, followed_plans_settle, lifted_values_are,
+    lowered_values_stand, lowered_words_are_lifted, lowered_words_are_typed, lowered_words_stand,
+    memories_are_bytes, other_bytes_stay, placed_values_stand, standing_values_are,
+    stored_lists_are_loaded, stored_lists_stand, stored_values_are_loaded, stored_values_stand,
+    values_of_types_fit,
+};

@@ -17,8 +17,8 @@ use Rattle.script_reader.specs.declared.script.Item.{Item}
 use Rattle.script_reader.specs.declared.script.Item.TheVariants as item
 use Rattle.script_reader.specs.Script.{export_named, CallsExport, AreOfTypes}
 use Rattle.comp_linking.proofs.Holding.{all_at, holds_at}
-use Rattle.lowered_values.specs.Values.{IsOf, EachIs, no_types, more_types, tuple_is}
-use Rattle.lowered_values.proofs.Fitted.{fitting_values_are}
+use Rattle.canonical_machine.specs.Values.{IsOf, EachIs, no_types, more_types, tuple_is}
+use Rattle.canonical_machine.proofs.Fitted.{fitting_values_are}
 use Rattle.canonical_machine.specs.Passing.{params_type}
 use Rattle.canonical_machine.specs.Sound.{IsSoundGraph, IsSoundCall, IsSoundItem}
 use Rattle.linked_graphs.specs.Counted.{is_counted, HasCountedTypes, HasCountedFuncs}

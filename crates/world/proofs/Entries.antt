@@ -11,8 +11,8 @@ use Rattle.ca_types.specs.declared.value.Value.{Value}
 use Rattle.ca_types.specs.declared.value.Value.TheViews as value
 use Rattle.ca_types.specs.Fits.{fits}
 use Rattle.value_lift.specs.declared.trap.LiftTrap.{LiftTrap}
-use Rattle.lowered_values.specs.Values.{IsOf}
-use Rattle.lowered_values.proofs.Ranged.{values_of_types_fit}
+use Rattle.canonical_machine.specs.Values.{IsOf}
+use Rattle.canonical_machine.proofs.Ranged.{values_of_types_fit}
 use Rattle.wasm_numbers.specs.Types.{AreWords}
 use Rattle.core_machine.specs.Store.{Store, found_at}
 use Rattle.core_machine.proofs.Lists.{all_at}

@@ -5,7 +5,7 @@ use Rattle.std.specs.Option.{IsSome, IfSome, option_and_then, option_map}
 use Rattle.std.proofs.lemmas.Option.{slice_get_within}
 use Rattle.ca_types.specs.declared.value.Value.{Value}
 use Rattle.ca_types.specs.Fits.{fits}
-use Rattle.lowered_values.proofs.Ranged.{fit as fit_of}
+use Rattle.canonical_machine.proofs.Ranged.{fit as fit_of}
 use Rattle.value_lower.specs.Plan.{Plan}
 use Rattle.copy_engine.specs.declared.nested.HostCall.{HostCall}
 use Rattle.copy_engine.specs.declared.store_room.LowerOptions.{LowerOptions}

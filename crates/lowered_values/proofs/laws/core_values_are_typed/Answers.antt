@@ -1,8 +1,0 @@
-use Rattle.lowered_values.proofs.Followed.{lowered_are_typed, placed_are_typed}
-use Rattle.lowered_values.proofs.laws.core_values_are_typed.Goals as goal
-
-pub returns : goal.returns
-returns c s = record {
-  flat = lowered_are_typed c.R.Room.answers c.R.Room.memory c.R.Room.wrote;
-  placed = placed_are_typed c.R.Room.answers c.R.Room.memory c.R.Room.wrote;
-}

@@ -1,8 +1,0 @@
-use Rattle.lowered_values.proofs.Followed.{followed_over, followed_settle}
-use Rattle.lowered_values.proofs.laws.followed_plans_settle.Goals as goal
-
-pub returns : goal.returns
-returns c s = record {
-  over = followed_over c.R.Room.answers c.R.Room.memory c.R.Room.wrote;
-  settle = followed_settle c.R.Room.answers c.R.Room.memory c.R.Room.wrote;
-}

@@ -1,4 +1,0 @@
-use Rattle.lowered_values.proofs.laws.memories_are_bytes.Goals as goal
-
-pub returns : goal.returns
-returns c = λ i. (c.type_inv.memory i).fits

@@ -1,5 +1,0 @@
-use Rattle.lowered_values.proofs.Standing.{stored_lists_are_loaded}
-use Rattle.lowered_values.proofs.laws.stored_lists_are_loaded.Goals as goal
-
-pub returns : goal.returns
-returns c = stored_lists_are_loaded
