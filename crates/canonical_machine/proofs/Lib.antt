@@ -44,3 +44,8 @@ pub mod MoreSamples
 pub mod PairSamples
 pub mod ApartSamples
 pub mod SoundSamples
+pub mod TransportPlans
+pub mod TransportSteps
+pub mod TransportEntry
+pub mod TransportReturn
+pub mod TransportGot

@@ -28,4 +28,5 @@ pub mod Owners
 pub mod Over
 pub mod Callers
 pub mod Ending
+pub mod Transport
 pub mod Examples

@@ -16,12 +16,14 @@
 //!
 //! - `run_end`: how a run ends
 //! - `laws`: what holds of all runs
+//! - `transport`: what a call passes arrives
 //! - `examples`: the definitions on small examples
 #![tactic(auto)]
 
 pub mod examples;
 mod laws;
 mod run_end;
+mod transport;
 
 pub use laws::{
     callers_stay, ends_mean, more_fuel_goes_on, nested_is_quiet, one_next, one_run, runs_end,
@@ -29,3 +31,4 @@ pub use laws::{
     worlds_are_kept, worlds_stay_apart,
 };
 pub use run_end::RunEnd;
+pub use transport::{arguments_arrive, results_arrive};
