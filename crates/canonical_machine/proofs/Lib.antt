@@ -48,4 +48,6 @@ pub mod TransportPlans
 pub mod TransportSteps
 pub mod TransportEntry
 pub mod TransportReturn
+pub mod TransportMemories
+pub mod TransportSpared
 pub mod TransportGot

@@ -5,6 +5,7 @@ use Rattle.core_machine.specs.Store.{Store, found_at}
 use Rattle.value_lower.specs.Plan.{Ask, Plan}
 use Rattle.lowered_values.specs.Settling.{Answer}
 use Rattle.comp_graph.specs.declared.graph.FuncRef.{FuncRef}
+use Rattle.comp_graph.specs.declared.graph.Lower.{Lower}
 use Rattle.comp_graph.specs.Graph.{Graph, Lifted}
 use Rattle.script_reader.specs.Script.{Script}
 use Rattle.trace_show.specs.declared.label.Label.{Label}
@@ -14,7 +15,7 @@ use Rattle.trace_show.specs.declared.trap.TrapName.TheVariants as trap
 use Rattle.canonical_machine.specs.Control.{Control, Free, Runs, Lowers, Quiet, Back, Leaves, Doomed, Then, Resolves, Lowering, Nested, Behind, InLowering, BeforeLeaving}
 use Rattle.canonical_machine.specs.World.{Callee, Func, Subtask, Caller, Guest, Returned, TaskState, Acting, AfterCall, Exited, Resolution, Unresolved, Task, World, first_world}
 use Rattle.canonical_machine.specs.Edits.{with_control, with_store, with_memory, changed_at, caller_changed, in_state, result_kept, unchained, unstacked}
-use Rattle.canonical_machine.specs.Reading.{func_address, memory_of, bytes_of, acting, func_of, task_at, subtask_of, state_number, subtask_state, builtin_of, inst_of_canon}
+use Rattle.canonical_machine.specs.Reading.{func_address, memory_of, bytes_of, lower_at, lifted_of, acting, func_of, task_at, subtask_of, state_number, subtask_state, builtin_of, inst_of_canon}
 use Rattle.canonical_machine.specs.Passing.{result_plan}
 use Rattle.canonical_machine.specs.Pausing.{Paused, Words, Asked, settle}
 use Rattle.canonical_machine.specs.Traps.{core_name}
@@ -24,10 +25,15 @@ use Rattle.canonical_machine.specs.Calling.{call_ended, back_from, back_turn}
 use Rattle.canonical_machine.specs.Lowering.{nested_of, lowered, paused, left_by, lowers_turn}
 use Rattle.canonical_machine.specs.Nested.{HostedTurn, On, EndsIn, TrapsBy, CallsHost, NoRule, hosted_next, nested_ended, refused, hosted, nested_turn}
 use Rattle.canonical_machine.specs.Next.{next}
-use Rattle.canonical_machine.specs.Tasks.{caller_number, IsAt, NoStack, OneStack, IsSoFar, AreWaiting, Acts, IsChain}
+use Rattle.canonical_machine.specs.Tasks.{IsCalleeOf, AreCalled, caller_number, IsAt, NoStack, OneStack, IsSoFar, AreWaiting, Acts, IsChain}
 use Rattle.canonical_machine.specs.KeptLaws.{IsKept}
 use Rattle.canonical_machine.specs.Transport.{RunsNested, IsAnswered, Comes, result_taken, UntilBack, ResultsAreGot}
+use Rattle.canonical_machine.specs.Owners.{IsApartWorld}
+use Rattle.canonical_machine.proofs.ApartSteps.{first_apart, apart_stays}
 use Rattle.canonical_machine.proofs.Changed.{changed_there, changed_other}
+use Rattle.canonical_machine.proofs.Graphs.{same_func}
+use Rattle.canonical_machine.proofs.Ordered.{called_at}
+use Rattle.canonical_machine.proofs.TransportSpared.{comes_reaches, reached_apart, run_spares, spared_bytes}
 use Rattle.canonical_machine.proofs.TransportEntry.{IsDoomed, memory_same}
 use Rattle.canonical_machine.proofs.TransportReturn.{HasReturned, returned_of, IsRunning, running_of, results_arrive}
 use Rattle.canonical_machine.proofs.TransportSteps.{OnStep, given_step, found_step, either_step, charged_step, step_is, acting_at, reached_kept, IsBeside, nested_step, nested_run}
@@ -365,8 +371,31 @@ module _ (g : Graph) (s : Script) (t : ℕ) (f : Lifted) (subtask : Subtask) (la
 
 -- The law.
 
+same_lower : (k l : Lower) → Some k ≡ Some l → k ≡ l
+same_lower k l h = cc
+
+-- The function that a task runs which another one called is that of the lower.
+callee_instance : (g : Graph) (t : ℕ) (f : Lifted) (subtask : Subtask) (l : Lower) (w : World) → AreCalled g w.tasks → lower_at g subtask.canon ≡ Some l → IsCallee t f subtask w
+    → f.instance ≡ l.lift.instance
+callee_instance g t f subtask l w called by callee =
+    let is : IsCalleeOf g callee.task.caller callee.task.callee = called_at g w.tasks t callee.task f called callee.there callee.runs in
+    let from : IsCalleeOf g (Guest subtask) (Func f) = subst (λ (c : Caller). IsCalleeOf g c (Func f)) callee.called (subst (IsCalleeOf g callee.task.caller) callee.runs is) in
+    let low : from.0 ≡ l = same_lower from.0 l (sym from.1 ∙ by) in
+    ap (λ (k : Lifted). k.instance) (same_func f (lifted_of from.0) from.2) ∙ ap (λ (k : Lower). k.lift.instance) low
+
+-- the component instance of a post-return that runs
+post_of : (f : Lifted) (inst : ℕ) (v : World) → f.instance ≡ inst → IsLeaving f v → (n : Nested) → v.control ≡ Quiet n BeforeLeaving → n.inst ≡ inst
+post_of f inst v same (inl at) n e = absurd (none (sym at ∙ e))
+  where
+    none : Leaves ≡ Quiet n BeforeLeaving → ⊥
+    none h = cc
+post_of f inst v same (inr m) n e = ap (λ (k : Nested). k.inst) (one m.0 n (sym e ∙ m.1)) ∙ (m.2 ∙ same)
+  where
+    one : (m n : Nested) → Quiet n BeforeLeaving ≡ Quiet m BeforeLeaving → n ≡ m
+    one m n h = cc
+
 pub results_are_got : ResultsAreGot
-results_are_got g s steps more w v back u t subtask l result answers words labels sound r e apart until gets =
+results_are_got g s steps more w v back u t subtask l result answers words labels sound is_apart r e apart until gets =
     let h : IsKept g s w = reached_kept g s steps (first_world g) w (first_kept g s sound) r in
     let x : HasReturned w t e.task result e.resolved = returned_of g s w v t subtask l result answers words e in
     let k : IsRunning g w t e.task = running_of g s w t e.task h e.control e.acts in
@@ -380,20 +409,27 @@ results_are_got g s steps more w v back u t subtask l result answers words label
     let plan : Plan = result_plan l.func_type result.val_type result.value subtask.words in
     let lowering : Lowering = result_lowering w t subtask l e.ended in
     let done : HasResolved t f subtask words v = has_resolved g s lowering answers plan e.resolved v words t f subtask e.ended resolved refl callee e.lowered in
-    let last : LastPause g s lowering e.resolved words v = last_pause g s lowering answers plan e.resolved v words resolved e.lowered in
-    let kept : IsKept g s v = stays_kept g s last.last v [] last.kept last.steps in
+    let path = comes_reaches g s lowering answers plan e.resolved v words e.lowered in
+    let kept : IsKept g s v = reached_kept g s path.0 e.resolved v resolved path.1 in
+    let first : IsApartWorld g w = reached_apart g s steps (first_world g) w is_apart (first_kept g s sound) (first_apart g) r in
+    let parts : IsApartWorld g v =
+    reached_apart g s path.0 e.resolved v is_apart resolved (apart_stays g s w e.resolved (line.Return t (Some result) ∷ []) is_apart h first e.returns) path.1 in
     let got : GetsFrom g s v (with_words words subtask) labels u = gets_from g s t f (with_words words subtask) labels back u gets more v kept done.callee done.leaves until in
     let run = nested_run g s BeforeLeaving got.steps v got.left kept got.runs in
     let memory : memory_of u.store l.options ≡ memory_of v.store l.options =
     memory_same v.store u.store l.options (ap (λ (s : Store). s.instances) got.store ∙ run.1.store.instances) in
+    let inst : f.instance ≡ l.lift.instance = callee_instance g t f subtask l w h.ordered.called e.by at in
     let there : result_taken l.func_type result.val_type (bytes_of v.store (memory_of v.store l.options)) subtask.words words ≡ Ok result.value =
     results_arrive g s steps w v t subtask l result answers words sound r e apart in
     record {
       lines = got.lines;
       control = got.control;
       acts = got.acts;
-      same_memory = memory;
-      taken = λ same.
+      taken = λ shared.
+          let same : bytes_of got.left.store (memory_of v.store l.options) ≡ bytes_of v.store (memory_of v.store l.options) =
+          spared_bytes v.store got.left.store (memory_of v.store l.options) (λ a is.
+          run_spares a g s BeforeLeaving l.lift.instance is_apart got.steps v got.left kept parts (post_of f l.lift.instance v inst done.leaves) (λ m. shared (a, is, m)) got.runs) in
           ap (λ (m : Option ℕ). result_taken l.func_type result.val_type (bytes_of u.store m) subtask.words words) memory
-          ∙ (ap (λ (bytes : List ℕ). result_taken l.func_type result.val_type bytes subtask.words words) same ∙ there);
+          ∙ (ap (λ (s : Store). result_taken l.func_type result.val_type (bytes_of s (memory_of v.store l.options)) subtask.words words) got.store
+          ∙ (ap (λ (bytes : List ℕ). result_taken l.func_type result.val_type bytes subtask.words words) same ∙ there));
     }

@@ -3,7 +3,7 @@
 -- and a memory of which its arguments are lifted, and the task that called it has words and a memory of which the result is lifted.
 use Rattle.std.specs.Prelude.{◌≡◌, ◌≢◌, ◌≤◌, ℕ, Bool, if◌then◌else◌, List, [], ◌∷◌, Option, Some, Result, Ok}
 use Rattle.std.specs.List.{slice_get}
-use Rattle.core_machine.specs.Store.{Function, found_at}
+use Rattle.core_machine.specs.Store.{Function, Instance, Store, found_at}
 use Rattle.core_machine.specs.Step.{start}
 use Rattle.ca_types.specs.declared.types.ValType.{ValType}
 use Rattle.ca_types.specs.declared.types.FuncType.{FuncType}
@@ -35,6 +35,7 @@ use Rattle.canonical_machine.specs.Nested.{EndsIn, hosted_next}
 use Rattle.canonical_machine.specs.Next.{next}
 use Rattle.canonical_machine.specs.Run.{Reaches}
 use Rattle.canonical_machine.specs.Sound.{IsSound}
+use Rattle.canonical_machine.specs.Owners.{owner_of_core, IsApart}
 
 -- A lowering, in a run.
 
@@ -166,20 +167,31 @@ abbrev pub UntilBack : Graph → Script → World → List (List Label) → Worl
 UntilBack g s w [] v = (w.control ≡ Back) × (v ≡ w)
 UntilBack g s w (labels ∷ steps) v = (w.control ≢ Back) × (mid : World) × (next g s w ≡ Steps labels mid) × UntilBack g s mid steps v
 
--- The caller goes on with these words, which its line shows, and has the result, where its memory has the bytes then that it had behind
--- the lowering.
-pub record HasGot (v : World) (subtask : Subtask) (l : Lower) (result : TypedValue) (words : List ℕ) (labels : List Label) (u : World) : Type 0 where
+-- This is a memory of a core instance that a component instance made.
+pub record IsMemoryOf (g : Graph) (s : Store) (owner address : ℕ) : Type 0 where
+  pub number : ℕ
+  pub instance : Instance
+  pub index : ℕ
+  pub owned : owner_of_core g number ≡ Some owner
+  pub there : slice_get s.instances number ≡ Some instance
+  pub at : slice_get instance.memories index ≡ Some address
+
+-- The memory of a caller is one of the component instance whose function is lowered.
+abbrev pub IsShared : Graph → Store → Lower → Type 0
+IsShared g s l = (address : ℕ) × (memory_of s l.options ≡ Some address) × IsMemoryOf g s l.lift.instance address
+
+-- The caller goes on with these words, which its line shows, and has the result: also behind the post-return, which runs in the component
+-- instance of the task that was called, unless this has the caller's memory.
+pub record HasGot (g : Graph) (v : World) (subtask : Subtask) (l : Lower) (result : TypedValue) (words : List ℕ) (labels : List Label) (u : World) : Type 0 where
   pub lines : labels ≡ line.Got subtask.by words ∷ []
   pub control : u.control ≡ Runs
   pub acts : slice_get u.chain 0 ≡ Some subtask.by
-  pub same_memory : memory_of u.store l.options ≡ memory_of v.store l.options
-  pub taken : bytes_of u.store (memory_of v.store l.options) ≡ bytes_of v.store (memory_of v.store l.options)
-      → result_taken l.func_type result.val_type (bytes_of u.store (memory_of u.store l.options)) subtask.words words ≡ Ok result.value
+  pub taken : (IsShared g v.store l → ⊥) → result_taken l.func_type result.val_type (bytes_of u.store (memory_of u.store l.options)) subtask.words words ≡ Ok result.value
 
--- So it is where control comes back to the caller.
+-- So it is where control comes back to the caller, on a graph whose core definitions stay in their component instance.
 abbrev pub ResultsAreGot : Type 0
 ResultsAreGot =
     (g : Graph) (s : Script) (steps more : List (List Label)) (w v back u : World) (t : ℕ) (subtask : Subtask) (l : Lower) (result : TypedValue) (answers : List Answer) (words : List ℕ)
-    (labels : List Label) → IsSound g s → Reaches g s (first_world g) steps w → IsReturn g s w t subtask l result answers words v
+    (labels : List Label) → IsSound g s → IsApart g → Reaches g s (first_world g) steps w → IsReturn g s w t subtask l result answers words v
     → Apart (result_target l.func_type result.val_type subtask.words) answers → UntilBack g s v more back → next g s back ≡ Steps labels u
-    → HasGot v subtask l result words labels u
+    → HasGot g v subtask l result words labels u
