@@ -46,6 +46,7 @@ pub mod ApartSamples
 pub mod SoundSamples
 pub mod TransportPlans
 pub mod TransportSteps
+pub mod TransportRuns
 pub mod TransportEntry
 pub mod TransportReturn
 pub mod TransportMemories

@@ -49,21 +49,17 @@ use Rattle.canonical_machine.proofs.Graphs.{same_func, lower_there}
 use Rattle.canonical_machine.proofs.Ordered.{called_at, acting_is}
 use Rattle.canonical_machine.proofs.Staying.{Spot, spot_of, at_spot, memory_bytes}
 use Rattle.canonical_machine.proofs.TransportPlans.{arguments_lift, few_arguments}
+use Rattle.canonical_machine.proofs.TransportRuns.{IsDoomed, doomed_stops, IsMidst, lowers_on}
 use Rattle.canonical_machine.proofs.TransportSteps.{OnStep, given_step, found_step, behind_step, either_step, charged_step, step_is, reached_kept, acting_at, nested_step, HasCome, has_come}
 use Rattle.canonical_machine.proofs.Words.{arguments_are}
 use Rattle.canonical_machine.proofs.Worlds.{first_kept, stays_kept}
 
--- Steps that end the run.
-
-abbrev pub IsDoomed : World → Type 0
-IsDoomed v = (t : ℕ) × (why : TrapName) × (v.control ≡ Doomed t why)
-
 -- From a trap no core function runs.
-pub never_runs : (g : Graph) (s : Script) (steps : List (List Label)) (w v : World) → IsDoomed w → Reaches g s w steps v → v.control ≡ Runs → ⊥
+never_runs : (g : Graph) (s : Script) (steps : List (List Label)) (w v : World) → IsDoomed w → Reaches g s w steps v → v.control ≡ Runs → ⊥
 never_runs g s [] w v d r e =
     let same : v.control ≡ w.control = ap (λ (w : World). w.control) r in
     cc (same, d.2, e)
-never_runs g s (labels ∷ steps) w v d r e = step_is g s (λ labels v. ⊥) w r.0 labels (Doomed d.0 d.1) d.2 r.1 tt
+never_runs g s (labels ∷ steps) w v d r e = doomed_stops g s w r.0 labels d r.1
 
 -- The task that enters.
 
@@ -205,31 +201,6 @@ before_same t f w v tasks chain h = record {
   none = h.none;
 }
 
-step_map : (P Q : List Label → World → Type 0) → ((labels : List Label) (v : World) → P labels v → Q labels v) → (t : Turn) → OnStep P t → OnStep Q t
-step_map P Q f (Steps labels v) h = f labels v h
-step_map P Q f (Ends end) h = tt
-step_map P Q f Stuck h = tt
-
--- What a step of a lowering of arguments leads to, but for a trap: its realloc is called, or the core function begins.
-record Asks (l : Lowering) (plan : Plan) (w : World) (labels : List Label) (v : World) : Type 0 where
-  pub ask : Ask
-  pub k : ℕ → Plan
-  pub pauses : (settle plan (bytes_of w.store l.memory)).0 ≡ Asked ask k
-  pub no_lines : labels ≡ []
-  pub nested : Nested
-  pub control : v.control ≡ Quiet nested (InLowering l k)
-  pub tasks : v.tasks ≡ w.tasks
-  pub chain : v.chain ≡ w.chain
-
-record Begins (t : ℕ) (f : Lifted) (l : Lowering) (plan : Plan) (w : World) (labels : List Label) (v : World) : Type 0 where
-  pub words : List ℕ
-  pub gives : (settle plan (bytes_of w.store l.memory)).0 ≡ Words words
-  pub no_lines : labels ≡ []
-  pub begins : BeginsWith t f words v
-
-abbrev LowersTo : ℕ → Lifted → Lowering → Plan → World → List Label → World → Type 0
-LowersTo t f l plan w labels v = IsDoomed v ⊎ (Asks l plan w labels v ⊎ Begins t f l plan w labels v)
-
 started_begins : (t : ℕ) (f : Lifted) (words : List ℕ) (w : World) → IsBefore t f w → OnStep (λ labels v. (labels ≡ []) × BeginsWith t f words v) (started words w)
 unfolding started
 started_begins t f words w h =
@@ -251,181 +222,10 @@ started_begins t f words w h =
       },
     ))))
 
-lowers_to : (t : ℕ) (f : Lifted) (l : Lowering) (plan : Plan) (w : World) → l.next ≡ Starts → IsBefore t f w → OnStep (LowersTo t f l plan w) (lowers_turn l plan w)
-unfolding lowers_turn paused lowered
-lowers_to t f l plan w starts h = by (settle plan (bytes_of w.store l.memory)).0 refl
-  where
-    here : World
-    here = with_memory l.memory (settle plan (bytes_of w.store l.memory)).1 w
-
-    by : (p : Paused) → (settle plan (bytes_of w.store l.memory)).0 ≡ p → OnStep (LowersTo t f l plan w) (paused l p here)
-    by (Words words) e =
-        subst (λ (n : Then). OnStep (LowersTo t f l plan w) (lowered n words here)) (sym starts)
-        (step_map (λ labels v. (labels ≡ []) × BeginsWith t f words v) (LowersTo t f l plan w) (λ labels v b. inr (inr (record { words = words; gives = e; no_lines = b.0; begins = b.1 })))
-        (started words here) (started_begins t f words here (before_same t f w here refl refl h)))
-    by (Failed why) e = inl (l.blame, lower_name why, refl)
-    by (Asked ask k) e =
-        given_step (LowersTo t f l plan w) (found_at here.store.funcs l.realloc) (λ f. silent (Quiet (nested_of l ask f) (InLowering l k)) here)
-        (λ f found. inr (inl (record { ask = ask; k = k; pauses = e; no_lines = refl; nested = nested_of l ask f; control = refl; tasks = refl; chain = refl })))
-
--- What a step of its realloc leads to, but for a trap: the code runs on, or it ends with a place.
-record Places (l : Lowering) (k : ℕ → Plan) (n : Nested) (w : World) (labels : List Label) (v : World) : Type 0 where
-  pub place : ℕ
-  pub more : List ℕ
-  pub ends : hosted_next n.state w.store ≡ EndsIn (place ∷ more)
-  pub no_lines : labels ≡ []
-  pub control : v.control ≡ Lowers l (k place)
-
-abbrev NestedTo : Lowering → (ℕ → Plan) → Nested → World → List Label → World → Type 0
-NestedTo l k n w labels v = IsDoomed v ⊎ (((m : Nested) × (v.control ≡ Quiet m (InLowering l k))) ⊎ Places l k n w labels v)
-
-hosted_to : (g : Graph) (s : Script) (l : Lowering) (k : ℕ → Plan) (n : Nested) (t : HostedTurn) (w : World) → hosted_next n.state w.store ≡ t
-    → OnStep (NestedTo l k n w) (hosted g s n (InLowering l k) t w)
-unfolding hosted nested_ended refused
-hosted_to g s l k n (On paid state store) w e =
-    charged_step (NestedTo l k n w) paid s w (λ v. silent (Quiet (record n { state = state }) (InLowering l k)) (with_store store v)) (λ units. inr (inl (record n { state = state }, refl)))
-hosted_to g s l k n (EndsIn []) w e = tt
-hosted_to g s l k n (EndsIn (place ∷ more)) w e = inr (inr (record { place = place; more = more; ends = e; no_lines = refl; control = refl }))
-hosted_to g s l k n (TrapsBy why) w e = charged_step (NestedTo l k n w) true s w (λ v. doomed n.blame (core_name why) v) (λ units. inl (n.blame, core_name why, refl))
-hosted_to g s l k n (CallsHost number words) w e =
-    given_step (NestedTo l k n w) (slice_get g.canons number) (λ canon. refused n words canon w)
-    (λ canon there.
-    either_step (NestedTo l k n w) (nat_eq (inst_of_canon canon) n.inst) (behind (line.Do n.acts_for (builtin_of canon) words ∷ []) (doomed n.blame trap.CannotLeave w)) Stuck
-    (inl (n.blame, trap.CannotLeave, refl)) tt)
-hosted_to g s l k n NoRule w e = tt
-
-nested_to : (g : Graph) (s : Script) (l : Lowering) (k : ℕ → Plan) (n : Nested) (w : World) → OnStep (NestedTo l k n w) (nested_turn g s n (InLowering l k) w)
-unfolding nested_turn
-nested_to g s l k n w = hosted_to g s l k n (hosted_next n.state w.store) w refl
-
-module _ (g : Graph) (s : Script) (u : World) (runs : u.control ≡ Runs) (t : ℕ) (f : Lifted) (l : Lowering) (starts : l.next ≡ Starts) where
-  -- The run comes from a lowering of arguments to the core function, and goes on.
-  record FromLowering (plan : Plan) (w : World) : Type 0 where
-    pub answers : List Answer
-    pub words : List ℕ
-    pub begun : World
-    pub comes : Comes g s l plan w answers words begun
-    pub begins : BeginsWith t f words begun
-    pub steps : List (List Label)
-    pub goes_on : Reaches g s begun steps u
-
-  -- so where its realloc runs
-  record FromNested (k : ℕ → Plan) (w : World) : Type 0 where
-    pub steps : List (List Label)
-    pub last : World
-    pub goes : RunsNested g s (InLowering l k) w steps last
-    pub nested : Nested
-    pub control : last.control ≡ Quiet nested (InLowering l k)
-    pub place : ℕ
-    pub more : List ℕ
-    pub ends : hosted_next nested.state last.store ≡ EndsIn (place ∷ more)
-    pub back : World
-    pub goes_on : next g s last ≡ Steps [] back
-    pub rest : FromLowering (k place) back
-
-  abbrev LowersOn : List (List Label) → Type 0
-  LowersOn steps = (plan : Plan) (w : World) → IsKept g s w → IsBefore t f w → w.control ≡ Lowers l plan → Reaches g s w steps u → FromLowering plan w
-
-  abbrev NestedOn : List (List Label) → Type 0
-  NestedOn steps = (k : ℕ → Plan) (n : Nested) (w : World) → IsKept g s w → IsBefore t f w → w.control ≡ Quiet n (InLowering l k) → Reaches g s w steps u → FromNested k w
-
-  lowers_on : (labels : List Label) (steps : List (List Label)) → NestedOn steps → LowersOn (labels ∷ steps)
-  lowers_on labels steps nested plan w h before at r =
-      by (step_is g s (LowersTo t f l plan (with_control Free w)) w r.0 labels (Lowers l plan) at r.1 (lowers_to t f l plan (with_control Free w) starts (before_same t f w (with_control Free w) refl refl before)))
-    where
-      by : LowersTo t f l plan (with_control Free w) labels r.0 → FromLowering plan w
-      by (inl d) = absurd (never_runs g s steps r.0 u d r.2 runs)
-      by (inr (inl q)) =
-          let x : FromNested q.k r.0 = nested q.k q.nested r.0 (stays_kept g s w r.0 labels h r.1) (before_same t f w r.0 q.tasks q.chain before) q.control r.2 in
-          let bytes : List ℕ = (settle plan (bytes_of w.store l.memory)).1 in
-          record {
-            answers = record { asked = q.ask; place = x.place; before = bytes; after = bytes_of x.last.store l.memory } ∷ x.rest.answers;
-            words = x.rest.words;
-            begun = x.rest.begun;
-            comes = (
-              at,
-              q.k,
-              x.back,
-              record {
-                asks = ap (λ (p : Paused). (let pair : Paused × List ℕ = (p, bytes) in pair)) q.pauses;
-                first = r.0;
-                calls = subst (λ (labels : List Label). next g s w ≡ Steps labels r.0) q.no_lines r.1;
-                steps = x.steps;
-                last = x.last;
-                runs = x.goes;
-                nested = x.nested;
-                control = x.control;
-                more = x.more;
-                ends = x.ends;
-                after = refl;
-                goes_on = x.goes_on;
-              },
-              x.rest.comes,
-            );
-            begins = x.rest.begins;
-            steps = x.rest.steps;
-            goes_on = x.rest.goes_on;
-          }
-      by (inr (inr b)) = record {
-        answers = [];
-        words = b.words;
-        begun = r.0;
-        comes = (at, b.gives, subst (λ (labels : List Label). next g s w ≡ Steps labels r.0) b.no_lines r.1);
-        begins = b.begins;
-        steps = steps;
-        goes_on = r.2;
-      }
-
-  nested_on : (labels : List Label) (steps : List (List Label)) → LowersOn steps → NestedOn steps → NestedOn (labels ∷ steps)
-  nested_on labels steps lowers nested k n w h before at r =
-      by (step_is g s (NestedTo l k n (with_control Free w)) w r.0 labels (Quiet n (InLowering l k)) at r.1 (nested_to g s l k n (with_control Free w)))
-    where
-      kept : IsKept g s r.0
-      kept = stays_kept g s w r.0 labels h r.1
-
-      still : IsBefore t f r.0
-      still = let b = nested_step g s w r.0 labels n (InLowering l k) h at r.1 in before_same t f w r.0 b.tasks b.chain before
-
-      by : NestedTo l k n (with_control Free w) labels r.0 → FromNested k w
-      by (inl d) = absurd (never_runs g s steps r.0 u d r.2 runs)
-      by (inr (inl m)) =
-          let x : FromNested k r.0 = nested k m.0 r.0 kept still m.1 r.2 in
-          record {
-            steps = labels ∷ x.steps;
-            last = x.last;
-            goes = (n, at, r.0, r.1, x.goes);
-            nested = x.nested;
-            control = x.control;
-            place = x.place;
-            more = x.more;
-            ends = x.ends;
-            back = x.back;
-            goes_on = x.goes_on;
-            rest = x.rest;
-          }
-      by (inr (inr p)) = record {
-        steps = [];
-        last = w;
-        goes = refl;
-        nested = n;
-        control = at;
-        place = p.place;
-        more = p.more;
-        ends = p.ends;
-        back = r.0;
-        goes_on = subst (λ (labels : List Label). next g s w ≡ Steps labels r.0) p.no_lines r.1;
-        rest = lowers (k p.place) r.0 kept still p.control r.2;
-      }
-
-  lowers_none : (plan : Plan) (w : World) → w.control ≡ Lowers l plan → u ≡ w → ⊥
-  lowers_none plan w at e = let same : u.control ≡ w.control = ap (λ (w : World). w.control) e in cc (same, at, runs)
-
-  nested_none : (k : ℕ → Plan) (n : Nested) (w : World) → w.control ≡ Quiet n (InLowering l k) → u ≡ w → ⊥
-  nested_none k n w at e = let same : u.control ≡ w.control = ap (λ (w : World). w.control) e in cc (same, at, runs)
-
-  both_on : (steps : List (List Label)) → LowersOn steps × NestedOn steps
-  both_on [] = (λ plan w h before at r. absurd (lowers_none plan w at r), λ k n w h before at r. absurd (nested_none k n w at r))
-  both_on (labels ∷ steps) = (lowers_on labels steps (both_on steps).1, nested_on labels steps (both_on steps).0 (both_on steps).1)
+lowered_begins : (t : ℕ) (f : Lifted) (n : Then) (words : List ℕ) (w : World) → n ≡ Starts → IsBefore t f w → OnStep (λ labels v. (labels ≡ []) × BeginsWith t f words v) (lowered n words w)
+unfolding lowered
+lowered_begins t f n words w starts h =
+    subst (λ (n : Then). OnStep (λ labels v. (labels ≡ []) × BeginsWith t f words v) (lowered n words w)) (sym starts) (started_begins t f words w h)
 
 no_arrival : (w u : World) → w.control ≡ Arrives → u.control ≡ Runs → u ≡ w → ⊥
 no_arrival w u at runs e = let same : u.control ≡ w.control = ap (λ (w : World). w.control) e in cc (same, at, runs)
@@ -456,12 +256,16 @@ entry_from g s w u labels steps h at runs r = by entered.goes
       none = a.holds.stacks_are;
     }
 
+    settled : IsMidst u.control → ⊥
+    settled m = subst IsMidst runs m
+
     by : IsDoomed r.0 ⊎ LowersThem g w a.number f a.task.caller r.0 → BeginsByEntry g s w u
     by (inl d) = absurd (never_runs g s steps r.0 u d r.2 runs)
     by (inr low) =
         let l : Lowering = arguments_lowering w.store a.number f in
-        let x : FromLowering g s u runs a.number f l refl (arguments_plan f.func_type low.arguments) r.0 =
-        (both_on g s u runs a.number f l refl steps).0 (arguments_plan f.func_type low.arguments) r.0 (stays_kept g s w r.0 labels h r.1) before low.control r.2 in
+        let x =
+        lowers_on g s u (λ steps w. Reaches g s w steps u) settled (λ w r. r) (λ labels steps w r. r) l (IsBefore a.number f) (before_same a.number f) (BeginsWith a.number f)
+        (λ words w h. lowered_begins a.number f Starts words w refl h) steps (arguments_plan f.func_type low.arguments) r.0 (stays_kept g s w r.0 labels h r.1) before low.control r.2 in
         record {
           number = a.number;
           lifted = f;
@@ -469,7 +273,7 @@ entry_from g s w u labels steps h at runs r = by entered.goes
           arguments = low.arguments;
           answers = x.answers;
           words = x.words;
-          begun = x.begun;
+          begun = x.behind;
           entry = record {
             control = at;
             task = a.task;
@@ -480,7 +284,7 @@ entry_from g s w u labels steps h at runs r = by entered.goes
             entered = r.0;
             enters = subst (λ (labels : List Label). next g s w ≡ Steps labels r.0) entered.lines r.1;
             lowered = x.comes;
-            begins = x.begins;
+            begins = x.done;
           };
           steps = x.steps;
           goes_on = x.goes_on;

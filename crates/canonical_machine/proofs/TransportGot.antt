@@ -11,6 +11,7 @@ use Rattle.script_reader.specs.Script.{Script}
 use Rattle.trace_show.specs.declared.label.Label.{Label}
 use Rattle.trace_show.specs.declared.label.Label.TheVariants as line
 use Rattle.trace_show.specs.declared.trap.TrapName.{TrapName}
+use Rattle.trace_show.specs.declared.typed.TypedValue.{TypedValue}
 use Rattle.trace_show.specs.declared.trap.TrapName.TheVariants as trap
 use Rattle.canonical_machine.specs.Control.{Control, Free, Runs, Lowers, Quiet, Back, Leaves, Doomed, Then, Resolves, Lowering, Nested, Behind, InLowering, BeforeLeaving}
 use Rattle.canonical_machine.specs.World.{Callee, Func, Subtask, Caller, Guest, Returned, TaskState, Acting, AfterCall, Exited, Resolution, Unresolved, Task, World, first_world}
@@ -27,16 +28,17 @@ use Rattle.canonical_machine.specs.Nested.{HostedTurn, On, EndsIn, TrapsBy, Call
 use Rattle.canonical_machine.specs.Next.{next}
 use Rattle.canonical_machine.specs.Tasks.{IsCalleeOf, AreCalled, caller_number, IsAt, NoStack, OneStack, IsSoFar, AreWaiting, Acts, IsChain}
 use Rattle.canonical_machine.specs.KeptLaws.{IsKept}
-use Rattle.canonical_machine.specs.Transport.{RunsNested, IsAnswered, Comes, result_taken, UntilBack, ResultsAreGot}
+use Rattle.canonical_machine.specs.Transport.{RunsNested, IsAnswered, Comes, result_taken, UntilBack, ReturnsAreWhole, ResultsAreGot}
 use Rattle.canonical_machine.specs.Owners.{IsApartWorld}
 use Rattle.canonical_machine.proofs.ApartSteps.{first_apart, apart_stays}
 use Rattle.canonical_machine.proofs.Changed.{changed_there, changed_other}
 use Rattle.canonical_machine.proofs.Graphs.{same_func}
 use Rattle.canonical_machine.proofs.Ordered.{called_at}
 use Rattle.canonical_machine.proofs.TransportSpared.{comes_reaches, reached_apart, run_spares, spared_bytes}
-use Rattle.canonical_machine.proofs.TransportEntry.{IsDoomed, memory_same}
-use Rattle.canonical_machine.proofs.TransportReturn.{HasReturned, returned_of, IsRunning, running_of, results_arrive}
-use Rattle.canonical_machine.proofs.TransportSteps.{OnStep, given_step, found_step, either_step, charged_step, step_is, acting_at, reached_kept, IsBeside, nested_step, nested_run}
+use Rattle.canonical_machine.proofs.TransportEntry.{memory_same}
+use Rattle.canonical_machine.proofs.TransportRuns.{IsDoomed, IsMidst, lowers_on}
+use Rattle.canonical_machine.proofs.TransportReturn.{HasReturned, returned_by, returned_of, IsRunning, running_of, results_arrive}
+use Rattle.canonical_machine.proofs.TransportSteps.{OnStep, given_step, found_step, func_step, either_step, charged_step, step_is, acting_at, reached_kept, IsBeside, nested_step, nested_run}
 use Rattle.canonical_machine.proofs.Worlds.{first_kept, stays_kept}
 
 -- The last step of a lowering.
@@ -394,17 +396,23 @@ post_of f inst v same (inr m) n e = ap (λ (k : Nested). k.inst) (one m.0 n (sym
     one : (m n : Nested) → Quiet n BeforeLeaving ≡ Quiet m BeforeLeaving → n ≡ m
     one m n h = cc
 
+-- The task that returns, in the world behind the step with its line.
+returns_as : (g : Graph) (w v : World) (t : ℕ) (task : Task) (subtask : Subtask) (result : TypedValue) → IsRunning g w t task → task.caller ≡ Guest subtask → (x : HasReturned g w t task subtask result v)
+    → IsCallee t x.lifted subtask w × IsCallee t x.lifted subtask v
+returns_as g w v t task subtask result k called x =
+    let at : IsCallee t x.lifted subtask w = record { below = k.below; chain_is = k.chain_is; task = task; there = k.there; runs = x.runs; called = called } in
+    let ended : IsCallee t x.lifted subtask (unstacked t w) =
+    callee_changed t x.lifted subtask subtask w (unstacked t w) (λ task. record task { stacks = drop 1 task.stacks }) refl refl (λ task. refl) (λ task is. is) at in
+    (at, callee_changed t x.lifted subtask subtask (unstacked t w) v (λ task. record task { resolution = Returned }) x.tasks x.chain (λ task. refl) (λ task is. is) ended)
+
 pub results_are_got : ResultsAreGot
 results_are_got g s steps more w v back u t subtask l result answers words labels sound is_apart r e apart until gets =
     let h : IsKept g s w = reached_kept g s steps (first_world g) w (first_kept g s sound) r in
-    let x : HasReturned w t e.task result e.resolved = returned_of g s w v t subtask l result answers words e in
+    let x : HasReturned g w t e.task subtask result e.resolved = returned_of g s w v t subtask l result answers words e in
     let k : IsRunning g w t e.task = running_of g s w t e.task h e.control e.acts in
     let f : Lifted = x.lifted in
-    let at : IsCallee t f subtask w = record { below = k.below; chain_is = k.chain_is; task = e.task; there = k.there; runs = x.runs; called = e.called } in
-    let ended : IsCallee t f subtask (unstacked t w) =
-    callee_changed t f subtask subtask w (unstacked t w) (λ task. record task { stacks = drop 1 task.stacks }) refl refl (λ task. refl) (λ task is. is) at in
-    let callee : IsCallee t f subtask e.resolved =
-    callee_changed t f subtask subtask (unstacked t w) e.resolved (λ task. record task { resolution = Returned }) x.tasks x.chain (λ task. refl) (λ task is. is) ended in
+    let both = returns_as g w e.resolved t e.task subtask result k e.called x in
+    let callee : IsCallee t f subtask e.resolved = both.1 in
     let resolved : IsKept g s e.resolved = stays_kept g s w e.resolved (line.Return t (Some result) ∷ []) h e.returns in
     let plan : Plan = result_plan l.func_type result.val_type result.value subtask.words in
     let lowering : Lowering = result_lowering w t subtask l e.ended in
@@ -418,7 +426,7 @@ results_are_got g s steps more w v back u t subtask l result answers words label
     let run = nested_run g s BeforeLeaving got.steps v got.left kept got.runs in
     let memory : memory_of u.store l.options ≡ memory_of v.store l.options =
     memory_same v.store u.store l.options (ap (λ (s : Store). s.instances) got.store ∙ run.1.store.instances) in
-    let inst : f.instance ≡ l.lift.instance = callee_instance g t f subtask l w h.ordered.called e.by at in
+    let inst : f.instance ≡ l.lift.instance = callee_instance g t f subtask l w h.ordered.called e.by both.0 in
     let there : result_taken l.func_type result.val_type (bytes_of v.store (memory_of v.store l.options)) subtask.words words ≡ Ok result.value =
     results_arrive g s steps w v t subtask l result answers words sound r e apart in
     record {
@@ -432,4 +440,45 @@ results_are_got g s steps more w v back u t subtask l result answers words label
           ap (λ (m : Option ℕ). result_taken l.func_type result.val_type (bytes_of u.store m) subtask.words words) memory
           ∙ (ap (λ (s : Store). result_taken l.func_type result.val_type (bytes_of s (memory_of v.store l.options)) subtask.words words) got.store
           ∙ (ap (λ (bytes : List ℕ). result_taken l.func_type result.val_type bytes subtask.words words) same ∙ there));
+    }
+
+-- A lowering of a result ends without lines.
+post_return_quiet : (t : ℕ) (f : Lifted) (ended : List ℕ) (o : Option FuncRef) (w : World) → OnStep (λ labels v. (labels ≡ []) × Unit {0}) (post_return t f ended o w)
+unfolding post_return
+post_return_quiet t f ended None w = (refl, tt)
+post_return_quiet t f ended (Some ref) w =
+    given_step (λ labels v. (labels ≡ []) × Unit {0}) (found_at w.store.funcs (func_address w.store ref)) (λ function. silent (Quiet (post_return_call t f ended function) BeforeLeaving) w) (λ function e. (refl, tt))
+
+finished_quiet : (ended : List ℕ) (w : World) → OnStep (λ labels v. (labels ≡ []) × Unit {0}) (finished ended w)
+unfolding finished
+finished_quiet ended w =
+    func_step (λ labels v. (labels ≡ []) × Unit {0}) w (λ t task f. post_return t f ended f.options.post_return w) (λ t task f. post_return_quiet t f ended f.options.post_return w)
+
+resolves_quiet : (t : ℕ) (ended words : List ℕ) (w : World) → OnStep (λ labels v. (labels ≡ []) × Unit {0}) (lowered (Resolves t ended) words w)
+unfolding lowered
+resolves_quiet t ended words w = finished_quiet ended (result_kept t words w)
+
+back_of : (g : Graph) (s : Script) (steps : List (List Label)) (w back : World) → UntilBack g s w steps back → back.control ≡ Back
+back_of g s [] w back r = ap (λ (w : World). w.control) r.1 ∙ r.0
+back_of g s (labels ∷ steps) w back r = back_of g s steps r.1 back r.3
+
+pub returns_are_whole : ReturnsAreWhole
+returns_are_whole g s before steps w v back t task subtask result sound r at acts called e until =
+    let h : IsKept g s w = reached_kept g s before (first_world g) w (first_kept g s sound) r in
+    let x : HasReturned g w t task subtask result v = returned_by g s w v t task subtask result at acts called e in
+    let l : Lowering = result_lowering w t subtask x.lower x.ended in
+    let plan : Plan = result_plan x.lower.func_type result.val_type result.value subtask.words in
+    let is_back : back.control ≡ Back = back_of g s steps v back until in
+    let settled : IsMidst back.control → ⊥ = λ m. subst IsMidst is_back m in
+    let y =
+    lowers_on g s back (λ steps w. UntilBack g s w steps back) settled (λ w r. r.1) (λ labels steps w r. (r.1, r.2, r.3)) l (λ w. Unit {0}) (λ w v tasks chain h. tt) (λ words v. Unit {0})
+    (λ words w h. resolves_quiet t x.ended words w) steps plan v (stays_kept g s w v (line.Return t (Some result) ∷ []) h e) tt x.control until in
+    record {
+      lower = x.lower;
+      answers = y.answers;
+      words = y.words;
+      behind = y.behind;
+      returns = record { control = at; task = task; acts = acts; called = called; by = x.by; resolved = v; returns = e; ended = x.ended; lowered = y.comes };
+      steps = y.steps;
+      until = y.goes_on;
     }

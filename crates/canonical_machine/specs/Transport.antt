@@ -167,6 +167,24 @@ abbrev pub UntilBack : Graph → Script → World → List (List Label) → Worl
 UntilBack g s w [] v = (w.control ≡ Back) × (v ≡ w)
 UntilBack g s w (labels ∷ steps) v = (w.control ≢ Back) × (mid : World) × (next g s w ≡ Steps labels mid) × UntilBack g s mid steps v
 
+-- A return, behind which the run goes on to the world in which control is back at the caller.
+pub record GoesBackByReturn (g : Graph) (s : Script) (w : World) (t : ℕ) (subtask : Subtask) (result : TypedValue) (back : World) : Type 0 where
+  pub lower : Lower
+  pub answers : List Answer
+  pub words : List ℕ
+  pub behind : World
+  pub returns : IsReturn g s w t subtask lower result answers words behind
+  pub steps : List (List Label)
+  pub until : UntilBack g s behind steps back
+
+-- Where a step shows the result of a task that another one called, the result is lowered before control is back at a task. So each return
+-- to a task that does not end the run is one as above.
+abbrev pub ReturnsAreWhole : Type 0
+ReturnsAreWhole =
+    (g : Graph) (s : Script) (before steps : List (List Label)) (w v back : World) (t : ℕ) (task : Task) (subtask : Subtask) (result : TypedValue)
+    → IsSound g s → Reaches g s (first_world g) before w → w.control ≡ Runs → acting w ≡ Some (t, task) → task.caller ≡ Guest subtask
+    → next g s w ≡ Steps (line.Return t (Some result) ∷ []) v → UntilBack g s v steps back → GoesBackByReturn g s w t subtask result back
+
 -- This is a memory of a core instance that a component instance made.
 pub record IsMemoryOf (g : Graph) (s : Store) (owner address : ℕ) : Type 0 where
   pub number : ℕ
