@@ -52,3 +52,4 @@ pub mod TransportReturn
 pub mod TransportMemories
 pub mod TransportSpared
 pub mod TransportGot
+pub mod TransportSamples

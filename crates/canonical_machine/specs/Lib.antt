@@ -30,3 +30,4 @@ pub mod Callers
 pub mod Ending
 pub mod Transport
 pub mod Examples
+pub mod TransportExamples

@@ -31,4 +31,4 @@ pub use laws::{
     worlds_are_kept, worlds_stay_apart,
 };
 pub use run_end::RunEnd;
-pub use transport::{arguments_arrive, results_arrive};
+pub use transport::{arguments_arrive, results_arrive, text_and_pair};

@@ -1,6 +1,7 @@
 //! What a call passes arrives.
 
 ghost use Rattle.canonical_machine.specs.Transport.{ArgumentsArrive, EntriesAreWhole, ResultsArrive, ReturnsAreWhole, ResultsAreGot};
+ghost use Rattle.canonical_machine.specs.TransportExamples.{TextArrives, PairArrives};
 
 /// After an entry a task has its caller's arguments: where the places that reallocs give for them lie apart, what is lifted of the words
 /// with which its core function begins, and of its memory as it is then, are the arguments that were passed. Each entry that does not
@@ -19,4 +20,11 @@ pub fn results_arrive()
     ensures arrive { ResultsArrive }
     ensures whole { ReturnsAreWhole }
     ensures got { ResultsAreGot }
+{}
+
+/// Worked out by hand: a text that the script passes, over the place that the realloc gives for it, and a pair that a task returns into
+/// its caller's memory. Both lie apart, and are lifted there.
+pub fn text_and_pair()
+    ensures text { TextArrives }
+    ensures pair { PairArrives }
 {}
