@@ -1,9 +1,9 @@
 -- After an entry a task has its caller's arguments, and each entry is done before a core function runs.
-use Rattle.std.proofs.Common.{◌≡◌, ◌⊎◌, inl, inr, ◌∙◌, ◌≤◌, ℕ, Bool, true, nat_eq, List, [], ◌∷◌, Option, Some, None, Result, Ok, Err, refl, ap, sym, subst}
+use Rattle.std.proofs.Common.{◌≡◌, ◌⊎◌, inl, inr, ◌∙◌, ◌≤◌, ℕ, List, [], ◌∷◌, Option, Some, None, Result, Ok, Err, refl, ap, sym, subst}
 use Rattle.std.specs.List.{slice_get}
 use Rattle.std.specs.Option.{option_map, option_and_then}
 use Rattle.wasm_numbers.specs.Types.{AreWords}
-use Rattle.core_machine.specs.Store.{Store, Instance, Function, found_at}
+use Rattle.core_machine.specs.Store.{Store, Instance, found_at}
 use Rattle.core_machine.specs.Stack.{Stack}
 use Rattle.core_machine.specs.Step.{start}
 use Rattle.ca_types.specs.declared.types.FuncType.{FuncType}
@@ -13,8 +13,6 @@ use Rattle.value_lift.specs.declared.trap.LiftTrap.{LiftTrap}
 use Rattle.value_lift.specs.declared.counting.LiftOf.TheVariants as whole
 use Rattle.value_lift.specs.Lifting.{most}
 use Rattle.value_lift.specs.Standing.{counts}
-use Rattle.value_lower.specs.Plan.{Ask, Plan}
-use Rattle.lowered_values.specs.Settling.{Answer}
 use Rattle.lowered_values.specs.Values.{IsOf}
 use Rattle.comp_graph.specs.declared.graph.CanonFunc.{CanonFunc}
 use Rattle.comp_graph.specs.declared.graph.CoreRef.{CoreRef}
@@ -25,32 +23,28 @@ use Rattle.comp_graph.specs.Graph.{Graph, Lifted}
 use Rattle.script_reader.specs.Script.{Script}
 use Rattle.trace_show.specs.declared.label.Label.{Label}
 use Rattle.trace_show.specs.declared.label.Label.TheVariants as line
-use Rattle.trace_show.specs.declared.trap.TrapName.{TrapName}
-use Rattle.trace_show.specs.declared.trap.TrapName.TheVariants as trap
-use Rattle.canonical_machine.specs.Control.{Control, Free, Runs, Arrives, Lowers, Quiet, Doomed, Then, Starts, Lowering, Nested, Behind, InLowering}
+use Rattle.canonical_machine.specs.Control.{Control, Free, Runs, Arrives, Lowers, Then, Starts, Lowering}
 use Rattle.canonical_machine.specs.World.{Callee, Func, Caller, Nobody, Host, Guest, Unresolved, TaskState, New, Acting, Task, World, first_world}
-use Rattle.canonical_machine.specs.Edits.{with_control, with_store, with_memory, changed_at, in_state, stacked}
+use Rattle.canonical_machine.specs.Edits.{with_control, changed_at, in_state, stacked}
 use Rattle.canonical_machine.specs.Passing.{params_type, arguments_lifted, arguments_plan}
-use Rattle.canonical_machine.specs.Reading.{func_address, address_in, memory_of, bytes_of, lower_at, lifted_of, acting, func_of, builtin_of, inst_of_canon}
+use Rattle.canonical_machine.specs.Reading.{func_address, memory_of, bytes_of, lifted_of, acting, func_of}
 use Rattle.canonical_machine.specs.Entering.{passed, arguments_of, arguments_lowering, with_arguments, entered, arriving_turn}
-use Rattle.canonical_machine.specs.Pausing.{Paused, Words, Failed, Asked, settle}
-use Rattle.canonical_machine.specs.Traps.{lift_name, lower_name, core_name}
-use Rattle.canonical_machine.specs.Turn.{Turn, Steps, Ends, Stuck, silent, doomed, behind, given}
-use Rattle.canonical_machine.specs.Lowering.{nested_of, started, lowered, paused, lowers_turn}
-use Rattle.canonical_machine.specs.Nested.{HostedTurn, On, EndsIn, TrapsBy, CallsHost, NoRule, hosted_next, nested_ended, refused, hosted, nested_turn}
+use Rattle.canonical_machine.specs.Traps.{lift_name}
+use Rattle.canonical_machine.specs.Turn.{Steps, silent, given}
+use Rattle.canonical_machine.specs.Lowering.{started, lowered}
 use Rattle.canonical_machine.specs.Next.{next}
 use Rattle.canonical_machine.specs.Run.{Reaches}
 use Rattle.canonical_machine.specs.Tasks.{IsCalleeOf, NoStack, IsSoFar, Acts, IsChain}
 use Rattle.canonical_machine.specs.Kept.{params_by, HasArguments, IsKeptBy}
 use Rattle.canonical_machine.specs.KeptLaws.{IsKept}
-use Rattle.canonical_machine.specs.Transport.{RunsNested, IsAnswered, Comes, BeginsWith, IsEntry, MayBeLifted, ArgumentsArrive, BeginsByEntry, EntriesAreWhole}
+use Rattle.canonical_machine.specs.Transport.{BeginsWith, MayBeLifted, ArgumentsArrive, BeginsByEntry, EntriesAreWhole}
 use Rattle.canonical_machine.proofs.Changed.{changed_there}
 use Rattle.canonical_machine.proofs.Graphs.{same_func, lower_there}
 use Rattle.canonical_machine.proofs.Ordered.{called_at, acting_is}
-use Rattle.canonical_machine.proofs.Staying.{Spot, spot_of, at_spot, memory_bytes}
+use Rattle.canonical_machine.proofs.Staying.{spot_of, at_spot, memory_bytes}
 use Rattle.canonical_machine.proofs.TransportPlans.{arguments_lift, few_arguments}
 use Rattle.canonical_machine.proofs.TransportRuns.{IsDoomed, doomed_stops, IsMidst, lowers_on}
-use Rattle.canonical_machine.proofs.TransportSteps.{OnStep, given_step, found_step, behind_step, either_step, charged_step, step_is, reached_kept, acting_at, nested_step, HasCome, has_come}
+use Rattle.canonical_machine.proofs.TransportSteps.{OnStep, given_step, found_step, behind_step, step_is, reached_kept, acting_at, HasCome, has_come}
 use Rattle.canonical_machine.proofs.Words.{arguments_are}
 use Rattle.canonical_machine.proofs.Worlds.{first_kept, stays_kept}
 

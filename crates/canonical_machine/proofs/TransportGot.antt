@@ -1,5 +1,5 @@
 -- From the end of a lowering of a result to the task that called: the post-return runs, the task exits, and the caller gets its words.
-use Rattle.std.proofs.Common.{◌≡◌, ◌≢◌, ◌⊎◌, inl, inr, ◌∙◌, ◌<◌, ℕ, suc, true, nat_eq, List, [], ◌∷◌, drop, Option, Some, None, Ok, refl, ap, sym, subst, arith}
+use Rattle.std.proofs.Common.{◌≡◌, ◌⊎◌, inl, inr, ◌∙◌, ◌<◌, ℕ, true, nat_eq, List, [], ◌∷◌, drop, Option, Some, None, Ok, refl, ap, sym, subst, arith}
 use Rattle.std.specs.List.{slice_get}
 use Rattle.core_machine.specs.Store.{Store, found_at}
 use Rattle.value_lower.specs.Plan.{Ask, Plan}
@@ -10,23 +10,22 @@ use Rattle.comp_graph.specs.Graph.{Graph, Lifted}
 use Rattle.script_reader.specs.Script.{Script}
 use Rattle.trace_show.specs.declared.label.Label.{Label}
 use Rattle.trace_show.specs.declared.label.Label.TheVariants as line
-use Rattle.trace_show.specs.declared.trap.TrapName.{TrapName}
 use Rattle.trace_show.specs.declared.typed.TypedValue.{TypedValue}
 use Rattle.trace_show.specs.declared.trap.TrapName.TheVariants as trap
-use Rattle.canonical_machine.specs.Control.{Control, Free, Runs, Lowers, Quiet, Back, Leaves, Doomed, Then, Resolves, Lowering, Nested, Behind, InLowering, BeforeLeaving}
-use Rattle.canonical_machine.specs.World.{Callee, Func, Subtask, Caller, Guest, Returned, TaskState, Acting, AfterCall, Exited, Resolution, Unresolved, Task, World, first_world}
-use Rattle.canonical_machine.specs.Edits.{with_control, with_store, with_memory, changed_at, caller_changed, in_state, result_kept, unchained, unstacked}
+use Rattle.canonical_machine.specs.Control.{Control, Free, Runs, Lowers, Quiet, Back, Leaves, Doomed, Then, Resolves, Lowering, Nested, InLowering, BeforeLeaving}
+use Rattle.canonical_machine.specs.World.{Func, Subtask, Caller, Guest, Returned, TaskState, AfterCall, Exited, Resolution, Task, World, first_world}
+use Rattle.canonical_machine.specs.Edits.{with_control, with_store, with_memory, changed_at, caller_changed, result_kept, unstacked}
 use Rattle.canonical_machine.specs.Reading.{func_address, memory_of, bytes_of, lower_at, lifted_of, acting, func_of, task_at, subtask_of, state_number, subtask_state, builtin_of, inst_of_canon}
 use Rattle.canonical_machine.specs.Passing.{result_plan}
 use Rattle.canonical_machine.specs.Pausing.{Paused, Words, Asked, settle}
 use Rattle.canonical_machine.specs.Traps.{core_name}
-use Rattle.canonical_machine.specs.Turn.{Turn, Steps, Ends, Stuck, silent, doomed, behind, given}
-use Rattle.canonical_machine.specs.Returning.{result_lowering, post_return_call, post_return, finished, control_behind, left_chain, leaving_turn}
+use Rattle.canonical_machine.specs.Turn.{Steps, Stuck, silent, doomed, behind}
+use Rattle.canonical_machine.specs.Returning.{result_lowering, post_return_call, post_return, finished, control_behind, leaving_turn}
 use Rattle.canonical_machine.specs.Calling.{call_ended, back_from, back_turn}
 use Rattle.canonical_machine.specs.Lowering.{nested_of, lowered, paused, left_by, lowers_turn}
 use Rattle.canonical_machine.specs.Nested.{HostedTurn, On, EndsIn, TrapsBy, CallsHost, NoRule, hosted_next, nested_ended, refused, hosted, nested_turn}
 use Rattle.canonical_machine.specs.Next.{next}
-use Rattle.canonical_machine.specs.Tasks.{IsCalleeOf, AreCalled, caller_number, IsAt, NoStack, OneStack, IsSoFar, AreWaiting, Acts, IsChain}
+use Rattle.canonical_machine.specs.Tasks.{IsCalleeOf, AreCalled, caller_number, AreWaiting, IsChain}
 use Rattle.canonical_machine.specs.KeptLaws.{IsKept}
 use Rattle.canonical_machine.specs.Transport.{RunsNested, IsAnswered, Comes, result_taken, UntilBack, ReturnsAreWhole, ResultsAreGot}
 use Rattle.canonical_machine.specs.Owners.{IsApartWorld}

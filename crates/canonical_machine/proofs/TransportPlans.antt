@@ -1,5 +1,5 @@
 -- Plans that are followed over answers of reallocs, and what is lifted behind them.
-use Rattle.std.proofs.Common.{◌≡◌, ◌∙◌, ◌≤◌, ◌+◌, ℕ, Bool, true, false, nat_le, nat_lt, if◌then◌else◌, List, [], ◌∷◌, ◌++◌, map, length, Some, Result, Ok, Err, refl, ap, sym, arith, length-append}
+use Rattle.std.proofs.Common.{◌≡◌, ◌∙◌, ◌≤◌, ◌+◌, ℕ, Bool, true, false, nat_le, nat_lt, if◌then◌else◌, List, [], ◌∷◌, ◌++◌, map, length, Some, Result, Ok, Err, refl, ap, arith, length-append}
 use Rattle.std.proofs.lemmas.Bool.Decides.{nat_tests}
 use Rattle.std.proofs.lemmas.List.{length-map}
 use Rattle.std.specs.Prelude.{slice_index}
@@ -11,7 +11,6 @@ use Rattle.ca_types.specs.declared.types.FuncType.{FuncType}
 use Rattle.ca_types.specs.declared.value.Value.{Value}
 use Rattle.ca_types.specs.Flat.{flat, all_of, at_most, out_place, flat_params, flat_payload}
 use Rattle.std.specs.List.{flat_map}
-use Rattle.wasm_module.specs.declared.types.ValType as core
 use Rattle.wasm_numbers.specs.Types.{AreWords}
 use Rattle.value_lift.specs.declared.trap.LiftTrap.{LiftTrap}
 use Rattle.value_lift.specs.declared.counting.LiftOf.{LiftOf}
@@ -27,7 +26,7 @@ use Rattle.value_lower.specs.Plan.{Plan, Gives, Fails, Asks, Size, Put}
 use Rattle.value_lower.specs.Following.{written}
 use Rattle.value_lower.specs.Lowering.{stored, placed, flat_lowered}
 use Rattle.lowered_values.specs.Settling.{Answer, IsAnswer, Settles}
-use Rattle.lowered_values.specs.Apart.{Region, Apart}
+use Rattle.lowered_values.specs.Apart.{Apart}
 use Rattle.lowered_values.specs.Laws.{target}
 use Rattle.lowered_values.specs.Values.{IsOf}
 use Rattle.lowered_values.proofs.Standing.{placed_values_stand, stored_values_are_loaded, lowered_words_are_lifted}

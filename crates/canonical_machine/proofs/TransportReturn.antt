@@ -1,6 +1,6 @@
 -- After a return a task that called has the result.
-use Rattle.std.proofs.Common.{◌≡◌, ◌∙◌, ◌≤◌, ℕ, List, [], ◌∷◌, ◌++◌, Option, Some, None, Result, Ok, Err, refl, ap, sym, subst}
-use Rattle.std.specs.List.{slice_get, AllByRecursion}
+use Rattle.std.proofs.Common.{◌≡◌, ◌∙◌, ◌≤◌, ℕ, List, [], ◌∷◌, Option, Some, None, Result, Ok, Err, refl, ap, sym, subst}
+use Rattle.std.specs.List.{slice_get}
 use Rattle.wasm_numbers.specs.Types.{AreWords}
 use Rattle.core_machine.specs.Store.{Store}
 use Rattle.core_machine.specs.Stack.{Stack}
@@ -33,10 +33,9 @@ use Rattle.canonical_machine.specs.Passing.{result_lifted, result_plan}
 use Rattle.canonical_machine.specs.Reading.{memory_of, bytes_of, lower_at, acting, func_of}
 use Rattle.canonical_machine.specs.Returning.{typed_result, result_of, result_lowering, passed_on, returned, returning_turn}
 use Rattle.canonical_machine.specs.CoreSteps.{costs, stack_ended, moved, running_turn}
-use Rattle.canonical_machine.specs.Turn.{Turn, Steps, Ends, Stuck, silent, given}
+use Rattle.canonical_machine.specs.Turn.{Turn, Steps, Ends, Stuck}
 use Rattle.canonical_machine.specs.Next.{next}
-use Rattle.canonical_machine.specs.Run.{Reaches}
-use Rattle.canonical_machine.specs.Kept.{AreMadeBy, AreTyped, core_results, IsKeptBy}
+use Rattle.canonical_machine.specs.Kept.{AreTyped, core_results, IsKeptBy}
 use Rattle.canonical_machine.specs.KeptLaws.{IsKept}
 use Rattle.canonical_machine.specs.Transport.{IsReturn, result_taken, ResultsArrive}
 use Rattle.canonical_machine.proofs.Staying.{memory_bytes}

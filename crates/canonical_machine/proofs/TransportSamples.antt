@@ -1,33 +1,30 @@
 -- The examples of what a call passes.
-use Rattle.std.proofs.Common.{◌≡◌, ◌∙◌, ◌≤◌, ◌+◌, ℕ, suc, List, [], ◌∷◌, ◌++◌, map, length, replicate, Some, None, Ok, refl, ap, sym, subst, arith}
-use Rattle.std.specs.Prelude.{Result, unwrap_or}
-use Rattle.std.specs.List.{slice_get}
+use Rattle.std.proofs.Common.{◌≡◌, ◌≤◌, ◌+◌, ℕ, suc, [], ◌∷◌, ◌++◌, replicate, Some, Ok, refl, ap, sym, subst, arith}
+use Rattle.std.specs.Prelude.{unwrap_or}
 use Rattle.std.specs.Str.{IsUtf8}
 use lib.Utf8.{encode}
-use Rattle.core_machine.specs.Store.{Function, Host as HostFunction, found_at}
+use Rattle.core_machine.specs.Store.{Host as HostFunction, found_at}
 use Rattle.core_machine.specs.Stack.{Given}
-use Rattle.ca_types.specs.declared.types.ValType.{ValType}
 use Rattle.ca_types.specs.declared.types.ValType.TheVariants as type
 use Rattle.ca_types.specs.declared.value.Value.{Value}
 use Rattle.ca_types.specs.declared.value.Value.TheVariants as value
 use Rattle.ca_types.specs.declared.value.Value.TheViews as values
-use Rattle.value_lift.specs.declared.trap.LiftTrap.{LiftTrap}
 use Rattle.value_lift.specs.declared.counting.LiftOf.TheVariants as whole
 use Rattle.value_lift.specs.Lifting.{most}
-use Rattle.value_lift.specs.Standing.{total, counts}
+use Rattle.value_lift.specs.Standing.{counts}
 use Rattle.value_lift.proofs.Views.{count_string, count_u32, count_record}
 use Rattle.value_lower.specs.Plan.{Plan, Gives, Put}
 use Rattle.value_lower.specs.Lowering.{tested, text_in}
-use Rattle.lowered_values.specs.Settling.{Answer, Settles}
+use Rattle.lowered_values.specs.Settling.{Settles}
 use Rattle.lowered_values.specs.Apart.{Apart}
 use Rattle.lowered_values.specs.Values.{IsOf, string_is, u32_is, tuple_is, no_types, more_types}
 use Rattle.comp_graph.specs.Graph.{Graph}
 use Rattle.script_reader.specs.Script.{Script}
-use Rattle.canonical_machine.specs.Control.{Control, Lowers, Quiet, Going, Nested, Behind}
-use Rattle.canonical_machine.specs.World.{Subtask, World}
-use Rattle.canonical_machine.specs.Passing.{params_type, arguments_lifted, arguments_plan, result_plan}
+use Rattle.canonical_machine.specs.Control.{Control, Quiet, Going, Nested}
+use Rattle.canonical_machine.specs.World.{World}
+use Rattle.canonical_machine.specs.Passing.{params_type, arguments_plan, result_plan}
 use Rattle.canonical_machine.specs.Pausing.{Paused, Words, Failed, Asked, settle}
-use Rattle.canonical_machine.specs.Reading.{func_address, memory_of, bytes_of}
+use Rattle.canonical_machine.specs.Reading.{func_address}
 use Rattle.canonical_machine.specs.Instantiating.{started_up, made, action_turn, instantiating_turn}
 use Rattle.canonical_machine.specs.Returning.{typed_result, result_lowering, post_return, finished, passed_on, returned, returning_turn, leaving_turn}
 use Rattle.canonical_machine.specs.CoreSteps.{stack_ended, moved, running_turn}
@@ -36,14 +33,12 @@ use Rattle.canonical_machine.specs.Calling.{called_by, taken, item_turn, free_tu
 use Rattle.canonical_machine.specs.Reply.{reply, allowed, calling_turn}
 use Rattle.canonical_machine.specs.Lowering.{started, lowered, paused, lowers_turn}
 use Rattle.canonical_machine.specs.Nested.{nested_ended, refused, hosted, nested_turn}
-use Rattle.canonical_machine.specs.Run.{Reaches}
-use Rattle.trace_show.specs.declared.label.Label.{Label}
-use Rattle.canonical_machine.specs.Examples.{measuring, store_of, gives, of_text, to_pair, pair, text, words, instantiated, script_of, pairing, pair_store, pair_bytes}
-use Rattle.canonical_machine.specs.Transport.{Comes, result_taken}
+use Rattle.canonical_machine.specs.Examples.{measuring, store_of, gives, of_text, to_pair, pair, text, words, instantiated, script_of, pairing, pair_bytes}
+use Rattle.canonical_machine.specs.Transport.{Comes}
 use Rattle.canonical_machine.specs.TransportExamples.{measures, text_script, at_32, TextArrives, five_six, pair_lower, pair_ended, PairArrives}
-use Rattle.canonical_machine.proofs.Passed.{text_plan, pair_result, pair_plan, lifted_at, none_plan}
+use Rattle.canonical_machine.proofs.Passed.{text_plan, pair_result, pair_plan}
 use Rattle.canonical_machine.proofs.TransportPlans.{arguments_lift, result_lifts}
-use Rattle.canonical_machine.proofs.Walks.{walk, begun, walks, steps_to, at_world, planned, with_plan, entered_world, enters, ended_world, ends, the_task}
+use Rattle.canonical_machine.proofs.Walks.{walk, begun, walks, planned, entered_world, enters, ended_world, ends, the_task}
 
 -- what a plan asks next, and the nested code that runs
 abbrev the_k : Paused → ℕ → Plan

@@ -9,7 +9,6 @@ use Rattle.core_machine.specs.Step.{Move, Goes, Traps}
 use Rattle.core_machine.specs.Step as core
 use Rattle.value_lower.specs.Plan.{Plan}
 use Rattle.lowered_values.specs.Settling.{Answer}
-use Rattle.comp_graph.specs.declared.graph.CanonFunc.{CanonFunc}
 use Rattle.comp_graph.specs.Graph.{Graph}
 use Rattle.script_reader.specs.Script.{Script}
 use Rattle.trace_show.specs.declared.label.Label.{Label}
@@ -20,13 +19,13 @@ use Rattle.canonical_machine.specs.World.{World}
 use Rattle.canonical_machine.specs.Edits.{with_control, with_store}
 use Rattle.canonical_machine.specs.Reading.{bytes_of_memory, bytes_of, builtin_of, inst_of_canon}
 use Rattle.canonical_machine.specs.Traps.{core_name}
-use Rattle.canonical_machine.specs.Turn.{Turn, Steps, Stuck, silent, doomed, behind}
+use Rattle.canonical_machine.specs.Turn.{Steps, Stuck, silent, doomed, behind}
 use Rattle.canonical_machine.specs.Nested.{HostedTurn, On, EndsIn, TrapsBy, CallsHost, NoRule, hosted_move, hosted_next, nested_ended, refused, hosted, nested_turn}
 use Rattle.canonical_machine.specs.Next.{next}
 use Rattle.canonical_machine.specs.Run.{Reaches}
 use Rattle.canonical_machine.specs.KeptLaws.{IsKept}
 use Rattle.canonical_machine.specs.Laws.{IsQuietTurn, FollowsNested}
-use Rattle.canonical_machine.specs.Owners.{owner_of_core, IsStackOf, IsStateOf, IsBehindApart, IsControlApart, IsApart, IsApartWorld}
+use Rattle.canonical_machine.specs.Owners.{IsStackOf, IsStateOf, IsBehindApart, IsControlApart, IsApart, IsApartWorld}
 use Rattle.canonical_machine.specs.Transport.{RunsNested, IsAnswered, Comes, IsMemoryOf}
 use Rattle.canonical_machine.proofs.ApartSteps.{apart_stays}
 use Rattle.canonical_machine.proofs.Quiets.{nested_is_quiet}

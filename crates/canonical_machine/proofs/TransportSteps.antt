@@ -1,5 +1,5 @@
 -- Lowerings in a run: what their steps leave, and how their plans go.
-use Rattle.std.proofs.Common.{◌≡◌, ◌∙◌, ◌≤◌, ◌<◌, ◌+◌, ◌^◌, ℕ, zero, suc, Bool, true, false, nat_eq, nat_lt, if◌then◌else◌, List, [], ◌∷◌, ◌++◌, length, set, Option, Some, None, refl, ap, sym, subst, arith}
+use Rattle.std.proofs.Common.{◌≡◌, ◌∙◌, ◌≤◌, ◌+◌, ℕ, zero, suc, Bool, true, false, nat_eq, nat_lt, if◌then◌else◌, List, [], ◌∷◌, ◌++◌, length, set, Option, Some, None, refl, ap, sym, subst, arith}
 use Rattle.std.specs.List.{slice_get}
 use Rattle.std.specs.Option.{option_map}
 use Rattle.wasm_module.specs.declared.types.ValType.{ValType}
@@ -37,12 +37,12 @@ use Rattle.canonical_machine.specs.Nested.{HostedTurn, On, EndsIn, TrapsBy, Call
 use Rattle.canonical_machine.specs.Next.{next_by}
 use Rattle.canonical_machine.specs.Next as machine
 use Rattle.canonical_machine.specs.Run.{Reaches}
-use Rattle.canonical_machine.specs.Kept.{IsPlanned, Takes, IsHosted, memory_size, IsKeptBy}
+use Rattle.canonical_machine.specs.Kept.{IsHosted, memory_size, IsKeptBy}
 use Rattle.canonical_machine.specs.KeptLaws.{IsKept}
 use Rattle.canonical_machine.specs.Transport.{RunsNested, IsAnswered, Comes}
 use Rattle.canonical_machine.proofs.CoreKept.{MoveSame, move_same}
 use Rattle.canonical_machine.proofs.LowerKept.{gives, state_of}
-use Rattle.canonical_machine.proofs.Staying.{GoesOn, size_later, Settled, settled, rewritten_goes_on, memory_bytes}
+use Rattle.canonical_machine.proofs.Staying.{GoesOn, size_later, settled, rewritten_goes_on, memory_bytes}
 use Rattle.canonical_machine.proofs.TransportPlans.{PausesOver, settles}
 use Rattle.canonical_machine.proofs.Worlds.{stays_kept}
 

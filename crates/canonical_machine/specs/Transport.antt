@@ -1,7 +1,7 @@
 -- Transport (Component Model, CanonicalABI.md, `canon lift` and `canon lower`; "Flat Lifting", "Flat Lowering", "Loading", "Storing"):
 -- what a call passes arrives. Where the places that reallocs give for a lowering lie apart, a task's core function begins with words
 -- and a memory of which its arguments are lifted, and the task that called it has words and a memory of which the result is lifted.
-use Rattle.std.specs.Prelude.{◌≡◌, ◌≢◌, ◌≤◌, ℕ, Bool, if◌then◌else◌, List, [], ◌∷◌, Option, Some, Result, Ok}
+use Rattle.std.specs.Prelude.{◌≡◌, ◌≢◌, ◌≤◌, ℕ, if◌then◌else◌, List, [], ◌∷◌, Some, Result, Ok}
 use Rattle.std.specs.List.{slice_get}
 use Rattle.core_machine.specs.Store.{Function, Instance, Store, found_at}
 use Rattle.core_machine.specs.Step.{start}

@@ -1,6 +1,6 @@
 -- What a call passes arrives, on two of the graphs of `Examples`: a text as an argument, over the place that a realloc gives for it, and a
 -- pair as a result in memory.
-use Rattle.std.specs.Prelude.{◌≡◌, ℕ, List, [], ◌∷◌, replicate, Some, None, Ok}
+use Rattle.std.specs.Prelude.{◌≡◌, List, [], ◌∷◌, replicate, Some, None, Ok}
 use Rattle.ca_types.specs.declared.value.Value.TheVariants as value
 use Rattle.ca_types.specs.declared.value.Value.TheViews as values
 use Rattle.lowered_values.specs.Settling.{Answer}
