@@ -60,3 +60,12 @@ pub mod MoreSamples
 pub mod PairSamples
 pub mod ApartSamples
 pub mod SoundSamples
+pub mod TransportPlans
+pub mod TransportSteps
+pub mod TransportRuns
+pub mod TransportEntry
+pub mod TransportReturn
+pub mod TransportMemories
+pub mod TransportSpared
+pub mod TransportGot
+pub mod TransportSamples

@@ -35,4 +35,6 @@ pub mod Owners
 pub mod Over
 pub mod Callers
 pub mod Ending
+pub mod Transport
 pub mod Examples
+pub mod TransportExamples

@@ -21,6 +21,7 @@
 //!
 //! - `run_end`: how a run ends
 //! - `laws`: what holds of all runs
+//! - `transport`: what a call passes arrives
 //! - `examples`: the machine on small examples
 //! - `value_laws`: what holds of values that were lowered, and of those that are lifted
 //! - `value_examples`: texts that are lowered into a small memory
@@ -29,6 +30,7 @@
 pub mod examples;
 mod laws;
 mod run_end;
+mod transport;
 pub mod value_examples;
 mod value_laws;
 
@@ -38,6 +40,7 @@ pub use laws::{
     worlds_are_kept, worlds_stay_apart,
 };
 pub use run_end::RunEnd;
+pub use transport::{arguments_arrive, results_arrive, text_and_pair};
 pub use value_laws::{
     core_values_are_typed, fitting_values_are, followed_plans_settle, lifted_values_are,
     lowered_values_stand, lowered_words_are_lifted, lowered_words_are_typed, lowered_words_stand,

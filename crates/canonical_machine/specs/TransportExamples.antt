@@ -1,0 +1,94 @@
+-- What a call passes arrives, on two of the graphs of `Examples`: a text as an argument, over the place that a realloc gives for it, and a
+-- pair as a result in memory.
+use Rattle.std.specs.Prelude.{◌≡◌, List, [], ◌∷◌, replicate, Some, None, Ok}
+use Rattle.ca_types.specs.declared.value.Value.TheVariants as value
+use Rattle.ca_types.specs.declared.value.Value.TheViews as values
+use Rattle.canonical_machine.specs.Settling.{Answer}
+use Rattle.canonical_machine.specs.ApartPlaces.{Apart}
+use Rattle.comp_graph.specs.declared.graph.Lower.{Lower}
+use Rattle.comp_graph.specs.Graph.{Lifted, no_options}
+use Rattle.core_machine.specs.Stack.{AtHost, Given}
+use Rattle.script_reader.specs.Script.{Script}
+use Rattle.trace_show.specs.declared.label.Label.{Label}
+use Rattle.trace_show.specs.declared.typed.TypedValue.{TypedValue}
+use Rattle.canonical_machine.specs.World.{Init, Func, Nobody, Host, Guest, Unresolved, Acting, AfterCall, Exited, World}
+use Rattle.canonical_machine.specs.Control.{Runs}
+use Rattle.canonical_machine.specs.Calling.{called_by}
+use Rattle.canonical_machine.specs.Reading.{memory_of, bytes_of, lifted_of}
+use Rattle.canonical_machine.specs.Passing.{arguments_lifted}
+use Rattle.canonical_machine.specs.Run.{Reaches}
+use Rattle.canonical_machine.specs.Examples.{measuring, store_of, gives, func_at, first_memory, of_text, to_pair, to_nothing, pair, text, instantiated, script_of, pairing, pair_store}
+use Rattle.canonical_machine.specs.Transport.{IsEntry, IsReturn, MayBeLifted, result_target, result_taken}
+
+-- The script passes the text to a function whose memory has 40 bytes.
+abbrev pub measures : Lifted
+measures = record {
+  instance = 0;
+  core = func_at 0 1;
+  options = record { memory = Some first_memory; realloc = Some (func_at 0 2); post_return = None };
+  func_type = of_text;
+}
+
+abbrev pub text_script : Script
+text_script = script_of 10 (value.String text ∷ [])
+
+-- The realloc is asked for six bytes, and gives place 32.
+abbrev pub at_32 : Answer
+at_32 = record { asked = record { old = 0; old_size = 0; align = 1; size = 6 }; place = 32; before = replicate 40 0; after = replicate 40 0 }
+
+-- The task enters, the core function begins with the place and the number of bytes, and the text is lifted of them.
+pub record TextArrives : Type 0 where
+  pub new : World
+  pub begun : World
+  pub steps : List (List Label)
+  pub reached : Reaches measuring text_script (instantiated 1 (store_of (gives 32))) steps new
+  pub entry : IsEntry measuring text_script new 1 measures (Host (value.String text ∷ [])) (values.Record (value.String text ∷ [])) (at_32 ∷ []) (32 ∷ 6 ∷ []) begun
+  pub may : MayBeLifted (Host (value.String text ∷ []))
+  pub apart : Apart [] (at_32 ∷ [])
+  pub lifted : arguments_lifted of_text (bytes_of begun.store (memory_of begun.store measures.options)) (32 ∷ 6 ∷ []) ≡ Ok (values.Record (value.String text ∷ []))
+
+-- Task 2 returns the pair, which goes to place 16 of the memory of task 1.
+abbrev pub five_six : TypedValue
+five_six = record { value = values.Record (value.U32 5 ∷ value.U32 6 ∷ []); val_type = pair }
+
+abbrev pub pair_lower : Lower
+pair_lower = record {
+  instance = 0;
+  lift = record { instance = 1; core = func_at 0 0; options = record { memory = Some first_memory; realloc = None; post_return = None } };
+  func_type = to_pair;
+  options = record { memory = Some (record { instance = 1; index = 0 }); realloc = None; post_return = None };
+}
+
+-- Task 1 waits for it, and the core function of task 2 has ended with place 8 of its own memory, where the pair stands.
+abbrev pub pair_ended : World
+pair_ended = record {
+  store = pair_store 16;
+  instances = 2;
+  tasks =
+      record { callee = Init; caller = Nobody; stacks = []; resolution = Unresolved; state = Exited }
+      ∷ record {
+        callee = Func (record { instance = 0; core = func_at 1 1; options = no_options; func_type = to_nothing });
+        caller = Host [];
+        stacks = AtHost 0 (16 ∷ []) ∷ [];
+        resolution = Unresolved;
+        state = AfterCall 2;
+      }
+      ∷ record {
+        callee = Func (lifted_of pair_lower);
+        caller = Guest (called_by 1 0 (16 ∷ []));
+        stacks = Given (8 ∷ []) ∷ [];
+        resolution = Unresolved;
+        state = Acting;
+      }
+      ∷ [];
+  chain = 2 ∷ 1 ∷ [];
+  control = Runs;
+  units = 3;
+  taken = 1;
+}
+
+pub record PairArrives : Type 0 where
+  pub behind : World
+  pub returns : IsReturn pairing (script_of 10 []) pair_ended 2 (called_by 1 0 (16 ∷ [])) pair_lower five_six [] [] behind
+  pub apart : Apart (result_target to_pair pair (16 ∷ [])) []
+  pub lifted : result_taken to_pair pair (bytes_of behind.store (memory_of behind.store pair_lower.options)) (16 ∷ []) [] ≡ Ok five_six.value

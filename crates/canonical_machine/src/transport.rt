@@ -1,0 +1,30 @@
+//! What a call passes arrives.
+
+ghost use Rattle.canonical_machine.specs.Transport.{ArgumentsArrive, EntriesAreWhole, ResultsArrive, ReturnsAreWhole, ResultsAreGot};
+ghost use Rattle.canonical_machine.specs.TransportExamples.{TextArrives, PairArrives};
+
+/// After an entry a task has its caller's arguments: where the places that reallocs give for them lie apart, what is lifted of the words
+/// with which its core function begins, and of its memory as it is then, are the arguments that were passed. Each entry that does not
+/// end the run is done before a core function runs, over some such places.
+pub fn arguments_arrive()
+    ensures arrive { ArgumentsArrive }
+    ensures whole { EntriesAreWhole }
+{}
+
+/// After a return a task that called has the result: where the places that reallocs give for it lie apart from one another, and from the
+/// place that the caller passed, what is lifted behind the lowering of the caller's memory, or of the words that are kept for it, is the
+/// result that the line of the return shows. Each return to a task that does not end the run is done before control is back at a task,
+/// over some such places. On a graph whose core definitions stay in their component instance the caller goes on with these words, and has
+/// the result then too, unless its memory is one of the component instance that it called: the post-return alone runs between.
+pub fn results_arrive()
+    ensures arrive { ResultsArrive }
+    ensures whole { ReturnsAreWhole }
+    ensures got { ResultsAreGot }
+{}
+
+/// Worked out by hand: a text that the script passes, over the place that the realloc gives for it, and a pair that a task returns into
+/// its caller's memory. Both lie apart, and are lifted there.
+pub fn text_and_pair()
+    ensures text { TextArrives }
+    ensures pair { PairArrives }
+{}
