@@ -88,7 +88,7 @@ fn run_start(
 }
 
 /// The name of the core function of the Canonical ABI of a number.
-pub(crate) fn builtin_of(graph: &Graph, number: usize) -> Builtin
+pub fn builtin_of(graph: &Graph, number: usize) -> Builtin
     requires { number < length graph.now.canons }
     ensures { (canon : CanonFunc) → slice_get graph.now.canons number ≡ Some canon → result ≡ builtin_of canon }
 {

@@ -1,4 +1,4 @@
-use Rattle.std.proofs.Common.{◌≡◌, ◌∙◌, ◌+◌, ◌<◌, ◌++◌, ◌∷◌, [], ap, refl, rules, arith}
+use Rattle.std.proofs.Common.{◌∙◌, ◌+◌, ◌++◌, ◌∷◌, [], ap, refl}
 use Rattle.world.specs.declared.state.RunState.{RunState}
 use Rattle.world.proofs.TaskRuns.{stack_typed, stack_traps, stack_wants, stack_ends, stack_calls, reserved}
 use Rattle.world.specs.declared.state.Waiter.{Waiter}
