@@ -48,7 +48,7 @@ use Rattle.builtins.specs.Reentering.{calls_into, reenters}
 use Rattle.world.proofs.Leads.{leads_then, leads_step}
 use Rattle.world.proofs.Instancing.{safe_there, ends_there}
 use Rattle.world.proofs.Items.{sound_call}
-use Rattle.world.proofs.TaskRuns.{called_func, waits_below}
+use Rattle.world.proofs.TaskRuns.{called_func, called_as, waits_below}
 
 -- The innermost of the tasks that wait stands at the end.
 take_front : (us more : List Waiter) → take (length us) (us ++ more) ≡ us
@@ -197,17 +197,13 @@ at_any zero (suc m) f (x ∷ xs) P k h = h
 at_any (suc n) zero f (x ∷ xs) P k h = h
 at_any (suc n) (suc m) f (x ∷ xs) P k h = at_any n m f xs P k h
 
-called_state : (g : Graph) (s : Script) (taken : ℕ) (us : List Waiter) (task : Task) (state : TaskState) → IsCalled g s taken us task → IsCalled g s taken us (record task { state = state })
-called_state g s taken [] task state h = record { number = h.number; last = h.last; call = h.call; there = h.there; lifted = h.lifted; named = h.named; callee = h.callee; caller = h.caller }
-called_state g s taken (u ∷ below) task state h = record { lower = h.lower; there = h.there; callee = h.callee; caller = h.caller }
-
 waiters_kept : (g : Graph) (s : Script) (taken n : ℕ) (state : TaskState) (tasks more : List Task) (us : List Waiter) → AreWaiters g s taken tasks us
     → AreWaiters g s taken (changed_at n (λ task. record task { state = state }) tasks ++ more) us
 waiters_kept g s taken n state tasks more [] h = tt
 waiters_kept g s taken n state tasks more (u ∷ below) h =
     let change : Task → Task = λ task. record task { state = state } in
     let at = at_any n u.task change tasks (IsWaiter g s taken below u)
-    (λ task w. record { called = called_state g s taken below task state w.called; stacks = w.stacks; count = w.count; passes = w.passes }) h.0 in
+    (λ task w. record { called = called_as g s taken below task (change task) refl refl w.called; stacks = w.stacks; count = w.count; passes = w.passes }) h.0 in
     ((at.0, get_front (changed_at n change tasks) more u.task at.0 at.1, at.2), waiters_kept g s taken n state tasks more below h.1)
 
 -- A call that is told.

@@ -14,6 +14,7 @@ use Rattle.copy_engine.specs.declared.store_room.LowerOptions.{LowerOptions}
 use Rattle.comp_graph.specs.declared.graph.CanonFunc.{CanonFunc}
 use Rattle.comp_graph.specs.Graph.{Graph, Lifted}
 use Rattle.script_reader.specs.Script.{Script}
+use Rattle.script_reader.proofs.Cases.{some_inj}
 use Rattle.trace_show.specs.declared.builtin.Builtin.{Builtin}
 use Rattle.trace_show.specs.declared.label.Label.{Label}
 use Rattle.trace_show.specs.declared.label.Label.TheVariants as line
@@ -33,7 +34,6 @@ use Rattle.canonical_machine.specs.Sound.{IsSound}
 use Rattle.canonical_machine.specs.Owners.{IsApart}
 use Rattle.canonical_machine.specs.Tasks.{AreWaiting, IsChain}
 use Rattle.canonical_machine.proofs.Changed.{changed_length, changed_there}
-use Rattle.world.specs.declared.state.Waiter.{Waiter}
 use Rattle.world.specs.declared.state.RunState.{RunState}
 use Rattle.builtins.specs.declared.lower_values.Lowered.{Lowered}
 use Rattle.builtins.specs.declared.lower_values.Lowered.TheVariants as came
@@ -41,19 +41,10 @@ use Rattle.world.specs.Parts.{Leads, Meets, with_room, WithUsed, IsSafe}
 use Rattle.builtins.specs.Rooms.{IsMemory}
 use Rattle.builtins.specs.Lowering.{IsAtLowering, LoweredLeads}
 use Rattle.world.specs.Passed.{IsAtEntry}
-use Rattle.world.specs.Seen.{IsCalled, Acts, waiters, numbers, IsAtStack, EndsBy}
+use Rattle.world.specs.Seen.{Acts, waiters, numbers, IsAtStack, EndsBy}
 use Rattle.world.proofs.Leads.{leads_then, meets_behind, meets_step, ends_behind, first_safe, safe_moves}
 use Rattle.world.proofs.Instancing.{safe_there, ends_there}
-use Rattle.world.proofs.TaskRuns.{waiters_still}
-
--- It is called so with another stack or in another state.
-pub called_as : (g : Graph) (s : Script) (taken : ℕ) (us : List Waiter) (task other : Task) → other.callee ≡ task.callee → other.caller ≡ task.caller → IsCalled g s taken us task → IsCalled g s taken us other
-called_as g s taken [] task other callee caller h =
-    record { number = h.number; last = h.last; call = h.call; there = h.there; lifted = h.lifted; named = h.named; callee = callee ∙ h.callee; caller = caller ∙ h.caller }
-called_as g s taken (u ∷ below) task other callee caller h = record { lower = h.lower; there = h.there; callee = callee ∙ h.callee; caller = caller ∙ h.caller }
-
-first_same : (x : ℕ) (xs : List ℕ) (y : ℕ) (ys : List ℕ) → x ∷ xs ≡ y ∷ ys → (x ≡ y) × (xs ≡ ys)
-first_same x xs y ys h = (cc, cc)
+use Rattle.world.proofs.TaskRuns.{first_same, called_as, waiters_still}
 
 -- The core function starts.
 started_is : (t : ℕ) (below : List ℕ) (task : Task) (f : Lifted) (words : List ℕ) (w : World) → w.chain ≡ t ∷ below → slice_get w.tasks t ≡ Some task → task.callee ≡ Func f
@@ -212,24 +203,15 @@ module _ (g : Graph) (s : Script) (run : RunState) (t : ℕ) (f : Lifted) (v : V
       → func_address store f.core ≡ Some address → address < length store.funcs
   core_within words store after address fewer u is =
       let p = starts_with words store after fewer u in
-      let same : p.function.0 ≡ address = same_some p.function.0 address (sym p.address ∙ is) in
+      let same : p.function.0 ≡ address = some_inj (sym p.address ∙ is) in
       subst (λ (n : ℕ). n < length store.funcs) same (slice_get_within store.funcs p.function.0 p.function.1 p.there)
-    where
-      same_some : (m n : ℕ) → Some m ≡ Some n → m ≡ n
-      same_some m n h = cc
 
   pub entry_starts : (words : List ℕ) (store : Store) (after address : ℕ) (k : Stack) → after ≤ run.left → WithUsed s after (λ used. LoweredLeads g s w l (came.Words words) store used)
       → func_address store f.core ≡ Some address → ((function : Function) × (slice_get store.funcs address ≡ Some function) × (k ≡ start function address words))
       → IsAtStack g s (record run { store = store; left = after }) t k
   entry_starts words store after address k fewer u is begun =
       let p = starts_with words store after fewer u in
-      let same : p.function.0 ≡ address = same_some p.function.0 address (sym p.address ∙ is) in
-      let function : p.function.1 ≡ begun.0 = same_function p.function.1 begun.0 (sym p.there ∙ ap (λ (n : ℕ). slice_get store.funcs n) same ∙ begun.1) in
+      let same : p.function.0 ≡ address = some_inj (sym p.address ∙ is) in
+      let function : p.function.1 ≡ begun.0 = some_inj (sym p.there ∙ ap (λ (n : ℕ). slice_get store.funcs n) same ∙ begun.1) in
       let stack : start p.function.1 p.function.0 words ≡ k = ap (λ (x : Function). start x p.function.0 words) function ∙ ap (λ (n : ℕ). start begun.0 n words) same ∙ sym begun.2 in
       subst (λ (k : Stack). IsAtStack g s (record run { store = store; left = after }) t k) stack p.at
-    where
-      same_some : (m n : ℕ) → Some m ≡ Some n → m ≡ n
-      same_some m n h = cc
-
-      same_function : (x y : Function) → Some x ≡ Some y → x ≡ y
-      same_function x y h = cc

@@ -3,8 +3,6 @@ use Rattle.std.proofs.Common.{◌≡◌, ℕ, List, [], ◌∷◌, ◌++◌, ref
 use Rattle.std.specs.List.{slice_get}
 use Rattle.std.specs.Option.{option_map}
 use Rattle.ca_base.specs.declared.memory.MemoryOr.{MemoryOr}
-use Rattle.ca_base.specs.Names.{first_named}
-use Rattle.ca_types.specs.declared.exports.Export.{Export}
 use Rattle.ca_types.specs.declared.types.FuncType.{FuncType}
 use Rattle.ca_types.specs.declared.types.ValType.{ValType}
 use Rattle.ca_types.specs.declared.value.Value.{Value}
@@ -15,19 +13,17 @@ use Rattle.lowered_values.specs.Values.{IsOf}
 use Rattle.lowered_values.proofs.Ranged.{values_of_types_fit}
 use Rattle.wasm_numbers.specs.Types.{AreWords}
 use Rattle.core_machine.specs.Store.{Store, found_at}
-use Rattle.core_machine.proofs.Lists.{all_at}
 use Rattle.comp_graph.specs.declared.graph.CanonFunc.{CanonFunc}
 use Rattle.comp_graph.specs.declared.graph.CanonFunc.TheVariants as canon_func
 use Rattle.comp_graph.specs.declared.graph.Lower.{Lower}
-use Rattle.comp_graph.specs.Graph.{Graph, Lifted, func_named, func_at, names, called_type}
+use Rattle.comp_graph.specs.Graph.{Graph, Lifted}
 use Rattle.comp_graph.specs.Needs.{lowered_type}
-use Rattle.comp_graph.specs.Passed.{ArePassed}
 use Rattle.script_reader.specs.Script.{Script}
 use Rattle.trace_show.specs.declared.label.Label.{Label}
 use Rattle.trace_show.specs.declared.label.Label.TheVariants as line
 use Rattle.trace_show.specs.declared.trap.TrapName.{TrapName}
 use Rattle.canonical_machine.specs.declared.run_end.RunEnd.TheVariants.{Trapped}
-use Rattle.canonical_machine.specs.Plain.{HoldsNone, PassesNone, IsPlain}
+use Rattle.canonical_machine.specs.Plain.{HoldsNone, IsPlain}
 use Rattle.canonical_machine.specs.Passing.{params_type, arguments_plan}
 use Rattle.canonical_machine.specs.Traps.{lift_name}
 use Rattle.canonical_machine.specs.Control.{Control, Arrives, Lowers, Doomed}
@@ -48,7 +44,6 @@ use Rattle.canonical_machine.specs.Kept as kept
 use Rattle.canonical_machine.specs.Kept.{WereMade, HasArguments, params_by, IsOfActing, IsKeptBy}
 use Rattle.canonical_machine.proofs.Changed.{changed_length, changed_there}
 use Rattle.canonical_machine.proofs.Graphs.{IsUsed, lower_there, callee_there}
-use Rattle.canonical_machine.proofs.Imports.{then_some}
 use Rattle.canonical_machine.proofs.Staying.{memory_bytes}
 use Rattle.canonical_machine.proofs.Words.{arguments_are}
 use Rattle.world.specs.declared.called.CalledFunc.{CalledFunc}
@@ -61,40 +56,9 @@ use Rattle.world.specs.Passed.{CanPass, IsPassedBy, IsAtEntry}
 use Rattle.world.specs.Seen.{IsCalled, waiters, numbers, IsAtArrival, EndsBy}
 use Rattle.world.proofs.Leads.{leads_then, leads_step}
 use Rattle.world.proofs.Instancing.{safe_there, ends_there}
-use Rattle.world.proofs.TaskRuns.{waiters_still}
-use Rattle.world.proofs.Items.{function_at}
+use Rattle.world.proofs.TaskRuns.{first_same, some_same, called_as, waiters_still}
 use Rattle.builtins.proofs.Options.{lift_options, lower_options}
-use Rattle.builtins.proofs.Entered.{called_as}
-
-first_same : (x : ℕ) (xs : List ℕ) (y : ℕ) (ys : List ℕ) → x ∷ xs ≡ y ∷ ys → (x ≡ y) × (xs ≡ ys)
-first_same x xs y ys h = (cc, cc)
-
-some_task : (o : Option Task) (x y : Task) → o ≡ Some x → o ≡ Some y → x ≡ y
-some_task o x y e h = let both : ◌≡◌ {A = Option Task} (Some x) (Some y) = sym e ∙ h in cc
-
-some_lower : (x y : Lower) → ◌≡◌ {A = Option Lower} (Some x) (Some y) → x ≡ y
-some_lower x y e = cc
-
--- The functions of a plain graph pass no handle and no end.
-named_plain : (g : Graph) (name : List ℕ) (f : Lifted) → IsPlain g → func_named g name ≡ Some f → PassesNone f.func_type
-named_plain g name f plain named =
-    let n = then_some (func_at g) (first_named name (names g.exports)) f named in
-    let at = function_at g n.0 f n.2 in
-    subst PassesNone (sym at.func_type) (all_at (λ (e : Export). PassesNone e.func_type) g.exports n.0 at.export plain.exports at.there)
-
-called_plain : (g : Graph) (s : Script) (taken : ℕ) (us : List Waiter) (task : Task) (f : Lifted) → IsSound g s → IsPlain g → IsCalled g s taken us task → task.callee ≡ Func f → PassesNone f.func_type
-called_plain g s taken [] task f sound plain h callee =
-    subst (λ (x : Lifted). PassesNone x.func_type) (same_func h.lifted f (sym h.callee ∙ callee)) (named_plain g h.call.name h.lifted plain h.named)
-  where
-    same_func : (x y : Lifted) → Func x ≡ Func y → x ≡ y
-    same_func x y e = cc
-called_plain g s taken (u ∷ below) task f sound plain h callee =
-    let at = lower_there g sound.graph u.canon h.lower h.there in
-    subst (λ (x : Lifted). PassesNone x.func_type) (same_func (lifted_of h.lower) f (sym h.callee ∙ callee))
-    (all_at (λ (c : CanonFunc). PassesNone (called_type c)) g.canons u.canon (canon_func.Lower h.lower) plain.canons at.at)
-  where
-    same_func : (x y : Lifted) → Func x ≡ Func y → x ≡ y
-    same_func x y e = cc
+use Rattle.builtins.proofs.PlainCalls.{plain_called}
 
 -- It is used.
 called_used : (g : Graph) (s : Script) (taken : ℕ) (us : List Waiter) (task : Task) (f : Lifted) → IsSound g s → IsCalled g s taken us task → task.callee ≡ Func f → IsUsed g f
@@ -172,12 +136,6 @@ can_pass g s store taken (u ∷ below) task f type sound hosts made is h callee 
     same_type : (x y : Lifted) → Func x ≡ Func y → x.func_type ≡ y.func_type
     same_type x y e = (let same : x ≡ y = cc in ap (λ (z : Lifted). z.func_type) same)
 
--- The task is one that was called.
-pub arrived_called : (g : Graph) (s : Script) (run : RunState) (t : ℕ) → IsAtArrival g s run t → (task : Task) × IsCalled g s run.taken (waiters run) task
-arrived_called g s run t h =
-    let task : Task = h.stands.holds.1.task in
-    (task, subst (λ (n : ℕ). IsCalled g s n (waiters run) task) h.stands.sees.taken h.stands.holds.1.called)
-
 module _ (g : Graph) (s : Script) (run : RunState) (t : ℕ) (c : CalledFunc) (sound : IsSound g s) (apart : IsApart g) (h : IsAtArrival g s run t)
     (is : (task : Task) → IsCalled g s run.taken (waiters run) task → IsRunBy c task) where
   abbrev w : World
@@ -209,7 +167,7 @@ module _ (g : Graph) (s : Script) (run : RunState) (t : ℕ) (c : CalledFunc) (s
       let a : tasks.Acts w.tasks w.chain (λ t task. IsSoFar New Unresolved NoStack task) = subst (λ (c : Control). IsChain c w.tasks w.chain) h.stands.holds.0 safe.kept.ordered.chain in
       let at = first_same t (numbers (waiters run)) a.number a.below (sym h.stands.holds.1.chain ∙ a.chain_is) in
       let there : slice_get w.tasks t ≡ Some a.task = ap (λ (n : ℕ). slice_get w.tasks n) at.0 ∙ a.there in
-      let same : a.task ≡ task = some_task (slice_get w.tasks t) a.task task there h.stands.holds.1.there in
+      let same : a.task ≡ task = some_same (slice_get w.tasks t) a.task task there h.stands.holds.1.there in
       record {
         state = ap (λ (x : Task). x.state) (sym same) ∙ a.holds.state_is;
         stacks = ap (λ (x : Task). x.stacks) (sym same) ∙ a.holds.stacks_are;
@@ -223,7 +181,7 @@ module _ (g : Graph) (s : Script) (run : RunState) (t : ℕ) (c : CalledFunc) (s
       let a = k.1 in
       let at = first_same t (numbers (waiters run)) a.number a.below (sym h.stands.holds.1.chain ∙ a.chain_is) in
       let there : slice_get w.tasks t ≡ Some a.task = ap (λ (n : ℕ). slice_get w.tasks n) at.0 ∙ a.there in
-      let same : a.task ≡ task = some_task (slice_get w.tasks t) a.task task there h.stands.holds.1.there in
+      let same : a.task ≡ task = some_same (slice_get w.tasks t) a.task task there h.stands.holds.1.there in
       (k.0, subst (λ (x : Task). HasArguments g x.caller x.callee) same a.holds.0)
 
   pub entry_options : HasOptions run.store c.lift.options
@@ -233,15 +191,12 @@ module _ (g : Graph) (s : Script) (run : RunState) (t : ℕ) (c : CalledFunc) (s
 
   pub entry_holds_none : IsPlain g → HoldsNone c.types.params
   entry_holds_none plain =
-      subst HoldsNone (sym (is task called).passed.params) (called_plain g s run.taken (waiters run) task f sound plain called callee).params
+      subst HoldsNone (sym (is task called).passed.params) (plain_called g s run.taken (waiters run) task f plain called callee).params
 
   pub entry_passes : CanPass g run.store c.types.params (waiters run)
   entry_passes =
       subst (λ (store : Store). CanPass g store c.types.params (waiters run)) h.stands.sees.store
       (can_pass g s w.store run.taken (waiters run) task f c.types.params sound safe.kept.typed.hosts typed.0 (is task called).passed.params called callee typed.1)
-
-  pub entry_passed : ArePassed c.types c.func_type.now
-  entry_passed = (is task called).passed
 
   in_world : (r : Result Value LiftTrap) → arguments_of g run.store task.caller ≡ Some r → arguments_of g w.store task.caller ≡ Some r
   in_world r e = ap (λ (store : Store). arguments_of g store task.caller) h.stands.sees.store ∙ e

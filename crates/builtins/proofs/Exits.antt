@@ -30,28 +30,11 @@ use Rattle.canonical_machine.proofs.Words.{many_words}
 use Rattle.world.specs.declared.state.Waiter.{Waiter}
 use Rattle.world.specs.declared.state.RunState.{RunState}
 use Rattle.world.specs.Parts.{Leads}
-use Rattle.world.specs.Seen.{IsCalled, IsWaiter, AreWaiters, waiters, numbers, Stands, IsAtFree, IsAtStack}
+use Rattle.world.specs.Seen.{IsWaiter, AreWaiters, waiters, numbers, Stands, IsAtFree, IsAtStack}
 use Rattle.world.specs.Points.{Answers, IsAnswered, IsAtExit, IsAtBack}
-use Rattle.world.proofs.Leads.{leads_then, leads_step, first_safe, leads_safe}
-
--- What a run of a sound script keeps where it comes.
-pub kept_at : (g : Graph) (s : Script) (w : World) (lines : List Label) → IsSound g s → IsApart g → Leads g s (first_world g) lines w → IsKept g s w
-kept_at g s w lines sound apart leads = (leads_safe g s (first_world g) w lines (first_safe g s sound apart) leads).kept
-
--- What a task does and who called it is told by these parts of it alone.
-pub called_alike : (g : Graph) (s : Script) (taken : ℕ) (us : List Waiter) (task other : Task) → other.callee ≡ task.callee → other.caller ≡ task.caller → IsCalled g s taken us task
-    → IsCalled g s taken us other
-called_alike g s taken [] task other callee caller h = record {
-  number = h.number;
-  last = h.last;
-  call = h.call;
-  there = h.there;
-  lifted = h.lifted;
-  named = h.named;
-  callee = callee ∙ h.callee;
-  caller = caller ∙ h.caller;
-}
-called_alike g s taken (u ∷ below) task other callee caller h = record { lower = h.lower; there = h.there; callee = callee ∙ h.callee; caller = caller ∙ h.caller }
+use Rattle.world.proofs.Leads.{leads_then, leads_step}
+use Rattle.world.proofs.Instancing.{safe_there}
+use Rattle.world.proofs.TaskRuns.{called_as}
 
 -- Those that wait stay where a later task is changed.
 pub waiters_same : (g : Graph) (s : Script) (taken : ℕ) (tasks others : List Task) (t : ℕ) (us : List Waiter) → AreWaiting tasks t (numbers us)
@@ -126,7 +109,7 @@ exits : (g : Graph) (s : Script) (run : RunState) (lines : List Label) (t : ℕ)
 exits g s run lines t words sound apart said st =
     let w : World = st.world in
     let us : List Waiter = waiters run in
-    let kept : IsKept g s w = kept_at g s w run.labels sound apart st.leads in
+    let kept : IsKept g s w = (safe_there g s run.labels w sound apart st.leads).kept in
     let h : Heads w.tasks (λ t task. IsSoFar Acting Returned NoStack task) (t ∷ numbers us) =
     heads w.tasks w.chain (t ∷ numbers us) (λ t task. IsSoFar Acting Returned NoStack task) st.holds.1
     (subst (λ (c : Control). IsChain c w.tasks w.chain) st.holds.0 kept.ordered.chain) in
@@ -233,7 +216,7 @@ same_number m n h = cc
 came_back : (g : Graph) (s : Script) (w : World) (lines : List Label) (u : Waiter) (below : List Waiter) (words : List ℕ) → IsSound g s → IsApart g → Leads g s (first_world g) lines w
     → w.control ≡ Back → w.chain ≡ u.task ∷ numbers below → IsAnswered w.tasks (u ∷ below) words → AreWaiters g s w.taken w.tasks (u ∷ below) → CameBack w u below words
 came_back g s w lines u below words sound apart leads control chain answer waiting =
-    let kept : IsKept g s w = kept_at g s w lines sound apart leads in
+    let kept : IsKept g s w = (safe_there g s lines w sound apart leads).kept in
     let h : Heads w.tasks (λ t task. IsBack w.tasks t task) (u.task ∷ numbers below) =
     heads w.tasks w.chain (u.task ∷ numbers below) (λ t task. IsBack w.tasks t task) chain
     (subst (λ (c : Control). IsChain c w.tasks w.chain) control kept.ordered.chain) in
@@ -330,7 +313,7 @@ went_back g s run after u words k sound apart items said store left instances ta
             task = resuming words (going b.task);
             there = changed_there u.task (resuming words) acts (going b.task)
                 (changed_there u.task going told b.task (changed_other b.callee u.task telling w.tasks (omega (arith, later)) ∙ b.there));
-            called = called_alike g s w.taken below b.task (resuming words (going b.task)) refl refl own.called;
+            called = called_as g s w.taken below b.task (resuming words (going b.task)) refl refl own.called;
             holds = ap (answered_stacks words) own.stacks ∙ ap (λ (j : Stack). j ∷ []) (sym stack);
           },
         );

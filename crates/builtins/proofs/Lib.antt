@@ -3,6 +3,7 @@ pub mod Memories
 pub mod Lowering
 mod LowerValues
 mod Options
+mod PlainCalls
 mod Exits
 mod Begun
 mod Entered

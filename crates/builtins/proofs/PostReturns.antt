@@ -18,6 +18,7 @@ use Rattle.comp_graph.specs.declared.graph.CanonFunc.{CanonFunc}
 use Rattle.comp_graph.specs.declared.graph.FuncRef.{FuncRef}
 use Rattle.comp_graph.specs.Graph.{Graph, Lifted}
 use Rattle.script_reader.specs.Script.{Script}
+use Rattle.script_reader.proofs.Cases.{some_inj}
 use Rattle.trace_show.specs.declared.builtin.Builtin.{Builtin}
 use Rattle.trace_show.specs.declared.label.Label.{Label}
 use Rattle.trace_show.specs.declared.label.Label.TheVariants as line
@@ -145,17 +146,11 @@ pub post_return_there : (g : Graph) (s : Script) (run : RunState) (t : ℕ) (f :
     → IsAtFinish g s run t f ended words → IsSome (func_address run.store ref)
 post_return_there g s run t f ended words ref sound apart one h = subst (λ (o : Option ℕ). IsSome o) (sym (starts g s run t f ended words ref sound apart one h).address) refl
 
-same_some : (m n : ℕ) → Some m ≡ Some n → m ≡ n
-same_some m n h = cc
-
-same_function : (x y : Function) → Some x ≡ Some y → x ≡ y
-same_function x y h = cc
-
 pub post_return_within : (g : Graph) (s : Script) (run : RunState) (t : ℕ) (f : Lifted) (ended words : List ℕ) (ref : FuncRef) (address : ℕ) → IsSound g s → IsApart g → f.options.post_return ≡ Some ref
     → func_address run.store ref ≡ Some address → IsAtFinish g s run t f ended words → address < length run.store.funcs
 post_return_within g s run t f ended words ref address sound apart one is h =
     let p = starts g s run t f ended words ref sound apart one h in
-    let same : p.function.0 ≡ address = same_some p.function.0 address (sym p.address ∙ is) in
+    let same : p.function.0 ≡ address = some_inj (sym p.address ∙ is) in
     subst (λ (n : ℕ). n < length run.store.funcs) same (slice_get_within run.store.funcs p.function.0 p.function.1 p.there)
 
 pub post_return_starts : (g : Graph) (s : Script) (run : RunState) (t : ℕ) (f : Lifted) (ended words : List ℕ) (ref : FuncRef) (address : ℕ) (k : Stack) → IsSound g s → IsApart g
@@ -163,8 +158,8 @@ pub post_return_starts : (g : Graph) (s : Script) (run : RunState) (t : ℕ) (f 
     → IsAtFinish g s run t f ended words → IsAtPostReturn g s run t k words
 post_return_starts g s run t f ended words ref address k sound apart one is begun h =
     let p = starts g s run t f ended words ref sound apart one h in
-    let same : p.function.0 ≡ address = same_some p.function.0 address (sym p.address ∙ is) in
-    let function : p.function.1 ≡ begun.0 = same_function p.function.1 begun.0 (sym p.there ∙ ap (λ (n : ℕ). slice_get run.store.funcs n) same ∙ begun.1) in
+    let same : p.function.0 ≡ address = some_inj (sym p.address ∙ is) in
+    let function : p.function.1 ≡ begun.0 = some_inj (sym p.there ∙ ap (λ (n : ℕ). slice_get run.store.funcs n) same ∙ begun.1) in
     let stack : start p.function.1 p.function.0 ended ≡ k = ap (λ (x : Function). start x p.function.0 ended) function ∙ ap (λ (n : ℕ). start begun.0 n ended) same ∙ sym begun.2 in
     subst (λ (k : Stack). IsAtPostReturn g s run t k words) stack p.at
 

@@ -1,7 +1,7 @@
 -- Tasks that resolve at the end of their core function.
 use Rattle.std.proofs.Common.{◌≡◌, ◌<◌, ◌≤◌, ◌+◌, true, ◌⊎◌, inl, inr, ℕ, List, length, [], ◌∷◌, ◌++◌, drop, reverse, refl, sym, ap, ◌∙◌, subst, arith, Option, Some, None, Result, Ok, Err, append-nil}
 use Rattle.std.specs.List.{slice_get, AllByRecursion}
-use Rattle.std.specs.Option.{IsSome, IfSome, option_and_then, option_map}
+use Rattle.std.specs.Option.{IfSome, option_map}
 use Rattle.std.proofs.lemmas.Option.{slice_get_within}
 use Rattle.ca_types.specs.declared.value.Value.{Value}
 use Rattle.ca_types.specs.Fits.{fits}
@@ -21,30 +21,24 @@ use Rattle.canonical_machine.proofs.Staying.{memory_bytes}
 use Rattle.builtins.specs.Lowering.{IsAtLowering, LoweredLeads}
 use Rattle.builtins.specs.declared.lower_values.Lowered.TheVariants as came
 use Rattle.builtins.specs.Rooms.{IsMemory}
-use Rattle.wasm_module.specs.declared.types.Limits.{Limits}
 use Rattle.wasm_numbers.specs.Types.{AreWords}
-use Rattle.core_machine.specs.Store.{Store, Instance, found_at}
+use Rattle.core_machine.specs.Store.{Store, found_at}
 use Rattle.core_machine.specs.Stack.{Stack}
 use Rattle.core_machine.specs.Step.{Move}
 use Rattle.core_machine.specs.Step as core
 use Rattle.core_machine.specs.Laws.{MoveTyped}
 use Rattle.core_machine.specs.Typed.{StackTyped}
-use Rattle.core_machine.proofs.Lists.{found_there, all_at}
 use Rattle.core_machine.proofs.Moving.{moves_typed}
 use Rattle.value_lift.specs.declared.trap.LiftTrap.{LiftTrap}
-use Rattle.ca_base.specs.Names.{first_named}
 use Rattle.ca_types.specs.declared.types.ValType.{ValType}
 use Rattle.ca_types.specs.declared.types.FuncType.{FuncType}
-use Rattle.ca_types.specs.declared.exports.Export.{Export}
 use Rattle.comp_graph.specs.declared.graph.Lower.{Lower}
 use Rattle.comp_graph.specs.declared.graph.CanonFunc.{CanonFunc}
 use Rattle.comp_graph.specs.declared.graph.CanonFunc.TheVariants as canon_func
-use Rattle.comp_graph.specs.declared.graph.CoreRef.{CoreRef}
-use Rattle.comp_graph.specs.declared.graph.FuncRef.{FuncRef}
-use Rattle.comp_graph.specs.CoreItems.{memory_space}
-use Rattle.comp_graph.specs.Needs.{lifted_type, lowered_type, realloc_type}
-use Rattle.comp_graph.specs.Graph.{CoreMake, Graph, Lifted, IsIn, IsMemoryThere, core_type, names, func_at, called_type}
+use Rattle.comp_graph.specs.Needs.{lifted_type, lowered_type}
+use Rattle.comp_graph.specs.Graph.{Graph, Lifted}
 use Rattle.script_reader.specs.Script.{Script}
+use Rattle.script_reader.proofs.Cases.{some_inj}
 use Rattle.trace_show.specs.declared.label.Label.{Label}
 use Rattle.trace_show.specs.declared.label.Label.TheVariants as line
 use Rattle.trace_show.specs.declared.trap.TrapName.{TrapName}
@@ -54,7 +48,7 @@ use Rattle.canonical_machine.specs.Traps.{lift_name}
 use Rattle.canonical_machine.specs.Control.{Control, Free, Runs, Doomed, Lowers, Lowering, Resolves}
 use Rattle.canonical_machine.specs.World.{Nobody, Init, Host, Guest, Subtask, Callee, Func, Caller, Unresolved, Returned, TaskState, Acting, Task, World, first_world}
 use Rattle.canonical_machine.specs.Edits.{with_control, changed_at, resolved, unstacked, result_kept, caller_changed}
-use Rattle.canonical_machine.specs.Reading.{acting, func_of, func_address, address_in, memory_of, realloc_of, bytes_of, lower_at, lifted_of, builtin_of}
+use Rattle.canonical_machine.specs.Reading.{acting, func_of, memory_of, realloc_of, bytes_of, lower_at, lifted_of, builtin_of}
 use Rattle.canonical_machine.specs.Turn.{Turn, Steps, behind, given, charged}
 use Rattle.canonical_machine.specs.Calling.{called_by}
 use Rattle.canonical_machine.specs.CoreSteps.{costs, stack_ended, moved, running_turn}
@@ -69,7 +63,7 @@ use Rattle.canonical_machine.specs.KeptLaws.{IsKept}
 use Rattle.canonical_machine.proofs.Changed.{changed_length, changed_there, changed_other}
 use Rattle.canonical_machine.proofs.Ordered.{called_at}
 use Rattle.canonical_machine.proofs.Graphs as graphs
-use Rattle.canonical_machine.proofs.Graphs.{IsUsed, same_func, callee_there, func_there}
+use Rattle.canonical_machine.proofs.Graphs.{IsUsed, same_func, callee_there}
 use Rattle.world.specs.declared.called.CalledFunc.{CalledFunc}
 use Rattle.world.specs.declared.state.RunState.{RunState}
 use Rattle.world.specs.declared.state.Waiter.{Waiter}
@@ -79,11 +73,11 @@ use Rattle.world.specs.Parts.{Leads, Meets, with_room, WithUsed}
 use Rattle.world.specs.Seen.{IsCalled, IsTaskCall, AreWaiters, waiters, numbers, IsAtReturn, EndsBy}
 use Rattle.world.specs.Points.{Answers, IsAtFinish}
 use Rattle.world.proofs.Leads.{leads_then, leads_step, meets_here, meets_behind, ends_behind}
-use Rattle.builtins.proofs.Exits.{kept_at, waiters_same, Heads, heads, KeptHead, kept_head, some_task}
+use Rattle.builtins.proofs.Exits.{waiters_same, Heads, heads, KeptHead, kept_head, some_task}
 use Rattle.world.proofs.Instancing.{ends_there, safe_there}
-use Rattle.world.proofs.Items.{function_at}
 use Rattle.world.proofs.Onward.{lower_there}
-use Rattle.builtins.proofs.Options.{lower_options}
+use Rattle.builtins.proofs.Options.{lift_options, lower_options}
+use Rattle.builtins.proofs.PlainCalls.{plain_called}
 
 -- What comes next.
 returns_next : (g : Graph) (s : Script) (w : World) (t : ℕ) (below : List ℕ) (task : Task) (f : Lifted) (k : Stack) (words : List ℕ) → w.control ≡ Runs → w.chain ≡ t ∷ below
@@ -128,7 +122,7 @@ ended : (g : Graph) (s : Script) (w : World) (lines : List Label) (t : ℕ) (bel
     → Leads g s (first_world g) lines w → w.control ≡ Runs → w.chain ≡ t ∷ below → slice_get w.tasks t ≡ Some task → task.stacks ≡ k ∷ [] → task.callee ≡ Func f
     → core.next w.store k ≡ core.Ends words → Ended g w t below words task f
 ended g s w lines t below task f k words sound apart leads control chain there stacks callee ends =
-    let kept : IsKept g s w = kept_at g s w lines sound apart leads in
+    let kept : IsKept g s w = (safe_there g s lines w sound apart leads).kept in
     let running : IsRunning w.tasks w.chain = is_running w.tasks w.chain below t task f chain there callee (subst (λ (c : Control). IsChain c w.tasks w.chain) control kept.ordered.chain) in
     let h : Heads w.tasks (λ t task. IsSoFar Acting Unresolved OneStack task) (t ∷ below) = heads w.tasks w.chain (t ∷ below) (λ t task. IsSoFar Acting Unresolved OneStack task) chain running in
     let state : task.state ≡ Acting = ap (λ (x : Task). x.state) (some_task task h.0 (sym there ∙ h.1)) ∙ h.2.state_is in
@@ -149,46 +143,7 @@ ended g s w lines t below task f k words sound apart leads control chain there s
       used = callee_there g sound.graph task.caller task.callee f (called_at g w.tasks t task f kept.ordered.called there callee) callee;
     }
 
--- The memory and the realloc of the lift's options are there.
-memory_found : (s : Store) (cores : List CoreMake) (f : CoreRef) → WereMade s cores → IsIn cores f (λ m. IsSome (slice_get (memory_space m) f.index)) → IsSome (address_in (λ i. i.memories) s f)
-memory_found s cores f made is = by (slice_get (memory_space is.core.of_module) f.index) refl is.holds
-  where
-    by : (o : Option Limits) → slice_get (memory_space is.core.of_module) f.index ≡ o → IsSome o → IsSome (address_in (λ i. i.memories) s f)
-    by None e h = cc
-    by (Some limits) e h =
-        let i = made.each f.instance is.core is.there in
-        let p = i.2.memories f.index limits e in
-        let at = found_there s.memories (slice_get i.0.memories f.index) p.0 p.1 in
-        subst (λ (o : Option ℕ). IsSome o) (sym (ap (λ (o : Option Instance). option_and_then (λ (x : Instance). slice_get x.memories f.index) o) i.1 ∙ at.0)) refl
-
-pub options_there : (g : Graph) (s : Store) (f : Lifted) → WereMade s g.cores → HasHosts g s → IsUsed g f → HasOptions s f.options
-options_there g s f made hosts used = record { memory = by_memory f.options.memory used.memory; realloc = by_realloc f.options.realloc used.realloc }
-  where
-    by_memory : (o : Option CoreRef) → IsMemoryThere g.cores o → IfSome o (λ m. IsSome (address_in (λ i. i.memories) s m))
-    by_memory None h = tt
-    by_memory (Some m) h = memory_found s g.cores m made h
-
-    by_realloc : (o : Option FuncRef) → IfSome o (λ f. core_type g.cores g.canons f ≡ Some realloc_type) → IfSome o (λ f. IsSome (func_address s f))
-    by_realloc None h = tt
-    by_realloc (Some f) h = subst (λ (o : Option ℕ). IsSome o) (sym (func_there g s f realloc_type hosts made h).at) refl
-
--- What it passes holds values alone.
-plain_lower : (g : Graph) (number : ℕ) (l : Lower) → IsPlain g → lower_at g number ≡ Some l → PassesNone l.func_type
-plain_lower g number l plain h = all_at (λ (c : CanonFunc). PassesNone (called_type c)) g.canons number (canon_func.Lower l) plain.canons (lower_there g number l h)
-
-plain_export : (g : Graph) (number : Option ℕ) (f : Lifted) → IsPlain g → option_and_then (func_at g) number ≡ Some f → PassesNone f.func_type
-plain_export g None f plain h = cc
-plain_export g (Some number) f plain h =
-    let at = function_at g number f h in
-    subst (λ (type : FuncType). PassesNone type) (sym at.func_type) (all_at (λ (e : Export). PassesNone e.func_type) g.exports number at.export plain.exports at.there)
-
-pub plain_called : (g : Graph) (s : Script) (taken : ℕ) (us : List Waiter) (task : Task) (f : Lifted) → IsPlain g → IsCalled g s taken us task → task.callee ≡ Func f → PassesNone f.func_type
-plain_called g s taken [] task f plain h callee =
-    subst (λ (x : Lifted). PassesNone x.func_type) (same_func h.lifted f (sym h.callee ∙ callee)) (plain_export g (first_named h.call.name (names g.exports)) h.lifted plain h.named)
-plain_called g s taken (u ∷ below) task f plain h callee =
-    subst (λ (x : Lifted). PassesNone x.func_type) (same_func _ f (sym h.callee ∙ callee)) (plain_lower g u.canon h.lower plain h.there)
-
--- so is the result, where there is one
+-- Where a function passes values alone, so is its result, where there is one.
 pub holds_none : (f : FuncType) → PassesNone f → (type : ValType) → f.result ≡ Some type → HoldsNone type
 holds_none f plain type e = subst (λ (o : Option ValType). IfSome o HoldsNone) e plain.returned
 
@@ -258,14 +213,8 @@ typed_lift f (Some type) bytes words result e all fit h = by (result_lifted f ty
         )
     by (Err trap) g k = cc
 
-same_val_type : (x y : ValType) → Some x ≡ Some y → x ≡ y
-same_val_type x y h = cc
-
 pub same_val : (of_type : ValType) (result : TypedValue) {o : Option ValType} → o ≡ Some of_type → (o ≡ Some result.val_type) × (fits result.value result.val_type ≡ true) → fits result.value of_type ≡ true
-same_val of_type result e h = ap (λ (type : ValType). fits result.value type) (same_val_type of_type result.val_type (sym e ∙ h.0)) ∙ h.1
-
-same_lower : (x y : Lower) → Some x ≡ Some y → x ≡ y
-same_lower x y h = cc
+same_val of_type result e h = ap (λ (type : ValType). fits result.value type) (some_inj (sym e ∙ h.0)) ∙ h.1
 
 module _ (g : Graph) (s : Script) (run : RunState) (t : ℕ) (words : List ℕ) (c : CalledFunc) (sound : IsSound g s) (apart : IsApart g) (h : IsAtReturn g s run t words)
     (is : (task : Task) → IsCalled g s run.taken (waiters run) task → IsRunBy c task) where
@@ -291,7 +240,7 @@ module _ (g : Graph) (s : Script) (run : RunState) (t : ℕ) (words : List ℕ) 
   known = ended g s w run.labels t (numbers (waiters run)) task f h.last words sound apart h.at.stands.leads h.at.stands.holds.0 h.at.stands.holds.1.chain h.at.stands.holds.1.there h.at.stands.holds.1.holds callee ends
 
   pub has_options : HasOptions run.store c.lift.options
-  has_options = subst (λ (store : Store). HasOptions store c.lift.options) h.at.stands.sees.store (options_there g w.store f known.made known.hosts known.used)
+  has_options = subst (λ (store : Store). HasOptions store c.lift.options) h.at.stands.sees.store (lift_options g w.store f known.hosts known.made known.used)
 
   pub result_fits : AreWords (lifted_type c.func_type.now).results words
   result_fits = known.fits
@@ -410,7 +359,7 @@ module _ (g : Graph) (s : Script) (run : RunState) (t : ℕ) (words : List ℕ) 
     pub same_types : l.func_type ≡ c.func_type.now
     same_types =
         let e : lifted_by c ≡ lifted_of by_task.lower = same_func (lifted_by c) (lifted_of by_task.lower) (sym callee ∙ by_task.callee) in
-        let k : l ≡ by_task.lower = same_lower l by_task.lower (sym lowers ∙ by_task.there) in
+        let k : l ≡ by_task.lower = some_inj (sym lowers ∙ by_task.there) in
         ap (λ (x : Lower). x.func_type) k ∙ sym (ap (λ (x : Lifted). x.func_type) e)
 
     pub words_passed : AreWords (lowered_type c.func_type.now).params u.words
@@ -427,7 +376,7 @@ module _ (g : Graph) (s : Script) (run : RunState) (t : ℕ) (words : List ℕ) 
         → IsMemory (memory_of run.store l.options) options.memory run.store → options.realloc ≡ realloc_of run.store l.options
         → IsAtLowering g s lowering_world lowering plan_there options run.store run.left
     lowering_at of_type plan_there passed options e same_words is_plan typed memory realloc =
-        let same : of_type ≡ result.val_type = same_val_type of_type result.val_type (sym e ∙ typed) in
+        let same : of_type ≡ result.val_type = some_inj (sym e ∙ typed) in
         subst (λ (p : Plan). IsAtLowering g s lowering_world lowering p options run.store run.left)
         (sym (is_plan ∙ ap (λ (type : ValType). result_plan c.func_type.now type result.value passed) same ∙ ap (λ (ws : List ℕ). result_plan c.func_type.now result.val_type result.value ws) same_words
         ∙ ap (λ (type : FuncType). result_plan type result.val_type result.value u.words) (sym same_types)))
@@ -524,7 +473,7 @@ module _ (g : Graph) (s : Script) (run : RunState) (t : ℕ) (words : List ℕ) 
     result_typed =
         let bytes : List ℕ = bytes_of run.store (memory_of run.store c.lift.options) in
         let all : AreBytes bytes = memory_bytes run.store (memory_of run.store c.lift.options)
-        (subst (λ (store : Store). HasBytesAlone store) h.at.stands.sees.store (kept_at g s w run.labels sound apart h.at.stands.leads).typed.bytes) in
+        (subst (λ (store : Store). HasBytesAlone store) h.at.stands.sees.store (safe_there g s run.labels w sound apart h.at.stands.leads).kept.typed.bytes) in
         typed_lift c.func_type.now c.func_type.now.result bytes words result refl all known.fits lifts
 
 -- The task is one that was called.

@@ -29,7 +29,9 @@ use script_reader::Script;
 use std::alloc::Global;
 use trace_show::{Label, TrapName};
 use wasm_execution::{Running, start};
-use world::{CalledFunc, NamedGraph, RunState, arguments, builtin_of, called_func, func_address, lift_name};
+use world::{
+    CalledFunc, NamedGraph, RunState, arguments, builtin_of, called_func, func_address, lift_name,
+};
 
 /// A task enters, by its line, and its arguments are lifted and passed. It answers the stack of its core function, or how the run ends.
 pub(crate) fn enter(

@@ -19,8 +19,8 @@ ghost use Rattle.world.specs.Onward.{Spends};
 ghost use Rattle.world.specs.Points.{IsAtFinish};
 ghost use Rattle.world.specs.Seen.{IsCalled, waiters, IsAtReturn, EndsBy};
 
-use crate::lower_options::lower_options;
 use crate::calling::innermost;
+use crate::lower_options::lower_options;
 use crate::lower_values::{Lowered, Target, lower};
 use ca_base::Memory;
 use canonical_machine::RunEnd;

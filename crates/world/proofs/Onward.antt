@@ -26,7 +26,7 @@ use Rattle.world.specs.declared.next_task.Leaving.{Leaving}
 use Rattle.world.specs.declared.next_task.Leaving.TheVariants as leaving
 use Rattle.world.specs.declared.next_task.Onward.{Onward}
 use Rattle.world.specs.declared.next_task.Onward.TheVariants as onward
-use Rattle.world.specs.Onward.{IsHeld, AreHeld, is_called, Spends, Takes, Waits, CallsAnother, Begins, GoesBack, CallsMore, GoesOnAt, Left, WentOn, Descends, Ascends}
+use Rattle.world.specs.Onward.{IsHeld, AreHeld, is_called, Spends, Takes, Waits, GoesBack, CallsMore, GoesOnAt, Left, WentOn, Descends, Ascends}
 
 -- how many core functions of the Canonical ABI call functions of component instances of which no task that waits called one
 abbrev pub calls_left : Graph → RunState → ℕ
@@ -43,20 +43,6 @@ lower_there g number l h = by (slice_get g.canons number) h
 -- The task that waits at its call is the innermost.
 pub one_more : (old new : RunState) (u : Waiter) → new.waiting.items ≡ old.waiting.items ++ u ∷ [] → waiters new ≡ u ∷ waiters old
 one_more old new u more = ap reverse more ∙ reverse-append old.waiting.items (u ∷ [])
-
-pub calls_more : (g : Graph) (old mid new : RunState) (k : Stack) → Waits old mid k → Begins g mid new → CallsMore g old new × (IsHeld k → new.left < old.left)
-calls_more g old mid new k w b =
-    let first = w.left in
-    let second = b.spends.left in (
-      record {
-        left = omega (arith, first, second);
-        waiter = w.waiter;
-        more = b.spends.waiting ∙ w.more;
-        held = w.held;
-        another = subst (CallsAnother g) (one_more old mid w.waiter w.more) b.another;
-      },
-      λ h. (let paid = w.pays h in omega (arith, second, paid)),
-    )
 
 -- Each call that begins leaves fewer.
 pub fewer_calls : (g : Graph) (old new : RunState) → CallsMore g old new → suc (calls_left g new) ≤ calls_left g old

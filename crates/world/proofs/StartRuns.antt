@@ -193,9 +193,6 @@ start_within g s run n m instance address h typed one =
     let there = start_there m h.made run.store address h.has typed (sym (one h.made h.there)) in
     slice_get_within run.store.funcs address there.function there.there
 
-pub made_within : (g : Graph) (s : Script) (run : RunState) (n : ℕ) (m : ModuleTree) (instance : ℕ) → IsStarting g s run n m instance → instance < length run.store.instances
-made_within g s run n m instance h = slice_get_within run.store.instances instance h.made h.there
-
 -- Runs of the stack.
 
 -- It is typed.
