@@ -1,5 +1,5 @@
 -- Tasks that have entered: their arguments are lowered, and their core functions start.
-use Rattle.std.proofs.Common.{◌≡◌, ◌≤◌, ◌<◌, ℕ, List, [], ◌∷◌, ◌++◌, length, refl, sym, ap, ◌∙◌, subst, arith, append-nil, Option, Some, None}
+use Rattle.std.proofs.Common.{◌≡◌, ◌≤◌, ◌<◌, ℕ, List, [], ◌∷◌, length, refl, sym, ap, ◌∙◌, subst, arith, append-nil, Option, Some, None}
 use Rattle.std.specs.List.{slice_get}
 use Rattle.std.specs.Option.{IsSome, option_map}
 use Rattle.std.proofs.lemmas.Option.{slice_get_within}
@@ -11,15 +11,14 @@ use Rattle.ca_types.specs.declared.value.Value.{Value}
 use Rattle.value_lower.specs.Plan.{Plan}
 use Rattle.copy_engine.specs.declared.nested.HostCall.{HostCall}
 use Rattle.copy_engine.specs.declared.store_room.LowerOptions.{LowerOptions}
-use Rattle.comp_graph.specs.declared.graph.CanonFunc.{CanonFunc}
 use Rattle.comp_graph.specs.Graph.{Graph, Lifted}
 use Rattle.script_reader.specs.Script.{Script}
 use Rattle.script_reader.proofs.Cases.{some_inj}
-use Rattle.trace_show.specs.declared.builtin.Builtin.{Builtin}
 use Rattle.trace_show.specs.declared.label.Label.{Label}
 use Rattle.trace_show.specs.declared.label.Label.TheVariants as line
 use Rattle.trace_show.specs.declared.trap.TrapName.{TrapName}
 use Rattle.trace_show.specs.declared.trap.TrapName.TheVariants as trap
+use Rattle.canonical_machine.specs.declared.run_end.RunEnd.{RunEnd}
 use Rattle.canonical_machine.specs.declared.run_end.RunEnd.TheVariants.{Trapped, Fuel}
 use Rattle.canonical_machine.specs.Control.{Control, Free, Runs, Lowers, Doomed, Starts, Lowering}
 use Rattle.canonical_machine.specs.World.{Callee, Func, Task, World, first_world}
@@ -43,6 +42,8 @@ use Rattle.builtins.specs.Lowering.{IsAtLowering, LoweredLeads}
 use Rattle.world.specs.Passed.{IsAtEntry}
 use Rattle.world.specs.Seen.{Acts, waiters, numbers, IsAtStack, EndsBy}
 use Rattle.world.proofs.Leads.{leads_then, meets_behind, meets_step, ends_behind, first_safe, safe_moves}
+use Rattle.world.specs.Refusing.{IsRefused}
+use Rattle.world.proofs.Refusals.{refused_ends}
 use Rattle.world.proofs.Instancing.{safe_there, ends_there}
 use Rattle.world.proofs.TaskRuns.{first_same, called_as, waiters_still}
 
@@ -120,15 +121,12 @@ module _ (g : Graph) (s : Script) (run : RunState) (t : ℕ) (f : Lifted) (v : V
   pub entry_calls : (call : HostCall) (store : Store) (after : ℕ) → WithUsed s after (λ used. LoweredLeads g s w l (came.Refused call) store used) → call.address < length g.canons
   entry_calls call store after u = slice_get_within g.canons call.address u.2.0 u.2.1
 
-  pub entry_refused : (call : HostCall) (store : Store) (after : ℕ) (builtin : Builtin) (labels : List Label) → WithUsed s after (λ used. LoweredLeads g s w l (came.Refused call) store used)
-      → ((canon : CanonFunc) → slice_get g.canons call.address ≡ Some canon → builtin ≡ builtin_of canon) → labels ≡ run.labels ++ line.Do t builtin call.words ∷ []
-      → EndsBy g s (record run { store = store; left = after; labels = labels }) (Trapped t trap.CannotLeave)
-  entry_refused call store after builtin labels u named are =
+  pub entry_refused : (call : HostCall) (store : Store) (after : ℕ) (labels : List Label) (end : RunEnd) → WithUsed s after (λ used. LoweredLeads g s w l (came.Refused call) store used)
+      → IsRefused g call.address call.words t t run.labels labels end → EndsBy g s (record run { store = store; left = after; labels = labels }) end
+  entry_refused call store after labels end u refused =
       let v : World = with_room w store u.0 (Doomed t trap.CannotLeave) in
-      let same : run.labels ++ line.Do t (builtin_of u.2.0) call.words ∷ [] ≡ labels = ap (λ (b : Builtin). run.labels ++ line.Do t b call.words ∷ []) (sym (named u.2.0 u.2.1)) ∙ sym are in
-      ends_there g s (record run { store = store; left = after; labels = labels }) v (Trapped t trap.CannotLeave)
-      (subst (λ (ls : List Label). Leads g s (first_world g) ls v) same (leads_then g s (first_world g) w v run.labels (line.Do t (builtin_of u.2.0) call.words ∷ []) h.stands.leads u.2.2))
-      refl refl h.stands.sees.instances
+      refused_ends g s (record run { store = store; left = after; labels = labels }) run.labels v u.2.0 call.address call.words t t end u.2.1
+      (leads_then g s (first_world g) w v run.labels (line.Do t (builtin_of u.2.0) call.words ∷ []) h.stands.leads u.2.2) refl refl h.stands.sees.instances refused
 
   -- It gives words, with which the core function starts.
   record Started (words : List ℕ) (store : Store) (after : ℕ) : Type 0 where

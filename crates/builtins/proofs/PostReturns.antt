@@ -14,16 +14,15 @@ use Rattle.wasm_execution.specs.Run.{RunGives}
 use Rattle.wasm_execution.specs.Waiting.{Waiting}
 use Rattle.wasm_execution.specs.declared.running.Outcome.{Outcome}
 use Rattle.wasm_execution.specs.declared.running.Outcome.TheVariants as outcome
-use Rattle.comp_graph.specs.declared.graph.CanonFunc.{CanonFunc}
 use Rattle.comp_graph.specs.declared.graph.FuncRef.{FuncRef}
 use Rattle.comp_graph.specs.Graph.{Graph, Lifted}
 use Rattle.script_reader.specs.Script.{Script}
 use Rattle.script_reader.proofs.Cases.{some_inj}
-use Rattle.trace_show.specs.declared.builtin.Builtin.{Builtin}
 use Rattle.trace_show.specs.declared.label.Label.{Label}
 use Rattle.trace_show.specs.declared.label.Label.TheVariants as line
 use Rattle.trace_show.specs.declared.trap.TrapName.{TrapName}
 use Rattle.trace_show.specs.declared.trap.TrapName.TheVariants as trap
+use Rattle.canonical_machine.specs.declared.run_end.RunEnd.{RunEnd}
 use Rattle.canonical_machine.specs.declared.run_end.RunEnd.TheVariants.{Trapped, Fuel}
 use Rattle.canonical_machine.specs.Traps.{core_name}
 use Rattle.canonical_machine.specs.Control.{Control, HostedState, Going, Nested, BeforeLeaving, Quiet, Leaves, Doomed}
@@ -44,6 +43,8 @@ use Rattle.world.specs.Points.{IsAtFinish, IsAtPostReturn, IsAtExit}
 use Rattle.world.proofs.Leads.{leads_then, meets_step, ends_behind, first_safe, safe_moves}
 use Rattle.world.proofs.Moving.{run_spends}
 use Rattle.world.proofs.Nesting.{post_returns_lead}
+use Rattle.world.specs.Refusing.{IsRefused}
+use Rattle.world.proofs.Refusals.{refused_ends}
 use Rattle.world.proofs.Instancing.{safe_there, ends_there}
 
 -- What comes next at the end of the acting task's core function.
@@ -239,10 +240,10 @@ module _ (g : Graph) (s : Script) (run : RunState) (t : ℕ) (k : Stack) (words 
       let u = leads (outcome.Calls number results waiting) store after gives in
       slice_get_within g.canons number u.2.0 u.2.1
 
-  pub post_return_cannot_leave : (number : ℕ) (results : List ℕ) (waiting : Waiting) (store : Store) (after : ℕ) (builtin : Builtin) (labels : List Label)
-      → RunGives run.store k run.left (outcome.Calls number results waiting) store after → ((canon : CanonFunc) → slice_get g.canons number ≡ Some canon → builtin ≡ builtin_of canon)
-      → labels ≡ run.labels ++ line.Do t builtin results ∷ [] → EndsBy g s (record run { store = store; left = after; labels = labels }) (Trapped t trap.CannotLeave)
-  post_return_cannot_leave number results waiting store after builtin labels gives named are =
+  pub post_return_cannot_leave : (number : ℕ) (results : List ℕ) (waiting : Waiting) (store : Store) (after : ℕ) (labels : List Label) (end : RunEnd)
+      → RunGives run.store k run.left (outcome.Calls number results waiting) store after → IsRefused g number results t t run.labels labels end
+      → EndsBy g s (record run { store = store; left = after; labels = labels }) end
+  post_return_cannot_leave number results waiting store after labels end gives refused =
       let w : World = h.world in
       let n : Nested = h.holds.nested in
       let u = leads (outcome.Calls number results waiting) store after gives in
@@ -250,6 +251,5 @@ module _ (g : Graph) (s : Script) (run : RunState) (t : ℕ) (k : Stack) (words 
       let said : Leads g s w (line.Do t (builtin_of u.2.0) results ∷ []) v =
       subst (λ (m : ℕ). Leads g s w (line.Do m (builtin_of u.2.0) results ∷ []) v) h.holds.acts_for
       (subst (λ (m : ℕ). Leads g s w (line.Do n.acts_for (builtin_of u.2.0) results ∷ []) (with_room w store u.0 (Doomed m trap.CannotLeave))) h.holds.blame u.2.2) in
-      let same : run.labels ++ line.Do t (builtin_of u.2.0) results ∷ [] ≡ labels = ap (λ (b : Builtin). run.labels ++ line.Do t b results ∷ []) (sym (named u.2.0 u.2.1)) ∙ sym are in
-      ends_there g s (record run { store = store; left = after; labels = labels }) v (Trapped t trap.CannotLeave)
-      (subst (λ (ls : List Label). Leads g s (first_world g) ls v) same (leads_then g s (first_world g) w v run.labels (line.Do t (builtin_of u.2.0) results ∷ []) h.leads said)) refl refl h.sees.instances
+      refused_ends g s (record run { store = store; left = after; labels = labels }) run.labels v u.2.0 number results t t end u.2.1
+      (leads_then g s (first_world g) w v run.labels (line.Do t (builtin_of u.2.0) results ∷ []) h.leads said) refl refl h.sees.instances refused

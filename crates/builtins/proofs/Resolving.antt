@@ -1,5 +1,5 @@
 -- Tasks that resolve at the end of their core function.
-use Rattle.std.proofs.Common.{◌≡◌, ◌<◌, ◌≤◌, ◌+◌, true, ◌⊎◌, inl, inr, ℕ, List, length, [], ◌∷◌, ◌++◌, drop, reverse, refl, sym, ap, ◌∙◌, subst, arith, Option, Some, None, Result, Ok, Err, append-nil}
+use Rattle.std.proofs.Common.{◌≡◌, ◌<◌, ◌≤◌, true, ◌⊎◌, inl, inr, ℕ, List, length, [], ◌∷◌, ◌++◌, drop, reverse, refl, sym, ap, ◌∙◌, subst, arith, Option, Some, None, Result, Ok, Err, append-nil}
 use Rattle.std.specs.List.{slice_get, AllByRecursion}
 use Rattle.std.specs.Option.{IfSome, option_map}
 use Rattle.std.proofs.lemmas.Option.{slice_get_within}
@@ -9,7 +9,6 @@ use Rattle.lowered_values.proofs.Ranged.{fit as fit_of}
 use Rattle.value_lower.specs.Plan.{Plan}
 use Rattle.copy_engine.specs.declared.nested.HostCall.{HostCall}
 use Rattle.copy_engine.specs.declared.store_room.LowerOptions.{LowerOptions}
-use Rattle.trace_show.specs.declared.builtin.Builtin.{Builtin}
 use Rattle.trace_show.specs.declared.trap.TrapName.TheVariants as trap
 use Rattle.canonical_machine.specs.Passing.{result_lifted, result_plan}
 use Rattle.canonical_machine.specs.Turn as turns
@@ -43,6 +42,7 @@ use Rattle.trace_show.specs.declared.label.Label.{Label}
 use Rattle.trace_show.specs.declared.label.Label.TheVariants as line
 use Rattle.trace_show.specs.declared.trap.TrapName.{TrapName}
 use Rattle.trace_show.specs.declared.typed.TypedValue.{TypedValue}
+use Rattle.canonical_machine.specs.declared.run_end.RunEnd.{RunEnd}
 use Rattle.canonical_machine.specs.declared.run_end.RunEnd.TheVariants.{Trapped, Fuel}
 use Rattle.canonical_machine.specs.Traps.{lift_name}
 use Rattle.canonical_machine.specs.Control.{Control, Free, Runs, Doomed, Lowers, Lowering, Resolves}
@@ -74,8 +74,10 @@ use Rattle.world.specs.Seen.{IsCalled, IsTaskCall, AreWaiters, waiters, numbers,
 use Rattle.world.specs.Points.{Answers, IsAtFinish}
 use Rattle.world.proofs.Leads.{leads_then, leads_step, meets_here, meets_behind, ends_behind}
 use Rattle.builtins.proofs.Exits.{waiters_same, Heads, heads, KeptHead, kept_head, some_task}
+use Rattle.world.specs.Refusing.{IsRefused}
+use Rattle.world.proofs.Refusals.{refused_ends}
 use Rattle.world.proofs.Instancing.{ends_there, safe_there}
-use Rattle.world.proofs.Onward.{lower_there}
+use Rattle.world.proofs.Progress.{lower_there}
 use Rattle.builtins.proofs.Options.{lift_options, lower_options}
 use Rattle.builtins.proofs.PlainCalls.{plain_called}
 
@@ -441,19 +443,15 @@ module _ (g : Graph) (s : Script) (run : RunState) (t : ℕ) (words : List ℕ) 
     pub passing_call_there : (call : HostCall) (store : Store) (after : ℕ) → WithUsed s after (λ used. LoweredLeads g s lowering_world lowering (came.Refused call) store used) → call.address < length g.canons
     passing_call_there call store after (used, units_are, to) = slice_get_within g.canons call.address to.0 to.1
 
-    pub passing_refused : (call : HostCall) (store : Store) (after : ℕ) (builtin : Builtin) (labels more : List Label) → labels ≡ run.labels ++ line.Return t (Some result) ∷ []
-        → more ≡ labels ++ line.Do u.task builtin call.words ∷ [] → ((canon : CanonFunc) → slice_get g.canons call.address ≡ Some canon → builtin ≡ builtin_of canon)
-        → WithUsed s after (λ used. LoweredLeads g s lowering_world lowering (came.Refused call) store used)
-        → EndsBy g s (record run { store = store; left = after; labels = more }) (Trapped t trap.CannotLeave)
-    passing_refused call store after builtin labels more said then named (used, units_are, to) =
+    pub passing_refused : (call : HostCall) (store : Store) (after : ℕ) (labels more : List Label) (end : RunEnd) → labels ≡ run.labels ++ line.Return t (Some result) ∷ []
+        → IsRefused g call.address call.words u.task t labels more end → WithUsed s after (λ used. LoweredLeads g s lowering_world lowering (came.Refused call) store used)
+        → EndsBy g s (record run { store = store; left = after; labels = more }) end
+    passing_refused call store after labels more end said refused (used, units_are, to) =
         let v : World = with_room lowering_world store used (Doomed t trap.CannotLeave) in
-        let same : (run.labels ++ line.Return t (Some result) ∷ []) ++ line.Do u.task (builtin_of to.0) call.words ∷ [] ≡ more =
-        ap (λ (b : Builtin). (run.labels ++ line.Return t (Some result) ∷ []) ++ line.Do u.task b call.words ∷ []) (sym (named to.0 to.1))
-        ∙ ap (λ (ls : List Label). ls ++ line.Do u.task builtin call.words ∷ []) (sym said) ∙ sym then in
-        ends_there g s (record run { store = store; left = after; labels = more }) v (Trapped t trap.CannotLeave)
-        (subst (λ (ls : List Label). Leads g s (first_world g) ls v) same
+        refused_ends g s (record run { store = store; left = after; labels = more }) labels v to.0 call.address call.words u.task t end to.1
+        (subst (λ (ls : List Label). Leads g s (first_world g) (ls ++ line.Do u.task (builtin_of to.0) call.words ∷ []) v) (sym said)
         (leads_then g s (first_world g) lowering_world v (run.labels ++ line.Return t (Some result) ∷ []) (line.Do u.task (builtin_of to.0) call.words ∷ []) lowers_there to.2))
-        refl refl h.at.stands.sees.instances
+        refl refl h.at.stands.sees.instances refused
 
     -- No unit is left.
     pub passing_wants : (store : Store) (after : ℕ) (labels : List Label) → labels ≡ run.labels ++ line.Return t (Some result) ∷ []

@@ -24,13 +24,14 @@ use crate::lower_values::{Lowered, Target, lower};
 use ca_base::{Memory, MemoryOr};
 use ca_types::Value;
 use canonical_machine::RunEnd;
+use copy_engine::HostCall;
 use laid_types::LaidType;
 use script_reader::Script;
 use std::alloc::Global;
-use trace_show::{Label, TrapName};
+use trace_show::Label;
 use wasm_execution::{Running, start};
 use world::{
-    CalledFunc, NamedGraph, RunState, arguments, builtin_of, called_func, func_address, lift_name,
+    CalledFunc, NamedGraph, RunState, arguments, called_func, func_address, lift_name, refuse,
 };
 
 /// A task enters, by its line, and its arguments are lifted and passed. It answers the stack of its core function, or how the run ends.
@@ -101,15 +102,9 @@ fn pass(
         }
         Lowered::Trapped(why) => Ok(Err(RunEnd::Trapped { task, why })),
         Lowered::Refused(call) => {
-            run.labels.push(Label::Do {
-                task,
-                builtin: builtin_of(graph.graph(), call.address),
-                words: call.words,
-            })?;
-            Ok(Err(RunEnd::Trapped {
-                task,
-                why: TrapName::CannotLeave,
-            }))
+            let HostCall { address, words } = call;
+            let end = refuse(graph.graph(), address, words, task, task, &mut run.labels)?;
+            Ok(Err(end))
         }
         Lowered::NoFuel => Ok(Err(RunEnd::Fuel)),
     }

@@ -28,9 +28,9 @@ use copy_engine::HostCall;
 use laid_types::LaidType;
 use script_reader::Script;
 use std::alloc::Global;
-use trace_show::{Label, TrapName, TypedValue};
+use trace_show::{Label, TypedValue};
 use wasm_execution::Words;
-use world::{CalledFunc, NamedGraph, RunState, builtin_of, canon_at, lower_of};
+use world::{CalledFunc, NamedGraph, RunState, canon_at, lower_of, refuse};
 
 /// The acting task resolves to this result by its line, and the result is lowered into the innermost task that waits: as core values,
 /// which are kept for it, or at the place that is the last of its words. It answers the core values, or how the run ends.
@@ -81,16 +81,8 @@ pub(crate) fn lower_result(
         Lowered::NoFuel => Ok(Err(RunEnd::Fuel)),
         Lowered::Refused(call) => {
             let HostCall { address, words } = call;
-            let builtin = builtin_of(graph.graph(), address);
-            run.labels.push(Label::Do {
-                task: by,
-                builtin,
-                words,
-            })?;
-            Ok(Err(RunEnd::Trapped {
-                task,
-                why: TrapName::CannotLeave,
-            }))
+            let end = refuse(graph.graph(), address, words, by, task, &mut run.labels)?;
+            Ok(Err(end))
         }
     }
 }

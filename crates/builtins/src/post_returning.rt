@@ -13,9 +13,8 @@ use canonical_machine::RunEnd;
 use comp_graph::Graph;
 use script_reader::Script;
 use std::alloc::Global;
-use trace_show::{Label, TrapName};
 use wasm_execution::{Outcome, Running, run, start};
-use world::{CalledFunc, RunState, builtin_of, core_name, func_address};
+use world::{CalledFunc, RunState, core_name, func_address, refuse};
 
 /// Runs the post-return of the function that the acting task runs, if it has one, with the words with which its core function ended. It
 /// answers how the run ends, if it does so there; else the task is to exit.
@@ -71,16 +70,8 @@ fn run_post_return(
         }
         Outcome::Calls(number, words, suspended) => {
             suspended.give_up();
-            let builtin = builtin_of(graph, number);
-            state.labels.push(Label::Do {
-                task,
-                builtin,
-                words,
-            })?;
-            Ok(Some(RunEnd::Trapped {
-                task,
-                why: TrapName::CannotLeave,
-            }))
+            let end = refuse(graph, number, words, task, task, &mut state.labels)?;
+            Ok(Some(end))
         }
         Outcome::Memory => Err(Memory),
     }

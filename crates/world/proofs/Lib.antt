@@ -7,10 +7,11 @@ pub mod Callees
 mod Supplied
 mod Lent
 pub mod Instancing
+pub mod Refusals
 mod StartRuns
-mod Arguments
+mod TypedArguments
 pub mod Items
-pub mod Onward
+pub mod Progress
 pub mod TaskRuns
 pub mod LiftedArguments
 mod Passers

@@ -6,6 +6,7 @@ pub mod Points
 pub mod Starting
 pub mod Onward
 pub mod Stopping
+pub mod Refusing
 pub mod Called
 pub mod Addresses
 pub mod Passed

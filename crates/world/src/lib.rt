@@ -18,7 +18,7 @@
 //! - `running`: the acting task's stack, up to a call of a core function of the Canonical ABI, its end, a trap or want of fuel
 //! - `called`: the function that a task runs; `canon_types`: core types of canonical functions; `addresses`: those of core definitions
 //! - `argument_values`: a task's arguments as they are lifted; `results`: its result as it is lifted
-//! - `trap_names`: the names of traps; `dump`: the text of what a run leaves
+//! - `trap_names`: the names of traps; `refusing`: calls of canonical functions that are traps; `dump`: the text of what a run leaves
 #![tactic(auto)]
 
 mod addresses;
@@ -32,6 +32,7 @@ mod instantiating;
 mod laws;
 mod named_graph;
 mod next_task;
+mod refusing;
 mod results;
 mod running;
 mod starting;
@@ -48,9 +49,9 @@ pub use instantiating::instantiate;
 pub use laws::{parts_join, post_returns_lead, safe_worlds_stay, stacks_lead};
 pub use named_graph::NamedGraph;
 pub use next_task::{Leaving, Onward};
+pub use refusing::{builtin_of, refuse};
 pub use results::lifted_result;
 pub use running::{Stop, run_stack};
-pub use starting::builtin_of;
 pub use state::{RunState, Waiter, give_up_all};
 pub use taking::{called_export, take_item};
 pub use trap_names::{core_name, lift_name, lower_name};

@@ -1,4 +1,4 @@
-use Rattle.std.proofs.Common.{◌≡◌, ◌∙◌, ◌<◌, List, ℕ, length, ap, sym, subst, Some}
+use Rattle.std.proofs.Common.{◌≡◌, ◌<◌, List, ℕ, length, sym, subst, Some}
 use Rattle.std.specs.List.{slice_get}
 use Rattle.core_machine.specs.Store.{Function}
 use Rattle.core_machine.specs.Step.{start}
@@ -6,6 +6,7 @@ use Rattle.comp_graph.specs.Graph.{Graph}
 use Rattle.canonical_machine.specs.Entering.{arguments_lowering}
 use Rattle.builtins.specs.declared.lower_values.Lowered.TheVariants as came
 use Rattle.world.specs.Called.{lifted_by}
+use Rattle.world.specs.Refusing.{IsRefused}
 use Rattle.builtins.specs.Lowering.{plan_to}
 use Rattle.builtins.proofs.Entered.{entry_lowers, entry_given, entry_traps, entry_wants, entry_calls, entry_refused, core_there, core_within, entry_starts}
 use Rattle.builtins.proofs.entering.pass.Goals as goal
@@ -38,8 +39,8 @@ start-requires c = record {
       (c.target_of-to.ensures.plan c.args.func.now.func_type.now c.args.value.now c.requires.passed.params) c.lower_options-options.ensures.memory c.lower_options-options.ensures.realloc c.in-Words.is c.in_ok-words.ensures.leads) c.func_address-address.ensures;
 }
 
-pub builtin_of-requires : goal.builtin_of-requires
-builtin_of-requires c =
+pub refuse-requires : goal.refuse-requires
+refuse-requires c =
     subst (λ (g : Graph). c.in-Refused.call.address < length g.canons) (sym c.graph.ensures)
     (entry_calls c.args.graph.now c.args.script.now c.args.run.now c.args.task (lifted_by c.args.func.now) c.args.value.now c.requires.sound c.requires.apart c.requires.at
     c.in-Refused.call c.lower.new.store c.lower.new.left
@@ -66,14 +67,14 @@ returns-in-Trapped-clause-enters c =
     c.lower_options-options.result (plan_to c.target_of-to.result c.args.func.now.types.params c.args.value.now) c.in_ok-words.field-0 (came.Trapped c.in-Trapped.why) c.lower.new.store c.lower.new.left
     (c.target_of-to.ensures.plan c.args.func.now.func_type.now c.args.value.now c.requires.passed.params) c.lower_options-options.ensures.memory c.lower_options-options.ensures.realloc c.in-Trapped.is c.in_ok-words.ensures.leads)
 
-pub returns-in_ok-push-in-Refused-clause-enters : goal.returns-in_ok-push-in-Refused-clause-enters
-returns-in_ok-push-in-Refused-clause-enters c =
+pub returns-in_ok-end-in-Refused-clause-enters : goal.returns-in_ok-end-in-Refused-clause-enters
+returns-in_ok-end-in-Refused-clause-enters c =
     entry_refused c.args.graph.now c.args.script.now c.args.run.now c.args.task (lifted_by c.args.func.now) c.args.value.now c.requires.sound c.requires.apart c.requires.at
-    c.in-Refused.call c.lower.new.store c.lower.new.left c.builtin_of.result c.push.new.self
+    c.in-Refused.call c.lower.new.store c.lower.new.left c.refuse.new.labels c.in_ok-end-in-Refused.end
     (entry_given c.args.graph.now c.args.script.now c.args.run.now c.args.task (lifted_by c.args.func.now) c.args.value.now c.requires.sound c.requires.apart c.requires.at
     c.lower_options-options.result (plan_to c.target_of-to.result c.args.func.now.types.params c.args.value.now) c.in_ok-words.field-0 (came.Refused c.in-Refused.call) c.lower.new.store c.lower.new.left
     (c.target_of-to.ensures.plan c.args.func.now.func_type.now c.args.value.now c.requires.passed.params) c.lower_options-options.ensures.memory c.lower_options-options.ensures.realloc c.in-Refused.is c.in_ok-words.ensures.leads)
-    (λ canon e. c.builtin_of.ensures canon (ap (λ (g : Graph). slice_get g.canons c.in-Refused.call.address) c.graph.ensures ∙ e)) c.in_ok-push-in-Refused.ensures.ok
+    (subst (λ (g : Graph). IsRefused g c.in-Refused.call.address c.in-Refused.call.words c.args.task c.args.task c.args.run.now.labels c.refuse.new.labels c.in_ok-end-in-Refused.end) c.graph.ensures c.in_ok-end-in-Refused.ensures)
 
 pub returns-in-NoFuel-clause-enters : goal.returns-in-NoFuel-clause-enters
 returns-in-NoFuel-clause-enters c =

@@ -2,7 +2,7 @@
 use Rattle.std.proofs.Common.{◌≤◌}
 use Rattle.world.specs.Seen.{IsAtArrival}
 use Rattle.world.specs.Onward.{AreHeld}
-use Rattle.world.proofs.Onward.{calls_left}
+use Rattle.world.proofs.Progress.{calls_left}
 use Rattle.builtins.proofs.looping.descend.Given as goal
 
 abbrev pub invariant-loop-called : goal.invariant-loop-called

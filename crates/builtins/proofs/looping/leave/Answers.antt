@@ -1,5 +1,5 @@
 use Rattle.std.proofs.Common.{rules}
-use Rattle.world.proofs.Onward.{goes_up}
+use Rattle.world.proofs.Progress.{goes_up}
 use Rattle.builtins.proofs.looping.leave.Goals as goal
 
 pub returns-in_ok-run_on-in-Back-clause-ascends : goal.returns-in_ok-run_on-in-Back-clause-ascends

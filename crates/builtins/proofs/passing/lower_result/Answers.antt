@@ -9,6 +9,7 @@ use Rattle.comp_graph.specs.Needs.{lowered_type}
 use Rattle.world.specs.declared.state.Waiter.{Waiter}
 use Rattle.builtins.specs.declared.lower_values.Lowered.{Lowered}
 use Rattle.world.specs.Parts.{WithUsed}
+use Rattle.world.specs.Refusing.{IsRefused}
 use Rattle.builtins.specs.Lowering.{plan_to, LoweredLeads}
 use Rattle.world.proofs.Callees.{last_first}
 use Rattle.builtins.proofs.Resolving.{canon_within, of_result, is_plain, holds_none, words_passed, caller_options, lowering_at, lowering, lowering_world, result_typed, same_val, passes_words, passing_traps, passing_call_there, passing_refused, passing_wants}
@@ -74,8 +75,8 @@ lower-requires-clause-at c =
           c.innermost-caller.result.now last.0 last.1 c.lower_of-lowers.result.now lowers c.args.typed c.requires.lifts).0 c.lower_options-options.ensures.memory c.lower_options-options.ensures.realloc),
     )
 
-pub builtin_of-builtin-requires : goal.builtin_of-builtin-requires
-builtin_of-builtin-requires c =
+pub refuse-requires : goal.refuse-requires
+refuse-requires c =
     let last = last_first c.args.run.now.waiting.items c.innermost-caller.result.now (ap (λ (us : List Waiter). slice_get us (length us - 1)) (sym c.deref.ensures.value) ∙ c.innermost-caller.ensures) in
     let lowers : lower_at c.args.graph.now c.innermost-caller.result.now.canon ≡ Some c.lower_of-lowers.result.now =
     ap (λ (g : Graph). lower_at g c.innermost-caller.result.now.canon) (sym c.graph.ensures) ∙ ap (λ (o : Option CanonFunc). option_and_then lower_of o) c.canon_at.ensures ∙ c.lower_of-lowers.ensures in
@@ -151,14 +152,14 @@ returns-in-NoFuel-clause-goes c =
     (result_typed c.args.graph.now c.args.script.now c.args.run.now c.args.task c.args.ended.now c.args.func.now c.requires.sound c.requires.apart c.requires.at c.requires.runs
     c.innermost-caller.result.now last.0 last.1 c.lower_of-lowers.result.now lowers c.args.typed c.requires.lifts).0 c.lower_options-options.ensures.memory c.lower_options-options.ensures.realloc)))
 
-pub returns-in_ok-push-in-Refused-clause-goes : goal.returns-in_ok-push-in-Refused-clause-goes
-returns-in_ok-push-in-Refused-clause-goes c =
+pub returns-in_ok-end-in-Refused-clause-goes : goal.returns-in_ok-end-in-Refused-clause-goes
+returns-in_ok-end-in-Refused-clause-goes c =
     let last = last_first c.args.run.now.waiting.items c.innermost-caller.result.now (ap (λ (us : List Waiter). slice_get us (length us - 1)) (sym c.deref.ensures.value) ∙ c.innermost-caller.ensures) in
     let lowers : lower_at c.args.graph.now c.innermost-caller.result.now.canon ≡ Some c.lower_of-lowers.result.now =
     ap (λ (g : Graph). lower_at g c.innermost-caller.result.now.canon) (sym c.graph.ensures) ∙ ap (λ (o : Option CanonFunc). option_and_then lower_of o) c.canon_at.ensures ∙ c.lower_of-lowers.ensures in
     passing_refused c.args.graph.now c.args.script.now c.args.run.now c.args.task c.args.ended.now c.args.func.now c.requires.sound c.requires.apart c.requires.at c.requires.runs
-    c.innermost-caller.result.now last.0 last.1 c.lower_of-lowers.result.now lowers c.args.typed c.requires.lifts c.in-Refused.call c.lower.new.store c.lower.new.left c.builtin_of-builtin.result c.push.new.self c.push-in-Refused.new.self c.in_ok-push.ensures.ok c.in_ok-push-in-Refused.ensures.ok
-    (λ canon e. c.builtin_of-builtin.ensures canon (ap (λ (g : Graph). slice_get g.canons c.in-Refused.call.address) c.graph-in-Refused.ensures ∙ e)) (subst (λ (o : Lowered). WithUsed c.args.script.now c.lower.new.left (λ used. LoweredLeads c.args.graph.now c.args.script.now (lowering_world c.args.graph.now c.args.script.now c.args.run.now c.args.task c.args.ended.now c.args.func.now c.requires.sound c.requires.apart c.requires.at c.requires.runs
+    c.innermost-caller.result.now last.0 last.1 c.lower_of-lowers.result.now lowers c.args.typed c.requires.lifts c.in-Refused.call c.lower.new.store c.lower.new.left c.push.new.self c.refuse.new.labels c.in_ok-end-in-Refused.end c.in_ok-push.ensures.ok
+    (subst (λ (g : Graph). IsRefused g c.in-Refused.call.address c.in-Refused.call.words c.innermost-caller.result.now.task c.args.task c.push.new.self c.refuse.new.labels c.in_ok-end-in-Refused.end) c.graph-in-Refused.ensures c.in_ok-end-in-Refused.ensures) (subst (λ (o : Lowered). WithUsed c.args.script.now c.lower.new.left (λ used. LoweredLeads c.args.graph.now c.args.script.now (lowering_world c.args.graph.now c.args.script.now c.args.run.now c.args.task c.args.ended.now c.args.func.now c.requires.sound c.requires.apart c.requires.at c.requires.runs
     c.innermost-caller.result.now last.0 last.1 c.lower_of-lowers.result.now lowers c.args.typed c.requires.lifts) (lowering c.args.graph.now c.args.script.now c.args.run.now c.args.task c.args.ended.now c.args.func.now c.requires.sound c.requires.apart c.requires.at c.requires.runs
     c.innermost-caller.result.now last.0 last.1 c.lower_of-lowers.result.now lowers c.args.typed c.requires.lifts) o c.lower.new.store used)) c.in-Refused.is
     (c.in_ok-lowered.ensures.leads c.args.graph.now c.args.script.now (lowering_world c.args.graph.now c.args.script.now c.args.run.now c.args.task c.args.ended.now c.args.func.now c.requires.sound c.requires.apart c.requires.at c.requires.runs

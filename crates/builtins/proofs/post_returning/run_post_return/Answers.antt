@@ -9,8 +9,8 @@ run-requires c = record {
   typed = post_return_typed c.args.graph.now c.args.script.now c.args.state.now c.args.task c.args.running c.requires.at.0 c.requires.sound c.requires.apart c.requires.at.1;
 }
 
-pub builtin_of-builtin-requires : goal.builtin_of-builtin-requires
-builtin_of-builtin-requires c =
+pub refuse-requires : goal.refuse-requires
+refuse-requires c =
     post_return_calls c.args.graph.now c.args.script.now c.args.state.now c.args.task c.args.running c.requires.at.0 c.requires.sound c.requires.apart c.requires.at.1
     c.in-Calls.number c.in-Calls.words c.in-Calls.suspended c.run.new.store c.run.new.fuel c.in-Calls.ensures.gives
 
@@ -29,11 +29,11 @@ returns-in-NoFuel-clause-goes c words h =
     post_return_wants c.args.graph.now c.args.script.now c.args.state.now c.args.task c.args.running words c.requires.sound c.requires.apart h
     c.in-NoFuel.running c.run.new.store c.run.new.fuel c.in-NoFuel.ensures.gives
 
-pub returns-in_ok-push-in-Calls-clause-goes : goal.returns-in_ok-push-in-Calls-clause-goes
-returns-in_ok-push-in-Calls-clause-goes c words h =
+pub returns-in_ok-end-in-Calls-clause-goes : goal.returns-in_ok-end-in-Calls-clause-goes
+returns-in_ok-end-in-Calls-clause-goes c words h =
     post_return_cannot_leave c.args.graph.now c.args.script.now c.args.state.now c.args.task c.args.running words c.requires.sound c.requires.apart h
-    c.in-Calls.number c.in-Calls.words c.in-Calls.suspended c.run.new.store c.run.new.fuel c.builtin_of-builtin.result c.push.new.self
-    c.in-Calls.ensures.gives c.builtin_of-builtin.ensures c.in_ok-push-in-Calls.ensures.ok
+    c.in-Calls.number c.in-Calls.words c.in-Calls.suspended c.run.new.store c.run.new.fuel c.refuse.new.labels c.in_ok-end-in-Calls.end
+    c.in-Calls.ensures.gives c.in_ok-end-in-Calls.ensures
 
 pub returns-in-Done-clause-spends : goal.returns-in-Done-clause-spends
 returns-in-Done-clause-spends c = record {
