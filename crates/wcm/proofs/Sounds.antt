@@ -17,8 +17,8 @@ use Rattle.canonical_machine.specs.World.{World}
 use Rattle.canonical_machine.specs.Run.{Runs}
 use Rattle.canonical_machine.specs.Over.{NoDeadlock}
 use Rattle.trace_show.specs.declared.label.Label.{Label}
-use Rattle.world.specs.declared.script_run.Run.{Run}
-use Rattle.world.specs.Ran.{IsRunOf}
+use Rattle.builtins.specs.declared.script_run.Run.{Run}
+use Rattle.builtins.specs.Ran.{IsRunOf}
 use Rattle.wcm.specs.declared.status.Status.{Status}
 use Rattle.wcm.specs.Status.{status_of, IsBehindGraph}
 use Rattle.linked_graphs.specs.Laws.{LinkedGraphsAreApart, ReadGraphsAreSound, ReadTypesAreCounted, CountedGraphsArePlain, CallsAreSound}

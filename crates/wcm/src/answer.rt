@@ -15,6 +15,7 @@ ghost use Rattle.command_words.specs.Words.{said};
 use crate::refusals::{link_refused_line, refused_line, script_refused_line};
 use crate::shown::graph_text;
 use crate::status::{Status, status_of_end};
+use builtins::{run_script, trace_text};
 use ca_base::{Bytes, Memory, MemoryOr, Refusal, Seq};
 use ca_io::{FileError, Files, read_all};
 use ca_types::Exports;
@@ -29,7 +30,6 @@ use linked_graphs::laws::{
 };
 use script_reader::{Script, ScriptFault, ScriptWhy, read_script};
 use std::alloc::{AllocError, Global};
-use world::{run_script, trace_text};
 
 /// What a call of the program answers.
 #[derive(Drop)]

@@ -1,5 +1,5 @@
 -- The functions that tasks run.
-use Rattle.std.proofs.Common.{◌≡◌, ◌+◌, ◌-◌, ℕ, zero, suc, List, [], ◌∷◌, length, reverse, refl, sym, ap, ◌∙◌, subst, arith, Option, Some, None}
+use Rattle.std.proofs.Common.{◌≡◌, ◌+◌, ◌-◌, ℕ, zero, suc, List, [], ◌∷◌, length, reverse, sym, ap, ◌∙◌, subst, arith, Option, Some}
 use mathlib.Core.List.{reverse_aux}
 use Rattle.std.specs.List.{slice_get}
 use Rattle.std.specs.Option.{option_and_then}
@@ -8,14 +8,12 @@ use Rattle.ca_types.specs.declared.exports.Export.{Export}
 use Rattle.comp_graph.specs.declared.graph.CanonFunc.{CanonFunc}
 use Rattle.comp_graph.specs.declared.graph.Lift.{Lift}
 use Rattle.comp_graph.specs.declared.graph.Lower.{Lower}
-use Rattle.comp_graph.specs.declared.func_types.PassedTypes.{PassedTypes}
 use Rattle.comp_graph.specs.Graph.{Graph, Lifted, names, lifted_as, func_at, func_named, called_type}
 use Rattle.comp_graph.specs.Passed.{ArePassed}
 use Rattle.script_reader.specs.declared.script.Call.{Call}
-use Rattle.script_reader.specs.declared.script.Item.{Item}
 use Rattle.script_reader.specs.declared.script.Item.TheVariants as item
 use Rattle.script_reader.specs.Script.{Script}
-use Rattle.canonical_machine.specs.World.{Callee, Func, Task}
+use Rattle.canonical_machine.specs.World.{Func, Task}
 use Rattle.canonical_machine.specs.Reading.{lower_of, lower_at, lifted_of}
 use Rattle.world.specs.declared.called.CalledFunc.{CalledFunc}
 use Rattle.world.specs.declared.state.Waiter.{Waiter}

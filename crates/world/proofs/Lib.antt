@@ -2,29 +2,18 @@ pub mod Leads
 pub mod Moving
 pub mod Acting
 pub mod Nesting
-pub mod Counts
-pub mod Memories
-pub mod Lowering
 mod Hosts
-mod Exits
-mod Callees
+pub mod Callees
 mod Supplied
 mod Lent
-mod Instancing
+pub mod Instancing
+pub mod Refusals
 mod StartRuns
-mod Arguments
-mod Items
-mod Onward
-mod TaskRuns
-mod Begun
-mod LowerValues
-pub mod Options
-mod LiftedArguments
-mod Entered
-mod Entries
+mod TypedArguments
+pub mod Items
+pub mod Progress
+pub mod TaskRuns
+pub mod LiftedArguments
 mod Passers
-mod PostReturns
-mod LiftedResults
-mod Resolving
-mod Places
+pub mod LiftedResults
 mod CanonTypes

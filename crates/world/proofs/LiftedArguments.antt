@@ -26,10 +26,8 @@ use Rattle.value_lift.proofs.WordStood.{IsThere, word_stood, flat_of_tuple}
 use Rattle.value_lift.proofs.WordTypes.{word_told_type}
 use Rattle.value_lift.proofs.TypesStopped.{type_stops}
 use Rattle.value_lift.proofs.WordFailed.{word_failed}
-use Rattle.value_lower.specs.Lowering.{flat_lowered, placed}
-use Rattle.value_lower.specs.Plan.{Plan}
 use Rattle.comp_graph.specs.Needs.{core_val, lowered_type}
-use Rattle.canonical_machine.specs.Passing.{params_type, params_in_memory, arguments_lifted, arguments_plan}
+use Rattle.canonical_machine.specs.Passing.{params_type, params_in_memory, arguments_lifted}
 use Rattle.canonical_machine.proofs.Words.{many_words}
 use Rattle.world.specs.Passed.{TakeWords}
 
@@ -95,13 +93,13 @@ is_more n h = grind (arith, nat_tests)
 is_few : (n : ℕ) → n ≤ 16 → nat_lt 16 n ≡ false
 is_few n h = grind (arith, nat_tests)
 
-in_memory : (t : ValType) (f : FuncType) → t ≡ params_type f → 16 < length (take 17 (flat t)) → params_in_memory f ≡ true
+pub in_memory : (t : ValType) (f : FuncType) → t ≡ params_type f → 16 < length (take 17 (flat t)) → params_in_memory f ≡ true
 in_memory t f e h = is_more (length (flat_params f)) (subst (λ (ts : List CoreType). 16 < length ts) (sym (flat_are t f e)) (many_more 16 (flat t) h))
 
 pub few_flat : (t : ValType) → length (take 17 (flat t)) ≤ 16 → length (flat t) ≤ 16
 few_flat t h = (let same = all_few 16 (flat t) h in omega (arith, same, h))
 
-in_words : (t : ValType) (f : FuncType) → t ≡ params_type f → length (take 17 (flat t)) ≤ 16 → params_in_memory f ≡ false
+pub in_words : (t : ValType) (f : FuncType) → t ≡ params_type f → length (take 17 (flat t)) ≤ 16 → params_in_memory f ≡ false
 in_words t f e h = is_few (length (flat_params f)) (subst (λ (ts : List CoreType). length ts ≤ 16) (sym (flat_are t f e)) (few_flat t h))
 
 -- What is lifted.
@@ -172,17 +170,6 @@ lifted_from_words f t bytes words n e handles ends h is few =
     ∙ ap (λ (u : ValType). lift_flat whole.Arguments u bytes words) (sym e)
     ∙ sym (first_words whole.Arguments t bytes words (record { handles = handles; ends = ends }) (omega (arith, same, is, enough)))
     ∙ ap (λ (m : ℕ). lift_flat whole.Arguments t bytes (take m words)) (sym same ∙ sym is)
-
--- Where they are lowered to.
-pub plan_placed : (f : FuncType) (t : ValType) (v : Value) → t ≡ params_type f → 16 < length (take 17 (flat t)) → placed t v ≡ arguments_plan f v
-unfolding arguments_plan
-plan_placed f t v e more =
-    ap (λ (u : ValType). placed u v) e ∙ sym (ap (λ (b : Bool). (let p : Plan = if b then placed (params_type f) v else flat_lowered (params_type f) v in p)) (in_memory t f e more))
-
-pub plan_flat : (f : FuncType) (t : ValType) (v : Value) → t ≡ params_type f → length (take 17 (flat t)) ≤ 16 → flat_lowered t v ≡ arguments_plan f v
-unfolding arguments_plan
-plan_flat f t v e few =
-    ap (λ (u : ValType). flat_lowered u v) e ∙ sym (ap (λ (b : Bool). (let p : Plan = if b then placed (params_type f) v else flat_lowered (params_type f) v in p)) (in_words t f e few))
 
 -- Arguments are a tuple.
 pub is_tuple : (t : ValType) (words : List ℕ) → TakeWords t words → tuple_case (out-ValType t) ≡ true

@@ -18,12 +18,12 @@ use Rattle.canonical_machine.specs.Passing.{result_lifted}
 use Rattle.canonical_machine.specs.Returning.{typed_result, result_of}
 
 -- more than one of the first so many
-many_more : (ts : List CoreType) → 1 < length (take 17 ts) → nat_lt 1 (length ts) ≡ true
+pub many_more : (ts : List CoreType) → 1 < length (take 17 ts) → nat_lt 1 (length ts) ≡ true
 many_more [] h = absurd (omega (arith, h))
 many_more (t ∷ []) h = absurd (omega (arith, h))
 many_more (t ∷ u ∷ ts) h = grind (arith, nat_tests)
 
-one_at_most : (ts : List CoreType) → length (take 17 ts) ≤ 1 → nat_lt 1 (length ts) ≡ false
+pub one_at_most : (ts : List CoreType) → length (take 17 ts) ≤ 1 → nat_lt 1 (length ts) ≡ false
 one_at_most [] h = refl
 one_at_most (t ∷ []) h = refl
 one_at_most (t ∷ u ∷ ts) h = absurd (omega (arith, h))

@@ -20,11 +20,11 @@ use Rattle.wasm_execution.specs.declared.running.Outcome.TheVariants as outcome
 use Rattle.comp_graph.specs.declared.graph.CanonFunc.{CanonFunc}
 use Rattle.comp_graph.specs.Graph.{Graph}
 use Rattle.script_reader.specs.Script.{Script}
-use Rattle.trace_show.specs.declared.builtin.Builtin.{Builtin}
 use Rattle.trace_show.specs.declared.label.Label.{Label}
 use Rattle.trace_show.specs.declared.label.Label.TheVariants as line
 use Rattle.trace_show.specs.declared.trap.TrapName.{TrapName}
 use Rattle.trace_show.specs.declared.trap.TrapName.TheVariants as trap
+use Rattle.canonical_machine.specs.declared.run_end.RunEnd.{RunEnd}
 use Rattle.canonical_machine.specs.declared.run_end.RunEnd.TheVariants.{Trapped, Fuel}
 use Rattle.canonical_machine.specs.Traps.{core_name}
 use Rattle.canonical_machine.specs.Control.{Control, Free, Instantiates, Runs, Calls, Doomed}
@@ -51,6 +51,8 @@ use Rattle.world.specs.Starting.{IsStarting, IsAtStart}
 use Rattle.world.proofs.Leads.{leads_then, leads_step, meets_step, ends_behind}
 use Rattle.world.proofs.Acting.{stacks_lead}
 use Rattle.world.proofs.Hosts.{none_wait}
+use Rattle.world.specs.Refusing.{IsRefused}
+use Rattle.world.proofs.Refusals.{refused_ends}
 use Rattle.world.proofs.Instancing.{step_more, safe_there, ends_there}
 
 -- an instance's function that runs first, by its address
@@ -192,9 +194,6 @@ pub start_within : (g : Graph) (s : Script) (run : RunState) (n : ℕ) (m : Modu
 start_within g s run n m instance address h typed one =
     let there = start_there m h.made run.store address h.has typed (sym (one h.made h.there)) in
     slice_get_within run.store.funcs address there.function there.there
-
-pub made_within : (g : Graph) (s : Script) (run : RunState) (n : ℕ) (m : ModuleTree) (instance : ℕ) → IsStarting g s run n m instance → instance < length run.store.instances
-made_within g s run n m instance h = slice_get_within run.store.instances instance h.made h.there
 
 -- Runs of the stack.
 
@@ -356,17 +355,14 @@ call_within g s run n k number words waiting store after sound apart h gives =
     let canon = canon_called g s run n number words store sound apart (start_calls g s run n k number words waiting store after h gives) in
     slice_get_within g.canons number canon.0 canon.1
 
-pub start_cannot_leave : (g : Graph) (s : Script) (run : RunState) (n : ℕ) (k : Stack) (number : ℕ) (words : List ℕ) (waiting : Waiting) (store : Store) (after : ℕ) (builtin : Builtin) (labels : List Label)
-    → IsSound g s → IsApart g → IsAtStart g s run n k → RunGives run.store k run.left (outcome.Calls number words waiting) store after
-    → ((canon : CanonFunc) → slice_get g.canons number ≡ Some canon → builtin ≡ builtin_of canon) → labels ≡ run.labels ++ line.Do 0 builtin words ∷ []
-    → EndsBy g s (record run { store = store; left = after; labels = labels }) (Trapped 0 trap.CannotLeave)
-start_cannot_leave g s run n k number words waiting store after builtin labels sound apart h gives named are =
+pub start_cannot_leave : (g : Graph) (s : Script) (run : RunState) (n : ℕ) (k : Stack) (number : ℕ) (words : List ℕ) (waiting : Waiting) (store : Store) (after : ℕ) (labels : List Label) (end : RunEnd)
+    → IsSound g s → IsApart g → IsAtStart g s run n k → RunGives run.store k run.left (outcome.Calls number words waiting) store after → IsRefused g number words 0 0 run.labels labels end
+    → EndsBy g s (record run { store = store; left = after; labels = labels }) end
+start_cannot_leave g s run n k number words waiting store after labels end sound apart h gives refused =
     let at = start_calls g s run n k number words waiting store after h gives in
     let canon = canon_called g s run n number words store sound apart at in
     let v : World = with_control (Doomed 0 trap.CannotLeave) at.world in
     let step = leave_turn g s at.world n number words canon.0 (λ ks. (k : Stack) × (ks ≡ k ∷ [])) at.control canon.1 at.init in
     let lead : Leads g s (first_world g) (run.labels ++ line.Do 0 (builtin_of canon.0) words ∷ []) v =
     leads_then g s (first_world g) at.world v run.labels (line.Do 0 (builtin_of canon.0) words ∷ []) at.leads (leads_step g s at.world v (line.Do 0 (builtin_of canon.0) words ∷ []) step) in
-    let same : run.labels ++ line.Do 0 (builtin_of canon.0) words ∷ [] ≡ labels = ap (λ (b : Builtin). run.labels ++ line.Do 0 b words ∷ []) (sym (named canon.0 canon.1)) ∙ sym are in
-    ends_there g s (record run { store = store; left = after; labels = labels }) v (Trapped 0 trap.CannotLeave)
-    (subst (λ (ls : List Label). Leads g s (first_world g) ls v) same lead) refl at.store at.instances
+    refused_ends g s (record run { store = store; left = after; labels = labels }) run.labels v canon.0 number words 0 0 end canon.1 lead refl at.store at.instances refused

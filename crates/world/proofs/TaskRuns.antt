@@ -40,16 +40,22 @@ use Rattle.world.proofs.Leads.{leads_then, ends_behind}
 use Rattle.world.proofs.Acting.{stacks_lead, steps_lead}
 use Rattle.world.proofs.Instancing.{safe_there, ends_there}
 
-first_same : (x : ℕ) (xs : List ℕ) (y : ℕ) (ys : List ℕ) → x ∷ xs ≡ y ∷ ys → (x ≡ y) × (xs ≡ ys)
+pub first_same : (x : ℕ) (xs : List ℕ) (y : ℕ) (ys : List ℕ) → x ∷ xs ≡ y ∷ ys → (x ≡ y) × (xs ≡ ys)
 first_same x xs y ys h = (cc, cc)
 
-some_same : {A : Type 0} (o : Option A) (x y : A) → o ≡ Some x → o ≡ Some y → x ≡ y
+pub some_same : {A : Type 0} (o : Option A) (x y : A) → o ≡ Some x → o ≡ Some y → x ≡ y
 some_same o x y e h = let both : ◌≡◌ {A = Option _} (Some x) (Some y) = sym e ∙ h in cc
 
 -- A task that was called runs a function.
 pub called_func : (g : Graph) (s : Script) (taken : ℕ) (us : List Waiter) (task : Task) → IsCalled g s taken us task → (f : Lifted) × (task.callee ≡ Func f)
 called_func g s taken [] task h = (h.lifted, h.callee)
 called_func g s taken (u ∷ below) task h = (lifted_of h.lower, h.callee)
+
+-- It is called so with another stack or in another state.
+pub called_as : (g : Graph) (s : Script) (taken : ℕ) (us : List Waiter) (task other : Task) → other.callee ≡ task.callee → other.caller ≡ task.caller → IsCalled g s taken us task → IsCalled g s taken us other
+called_as g s taken [] task other callee caller h =
+    record { number = h.number; last = h.last; call = h.call; there = h.there; lifted = h.lifted; named = h.named; callee = callee ∙ h.callee; caller = caller ∙ h.caller }
+called_as g s taken (u ∷ below) task other callee caller h = record { lower = h.lower; there = h.there; callee = callee ∙ h.callee; caller = caller ∙ h.caller }
 
 no_init : (f : Lifted) → Init ≡ Func f → ⊥
 no_init f e = cc
@@ -145,11 +151,6 @@ stack_wants g s run t k later store after h gives =
       instances = h.stands.sees.instances;
     }
 
--- It is called so with other stacks.
-called_still : (g : Graph) (s : Script) (taken : ℕ) (us : List Waiter) (task : Task) (stacks : List Stack) → IsCalled g s taken us task → IsCalled g s taken us (record task { stacks = stacks })
-called_still g s taken [] task stacks h = record { number = h.number; last = h.last; call = h.call; there = h.there; lifted = h.lifted; named = h.named; callee = h.callee; caller = h.caller }
-called_still g s taken (u ∷ below) task stacks h = record { lower = h.lower; there = h.there; callee = h.callee; caller = h.caller }
-
 reverse_last : (us : List Waiter) (u : Waiter) → reverse (us ++ u ∷ []) ≡ u ∷ reverse us
 reverse_last us u = reverse-append us (u ∷ [])
 
@@ -201,7 +202,7 @@ stack_ends g s run t k words store after sound apart h gives =
               chain = a.chain;
               task = change a.task;
               there = changed_there t change w.tasks a.task a.there;
-              called = called_still g s w.taken (waiters run) a.task (l ∷ drop 1 a.task.stacks) a.called;
+              called = called_as g s w.taken (waiters run) a.task (record a.task { stacks = l ∷ drop 1 a.task.stacks }) refl refl a.called;
               holds = changed_stack l a.task.stacks k a.holds;
             },
           );
@@ -247,7 +248,7 @@ module _ (g : Graph) (s : Script) (run : RunState) (t : ℕ) (k : Stack) (number
   stands_at =
       let task : Task = h.stands.holds.1.task in
       record {
-        called = called_still g s h.stands.world.taken (waiters run) task (waiting.stack ∷ drop 1 task.stacks) h.stands.holds.1.called;
+        called = called_as g s h.stands.world.taken (waiters run) task (record task { stacks = waiting.stack ∷ drop 1 task.stacks }) refl refl h.stands.holds.1.called;
         stacks = changed_stack waiting.stack task.stacks k h.stands.holds.1.holds;
         count = counts;
         passes = typed_words;

@@ -1,15 +1,12 @@
 pub mod Parts
 pub mod PartLaws
 pub mod Stacks
-pub mod Rooms
 pub mod Seen
 pub mod Points
 pub mod Starting
 pub mod Onward
-pub mod Ran
 pub mod Stopping
-pub mod Reentering
+pub mod Refusing
 pub mod Called
 pub mod Addresses
-pub mod Lowering
 pub mod Passed

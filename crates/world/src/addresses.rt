@@ -4,14 +4,12 @@ ghost use Rattle.std.specs.Prelude.{◌≡◌, Some};
 ghost use Rattle.std.specs.Option.{IsSome};
 ghost use Rattle.canonical_machine.specs.Reading.{address_in, func_address, memory_of, realloc_of, bytes_of};
 ghost use Rattle.world.specs.Addresses.{HasOptions};
-ghost use Rattle.world.specs.Rooms.{IsMemory};
 
 use comp_graph::{CoreRef, FuncRef, Options};
-use copy_engine::LowerOptions;
 use core_machine::Store;
 
 /// The address of a core function, which is there. The one that the Canonical ABI makes as that of a number has this address.
-pub(crate) fn func_address(store: &Store, func: FuncRef) -> usize
+pub fn func_address(store: &Store, func: FuncRef) -> usize
     requires { IsSome (func_address store.now func) }
     ensures { func_address store.now func ≡ Some result }
 {
@@ -30,7 +28,7 @@ fn memory_address(store: &Store, at: CoreRef) -> usize
 }
 
 /// The address of the memory of options, if they have one.
-pub(crate) fn memory_of(store: &Store, options: Options) -> Option<usize>
+pub fn memory_of(store: &Store, options: Options) -> Option<usize>
     requires { HasOptions store.now options }
     ensures { result ≡ memory_of store.now options }
 {
@@ -41,7 +39,7 @@ pub(crate) fn memory_of(store: &Store, options: Options) -> Option<usize>
 }
 
 /// The address of the function that gives places in the memory, if options have one.
-pub(crate) fn realloc_of(store: &Store, options: Options) -> Option<usize>
+pub fn realloc_of(store: &Store, options: Options) -> Option<usize>
     requires { HasOptions store.now options }
     ensures { result ≡ realloc_of store.now options }
 {
@@ -58,27 +56,5 @@ pub(crate) fn bytes_of(store: &Store, memory: Option<usize>) -> &[u8]
     match memory {
         Some(address) if address < store.memory_count() => store.memory(address),
         _ => &[],
-    }
-}
-
-/// What options say of a lowering over a store.
-pub(crate) fn lower_options(store: &Store, options: Options) -> LowerOptions
-    requires { HasOptions store.now options }
-    ensures memory { IsMemory (memory_of store.now options) result.memory store.now }
-    ensures realloc { result.realloc ≡ realloc_of store.now options }
-{
-    LowerOptions {
-        memory: address_or_none(store, memory_of(store, options)),
-        realloc: realloc_of(store, options),
-    }
-}
-
-/// The address of a memory; where there is none, one at which no memory is.
-fn address_or_none(store: &Store, memory: Option<usize>) -> usize
-    ensures { IsMemory memory result store.now }
-{
-    match memory {
-        Some(address) => address,
-        None => store.memory_count(),
     }
 }

@@ -1,25 +1,21 @@
-//! Arguments of tasks: what the script or a task passes, lifted, and where they are lowered to.
+//! Arguments of tasks: what the script or a task passes, lifted.
 
 ghost use Rattle.std.specs.Prelude.{◌≡◌, ◌≤◌, ◌<◌, ◌^◌, false, length, take, slice_index, Some, Ok};
 ghost use Rattle.ca_base.specs.Faults.{MayMake};
 ghost use Rattle.ca_types.specs.declared.types.FuncType.{FuncType};
-ghost use Rattle.ca_types.specs.declared.value.Value.{Value};
 ghost use Rattle.ca_types.specs.declared.value.Value.TheViews as values;
 ghost use Rattle.ca_types.specs.Ends.{has_end};
-ghost use Rattle.ca_types.specs.Flat.{flat};
 ghost use Rattle.laid_types.specs.Handles.{has_handle};
 ghost use Rattle.comp_graph.specs.declared.graph.Lower.{Lower};
 ghost use Rattle.canonical_machine.specs.World.{Task};
-ghost use Rattle.canonical_machine.specs.Passing.{arguments_lifted, arguments_plan, params_type};
+ghost use Rattle.canonical_machine.specs.Passing.{arguments_lifted, params_type};
 ghost use Rattle.canonical_machine.specs.Reading.{lower_at, memory_of, bytes_of};
 ghost use Rattle.world.specs.Seen.{IsCalled, waiters};
-ghost use Rattle.world.specs.Lowering.{plan_to};
 ghost use Rattle.world.specs.Passed.{TakeWords, Passes, CanPass, IsPassedBy};
 
 use crate::addresses::{bytes_of, memory_of};
 use crate::called::{call_of, canon_at, item_at, lower_of};
 use crate::copying::same_values;
-use crate::lower_values::Target;
 use crate::named_graph::NamedGraph;
 use crate::state::{RunState, Waiter};
 use ca_types::Value;
@@ -32,7 +28,7 @@ use value_lift::{LiftError, LiftOf, lift_flat, load};
 /// The arguments of the acting task, which are of this type: what the innermost of the tasks that wait passes, by its words and the
 /// memory of its component instance as they are now; where none waits, those of the script's last item taken. It fails for want of
 /// memory, or where the words and the memory stand for no value of the type.
-pub(crate) fn arguments(
+pub fn arguments(
     alloc: Global,
     graph: &NamedGraph,
     script: &Script,
@@ -123,16 +119,4 @@ fn first_words(words: &[u64], count: usize) -> &[u64]
     ensures { result.now ≡ take count words.now }
 {
     &words[..count]
-}
-
-/// Where arguments of a type are lowered to: more than 16 core values go to a new place.
-pub(crate) fn target_of(of_type: &LaidType<'_>) -> Target
-    ensures plan { (f : FuncType) (v : Value) → of_type.now ≡ params_type f → plan_to result of_type.now v ≡ arguments_plan f v }
-    ensures few { result ≡ Target.Flat → length (flat of_type.now) ≤ 16 }
-{
-    if of_type.flat().len() > 16 {
-        Target::NewPlace
-    } else {
-        Target::Flat
-    }
 }

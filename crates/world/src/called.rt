@@ -18,18 +18,18 @@ use script_reader::{Call, Item, Script};
 
 /// The function that a task runs.
 #[derive(Drop)]
-pub(crate) struct CalledFunc<'g> {
+pub struct CalledFunc<'g> {
     /// What it lifts.
-    pub(crate) lift: Lift,
+    pub lift: Lift,
     /// Its type.
-    pub(crate) func_type: &'g FuncType,
+    pub func_type: &'g FuncType,
     /// The types of what it passes.
-    pub(crate) types: PassedTypes<'g>,
+    pub types: PassedTypes<'g>,
 }
 
 /// The function that the acting task runs: where a task waits, the one that the innermost of these calls; else the one that the script's
 /// last item taken calls.
-pub(crate) fn called<'g>(
+pub fn called_func<'g>(
     graph: &NamedGraph<'g, '_>,
     script: &Script,
     run: &RunState,
@@ -58,7 +58,7 @@ fn lowered<'g>(graph: &NamedGraph<'g, '_>, canon: usize) -> CalledFunc<'g>
 }
 
 /// The core function of the Canonical ABI of a number.
-pub(crate) fn canon_at<'g>(graph: &'g Graph<'_>, number: usize) -> &'g CanonFunc
+pub fn canon_at<'g>(graph: &'g Graph<'_>, number: usize) -> &'g CanonFunc
     requires { number < length graph.now.canons }
     ensures { slice_get graph.now.canons number ≡ Some result.now }
 {
@@ -66,7 +66,7 @@ pub(crate) fn canon_at<'g>(graph: &'g Graph<'_>, number: usize) -> &'g CanonFunc
 }
 
 /// The function that is lowered.
-pub(crate) fn lower_of(canon: &CanonFunc) -> &Lower
+pub fn lower_of(canon: &CanonFunc) -> &Lower
     ensures { lower_of canon.now ≡ Some result.now }
 {
     match canon {

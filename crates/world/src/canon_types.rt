@@ -22,7 +22,7 @@ const PARAM_LIMIT: usize = 16;
 const RESULT_LIMIT: usize = 1;
 
 /// The types of the core functions of a graph that the Canonical ABI makes, in order.
-pub(crate) fn canon_types(alloc: Global, graph: &Graph) -> Result<Vec<FuncType>, Memory>
+pub fn canon_func_types(alloc: Global, graph: &Graph) -> Result<Vec<FuncType>, Memory>
     ensures { IfOk result (λ types. types.items ≡ map canon_type graph.now.canons) }
 {
     let mut types = Vec::new(alloc);

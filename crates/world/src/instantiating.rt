@@ -20,7 +20,7 @@ use trace_show::TrapName;
 
 /// Instantiates a graph, and answers how the run ends, if it does so there. Of the steps only the instructions of start functions cost
 /// fuel.
-pub(crate) fn instantiate(
+pub fn instantiate(
     alloc: Global,
     graph: &Graph,
     script: &Script,

@@ -1,7 +1,6 @@
-//! What holds of parts of runs, and where runs of core code and lowerings lead.
+//! What holds of parts of runs, and where runs of core code lead.
 
 ghost use Rattle.world.specs.PartLaws.{EndFollows, EndsBehind, FirstSafe, MeetsBehind, PartsJoin, SafeMoves, SafeStays, StepFollows};
-ghost use Rattle.world.specs.Rooms.{LoweringsLead};
 ghost use Rattle.world.specs.Stacks.{PostReturnsLead, StacksLead};
 
 /// Parts of a run are put one behind the other: a part, and behind it another part, what comes next, or the rest of the run. What comes
@@ -33,11 +32,4 @@ pub fn stacks_lead()
 /// it calls a core function of the Canonical ABI, that is a trap behind the line of the call; and where fuel is wanting, the run ends.
 pub fn post_returns_lead()
     ensures { PostReturnsLead }
-{}
-
-/// What follows the plan of a lowering over a store, with its reallocs, is steps of the run. They lead to a world where what follows the
-/// lowering comes next, with its words; or to a trap, of the lowering or of a realloc, where a realloc's call of a core function of the
-/// Canonical ABI is one, behind its line; or the run ends for want of fuel.
-pub fn lowerings_lead()
-    ensures { LoweringsLead }
 {}

@@ -15,7 +15,7 @@ use std::marker::Model;
 
 /// A graph, and the numbers of its exports by their names. Contracts see the graph.
 #[derive(Drop)]
-pub(crate) struct NamedGraph<'g, 'a> {
+pub struct NamedGraph<'g, 'a> {
     graph: &'g Graph<'a>,
     numbers: BTreeMap<&'g str, usize>,
 }
@@ -43,7 +43,7 @@ impl<'g, 'a> Model for NamedGraph<'g, 'a> {
 
 impl<'g, 'a> NamedGraph<'g, 'a> {
     /// A graph, with its exports by their names. It fails for want of memory alone.
-    pub(crate) fn new(alloc: Global, graph: &'g Graph<'a>) -> Result<NamedGraph<'g, 'a>, AllocError>
+    pub fn new(alloc: Global, graph: &'g Graph<'a>) -> Result<NamedGraph<'g, 'a>, AllocError>
         ensures { IfOk result (λ n. n ≡ graph.now) }
     {
         let numbers = by_name(alloc, graph.exports().as_slice())?;
@@ -51,7 +51,7 @@ impl<'g, 'a> NamedGraph<'g, 'a> {
     }
 
     /// The graph.
-    pub(crate) fn graph(&self) -> &'g Graph<'a>
+    pub fn graph(&self) -> &'g Graph<'a>
         ensures { result.now ≡ self.now }
     {
         self.graph
@@ -74,7 +74,7 @@ impl<'g, 'a> NamedGraph<'g, 'a> {
     }
 
     /// What the export of a number lifts.
-    pub(crate) fn lift(&self, number: usize) -> Lift
+    pub fn lift(&self, number: usize) -> Lift
         requires { number < length self.now.exports }
         ensures { slice_get self.now.lifts number ≡ Some result }
     {

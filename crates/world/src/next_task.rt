@@ -5,7 +5,7 @@ use wasm_execution::Words;
 
 /// What is next when a task has exited.
 #[derive(Drop)]
-pub(crate) enum Leaving {
+pub enum Leaving {
     /// No task runs.
     Free,
     /// Control goes back to the task that called, with these words.
@@ -16,7 +16,7 @@ pub(crate) enum Leaving {
 
 /// Which task is next.
 #[derive(Drop)]
-pub(crate) enum Onward {
+pub enum Onward {
     /// The one of this number was called, and is to enter.
     Arrives(u32),
     /// The core function of the one of this number has ended with these words.

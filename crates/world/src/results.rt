@@ -1,6 +1,6 @@
 //! Results of functions, lifted from what their core functions ended with.
 
-ghost use Rattle.std.specs.Prelude.{◌≡◌, ℕ, false, map, Some, length};
+ghost use Rattle.std.specs.Prelude.{◌≡◌, false, map, Some};
 ghost use Rattle.ca_types.specs.declared.types.FuncType.{FuncType};
 ghost use Rattle.ca_types.specs.declared.types.ValType.{ValType};
 ghost use Rattle.ca_types.specs.Ends.{has_end};
@@ -26,7 +26,7 @@ use value_lift::{LiftError, LiftOf, lift_flat, load};
 
 /// The result of a function, if it has one, of the words with which its core function ended. It fails for want of memory, or where the
 /// words and the memory of the lift's options stand for no value of the type.
-pub(crate) fn lifted_result(
+pub fn lifted_result(
     alloc: Global,
     store: &Store,
     func: &CalledFunc<'_>,

@@ -18,7 +18,7 @@ use wasm_execution::{Outcome, Running, Words, run};
 
 /// What the stack of a task comes to.
 #[derive(Drop)]
-pub(crate) enum Stop {
+pub enum Stop {
     /// It calls a core function of the Canonical ABI. The task is the innermost of those that wait.
     AtCall,
     /// It ended with these words.
@@ -28,7 +28,7 @@ pub(crate) enum Stop {
 }
 
 /// Runs the stack of the acting task, which has this number. Room for it among the tasks that wait is made first.
-pub(crate) fn run_stack(
+pub fn run_stack(
     alloc: Global,
     graph: &Graph,
     script: &Script,

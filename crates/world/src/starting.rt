@@ -1,22 +1,19 @@
 //! Start functions of core instances.
 
-ghost use Rattle.std.specs.Prelude.{◌≡◌, ◌<◌, IfOk, Some, length};
-ghost use Rattle.std.specs.List.{slice_get};
-ghost use Rattle.comp_graph.specs.declared.graph.CanonFunc.{CanonFunc};
+ghost use Rattle.std.specs.Prelude.{◌<◌, IfOk, Some};
 ghost use Rattle.canonical_machine.specs.Sound.{IsSound};
 ghost use Rattle.canonical_machine.specs.Owners.{IsApart};
-ghost use Rattle.canonical_machine.specs.Reading.{builtin_of};
 ghost use Rattle.world.specs.Seen.{IsAtPlan};
 ghost use Rattle.world.specs.Starting.{IsStarting, IsAtStart, GoesOrEnds};
 
+use crate::refusing::refuse;
 use crate::state::RunState;
 use crate::trap_names::core_name;
 use ca_base::Memory;
 use canonical_machine::RunEnd;
-use comp_graph::{CanonFunc, Graph};
+use comp_graph::Graph;
 use script_reader::Script;
 use std::alloc::Global;
-use trace_show::{Builtin, Label, TrapName};
 use wasm_execution::{Outcome, Running, run, start};
 use wasm_valid::Valid;
 
@@ -72,27 +69,9 @@ fn run_start(
         }
         Outcome::Calls(number, words, suspended) => {
             suspended.give_up();
-            let builtin = builtin_of(graph, number);
-            state.labels.push(Label::Do {
-                task: 0,
-                builtin,
-                words,
-            })?;
-            Ok(Some(RunEnd::Trapped {
-                task: 0,
-                why: TrapName::CannotLeave,
-            }))
+            let end = refuse(graph, number, words, 0, 0, &mut state.labels)?;
+            Ok(Some(end))
         }
         Outcome::Memory => Err(Memory),
-    }
-}
-
-/// The name of the core function of the Canonical ABI of a number.
-pub(crate) fn builtin_of(graph: &Graph, number: usize) -> Builtin
-    requires { number < length graph.now.canons }
-    ensures { (canon : CanonFunc) → slice_get graph.now.canons number ≡ Some canon → result ≡ builtin_of canon }
-{
-    match graph.canons()[number] {
-        CanonFunc::Lower(_) => Builtin::Lower,
     }
 }

@@ -1,6 +1,6 @@
 //! What a run has so far.
 
-ghost use Rattle.std.specs.Prelude.{◌≡◌, map, IfOk, OnOk};
+ghost use Rattle.std.specs.Prelude.{◌≡◌, map, IfOk};
 ghost use Rattle.core_machine.specs.Instantiation.{empty};
 ghost use Rattle.core_machine.specs.Store.{Host};
 ghost use Rattle.comp_graph.specs.Graph.{Graph, canon_type};
@@ -15,15 +15,15 @@ use wasm_execution::{Suspended, Words};
 use wasm_module::FuncType;
 
 /// A task that waits for one that it called. Its stack is spent when it goes on, or given up.
-pub(crate) struct Waiter {
+pub struct Waiter {
     /// The number of the task.
-    pub(crate) task: u32,
+    pub task: u32,
     /// Its stack, which waits at the call.
-    pub(crate) stack: Suspended,
+    pub stack: Suspended,
     /// The number of the core function of the Canonical ABI by which it calls.
-    pub(crate) canon: usize,
+    pub canon: usize,
     /// The words that it passes.
-    pub(crate) words: Words,
+    pub words: Words,
 }
 
 impl Waiter {
@@ -41,28 +41,28 @@ impl Waiter {
 
 /// What a run has so far. Nothing is kept of tasks that are over. The stacks of those that wait are spent when they go on, so a run
 /// that does not come to its end is given up.
-pub(crate) struct RunState {
+pub struct RunState {
     /// The store of all core instances.
-    pub(crate) store: Store,
+    pub store: Store,
     /// The fuel that is left.
-    pub(crate) left: Fuel,
+    pub left: Fuel,
     /// The lines so far.
-    pub(crate) labels: Seq<Label>,
+    pub labels: Seq<Label>,
     /// How many component instances have begun.
-    pub(crate) instances: usize,
+    pub instances: usize,
     /// How many tasks were made, task 0 among them, which instantiates.
-    pub(crate) tasks: u32,
+    pub tasks: u32,
     /// How many items of the script are taken.
-    pub(crate) taken: u32,
+    pub taken: u32,
     /// The tasks that wait for one that they called, the innermost last: each called the next one, and the last one the acting task.
-    pub(crate) waiting: Vec<Waiter>,
+    pub waiting: Vec<Waiter>,
 }
 
 impl RunState {
     /// A run of a script before its graph is instantiated, whose core functions of the Canonical ABI are of these types, in order. It
     /// fails for want of memory alone.
     #[tactic(auto, using(crate::proofs::Hosts::first_at_plan))]
-    pub(crate) fn new(
+    pub fn new(
         alloc: Global,
         canon_types: Vec<FuncType>,
         script: &Script,
@@ -81,7 +81,7 @@ impl RunState {
     }
 
     /// Lets all stacks go.
-    pub(crate) fn give_up(self) {
+    pub fn give_up(self) {
         let RunState {
             store: _,
             left: _,
@@ -96,7 +96,7 @@ impl RunState {
 }
 
 /// Lets all tasks that wait go before their end.
-pub(crate) fn give_up_all(mut waiting: Vec<Waiter>) {
+pub fn give_up_all(mut waiting: Vec<Waiter>) {
     while let Some(waiter) = waiting.pop() {
         waiter.give_up();
     }

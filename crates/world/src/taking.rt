@@ -1,6 +1,6 @@
 //! Calls of the script, where no task runs.
 
-ghost use Rattle.std.specs.Prelude.{◌≡◌, ℕ, map, Some, IfOk, MatchResult};
+ghost use Rattle.std.specs.Prelude.{◌≡◌, map, Some, IfOk, MatchResult};
 ghost use Rattle.std.specs.List.{slice_get};
 ghost use Rattle.comp_graph.specs.Graph.{Lifted, func_named, func_at};
 ghost use Rattle.canonical_machine.specs.Calling.{typed};
@@ -21,7 +21,7 @@ use trace_show::{Label, TypedValue};
 
 /// Takes the next item of the script, which costs a unit of fuel, and answers the task that is made, or how the run ends: it is done
 /// where no item is left.
-pub(crate) fn take_item(
+pub fn take_item(
     alloc: Global,
     graph: &NamedGraph,
     script: &Script,
@@ -66,7 +66,7 @@ fn take_call(
     };
     run.taken += 1;
     run.tasks = tasks;
-    let export = called(graph, call);
+    let export = called_export(graph, call);
     let params = graph.func_type(export).params.as_slice();
     run.labels.push(Label::Take {
         call: run.taken,
@@ -78,7 +78,7 @@ fn take_call(
 }
 
 /// The number of the export that a call names.
-pub(crate) fn called(graph: &NamedGraph, call: &Call) -> usize
+pub fn called_export(graph: &NamedGraph, call: &Call) -> usize
     requires { IsSoundCall graph.now call.now }
     ensures { (f : Lifted) × (func_named graph.now call.now.name ≡ Some f) × (func_at graph.now result ≡ Some f) }
 {

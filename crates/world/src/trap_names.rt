@@ -9,7 +9,7 @@ use value_lift::LiftWhy;
 use value_lower::LowerWhy;
 
 /// The name of a trap of an instruction.
-pub(crate) fn core_name(why: Trap) -> TrapName
+pub fn core_name(why: Trap) -> TrapName
     ensures { result ≡ core_name why }
 {
     match why {
@@ -25,7 +25,7 @@ pub(crate) fn core_name(why: Trap) -> TrapName
 }
 
 /// The name of the reason why a value is not lifted.
-pub(crate) fn lift_name(why: LiftWhy) -> TrapName
+pub fn lift_name(why: LiftWhy) -> TrapName
     ensures { result ≡ lift_name why }
 {
     match why {
@@ -39,7 +39,7 @@ pub(crate) fn lift_name(why: LiftWhy) -> TrapName
 }
 
 /// The name of the reason why a value is not lowered.
-pub(crate) fn lower_name(why: LowerWhy) -> TrapName
+pub fn lower_name(why: LowerWhy) -> TrapName
     ensures { result ≡ lower_name why }
 {
     match why {

@@ -1,4 +1,4 @@
-use Rattle.std.proofs.Common.{◌≡◌, ◌∙◌, refl, ap, sym}
+use Rattle.std.proofs.Common.{◌∙◌, refl, sym}
 use Rattle.world.proofs.Callees.{exported_is}
 use Rattle.world.proofs.called.exported.Goals as goal
 

@@ -1,5 +1,4 @@
-use Rattle.std.proofs.Common.{◌≡◌, ◌∙◌, refl, ap, sym}
-use Rattle.comp_graph.specs.Graph.{Graph}
+use Rattle.std.proofs.Common.{refl}
 use Rattle.world.proofs.Callees.{lowered_is}
 use Rattle.world.proofs.called.lowered.Goals as goal
 

@@ -1,8 +1,8 @@
-use Rattle.std.proofs.Common.{◌≡◌, ◌∙◌, ◌+◌, ◌<◌, ◌++◌, ◌∷◌, [], ap, refl, rules, arith}
+use Rattle.std.proofs.Common.{◌∙◌, ◌++◌, ◌∷◌, [], ap, refl}
 use Rattle.world.specs.declared.state.RunState.{RunState}
 use Rattle.world.proofs.TaskRuns.{stack_typed, stack_traps, stack_wants, stack_ends, stack_calls, reserved}
 use Rattle.world.specs.declared.state.Waiter.{Waiter}
-use Rattle.world.proofs.Onward.{end_spends, call_waits}
+use Rattle.world.proofs.Progress.{end_spends, call_waits}
 use Rattle.world.proofs.running.run_stack.Goals as goal
 
 pub run-requires : goal.run-requires

@@ -14,12 +14,12 @@ returns-in-Trapped c =
 pub returns-in-NoFuel : goal.returns-in-NoFuel
 returns-in-NoFuel c = start_wants c.args.graph.now c.args.script.now c.args.state.now c.args.next c.args.running c.in-NoFuel.running c.run.new.store c.run.new.fuel c.requires.at c.in-NoFuel.ensures.gives
 
-pub builtin_of-builtin-requires : goal.builtin_of-builtin-requires
-builtin_of-builtin-requires c =
+pub refuse-requires : goal.refuse-requires
+refuse-requires c =
     call_within c.args.graph.now c.args.script.now c.args.state.now c.args.next c.args.running c.in-Calls.number c.in-Calls.words c.in-Calls.suspended c.run.new.store c.run.new.fuel c.requires.sound c.requires.apart c.requires.at
     c.in-Calls.ensures.gives
 
-pub returns-in_ok-push-in-Calls : goal.returns-in_ok-push-in-Calls
-returns-in_ok-push-in-Calls c =
+pub returns-in_ok-end-in-Calls : goal.returns-in_ok-end-in-Calls
+returns-in_ok-end-in-Calls c =
     start_cannot_leave c.args.graph.now c.args.script.now c.args.state.now c.args.next c.args.running c.in-Calls.number c.in-Calls.words c.in-Calls.suspended c.run.new.store c.run.new.fuel
-    c.builtin_of-builtin.result c.push.new.self c.requires.sound c.requires.apart c.requires.at c.in-Calls.ensures.gives c.builtin_of-builtin.ensures c.in_ok-push-in-Calls.ensures.ok
+    c.refuse.new.labels c.in_ok-end-in-Calls.end c.requires.sound c.requires.apart c.requires.at c.in-Calls.ensures.gives c.in_ok-end-in-Calls.ensures

@@ -1,5 +1,5 @@
 use Rattle.std.proofs.Common.{arith, get_or, refl}
-use Rattle.world.proofs.Arguments.{same_typed, typed_step, typed_end}
+use Rattle.world.proofs.TypedArguments.{same_typed, typed_step, typed_end}
 use Rattle.world.proofs.taking.typed_values.Goals as goal
 
 pub loop-at-preserved : goal.loop-at-preserved

@@ -1,0 +1,39 @@
+use Rattle.std.proofs.Common.{◌∙◌, ap, subst, Err}
+use Rattle.ca_base.specs.declared.memory.MemoryOr.{MemoryOr}
+use Rattle.value_lift.specs.declared.trap.LiftTrap.{LiftTrap}
+use Rattle.canonical_machine.specs.Traps.{lift_name}
+use Rattle.canonical_machine.specs.World.{Task}
+use Rattle.world.specs.Seen.{IsCalled, waiters}
+use Rattle.world.specs.Passed.{IsPassedBy}
+use Rattle.builtins.proofs.Entries.{entry_passes, entry_holds_none, entry_options, entry_fits, enters_with, entry_fails}
+use Rattle.builtins.proofs.entering.enter.Goals as goal
+
+pub arguments-requires-clause-handles : goal.arguments-requires-clause-handles
+arguments-requires-clause-handles c = (entry_holds_none c.args.graph.now c.args.script.now c.args.run.now c.args.task c.called_func-func.result c.requires.sound c.requires.apart c.requires.at c.called_func-func.ensures c.requires.plain).handles
+
+pub arguments-requires-clause-ends : goal.arguments-requires-clause-ends
+arguments-requires-clause-ends c = (entry_holds_none c.args.graph.now c.args.script.now c.args.run.now c.args.task c.called_func-func.result c.requires.sound c.requires.apart c.requires.at c.called_func-func.ensures c.requires.plain).ends
+
+pub arguments-requires-clause-passed : goal.arguments-requires-clause-passed
+arguments-requires-clause-passed c = entry_passes c.args.graph.now c.args.script.now c.args.run.now c.args.task c.called_func-func.result c.requires.sound c.requires.apart c.requires.at c.called_func-func.ensures
+
+pub pass-requires-clause-handles : goal.pass-requires-clause-handles
+pass-requires-clause-handles c = (entry_holds_none c.args.graph.now c.args.script.now c.args.run.now c.args.task c.called_func-func.result c.requires.sound c.requires.apart c.requires.at c.called_func-func.ensures c.requires.plain).handles
+
+pub pass-requires-clause-ends : goal.pass-requires-clause-ends
+pass-requires-clause-ends c = (entry_holds_none c.args.graph.now c.args.script.now c.args.run.now c.args.task c.called_func-func.result c.requires.sound c.requires.apart c.requires.at c.called_func-func.ensures c.requires.plain).ends
+
+pub pass-requires-clause-fits : goal.pass-requires-clause-fits
+pass-requires-clause-fits c = entry_fits c.args.graph.now c.args.script.now c.args.run.now c.args.task c.called_func-func.result c.requires.sound c.requires.apart c.requires.at c.called_func-func.ensures c.in-Ok.value c.in-Ok.ensures
+
+pub pass-requires-clause-options : goal.pass-requires-clause-options
+pass-requires-clause-options c = entry_options c.args.graph.now c.args.script.now c.args.run.now c.args.task c.called_func-func.result c.requires.sound c.requires.apart c.requires.at c.called_func-func.ensures
+
+pub pass-requires-clause-at : goal.pass-requires-clause-at
+pass-requires-clause-at c = enters_with c.args.graph.now c.args.script.now c.args.run.now c.args.task c.called_func-func.result c.requires.sound c.requires.apart c.requires.at c.called_func-func.ensures c.in-Ok.value c.push.new.self c.in-Ok.ensures c.in_ok-push.ensures.ok
+
+pub returns-in-Err-Fault-clause-enters : goal.returns-in-Err-Fault-clause-enters
+returns-in-Err-Fault-clause-enters c =
+    entry_fails c.args.graph.now c.args.script.now c.args.run.now c.args.task c.called_func-func.result c.requires.sound c.requires.apart c.requires.at c.called_func-func.ensures c.in-Err-Fault.trap c.lift_name.result c.push.new.self
+    (subst (λ (e : MemoryOr LiftTrap). (x : Task) → IsCalled c.args.graph.now c.args.script.now c.args.run.now.taken (waiters c.args.run.now) x → IsPassedBy c.args.graph.now c.args.run.now.store x.caller (Err e)) c.in-Err-Fault.field-0-is c.in-Err-Fault.ensures)
+    c.in_ok-push.ensures.ok (c.lift_name.ensures ∙ ap (λ (trap : LiftTrap). lift_name trap.why) c.in-Err-Fault.trap-is)

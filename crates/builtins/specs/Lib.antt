@@ -1,0 +1,4 @@
+pub mod Rooms
+pub mod Lowering
+pub mod Reentering
+pub mod Ran

@@ -1,0 +1,100 @@
+//! Tasks that return and exit, and control that goes back to the tasks that called them.
+
+ghost use Rattle.std.specs.Prelude.{ℕ, List, IfOk};
+ghost use Rattle.canonical_machine.specs.Sound.{IsSound};
+ghost use Rattle.canonical_machine.specs.Owners.{IsApart};
+ghost use Rattle.canonical_machine.specs.Plain.{IsPlain};
+ghost use Rattle.world.specs.Points.{IsAtExit, IsAtBack, HasExited};
+ghost use Rattle.world.specs.Seen.{IsAtReturn, IsAtStack};
+ghost use Rattle.world.specs.Onward.{Spends, GoesBack, LeavesAt, Left};
+
+use crate::returning::resolve;
+use ca_base::Memory;
+use script_reader::Script;
+use std::alloc::Global;
+use trace_show::Label;
+use wasm_execution::{Running, Words};
+use world::{Leaving, NamedGraph, RunState, Waiter};
+
+/// The acting task, whose core function has ended with these words, returns its result and exits. It answers where control goes, or how
+/// the run ends. It fails for want of memory alone.
+pub(crate) fn finish(
+    alloc: Global,
+    graph: &NamedGraph,
+    script: &Script,
+    run: &mut RunState,
+    task: u32,
+    ended: Words,
+) -> Result<Leaving, Memory>
+    requires sound { IsSound graph.now script.now }
+    requires apart { IsApart graph.now }
+    requires plain { IsPlain graph.now }
+    requires at { IsAtReturn graph.now script.now run.old task ended }
+    ensures leaves { IfOk result (λ left. LeavesAt graph.now script.now run.new left) }
+    ensures left { IfOk result (λ left. Left run.old run.new left) }
+{
+    match resolve(alloc, graph, script, run, task, ended)? {
+        Ok(words) => {
+            if exit(graph, script, run, task)? {
+                Ok(Leaving::Back(words))
+            } else {
+                Ok(Leaving::Free)
+            }
+        }
+        Err(end) => Ok(Leaving::Ends(end)),
+    }
+}
+
+/// The acting task exits, which has resolved. It answers whether a task waits for it, to which control goes back. It fails for want of
+/// memory alone.
+pub(crate) fn exit(
+    graph: &NamedGraph,
+    script: &Script,
+    run: &mut RunState,
+    task: u32,
+) -> Result<bool, Memory>
+    requires sound { IsSound graph.now script.now }
+    requires apart { IsApart graph.now }
+    ensures exits { IfOk result (λ waits. (words : List ℕ) → IsAtExit graph.now script.now run.old task words → HasExited graph.now script.now run.new words waits) }
+    ensures spends { IfOk result (λ waits. Spends run.old run.new) }
+{
+    run.labels.push(Label::Exit { task })?;
+    if run.waiting.is_empty() {
+        Ok(false)
+    } else {
+        Ok(true)
+    }
+}
+
+/// Control goes back to the innermost task that waits, which goes on with these words: its number, and its stack. It fails for want of
+/// memory alone.
+pub(crate) fn go_back(
+    graph: &NamedGraph,
+    script: &Script,
+    run: &mut RunState,
+    words: Words,
+) -> Result<(u32, Running), Memory>
+    requires sound { IsSound graph.now script.now }
+    requires apart { IsApart graph.now }
+    requires back { IsAtBack graph.now script.now run.old words }
+    ensures at { IfOk result (λ next. IsAtStack graph.now script.now run.new next.0 next.1) }
+    ensures fewer { IfOk result (λ next. GoesBack run.old run.new words next.1) }
+{
+    let Some(waiter) = run.waiting.pop() else {
+        unreachable!()
+    };
+    let Waiter {
+        task,
+        stack,
+        canon: _,
+        words: _,
+    } = waiter;
+    let running = stack.resume(words.as_slice());
+    match run.labels.push(Label::Got { task, words }) {
+        Ok(()) => Ok((task, running)),
+        Err(_) => {
+            running.give_up();
+            Err(Memory)
+        }
+    }
+}

@@ -1,5 +1,0 @@
-use Rattle.world.proofs.Places.{last_is}
-use Rattle.world.proofs.passing.last_word.Goals as goal
-
-pub returns : goal.returns
-returns c = last_is c.args.words.now c.requires
