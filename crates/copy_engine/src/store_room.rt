@@ -1,7 +1,8 @@
 //! Rooms over a store.
 
-ghost use Rattle.std.specs.Prelude.{◌≡◌};
-ghost use Rattle.copy_engine.specs.Rooms.{state_of};
+ghost use Rattle.std.specs.Prelude.{◌≡◌, None};
+ghost use Rattle.core_machine.specs.Instantiation.{empty};
+ghost use Rattle.copy_engine.specs.Rooms.{Same, state_of};
 
 use crate::memories::{put_in, size_in};
 use crate::nested::{HostCall, NestedTrap, realloc_in, run_realloc};
@@ -68,9 +69,12 @@ impl<'a> StoreRoom<'a> {
         }
     }
 
-    /// Takes out what the room works on. What it lends has an empty store then. So its caller knows it where only an answer tells it.
+    /// Takes out what the room works on, so that its caller knows it where only an answer tells it. What the room lends is left with
+    /// an empty store, with the fuel that is left, and with no call that is kept. The options stay as they are.
     pub fn take_out(&mut self, alloc: Global) -> Taken
-        ensures { record { store = result.store; units = result.fuel; call = result.call } ≡ state_of self.old }
+        ensures taken { record { store = result.store; units = result.fuel; call = result.call } ≡ state_of self.old }
+        ensures left { state_of self.new ≡ record { store = empty; units = self.old.fuel.now; call = None } }
+        ensures same { Same self.old self.new }
     {
         Taken {
             store: mem::replace(self.store, Store::new(alloc)),
