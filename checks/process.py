@@ -25,6 +25,8 @@ MIB = 1024 * 1024
 SPACE = 256 * MIB
 ADD = Path(__file__).resolve().parent.parent / "crates" / "wcm" / "data" / "add.wasm"
 SUM = "take 1 T1 add (2, 3)\nenter T1\nreturn T1 (5)\nexit T1\ndone\n"
+# The words of a run whose dump is asked for.
+DUMPING = ("run", "file.wasm", "script.txt", "--dump")
 # How many calls the script has whose run wants more and more memory.
 CALLS = 20_000
 # A `write` that takes one byte a call, in place of the system's.
@@ -149,6 +151,12 @@ def trapping(between):
     return calling(between, b"\x00\x0b")
 
 
+def memories(*pages):
+    """A component with an instance of a core module for each of these numbers of pages, which has a memory of so many."""
+    modules = [formats.section(1, formats.MODULE + formats.section(5, formats.vec([b"\x00" + number]))) for number in pages]
+    return formats.component(*modules, *(formats.instance(index) for index in range(len(pages))))
+
+
 def looping():
     """One whose function loops for ever."""
     return calling(b"", b"\x03\x40\x0c\x00\x0b\x0b")
@@ -164,6 +172,12 @@ def statuses(add):
         Case("a trap", 1, out="take 1 T1 f ()\nenter T1\ntrap T1 Unreachable\n", component=trapping(b""), script=b"call f ()\n"),
         Case("a trap in a start function", 1, out="trap T0 Unreachable\n", component=trapping(formats.section(8, formats.u32(0))), script=b"call f ()\n"),
         Case("no fuel in a loop", 6, out="take 1 T1 f ()\nenter T1\nfuel\n", component=looping(), script=b"call f ()\n"),
+        Case("a dump", 0, out=SUM + "instance I1\n", component=add, words=DUMPING),
+        Case("a dump behind a trap", 1, out="take 1 T1 f ()\nenter T1\ntrap T1 Unreachable\ninstance I1\n", component=trapping(b""), script=b"call f ()\n", words=DUMPING),
+        Case("a dump of memories of no bytes and of zeros", 0, out="done\ninstance I1\nmemory M1 0\nmemory M2 1024\n", component=memories(b"\x00", b"\x80\x08"), script=b"", words=DUMPING),
+        Case("a dump where the output is full", 8, component=add, words=DUMPING, out_to="/dev/full"),
+        Case("a dump that is asked for twice", 2, component=add, words=DUMPING + ("--dump",)),
+        Case("a dump of a component that is checked", 2, component=add, words=("check", "file.wasm", "--dump")),
         Case("no words", 2, component=add, words=()),
         Case("no script's name", 2, component=add, words=("run", "file.wasm")),
         Case("a name that begins with a minus", 2, component=add, words=("run", "-f", "script.txt")),

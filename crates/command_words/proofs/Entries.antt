@@ -1,4 +1,4 @@
--- Names in entries, as clap's getters give them.
+-- Texts in entries, as clap's getters give them.
 use Rattle.std.proofs.Common.{◌≡◌, ◌∙◌, ℕ, List, [], Option, Some, None, option_map, ap, refl, subst}
 use Rattle.std.specs.Prelude.{unwrap_or}
 use Rattle.std.specs.Borrow.{Bor}
@@ -7,11 +7,11 @@ use Rattle.clap.specs.declared.parser.matches.ArgMatches.{ArgMatches}
 use Rattle.clap.proofs.WalkLemmas.{first_value-rows}
 use Rattle.std.specs.Option.{IsSome, MatchOption}
 use Rattle.command_words.specs.declared.words.Command as of_source
-use Rattle.command_words.specs.Words.{Command, name_in, said}
+use Rattle.command_words.specs.Words.{Command, text_in, said}
 
-pub name_of : (r : Option (Bor (List ℕ))) (d : Bor (List ℕ)) (m : ArgMatches) (id : List ℕ) → d.now ≡ [] → option_map (λ s. s.now) r ≡ first_value (found_of m) id → (unwrap_or r d).now ≡ name_in id (rows_of (found_of m))
-name_of None d m id e h = e ∙ ap (λ (o : Option (List ℕ)). unwrap_or o []) (h ∙ first_value-rows (found_of m) id)
-name_of (Some x) d m id e h = ap (λ (o : Option (List ℕ)). unwrap_or o []) (h ∙ first_value-rows (found_of m) id)
+pub text_of : (r : Option (Bor (List ℕ))) (d : Bor (List ℕ)) (m : ArgMatches) (id : List ℕ) → d.now ≡ [] → option_map (λ s. s.now) r ≡ first_value (found_of m) id → (unwrap_or r d).now ≡ text_in id (rows_of (found_of m))
+text_of None d m id e h = e ∙ ap (λ (o : Option (List ℕ)). unwrap_or o []) (h ∙ first_value-rows (found_of m) id)
+text_of (Some x) d m id e h = ap (λ (o : Option (List ℕ)). unwrap_or o []) (h ∙ first_value-rows (found_of m) id)
 
 -- the program's own command, where the entries lead to one
 pub is_found : (r : Option of_source.Command) (o : Option Command) → MatchOption r (o ≡ None) (λ c. o ≡ Some (said c)) → IsSome o → IsSome r

@@ -69,7 +69,7 @@ unfolding is_taken
 has_taken words e = has_command words e
 
 -- their command
-command_is : (words : List Text) → is_taken words ≡ true → command_of words ≡ command_of_rows (subcommand_of program_app words)
+pub command_is : (words : List Text) → is_taken words ≡ true → command_of words ≡ command_of_rows (subcommand_of program_app words)
 unfolding command_of
 command_is words e = rw e refl
 

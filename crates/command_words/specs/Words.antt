@@ -1,10 +1,11 @@
--- The words of the command line: `run FILE SCRIPT`, `check FILE` or `show FILE` behind the program's name. Which words are
--- read, and as what, is said by what `clap` defines of its commands (`specs/Takes` and `specs/Simple` of clap), for the
--- command below.
+-- The words of the command line: `run FILE SCRIPT`, which `--dump` may stand behind or among, `check FILE` or `show FILE`, behind
+-- the program's name. Which words are read, and as what, is said by what `clap` defines of its commands (`specs/Takes` and
+-- `specs/Simple` of clap), for the command below.
 use Rattle.std.specs.Prelude.{◌≡◌, ℕ, Bool, true, false, not, ◌&&◌, ◌==◌, List, [], ◌∷◌, Option, Some, None, if◌then◌else◌, codes, unwrap_or, option_and_then}
 use Rattle.std.specs.Str.{bytes_eq}
 use Rattle.clap.specs.Words.{App, Row, Rule, app_of, first_of, new_app, new_rule, subcommand_of, takes, with_rule, with_subcommand}
 use Rattle.clap.specs.Simple.{on_top}
+use Rattle.clap.specs.declared.builder.action.ArgAction.TheVariants.{SetTrue}
 use Rattle.clap.specs.declared.builder.command.Command as clap
 use Rattle.clap.specs.declared.builder.command.Command.TheViews.{out-Command}
 use Rattle.command_words.specs.declared.words.Command as of_source
@@ -12,8 +13,8 @@ use Rattle.command_words.specs.declared.words.Command.TheVariants as source
 
 -- what the program is told to do
 pub data Command : Type 0 where
-  -- run the component of the first file under the script of the second
-  Run : List ℕ → List ℕ → Command
+  -- run the component of the first file under the script of the second, and tell what the run leaves where that is asked for
+  Run : List ℕ → List ℕ → Bool → Command
   -- read and link the component of a file
   Check : List ℕ → Command
   -- read and link the component of a file, and tell what can be called
@@ -21,13 +22,13 @@ pub data Command : Type 0 where
 
 -- the command of the program's own type, with the names that it borrows
 abbrev pub said : of_source.Command → Command
-said (source.Run file script) = Run file.now script.now
+said (source.Run file script dump) = Run file.now script.now dump
 said (source.Check file) = Check file.now
 said (source.Show file) = Show file.now
 
 -- the component file that a command names
 abbrev pub component_file : Command → List ℕ
-component_file (Run file script) = file
+component_file (Run file script dump) = file
 component_file (Check file) = file
 component_file (Show file) = file
 
@@ -35,13 +36,17 @@ component_file (Show file) = file
 abbrev pub file_rule : List ℕ → Rule
 file_rule id = record (new_rule id) { required = true }
 
+-- the option `--dump`, which has no value and may stand once
+abbrev pub dump_rule : Rule
+dump_rule = record (new_rule (codes "dump")) { long = Some (codes "dump"); action = Some SetTrue }
+
 -- a subcommand of this name over a component file
 abbrev pub file_app : List ℕ → App
 file_app name = with_rule (new_app name) (file_rule (codes "FILE"))
 
 -- the subcommands
 abbrev pub run_app : App
-run_app = with_rule (file_app (codes "run")) (file_rule (codes "SCRIPT"))
+run_app = with_rule (with_rule (file_app (codes "run")) (file_rule (codes "SCRIPT"))) dump_rule
 
 -- the program alone: it wants a subcommand, and `help` is none
 abbrev pub bare_app : App
@@ -55,16 +60,24 @@ program_app = with_subcommand (with_subcommand (with_subcommand bare_app run_app
 abbrev pub IsOf : App → clap.Command → Type 0
 IsOf a c = (app_of c ≡ a) × ((out-Command c).has_globals ≡ false)
 
--- the name of a file in an entry, and the empty one where there is none
-abbrev pub name_in : List ℕ → List Row → List ℕ
-name_in id rows = unwrap_or (first_of id rows) []
+-- the text of an entry, and the empty one where there is none
+abbrev pub text_in : List ℕ → List Row → List ℕ
+text_in id rows = unwrap_or (first_of id rows) []
+
+-- an option without a value is given
+abbrev pub is_given : List ℕ → List Row → Bool
+is_given id rows = bytes_eq (text_in id rows) (codes "true")
+
+-- the command `run` of its entries
+abbrev pub run_by : List Row → Command
+run_by rows = Run (text_in (codes "FILE") rows) (text_in (codes "SCRIPT") rows) (is_given (codes "dump") rows)
 
 -- the command of a subcommand's name and its entries
 abbrev pub command_by : List ℕ → List Row → Option Command
 command_by name rows =
-    if bytes_eq name (codes "run") then Some (Run (name_in (codes "FILE") rows) (name_in (codes "SCRIPT") rows))
-    else (if bytes_eq name (codes "check") then Some (Check (name_in (codes "FILE") rows))
-    else (if bytes_eq name (codes "show") then Some (Show (name_in (codes "FILE") rows)) else None))
+    if bytes_eq name (codes "run") then Some (run_by rows)
+    else (if bytes_eq name (codes "check") then Some (Check (text_in (codes "FILE") rows))
+    else (if bytes_eq name (codes "show") then Some (Show (text_in (codes "FILE") rows)) else None))
 
 abbrev pub command_of_rows : Option (List ℕ × List Row) → Option Command
 command_of_rows = option_and_then (λ p. command_by p.0 p.1)
@@ -82,12 +95,18 @@ abbrev pub is_plain_name : List ℕ → Bool
 is_plain_name [] = false
 is_plain_name (first ∷ more) = not (first == 45)
 
--- the command that plain words name
+-- the command `run` over two plain names
+abbrev pub plain_run : List ℕ → List ℕ → List ℕ → Bool → Option Command
+plain_run command file script dump =
+    if bytes_eq command (codes "run") && is_plain_name file && is_plain_name script then Some (Run file script dump) else None
+
+-- the command that plain words name: `--dump` stands last
 abbrev pub plain_command : List (List ℕ) → Option Command
 plain_command (name ∷ command ∷ file ∷ []) =
     if is_plain_name file then
     (if bytes_eq command (codes "check") then Some (Check file) else (if bytes_eq command (codes "show") then Some (Show file) else None))
     else None
-plain_command (name ∷ command ∷ file ∷ script ∷ []) =
-    if bytes_eq command (codes "run") && is_plain_name file && is_plain_name script then Some (Run file script) else None
+plain_command (name ∷ command ∷ file ∷ script ∷ []) = plain_run command file script false
+plain_command (name ∷ command ∷ file ∷ script ∷ option ∷ []) =
+    if bytes_eq option (codes "--dump") then plain_run command file script true else None
 plain_command words = None

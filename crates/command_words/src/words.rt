@@ -3,11 +3,11 @@
 ghost use Rattle.std.specs.Prelude.{◌≡◌, true, false, None, Some, IfOk, IfErr, MatchOption, map, string_bytes};
 ghost use Rattle.ca_base.specs.Faults.{IfFault};
 ghost use Rattle.clap.specs.Words.{app_of, found_of, rows_of, rule_of, subcommand_rows_of};
-ghost use Rattle.command_words.specs.Words.{IsOf, bare_app, command_of, command_of_rows, component_file, file_app, file_rule, is_taken, name_in, program_app, run_app, said};
+ghost use Rattle.command_words.specs.Words.{IsOf, bare_app, command_of, command_of_rows, component_file, dump_rule, file_app, file_rule, is_given, is_taken, text_in, program_app, run_app, said};
 
 use ca_base::{Bytes, MemoryOr, Seq};
 use clap::error::ErrorKind;
-use clap::{Arg, ArgMatches};
+use clap::{Arg, ArgAction, ArgMatches};
 use std::alloc::{AllocError, Global};
 
 /// What the program is told to do.
@@ -19,6 +19,8 @@ pub enum Command<'a> {
         file: &'a str,
         /// The script file's name.
         script: &'a str,
+        /// Whether what the run leaves is to be told behind its trace.
+        dump: bool,
     },
     /// Read and link the component of a file.
     Check {
@@ -64,12 +66,24 @@ fn subcommand<'a>(
         .arg(file_arg(alloc, "FILE", "The component file"))
 }
 
+/// The option `--dump`.
+fn dump_arg<'a>(alloc: Global) -> Arg<'a>
+    ensures rule { rule_of result ≡ dump_rule }
+    ensures global { result.global ≡ false }
+{
+    Arg::new(alloc, "dump")
+        .long("dump")
+        .help("Write the instances and memories at the end of the run")
+        .action(ArgAction::SetTrue)
+}
+
 /// The subcommand `run`.
 fn run_subcommand<'a>(alloc: Global) -> Result<clap::Command<'a>, AllocError>
     ensures { IfOk result (IsOf run_app) }
 {
     let run = subcommand(alloc, "run", "Run a component under a script")?;
-    run.arg(file_arg(alloc, "SCRIPT", "The script file"))
+    run.arg(file_arg(alloc, "SCRIPT", "The script file"))?
+        .arg(dump_arg(alloc))
 }
 
 /// The program without its subcommands.
@@ -95,11 +109,18 @@ fn program<'a>(alloc: Global) -> Result<clap::Command<'a>, AllocError>
         .subcommand(show)
 }
 
-/// The name of a file that an entry has.
-fn name_in<'a>(matches: &ArgMatches<'a>, id: &str) -> &'a str
-    ensures { result.now ≡ name_in id.now (rows_of (found_of matches.now)) }
+/// The text that an entry has, and the empty one where there is none.
+fn text_in<'a>(matches: &ArgMatches<'a>, id: &str) -> &'a str
+    ensures { result.now ≡ text_in id.now (rows_of (found_of matches.now)) }
 {
     matches.get_str(id).unwrap_or("")
+}
+
+/// Whether an option without a value is given.
+fn is_given(matches: &ArgMatches<'_>, id: &str) -> bool
+    ensures { result ≡ is_given id.now (rows_of (found_of matches.now)) }
+{
+    text_in(matches, id) == "true"
 }
 
 /// The command of matches, if they have a subcommand of the program.
@@ -109,14 +130,15 @@ fn command_in<'a>(matches: &ArgMatches<'a>) -> Option<Command<'a>>
     let (name, entries) = matches.subcommand()?;
     match name {
         "run" => Some(Command::Run {
-            file: name_in(entries, "FILE"),
-            script: name_in(entries, "SCRIPT"),
+            file: text_in(entries, "FILE"),
+            script: text_in(entries, "SCRIPT"),
+            dump: is_given(entries, "dump"),
         }),
         "check" => Some(Command::Check {
-            file: name_in(entries, "FILE"),
+            file: text_in(entries, "FILE"),
         }),
         "show" => Some(Command::Show {
-            file: name_in(entries, "FILE"),
+            file: text_in(entries, "FILE"),
         }),
         _ => None,
     }

@@ -1,5 +1,5 @@
 -- Words whose files are told, of bytes, have exactly one outcome.
-use Rattle.std.proofs.Common.{◌≡◌, ◌⊎◌, ℕ, List, [], length, Option, Some, None, Result, Ok, Err, inl, inr, refl}
+use Rattle.std.proofs.Common.{◌≡◌, ◌⊎◌, ℕ, Bool, List, [], length, Option, Some, None, Result, Ok, Err, inl, inr, refl}
 use Rattle.std.specs.Option.{IfSome, IsSome, MatchOption}
 use Rattle.std.proofs.lemmas.Bool.{cases_lt}
 use Rattle.comp_tree.specs.declared.items.Component.{Component}
@@ -22,19 +22,19 @@ use Rattle.wcm.proofs.Rows.{usage_answer}
 use Rattle.wcm.proofs.Rows as only
 
 module _ (reading : OneReading) (links : LinkedOrRefused) (sound : ScriptsAreSound) (apart : LinkedGraphsAreApart) (ends : EachRunEnds) where
-  by_script : (bytes text : List ℕ) (c : Component) (g : Graph) (r : Result Script ScriptFault) → AreBytes bytes → IsComponent bytes c → IsLinked Whole c g → script g.exports text ≡ r → (a : Answer) × ScriptAnswers g text a
-  by_script bytes text c g (Err fault) b i l h = (script_refused_answer fault, inl (fault, h, refl))
-  by_script bytes text c g (Ok s) b i l h =
+  by_script : (bytes text : List ℕ) (c : Component) (g : Graph) (dump : Bool) (r : Result Script ScriptFault) → AreBytes bytes → IsComponent bytes c → IsLinked Whole c g → script g.exports text ≡ r → (a : Answer) × ScriptAnswers g text dump a
+  by_script bytes text c g dump (Err fault) b i l h = (script_refused_answer fault, inl (fault, h, refl))
+  by_script bytes text c g dump (Ok s) b i l h =
       let run = ends g s (sound bytes text c g s b i l h) (apart Whole c g l) in
-      (run_answer run.0 run.2, inr (s, h, (run.0, run.1, run.2, run.3, refl)))
+      (run_answer dump run.0 run.1 run.2, inr (s, h, (run.0, run.1, run.2, run.3, refl)))
 
-  by_held_script : (bytes : List ℕ) (c : Component) (g : Graph) (o : Option (List ℕ)) → AreBytes bytes → IsComponent bytes c → IsLinked Whole c g → IsSome o → (a : Answer) × HeldScriptAnswers g o a
-  by_held_script bytes c g None b i l told = cc
-  by_held_script bytes c g (Some text) b i l told = by_script bytes text c g (script g.exports text) b i l refl
+  by_held_script : (bytes : List ℕ) (c : Component) (g : Graph) (o : Option (List ℕ)) (dump : Bool) → AreBytes bytes → IsComponent bytes c → IsLinked Whole c g → IsSome o → (a : Answer) × HeldScriptAnswers g o dump a
+  by_held_script bytes c g None dump b i l told = cc
+  by_held_script bytes c g (Some text) dump b i l told = by_script bytes text c g dump (script g.exports text) b i l refl
 
   -- the answer of a command behind a graph
   by_command : (bytes : List ℕ) (command : Command) (held : List ℕ → Option (List ℕ)) (c : Component) (g : Graph) → AreBytes bytes → IsComponent bytes c → IsLinked Whole c g → IsScriptTold command held → (a : Answer) × GraphAnswers command held g a
-  by_command bytes (Run f s) held c g b i l told = by_held_script bytes c g (held s) b i l told
+  by_command bytes (Run f s dump) held c g b i l told = by_held_script bytes c g (held s) dump b i l told
   by_command bytes (Check f) held c g b i l told = (accepted_answer, refl)
   by_command bytes (Show f) held c g b i l told = (shown_answer g, refl)
 

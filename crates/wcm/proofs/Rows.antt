@@ -1,5 +1,5 @@
 -- What each answer tells of the files: words have one outcome, so its status tells which of the cases the files are.
-use Rattle.std.proofs.Common.{◌≡◌, ◌↔◌, ◌⊎◌, inl, inr, ℕ, true, List, [], refl, ap, sym, ◌∙◌, subst, arith, Option, Some, None, Result, Ok, Err}
+use Rattle.std.proofs.Common.{◌≡◌, ◌↔◌, ◌⊎◌, inl, inr, ℕ, Bool, true, List, [], refl, ap, sym, ◌∙◌, subst, arith, Option, Some, None, Result, Ok, Err}
 use Rattle.std.specs.Option.{IfSome, IsSome, MatchOption}
 use Rattle.ca_base.specs.Span.{Span}
 use Rattle.ca_base.specs.declared.refusal.Refusal.{Refusal}
@@ -16,6 +16,7 @@ use Rattle.wcm.specs.declared.answer.Answer.{Answer}
 use Rattle.wcm.specs.declared.status.Status.{Status}
 use Rattle.wcm.specs.declared.status.Status.TheVariants.{Done, Trap, Usage, Refused, LinkRefused, ScriptRefused, Fuel}
 use Rattle.trace_show.specs.declared.label.Label.{Label}
+use Rattle.canonical_machine.specs.World.{World}
 use Rattle.canonical_machine.specs.declared.run_end.RunEnd.{RunEnd}
 use Rattle.canonical_machine.specs.declared.run_end.RunEnd.TheVariants as ends
 use Rattle.comp_graph.specs.Graph.{Graph}
@@ -84,13 +85,13 @@ script_or_not exports bytes s e h k =
     cc
 
 -- The files have one answer.
-one_of_run : (g : Graph) (s : Script) (a b : Answer) → RunAnswers g s a → RunAnswers g s b → a ≡ b
-one_of_run g s a b h k =
+one_of_run : (g : Graph) (s : Script) (dump : Bool) (a b : Answer) → RunAnswers g s dump a → RunAnswers g s dump b → a ≡ b
+one_of_run g s dump a b h k =
     let same = one_run g s h.0 k.0 h.1 k.1 h.2 k.2 h.3 k.3 in
-    h.4 ∙ (ap (λ (labels : List Label). run_answer labels h.2) same.0 ∙ (ap (λ (end : RunEnd). run_answer k.0 end) same.2 ∙ sym k.4))
+    h.4 ∙ (ap (λ (labels : List Label). run_answer dump labels h.1 h.2) same.0 ∙ (ap (λ (last : World). run_answer dump k.0 last h.2) same.1 ∙ (ap (λ (end : RunEnd). run_answer dump k.0 k.1 end) same.2 ∙ sym k.4)))
 
-one_of_script : (g : Graph) (t : List ℕ) (a b : Answer) → ScriptAnswers g t a → ScriptAnswers g t b → a ≡ b
-one_of_script g t a b h k =
+one_of_script : (g : Graph) (t : List ℕ) (dump : Bool) (a b : Answer) → ScriptAnswers g t dump a → ScriptAnswers g t dump b → a ≡ b
+one_of_script g t dump a b h k =
     elim h [
       | inl bad ↦ elim k [
         | inl worse ↦ bad.2 ∙ (ap (λ (f : ScriptFault). script_refused_answer f) (one_script_fault g.exports t bad.0 worse.0 bad.1 worse.1) ∙ sym worse.2)
@@ -100,17 +101,17 @@ one_of_script g t a b h k =
         | inl bad ↦ absurd (script_or_not g.exports t good.0 bad.0 good.1 bad.1)
         | inr better ↦
             let same : better.0 ≡ good.0 = one_script g.exports t better.0 good.0 better.1 good.1 in
-            one_of_run g good.0 a b good.2 (subst (λ (s : Script). RunAnswers g s b) same better.2)
+            one_of_run g good.0 dump a b good.2 (subst (λ (s : Script). RunAnswers g s dump b) same better.2)
       ]
     ]
 
-one_of_held_script : (g : Graph) (o : Option (List ℕ)) (a b : Answer) → HeldScriptAnswers g o a → HeldScriptAnswers g o b → a ≡ b
-one_of_held_script g None a b h k = absurd h
-one_of_held_script g (Some t) a b h k = one_of_script g t a b h k
+one_of_held_script : (g : Graph) (o : Option (List ℕ)) (dump : Bool) (a b : Answer) → HeldScriptAnswers g o dump a → HeldScriptAnswers g o dump b → a ≡ b
+one_of_held_script g None dump a b h k = absurd h
+one_of_held_script g (Some t) dump a b h k = one_of_script g t dump a b h k
 
 -- what a command answers behind a graph
 one_of_graph : (command : Command) (held : List ℕ → Option (List ℕ)) (g : Graph) (a b : Answer) → GraphAnswers command held g a → GraphAnswers command held g b → a ≡ b
-one_of_graph (Run file script) held g a b h k = one_of_held_script g (held script) a b h k
+one_of_graph (Run file script dump) held g a b h k = one_of_held_script g (held script) dump a b h k
 one_of_graph (Check file) held g a b h k = h ∙ sym k
 one_of_graph (Show file) held g a b h k = h ∙ sym k
 
@@ -173,12 +174,12 @@ decided bytes c g i l d =
     ]
 
 -- what is given behind a graph, where what the command asks for is told
-given_script : (g : Graph) (o : Option (List ℕ)) (a : Answer) → ScriptGives g o a → IsSome o → HeldScriptAnswers g o a
-given_script g None a h i = cc
-given_script g (Some t) a h i = h.1
+given_script : (g : Graph) (o : Option (List ℕ)) (dump : Bool) (a : Answer) → ScriptGives g o dump a → IsSome o → HeldScriptAnswers g o dump a
+given_script g None dump a h i = cc
+given_script g (Some t) dump a h i = h.1
 
 given_graph : (command : Command) (held : List ℕ → Option (List ℕ)) (g : Graph) (a : Answer) → GraphGives command held g a → IsScriptTold command held → GraphAnswers command held g a
-given_graph (Run file script) held g a h i = given_script g (held script) a h i
+given_graph (Run file script dump) held g a h i = given_script g (held script) dump a h i
 given_graph (Check file) held g a h i = h
 given_graph (Show file) held g a h i = h
 
@@ -255,7 +256,7 @@ data CameOfFile (words : List (List ℕ)) (held : List ℕ → Option (List ℕ)
   IsBehind : IsBehindGraph s → (command : Command) (g : Graph) → NamesLinked words held command g → CameOfFile words held s
 
 behind_graph : (command : Command) (held : List ℕ → Option (List ℕ)) (g : Graph) (a : Answer) → GraphGives command held g a → IsBehindGraph a.status
-behind_graph (Run file script) held g a h = h.0
+behind_graph (Run file script dump) held g a h = h.0
 behind_graph (Check file) held g a h = subst (λ (b : Answer). IsBehindGraph b.status) (sym h) tt
 behind_graph (Show file) held g a h = subst (λ (b : Answer). IsBehindGraph b.status) (sym h) tt
 
@@ -303,8 +304,8 @@ data Came (words : List (List ℕ)) (held : List ℕ → Option (List ℕ)) (s :
   OfScript : s ≡ ScriptRefused → NamesScriptRefused words held → Came words held s
   OfRun : (end : RunEnd) → s ≡ status_of end → NamesRun words held end → Came words held s
 
-came_script : (words : List (List ℕ)) (held : List ℕ → Option (List ℕ)) (a : Answer) (g : Graph) (t : List ℕ) → NamesGraph words held g t → ScriptAnswers g t a → Came words held a.status
-came_script words held a g t n h =
+came_script : (words : List (List ℕ)) (held : List ℕ → Option (List ℕ)) (dump : Bool) (a : Answer) (g : Graph) (t : List ℕ) → NamesGraph words held g t → ScriptAnswers g t dump a → Came words held a.status
+came_script words held dump a g t n h =
     elim h [
       | inl bad ↦ OfScript (ap (λ (b : Answer). b.status) bad.2) (record { graph = g; text = t; fault = bad.0; named = n; refused = bad.1 })
       | inr run ↦
@@ -312,13 +313,13 @@ came_script words held a g t n h =
           OfRun r.2 (ap (λ (b : Answer). b.status) r.4) (record { graph = g; text = t; said = run.0; labels = r.0; last = r.1; named = n; read_script = run.1; runs = r.3 })
     ]
 
-came_held_script : (words : List (List ℕ)) (held : List ℕ → Option (List ℕ)) (f s : List ℕ) (g : Graph) (o : Option (List ℕ)) (a : Answer) → NamesLinked words held (Run f s) g → held s ≡ o → HeldScriptAnswers g o a → Came words held a.status
-came_held_script words held f s g None a n k answers = absurd answers
-came_held_script words held f s g (Some t) a n k answers =
-    came_script words held a g t (record { file = f; script = s; named = n; holds_script = k }) answers
+came_held_script : (words : List (List ℕ)) (held : List ℕ → Option (List ℕ)) (f s : List ℕ) (dump : Bool) (g : Graph) (o : Option (List ℕ)) (a : Answer) → NamesLinked words held (Run f s dump) g → held s ≡ o → HeldScriptAnswers g o dump a → Came words held a.status
+came_held_script words held f s dump g None a n k answers = absurd answers
+came_held_script words held f s dump g (Some t) a n k answers =
+    came_script words held dump a g t (record { file = f; script = s; dump = dump; named = n; holds_script = k }) answers
 
 came_graph : (words : List (List ℕ)) (held : List ℕ → Option (List ℕ)) (command : Command) (g : Graph) (a : Answer) → NamesLinked words held command g → GraphAnswers command held g a → Came words held a.status
-came_graph words held (Run f s) g a n answers = came_held_script words held f s g (held s) a n refl answers
+came_graph words held (Run f s dump) g a n answers = came_held_script words held f s dump g (held s) a n refl answers
 came_graph words held (Check f) g a n answers = OfGraph (ap (λ (b : Answer). b.status) answers) (record { command = Check f; graph = g; named = n; asks = refl })
 came_graph words held (Show f) g a n answers = OfGraph (ap (λ (b : Answer). b.status) answers) (record { command = Show f; graph = g; named = n; asks = refl })
 
@@ -395,9 +396,9 @@ linked_answer : (words : List (List ℕ)) (held : List ℕ → Option (List ℕ)
 linked_answer words held command g a b n h outcome = one_answer words held command b a n.words_name (linked_outcome words held command g b n h) outcome
 
 -- the answer of words that name a graph and a script file
-script_answer : (words : List (List ℕ)) (held : List ℕ → Option (List ℕ)) (g : Graph) (t : List ℕ) (a b : Answer) → NamesGraph words held g t → ScriptAnswers g t b → Outcome words held a → a ≡ b
+script_answer : (words : List (List ℕ)) (held : List ℕ → Option (List ℕ)) (g : Graph) (t : List ℕ) (a b : Answer) (n : NamesGraph words held g t) → ScriptAnswers g t n.dump b → Outcome words held a → a ≡ b
 script_answer words held g t a b n h outcome =
-    linked_answer words held (Run n.file n.script) g a b n.named (subst (λ (o : Option (List ℕ)). HeldScriptAnswers g o b) (sym n.holds_script) h) outcome
+    linked_answer words held (Run n.file n.script n.dump) g a b n.named (subst (λ (o : Option (List ℕ)). HeldScriptAnswers g o n.dump b) (sym n.holds_script) h) outcome
 
 pub row_script_refused : (words : List (List ℕ)) (held : List ℕ → Option (List ℕ)) (command : Command) (a : Answer) → command_of words ≡ Some command → Outcome words held a → (a.status ≡ ScriptRefused) ↔ NamesScriptRefused words held
 row_script_refused words held command a e h =
@@ -406,11 +407,11 @@ row_script_refused words held command a e h =
 -- the status of a run
 run_status : (words : List (List ℕ)) (held : List ℕ → Option (List ℕ)) (a : Answer) (end : RunEnd) → Outcome words held a → NamesRun words held end → a.status ≡ status_of end
 run_status words held a end h n =
-    ap (λ (b : Answer). b.status) (script_answer words held n.graph n.text a (run_answer n.labels end) n.named (inr (n.said, n.read_script, (n.labels, n.last, end, n.runs, refl))) h)
+    ap (λ (b : Answer). b.status) (script_answer words held n.graph n.text a (run_answer n.named.dump n.labels n.last end) n.named (inr (n.said, n.read_script, (n.labels, n.last, end, n.runs, refl))) h)
 
 -- the status of a graph that is checked or shown
 graph_status : (words : List (List ℕ)) (held : List ℕ → Option (List ℕ)) (a : Answer) (command : Command) (g : Graph) → Outcome words held a → NamesLinked words held command g → asks_of_graph command ≡ true → a.status ≡ Done
-graph_status words held a (Run f s) g h n asks = cc
+graph_status words held a (Run f s dump) g h n asks = cc
 graph_status words held a (Check f) g h n asks = ap (λ (b : Answer). b.status) (linked_answer words held (Check f) g a accepted_answer n refl h)
 graph_status words held a (Show f) g h n asks = ap (λ (b : Answer). b.status) (linked_answer words held (Show f) g a (shown_answer g) n refl h)
 

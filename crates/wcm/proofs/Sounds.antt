@@ -1,6 +1,6 @@
 -- The graph of a component that is read and linked is apart and passes no handle and no end, and what is read as a script for it is sound.
-use Rattle.std.proofs.Common.{◌≡◌, List, Result, Ok, sym, subst}
-use Rattle.std.specs.Prelude.{IfOk}
+use Rattle.std.proofs.Common.{◌≡◌, Bool, if◌then◌else◌, List, [], ◌++◌, map, Result, Ok, sym, subst}
+use Rattle.std.specs.Prelude.{IfOk, replicate}
 use Rattle.std.specs.List.{AllByRecursion}
 use Rattle.ca_types.specs.declared.exports.Export.{Export}
 use Rattle.comp_graph.specs.Graph.{Graph}
@@ -14,15 +14,18 @@ use Rattle.canonical_machine.specs.Plain.{IsPlain}
 use Rattle.canonical_machine.specs.declared.run_end.RunEnd.{RunEnd}
 use Rattle.canonical_machine.specs.declared.run_end.RunEnd.TheVariants as ends
 use Rattle.canonical_machine.specs.World.{World}
-use Rattle.canonical_machine.specs.Run.{Runs}
+use Rattle.canonical_machine.specs.Run.{Runs, trace_of}
 use Rattle.canonical_machine.specs.Over.{NoDeadlock}
 use Rattle.trace_show.specs.declared.label.Label.{Label}
+use Rattle.trace_show.specs.LabelText.{trace_text}
+use Rattle.trace_show.specs.DumpText.{dump_text}
 use Rattle.builtins.specs.declared.script_run.Run.{Run}
 use Rattle.builtins.specs.Ran.{IsRunOf}
 use Rattle.wcm.specs.declared.status.Status.{Status}
 use Rattle.wcm.specs.Status.{status_of, IsBehindGraph}
 use Rattle.linked_graphs.specs.Laws.{LinkedGraphsAreApart, ReadGraphsAreSound, ReadTypesAreCounted, CountedGraphsArePlain, CallsAreSound}
-use Rattle.wcm.specs.Outcome.{IsOfComponent}
+use Rattle.wcm.specs.declared.answer.Answer.{Answer}
+use Rattle.wcm.specs.Outcome.{IsOfComponent, RunAnswers}
 use Rattle.wcm.specs.Laws.{ScriptsAreSound}
 
 pub scripts_are_sound : ReadGraphsAreSound → ReadTypesAreCounted → ScriptsCallExports → CallsAreSound → ScriptsAreSound
@@ -52,6 +55,16 @@ given_end none g s labels last ends.Done r = tt
 given_end none g s labels last (ends.Trapped task why) r = tt
 given_end none g s labels last (ends.Deadlock tasks) r = absurd (none g s r.0 last tasks r.1 r.2)
 given_end none g s labels last ends.Fuel r = tt
+
+-- The answer that is made of what a run gives is that of the run.
+pub run_answers : (g : Graph) (s : Script) (dump : Bool) (run : Run) (a : Answer) → IsRunOf g s run
+    → a ≡ record {
+      status = status_of run.end;
+      out = trace_text (trace_of run.labels run.end) ++ (if dump then dump_text (replicate run.instances []) (map (λ m. m.bytes) run.store.memories) else []);
+      err = [];
+    }
+    → RunAnswers g s dump a
+run_answers g s dump run a ran e = (run.labels, ran.last, run.end, ran.runs, rw (ran.instances, ran.store) e)
 
 pub given_status : NoDeadlock → (g : Graph) (s : Script) (run : Run) (status : Status) → IsRunOf g s run → status ≡ status_of run.end → IsBehindGraph status
 given_status none g s run status ran e = subst IsBehindGraph (sym e) (given_end none g s run.labels ran.last run.end ran.runs)

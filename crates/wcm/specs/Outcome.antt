@@ -1,8 +1,9 @@
 -- The outcome of a call of the program, from its words and the files that are held. The words lead to a command, and each
 -- command has its own case: for all of them the component file and its linking decide it first, in this order, and each links over
 -- all that is read; behind a graph `check` and `show` tell of it, and for `run` the script file and the run decide. The script is
--- asked for behind a linked graph alone.
-use Rattle.std.specs.Prelude.{◌≡◌, ◌<◌, ◌≤◌, ◌⊎◌, ℕ, Bool, true, false, List, [], length, Option, Some, IsSome}
+-- asked for behind a linked graph alone. What a run has for the output is the text of its trace, and behind it the text of what its
+-- last world leaves, where that is asked for.
+use Rattle.std.specs.Prelude.{◌≡◌, ◌<◌, ◌≤◌, ◌⊎◌, ℕ, Bool, true, false, if◌then◌else◌, List, [], ◌++◌, length, Option, Some, IsSome}
 use Rattle.std.specs.Option.{MatchOption}
 use Rattle.ca_base.specs.declared.refusal.Refusal.{Refusal}
 use Rattle.comp_tree.specs.declared.items.Component.{Component}
@@ -20,6 +21,7 @@ use Rattle.canonical_machine.specs.declared.run_end.RunEnd.TheVariants.{Trapped}
 use Rattle.canonical_machine.specs.declared.run_end.RunEnd.TheVariants as ends
 use Rattle.canonical_machine.specs.World.{World}
 use Rattle.canonical_machine.specs.Run.{Runs, trace_of}
+use Rattle.canonical_machine.specs.Dump.{dump_of}
 use Rattle.canonical_machine.specs.Sound.{AreBytes}
 use Rattle.trace_show.specs.declared.trap.TrapName.{TrapName}
 use Rattle.wcm.specs.declared.answer.Answer.{Answer}
@@ -77,19 +79,24 @@ accepted_answer = record { status = Done; out = accepted_text; err = [] }
 abbrev pub shown_answer : Graph → Answer
 shown_answer g = record { status = Done; out = graph_text g; err = [] }
 
+-- the text of a run: all its lines, and behind them the dump of its last world where it is asked for, and else nothing
+abbrev pub run_text : Bool → List Label → World → RunEnd → List ℕ
+run_text dump labels last end = trace_text (trace_of labels end) ++ (if dump then dump_of last else [])
+
 -- the answer of a run
-abbrev pub run_answer : List Label → RunEnd → Answer
-run_answer labels end = record { status = status_of end; out = trace_text (trace_of labels end); err = [] }
+abbrev pub run_answer : Bool → List Label → World → RunEnd → Answer
+run_answer dump labels last end = record { status = status_of end; out = run_text dump labels last end; err = [] }
 
 -- the answer is that of the run of the graph under this script
-abbrev pub RunAnswers : Graph → Script → Answer → Type 0
-RunAnswers g script a = (labels : List Label) × (last : World) × (end : RunEnd) × Runs g script labels last end × (a ≡ run_answer labels end)
+abbrev pub RunAnswers : Graph → Script → Bool → Answer → Type 0
+RunAnswers g script dump a =
+    (labels : List Label) × (last : World) × (end : RunEnd) × Runs g script labels last end × (a ≡ run_answer dump labels last end)
 
 -- the answer for a graph and the bytes of a script file
-abbrev pub ScriptAnswers : Graph → List ℕ → Answer → Type 0
-ScriptAnswers g text a =
+abbrev pub ScriptAnswers : Graph → List ℕ → Bool → Answer → Type 0
+ScriptAnswers g text dump a =
     ((fault : ScriptFault) × IsScriptRefused g.exports text fault × (a ≡ script_refused_answer fault))
-    ⊎ ((script : Script) × IsScript g.exports text script × RunAnswers g script a)
+    ⊎ ((script : Script) × IsScript g.exports text script × RunAnswers g script dump a)
 
 -- the answer for a component: it is not linked, or the answer is what is said behind its graph
 abbrev pub LinkAnswers : Component → Answer → (Graph → Type 0) → Type 0
@@ -104,12 +111,12 @@ FileAnswers bytes a behind =
     ⊎ ((c : Component) × IsComponentFile bytes c × LinkAnswers c a behind)
 
 -- the answer for a graph and what is held as the script file
-abbrev pub HeldScriptAnswers : Graph → Option (List ℕ) → Answer → Type 0
-HeldScriptAnswers g held_script a = MatchOption held_script ⊥ (λ text. ScriptAnswers g text a)
+abbrev pub HeldScriptAnswers : Graph → Option (List ℕ) → Bool → Answer → Type 0
+HeldScriptAnswers g held_script dump a = MatchOption held_script ⊥ (λ text. ScriptAnswers g text dump a)
 
 -- the answer of a command for the graph of its component, where these files are held
 abbrev pub GraphAnswers : Command → (List ℕ → Option (List ℕ)) → Graph → Answer → Type 0
-GraphAnswers (Run file script) held g a = HeldScriptAnswers g (held script) a
+GraphAnswers (Run file script dump) held g a = HeldScriptAnswers g (held script) dump a
 GraphAnswers (Check file) held g a = a ≡ accepted_answer
 GraphAnswers (Show file) held g a = a ≡ shown_answer g
 
@@ -133,7 +140,7 @@ DecidesAlone bytes =
 
 -- what a command asks for behind a graph is told: `run` asks for the script file, `check` and `show` for nothing
 abbrev pub IsScriptTold : Command → (List ℕ → Option (List ℕ)) → Type 0
-IsScriptTold (Run file script) held = IsSome (held script)
+IsScriptTold (Run file script dump) held = IsSome (held script)
 IsScriptTold (Check file) held = Unit {0}
 IsScriptTold (Show file) held = Unit {0}
 
@@ -181,7 +188,7 @@ pub record NamesLinked (words : List (List ℕ)) (held : List ℕ → Option (Li
 
 -- the words name a component that is linked, which they ask to check or to show
 abbrev pub asks_of_graph : Command → Bool
-asks_of_graph (Run file script) = false
+asks_of_graph (Run file script dump) = false
 asks_of_graph (Check file) = true
 asks_of_graph (Show file) = true
 
@@ -195,7 +202,8 @@ pub record NamesAccepted (words : List (List ℕ)) (held : List ℕ → Option (
 pub record NamesGraph (words : List (List ℕ)) (held : List ℕ → Option (List ℕ)) (g : Graph) (text : List ℕ) : Type 0 where
   pub file : List ℕ
   pub script : List ℕ
-  pub named : NamesLinked words held (Run file script) g
+  pub dump : Bool
+  pub named : NamesLinked words held (Run file script dump) g
   pub holds_script : held script ≡ Some text
 
 -- the words name a component that is linked, and a file that is refused as a script for it

@@ -1,8 +1,11 @@
 //! What a call of the program answers, from the files that it names.
 
-ghost use Rattle.std.specs.Prelude.{◌≡◌, ℕ, List, [], IfOk, IfSome, MatchResult};
+ghost use Rattle.std.specs.Prelude.{◌≡◌, ℕ, if◌then◌else◌, List, [], ◌++◌, IfOk, IfSome, MatchResult, map, replicate};
 ghost use Rattle.std.specs.List.{AllByRecursion};
 ghost use Rattle.script_reader.specs.Script.{IsScript, IsScriptRefused, CallsExport};
+ghost use Rattle.trace_show.specs.LabelText.{trace_text};
+ghost use Rattle.trace_show.specs.DumpText.{dump_text};
+ghost use Rattle.canonical_machine.specs.Run.{trace_of};
 ghost use Rattle.canonical_machine.specs.Sound.{IsSound};
 ghost use Rattle.canonical_machine.specs.Owners.{IsApart};
 ghost use Rattle.canonical_machine.specs.Plain.{IsPlain};
@@ -15,7 +18,7 @@ ghost use Rattle.command_words.specs.Words.{said};
 use crate::refusals::{link_refused_line, refused_line, script_refused_line};
 use crate::shown::graph_text;
 use crate::status::{Status, status_of_end};
-use builtins::{run_script, trace_text};
+use builtins::{Run, run_script, trace_text};
 use ca_base::{Bytes, Memory, MemoryOr, Refusal, Seq};
 use ca_io::{FileError, Files, read_all};
 use ca_types::Exports;
@@ -30,6 +33,7 @@ use linked_graphs::laws::{
 };
 use script_reader::{Script, ScriptFault, ScriptWhy, read_script};
 use std::alloc::{AllocError, Global};
+use world::dump_text;
 
 /// What a call of the program answers.
 #[derive(Drop)]
@@ -153,17 +157,29 @@ fn refusal(alloc: Global, status: Status, err: Bytes) -> Answer
     }
 }
 
-/// The answer of the run of a graph under a script.
-fn run_answer(alloc: Global, graph: &Graph, script: &Script) -> Result<Answer, Memory>
+/// The text of a run: its trace, and behind it what the run leaves where that is asked for.
+fn run_text(alloc: Global, run: &Run, dump: bool) -> Result<Bytes, Memory>
+    ensures { IfOk result (λ text. text ≡ trace_text (trace_of run.now.labels run.now.end)
+        ++ (if dump then dump_text (replicate run.now.instances []) (map (λ m. m.bytes) run.now.store.memories) else [])) }
+{
+    let mut text = trace_text(alloc, run)?;
+    if dump {
+        text.append(dump_text(alloc, run.instances, &run.store)?)?;
+    }
+    Ok(text)
+}
+
+/// The answer of the run of a graph under a script; `dump` asks for what the run leaves.
+fn run_answer(alloc: Global, graph: &Graph, script: &Script, dump: bool) -> Result<Answer, Memory>
     requires sound { IsSound graph.now script.now }
     requires apart { IsApart graph.now }
     requires plain { IsPlain graph.now }
-    ensures run { IfOk result (λ a. RunAnswers graph.now script.now a) }
+    ensures run { IfOk result (λ a. RunAnswers graph.now script.now dump a) }
     ensures status { IfOk result (λ a. IsBehindGraph a.status) }
 {
     tasks_are_over();
     let run = run_script(alloc, graph, script)?;
-    let out = trace_text(alloc, &run)?;
+    let out = run_text(alloc, &run, dump)?;
     Ok(Answer {
         status: status_of_end(&run.end),
         out,
@@ -195,15 +211,16 @@ fn shown_answer(alloc: Global, graph: &Graph) -> Result<Answer, Memory>
     })
 }
 
-/// The answer for a graph and the script file of this name.
+/// The answer for a graph and the script file of this name; `dump` asks for what the run leaves.
 fn script_answer<F: Files>(
     alloc: Global,
     graph: &Graph,
     script: &str,
+    dump: bool,
     files: &mut F,
 ) -> Result<Answer, Stop>
     requires linked { IsOfComponent graph.now }
-    ensures file { IfOk result (λ a. ScriptGives graph.now (F.held files.old script.now) a) }
+    ensures file { IfOk result (λ a. ScriptGives graph.now (F.held files.old script.now) dump a) }
     ensures same { (other : List ℕ) → F.held files.new other ≡ F.held files.old other }
     ensures cause { StopsFor (F.faults files.old) (F.faults files.new) result }
 {
@@ -213,7 +230,7 @@ fn script_answer<F: Files>(
     linked_graphs_are_apart();
     counted_graphs_are_plain();
     match script_of(alloc, script, files, graph.exports())? {
-        Ok(script) => Ok(run_answer(alloc, graph, &script)?),
+        Ok(script) => Ok(run_answer(alloc, graph, &script, dump)?),
         Err(fault) => {
             let line = script_refused_line(alloc, fault)?;
             Ok(refusal(alloc, Status::ScriptRefused, line))
@@ -235,7 +252,7 @@ fn graph_answer<F: Files>(
     ensures cause { StopsFor (F.faults files.old) (F.faults files.new) result }
 {
     match command {
-        Command::Run { script, .. } => script_answer(alloc, graph, script, files),
+        Command::Run { script, dump, .. } => script_answer(alloc, graph, script, dump, files),
         Command::Check { .. } => Ok(accepted_answer(alloc)?),
         Command::Show { .. } => Ok(shown_answer(alloc, graph)?),
     }

@@ -4,6 +4,8 @@
 mod adapters;
 mod answer;
 #[cfg(test)]
+mod dump_tests_cases;
+#[cfg(test)]
 mod import_tests_cases;
 #[cfg(test)]
 mod instance_tests_cases;

@@ -40,8 +40,8 @@ fn write_answer<K: Sink>(answer: &Answer, out: &mut K, err: &mut K) -> Result<()
 /// Runs the command that the words say, over the files, the output and the error output that are handed in, and
 /// answers how it ends. `words[0]` is the program's name. Every command reads and links the component file FILE. Then
 /// `check FILE` tells that it is linked, `show FILE` what can be called of it, and `run FILE SCRIPT` reads the script file,
-/// makes the core instances and then the script's calls, and writes the trace to the output. For words that are none of
-/// these a text for the user goes to the error output.
+/// makes the core instances and then the script's calls, and writes the trace to the output; with `--dump` what the run
+/// leaves stands behind it. For words that are none of these a text for the user goes to the error output.
 ///
 /// The files are told where the component file is, and either that one decides the answer, or the command is not `run`, or
 /// the script file is told too.

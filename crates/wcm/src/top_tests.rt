@@ -1,7 +1,8 @@
 //! Calls of the program over files and outputs in memory, by the tables of `top_tests_cases`, `run_tests_cases`,
-//! `import_tests_cases`, `instance_tests_cases`, `nested_tests_cases`, `words_tests_cases`, `lower_tests_cases` and
-//! `value_tests_cases`.
+//! `import_tests_cases`, `instance_tests_cases`, `nested_tests_cases`, `words_tests_cases`, `lower_tests_cases`,
+//! `value_tests_cases` and `dump_tests_cases`.
 
+use crate::dump_tests_cases::{DUMP_CASES, DUMP_COUNT};
 use crate::import_tests_cases::{IMPORT_CASES, IMPORT_COUNT};
 use crate::instance_tests_cases::{INSTANCE_CASES, INSTANCE_COUNT};
 use crate::laws;
@@ -237,7 +238,8 @@ fn calls_by_their_words(rt: HostRuntime) -> Result<(), Fail> {
 
 #[test]
 fn calls_over_values(rt: HostRuntime) -> Result<(), Fail> {
-    check_all(&rt, rt.alloc(), VALUE_CASES, VALUE_COUNT)
+    check_all(&rt, rt.alloc(), VALUE_CASES, VALUE_COUNT)?;
+    check_all(&rt, rt.alloc(), DUMP_CASES, DUMP_COUNT)
 }
 
 #[test]
