@@ -1,7 +1,7 @@
 //! Cases of `run` with `--dump`, in the form of `top_tests_cases`.
 
 /// How many cases there are.
-pub const DUMP_COUNT: u32 = 35;
+pub const DUMP_COUNT: u32 = 36;
 
 /// The cases.
 pub const DUMP_CASES: &str = "
@@ -208,6 +208,24 @@ out enter T1
 out fuel
 out instance I1
 out memory M1 1
+
+# a list of two texts, whose realloc answers 128 each time: each part is stored before the next is placed
+component 00 61 73 6D 0D 00 01 00 01 38 00 61 73 6D 01 00 00 00 01 09 01 60 04 7F 7F 7F 7F 01 7F 03 02 01 00 05 03 01 00 01 07 11 02
+bytes 03 6D 65 6D 02 00 07 72 65 61 6C 6C 6F 63 00 00 0A 07 01 05 00 41 80 01 0B 02 04 01 00 00 00 06 09 01 00 02 01 00 03 6D 65
+bytes 6D 06 0D 01 00 00 01 00 07 72 65 61 6C 6C 6F 63 01 30 00 61 73 6D 01 00 00 00 01 07 01 60 02 7F 7F 01 7F 02 0A 01 01 65 03
+bytes 6D 65 6D 02 00 01 03 02 01 00 07 05 01 01 66 00 00 0A 06 01 04 00 20 01 0B 02 08 01 00 01 01 01 65 12 00 07 03 01 70 73 07
+bytes 08 01 40 01 01 6C 00 00 79 06 07 01 00 00 01 01 01 66 08 0A 01 00 00 01 02 03 00 04 00 01 0B 07 01 00 01 66 01 00 00
+words wcm run add.wasm add.txt --dump
+script call f ([\"ab\", \"cd\"])
+status Done
+out take 1 T1 f ([\"ab\", \"cd\"])
+out enter T1
+out return T1 (2)
+out exit T1
+out done
+out instance I1
+out memory M1 1
+out 00000080 6364000002000000800000000200000000000000000000000000000000000000
 
 # two memories of three instances
 component 00 61 73 6D 0D 00 01 00 04 A2 01 00 61 73 6D 0D 00 01 00 01 16 00 61 73 6D 01 00 00 00 05 03 01 00 01 07 07 01 03 6D 65
