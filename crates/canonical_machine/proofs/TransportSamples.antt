@@ -1,5 +1,5 @@
 -- The examples of what a call passes.
-use Rattle.std.proofs.Common.{◌≡◌, ◌≤◌, ◌+◌, ℕ, suc, [], ◌∷◌, ◌++◌, replicate, Some, Ok, refl, ap, sym, subst, arith}
+use Rattle.std.proofs.Common.{List, ◌≡◌, ◌≤◌, ◌+◌, ℕ, suc, [], ◌∷◌, ◌++◌, replicate, Some, Ok, refl, ap, sym, subst, arith}
 use Rattle.std.specs.Prelude.{unwrap_or}
 use Rattle.std.specs.Str.{IsUtf8}
 use lib.Utf8.{encode}
@@ -21,7 +21,7 @@ use Rattle.canonical_machine.specs.Values.{IsOf, string_is, u32_is, tuple_is, no
 use Rattle.comp_graph.specs.Graph.{Graph}
 use Rattle.script_reader.specs.Script.{Script}
 use Rattle.canonical_machine.specs.Control.{Control, Quiet, Going, Nested}
-use Rattle.canonical_machine.specs.World.{World}
+use Rattle.canonical_machine.specs.World.{Host, first_world, World}
 use Rattle.canonical_machine.specs.Passing.{params_type, arguments_plan, result_plan}
 use Rattle.canonical_machine.specs.Pausing.{Paused, Words, Failed, Asked, settle}
 use Rattle.canonical_machine.specs.Reading.{func_address}
@@ -33,12 +33,17 @@ use Rattle.canonical_machine.specs.Calling.{called_by, taken, item_turn, free_tu
 use Rattle.canonical_machine.specs.Reply.{reply, allowed, calling_turn}
 use Rattle.canonical_machine.specs.Lowering.{started, lowered, paused, lowers_turn}
 use Rattle.canonical_machine.specs.Nested.{nested_ended, refused, hosted, nested_turn}
-use Rattle.canonical_machine.specs.Examples.{measuring, store_of, gives, of_text, to_pair, pair, text, words, instantiated, script_of, pairing, pair_bytes}
-use Rattle.canonical_machine.specs.Transport.{Comes}
-use Rattle.canonical_machine.specs.TransportExamples.{measures, text_script, at_32, TextArrives, five_six, pair_lower, pair_ended, PairArrives}
-use Rattle.canonical_machine.proofs.Passed.{text_plan, pair_result, pair_plan}
+use Rattle.trace_show.specs.declared.label.Label.{Label}
+use Rattle.canonical_machine.specs.Run.{Reaches}
+use Rattle.canonical_machine.specs.Examples.{doubling, measuring, store_of, gives, of_text, to_pair, pair, text, words, instantiated, script_of, pairing, pair_bytes}
+use Rattle.canonical_machine.specs.Transport.{IsEntry, Comes}
+use Rattle.canonical_machine.specs.TransportExamples.{number_script, doubles, NumberArrives, measures, text_script, at_32, TextArrives, five_six, pair_lower, pair_ended, PairArrives}
+use Rattle.canonical_machine.proofs.Passed.{two_type, one_plan, text_plan, pair_result, pair_plan}
+use Rattle.canonical_machine.proofs.Samples.{with_types}
+use Rattle.canonical_machine.proofs.SoundSamples.{are_sound}
+use Rattle.canonical_machine.proofs.TransportEntry.{arguments_arrive}
 use Rattle.canonical_machine.proofs.TransportPlans.{arguments_lift, result_lifts}
-use Rattle.canonical_machine.proofs.Walks.{walk, begun, walks, planned, entered_world, enters, ended_world, ends, the_task}
+use Rattle.canonical_machine.proofs.Walks.{walk, at_world, begun, walks, planned, entered_world, enters, ended_world, ends, the_task}
 
 -- what a plan asks next, and the nested code that runs
 abbrev the_k : Paused → ℕ → Plan
@@ -49,6 +54,75 @@ the_k (Failed why) place = Gives []
 abbrev the_nested : Control → Nested
 the_nested (Quiet n b) = n
 the_nested control = record { state = Going (Given []); inst = 0; acts_for = 0; blame = 0 }
+
+-- A number is passed.
+
+abbrev number_value : Value
+number_value = values.Record (value.U32 4 ∷ [])
+
+abbrev number_new : World
+number_new = walk 6 doubling number_script (with_types (words 2 1))
+
+abbrev number_lowers : World
+number_lowers = planned (Gives (4 ∷ [])) (entered_world number_value number_new)
+
+abbrev number_begun : World
+number_begun = walk 1 doubling number_script number_lowers
+
+number_comes : Comes doubling number_script (arguments_lowering number_new.store 1 doubles) (Gives (4 ∷ [])) number_lowers [] (4 ∷ []) number_begun
+unfolding started_up made action_turn instantiating_turn post_return finished passed_on returned returning_turn leaving_turn stack_ended moved running_turn with_arguments entered arriving_turn taken item_turn free_turn call_begun call_ended back_from back_turn reply allowed calling_turn started lowered paused lowers_turn nested_ended refused hosted nested_turn
+number_comes = (refl, refl, refl)
+
+number_few : counts number_value ≤ most whole.Arguments
+number_few =
+    let all : counts number_value ≡ suc (counts (value.U32 4) + 0) = count_record (value.U32 4 ∷ []) in
+    let one : counts (value.U32 4) ≡ 1 = count_u32 4 in
+    omega (arith, all, one)
+
+number_reached : (steps : List (List Label)) × Reaches doubling number_script (first_world doubling) steps number_new
+unfolding started_up made action_turn instantiating_turn post_return finished passed_on returned returning_turn leaving_turn stack_ended moved running_turn with_arguments entered arriving_turn taken item_turn free_turn call_begun call_ended back_from back_turn reply allowed calling_turn started lowered paused lowers_turn nested_ended refused hosted nested_turn
+number_reached =
+    let w : World = first_world doubling in
+    let a = at_world doubling number_script w w (with_types (words 2 1)) [] (begun doubling number_script w) (ap with_types two_type) in
+    let b = walks 6 doubling number_script w (with_types (words 2 1)) [] a in
+    (b.steps, b.reaches)
+
+number_entry : IsEntry doubling number_script number_new 1 doubles (Host (value.U32 4 ∷ [])) number_value [] (4 ∷ []) number_begun
+unfolding started_up made action_turn instantiating_turn post_return finished passed_on returned returning_turn leaving_turn stack_ended moved running_turn with_arguments entered arriving_turn taken item_turn free_turn call_begun call_ended back_from back_turn reply allowed calling_turn started lowered paused lowers_turn nested_ended refused hosted nested_turn
+number_entry = record {
+  control = refl;
+  task = the_task number_new;
+  acts = refl;
+  runs = refl;
+  called = refl;
+  passed = refl;
+  entered = entered_world number_value number_new;
+  enters = enters doubling number_script number_new number_value refl tt tt refl refl;
+  lowered = subst (λ (p : Plan). Comes doubling number_script (arguments_lowering number_new.store 1 doubles) p (planned p (entered_world number_value number_new)) [] (4 ∷ []) number_begun) (sym one_plan)
+      number_comes;
+  begins = record {
+    control = refl;
+    task = the_task number_begun;
+    acts = refl;
+    runs = refl;
+    function = unwrap_or (found_at number_begun.store.funcs (func_address number_begun.store doubles.core)) (0, HostFunction (words 0 0));
+    found = refl;
+    stack_is = refl;
+  };
+}
+
+pub number_arrives : NumberArrives
+number_arrives =
+    let r = number_reached in
+    record {
+      new = number_new;
+      begun = number_begun;
+      steps = r.0;
+      reached = r.1;
+      entry = number_entry;
+      may = number_few;
+      lifted = arguments_arrive doubling number_script r.0 number_new number_begun 1 doubles (Host (value.U32 4 ∷ [])) number_value [] (4 ∷ []) are_sound.0 r.1 number_entry number_few tt;
+    }
 
 -- A text is passed.
 

@@ -1,5 +1,5 @@
--- What a call passes arrives, on two of the graphs of `Examples`: a text as an argument, over the place that a realloc gives for it, and a
--- pair as a result in memory.
+-- What a call passes arrives, on three of the graphs of `Examples`: a number, a text as an argument, over the place that a realloc gives for
+-- it, and a pair as a result in memory.
 use Rattle.std.specs.Prelude.{◌≡◌, List, [], ◌∷◌, replicate, Some, None, Ok}
 use Rattle.ca_types.specs.declared.value.Value.TheVariants as value
 use Rattle.ca_types.specs.declared.value.Value.TheViews as values
@@ -11,14 +11,30 @@ use Rattle.core_machine.specs.Stack.{AtHost, Given}
 use Rattle.script_reader.specs.Script.{Script}
 use Rattle.trace_show.specs.declared.label.Label.{Label}
 use Rattle.trace_show.specs.declared.typed.TypedValue.{TypedValue}
-use Rattle.canonical_machine.specs.World.{Init, Func, Nobody, Host, Guest, Unresolved, Acting, AfterCall, Exited, World}
+use Rattle.canonical_machine.specs.World.{Init, Func, Nobody, Host, Guest, Unresolved, Acting, AfterCall, Exited, World, first_world}
 use Rattle.canonical_machine.specs.Control.{Runs}
 use Rattle.canonical_machine.specs.Calling.{called_by}
 use Rattle.canonical_machine.specs.Reading.{memory_of, bytes_of, lifted_of}
 use Rattle.canonical_machine.specs.Passing.{arguments_lifted}
 use Rattle.canonical_machine.specs.Run.{Reaches}
-use Rattle.canonical_machine.specs.Examples.{measuring, store_of, gives, func_at, first_memory, of_text, to_pair, to_nothing, pair, text, instantiated, script_of, pairing, pair_store}
+use Rattle.canonical_machine.specs.Examples.{doubling, of_one, measuring, store_of, gives, func_at, first_memory, of_text, to_pair, to_nothing, pair, text, instantiated, script_of, pairing, pair_store}
 use Rattle.canonical_machine.specs.Transport.{IsEntry, IsReturn, MayBeLifted, result_target, result_taken}
+
+-- The script passes 4 to the root's function, in a run from the first world. The law itself gives the value.
+abbrev pub number_script : Script
+number_script = script_of 7 (value.U32 4 ∷ [])
+
+abbrev pub doubles : Lifted
+doubles = record { instance = 0; core = func_at 1 1; options = no_options; func_type = of_one }
+
+pub record NumberArrives : Type 0 where
+  pub new : World
+  pub begun : World
+  pub steps : List (List Label)
+  pub reached : Reaches doubling number_script (first_world doubling) steps new
+  pub entry : IsEntry doubling number_script new 1 doubles (Host (value.U32 4 ∷ [])) (values.Record (value.U32 4 ∷ [])) [] (4 ∷ []) begun
+  pub may : MayBeLifted (Host (value.U32 4 ∷ []))
+  pub lifted : arguments_lifted of_one (bytes_of begun.store (memory_of begun.store no_options)) (4 ∷ []) ≡ Ok (values.Record (value.U32 4 ∷ []))
 
 -- The script passes the text to a function whose memory has 40 bytes.
 abbrev pub measures : Lifted

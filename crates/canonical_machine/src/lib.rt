@@ -40,6 +40,7 @@ pub use laws::{
     worlds_are_kept, worlds_stay_apart,
 };
 pub use run_end::RunEnd;
+<<<<<<< ours
 pub use transport::{arguments_arrive, results_arrive, text_and_pair};
 pub use value_laws::{
     core_values_are_typed, fitting_values_are, followed_plans_settle, lifted_values_are,
@@ -48,3 +49,6 @@ pub use value_laws::{
     stored_lists_are_loaded, stored_lists_stand, stored_values_are_loaded, stored_values_stand,
     values_of_types_fit,
 };
+=======
+pub use transport::{arguments_arrive, results_arrive, values_arrive};
+>>>>>>> theirs
