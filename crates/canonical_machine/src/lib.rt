@@ -40,8 +40,7 @@ pub use laws::{
     worlds_are_kept, worlds_stay_apart,
 };
 pub use run_end::RunEnd;
-<<<<<<< ours
-pub use transport::{arguments_arrive, results_arrive, text_and_pair};
+pub use transport::{arguments_arrive, results_arrive, values_arrive};
 pub use value_laws::{
     core_values_are_typed, fitting_values_are, followed_plans_settle, lifted_values_are,
     lowered_values_stand, lowered_words_are_lifted, lowered_words_are_typed, lowered_words_stand,
@@ -49,6 +48,3 @@ pub use value_laws::{
     stored_lists_are_loaded, stored_lists_stand, stored_values_are_loaded, stored_values_stand,
     values_of_types_fit,
 };
-=======
-pub use transport::{arguments_arrive, results_arrive, values_arrive};
->>>>>>> theirs
