@@ -26,7 +26,7 @@ use Rattle.world.specs.declared.next_task.Leaving.{Leaving}
 use Rattle.world.specs.declared.next_task.Leaving.TheVariants as leaving
 use Rattle.world.specs.declared.next_task.Onward.{Onward}
 use Rattle.world.specs.declared.next_task.Onward.TheVariants as onward
-use Rattle.world.specs.Onward.{IsHeld, AreHeld, is_called, Spends, Takes, Waits, GoesBack, CallsMore, GoesOnAt, Left, WentOn, Descends, Ascends}
+use Rattle.world.specs.Onward.{IsHeld, AreHeld, is_called, Spends, Takes, TellsNone, Waits, GoesBack, CallsMore, GoesOnAt, Left, WentOn, Descends, Ascends}
 
 -- how many core functions of the Canonical ABI call functions of component instances of which no task that waits called one
 abbrev pub calls_left : Graph → RunState → ℕ
@@ -74,8 +74,8 @@ pub none_held : (us : List Waiter) → us ≡ [] → AreHeld us
 none_held us h = subst AreHeld (sym h) tt
 
 -- What became of the data where an item was taken, and where its call is over.
-pub taken_is : (old new : RunState) (r : Result ℕ RunEnd) (t : ℕ) → r ≡ Ok t → MatchResult r (λ t. Takes old new) (λ end. Unit {0}) → Takes old new
-taken_is old new r t is h = subst (λ (r : Result ℕ RunEnd). MatchResult r (λ t. Takes old new) (λ end. Unit {0})) is h
+pub taken_is : (old new : RunState) (r : Result ℕ RunEnd) (t : ℕ) → r ≡ Ok t → MatchResult r (λ t. Takes old new) (λ end. TellsNone old new) → Takes old new
+taken_is old new r t is h = subst (λ (r : Result ℕ RunEnd). MatchResult r (λ t. Takes old new) (λ end. TellsNone old new)) is h
 
 pub went_on : (P : Type 0) (o : Option RunEnd) → o ≡ None → MatchOption o P (λ end. Unit {0}) → P
 went_on P o is h = subst (λ (o : Option RunEnd). MatchOption o P (λ end. Unit {0})) is h

@@ -1,6 +1,6 @@
 -- What the parts of a run do with its data (Component Model, CanonicalABI.md, `canon lift` and `canon lower`): the fuel that they spend, the
 -- tasks that wait, and where a stack that runs leads.
-use Rattle.std.specs.Prelude.{◌≡◌, ◌≤◌, ◌<◌, ℕ, Bool, false, ◌||◌, List, [], ◌∷◌, ◌++◌, Option, Some, None, MatchOption}
+use Rattle.std.specs.Prelude.{◌≡◌, ◌≤◌, ◌<◌, ◌+◌, ℕ, Bool, false, ◌||◌, List, [], ◌∷◌, ◌++◌, Option, Some, None, MatchOption}
 use Rattle.std.specs.List.{AllByRecursion}
 use Rattle.std.specs.Option.{option_map}
 use Rattle.core_machine.specs.Stack.{Stack, Running, AtHost, Given}
@@ -8,6 +8,7 @@ use Rattle.core_machine.specs.Step.{resume}
 use Rattle.comp_graph.specs.declared.graph.Lower.{Lower}
 use Rattle.comp_graph.specs.Graph.{Graph}
 use Rattle.script_reader.specs.Script.{Script}
+use Rattle.trace_show.specs.declared.label.Label.{Label}
 use Rattle.canonical_machine.specs.declared.run_end.RunEnd.{RunEnd}
 use Rattle.canonical_machine.specs.Reading.{is_in, lower_at, lifted_of}
 use Rattle.world.specs.declared.running.Stop.{Stop}
@@ -41,10 +42,22 @@ pub record Spends (old new : RunState) : Type 0 where
   pub left : new.left ≤ old.left
   pub waiting : new.waiting.items ≡ old.waiting.items
 
--- An item was taken, which costs a unit.
+-- An item was taken, which costs a unit, makes a task and adds a line.
 pub record Takes (old new : RunState) : Type 0 where
   pub left : new.left < old.left
   pub waiting : new.waiting.items ≡ old.waiting.items
+  pub taken : new.taken ≡ old.taken + 1
+  pub tasks : new.tasks ≡ old.tasks + 1
+  pub line : Label
+  pub more : new.labels ≡ old.labels ++ line ∷ []
+
+-- No item was taken, and no task made.
+abbrev pub TakesNone : RunState → RunState → Type 0
+TakesNone old new = (new.taken ≡ old.taken) × (new.tasks ≡ old.tasks)
+
+-- No line was added either.
+abbrev pub TellsNone : RunState → RunState → Type 0
+TellsNone old new = (new.labels ≡ old.labels) × TakesNone old new
 
 -- A stack rests at a call: its task is the innermost that waits, on a stack that is held. One that was held has paid for the call.
 pub record Waits (old new : RunState) (k : Stack) : Type 0 where

@@ -65,7 +65,8 @@ pub fn canon_at<'g>(graph: &'g Graph<'_>, number: usize) -> &'g CanonFunc
     &graph.canons()[number]
 }
 
-/// The function that is lowered.
+/// The lower that this is, whole: the function that is lowered, with its type and the options (Component Model, CanonicalABI.md,
+/// `canon lower`).
 pub fn lower_of(canon: &CanonFunc) -> &Lower
     ensures { lower_of canon.now ≡ Some result.now }
 {

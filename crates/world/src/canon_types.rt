@@ -21,7 +21,8 @@ const PARAM_LIMIT: usize = 16;
 /// How many core values are given as core results; more are given in memory.
 const RESULT_LIMIT: usize = 1;
 
-/// The types of the core functions of a graph that the Canonical ABI makes, in order.
+/// The types of the core functions of a graph that the Canonical ABI makes, in order (Component Model, CanonicalABI.md, "Flattening").
+/// It fails for want of memory alone.
 pub fn canon_func_types(alloc: Global, graph: &Graph) -> Result<Vec<FuncType>, Memory>
     ensures { IfOk result (λ types. types.items ≡ map canon_type graph.now.canons) }
 {

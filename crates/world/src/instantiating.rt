@@ -6,6 +6,7 @@ ghost use Rattle.canonical_machine.specs.Sound.{IsSound};
 ghost use Rattle.canonical_machine.specs.Owners.{IsApart};
 ghost use Rattle.world.specs.Seen.{IsAtPlan, IsAtFree};
 ghost use Rattle.world.specs.Starting.{GoesOrEnds};
+ghost use Rattle.world.specs.Onward.{TakesNone};
 
 use crate::externals::externals_of;
 use crate::starting::start_up;
@@ -18,8 +19,9 @@ use script_reader::Script;
 use std::alloc::Global;
 use trace_show::TrapName;
 
-/// Instantiates a graph, and answers how the run ends, if it does so there. Of the steps only the instructions of start functions cost
-/// fuel.
+/// Instantiates a graph, and answers how the run ends, if it does so there (Component Model, Explainer.md, "Instance Definitions"; Core
+/// 2.0, section 4.5.4). Of the steps only the instructions of start functions cost fuel. No item of the script is taken. It fails for
+/// want of memory alone.
 pub fn instantiate(
     alloc: Global,
     graph: &Graph,
@@ -29,7 +31,8 @@ pub fn instantiate(
     requires sound { IsSound graph.now script.now }
     requires apart { IsApart graph.now }
     requires at { IsAtPlan graph.now script.now run.old 0 }
-    ensures { IfOk result (λ ended. GoesOrEnds graph.now script.now run.new (IsAtFree graph.now script.now run.new) ended) }
+    ensures goes { IfOk result (λ ended. GoesOrEnds graph.now script.now run.new (IsAtFree graph.now script.now run.new) ended) }
+    ensures takes_none { IfOk result (λ ended. TakesNone run.old run.new) }
 {
     let plan = graph.plan();
     for number in 0..plan.len() {
@@ -54,7 +57,8 @@ fn act(
     requires at { IsAtPlan graph.now script.now run.old number }
     requires comes { slice_get graph.now.plan number ≡ Some action }
     requires few { number + 1 < 2 ^ 64 }
-    ensures { IfOk result (λ ended. GoesOrEnds graph.now script.now run.new (IsAtPlan graph.now script.now run.new (number + 1)) ended) }
+    ensures goes { IfOk result (λ ended. GoesOrEnds graph.now script.now run.new (IsAtPlan graph.now script.now run.new (number + 1)) ended) }
+    ensures takes_none { IfOk result (λ ended. TakesNone run.old run.new) }
 {
     match action {
         Action::Begin(_instance) => {
@@ -91,7 +95,8 @@ fn make_core(
     requires at { IsAtPlan graph.now script.now run.old number }
     requires comes { (made : ℕ) × (slice_get graph.now.plan number ≡ Some (Action.Make made)) × (slice_get graph.now.cores made ≡ Some core.now) }
     requires few { number + 1 < 2 ^ 64 }
-    ensures { IfOk result (λ ended. GoesOrEnds graph.now script.now run.new (IsAtPlan graph.now script.now run.new (number + 1)) ended) }
+    ensures goes { IfOk result (λ ended. GoesOrEnds graph.now script.now run.new (IsAtPlan graph.now script.now run.new (number + 1)) ended) }
+    ensures takes_none { IfOk result (λ ended. TakesNone run.old run.new) }
 {
     let valid = core.valid();
     // Its clause says that the module is typed.

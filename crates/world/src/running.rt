@@ -5,7 +5,7 @@ ghost use Rattle.canonical_machine.specs.Sound.{IsSound};
 ghost use Rattle.canonical_machine.specs.Owners.{IsApart};
 ghost use Rattle.world.specs.Seen.{IsAtStack};
 ghost use Rattle.world.specs.Stopping.{StopsAt};
-ghost use Rattle.world.specs.Onward.{Stopped};
+ghost use Rattle.world.specs.Onward.{Stopped, TellsNone};
 
 use crate::state::{RunState, Waiter};
 use crate::trap_names::core_name;
@@ -27,7 +27,9 @@ pub enum Stop {
     Ends(RunEnd),
 }
 
-/// Runs the stack of the acting task, which has this number. Room for it among the tasks that wait is made first.
+/// Runs the stack of the acting task, which has this number, up to its end, to a call of a core function of the Canonical ABI, to a trap
+/// or to where fuel is wanting (Core 2.0, section 4.4). It adds no line. Room for it among the tasks that wait is made first. It fails
+/// for want of memory alone.
 pub fn run_stack(
     alloc: Global,
     graph: &Graph,
@@ -41,6 +43,7 @@ pub fn run_stack(
     requires at { IsAtStack graph.now script.now state.old task running }
     ensures stops { IfOk result (λ stop. StopsAt graph.now script.now state.new task stop) }
     ensures leaves { IfOk result (λ stop. Stopped state.old state.new running stop) }
+    ensures tells_none { IfOk result (λ stop. TellsNone state.old state.new) }
 {
     let Ok(()) = state.waiting.reserve(1) else {
         running.give_up();

@@ -5,6 +5,7 @@ ghost use Rattle.canonical_machine.specs.Sound.{IsSound};
 ghost use Rattle.canonical_machine.specs.Owners.{IsApart};
 ghost use Rattle.world.specs.Seen.{IsAtPlan};
 ghost use Rattle.world.specs.Starting.{IsStarting, IsAtStart, GoesOrEnds};
+ghost use Rattle.world.specs.Onward.{TakesNone};
 
 use crate::refusing::refuse;
 use crate::state::RunState;
@@ -31,7 +32,8 @@ pub(crate) fn start_up(
     requires sound { IsSound graph.now script.now }
     requires apart { IsApart graph.now }
     requires starts { IsStarting graph.now script.now run.old next valid.now instance }
-    ensures { IfOk result (λ ended. GoesOrEnds graph.now script.now run.new (IsAtPlan graph.now script.now run.new next) ended) }
+    ensures goes { IfOk result (λ ended. GoesOrEnds graph.now script.now run.new (IsAtPlan graph.now script.now run.new next) ended) }
+    ensures takes_none { IfOk result (λ ended. TakesNone run.old run.new) }
 {
     // Its clause says that the module is typed.
     let _tree = valid.tree();
@@ -55,7 +57,8 @@ fn run_start(
     requires sound { IsSound graph.now script.now }
     requires apart { IsApart graph.now }
     requires at { IsAtStart graph.now script.now state.old next running }
-    ensures { IfOk result (λ ended. GoesOrEnds graph.now script.now state.new (IsAtPlan graph.now script.now state.new next) ended) }
+    ensures goes { IfOk result (λ ended. GoesOrEnds graph.now script.now state.new (IsAtPlan graph.now script.now state.new next) ended) }
+    ensures takes_none { IfOk result (λ ended. TakesNone state.old state.new) }
 {
     match run(alloc, running, &mut state.store, &mut state.left) {
         Outcome::Done(_words) => Ok(None),

@@ -7,7 +7,7 @@ ghost use Rattle.canonical_machine.specs.Calling.{typed};
 ghost use Rattle.canonical_machine.specs.Sound.{IsSound, IsSoundCall};
 ghost use Rattle.canonical_machine.specs.Owners.{IsApart};
 ghost use Rattle.world.specs.Seen.{IsAtFree, IsAtArrival, EndsBy};
-ghost use Rattle.world.specs.Onward.{Takes};
+ghost use Rattle.world.specs.Onward.{Takes, TellsNone};
 
 use crate::copying::same_value;
 use crate::named_graph::NamedGraph;
@@ -19,8 +19,9 @@ use script_reader::{Call, Item, Script};
 use std::alloc::Global;
 use trace_show::{Label, TypedValue};
 
-/// Takes the next item of the script, which costs a unit of fuel, and answers the task that is made, or how the run ends: it is done
-/// where no item is left.
+/// Takes the next item of the script, which costs a unit of fuel, and answers the task that is made, or how the run ends: by `Done`
+/// where no item is left, and by `Fuel` where no unit is left (Component Model, Concurrency.md, "Summary"). Its one line is that of the
+/// call. It fails for want of memory alone, and the 2^32nd task is told as that too.
 pub fn take_item(
     alloc: Global,
     graph: &NamedGraph,
@@ -31,7 +32,7 @@ pub fn take_item(
     requires apart { IsApart graph.now }
     requires free { IsAtFree graph.now script.now run.old }
     ensures taken { IfOk result (λ taken. MatchResult taken (λ t. IsAtArrival graph.now script.now run.new t) (λ end. EndsBy graph.now script.now run.new end)) }
-    ensures pays { IfOk result (λ taken. MatchResult taken (λ t. Takes run.old run.new) (λ end. Unit {0})) }
+    ensures pays { IfOk result (λ taken. MatchResult taken (λ t. Takes run.old run.new) (λ end. TellsNone run.old run.new)) }
 {
     match script.items().get(run.taken as usize) {
         Some(Item::Call(call)) => take_call(alloc, graph, script, call, run),
@@ -52,7 +53,7 @@ fn take_call(
     requires free { IsAtFree graph.now script.now run.old }
     requires there { slice_get script.now.items run.old.taken ≡ Some (Item.Call call.now) }
     ensures taken { IfOk result (λ taken. MatchResult taken (λ t. IsAtArrival graph.now script.now run.new t) (λ end. EndsBy graph.now script.now run.new end)) }
-    ensures pays { IfOk result (λ taken. MatchResult taken (λ t. Takes run.old run.new) (λ end. Unit {0})) }
+    ensures pays { IfOk result (λ taken. MatchResult taken (λ t. Takes run.old run.new) (λ end. TellsNone run.old run.new)) }
 {
     // Its clause says how much fuel there is at most.
     let _fuel = script.fuel();

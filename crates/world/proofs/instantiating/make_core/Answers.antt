@@ -26,8 +26,8 @@ start_up-requires-clause-starts c =
     starts_by c.args.graph.now c.args.script.now c.args.run.now c.args.number c.requires.comes.0 c.args.core.now m es c.add.new.self c.in-Ok.instance c.requires.sound c.requires.apart c.requires.at
     c.requires.comes.1 c.requires.comes.2 c.valid-valid.ensures fits.0 fits.1 c.in-Ok.ensures.makes c.in-Ok.ensures.address
 
-pub returns-in-Err-SegmentBounds : goal.returns-in-Err-SegmentBounds
-returns-in-Err-SegmentBounds c =
+pub returns-in-Err-SegmentBounds-clause-goes : goal.returns-in-Err-SegmentBounds-clause-goes
+returns-in-Err-SegmentBounds-clause-goes c =
     let m = c.valid-valid.result.now in
     let es = map address_of c.as_slice.result.now in
     let supplied = supplied_at c.args.graph.now c.args.script.now c.args.run.now c.args.number c.requires.comes.0 c.args.core.now c.requires.sound c.requires.apart c.requires.at c.requires.comes.1 c.requires.comes.2 in

@@ -2,8 +2,8 @@ use Rattle.std.proofs.Common.{◌∙◌, sym}
 use Rattle.world.proofs.StartRuns.{no_start_goes_on, start_goes_on, start_within}
 use Rattle.world.proofs.starting.start_up.Goals as goal
 
-pub returns-in_default : goal.returns-in_default
-returns-in_default c =
+pub returns-in_default-clause-goes : goal.returns-in_default-clause-goes
+returns-in_default-clause-goes c =
     no_start_goes_on c.args.graph.now c.args.script.now c.args.run.now c.args.next c.args.valid.now c.args.instance c.requires.starts (λ i h. sym c.in_default.is ∙ c.start_of.ensures i h)
 
 pub start-requires : goal.start-requires
