@@ -15,7 +15,7 @@ use value_lower::{Room, RoomEnd};
 /// What canonical options say of a lowering (Component Model, CanonicalABI.md, "Lifting and Lowering Context").
 #[derive(Clone, Copy)]
 pub struct LowerOptions {
-    /// The address of the memory.
+    /// The address of the memory; where the options have none, one at which no memory is.
     pub memory: usize,
     /// The address of the function that gives out places in it, where the options have one.
     pub realloc: Option<usize>,
@@ -36,9 +36,9 @@ pub struct Taken {
 /// and the same fuel, where each instruction costs its unit. Such code may call no function of the host: where it does, it ends, and
 /// the call is kept.
 ///
-/// All that a lowering changes is its caller's: the store, the fuel and the call that is kept. So it is known once the room is
-/// gone. Each call of the room says it of every answer; the lowerings, which are made of such calls, say nothing of it where they
-/// answer want of memory.
+/// All that a lowering changes is its caller's: the store, the fuel and the call that is kept. Each call of the room says of every
+/// answer what it leaves of them; the lowerings, which are made of such calls, say nothing of it where they answer want of memory.
+/// What a lowering leaves is known by its answer, and is taken out by `take_out`.
 #[derive(Drop)]
 pub struct StoreRoom<'a> {
     store: &'a mut Store,
@@ -69,8 +69,9 @@ impl<'a> StoreRoom<'a> {
         }
     }
 
-    /// Takes out what the room works on, so that its caller knows it where only an answer tells it. What the room lends is left with
-    /// an empty store, with the fuel that is left, and with no call that is kept. The options stay as they are.
+    /// Takes out what the room works on, so that its caller knows it where only an answer tells it. What was lent to the room is left
+    /// with an empty store, with no call that is kept, and with the fuel that is left, which stands in what is taken out too. The
+    /// options stay as they are.
     pub fn take_out(&mut self, alloc: Global) -> Taken
         ensures taken { record { store = result.store; units = result.fuel; call = result.call } ≡ state_of self.old }
         ensures left { state_of self.new ≡ record { store = empty; units = self.old.fuel.now; call = None } }
