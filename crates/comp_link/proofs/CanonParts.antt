@@ -6,37 +6,28 @@ use Rattle.ca_types.specs.declared.types.FuncType.{FuncType}
 use Rattle.comp_tree.specs.declared.items.CanonOption.{CanonOption}
 use Rattle.comp_linking.specs.declared.fault.LinkWhy.{LinkWhy}
 use Rattle.comp_linking.specs.declared.fault.LinkWhy.TheVariants as why
-use Rattle.comp_linking.specs.declared.reach.Reach.{Reach}
 use Rattle.comp_linking.specs.Definitions.{Lifted}
-use Rattle.comp_linking.specs.Runs.{reaches, runs_lower}
 use Rattle.comp_linking.specs.Spaces.{Spaces, Linking}
 use Rattle.comp_linking.specs.Canons.{Given, given_by, stand_once, is_option_there, can_be_lowered}
 use Rattle.comp_linking.specs.Items.{lower_made}
 use Rattle.comp_linking.specs.Computed.{Makes, after, only_if, lowered_from, lower_outcome}
 
 -- That a function can be lowered, by its tests.
-abbrev lower_tests : Bool → Bool → Bool → Given → Result Given LinkWhy
-lower_tests once lowers within given = only_if once why.Canon (only_if lowers why.Canon (only_if within why.Limit (Ok given)))
+abbrev lower_tests : Bool → Bool → Given → Result Given LinkWhy
+lower_tests once lowers given = only_if once why.Canon (only_if lowers why.Canon (Ok given))
 
-module _ (reach : Reach) (type : FuncType) (options : List CanonOption) (given : Given) where
-  pub not_once : stand_once options ≡ false → lowered_from reach type options given ≡ Err why.Canon
-  not_once once = ap (λ (b : Bool). lower_tests b (can_be_lowered type given) (reaches reach runs_lower) given) once
+module _ (type : FuncType) (options : List CanonOption) (given : Given) where
+  pub not_once : stand_once options ≡ false → lowered_from type options given ≡ Err why.Canon
+  not_once once = ap (λ (b : Bool). lower_tests b (can_be_lowered type given) given) once
 
-  tests_left : stand_once options ≡ true → lowered_from reach type options given ≡ lower_tests true (can_be_lowered type given) (reaches reach runs_lower) given
-  tests_left once = ap (λ (b : Bool). lower_tests b (can_be_lowered type given) (reaches reach runs_lower) given) once
+  tests_left : stand_once options ≡ true → lowered_from type options given ≡ lower_tests true (can_be_lowered type given) given
+  tests_left once = ap (λ (b : Bool). lower_tests b (can_be_lowered type given) given) once
 
-  pub not_lowered : stand_once options ≡ true → can_be_lowered type given ≡ false → lowered_from reach type options given ≡ Err why.Canon
-  not_lowered once lowers = tests_left once ∙ ap (λ (b : Bool). lower_tests true b (reaches reach runs_lower) given) lowers
+  pub not_lowered : stand_once options ≡ true → can_be_lowered type given ≡ false → lowered_from type options given ≡ Err why.Canon
+  not_lowered once lowers = tests_left once ∙ ap (λ (b : Bool). lower_tests true b given) lowers
 
-  module _ (once : stand_once options ≡ true) (lowers : can_be_lowered type given ≡ true) where
-    reach_left : lowered_from reach type options given ≡ lower_tests true true (reaches reach runs_lower) given
-    reach_left = tests_left once ∙ ap (λ (b : Bool). lower_tests true b (reaches reach runs_lower) given) lowers
-
-    pub past_reach : reaches reach runs_lower ≡ false → lowered_from reach type options given ≡ Err why.Limit
-    past_reach past = reach_left ∙ ap (λ (b : Bool). lower_tests true true b given) past
-
-    pub is_lower : reaches reach runs_lower ≡ true → lowered_from reach type options given ≡ Ok given
-    is_lower within = reach_left ∙ ap (λ (b : Bool). lower_tests true true b given) within
+  pub is_lower : stand_once options ≡ true → can_be_lowered type given ≡ true → lowered_from type options given ≡ Ok given
+  is_lower once lowers = tests_left once ∙ ap (λ (b : Bool). lower_tests true b given) lowers
 
 -- What a lower comes to where its parts are there or not.
 module _ (l : Linking) (n : ℕ) (s : Spaces) (f : ℕ) (options : List CanonOption) where
@@ -48,5 +39,5 @@ module _ (l : Linking) (n : ℕ) (s : Spaces) (f : ℕ) (options : List CanonOpt
     no_option h = rw (is, h) refl
 
     pub of_parts : list_all (is_option_there s) options ≡ true
-        → lower_outcome l n s f options ≡ after (lowered_from l.reach func.func_type options (given_by s options)) (λ given. Ok (Makes (lower_made l n s func given)))
+        → lower_outcome l n s f options ≡ after (lowered_from func.func_type options (given_by s options)) (λ given. Ok (Makes (lower_made l n s func given)))
     of_parts h = rw (is, h) refl

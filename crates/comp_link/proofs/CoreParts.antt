@@ -15,8 +15,6 @@ use Rattle.comp_graph.specs.Closed.{Closed, Value, Func, Instance}
 use Rattle.comp_linking.specs.declared.fault.LinkWhy.{LinkWhy}
 use Rattle.comp_linking.specs.declared.fault.LinkWhy.TheVariants as why
 use Rattle.comp_linking.specs.Definitions.{CoreItem, Lifted}
-use Rattle.comp_linking.specs.declared.reach.Reach.{Reach}
-use Rattle.comp_linking.specs.Runs.{reaches, runs_lift}
 use Rattle.comp_linking.specs.Spaces.{Spaces, Linking}
 use Rattle.comp_linking.specs.Canons.{Given, given_by, stand_once, is_option_there, can_be_lifted}
 use Rattle.comp_linking.specs.Items.{instance_limit, core_made, lifted_with}
@@ -42,56 +40,49 @@ module _ (l : Linking) (n : ℕ) (s : Spaces) (index : ℕ) (arguments : List Co
   past_limit items h past = rw (is, h, le-ltb (length l.cores) instance_limit past) refl
 
 -- The lift of a core item, by its tests.
-abbrev lift_tests : Bool → Bool → Option FuncRef → Bool → (FuncRef → Lifted) → Result Lifted LinkWhy
-lift_tests once lifts core within lifted =
-    only_if once why.Canon (only_if lifts why.Canon (after (there_or why.Canon core) (λ core. only_if within why.Limit (Ok (lifted core)))))
+abbrev lift_tests : Bool → Bool → Option FuncRef → (FuncRef → Lifted) → Result Lifted LinkWhy
+lift_tests once lifts core lifted = only_if once why.Canon (only_if lifts why.Canon (after (there_or why.Canon core) (λ core. Ok (lifted core))))
 
-module _ (reach : Reach) (n : ℕ) (type : FuncType) (item : CoreItem) (options : List CanonOption) (given : Given) where
-  abbrev within : Bool
-  within = reaches reach (runs_lift options type)
-
+module _ (n : ℕ) (type : FuncType) (item : CoreItem) (options : List CanonOption) (given : Given) where
   abbrev lifted : FuncRef → Lifted
   lifted core = lifted_with n type core given
 
-  pub not_once : stand_once options ≡ false → lifted_to reach n type item options given ≡ Err why.Canon
-  not_once once = ap (λ (b : Bool). lift_tests b (can_be_lifted type item given) (core_func_of item) within lifted) once
+  pub not_once : stand_once options ≡ false → lifted_to n type item options given ≡ Err why.Canon
+  not_once once = ap (λ (b : Bool). lift_tests b (can_be_lifted type item given) (core_func_of item) lifted) once
 
-  tests_left : stand_once options ≡ true → lifted_to reach n type item options given ≡ lift_tests true (can_be_lifted type item given) (core_func_of item) within lifted
-  tests_left once = ap (λ (b : Bool). lift_tests b (can_be_lifted type item given) (core_func_of item) within lifted) once
+  tests_left : stand_once options ≡ true → lifted_to n type item options given ≡ lift_tests true (can_be_lifted type item given) (core_func_of item) lifted
+  tests_left once = ap (λ (b : Bool). lift_tests b (can_be_lifted type item given) (core_func_of item) lifted) once
 
-  pub not_lifted : stand_once options ≡ true → can_be_lifted type item given ≡ false → lifted_to reach n type item options given ≡ Err why.Canon
-  not_lifted once lifts = tests_left once ∙ ap (λ (b : Bool). lift_tests true b (core_func_of item) within lifted) lifts
+  pub not_lifted : stand_once options ≡ true → can_be_lifted type item given ≡ false → lifted_to n type item options given ≡ Err why.Canon
+  not_lifted once lifts = tests_left once ∙ ap (λ (b : Bool). lift_tests true b (core_func_of item) lifted) lifts
 
   module _ (once : stand_once options ≡ true) (lifts : can_be_lifted type item given ≡ true) where
-    core_left : (o : Option FuncRef) → core_func_of item ≡ o → lifted_to reach n type item options given ≡ lift_tests true true o within lifted
+    core_left : (o : Option FuncRef) → core_func_of item ≡ o → lifted_to n type item options given ≡ lift_tests true true o lifted
     core_left o is =
-        tests_left once ∙ ap (λ (b : Bool). lift_tests true b (core_func_of item) within lifted) lifts ∙ ap (λ (o : Option FuncRef). lift_tests true true o within lifted) is
+        tests_left once ∙ ap (λ (b : Bool). lift_tests true b (core_func_of item) lifted) lifts ∙ ap (λ (o : Option FuncRef). lift_tests true true o lifted) is
 
-    pub no_core : core_func_of item ≡ None → lifted_to reach n type item options given ≡ Err why.Canon
+    pub no_core : core_func_of item ≡ None → lifted_to n type item options given ≡ Err why.Canon
     no_core is = core_left None is
 
-    pub past_reach : (core : FuncRef) → core_func_of item ≡ Some core → within ≡ false → lifted_to reach n type item options given ≡ Err why.Limit
-    past_reach core is past = core_left (Some core) is ∙ ap (λ (b : Bool). lift_tests true true (Some core) b lifted) past
-
-    pub is_lift : (core : FuncRef) → core_func_of item ≡ Some core → within ≡ true → lifted_to reach n type item options given ≡ Ok (lifted core)
-    is_lift core is reached = core_left (Some core) is ∙ ap (λ (b : Bool). lift_tests true true (Some core) b lifted) reached
+    pub is_lift : (core : FuncRef) → core_func_of item ≡ Some core → lifted_to n type item options given ≡ Ok (lifted core)
+    is_lift core is = core_left (Some core) is
 
 -- What a lift comes to where its parts are there or not.
-module _ (reach : Reach) (n : ℕ) (s : Spaces) (f : ℕ) (options : List CanonOption) (t : ℕ) where
-  pub no_item : slice_get s.core_funcs f ≡ None → lifted_of reach n s f options t ≡ Err why.Index
+module _ (n : ℕ) (s : Spaces) (f : ℕ) (options : List CanonOption) (t : ℕ) where
+  pub no_item : slice_get s.core_funcs f ≡ None → lifted_of n s f options t ≡ Err why.Index
   no_item h = rw h refl
 
   module _ (item : CoreItem) (is : slice_get s.core_funcs f ≡ Some item) where
-    pub no_option : list_all (is_option_there s) options ≡ false → lifted_of reach n s f options t ≡ Err why.Index
+    pub no_option : list_all (is_option_there s) options ≡ false → lifted_of n s f options t ≡ Err why.Index
     no_option h = rw (is, h) refl
 
     module _ (are : list_all (is_option_there s) options ≡ true) where
-      pub no_type : slice_get s.types t ≡ None → lifted_of reach n s f options t ≡ Err why.Index
+      pub no_type : slice_get s.types t ≡ None → lifted_of n s f options t ≡ Err why.Index
       no_type h = rw (is, are, h) refl
 
       -- of a reference to another type than one of functions, and to one of functions
       pub other_type : (table : Table) (ref : TypeRef) (type : Closed) → ((g : FuncTypeRef) → ref ≡ type_ref.Func g → ⊥) → slice_get s.types t ≡ Some type → IsType table ref type
-          → lifted_of reach n s f options t ≡ Err why.Typing
+          → lifted_of n s f options t ≡ Err why.Typing
       other_type table (type_ref.Value val) (Value type) other h of = rw (is, are, h) refl
       other_type table (type_ref.Instance ref) (Instance type) other h of = rw (is, are, h) refl
       other_type table (type_ref.Func ref) type other h of = absurd (other ref refl)
@@ -100,7 +91,7 @@ module _ (reach : Reach) (n : ℕ) (s : Spaces) (f : ℕ) (options : List CanonO
       other_type table (type_ref.Instance ref) (Value type) other h of = absurd of
       other_type table (type_ref.Instance ref) (Func type) other h of = absurd of
 
-      pub of_parts : (type : Closed) (of_func : FuncType) → slice_get s.types t ≡ Some type → type ≡ Func of_func → lifted_of reach n s f options t ≡ lifted_to reach n of_func item options (given_by s options)
+      pub of_parts : (type : Closed) (of_func : FuncType) → slice_get s.types t ≡ Some type → type ≡ Func of_func → lifted_of n s f options t ≡ lifted_to n of_func item options (given_by s options)
       of_parts type of_func h e = rw (is, are, h, e) refl
 
 pub of_func_type : (table : Table) (ref : FuncTypeRef) (type : Closed) → IsType table (type_ref.Func ref) type → (f : FuncType) × (type ≡ Func f) × IsFunc table ref f

@@ -57,9 +57,9 @@ case_sets l n s (Item-F.CoreInstance c) new h = core_instance_sets l n s c new h
 case_sets l n s (Item-F.Component c) new e = set_by l n _ new e
 case_sets l n s (Item-F.Instance i) new h = instance_sets l n s i new h
 case_sets l n s (Item-F.Alias alias) new h = alias_sets l n s alias.sort alias.target new h
-case_sets l n s (Item-F.Type type) new (closed, is, within, e) = set_by l n _ new e
-case_sets l n s (Item-F.Canon (Lift f options t)) new (item, core, type, is, of_core, there, of_type, once, lifts, within, e) = set_by l n _ new e
-case_sets l n s (Item-F.Canon (Lower f options)) new (func, is, there, once, lowers, within, e) = (with_core_item s (Func (func_ref.Canon (length l.canons)) (lowered_type func.func_type)), ap (λ (l : Linking). l.scopes) e)
+case_sets l n s (Item-F.Type type) new (closed, is, e) = set_by l n _ new e
+case_sets l n s (Item-F.Canon (Lift f options t)) new (item, core, type, is, of_core, there, of_type, once, lifts, e) = set_by l n _ new e
+case_sets l n s (Item-F.Canon (Lower f options)) new (func, is, there, once, lowers, e) = (with_core_item s (Func (func_ref.Canon (length l.canons)) (lowered_type func.func_type)), ap (λ (l : Linking). l.scopes) e)
 case_sets l n s (Item-F.Import i) new (extern, d, is, fresh, imported, e) = set_by l n _ new e
 case_sets l n s (Item-F.Export x) new (d, y, is, fresh, exported, e) = set_by l n _ new e
 

@@ -1,5 +1,5 @@
 -- What linking comes to is sound, and what it comes to from there is come to.
-use Rattle.std.proofs.Common.{◌≡◌, ℕ, zero, suc, List, [], ◌∷◌, length, refl, sym, subst, Option, Some, None}
+use Rattle.std.proofs.Common.{◌≡◌, ℕ, zero, suc, List, [], ◌∷◌, length, refl, subst, Option, Some, None}
 use Rattle.std.specs.Prelude.{Result, Ok, Err}
 use Rattle.std.specs.List.{slice_get, AllByRecursion}
 use Rattle.std.proofs.lemmas.Option.{slice_get_within}
@@ -8,7 +8,6 @@ use Rattle.comp_graph.specs.Graph.{IsItem}
 use Rattle.comp_tree.specs.declared.items.Item.{Item, out-Item}
 use Rattle.comp_linking.specs.declared.fault.LinkWhy.{LinkWhy}
 use Rattle.comp_linking.specs.declared.fault.LinkFault.{LinkFault}
-use Rattle.comp_linking.specs.declared.reach.Reach.{Reach}
 use Rattle.comp_linking.specs.Definitions.{CoreExport, Closure, Exports, AnInstance}
 use Rattle.comp_linking.specs.Spaces.{Spaces, Linking, new_spaces, with_definition}
 use Rattle.comp_linking.specs.Linked.{begun, with_instance, exports_at, no_items, root_begun}
@@ -27,42 +26,39 @@ use Rattle.comp_link.proofs.Keeping.{maker_stays}
 
 -- a linking that is sound as far as it goes
 abbrev IsSoundSoFar : Linking → Type 0
-IsSoundSoFar l = IsLinkingSound AnyModule l.reach l
+IsSoundSoFar l = IsLinkingSound AnyModule l
 
-spaces_sound : (l : Linking) (n : ℕ) (s : Spaces) → IsSoundSoFar l → slice_get l.scopes n ≡ Some s → AreSpacesSound AnyModule l.reach l.cores l.canons s
-spaces_sound l n s h e = holds_at (AreSpacesSound AnyModule l.reach l.cores l.canons) (slice_get l.scopes n) s (all_at (AreSpacesSound AnyModule l.reach l.cores l.canons) l.scopes n h.scopes) e
+spaces_sound : (l : Linking) (n : ℕ) (s : Spaces) → IsSoundSoFar l → slice_get l.scopes n ≡ Some s → AreSpacesSound AnyModule l.cores l.canons s
+spaces_sound l n s h e = holds_at (AreSpacesSound AnyModule l.cores l.canons) (slice_get l.scopes n) s (all_at (AreSpacesSound AnyModule l.cores l.canons) l.scopes n h.scopes) e
 
-root_sound : (reach : Reach) → IsSoundSoFar (root_begun reach)
-root_sound reach = any_sound reach (record { items = [] }) (root_begun reach) (no_items (root_begun reach) 0)
+root_sound : IsSoundSoFar root_begun
+root_sound = any_sound (record { items = [] }) root_begun (no_items root_begun 0)
 
 made_sound : (l new : Linking) (n : ℕ) (s : Spaces) (item : Item) → IsSoundSoFar l → slice_get l.scopes n ≡ Some s → item_outcome l n s item ≡ Ok (Makes new) → IsSoundSoFar new
 made_sound l new n s item h there e =
     let makes = (outcome_computed l n s item (Makes new)).0 e in
     let placed : Placed Item = record { place = 0; item = item } in
-    let reached = case_reached AnyModule l.reach l n s (out-Item item) new (shape_has AnyModule placed [] (λ m k. tt) (out-Item item) refl) h (spaces_sound l n s h there) makes in
-    subst (λ (reach : Reach). IsLinkingSound AnyModule reach new) (sym reached.sound.of_reach) reached.sound
+    (case_reached AnyModule l n s (out-Item item) new (shape_has AnyModule placed [] (λ m k. tt) (out-Item item) refl) h (spaces_sound l n s h there) makes).sound
 
 begun_sound : (l : Linking) (n : ℕ) (s : Spaces) (item : Item) (c : Closure) (given : Exports) → IsSoundSoFar l → slice_get l.scopes n ≡ Some s → item_outcome l n s item ≡ Ok (Starts c given) → IsSoundSoFar (begun l c given)
 begun_sound l n s item c given h there e =
     let begins = (outcome_computed l n s item (Starts c given)).0 e in
-    let sound = are_named_sound AnyModule l.reach l.cores l.canons s begins.named given (spaces_sound l n s h there) begins.distinct begins.given in
+    let sound = are_named_sound AnyModule l.cores l.canons s begins.named given (spaces_sound l n s h there) begins.distinct begins.given in
     record {
-      of_reach = h.of_reach;
-      scopes = all_push (AreSpacesSound AnyModule l.reach l.cores l.canons) l.scopes (new_spaces (Some given) c.around) h.scopes (sound_new AnyModule l.reach l.cores l.canons (Some given) c.around sound);
+      scopes = all_push (AreSpacesSound AnyModule l.cores l.canons) l.scopes (new_spaces (Some given) c.around) h.scopes (sound_new AnyModule l.cores l.canons (Some given) c.around sound);
       imported = h.imported;
       made = h.made;
       called = h.called;
-      plain = h.plain;
       modules_have = h.modules_have;
     }
 
 ended_sound : (l : Linking) (n : ℕ) (s : Spaces) (instance : ℕ) → IsSoundSoFar l → slice_get l.scopes n ≡ Some s → IsSoundSoFar (with_instance l n s instance)
 ended_sound l n s instance h there =
-    with_spaces_sound AnyModule l.reach l n (with_definition s (AnInstance (exports_at l instance))) h
-    (sound_definition AnyModule l.reach l.cores l.canons s (AnInstance (exports_at l instance)) (spaces_sound l n s h there) (exports_sound AnyModule l.reach l instance h))
+    with_spaces_sound AnyModule l n (with_definition s (AnInstance (exports_at l instance))) h
+    (sound_definition AnyModule l.cores l.canons s (AnInstance (exports_at l instance)) (spaces_sound l n s h there) (exports_sound AnyModule l instance h))
 
 reached_sound : (l : Linking) → IsReached l → IsSoundSoFar l
-reached_sound l (root_begins reach) = root_sound reach
+reached_sound l root_begins = root_sound
 reached_sound l (item_makes before new n s item h there e) = made_sound before new n s item (reached_sound before h) there e
 reached_sound l (component_begins before n s item c given h there e) = begun_sound before n s item c given (reached_sound before h) there e
 reached_sound l (instance_ends before n s instance h there) = ended_sound before n s instance (reached_sound before h) there

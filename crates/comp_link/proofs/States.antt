@@ -30,8 +30,8 @@ same_world w = record { components = λ number x h. h; bases = λ number x h. h;
 -- a state stays where the tables behind it have grown
 pub state_stays : (bases more : List Exports) (k m : Linker) (l : Linking)
     → Grows k.types m.types → WorldStays (world_of bases k) (world_of more m) → AreInstances m.types (world_of more m) m.instances
-    → m.scopes ≡ k.scopes → m.cores.makes ≡ k.cores.makes → m.canons ≡ k.canons → m.canon_types ≡ k.canon_types → m.plan ≡ k.plan → m.reach ≡ k.reach → IsState bases k l → IsState more m l
-state_stays bases more k m l types world instances scopes cores canons canon_types plan reach h = record {
+    → m.scopes ≡ k.scopes → m.cores.makes ≡ k.cores.makes → m.canons ≡ k.canons → m.canon_types ≡ k.canon_types → m.plan ≡ k.plan → IsState bases k l → IsState more m l
+state_stays bases more k m l types world instances scopes cores canons canon_types plan h = record {
   instances = instances;
   scopes = subst (λ (v : Linker). AllZip (IsKept m.types (world_of more m)) v.scopes.items l.scopes) (ap (λ scopes. record k { scopes = scopes }) (sym scopes))
       (zips_weaker (IsKept k.types (world_of bases k)) (IsKept m.types (world_of more m)) (kept_stays k.types m.types (world_of bases k) (world_of more m) types world) k.scopes.items l.scopes h.scopes);
@@ -41,7 +41,6 @@ state_stays bases more k m l types world instances scopes cores canons canon_typ
       (subst (λ (v : Linker). AreCanonTypes m.types.funcs k.canon_types.items v.canons.items) (ap (λ canons. record k { canons = canons }) (sym canons))
       (canons_stay k.types m.types types k.canon_types.items k.canons.items h.canon_types));
   plan = h.plan ∙ ap (λ plan. plan.items) (sym plan);
-  reach = h.reach ∙ sym reach;
 }
 
 -- more types
@@ -56,7 +55,6 @@ types_grow bases k m l grows same h = subst (λ (v : Linker). IsState bases v l)
       canons = h.canons;
       canon_types = canons_stay k.types m.types grows k.canon_types.items k.canons.items h.canon_types;
       plan = h.plan;
-      reach = h.reach;
     }
 
 pub at_grows : (bases : List Exports) (k m : Linker) (n : ℕ) (l : Linking) (s : Spaces) → Grows k.types m.types → m ≡ record k { types = m.types } → IsAt bases k n l s → IsAt bases m n l s
@@ -95,7 +93,6 @@ scope_set bases k n l s next old new is within becomes at = record {
   canons = at.state.canons;
   canon_types = at.state.canon_types;
   plan = at.state.plan;
-  reach = at.state.reach;
 }
 
 pub ended_set : (k : Linker) (n : ℕ) (old new : Scope) → old ≡ get_or k.scopes.items n old → n < length k.scopes.items → new.ended ≡ old.ended → ended (record k { scopes = with_item k.scopes n new }) ≡ ended k
@@ -111,7 +108,6 @@ scope_ended bases k n l old new is within types components over h = record {
   canons = h.canons;
   canon_types = h.canon_types;
   plan = h.plan;
-  reach = h.reach;
 }
   where
     kept : (s : Spaces) → IsKept k.types (world_of bases k) old s → IsKept k.types (world_of bases k) new s
@@ -150,7 +146,7 @@ components_more bases k m n l s c same is at = subst (λ (v : Linker). IsAt base
     }
 
     state : IsState bases (record k { components = m.components }) l
-    state = state_stays bases bases k (record k { components = m.components }) l (grows_refl k.types) stays (instances_stay k.types k.types (world_of bases k) world (grows_refl k.types) stays k.instances refl at.state.instances) refl refl refl refl refl refl at.state
+    state = state_stays bases bases k (record k { components = m.components }) l (grows_refl k.types) stays (instances_stay k.types k.types (world_of bases k) world (grows_refl k.types) stays k.instances refl at.state.instances) refl refl refl refl refl at.state
 
 pub modules_more : (bases : List Exports) (k m : Linker) (n : ℕ) (l : Linking) (s : Spaces) (made : ModuleTree)
     → m ≡ record k { cores = m.cores } → m.cores ≡ record k.cores { modules = k.cores.modules ++ made ∷ [] } → IsAt bases k n l s → IsAt bases m n l s
@@ -167,13 +163,13 @@ modules_more bases k m n l s made same is at = subst (λ (v : Linker). IsAt base
     }
 
     state : IsState bases (record k { cores = m.cores }) l
-    state = state_stays bases bases k (record k { cores = m.cores }) l (grows_refl k.types) stays (instances_stay k.types k.types (world_of bases k) world (grows_refl k.types) stays k.instances refl at.state.instances) refl (ap (λ (cs : CoreLists). cs.makes) is) refl refl refl refl at.state
+    state = state_stays bases bases k (record k { cores = m.cores }) l (grows_refl k.types) stays (instances_stay k.types k.types (world_of bases k) world (grows_refl k.types) stays k.instances refl at.state.instances) refl (ap (λ (cs : CoreLists). cs.makes) is) refl refl refl at.state
 
 -- one instance more
 pub instance_more : (bases : List Exports) (k m : Linker) (l : Linking) (exports : Exports)
     → m ≡ record k { instances = m.instances } → AreInstances k.types (with_base (world_of bases k) exports) m.instances → IsState bases k l → IsState (bases ++ exports ∷ []) m l
 instance_more bases k m l exports same instances h = subst (λ (v : Linker). IsState (bases ++ exports ∷ []) v l) (sym same)
-    (state_stays bases (bases ++ exports ∷ []) k (record k { instances = m.instances }) l (grows_refl k.types) (more_bases (world_of bases k) exports) instances refl refl refl refl refl refl h)
+    (state_stays bases (bases ++ exports ∷ []) k (record k { instances = m.instances }) l (grows_refl k.types) (more_bases (world_of bases k) exports) instances refl refl refl refl refl h)
 
 -- an instance that was there, or is one more
 pub instance_given : (bases : List Exports) (k m : Linker) (l : Linking) (i : InstanceRef) (exports : Exports)
@@ -181,7 +177,7 @@ pub instance_given : (bases : List Exports) (k m : Linker) (l : Linking) (i : In
 instance_given bases k m l i exports same gives h = subst (λ (v : Linker). IsThere v l i exports) (sym same) (by gives)
   where
     by : GivesInstance k.types (world_of bases k) m.instances i exports → IsThere (record k { instances = m.instances }) l i exports
-    by (inl has) = record { bases = bases; state = record { instances = has.are; scopes = h.scopes; cores = h.cores; canons = h.canons; canon_types = h.canon_types; plan = h.plan; reach = h.reach }; instance = has.is }
+    by (inl has) = record { bases = bases; state = record { instances = has.are; scopes = h.scopes; cores = h.cores; canons = h.canons; canon_types = h.canon_types; plan = h.plan }; instance = has.is }
     by (inr has) = record {
       bases = bases ++ exports ∷ [];
       state = instance_more bases k (record k { instances = m.instances }) l exports refl has.are h;

@@ -9,12 +9,10 @@ use Rattle.ca_base.specs.declared.memory.MemoryOr.TheVariants as memory
 use Rattle.comp_tree.specs.declared.externs.ExternDesc.{ExternDesc}
 use Rattle.comp_tree.specs.declared.externs.ExternDesc.TheVariants as desc
 use Rattle.comp_tree.specs.declared.externs.Export as read
-use Rattle.comp_tree.specs.declared.types.DefType.{DefType}
 use Rattle.comp_graph.specs.Closed.{Closed, Extern}
 use Rattle.comp_linking.specs.declared.fault.LinkWhy.{LinkWhy}
 use Rattle.comp_linking.specs.declared.fault.LinkWhy.TheVariants as why
 use Rattle.comp_linking.specs.Definitions.{Definition, AType, Exports, export_names, export_named, lacks}
-use Rattle.comp_linking.specs.Runs.{reaches, runs_type}
 use Rattle.comp_linking.specs.Types.{Meaning}
 use Rattle.comp_linking.specs.Spaces.{Spaces, Linking, size_of, definition_at}
 use Rattle.comp_linking.specs.Items.{lacking, wanted}
@@ -148,15 +146,12 @@ module _ (l : Linking) (n : ℕ) (s : Spaces) (name : List ℕ) (meaning : Meani
 
 -- Types.
 
-module _ (l : Linking) (n : ℕ) (s : Spaces) (type : DefType) (meaning : Meaning Closed) (closed : Closed) (there : meaning.is_there ≡ true) (none : meaning.missing ≡ None) (is : meaning.means ≡ Some closed) where
-  pub type_made : meaning.deep ≡ false → reaches l.reach (runs_type type) ≡ true → type_outcome l n s type meaning ≡ Ok (one_more l n s (AType closed))
-  type_made shallow within = rw (there, none, is, shallow, within) refl
+module _ (l : Linking) (n : ℕ) (s : Spaces) (meaning : Meaning Closed) (closed : Closed) (there : meaning.is_there ≡ true) (none : meaning.missing ≡ None) (is : meaning.means ≡ Some closed) where
+  pub type_made : meaning.deep ≡ false → type_outcome l n s meaning ≡ Ok (one_more l n s (AType closed))
+  type_made shallow = rw (there, none, is, shallow) refl
 
-  pub type_deep : meaning.deep ≡ true → type_outcome l n s type meaning ≡ Err why.Limit
+  pub type_deep : meaning.deep ≡ true → type_outcome l n s meaning ≡ Err why.Limit
   type_deep deep = rw (there, none, is, deep) refl
-
-  pub type_past : meaning.deep ≡ false → reaches l.reach (runs_type type) ≡ false → type_outcome l n s type meaning ≡ Err why.Limit
-  type_past shallow past = rw (there, none, is, shallow, past) refl
 
 -- What the root imports.
 

@@ -5,14 +5,13 @@
 use Rattle.std.specs.Prelude.{◌≡◌, ℕ, Some, Ok}
 use Rattle.std.specs.List.{slice_get}
 use Rattle.comp_tree.specs.declared.items.Item.{Item}
-use Rattle.comp_linking.specs.declared.reach.Reach.{Reach}
 use Rattle.comp_linking.specs.Definitions.{Closure, Exports}
 use Rattle.comp_linking.specs.Spaces.{Spaces, Linking}
 use Rattle.comp_linking.specs.Linked.{root_begun, begun, with_instance}
 use Rattle.comp_linking.specs.Computed.{Makes, Starts, item_outcome}
 
 pub data IsReached : Linking → Type 0 where
-  root_begins : (reach : Reach) → IsReached (root_begun reach)
+  root_begins : IsReached root_begun
   item_makes : (l new : Linking) (n : ℕ) (s : Spaces) (item : Item)
       → IsReached l → slice_get l.scopes n ≡ Some s → item_outcome l n s item ≡ Ok (Makes new) → IsReached new
   component_begins : (l : Linking) (n : ℕ) (s : Spaces) (item : Item) (c : Closure) (given : Exports)

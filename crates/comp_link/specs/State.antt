@@ -1,6 +1,6 @@
 -- Linking as it stands (Component Model, Explainer.md, "Index Spaces"): the component instances that have begun, with their index
--- spaces as references into tables, the core instances, the core functions of the Canonical ABI, the plan, and how far linking goes.
--- What stands behind the references is told by the lists of exports that the instances so far have.
+-- spaces as references into tables, the core instances, the core functions of the Canonical ABI, and the plan. What stands behind
+-- the references is told by the lists of exports that the instances so far have.
 use Rattle.std.specs.Prelude.{◌≡◌, ℕ, Bool, false, List, map, Option, Some, None}
 use Rattle.std.specs.List.{slice_get, AllZip}
 use Rattle.wasm_module.specs.declared.module.ModuleTree.{ModuleTree}
@@ -74,7 +74,6 @@ pub record IsState (bases : List Exports) (k : Linker) (l : Linking) : Type 0 wh
   pub canons : l.canons ≡ k.canons.items
   pub canon_types : AreCanonTypes k.types.funcs k.canon_types.items k.canons.items
   pub plan : l.plan ≡ k.plan.items
-  pub reach : l.reach ≡ k.reach
 
 -- It does so for some exports.
 abbrev pub Stands : Linker → Linking → Type 0

@@ -1,9 +1,9 @@
 //! Linking: what a component means once its indices are looked up (Component Model, Explainer.md).
 //!
 //! The layer above takes a component's graph: its core instances, in order of making, the core functions that the Canonical ABI
-//! makes, and the functions that it exports, each with its core function and its type. It says how far linking goes: over all that
-//! is read, or as far as can be run. `link` answers the one graph of a component, as `comp_linking` defines it, or its first item
-//! that is refused, with the place and the reason. Only want of memory keeps it from either.
+//! makes, and the functions that it exports, each with its core function and its type. `link` answers the one graph of a component,
+//! as `comp_linking` defines it, or its first item that is refused, with the place and the reason. Only want of memory keeps it from
+//! either.
 //!
 //! - `linking`: from a component to its graph, item by item
 //! - `core_instances`, `core_aliases`, `lifts`, `lowers`, `aliases`, `types`, `instances`, `imports` and `exports`: what each kind
@@ -35,6 +35,6 @@ mod scope;
 mod seen;
 mod types;
 
-pub use comp_linking::{LinkFault, LinkWhy, Reach};
+pub use comp_linking::{LinkFault, LinkWhy};
 pub use link_fault::LinkError;
 pub use linking::link;

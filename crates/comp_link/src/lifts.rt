@@ -13,24 +13,22 @@ ghost use Rattle.comp_link.specs.Told.{IsTold};
 use crate::link_fault::ItemError;
 use crate::linker::Linker;
 use ca_base::MemoryOr;
-use comp_linking::{LinkWhy, Reach};
+use comp_linking::LinkWhy;
 use comp_tree::{CanonOption, CoreSort};
 use core_exports::{CoreItem, Given, are_there, can_be_lifted, stand_once};
 use instance_tables::{DefinitionRef, LiftedRef};
 use type_tables::{FuncTypeRef, TypeRef, Types};
 
-/// The lift of a core item to a function of this type, with what options give, in the component instance of this number, where
-/// linking goes so far.
+/// The lift of a core item to a function of this type, with what options give, in the component instance of this number.
 fn lifted_to(
     types: &Types<'_>,
-    reach: Reach,
     n: usize,
     item: &CoreItem<'_>,
     options: &[CanonOption],
     given: &Given<'_>,
     func_type: FuncTypeRef,
 ) -> Result<LiftedRef, ItemError>
-    ensures { (f : FuncType) → IsFunc types.now func_type f → IsTold (IsLifted types.now) result (lifted_to reach n f item.now options.now given.now) }
+    ensures { (f : FuncType) → IsFunc types.now func_type f → IsTold (IsLifted types.now) result (lifted_to n f item.now options.now given.now) }
 {
     if !stand_once(options) {
         return Err(MemoryOr::Fault(LinkWhy::Canon));
@@ -44,12 +42,6 @@ fn lifted_to(
     let Some(core) = item.core_func() else {
         return Err(MemoryOr::Fault(LinkWhy::Canon));
     };
-    let Some(closed) = types.func_at(func_type) else {
-        return Err(MemoryOr::Fault(LinkWhy::Canon));
-    };
-    if !reach.has_lift(options, closed.get()) {
-        return Err(MemoryOr::Fault(LinkWhy::Limit));
-    }
     Ok(LiftedRef {
         instance: n,
         core,
@@ -67,7 +59,7 @@ fn lifted(
     func_type: u32,
 ) -> Result<LiftedRef, ItemError>
     requires { n < length linker.now.scopes.items }
-    ensures { (bases : List Exports) (l : Linking) (s : Spaces) → IsAt bases linker.now n l s → IsTold (IsLifted linker.now.types) result (lifted_of l.reach n s core_func options.now func_type) }
+    ensures { (bases : List Exports) (l : Linking) (s : Spaces) → IsAt bases linker.now n l s → IsTold (IsLifted linker.now.types) result (lifted_of n s core_func options.now func_type) }
 {
     let scope = linker.scope(n);
     let Some(item) = scope.core_item(CoreSort::Func, core_func) else {
@@ -83,15 +75,7 @@ fn lifted(
         return Err(MemoryOr::Fault(LinkWhy::Typing));
     };
     let given = Given::by(options, &scope.core_memories, &scope.core_funcs);
-    lifted_to(
-        &linker.types,
-        linker.reach,
-        n,
-        &item,
-        options,
-        &given,
-        of_func,
-    )
+    lifted_to(&linker.types, n, &item, options, &given, of_func)
 }
 
 /// Links a lift.

@@ -29,7 +29,6 @@ use crate::scope::{Scope, Standing};
 use ca_base::{Name, Seq};
 use ca_types::Shared;
 use comp_graph::{Action, CanonFunc, CoreExtern, Options};
-use comp_linking::Reach;
 use comp_tree::{Component, CoreArgument};
 use core_exports::{CoreExports, CoreItem, CoreModule, InlineExports};
 use instance_tables::{DefinitionRef, Fit, InstanceRef, Instances, LiftedRef};
@@ -61,14 +60,12 @@ pub struct Linker<'a> {
     pub canon_types: Vec<usize>,
     /// What is made, in file order.
     pub plan: Vec<Action>,
-    /// How far linking goes.
-    pub reach: Reach,
 }
 
 impl<'a> Linker<'a> {
-    /// The root begins, where linking goes so far. It fails for want of memory alone, as do all calls here that fail.
-    pub fn new(alloc: Global, reach: Reach) -> Result<Linker<'a>, AllocError>
-        ensures ok { IfOk result (λ k. IsState [] k (root_begun reach)) }
+    /// The root begins. It fails for want of memory alone, as do all calls here that fail.
+    pub fn new(alloc: Global) -> Result<Linker<'a>, AllocError>
+        ensures ok { IfOk result (λ k. IsState [] k root_begun) }
         ensures there { IfOk result (λ k. length k.scopes.items ≡ 1) }
         ensures live { IfOk result (λ k. IsLive k 0) }
     {
@@ -86,7 +83,6 @@ impl<'a> Linker<'a> {
             canons: Vec::new(alloc),
             canon_types: Vec::new(alloc),
             plan,
-            reach,
         })
     }
 

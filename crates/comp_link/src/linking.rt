@@ -34,7 +34,7 @@ use ca_base::{MemoryOr, Placed, Seq};
 use ca_types::Shared;
 use comp_graph::Graph;
 use comp_linking::laws::graphs_are_sound;
-use comp_linking::{LinkFault, LinkWhy, Reach};
+use comp_linking::{LinkFault, LinkWhy};
 use comp_tree::{Canon, Component, Item};
 use core_exports::CoreModule;
 use instance_tables::InstanceRef;
@@ -229,24 +229,20 @@ fn link_items<'a>(
 
 /// Links a component (Component Model, Explainer.md and CanonicalABI.md).
 ///
-/// It answers the graph that the component is linked to, or the first item that is refused, with its place and the reason. An
-/// item is refused as `Limit`, behind its other reasons, also where it holds what is past `reach`. `Memory` is want of memory.
-pub fn link<'a>(
-    alloc: Global,
-    component: &'a Component,
-    reach: Reach,
-) -> Result<Graph<'a>, LinkError>
+/// It answers the graph that the component is linked to, or the first item that is refused, with its place and the reason.
+/// `Memory` is want of memory.
+pub fn link<'a>(alloc: Global, component: &'a Component) -> Result<Graph<'a>, LinkError>
     // What is answered is the component's graph.
-    ensures ok { IfOk result (λ g. IsLinked reach component.now g) }
+    ensures ok { IfOk result (λ g. IsLinked component.now g) }
     // What is refused is the first item that has a reason against it, those of components that are instantiated among them.
-    ensures refused { IfErr result (λ e. IfFault e (λ fault. IsLinkRefused reach component.now fault)) }
+    ensures refused { IfErr result (λ e. IfFault e (λ fault. IsLinkRefused component.now fault)) }
     // There are at most 256 component instances, and at most 256 core instances.
     ensures few { IfOk result (λ g. (g.instance_count ≤ instance_limit) × (length g.cores ≤ core_instance_limit)) }
     // The types of values of what can be called nest at most 32 types in one another.
     ensures shallow { IfOk result (λ g. AllByRecursion (λ (e : Export). HasShallowTypes e.func_type) g.exports) }
 {
     graphs_are_sound();
-    let mut linker = Linker::new(alloc, reach)?;
+    let mut linker = Linker::new(alloc)?;
     let items = component.items.as_slice();
     link_items(alloc, &mut linker, ROOT, items, INSTANCE_LIMIT)?;
     Ok(graph_of(alloc, linker)?)

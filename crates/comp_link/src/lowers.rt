@@ -15,21 +15,20 @@ use crate::link_fault::ItemError;
 use crate::linker::Linker;
 use ca_base::MemoryOr;
 use comp_graph::Options;
-use comp_linking::{LinkWhy, Reach};
+use comp_linking::LinkWhy;
 use comp_tree::CanonOption;
 use core_exports::{Given, are_there, can_be_lowered, stand_once};
 use instance_tables::LiftedRef;
 use type_tables::{FuncTypeRef, Types};
 
-/// What options give the lowering of a function of this type, where linking goes so far.
+/// What options give the lowering of a function of this type.
 fn lowered_from(
     types: &Types<'_>,
-    reach: Reach,
     func_type: FuncTypeRef,
     options: &[CanonOption],
     given: &Given<'_>,
 ) -> Result<Options, ItemError>
-    ensures { (f : FuncType) → IsFunc types.now func_type f → IsTold (λ used given. used ≡ options_of given) result (lowered_from reach f options.now given.now) }
+    ensures { (f : FuncType) → IsFunc types.now func_type f → IsTold (λ used given. used ≡ options_of given) result (lowered_from f options.now given.now) }
 {
     if !stand_once(options) {
         return Err(MemoryOr::Fault(LinkWhy::Canon));
@@ -39,9 +38,6 @@ fn lowered_from(
     };
     if !can_be_lowered(laid, given) {
         return Err(MemoryOr::Fault(LinkWhy::Canon));
-    }
-    if !reach.has_lower() {
-        return Err(MemoryOr::Fault(LinkWhy::Limit));
     }
     Ok(given.options())
 }
@@ -64,13 +60,7 @@ fn lowered(
         return Err(MemoryOr::Fault(LinkWhy::Index));
     }
     let given = Given::by(options, &scope.core_memories, &scope.core_funcs);
-    let used = lowered_from(
-        &linker.types,
-        linker.reach,
-        lifted.func_type,
-        options,
-        &given,
-    )?;
+    let used = lowered_from(&linker.types, lifted.func_type, options, &given)?;
     Ok((lifted, used))
 }
 

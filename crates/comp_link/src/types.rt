@@ -94,7 +94,7 @@ fn type_definition<'a>(
     def_type: &'a DefType,
 ) -> Result<DefinitionRef, ItemError>
     requires { n < length linker.old.scopes.items }
-    ensures made { (bases : List Exports) (l : Linking) (s : Spaces) → IsAt bases linker.old n l s → IsTold (IsReady linker.new l (one_more l n s)) result (type_outcome l n s def_type.now (types_read.meaning_of def_type.now (levels_at l (n ∷ s.around)))) }
+    ensures made { (bases : List Exports) (l : Linking) (s : Spaces) → IsAt bases linker.old n l s → IsTold (IsReady linker.new l (one_more l n s)) result (type_outcome l n s (types_read.meaning_of def_type.now (levels_at l (n ∷ s.around)))) }
     ensures scopes { linker.new.scopes ≡ linker.old.scopes }
 {
     let meant = meaning_at(alloc, linker, n, def_type)?;
@@ -110,9 +110,6 @@ fn type_definition<'a>(
     if meant.deep {
         return Err(MemoryOr::Fault(LinkWhy::Limit));
     }
-    if !linker.reach.has_type(def_type) {
-        return Err(MemoryOr::Fault(LinkWhy::Limit));
-    }
     Ok(DefinitionRef::Type(closed))
 }
 
@@ -124,7 +121,7 @@ pub fn link_type<'a>(
     def_type: &'a DefType,
 ) -> Result<(), ItemError>
     requires { n < length linker.old.scopes.items }
-    ensures made { (bases : List Exports) (l : Linking) (s : Spaces) → IsAt bases linker.old n l s → IsTold (λ _ outcome. IsMade linker.new outcome) result (type_outcome l n s def_type.now (types_read.meaning_of def_type.now (levels_at l (n ∷ s.around)))) }
+    ensures made { (bases : List Exports) (l : Linking) (s : Spaces) → IsAt bases linker.old n l s → IsTold (λ _ outcome. IsMade linker.new outcome) result (type_outcome l n s (types_read.meaning_of def_type.now (levels_at l (n ∷ s.around)))) }
     ensures scopes { OnOk result (length linker.new.scopes.items ≡ length linker.old.scopes.items) }
     ensures live { OnOk result (ended linker.new ≡ ended linker.old) }
 {

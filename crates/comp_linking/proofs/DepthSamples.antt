@@ -21,7 +21,6 @@ use Rattle.comp_linking.specs.Meaning.{Meaning, meant, too_deep}
 use Rattle.comp_linking.specs.Shallow.{depth_limit}
 use Rattle.comp_linking.specs.ValueTypes.{capped, value_meaning}
 use Rattle.comp_linking.specs.Spaces.{Spaces, new_spaces, Begin, Linking, levels_at}
-use Rattle.comp_linking.specs.declared.reach.Reach.TheVariants.{Whole}
 use Rattle.comp_linking.specs.Linked.{root_begun}
 use Rattle.comp_linking.specs.Computed.{Run, run, type_outcome, outcome_case, item_outcome, answer_of}
 use Rattle.comp_linking.specs.Examples.{placed_from, fault, list_of, lists_of, lists, begins}
@@ -48,7 +47,7 @@ abbrev spaces : ℕ → Spaces
 spaces n = record (new_spaces None []) { types = known n }
 
 abbrev so_far : ℕ → Linking
-so_far n = record { scopes = spaces n ∷ []; cores = []; canons = []; plan = Begin 0 ∷ []; reach = Whole }
+so_far n = record { scopes = spaces n ∷ []; cores = []; canons = []; plan = Begin 0 ∷ [] }
 
 pub known_length : (n : ℕ) → length (known n) ≡ suc n
 known_length zero = refl
@@ -74,10 +73,10 @@ list_meaning n = rw (is_known n, mapped_at (known n) n (Value (nested n)) (known
 abbrev list_type : ℕ → DefType
 list_type n = plain_type.Value (value.List (type_ref.Index n))
 
-list_outcome : (n : ℕ) (meaning : Meaning Closed) → capped (Some (nested (suc n))) ≡ meaning → item_outcome (so_far n) 0 (spaces n) (list_of n) ≡ type_outcome (so_far n) 0 (spaces n) (list_type n) meaning
+list_outcome : (n : ℕ) (meaning : Meaning Closed) → capped (Some (nested (suc n))) ≡ meaning → item_outcome (so_far n) 0 (spaces n) (list_of n) ≡ type_outcome (so_far n) 0 (spaces n) meaning
 list_outcome n meaning e =
     ap (outcome_case (so_far n) 0 (spaces n)) (outs-Type (list_type n))
-    ∙ ap (type_outcome (so_far n) 0 (spaces n) (list_type n)) (value_rolled (value.List (type_ref.Index n)) (levels_at (so_far n) (0 ∷ [])) ∙ list_meaning n ∙ e)
+    ∙ ap (type_outcome (so_far n) 0 (spaces n)) (value_rolled (value.List (type_ref.Index n)) (levels_at (so_far n) (0 ∷ [])) ∙ list_meaning n ∙ e)
 
 pub shallow_list : (n : ℕ) → suc (suc n) ≤ depth_limit → capped (Some (nested (suc n))) ≡ meant (Some (Value (nested (suc n))))
 shallow_list n h = rw (within) refl
@@ -115,11 +114,11 @@ refused inside n (suc more) at h =
     rw (list_outcome n (meant (Some (Value (nested (suc n))))) (shallow_list n within)) (refused inside (suc n) more (at + 1) left ∙ ap (λ (place : ℕ). Err (limit_at place)) same)
 
 -- The component, which begins with u32.
-first : (inside : Run) (count : ℕ) → run inside (root_begun Whole) 0 (lists count).items ≡ run inside (so_far 0) 0 (placed_from 1 (lists_of 0 count))
+first : (inside : Run) (count : ℕ) → run inside root_begun 0 (lists count).items ≡ run inside (so_far 0) 0 (placed_from 1 (lists_of 0 count))
 first inside count = simp (outs-Type, value_rolled, leaf_depth) refl
 
-pub within : (inside : Run) → answer_of (run inside (root_begun Whole) 0 (lists 31).items) ≡ begins (0 ∷ [])
+pub within : (inside : Run) → answer_of (run inside root_begun 0 (lists 31).items) ≡ begins (0 ∷ [])
 within inside = ap answer_of (first inside 31 ∙ made inside 0 31 1 (omega arith))
 
-pub beyond : (inside : Run) → answer_of (run inside (root_begun Whole) 0 (lists 32).items) ≡ fault 32 why.Limit
+pub beyond : (inside : Run) → answer_of (run inside root_begun 0 (lists 32).items) ≡ fault 32 why.Limit
 beyond inside = ap answer_of (first inside 32 ∙ refused inside 0 31 1 refl)

@@ -9,7 +9,6 @@ use Rattle.std.proofs.lemmas.Slice.Eq.{bytes_eq-Decides}
 use Rattle.ca_base.specs.Names.{AreDistinct, is_among}
 use Rattle.wasm_module.specs.declared.module.ModuleTree.{ModuleTree}
 use Rattle.comp_graph.specs.Graph.{names}
-use Rattle.comp_linking.specs.declared.reach.Reach.{Reach}
 use Rattle.comp_linking.specs.Definitions.{AFunc, AnInstance, Exports, EmptyInstance, WithExport, export_names}
 use Rattle.comp_linking.specs.Spaces.{CoreMake}
 use Rattle.comp_graph.specs.declared.graph.CanonFunc.{CanonFunc}
@@ -68,8 +67,8 @@ cut_front (b ∷ name) rest h = rw (no_hash b h.0) (ap (λ (name : List ℕ). b 
 abbrev names_of : List Callable → List (List ℕ)
 names_of cs = map (λ (c : Callable). c.name) cs
 
-module _ (R : ModuleTree → Type 0) (reach : Reach) (cores : List CoreMake) (canons : List CanonFunc) where
-  pub exports_distinct : (exports : Exports) → AreSound R reach cores canons exports → AreDistinct (export_names exports)
+module _ (R : ModuleTree → Type 0) (cores : List CoreMake) (canons : List CanonFunc) where
+  pub exports_distinct : (exports : Exports) → AreSound R cores canons exports → AreDistinct (export_names exports)
   exports_distinct EmptyInstance h = tt
   exports_distinct (WithExport others name d) h = distinct_push (export_names others) name (exports_distinct others h.0) (fresh_apart (export_names others) name h.2)
 
@@ -81,7 +80,7 @@ module _ (R : ModuleTree → Type 0) (reach : Reach) (cores : List CoreMake) (ca
   others_behind front (WithExport others q d) name h =
       all_both (λ (c : Callable). c.name ≢ front ++ name) (funcs_behind front others) [] (others_behind front others name (fresh_before name (export_names others) q h).0) tt
 
-  behind_distinct : (front : List ℕ) (exports : Exports) → AreSound R reach cores canons exports → AreDistinct (names_of (funcs_behind front exports))
+  behind_distinct : (front : List ℕ) (exports : Exports) → AreSound R cores canons exports → AreDistinct (names_of (funcs_behind front exports))
   behind_distinct front EmptyInstance h = tt
   behind_distinct front (WithExport others name (AFunc f)) h =
       subst AreDistinct (sym (map-append (λ (c : Callable). c.name) (funcs_behind front others) (record { name = front ++ name; func = f } ∷ [])))
@@ -114,7 +113,7 @@ module _ (R : ModuleTree → Type 0) (reach : Reach) (cores : List CoreMake) (ca
   apart_from cs name n e h =
       all_mapped (λ (c : Callable). c.name) (λ m. m ≢ n) cs (all_weaker (λ (c : Callable). front_of c.name ≢ name) (λ (c : Callable). c.name ≢ n) (λ c k same. k (ap front_of same ∙ e)) cs h)
 
-  callables_distinct : (exports : Exports) → AllByRecursion HasNoHash (export_names exports) → AreSound R reach cores canons exports → AreDistinct (names_of (callables exports))
+  callables_distinct : (exports : Exports) → AllByRecursion HasNoHash (export_names exports) → AreSound R cores canons exports → AreDistinct (names_of (callables exports))
   callables_distinct EmptyInstance none h = tt
   callables_distinct (WithExport others name (AFunc f)) none h =
       let n = all_before HasNoHash (export_names others) name none in
@@ -136,9 +135,9 @@ names_called [] = refl
 names_called (c ∷ cs) = ap (λ (ns : List (List ℕ)). c.name ∷ ns) (names_called cs)
 
 pub root_names_are_distinct : RootNamesAreDistinct
-root_names_are_distinct reach c l links = let h = any_sound reach c l links in exports_distinct AnyModule reach l.cores l.canons (exports_at l 0) (exports_sound AnyModule reach l 0 h)
+root_names_are_distinct c l links = let h = any_sound c l links in exports_distinct AnyModule l.cores l.canons (exports_at l 0) (exports_sound AnyModule l 0 h)
 
 pub names_are_distinct : NamesAreDistinct
-names_are_distinct reach c l links none =
-    let h = any_sound reach c l links in
-    subst AreDistinct (sym (names_called (callables (exports_at l 0)))) (callables_distinct AnyModule reach l.cores l.canons (exports_at l 0) none (exports_sound AnyModule reach l 0 h))
+names_are_distinct c l links none =
+    let h = any_sound c l links in
+    subst AreDistinct (sym (names_called (callables (exports_at l 0)))) (callables_distinct AnyModule l.cores l.canons (exports_at l 0) none (exports_sound AnyModule l 0 h))

@@ -21,7 +21,6 @@ use Rattle.comp_tree.specs.declared.instances.AliasTarget.TheVariants as target
 use Rattle.comp_tree.specs.declared.externs.ExternDesc.{ExternDesc}
 use Rattle.comp_tree.specs.declared.externs.ExternDesc.TheVariants as desc
 use Rattle.comp_tree.specs.declared.externs.Export as read
-use Rattle.comp_tree.specs.declared.types.DefType.{DefType}
 use Rattle.comp_tree.specs.declared.items.CanonOption.{CanonOption}
 use Rattle.comp_tree.specs.declared.items.Canon.TheVariants.{Lift, Lower}
 use Rattle.comp_tree.specs.declared.items.Item.{Item, out-Item}
@@ -31,7 +30,6 @@ use Rattle.comp_linking.specs.declared.fault.LinkWhy.{LinkWhy}
 use Rattle.comp_linking.specs.declared.fault.LinkWhy.TheVariants as why
 use Rattle.comp_graph.specs.Closed.{Closed, Extern, OfFunc, OfType, OfInstance, func_of}
 use Rattle.comp_linking.specs.Definitions.{CoreItem, CoreExport, core_named, CoreFits, Closure, Definition, AFunc, AType, AComponent, AnInstance, AModule, Exports, EmptyInstance, WithExport, export_names, export_named, Fits, lacks}
-use Rattle.comp_linking.specs.Runs.{reaches, runs_type, runs_lift, runs_lower}
 use Rattle.comp_linking.specs.Canons.{IsOptionThere, given_by, CanBeLifted, CanBeLowered}
 use Rattle.comp_linking.specs.Types.{Meaning, found, meaning_of, desc_meaning}
 use Rattle.comp_linking.specs.Spaces.{Spaces, Linking, core_size, size_of, core_item_at, definition_at, IsOfSort, levels_at, outer_at}
@@ -161,45 +159,43 @@ alias_excludes l n s sort (target.Outer up index) new why.Limit k h = h
 
 -- Types.
 
-type_excludes : (l : Linking) (n : ℕ) (s : Spaces) (type : DefType) (meaning : Meaning Closed) (new : Linking) (w : LinkWhy) → IsWhole meaning → type_makes l n s type meaning new → type_has l.reach type meaning w → ⊥
-type_excludes l n s type meaning new why.Index whole (closed, is, within, made) h = true_false meaning.is_there (whole closed is.0).0 h
-type_excludes l n s type meaning new (why.Missing name) whole (closed, is, within, made) h = both_of meaning.missing name h (whole closed is.0).1
-type_excludes l n s type meaning new why.Typing whole (closed, is, within, made) h = both_of meaning.means closed is.0 h
-type_excludes l n s type meaning new why.Limit whole (closed, is, within, made) (inl deep) = true_false meaning.deep deep is.1
-type_excludes l n s type meaning new why.Limit whole (closed, is, within, made) (inr past) = true_false (reaches l.reach (runs_type type)) within past
-type_excludes l n s type meaning new why.RootImport whole k h = h
-type_excludes l n s type meaning new why.Canon whole k h = h
+type_excludes : (l : Linking) (n : ℕ) (s : Spaces) (meaning : Meaning Closed) (new : Linking) (w : LinkWhy) → IsWhole meaning → type_makes l n s meaning new → type_has meaning w → ⊥
+type_excludes l n s meaning new why.Index whole (closed, is, made) h = true_false meaning.is_there (whole closed is.0).0 h
+type_excludes l n s meaning new (why.Missing name) whole (closed, is, made) h = both_of meaning.missing name h (whole closed is.0).1
+type_excludes l n s meaning new why.Typing whole (closed, is, made) h = both_of meaning.means closed is.0 h
+type_excludes l n s meaning new why.Limit whole (closed, is, made) deep = true_false meaning.deep deep is.1
+type_excludes l n s meaning new why.RootImport whole k h = h
+type_excludes l n s meaning new why.Canon whole k h = h
 
 -- Lifts.
 
-lift_excludes : (l : Linking) (n : ℕ) (s : Spaces) (f : ℕ) (options : List CanonOption) (t : ℕ) (new : Linking) (w : LinkWhy) → lift_makes l n s f options t new → lift_has l.reach s f options t w → ⊥
-lift_excludes l n s f options t new why.Index (item, core, type, is, of_item, there, of_type, once, fits, within, made) (inl none) = both_of (slice_get s.core_funcs f) item is none
-lift_excludes l n s f options t new why.Index (item, core, type, is, of_item, there, of_type, once, fits, within, made) (inr (inl absent)) =
+lift_excludes : (l : Linking) (n : ℕ) (s : Spaces) (f : ℕ) (options : List CanonOption) (t : ℕ) (new : Linking) (w : LinkWhy) → lift_makes l n s f options t new → lift_has s f options t w → ⊥
+lift_excludes l n s f options t new why.Index (item, core, type, is, of_item, there, of_type, once, fits, made) (inl none) = both_of (slice_get s.core_funcs f) item is none
+lift_excludes l n s f options t new why.Index (item, core, type, is, of_item, there, of_type, once, fits, made) (inr (inl absent)) =
     some_all (IsOptionThere s) (λ o. IsOptionThere s o → ⊥) (λ o h k. k h) options there absent
-lift_excludes l n s f options t new why.Index (item, core, type, is, of_item, there, of_type, once, fits, within, made) (inr (inr none)) =
+lift_excludes l n s f options t new why.Index (item, core, type, is, of_item, there, of_type, once, fits, made) (inr (inr none)) =
     let p = then_some func_of (slice_get s.types t) type of_type in both_of (slice_get s.types t) p.0 p.1 none
-lift_excludes l n s f options t new why.Typing (item, core, type, is, of_item, there, of_type, once, fits, within, made) h =
+lift_excludes l n s f options t new why.Typing (item, core, type, is, of_item, there, of_type, once, fits, made) h =
     let p = then_some func_of (slice_get s.types t) type of_type in
     both_of (func_of p.0) type p.2 (match_at (λ type. func_of type ≡ None) (slice_get s.types t) p.0 p.1 h)
-lift_excludes l n s f options t new why.Canon (item, core, type, is, of_item, there, of_type, once, fits, within, made) (inl twice) = twice once
-lift_excludes l n s f options t new why.Canon (item, core, type, is, of_item, there, of_type, once, fits, within, made) (inr h) =
+lift_excludes l n s f options t new why.Canon (item, core, type, is, of_item, there, of_type, once, fits, made) (inl twice) = twice once
+lift_excludes l n s f options t new why.Canon (item, core, type, is, of_item, there, of_type, once, fits, made) (inr h) =
     let k = match_at (λ type. MatchOption (slice_get s.core_funcs f) ⊥ (λ item. CanBeLifted type item (given_by s options) → ⊥)) (option_and_then func_of (slice_get s.types t)) type of_type h in
     match_at (λ item. CanBeLifted type item (given_by s options) → ⊥) (slice_get s.core_funcs f) item is k fits
-lift_excludes l n s f options t new why.Limit (item, core, type, is, of_item, there, of_type, once, fits, within, made) h =
-    true_false (reaches l.reach (runs_lift options type)) within (match_at (λ type. reaches l.reach (runs_lift options type) ≡ false) (option_and_then func_of (slice_get s.types t)) type of_type h)
 lift_excludes l n s f options t new why.RootImport k h = h
+lift_excludes l n s f options t new why.Limit k h = h
 lift_excludes l n s f options t new (why.Missing name) k h = h
 
 -- Lowers.
 
-lower_excludes : (l : Linking) (n : ℕ) (s : Spaces) (f : ℕ) (options : List CanonOption) (new : Linking) (w : LinkWhy) → lower_makes l n s f options new → lower_has l.reach s f options w → ⊥
-lower_excludes l n s f options new why.Index (func, is, there, once, fits, within, made) (inl none) = both_of (slice_get s.funcs f) func is none
-lower_excludes l n s f options new why.Index (func, is, there, once, fits, within, made) (inr absent) = some_all (IsOptionThere s) (λ o. IsOptionThere s o → ⊥) (λ o h k. k h) options there absent
-lower_excludes l n s f options new why.Canon (func, is, there, once, fits, within, made) (inl twice) = twice once
-lower_excludes l n s f options new why.Canon (func, is, there, once, fits, within, made) (inr h) =
+lower_excludes : (l : Linking) (n : ℕ) (s : Spaces) (f : ℕ) (options : List CanonOption) (new : Linking) (w : LinkWhy) → lower_makes l n s f options new → lower_has s f options w → ⊥
+lower_excludes l n s f options new why.Index (func, is, there, once, fits, made) (inl none) = both_of (slice_get s.funcs f) func is none
+lower_excludes l n s f options new why.Index (func, is, there, once, fits, made) (inr absent) = some_all (IsOptionThere s) (λ o. IsOptionThere s o → ⊥) (λ o h k. k h) options there absent
+lower_excludes l n s f options new why.Canon (func, is, there, once, fits, made) (inl twice) = twice once
+lower_excludes l n s f options new why.Canon (func, is, there, once, fits, made) (inr h) =
     match_at (λ func. CanBeLowered func.func_type (given_by s options) → ⊥) (slice_get s.funcs f) func is h fits
-lower_excludes l n s f options new why.Limit (func, is, there, once, fits, within, made) h = true_false (reaches l.reach runs_lower) within h
 lower_excludes l n s f options new why.RootImport k h = h
+lower_excludes l n s f options new why.Limit k h = h
 lower_excludes l n s f options new (why.Missing name) k h = h
 lower_excludes l n s f options new why.Typing k h = h
 
@@ -296,7 +292,7 @@ case_excludes l n s (Item-F.Component c) new w k h = h
 case_excludes l n s (Item-F.Instance i) new w k h = instance_excludes l n s i new w k h
 case_excludes l n s (Item-F.Alias alias) new w k h = alias_excludes l n s alias.sort alias.target new w k h
 case_excludes l n s (Item-F.Type type) new w k h =
-    type_excludes l n s type (meaning_of type (levels_at l (n ∷ s.around))) new w (whole_meaning type (levels_at l (n ∷ s.around))) k h
+    type_excludes l n s (meaning_of type (levels_at l (n ∷ s.around))) new w (whole_meaning type (levels_at l (n ∷ s.around))) k h
 case_excludes l n s (Item-F.Canon (Lift f options t)) new w k h = lift_excludes l n s f options t new w k h
 case_excludes l n s (Item-F.Canon (Lower f options)) new w k h = lower_excludes l n s f options new w k h
 case_excludes l n s (Item-F.Import i) new w k h = import_excludes l n s i.name i.desc new w k h

@@ -51,9 +51,9 @@ case_few l n s (Item-F.CoreInstance c) new made h = core_instance_few l n s c ne
 case_few l n s (Item-F.Component c) new made h = few_made l n _ new made h
 case_few l n s (Item-F.Instance i) new made h = instance_few l n s i new made h
 case_few l n s (Item-F.Alias alias) new made h = alias_few l n s alias.sort alias.target new made h
-case_few l n s (Item-F.Type type) new (closed, is, within, made) h = few_made l n _ new made h
-case_few l n s (Item-F.Canon (Lift f options t)) new (item, core, type, is, of_item, there, of_type, once, fits, within, made) h = few_made l n _ new made h
-case_few l n s (Item-F.Canon (Lower f options)) new (func, is, there, once, fits, within, made) h = subst IsFew (sym made) (few_with l n _ h)
+case_few l n s (Item-F.Type type) new (closed, is, made) h = few_made l n _ new made h
+case_few l n s (Item-F.Canon (Lift f options t)) new (item, core, type, is, of_item, there, of_type, once, fits, made) h = few_made l n _ new made h
+case_few l n s (Item-F.Canon (Lower f options)) new (func, is, there, once, fits, made) h = subst IsFew (sym made) (few_with l n _ h)
 case_few l n s (Item-F.Import i) new (extern, d, is, fresh, imported, made) h = few_made l n _ new made h
 case_few l n s (Item-F.Export e) new (d, x, is, fresh, exported, made) h = few_made l n _ new made h
 
@@ -71,4 +71,4 @@ few_instances l n items last h (instance_links m inner end k s c arguments place
     few_instances (with_instance inner k s (length m.scopes)) k others end (few_with inner k _ (few_instances (begun m c arguments) (length m.scopes) c.items inner (few_begun m c arguments begins.few h) inside)) behind
 
 pub graphs_are_few : GraphsAreFew
-graphs_are_few reach c g (l, links, is) = subst (λ (g : Graph). (g.instance_count ≤ instance_limit) × (length g.cores ≤ instance_limit)) (sym is) (few_instances (root_begun reach) 0 c.items l (omega arith, omega arith) links)
+graphs_are_few c g (l, links, is) = subst (λ (g : Graph). (g.instance_count ≤ instance_limit) × (length g.cores ≤ instance_limit)) (sym is) (few_instances root_begun 0 c.items l (omega arith, omega arith) links)

@@ -213,10 +213,10 @@ one_fault l n items a b (refused_behind_instance m inner k s c arguments placed 
 -- Components.
 
 pub one_graph : OneGraph
-one_graph reach c g h (l, links, is) (m, others, are) = is ∙ (ap graph_of (one_linking (root_begun reach) 0 c.items l m links others) ∙ sym are)
+one_graph c g h (l, links, is) (m, others, are) = is ∙ (ap graph_of (one_linking root_begun 0 c.items l m links others) ∙ sym are)
 
 pub linked_is_not_refused : LinkedIsNotRefused
-linked_is_not_refused reach c g fault (l, links, is) refused = links_excludes_faults (root_begun reach) 0 c.items l fault links refused
+linked_is_not_refused c g fault (l, links, is) refused = links_excludes_faults root_begun 0 c.items l fault links refused
 
 pub one_refusal : OneRefusal
-one_refusal reach c a b h k = one_fault (root_begun reach) 0 c.items a b h k
+one_refusal c a b h k = one_fault root_begun 0 c.items a b h k

@@ -23,7 +23,6 @@ use Rattle.comp_linking.specs.Shallow.{depth_limit}
 use Rattle.comp_linking.specs.ValueTypes.{capped, value_meaning}
 use Rattle.comp_linking.specs.Spaces.{new_spaces, Level, levels_at}
 use Rattle.comp_linking.specs.Types.{Declared, own_level, with_type, with_export, declared_by, nothing_declared, instance_meaning, meaning_of}
-use Rattle.comp_linking.specs.declared.reach.Reach.TheVariants.{Whole}
 use Rattle.comp_linking.specs.Linked.{root_begun}
 use Rattle.comp_linking.specs.Computed.{type_outcome, Run, run, answer_of}
 use Rattle.comp_linking.specs.Examples.{root, fault, u32, lists_declared, of_lists, begins}
@@ -124,48 +123,48 @@ past_last (y ∷ xs) x = past_last xs x
 past_opened : (n : ℕ) (type : Option Closed) → slice_get (opened n ++ type ∷ []) (suc (suc n)) ≡ None
 past_opened n type = subst (λ (i : ℕ). slice_get (opened n ++ type ∷ []) (suc i) ≡ None) (opened_length n) (past_last (opened n) type)
 
-abbrev Comes : DefType → Meaning Closed → LinkWhy → Type 0
-Comes type meaning w = type_outcome (root_begun Whole) 0 (new_spaces None []) type meaning ≡ Err w
+abbrev Comes : Meaning Closed → LinkWhy → Type 0
+Comes meaning w = type_outcome root_begun 0 (new_spaces None []) meaning ≡ Err w
 
-export_deep : (type : DefType) (types : List (Option Closed)) → slice_get (types ++ Some (Value leaves.Bool) ∷ []) 32 ≡ Some (Some (Value leaves.Bool))
-    → Comes type (instance_meaning (with_export (too_deep_behind types) (codes "a") (desc.TypeEq 32))) why.Limit
-export_deep type types h = rw h refl
+export_deep : (types : List (Option Closed)) → slice_get (types ++ Some (Value leaves.Bool) ∷ []) 32 ≡ Some (Some (Value leaves.Bool))
+    → Comes (instance_meaning (with_export (too_deep_behind types) (codes "a") (desc.TypeEq 32))) why.Limit
+export_deep types h = rw h refl
 
-export_no_function : (type : DefType) (types : List (Option Closed)) → slice_get (types ++ Some (Value leaves.Bool) ∷ []) 32 ≡ Some (Some (Value leaves.Bool))
-    → Comes type (instance_meaning (with_export (too_deep_behind types) (codes "a") (desc.Func 32))) why.Typing
-export_no_function type types h = rw h refl
+export_no_function : (types : List (Option Closed)) → slice_get (types ++ Some (Value leaves.Bool) ∷ []) 32 ≡ Some (Some (Value leaves.Bool))
+    → Comes (instance_meaning (with_export (too_deep_behind types) (codes "a") (desc.Func 32))) why.Typing
+export_no_function types h = rw h refl
 
-export_absent : (type : DefType) (types : List (Option Closed)) → slice_get (types ++ Some (Value leaves.Bool) ∷ []) 33 ≡ None
-    → Comes type (instance_meaning (with_export (too_deep_behind types) (codes "a") (desc.TypeEq 33))) why.Index
-export_absent type types h = rw h refl
+export_absent : (types : List (Option Closed)) → slice_get (types ++ Some (Value leaves.Bool) ∷ []) 33 ≡ None
+    → Comes (instance_meaning (with_export (too_deep_behind types) (codes "a") (desc.TypeEq 33))) why.Index
+export_absent types h = rw h refl
 
 -- a component of one type
-one_type : (inside : Run) (type : DefType) (w : LinkWhy) → Comes type (meaning_of type (levels_at (root_begun Whole) (0 ∷ []))) w → answer_of (run inside (root_begun Whole) 0 (root (plain.Type type ∷ [])).items) ≡ fault 0 w
+one_type : (inside : Run) (type : DefType) (w : LinkWhy) → Comes (meaning_of type (levels_at root_begun (0 ∷ []))) w → answer_of (run inside root_begun 0 (root (plain.Type type ∷ [])).items) ≡ fault 0 w
 one_type inside type w h = simp (outs-Type, h) refl
 
 -- the instance type with one export behind the lists
 abbrev exporting : ExternDesc → DefType
 exporting asked = def_type.Instance (of_u32 32 (plain_type.Export (codes "a") asked ∷ []))
 
-export_one : (inside : Run) (asked : ExternDesc) (w : LinkWhy) → Comes (exporting asked) (instance_meaning (with_export (too_deep_behind (opened 31)) (codes "a") asked)) w
-    → answer_of (run inside (root_begun Whole) 0 (of_lists 32 (plain_type.Export (codes "a") asked ∷ [])).items) ≡ fault 0 w
+export_one : (inside : Run) (asked : ExternDesc) (w : LinkWhy) → Comes (instance_meaning (with_export (too_deep_behind (opened 31)) (codes "a") asked)) w
+    → answer_of (run inside root_begun 0 (of_lists 32 (plain_type.Export (codes "a") asked ∷ [])).items) ≡ fault 0 w
 export_one inside asked w h =
-    let levels = levels_at (root_begun Whole) (0 ∷ []) in
+    let levels = levels_at root_begun (0 ∷ []) in
     let others : List InstanceDecl = plain_type.Export (codes "a") asked ∷ [] in
     one_type inside (exporting asked) w
-    (ap (type_outcome (root_begun Whole) 0 (new_spaces None []) (exporting asked)) (beyond_meaning others levels ∙ ap instance_meaning (export_rolled (codes "a") asked levels (too_deep_behind (opened 31)))) ∙ h)
+    (ap (type_outcome root_begun 0 (new_spaces None [])) (beyond_meaning others levels ∙ ap instance_meaning (export_rolled (codes "a") asked levels (too_deep_behind (opened 31)))) ∙ h)
 
-pub within : (inside : Run) → answer_of (run inside (root_begun Whole) 0 (of_lists 31 []).items) ≡ begins (0 ∷ [])
+pub within : (inside : Run) → answer_of (run inside root_begun 0 (of_lists 31 []).items) ≡ begins (0 ∷ [])
 within inside = simp (outs-Type, within_meaning) refl
 
-pub beyond : (inside : Run) → answer_of (run inside (root_begun Whole) 0 (of_lists 32 []).items) ≡ fault 0 why.Limit
+pub beyond : (inside : Run) → answer_of (run inside root_begun 0 (of_lists 32 []).items) ≡ fault 0 why.Limit
 beyond inside = simp (outs-Type, beyond_meaning) refl
 
-pub exported : (inside : Run) → answer_of (run inside (root_begun Whole) 0 (of_lists 32 (plain_type.Export (codes "a") (desc.TypeEq 32) ∷ [])).items) ≡ fault 0 why.Limit
-exported inside = export_one inside (desc.TypeEq 32) why.Limit (export_deep (exporting (desc.TypeEq 32)) (opened 31) (last_opened 31 (Some (Value leaves.Bool))))
+pub exported : (inside : Run) → answer_of (run inside root_begun 0 (of_lists 32 (plain_type.Export (codes "a") (desc.TypeEq 32) ∷ [])).items) ≡ fault 0 why.Limit
+exported inside = export_one inside (desc.TypeEq 32) why.Limit (export_deep (opened 31) (last_opened 31 (Some (Value leaves.Bool))))
 
-pub no_function : (inside : Run) → answer_of (run inside (root_begun Whole) 0 (of_lists 32 (plain_type.Export (codes "a") (desc.Func 32) ∷ [])).items) ≡ fault 0 why.Typing
-no_function inside = export_one inside (desc.Func 32) why.Typing (export_no_function (exporting (desc.Func 32)) (opened 31) (last_opened 31 (Some (Value leaves.Bool))))
+pub no_function : (inside : Run) → answer_of (run inside root_begun 0 (of_lists 32 (plain_type.Export (codes "a") (desc.Func 32) ∷ [])).items) ≡ fault 0 why.Typing
+no_function inside = export_one inside (desc.Func 32) why.Typing (export_no_function (opened 31) (last_opened 31 (Some (Value leaves.Bool))))
 
-pub not_there : (inside : Run) → answer_of (run inside (root_begun Whole) 0 (of_lists 32 (plain_type.Export (codes "a") (desc.TypeEq 33) ∷ [])).items) ≡ fault 0 why.Index
-not_there inside = export_one inside (desc.TypeEq 33) why.Index (export_absent (exporting (desc.TypeEq 33)) (opened 31) (past_opened 31 (Some (Value leaves.Bool))))
+pub not_there : (inside : Run) → answer_of (run inside root_begun 0 (of_lists 32 (plain_type.Export (codes "a") (desc.TypeEq 33) ∷ [])).items) ≡ fault 0 why.Index
+not_there inside = export_one inside (desc.TypeEq 33) why.Index (export_absent (opened 31) (past_opened 31 (Some (Value leaves.Bool))))

@@ -8,7 +8,6 @@ use Rattle.ca_types.specs.declared.types.FuncType.{FuncType}
 use Rattle.wasm_module.specs.declared.types.FuncType as core
 use Rattle.comp_graph.specs.CoreItems.{core_func_of, func_part}
 use Rattle.comp_graph.specs.Needs.{lifted_type}
-use Rattle.comp_tree.specs.declared.types.DefType.{DefType}
 use Rattle.comp_tree.specs.declared.instances.Sort.{Sort}
 use Rattle.comp_tree.specs.declared.instances.AliasTarget.{AliasTarget}
 use Rattle.comp_tree.specs.declared.instances.AliasTarget.TheVariants as target
@@ -18,7 +17,6 @@ use Rattle.comp_tree.specs.declared.items.CanonOption.{CanonOption}
 use Rattle.comp_linking.specs.declared.fault.LinkWhy.TheVariants as why
 use Rattle.comp_graph.specs.Closed.{Closed, Extern, OfFunc, OfType, OfInstance, func_of}
 use Rattle.comp_linking.specs.Definitions.{CoreItem, Func, Table, Memory, Global, core_named, Lifted, Definition, AFunc, AnInstance, Exports, export_names, export_named, lacks, seen_as, types_of}
-use Rattle.comp_linking.specs.Runs.{reaches, runs_type, runs_lift, runs_lower}
 use Rattle.comp_linking.specs.Canons.{IsOptionThere, Given, given_by, CanBeLifted, CanBeLowered, stand_once, is_option_there, can_be_lifted, can_be_lowered}
 use Rattle.comp_linking.specs.Types.{Meaning}
 use Rattle.comp_linking.specs.Spaces.{Spaces, Linking, size_of, definition_at, IsOfSort, with_core_item, with_definition, with_spaces, outer_at}
@@ -87,10 +85,10 @@ not_true false h = refl
 
 -- Types.
 
-pub type_sound : (l : Linking) (n : ℕ) (s : Spaces) (type : DefType) (meaning : Meaning Closed) → Sound (type_has l.reach type meaning) (MakesBy (type_makes l n s type meaning)) (type_outcome l n s type meaning)
-type_sound l n s type meaning =
-    let P = type_has l.reach type meaning in
-    let Q = MakesBy (type_makes l n s type meaning) in
+pub type_sound : (l : Linking) (n : ℕ) (s : Spaces) (meaning : Meaning Closed) → Sound (type_has meaning) (MakesBy (type_makes l n s meaning)) (type_outcome l n s meaning)
+type_sound l n s meaning =
+    let P = type_has meaning in
+    let Q = MakesBy (type_makes l n s meaning) in
     let root = clear_root P (λ h. h) in
     sound_if P Q meaning.is_there why.Index _ root (λ absent. absent) (λ there.
     (let index = clear_index P root (λ h. true_false meaning.is_there there h) in
@@ -98,9 +96,8 @@ type_sound l n s type meaning =
     (let missing = clear_missing P index (λ name h. both_of meaning.missing name h none) in
     sound_there P Q meaning.means why.Typing _ missing (λ none. none) (λ closed is.
     (let typed = clear_canon P (clear_typing P missing (λ none. both_of meaning.means closed is none)) (λ h. h) in
-    sound_if P Q (not meaning.deep) why.Limit _ typed (λ deep. inl (not_false meaning.deep deep)) (λ shallow.
-    sound_if P Q (reaches l.reach (runs_type type)) why.Limit _ typed (λ past. inr past)
-    (λ within. (closed, (is, not_true meaning.deep shallow), within, refl)))))))))
+    sound_if P Q (not meaning.deep) why.Limit _ typed (λ deep. not_false meaning.deep deep)
+    (λ shallow. (closed, (is, not_true meaning.deep shallow), refl))))))))
 
 -- Lifts.
 
@@ -123,26 +120,18 @@ not_func (Memory memory limits) type h e = cc
 not_func (Global g of_core) type h e = cc
 
 lifted_sound : (l : Linking) (n : ℕ) (s : Spaces) (f : ℕ) (options : List CanonOption) (t : ℕ) (type : FuncType) (item : CoreItem) → slice_get s.core_funcs f ≡ Some item → AllByRecursion (IsOptionThere s) options
-    → option_and_then func_of (slice_get s.types t) ≡ Some type → Clear (lift_has l.reach s f options t) 4
-    → Sound (lift_has l.reach s f options t) (LiftMakes l n s f options t) (lifted_to l.reach n type item options (given_by s options))
+    → option_and_then func_of (slice_get s.types t) ≡ Some type → Clear (lift_has s f options t) 4
+    → Sound (lift_has s f options t) (LiftMakes l n s f options t) (lifted_to n type item options (given_by s options))
 lifted_sound l n s f options t type item there are is clear =
-    let P = lift_has l.reach s f options t in
+    let P = lift_has s f options t in
     let Q = LiftMakes l n s f options t in
     let given = given_by s options in
     sound_if P Q (stand_once options) why.Canon _ clear (λ twice. inl (fails (stand_once options) (once_told options) twice)) (λ once.
     sound_if P Q (can_be_lifted type item given) why.Canon _ clear
     (λ other. inr (match_in (UnfitAt s f options) (option_and_then func_of (slice_get s.types t)) type is
     (match_in (Unfit s options type) (slice_get s.core_funcs f) item there (fails (can_be_lifted type item given) (lifted_told type item given) other)))) (λ fits.
-    sound_there P Q (core_func_of item) why.Canon _ clear (λ none. absurd (not_func item (lifted_type type) ((lifted_told type item given).0 fits).core none)) (λ core of_item.
-    (let canon = clear_canon P clear (λ h. elim h [
-      | inl twice ↦ twice ((once_told options).0 once)
-      | inr unfit ↦
-          match_at (Unfit s options type) (slice_get s.core_funcs f) item there
-          (match_at (UnfitAt s f options) (option_and_then func_of (slice_get s.types t)) type is unfit) ((lifted_told type item given).0 fits)
-    ]) in
-    sound_if P Q (reaches l.reach (runs_lift options type)) why.Limit _ canon
-    (λ past. match_in (λ type. reaches l.reach (runs_lift options type) ≡ false) (option_and_then func_of (slice_get s.types t)) type is past)
-    (λ within. (item, core, type, there, of_item, are, is, (once_told options).0 once, (lifted_told type item given).0 fits, within, refl))))))
+    sound_there P Q (core_func_of item) why.Canon _ clear (λ none. absurd (not_func item (lifted_type type) ((lifted_told type item given).0 fits).core none))
+    (λ core of_item. (item, core, type, there, of_item, are, is, (once_told options).0 once, (lifted_told type item given).0 fits, refl))))
 
 -- options that are there, or not
 options_told : (s : Spaces) (options : List CanonOption)
@@ -150,12 +139,12 @@ options_told : (s : Spaces) (options : List CanonOption)
 options_told s options =
     all_pass_or (is_option_there s) (IsOptionThere s) (λ o. IsOptionThere s o → ⊥) (λ o h. (option_told s o).0 h) (λ o h. fails (is_option_there s o) (option_told s o) h) options
 
-pub lift_sound : (l : Linking) (n : ℕ) (s : Spaces) (f : ℕ) (options : List CanonOption) (t : ℕ) → Sound (lift_has l.reach s f options t) (MakesBy (lift_makes l n s f options t)) (lift_outcome l n s f options t)
+pub lift_sound : (l : Linking) (n : ℕ) (s : Spaces) (f : ℕ) (options : List CanonOption) (t : ℕ) → Sound (lift_has s f options t) (MakesBy (lift_makes l n s f options t)) (lift_outcome l n s f options t)
 lift_sound l n s f options t =
-    let P = lift_has l.reach s f options t in
+    let P = lift_has s f options t in
     let Q = LiftMakes l n s f options t in
     let root = clear_root P (λ h. h) in
-    sound_behind P (MakesBy (lift_makes l n s f options t)) (lifted_of l.reach n s f options t) _ (
+    sound_behind P (MakesBy (lift_makes l n s f options t)) (lifted_of n s f options t) _ (
     sound_there P Q (slice_get s.core_funcs f) why.Index _ root (λ none. inl none) (λ item there.
     sound_if P Q (list_all (is_option_there s) options) why.Index _ root (λ absent. inr (inl ((options_told s options).1 absent))) (λ all.
     (let are = (options_told s options).0 all in
@@ -180,26 +169,21 @@ Unlowered s options func = CanBeLowered func.func_type (given_by s options) → 
 abbrev LowerMakes : Linking → ℕ → Spaces → ℕ → List CanonOption → Lifted → Given → Type 0
 LowerMakes l n s f options func given = lower_makes l n s f options (lower_made l n s func given)
 
-lowered_sound : (l : Linking) (n : ℕ) (s : Spaces) (f : ℕ) (options : List CanonOption) (func : Lifted) → slice_get s.funcs f ≡ Some func → AllByRecursion (IsOptionThere s) options → Clear (lower_has l.reach s f options) 4
-    → Sound (lower_has l.reach s f options) (LowerMakes l n s f options func) (lowered_from l.reach func.func_type options (given_by s options))
+lowered_sound : (l : Linking) (n : ℕ) (s : Spaces) (f : ℕ) (options : List CanonOption) (func : Lifted) → slice_get s.funcs f ≡ Some func → AllByRecursion (IsOptionThere s) options → Clear (lower_has s f options) 4
+    → Sound (lower_has s f options) (LowerMakes l n s f options func) (lowered_from func.func_type options (given_by s options))
 lowered_sound l n s f options func there are clear =
-    let P = lower_has l.reach s f options in
+    let P = lower_has s f options in
     let Q = LowerMakes l n s f options func in
     let given = given_by s options in
     let type = func.func_type in
     sound_if P Q (stand_once options) why.Canon _ clear (λ twice. inl (fails (stand_once options) (once_told options) twice)) (λ once.
     sound_if P Q (can_be_lowered type given) why.Canon _ clear
-    (λ other. inr (match_in (Unlowered s options) (slice_get s.funcs f) func there (fails (can_be_lowered type given) (lowered_told type given) other))) (λ fits.
-    (let canon = clear_canon P clear (λ h. elim h [
-      | inl twice ↦ twice ((once_told options).0 once)
-      | inr unfit ↦ match_at (Unlowered s options) (slice_get s.funcs f) func there unfit ((lowered_told type given).0 fits)
-    ]) in
-    sound_if P Q (reaches l.reach runs_lower) why.Limit _ canon (λ past. past)
-    (λ within. (func, there, are, (once_told options).0 once, (lowered_told type given).0 fits, within, refl)))))
+    (λ other. inr (match_in (Unlowered s options) (slice_get s.funcs f) func there (fails (can_be_lowered type given) (lowered_told type given) other)))
+    (λ fits. (func, there, are, (once_told options).0 once, (lowered_told type given).0 fits, refl)))
 
-pub lower_sound : (l : Linking) (n : ℕ) (s : Spaces) (f : ℕ) (options : List CanonOption) → Sound (lower_has l.reach s f options) (MakesBy (lower_makes l n s f options)) (lower_outcome l n s f options)
+pub lower_sound : (l : Linking) (n : ℕ) (s : Spaces) (f : ℕ) (options : List CanonOption) → Sound (lower_has s f options) (MakesBy (lower_makes l n s f options)) (lower_outcome l n s f options)
 lower_sound l n s f options =
-    let P = lower_has l.reach s f options in
+    let P = lower_has s f options in
     let Q = MakesBy (lower_makes l n s f options) in
     let root = clear_root P (λ h. h) in
     sound_there P Q (slice_get s.funcs f) why.Index _ root (λ none. inl none) (λ func there.
@@ -210,7 +194,7 @@ lower_sound l n s f options =
       | inr absent ↦ some_all (IsOptionThere s) (λ o. IsOptionThere s o → ⊥) (λ o h k. k h) options are absent
     ]) in
     let typed = clear_typing P (clear_missing P index (λ name h. h)) (λ h. h) in
-    sound_behind P Q (lowered_from l.reach func.func_type options (given_by s options)) _ (lowered_sound l n s f options func there are typed))))
+    sound_behind P Q (lowered_from func.func_type options (given_by s options)) _ (lowered_sound l n s f options func there are typed))))
 
 -- Imports.
 

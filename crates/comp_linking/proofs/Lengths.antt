@@ -41,9 +41,9 @@ case_length l n s (Item-F.CoreInstance c) new made = core_instance_length l n s 
 case_length l n s (Item-F.Component c) new made = made_length l n _ new made
 case_length l n s (Item-F.Instance i) new made = instance_length l n s i new made
 case_length l n s (Item-F.Alias alias) new made = alias_length l n s alias.sort alias.target new made
-case_length l n s (Item-F.Type type) new (closed, is, within, made) = made_length l n _ new made
-case_length l n s (Item-F.Canon (Lift f options t)) new (item, core, type, is, of_item, there, of_type, once, fits, within, made) = made_length l n _ new made
-case_length l n s (Item-F.Canon (Lower f options)) new (func, is, there, once, fits, within, made) = ap (λ (l : Linking). length l.scopes) made ∙ length-set l.scopes n _
+case_length l n s (Item-F.Type type) new (closed, is, made) = made_length l n _ new made
+case_length l n s (Item-F.Canon (Lift f options t)) new (item, core, type, is, of_item, there, of_type, once, fits, made) = made_length l n _ new made
+case_length l n s (Item-F.Canon (Lower f options)) new (func, is, there, once, fits, made) = ap (λ (l : Linking). length l.scopes) made ∙ length-set l.scopes n _
 case_length l n s (Item-F.Import i) new (extern, d, is, fresh, imported, made) = made_length l n _ new made
 case_length l n s (Item-F.Export e) new (d, x, is, fresh, exported, made) = made_length l n _ new made
 

@@ -7,7 +7,6 @@ pub mod DistinctNames
 pub mod Excluding
 pub mod Few
 pub mod Fitting
-pub mod FlatLifts
 pub mod Following
 pub mod Holding
 pub mod InstanceSamples
@@ -35,4 +34,3 @@ pub mod Sounding
 pub mod Soundness
 pub mod Telling
 pub mod ValueSamples
-pub mod Widening

@@ -1,6 +1,6 @@
 -- What is lifted is there, and what is lowered: the core function, or the function, and what options give, with the types that the
 -- lift or the lower needs.
-use Rattle.std.proofs.Common.{◌≡◌, ℕ, true, List, [], ◌∷◌, refl, ap, subst, Option, Some, None}
+use Rattle.std.proofs.Common.{◌≡◌, ℕ, List, refl, ap, subst, Option, Some, None}
 use Rattle.std.specs.Prelude.{IfSome, IsSome, is_some}
 use Rattle.std.specs.Option.{option_and_then}
 use Rattle.ca_types.specs.declared.types.FuncType.{FuncType}
@@ -9,19 +9,14 @@ use Rattle.wasm_module.specs.declared.types.FuncType as core
 use Rattle.comp_graph.specs.declared.graph.FuncRef.{FuncRef}
 use Rattle.comp_graph.specs.declared.graph.CanonFunc.{CanonFunc}
 use Rattle.comp_graph.specs.CoreItems.{CoreItem, Func, Table, Memory, Global, core_func_of, core_memory_of}
-use Rattle.comp_graph.specs.Graph.{CoreMake, no_options, core_type, IsIn, IsItem, IsMemoryThere, IsLiftThere, IsCanonThere}
+use Rattle.comp_graph.specs.Graph.{CoreMake, core_type, IsIn, IsItem, IsMemoryThere, IsLiftThere, IsCanonThere}
 use Rattle.comp_graph.specs.Needs.{lifted_type, realloc_type, post_return_type}
-use Rattle.comp_tree.specs.declared.items.CanonOption.{CanonOption}
-use Rattle.comp_linking.specs.declared.reach.Reach.{Reach}
-use Rattle.comp_linking.specs.Runs.{reaches, runs_lift}
 use Rattle.comp_linking.specs.Definitions.{Lifted}
-use Rattle.comp_linking.specs.Spaces.{Spaces}
-use Rattle.comp_linking.specs.Canons.{Given, given_by, options_of, IsOfCoreType, CanBeLifted, CanBeLowered}
+use Rattle.comp_linking.specs.Canons.{Given, IsOfCoreType, CanBeLifted, CanBeLowered}
 use Rattle.comp_linking.specs.Items.{lifted_with, lowered_with}
-use Rattle.comp_linking.proofs.SameValues.{never}
 use Rattle.comp_linking.proofs.Holding.{holds_at, if_weaker, if_then, if_both}
 use Rattle.comp_linking.proofs.Kept.{IsMemoryOf, type_there}
-use Rattle.comp_linking.proofs.Soundness.{lift_for, CanRun, IsMemoryItem}
+use Rattle.comp_linking.proofs.Soundness.{lift_for, IsMemoryItem}
 
 -- a core function that is there, of a type
 item_type : (cores : List CoreMake) (canons : List CanonFunc) (item : CoreItem) (type : core.FuncType) → IsItem cores canons item → IsOfCoreType type item → IfSome (core_func_of item) (λ f. core_type cores canons f ≡ Some type)
@@ -90,11 +85,3 @@ lower_there cores canons n func given h k fits = record {
   memory_given = λ needs. memory_given cores canons given.memory k.memory (fits.memory_given needs);
   realloc_given = λ needs. func_given realloc_type given.realloc fits.realloc (fits.realloc_given needs);
 }
-
--- Where linking leads to a run, a lift has no options.
-plain : (s : Spaces) (options : List CanonOption) (type : FuncType) → runs_lift options type ≡ true → (options_of (given_by s options) ≡ no_options) × (runs_lift [] type ≡ true)
-plain s [] type h = (refl, h)
-plain s (o ∷ options) type h = never h
-
-pub can_run : (reach : Reach) (s : Spaces) (n : ℕ) (type : FuncType) (core : FuncRef) (options : List CanonOption) → reaches reach (runs_lift options type) ≡ true → CanRun reach (lifted_with n type core (given_by s options))
-can_run reach s n type core options h e = plain s options type (subst (λ (reach : Reach). reaches reach (runs_lift options type) ≡ true) e h)

@@ -85,7 +85,7 @@ alias_once l n s sort (target.Outer up index) a b (d, is, made) (d', is', made')
 -- Lifts.
 
 lift_once : (l : Linking) (n : ℕ) (s : Spaces) (f : ℕ) (options : List CanonOption) (t : ℕ) (a b : Linking) → lift_makes l n s f options t a → lift_makes l n s f options t b → a ≡ b
-lift_once l n s f options t a b (item, core, type, is, of_item, there, of_type, once, fits, within, made) (item', core', type', is', of_item', there', of_type', once', fits', within', made') =
+lift_once l n s f options t a b (item, core, type, is, of_item, there, of_type, once, fits, made) (item', core', type', is', of_item', there', of_type', once', fits', made') =
     let items : item ≡ item' = one_value _ item item' is is' in
     let cores : core ≡ core' = one_value (core_func_of item) core core' of_item (ap core_func_of items ∙ of_item') in
     let types : type ≡ type' = one_value _ type type' of_type of_type' in
@@ -94,7 +94,7 @@ lift_once l n s f options t a b (item, core, type, is, of_item, there, of_type, 
 -- Lowers.
 
 lower_once : (l : Linking) (n : ℕ) (s : Spaces) (f : ℕ) (options : List CanonOption) (a b : Linking) → lower_makes l n s f options a → lower_makes l n s f options b → a ≡ b
-lower_once l n s f options a b (func, is, there, once, fits, within, made) (func', is', there', once', fits', within', made') =
+lower_once l n s f options a b (func, is, there, once, fits, made) (func', is', there', once', fits', made') =
     both_made (λ func. lower_made l n s func (given_by s options)) func func' a b (one_value _ func func' is is') made made'
 
 -- Imports and exports.
@@ -131,7 +131,7 @@ case_once l n s (Item-F.CoreInstance c) a b h k = core_instance_once l n s c a b
 case_once l n s (Item-F.Component c) a b h k = h ∙ sym k
 case_once l n s (Item-F.Instance i) a b h k = instance_once l n s i a b h k
 case_once l n s (Item-F.Alias alias) a b h k = alias_once l n s alias.sort alias.target a b h k
-case_once l n s (Item-F.Type type) a b (closed, is, within, made) (closed', is', within', made') =
+case_once l n s (Item-F.Type type) a b (closed, is, made) (closed', is', made') =
     both_made (λ closed. with_spaces l n (with_definition s (AType closed))) closed closed' a b (one_value _ closed closed' is.0 is'.0) made made'
 case_once l n s (Item-F.Canon (Lift f options t)) a b h k = lift_once l n s f options t a b h k
 case_once l n s (Item-F.Canon (Lower f options)) a b h k = lower_once l n s f options a b h k

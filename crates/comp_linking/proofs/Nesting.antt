@@ -10,7 +10,6 @@ use Rattle.comp_tree.specs.declared.items.Item.{Item}
 use Rattle.comp_tree.specs.declared.items.Item.TheViews.{outs-Alias, outs-Component, outs-Instance}
 use Rattle.comp_linking.specs.declared.fault.LinkWhy.TheVariants as why
 use Rattle.comp_linking.specs.declared.fault.LinkFault.{LinkFault}
-use Rattle.comp_linking.specs.declared.reach.Reach.{Reach}
 use Rattle.comp_linking.specs.Definitions.{Closure, AComponent, EmptyInstance}
 use Rattle.comp_linking.specs.Spaces.{Spaces, Linking, new_spaces, with_definition, with_spaces}
 use Rattle.comp_linking.specs.Items.{instance_limit}
@@ -99,19 +98,19 @@ refused (suc more) l n count first above within there =
     (refused more (begun (taken l n) itself EmptyInstance) (length (taken l n).scopes) (omega (arith, same, longer))
     (first_before (taken l n).scopes before of_root (first_kept l.scopes n behind of_root above first)) (omega (arith, same)) (omega (arith, longer)) (last_there (taken l n).scopes before)))
 
-abbrev root_taken : Reach → Linking
-root_taken reach = with_spaces (root_begun reach) 0 of_root
+abbrev root_taken : Linking
+root_taken = with_spaces root_begun 0 of_root
 
-nests : (reach : Reach) → item_outcome (root_begun reach) 0 (new_spaces None []) nesting ≡ Ok (Makes (root_taken reach))
-nests reach = simp outs-Component refl
+nests : item_outcome root_begun 0 (new_spaces None []) nesting ≡ Ok (Makes root_taken)
+nests = simp outs-Component refl
 
-root_refused : (reach : Reach) → IsRefusedAt (root_begun reach) 0 (root (nesting ∷ instantiate ∷ [])).items limit
-root_refused reach =
-    refused_behind (root_begun reach) (root_taken reach) 0 (new_spaces None []) (record { place = 0; item = nesting }) (record { place = 1; item = instantiate } ∷ []) limit refl
-    ((outcome_computed (root_begun reach) 0 (new_spaces None []) nesting (Makes (root_taken reach))).0 (nests reach))
-    (refused_inside (root_taken reach) 0 of_root itself EmptyInstance (record { place = 1; item = instantiate }) [] limit refl
-    ((outcome_computed (root_taken reach) 0 of_root instantiate (Starts itself EmptyInstance)).0 (begins_next (root_taken reach) 0 of_root refl (omega arith)))
-    (refused 254 (begun (root_taken reach) itself EmptyInstance) 1 refl refl (omega arith) (omega arith) refl))
+root_refused : IsRefusedAt root_begun 0 (root (nesting ∷ instantiate ∷ [])).items limit
+root_refused =
+    refused_behind root_begun root_taken 0 (new_spaces None []) (record { place = 0; item = nesting }) (record { place = 1; item = instantiate } ∷ []) limit refl
+    ((outcome_computed root_begun 0 (new_spaces None []) nesting (Makes root_taken)).0 nests)
+    (refused_inside root_taken 0 of_root itself EmptyInstance (record { place = 1; item = instantiate }) [] limit refl
+    ((outcome_computed root_taken 0 of_root instantiate (Starts itself EmptyInstance)).0 (begins_next root_taken 0 of_root refl (omega arith)))
+    (refused 254 (begun root_taken itself EmptyInstance) 1 refl refl (omega arith) (omega arith) refl))
 
-pub nested_too_often : (reach : Reach) → linked reach (root (nesting ∷ instantiate ∷ [])) ≡ fault 11 why.Limit
-nested_too_often reach = (fault_computed reach (root (nesting ∷ instantiate ∷ [])) limit).1 (root_refused reach)
+pub nested_too_often : linked (root (nesting ∷ instantiate ∷ [])) ≡ fault 11 why.Limit
+nested_too_often = (fault_computed (root (nesting ∷ instantiate ∷ [])) limit).1 root_refused

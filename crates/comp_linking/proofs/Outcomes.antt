@@ -46,7 +46,7 @@ case_sound l n s (Item-F.Component c) = refl
 case_sound l n s (Item-F.Instance i) = sound_map _ _ (CaseComes l n s (Item-F.Instance i)) _ (instance_comes l n s i) (instance_sound l n s i)
 case_sound l n s (Item-F.Alias alias) = sound_map _ _ (CaseComes l n s (Item-F.Alias alias)) _ (only_makes l n s (Item-F.Alias alias) _ (λ new h. h)) (alias_sound l n s alias.sort alias.target)
 case_sound l n s (Item-F.Type type) =
-    sound_map _ _ (CaseComes l n s (Item-F.Type type)) _ (only_makes l n s (Item-F.Type type) _ (λ new h. h)) (type_sound l n s type (meaning_of type (levels_at l (n ∷ s.around))))
+    sound_map _ _ (CaseComes l n s (Item-F.Type type)) _ (only_makes l n s (Item-F.Type type) _ (λ new h. h)) (type_sound l n s (meaning_of type (levels_at l (n ∷ s.around))))
 case_sound l n s (Item-F.Canon (Lift f options t)) = sound_map _ _ (CaseComes l n s (Item-F.Canon (Lift f options t))) _ (only_makes l n s (Item-F.Canon (Lift f options t)) _ (λ new h. h)) (lift_sound l n s f options t)
 case_sound l n s (Item-F.Canon (Lower f options)) = sound_map _ _ (CaseComes l n s (Item-F.Canon (Lower f options))) _ (only_makes l n s (Item-F.Canon (Lower f options)) _ (λ new h. h)) (lower_sound l n s f options)
 case_sound l n s (Item-F.Import i) = sound_map _ _ (CaseComes l n s (Item-F.Import i)) _ (only_makes l n s (Item-F.Import i) _ (λ new h. h)) (import_sound l n s i.name i.desc)

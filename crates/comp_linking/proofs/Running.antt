@@ -8,7 +8,6 @@ use Rattle.comp_tree.specs.declared.items.Item.{Item}
 use Rattle.comp_tree.specs.declared.items.Component.{Component}
 use Rattle.comp_linking.specs.declared.fault.LinkWhy.{LinkWhy}
 use Rattle.comp_linking.specs.declared.fault.LinkFault.{LinkFault}
-use Rattle.comp_linking.specs.declared.reach.Reach.{Reach}
 use Rattle.comp_linking.specs.Definitions.{Closure, Exports}
 use Rattle.comp_linking.specs.Spaces.{Spaces, Linking}
 use Rattle.comp_linking.specs.Items.{instance_limit, item_has}
@@ -92,41 +91,41 @@ within_told (suc budget) items n l here enough =
 
 -- Components.
 
-abbrev Answers : Reach → Component → Result Graph LinkFault → Type 0
-Answers reach c (Ok g) = IsLinked reach c g
-Answers reach c (Err fault) = IsLinkRefused reach c fault
+abbrev Answers : Component → Result Graph LinkFault → Type 0
+Answers c (Ok g) = IsLinked c g
+Answers c (Err fault) = IsLinkRefused c fault
 
-answer_is : (reach : Reach) (c : Component) (r : Result Linking LinkFault) → Ends (root_begun reach) 0 c.items r → Answers reach c (answer_of r)
-answer_is reach c (Ok l) h = (l, h, refl)
-answer_is reach c (Err fault) h = h
+answer_is : (c : Component) (r : Result Linking LinkFault) → Ends root_begun 0 c.items r → Answers c (answer_of r)
+answer_is c (Ok l) h = (l, h, refl)
+answer_is c (Err fault) h = h
 
-answers_within : (budget : ℕ) (reach : Reach) (c : Component) → instance_limit ≤ 1 + budget → Answers reach c (answer_of (run_within budget (root_begun reach) 0 c.items))
-answers_within budget reach c enough =
-    answer_is reach c (run_within budget (root_begun reach) 0 c.items) (within_told budget c.items 0 (root_begun reach) (omega arith) (omega arith))
+answers_within : (budget : ℕ) (c : Component) → instance_limit ≤ 1 + budget → Answers c (answer_of (run_within budget root_begun 0 c.items))
+answers_within budget c enough =
+    answer_is c (run_within budget root_begun 0 c.items) (within_told budget c.items 0 root_begun (omega arith) (omega arith))
 
-answers : (reach : Reach) (c : Component) → Answers reach c (linked reach c)
-answers reach c = answers_within instance_limit reach c (omega arith)
+answers : (c : Component) → Answers c (linked c)
+answers c = answers_within instance_limit c (omega arith)
 
-told : (reach : Reach) (c : Component) (r : Result Graph LinkFault) → linked reach c ≡ r → Answers reach c r
-told reach c r e = subst (λ (r : Result Graph LinkFault). Answers reach c r) e (answers reach c)
+told : (c : Component) (r : Result Graph LinkFault) → linked c ≡ r → Answers c r
+told c r e = subst (λ (r : Result Graph LinkFault). Answers c r) e (answers c)
 
 pub graph_computed : GraphComputed
-graph_computed reach c g = (λ e. told reach c (Ok g) e, back (linked reach c) (answers reach c))
+graph_computed c g = (λ e. told c (Ok g) e, back (linked c) (answers c))
   where
-    back : (r : Result Graph LinkFault) → Answers reach c r → IsLinked reach c g → r ≡ Ok g
-    back (Ok h) is k = ap Ok (one_graph reach c h g is k)
-    back (Err fault) is k = absurd (linked_is_not_refused reach c g fault k is)
+    back : (r : Result Graph LinkFault) → Answers c r → IsLinked c g → r ≡ Ok g
+    back (Ok h) is k = ap Ok (one_graph c h g is k)
+    back (Err fault) is k = absurd (linked_is_not_refused c g fault k is)
 
 pub fault_computed : FaultComputed
-fault_computed reach c fault = (λ e. told reach c (Err fault) e, back (linked reach c) (answers reach c))
+fault_computed c fault = (λ e. told c (Err fault) e, back (linked c) (answers c))
   where
-    back : (r : Result Graph LinkFault) → Answers reach c r → IsLinkRefused reach c fault → r ≡ Err fault
-    back (Ok g) is k = absurd (linked_is_not_refused reach c g fault is k)
-    back (Err other) is k = ap Err (one_refusal reach c other fault is k)
+    back : (r : Result Graph LinkFault) → Answers c r → IsLinkRefused c fault → r ≡ Err fault
+    back (Ok g) is k = absurd (linked_is_not_refused c g fault is k)
+    back (Err other) is k = ap Err (one_refusal c other fault is k)
 
 pub linked_or_refused : LinkedOrRefused
-linked_or_refused reach c = by (linked reach c) (answers reach c)
+linked_or_refused c = by (linked c) (answers c)
   where
-    by : (r : Result Graph LinkFault) → Answers reach c r → ((g : Graph) × IsLinked reach c g) ⊎ ((fault : LinkFault) × IsLinkRefused reach c fault)
+    by : (r : Result Graph LinkFault) → Answers c r → ((g : Graph) × IsLinked c g) ⊎ ((fault : LinkFault) × IsLinkRefused c fault)
     by (Ok g) h = inl (g, h)
     by (Err fault) h = inr (fault, h)

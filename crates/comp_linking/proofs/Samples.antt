@@ -5,7 +5,7 @@ use Rattle.ca_types.specs.declared.core_type.CoreType.{CoreType}
 use Rattle.ca_types.specs.declared.core_type.CoreType.TheVariants.{I32}
 use Rattle.ca_types.specs.declared.types.ValType.TheOpen as F
 use Rattle.ca_types.specs.declared.types.ValType.TheVariants as val_type
-use Rattle.ca_types.specs.declared.types.ValType.TheViews.{outs-U32, rolls-String}
+use Rattle.ca_types.specs.declared.types.ValType.TheViews.{outs-U32, rolls-U32, rolls-String}
 use Rattle.ca_types.specs.declared.types.ValType.TheFolds.{fold-roll-ValType}
 use Rattle.ca_types.specs.Ends.{end_case, end_field}
 use Rattle.ca_types.specs.Flat.{flat, flat_step, flat_case, flat_field}
@@ -34,9 +34,6 @@ use Rattle.comp_tree.specs.declared.items.Component.{Component}
 use Rattle.comp_linking.specs.declared.fault.LinkFault.{LinkFault}
 use Rattle.comp_linking.specs.declared.fault.LinkWhy.TheVariants as why
 use Rattle.comp_graph.specs.Closed.{Value, Instance, OfType, EmptyType, WithExtern}
-use Rattle.comp_linking.specs.declared.reach.Reach.{Reach}
-use Rattle.comp_linking.specs.declared.reach.Reach.TheVariants.{Runs, Whole}
-use Rattle.comp_linking.specs.Runs.{reaches, runs_def, runs_func, all_true, type_runs, decl_runs, runs_type, runs_decl}
 use Rattle.comp_linking.specs.Spaces.{Level}
 use Rattle.comp_linking.specs.Types.{meant, InLevels, Declared, nothing_declared, declared_by, instance_meaning, own_level, with_type, with_export, func_meaning, types_around, type_step, decl_step, meaning_of}
 use Rattle.comp_linking.specs.ValueTypes.{value_meaning}
@@ -44,7 +41,6 @@ use Rattle.comp_linking.specs.Linked.{root_begun}
 use Rattle.comp_linking.specs.Computed.{Run, run, run_within, answer_of, linked}
 use Rattle.comp_linking.specs.Same.{same_val}
 use Rattle.comp_linking.proofs.Depths.{leaf_depth}
-use Rattle.comp_linking.proofs.FlatLifts.{u32_flat, u32_holds_no_list}
 use Rattle.comp_linking.proofs.SameValues.{val_told}
 use Rattle.comp_linking.specs.Examples.{root, fault, u32, of_types, import, outer, export_type, wanting, instantiate, giving_both, begins, of_one, make_with_absent, lifting, lifting_twice, with_memory, callable_as, lowering, lowering_string, taking_string, giving_string, passing, passed}
 
@@ -87,89 +83,60 @@ func_rolled : (type : FuncType) (levels : List Level) → meaning_of (plain_type
 func_rolled type levels =
     ap (λ t. meaning_of t levels) (sym (rolls-Func type)) ∙ ap (λ (f : InLevels). f levels) (fold-roll-DefType InLevels (List Level → Declared → Declared) type_step decl_step (DefType-F.Func type))
 
--- Whatever of these types is written, it runs; and what runs is within each reach.
-pub within : (reach : Reach) → reaches reach true ≡ true
-within Runs = refl
-within Whole = refl
+pub u32_flat : flat val_type.U32 ≡ I32 ∷ []
+u32_flat = ap flat (sym rolls-U32) ∙ fold-roll-ValType (List CoreType) (List CoreType) (List CoreType) flat_step flat_case flat_field F.U32
 
-pub value_runs : (type : DefValType) → runs_type (plain_type.Value type) ≡ runs_def type
-value_runs type = ap runs_type (sym (rolls-Value type)) ∙ fold-roll-DefType Bool Bool type_runs decl_runs (DefType-F.Value type)
+pub u32_holds_no_list : has_list val_type.U32 ≡ false
+u32_holds_no_list = ap has_list (sym rolls-U32) ∙ fold-roll-ValType Bool Bool Bool list_step end_case end_field F.U32
 
-u32_runs : runs_type u32 ≡ true
-u32_runs = value_runs (value.Primitive U32)
-
-func_runs : (type : FuncType) → runs_type (plain_type.Func type) ≡ runs_func type
-func_runs type = ap runs_type (sym (rolls-Func type)) ∙ fold-roll-DefType Bool Bool type_runs decl_runs (DefType-F.Func type)
-
-instance_runs : (decls : List InstanceDecl) → runs_type (def_type.Instance decls) ≡ all_true (map runs_decl decls)
-instance_runs decls = ap runs_type (sym (rolls-Instance decls)) ∙ fold-roll-DefType Bool Bool type_runs decl_runs (DefType-F.Instance decls)
-
-type_decl_runs : (type : DefType) → runs_decl (plain_type.Type type) ≡ runs_type type
-type_decl_runs type = ap runs_decl (sym (rolls-Type type)) ∙ fold-roll-InstanceDecl Bool Bool type_runs decl_runs (InstanceDecl-F.Type type)
-
-export_decl_runs : (name : List ℕ) (asked : ExternDesc) → runs_decl (plain_type.Export name asked) ≡ true
-export_decl_runs name asked = ap runs_decl (sym (rolls-Export name asked)) ∙ fold-roll-InstanceDecl Bool Bool type_runs decl_runs (InstanceDecl-F.Export name asked)
-
-none_runs : runs_type (of_types []) ≡ true
-none_runs = instance_runs (plain_type.Type u32 ∷ []) ∙ simp (type_decl_runs, u32_runs) refl
-
-one_runs : runs_type (of_types (codes "a" ∷ [])) ≡ true
-one_runs = instance_runs (plain_type.Type u32 ∷ plain_type.Export (codes "a") (desc.TypeEq 0) ∷ []) ∙ simp (type_decl_runs, export_decl_runs, u32_runs) refl
-
-ruleset layers = (outs-CoreModule, outs-CoreInstance, outs-Canon, outs-U32, func_rolled, outs-Import, outs-Alias, outs-Export, outs-Type, outs-Instance, outs-Component, u32_rolled, no_exports, one_export, u32_same, within, u32_runs, func_runs, none_runs, one_runs, u32_flat, u32_holds_no_list)
+ruleset layers = (outs-CoreModule, outs-CoreInstance, outs-Canon, outs-U32, func_rolled, outs-Import, outs-Alias, outs-Export, outs-Type, outs-Instance, outs-Component, u32_rolled, no_exports, one_export, u32_same, u32_flat, u32_holds_no_list)
 
 -- what is computed, whatever is computed of the components that begin, or of those that begin inside these
-pub linked_so_far : (reach : Reach) (c : Component) (r : Result Graph LinkFault) → ((inside : Run) → answer_of (run inside (root_begun reach) 0 c.items) ≡ r) → linked reach c ≡ r
-linked_so_far reach c r h = h (run_within 255)
+pub linked_by : (c : Component) (r : Result Graph LinkFault) → ((inside : Run) → answer_of (run inside root_begun 0 c.items) ≡ r) → linked c ≡ r
+linked_by c r h = h (run_within 255)
 
-pub linked_by : (c : Component) (r : Result Graph LinkFault) → ((inside : Run) (reach : Reach) → answer_of (run inside (root_begun reach) 0 c.items) ≡ r) → (reach : Reach) → linked reach c ≡ r
-linked_by c r h reach = h (run_within 255) reach
-
-pub linked_inside : (c : Component) (r : Result Graph LinkFault) → ((inside : Run) (reach : Reach) → answer_of (run (run inside) (root_begun reach) 0 c.items) ≡ r) → (reach : Reach) → linked reach c ≡ r
-linked_inside c r h reach = h (run_within 254) reach
+pub linked_inside : (c : Component) (r : Result Graph LinkFault) → ((inside : Run) → answer_of (run (run inside) root_begun 0 c.items) ≡ r) → linked c ≡ r
+linked_inside c r h = h (run_within 254)
 
 -- faults of one item
-pub function_imported : (inside : Run) (reach : Reach) → answer_of (run inside (root_begun reach) 0 (root (import (desc.Func 0) ∷ [])).items) ≡ fault 0 why.RootImport
-function_imported inside reach = simp layers refl
+pub function_imported : (inside : Run) → answer_of (run inside root_begun 0 (root (import (desc.Func 0) ∷ [])).items) ≡ fault 0 why.RootImport
+function_imported inside = simp layers refl
 
-pub too_far : (inside : Run) (reach : Reach) → answer_of (run inside (root_begun reach) 0 (root (outer sorts.Type 1 0 ∷ [])).items) ≡ fault 0 why.Index
-too_far inside reach = simp layers refl
+pub too_far : (inside : Run) → answer_of (run inside root_begun 0 (root (outer sorts.Type 1 0 ∷ [])).items) ≡ fault 0 why.Index
+too_far inside = simp layers refl
 
-pub twice : (inside : Run) (reach : Reach) → answer_of (run inside (root_begun reach) 0 (root (plain.Type u32 ∷ export_type (codes "a") ∷ export_type (codes "a") ∷ [])).items) ≡ fault 2 why.Typing
-twice inside reach = simp layers refl
+pub twice : (inside : Run) → answer_of (run inside root_begun 0 (root (plain.Type u32 ∷ export_type (codes "a") ∷ export_type (codes "a") ∷ [])).items) ≡ fault 2 why.Typing
+twice inside = simp layers refl
 
 -- instances of components
-pub wanting_missing : (inside : Run) (reach : Reach) → answer_of (run (run inside) (root_begun reach) 0 (root (wanting ∷ instantiate ∷ [])).items) ≡ fault 11 (why.Missing (codes "in"))
-wanting_missing inside reach = simp layers refl
+pub wanting_missing : (inside : Run) → answer_of (run (run inside) root_begun 0 (root (wanting ∷ instantiate ∷ [])).items) ≡ fault 11 (why.Missing (codes "in"))
+wanting_missing inside = simp layers refl
 
-pub not_asked : (inside : Run) (reach : Reach) → answer_of (run (run inside) (root_begun reach) 0 (giving_both (codes "b")).items) ≡ fault 12 (why.Missing (codes "b"))
-not_asked inside reach = simp layers refl
+pub not_asked : (inside : Run) → answer_of (run (run inside) root_begun 0 (giving_both (codes "b")).items) ≡ fault 12 (why.Missing (codes "b"))
+not_asked inside = simp layers refl
 
 -- what is linked
-pub never_begun : (inside : Run) (reach : Reach) → answer_of (run inside (root_begun reach) 0 (root (wanting ∷ [])).items) ≡ begins (0 ∷ [])
-never_begun inside reach = simp layers refl
+pub never_begun : (inside : Run) → answer_of (run inside root_begun 0 (root (wanting ∷ [])).items) ≡ begins (0 ∷ [])
+never_begun inside = simp layers refl
 
-pub asked : (inside : Run) (reach : Reach) → answer_of (run (run inside) (root_begun reach) 0 (giving_both (codes "a")).items) ≡ begins (0 ∷ 1 ∷ [])
-asked inside reach = simp layers refl
+pub asked : (inside : Run) → answer_of (run (run inside) root_begun 0 (giving_both (codes "a")).items) ≡ begins (0 ∷ 1 ∷ [])
+asked inside = simp layers refl
 
 -- core instances
-pub lifts_one : (inside : Run) (reach : Reach) → answer_of (run inside (root_begun reach) 0 (root (lifting [])).items) ≡ Ok (callable_as no_options (codes "run" ∷ []))
-lifts_one inside reach = simp layers refl
+pub lifts_one : (inside : Run) → answer_of (run inside root_begun 0 (root (lifting [])).items) ≡ Ok (callable_as no_options (codes "run" ∷ []))
+lifts_one inside = simp layers refl
 
-pub lifts_twice : (inside : Run) (reach : Reach) → answer_of (run inside (root_begun reach) 0 (root lifting_twice).items) ≡ Ok (callable_as no_options (codes "a#run" ∷ codes "a#run" ∷ []))
-lifts_twice inside reach = simp layers refl
+pub lifts_twice : (inside : Run) → answer_of (run inside root_begun 0 (root lifting_twice).items) ≡ Ok (callable_as no_options (codes "a#run" ∷ codes "a#run" ∷ []))
+lifts_twice inside = simp layers refl
 
-pub lifts_with_memory : (inside : Run) → answer_of (run inside (root_begun Whole) 0 (root (lifting (option.Memory 0 ∷ []))).items) ≡ Ok (callable_as with_memory (codes "run" ∷ []))
+pub lifts_with_memory : (inside : Run) → answer_of (run inside root_begun 0 (root (lifting (option.Memory 0 ∷ []))).items) ≡ Ok (callable_as with_memory (codes "run" ∷ []))
 lifts_with_memory inside = simp layers refl
 
-pub past_runs : (inside : Run) → answer_of (run inside (root_begun Runs) 0 (root (lifting (option.Memory 0 ∷ []))).items) ≡ fault 5 why.Limit
-past_runs inside = simp layers refl
+pub memory_twice : (inside : Run) → answer_of (run inside root_begun 0 (root (lifting (option.Memory 0 ∷ option.Memory 0 ∷ []))).items) ≡ fault 5 why.Canon
+memory_twice inside = simp layers refl
 
-pub memory_twice : (inside : Run) (reach : Reach) → answer_of (run inside (root_begun reach) 0 (root (lifting (option.Memory 0 ∷ option.Memory 0 ∷ []))).items) ≡ fault 5 why.Canon
-memory_twice inside reach = simp layers refl
-
-pub absent_argument : (inside : Run) (reach : Reach) → answer_of (run inside (root_begun reach) 0 (root (plain.CoreModule of_one ∷ make_with_absent ∷ [])).items) ≡ fault 1 why.Index
-absent_argument inside reach = simp layers refl
+pub absent_argument : (inside : Run) → answer_of (run inside root_begun 0 (root (plain.CoreModule of_one ∷ make_with_absent ∷ [])).items) ≡ fault 1 why.Index
+absent_argument inside = simp layers refl
 
 -- functions that are lowered
 string_flat : flat val_type.String ≡ I32 ∷ I32 ∷ []
@@ -178,23 +145,20 @@ string_flat = ap flat (sym rolls-String) ∙ fold-roll-ValType (List CoreType) (
 string_holds_list : has_list val_type.String ≡ true
 string_holds_list = ap has_list (sym rolls-String) ∙ fold-roll-ValType Bool Bool Bool list_step end_case end_field F.String
 
-pub passes_one : (inside : Run) → answer_of (run inside (root_begun Whole) 0 (root passing).items) ≡ Ok passed
+pub passes_one : (inside : Run) → answer_of (run inside root_begun 0 (root passing).items) ≡ Ok passed
 passes_one inside = simp layers refl
 
-pub lower_past_runs : (inside : Run) → answer_of (run inside (root_begun Runs) 0 (root passing).items) ≡ fault 6 why.Limit
-lower_past_runs inside = simp layers refl
+pub no_function : (inside : Run) → answer_of (run inside root_begun 0 (root (lowering 1 [])).items) ≡ fault 6 why.Index
+no_function inside = simp layers refl
 
-pub no_function : (inside : Run) (reach : Reach) → answer_of (run inside (root_begun reach) 0 (root (lowering 1 [])).items) ≡ fault 6 why.Index
-no_function inside reach = simp layers refl
-
-pub no_memory : (inside : Run) → answer_of (run inside (root_begun Whole) 0 (root (lowering_string [])).items) ≡ fault 6 why.Canon
+pub no_memory : (inside : Run) → answer_of (run inside root_begun 0 (root (lowering_string [])).items) ≡ fault 6 why.Canon
 no_memory inside = simp (layers, string_flat, string_holds_list) refl
 
-pub no_realloc : (inside : Run) → answer_of (run inside (root_begun Whole) 0 (root (lowering_string (option.Memory 0 ∷ []))).items) ≡ fault 6 why.Canon
+pub no_realloc : (inside : Run) → answer_of (run inside root_begun 0 (root (lowering_string (option.Memory 0 ∷ []))).items) ≡ fault 6 why.Canon
 no_realloc inside = simp (layers, string_flat, string_holds_list) refl
 
-pub post_return : (inside : Run) (reach : Reach) → answer_of (run inside (root_begun reach) 0 (root (lowering 0 (option.PostReturn 0 ∷ []))).items) ≡ fault 6 why.Canon
-post_return inside reach = simp layers refl
+pub post_return : (inside : Run) → answer_of (run inside root_begun 0 (root (lowering 0 (option.PostReturn 0 ∷ []))).items) ≡ fault 6 why.Canon
+post_return inside = simp layers refl
 
 -- what lifts and lowers of functions of strings need
 pub string_needs_memory : needs_memory taking_string ≡ true

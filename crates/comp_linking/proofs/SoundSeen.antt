@@ -10,7 +10,6 @@ use Rattle.wasm_module.specs.declared.module.ModuleTree.{ModuleTree}
 use Rattle.comp_graph.specs.declared.graph.CanonFunc.{CanonFunc}
 use Rattle.comp_tree.specs.declared.instances.NamedDefinition.{NamedDefinition}
 use Rattle.comp_graph.specs.Closed.{Extern, OfFunc, OfType, OfInstance, Externs, EmptyType, WithExtern, extern_names}
-use Rattle.comp_linking.specs.declared.reach.Reach.{Reach}
 use Rattle.comp_linking.specs.Definitions.{Definition, AnInstance, Exports, EmptyInstance, WithExport, export_names, export_named, with_seen, seen_as, seen_exports, types_of}
 use Rattle.comp_linking.specs.Spaces.{CoreMake, Spaces, definition_at}
 use Rattle.comp_linking.specs.Items.{AreNamed}
@@ -53,37 +52,37 @@ fresh_types q (WithExtern others name (OfType type)) h =
     fresh_behind q (export_names (types_of others)) name (fresh_types q others p.0) p.1
 fresh_types q (WithExtern others name (OfInstance inner)) h = fresh_types q others (fresh_before q (extern_names others) name h).0
 
-module _ (R : ModuleTree → Type 0) (reach : Reach) (cores : List CoreMake) (canons : List CanonFunc) where
-  with_sound : (o : Option Definition) (name : List ℕ) (seen : Exports) → IfSome o (IsSound R reach cores canons) → AreSound R reach cores canons seen → is_among name (export_names seen) ≡ false → AreSound R reach cores canons (with_seen o name seen)
+module _ (R : ModuleTree → Type 0) (cores : List CoreMake) (canons : List CanonFunc) where
+  with_sound : (o : Option Definition) (name : List ℕ) (seen : Exports) → IfSome o (IsSound R cores canons) → AreSound R cores canons seen → is_among name (export_names seen) ≡ false → AreSound R cores canons (with_seen o name seen)
   with_sound None name seen h k fresh = k
   with_sound (Some d) name seen h k fresh = (k, h, fresh)
 
   mutual
-    pub seen_sound : (d : Definition) (extern : Extern) → IsSound R reach cores canons d → IsExternApart extern → IsSound R reach cores canons (seen_as d extern)
+    pub seen_sound : (d : Definition) (extern : Extern) → IsSound R cores canons d → IsExternApart extern → IsSound R cores canons (seen_as d extern)
     seen_sound (AnInstance given) (OfInstance asked) h k = seen_all_sound given asked h k
     seen_sound d extern h k = h
 
-    seen_all_sound : (given : Exports) (asked : Externs) → AreSound R reach cores canons given → AreApart asked → AreSound R reach cores canons (seen_exports given asked)
+    seen_all_sound : (given : Exports) (asked : Externs) → AreSound R cores canons given → AreApart asked → AreSound R cores canons (seen_exports given asked)
     seen_all_sound given EmptyType h k = tt
     seen_all_sound given (WithExtern others name extern) h k =
         with_sound (option_map (λ d. seen_as d extern) (export_named name given)) name (seen_exports given others)
-        (if_mapped (λ d. seen_as d extern) (IsSound R reach cores canons) (export_named name given) (if_weaker (IsSound R reach cores canons) (λ (d : Definition). IsSound R reach cores canons (seen_as d extern)) (λ d j. seen_sound d extern j k.1) (export_named name given) (named_sound R reach cores canons name given h)))
+        (if_mapped (λ d. seen_as d extern) (IsSound R cores canons) (export_named name given) (if_weaker (IsSound R cores canons) (λ (d : Definition). IsSound R cores canons (seen_as d extern)) (λ d j. seen_sound d extern j k.1) (export_named name given) (named_sound R cores canons name given h)))
         (seen_all_sound given others h k.0) (fresh_seen name given others k.2)
 
-  pub types_sound : (externs : Externs) → AreApart externs → AreSound R reach cores canons (types_of externs)
+  pub types_sound : (externs : Externs) → AreApart externs → AreSound R cores canons (types_of externs)
   types_sound EmptyType h = tt
   types_sound (WithExtern others name (OfFunc type)) h = types_sound others h.0
   types_sound (WithExtern others name (OfType type)) h = (types_sound others h.0, h.1, fresh_types name others h.2)
   types_sound (WithExtern others name (OfInstance inner)) h = types_sound others h.0
 
   -- Definitions under distinct names.
-  behind_sound : (s : Spaces) (before : Exports) (named : List NamedDefinition) (exports : Exports) → AreSpacesSound R reach cores canons s → AreSound R reach cores canons before
-      → twice_behind (export_names before) (map (λ (d : NamedDefinition). d.name) named) ≡ None → AreNamed s before named exports → AreSound R reach cores canons exports
-  behind_sound s before [] exports h k distinct are = subst (AreSound R reach cores canons) (sym are) k
+  behind_sound : (s : Spaces) (before : Exports) (named : List NamedDefinition) (exports : Exports) → AreSpacesSound R cores canons s → AreSound R cores canons before
+      → twice_behind (export_names before) (map (λ (d : NamedDefinition). d.name) named) ≡ None → AreNamed s before named exports → AreSound R cores canons exports
+  behind_sound s before [] exports h k distinct are = subst (AreSound R cores canons) (sym are) k
   behind_sound s before (d ∷ named) exports h k distinct are =
       let p = not_twice (is_among d.name (export_names before)) (length (export_names before)) (twice_behind (export_names before ++ d.name ∷ []) (map (λ (d : NamedDefinition). d.name) named)) distinct in
       behind_sound s (WithExport before d.name are.0) named exports h
-      (k, holds_at (IsSound R reach cores canons) (definition_at s d.sort d.index) are.0 (definition_sound R reach cores canons s d.sort d.index h) are.1, p.0) p.1 are.2
+      (k, holds_at (IsSound R cores canons) (definition_at s d.sort d.index) are.0 (definition_sound R cores canons s d.sort d.index h) are.1, p.0) p.1 are.2
 
-  pub are_named_sound : (s : Spaces) (named : List NamedDefinition) (exports : Exports) → AreSpacesSound R reach cores canons s → AreDistinct (map (λ (d : NamedDefinition). d.name) named) → AreNamed s EmptyInstance named exports → AreSound R reach cores canons exports
+  pub are_named_sound : (s : Spaces) (named : List NamedDefinition) (exports : Exports) → AreSpacesSound R cores canons s → AreDistinct (map (λ (d : NamedDefinition). d.name) named) → AreNamed s EmptyInstance named exports → AreSound R cores canons exports
   are_named_sound s named exports h distinct are = behind_sound s EmptyInstance named exports h tt ((distinct_law (map (λ (d : NamedDefinition). d.name) named)).1 distinct) are

@@ -12,7 +12,6 @@ use Rattle.comp_tree.specs.declared.core_instances.CoreSort.TheVariants as core_
 use Rattle.comp_tree.specs.declared.instances.Sort.{Sort}
 use Rattle.comp_tree.specs.declared.instances.Sort.TheVariants as sorts
 use Rattle.comp_graph.specs.Closed.{first_of}
-use Rattle.comp_linking.specs.declared.reach.Reach.{Reach}
 use Rattle.comp_linking.specs.Definitions.{CoreItem, Func, Table, Memory, Global, CoreExport, core_named, Lifted, Closure, Definition, AFunc, AType, AComponent, AnInstance, AModule, Exports, EmptyInstance, WithExport, export_named}
 use Rattle.comp_linking.specs.Spaces.{CoreMake, Spaces, new_spaces, core_item_at, core_definition_at, definition_at, with_core_item, with_core_instance, with_definition, outer_definition}
 use Rattle.comp_linking.proofs.Holding.{all_push, all_weaker, all_at, if_weaker, if_mapped, if_cond}
@@ -34,23 +33,23 @@ kept_memory cores more canons others (Func f type) h = absurd h
 kept_memory cores more canons others (Table t limits) h = absurd h
 kept_memory cores more canons others (Global g type) h = absurd h
 
-kept_func : (reach : Reach) (cores more : List CoreMake) (canons others : List CanonFunc) (f : Lifted) → IsFuncSound reach cores canons f → IsFuncSound reach (cores ++ more) (canons ++ others) f
-kept_func reach cores more canons others f h = record { there = kept_lift cores more canons others f.func_type (lift_for f) h.there; apart = h.apart; runs = h.runs }
+kept_func : (cores more : List CoreMake) (canons others : List CanonFunc) (f : Lifted) → IsFuncSound cores canons f → IsFuncSound (cores ++ more) (canons ++ others) f
+kept_func cores more canons others f h = record { there = kept_lift cores more canons others f.func_type (lift_for f) h.there; apart = h.apart }
 
-module _ (R : ModuleTree → Type 0) (reach : Reach) where
+module _ (R : ModuleTree → Type 0) where
   mutual
-    kept_definition : (cores more : List CoreMake) (canons others : List CanonFunc) (d : Definition) → IsSound R reach cores canons d → IsSound R reach (cores ++ more) (canons ++ others) d
-    kept_definition cores more canons others (AFunc f) h = kept_func reach cores more canons others f h
+    kept_definition : (cores more : List CoreMake) (canons others : List CanonFunc) (d : Definition) → IsSound R cores canons d → IsSound R (cores ++ more) (canons ++ others) d
+    kept_definition cores more canons others (AFunc f) h = kept_func cores more canons others f h
     kept_definition cores more canons others (AType type) h = h
     kept_definition cores more canons others (AComponent c) h = h
     kept_definition cores more canons others (AnInstance exports) h = kept_sound cores more canons others exports h
     kept_definition cores more canons others (AModule m) h = h
 
-    kept_sound : (cores more : List CoreMake) (canons others : List CanonFunc) (exports : Exports) → AreSound R reach cores canons exports → AreSound R reach (cores ++ more) (canons ++ others) exports
+    kept_sound : (cores more : List CoreMake) (canons others : List CanonFunc) (exports : Exports) → AreSound R cores canons exports → AreSound R (cores ++ more) (canons ++ others) exports
     kept_sound cores more canons others EmptyInstance h = h
     kept_sound cores more canons others (WithExport exports name d) h = (kept_sound cores more canons others exports h.0, kept_definition cores more canons others d h.1, h.2)
 
-  pub kept_spaces : (cores more : List CoreMake) (canons others : List CanonFunc) (s : Spaces) → AreSpacesSound R reach cores canons s → AreSpacesSound R reach (cores ++ more) (canons ++ others) s
+  pub kept_spaces : (cores more : List CoreMake) (canons others : List CanonFunc) (s : Spaces) → AreSpacesSound R cores canons s → AreSpacesSound R (cores ++ more) (canons ++ others) s
   kept_spaces cores more canons others s h = record {
     core = record {
       modules_have = h.core.modules_have;
@@ -62,23 +61,23 @@ module _ (R : ModuleTree → Type 0) (reach : Reach) where
     };
     defined = record {
       components_have = h.defined.components_have;
-      instances_sound = all_weaker (AreSound R reach cores canons) (AreSound R reach (cores ++ more) (canons ++ others)) (kept_sound cores more canons others) s.instances h.defined.instances_sound;
-      funcs_sound = all_weaker (IsFuncSound reach cores canons) (IsFuncSound reach (cores ++ more) (canons ++ others)) (kept_func reach cores more canons others) s.funcs h.defined.funcs_sound;
+      instances_sound = all_weaker (AreSound R cores canons) (AreSound R (cores ++ more) (canons ++ others)) (kept_sound cores more canons others) s.instances h.defined.instances_sound;
+      funcs_sound = all_weaker (IsFuncSound cores canons) (IsFuncSound (cores ++ more) (canons ++ others)) (kept_func cores more canons others) s.funcs h.defined.funcs_sound;
       types_apart = h.defined.types_apart;
     };
     exports_sound = kept_sound cores more canons others s.exports h.exports_sound;
-    arguments_sound = if_weaker (AreSound R reach cores canons) (AreSound R reach (cores ++ more) (canons ++ others)) (kept_sound cores more canons others) s.arguments h.arguments_sound;
+    arguments_sound = if_weaker (AreSound R cores canons) (AreSound R (cores ++ more) (canons ++ others)) (kept_sound cores more canons others) s.arguments h.arguments_sound;
   }
 
   -- where only one of both grows
-  pub more_cores : (cores more : List CoreMake) (canons : List CanonFunc) (s : Spaces) → AreSpacesSound R reach cores canons s → AreSpacesSound R reach (cores ++ more) canons s
-  more_cores cores more canons s h = subst (λ (canons : List CanonFunc). AreSpacesSound R reach (cores ++ more) canons s) (append-nil canons) (kept_spaces cores more canons [] s h)
+  pub more_cores : (cores more : List CoreMake) (canons : List CanonFunc) (s : Spaces) → AreSpacesSound R cores canons s → AreSpacesSound R (cores ++ more) canons s
+  more_cores cores more canons s h = subst (λ (canons : List CanonFunc). AreSpacesSound R (cores ++ more) canons s) (append-nil canons) (kept_spaces cores more canons [] s h)
 
-  pub more_canons : (cores : List CoreMake) (canons others : List CanonFunc) (s : Spaces) → AreSpacesSound R reach cores canons s → AreSpacesSound R reach cores (canons ++ others) s
-  more_canons cores canons others s h = subst (λ (cores : List CoreMake). AreSpacesSound R reach cores (canons ++ others) s) (append-nil cores) (kept_spaces cores [] canons others s h)
+  pub more_canons : (cores : List CoreMake) (canons others : List CanonFunc) (s : Spaces) → AreSpacesSound R cores canons s → AreSpacesSound R cores (canons ++ others) s
+  more_canons cores canons others s h = subst (λ (cores : List CoreMake). AreSpacesSound R cores (canons ++ others) s) (append-nil cores) (kept_spaces cores [] canons others s h)
 
   -- One more in one of the spaces.
-  pub sound_core_item : (cores : List CoreMake) (canons : List CanonFunc) (s : Spaces) (item : CoreItem) → AreSpacesSound R reach cores canons s → IsItem cores canons item → AreSpacesSound R reach cores canons (with_core_item s item)
+  pub sound_core_item : (cores : List CoreMake) (canons : List CanonFunc) (s : Spaces) (item : CoreItem) → AreSpacesSound R cores canons s → IsItem cores canons item → AreSpacesSound R cores canons (with_core_item s item)
   sound_core_item cores canons s (Func f type) h k = record {
     core = record {
       modules_have = h.core.modules_have;
@@ -132,7 +131,7 @@ module _ (R : ModuleTree → Type 0) (reach : Reach) where
     arguments_sound = h.arguments_sound;
   }
 
-  pub sound_core_instance : (cores : List CoreMake) (canons : List CanonFunc) (s : Spaces) (exports : List CoreExport) → AreSpacesSound R reach cores canons s → AreThere cores canons exports → AreSpacesSound R reach cores canons (with_core_instance s exports)
+  pub sound_core_instance : (cores : List CoreMake) (canons : List CanonFunc) (s : Spaces) (exports : List CoreExport) → AreSpacesSound R cores canons s → AreThere cores canons exports → AreSpacesSound R cores canons (with_core_instance s exports)
   sound_core_instance cores canons s exports h k = record {
     core = record {
       modules_have = h.core.modules_have;
@@ -147,7 +146,7 @@ module _ (R : ModuleTree → Type 0) (reach : Reach) where
     arguments_sound = h.arguments_sound;
   }
 
-  pub sound_definition : (cores : List CoreMake) (canons : List CanonFunc) (s : Spaces) (d : Definition) → AreSpacesSound R reach cores canons s → IsSound R reach cores canons d → AreSpacesSound R reach cores canons (with_definition s d)
+  pub sound_definition : (cores : List CoreMake) (canons : List CanonFunc) (s : Spaces) (d : Definition) → AreSpacesSound R cores canons s → IsSound R cores canons d → AreSpacesSound R cores canons (with_definition s d)
   sound_definition cores canons s (AModule m) h k = record {
     core = record {
       modules_have = all_push R s.core_modules m h.core.modules_have k;
@@ -166,7 +165,7 @@ module _ (R : ModuleTree → Type 0) (reach : Reach) where
     defined = record {
       components_have = h.defined.components_have;
       instances_sound = h.defined.instances_sound;
-      funcs_sound = all_push (IsFuncSound reach cores canons) s.funcs f h.defined.funcs_sound k;
+      funcs_sound = all_push (IsFuncSound cores canons) s.funcs f h.defined.funcs_sound k;
       types_apart = h.defined.types_apart;
     };
     exports_sound = h.exports_sound;
@@ -198,7 +197,7 @@ module _ (R : ModuleTree → Type 0) (reach : Reach) where
     core = h.core;
     defined = record {
       components_have = h.defined.components_have;
-      instances_sound = all_push (AreSound R reach cores canons) s.instances exports h.defined.instances_sound k;
+      instances_sound = all_push (AreSound R cores canons) s.instances exports h.defined.instances_sound k;
       funcs_sound = h.defined.funcs_sound;
       types_apart = h.defined.types_apart;
     };
@@ -207,13 +206,13 @@ module _ (R : ModuleTree → Type 0) (reach : Reach) where
   }
 
   -- The imports and the exports do not stand in the index spaces.
-  pub sound_imports : (cores : List CoreMake) (canons : List CanonFunc) (s : Spaces) (imports : List (List ℕ)) → AreSpacesSound R reach cores canons s → AreSpacesSound R reach cores canons (record s { imports = imports })
+  pub sound_imports : (cores : List CoreMake) (canons : List CanonFunc) (s : Spaces) (imports : List (List ℕ)) → AreSpacesSound R cores canons s → AreSpacesSound R cores canons (record s { imports = imports })
   sound_imports cores canons s imports h = record { core = h.core; defined = h.defined; exports_sound = h.exports_sound; arguments_sound = h.arguments_sound }
 
-  pub sound_exports : (cores : List CoreMake) (canons : List CanonFunc) (s : Spaces) (exports : Exports) → AreSpacesSound R reach cores canons s → AreSound R reach cores canons exports → AreSpacesSound R reach cores canons (record s { exports = exports })
+  pub sound_exports : (cores : List CoreMake) (canons : List CanonFunc) (s : Spaces) (exports : Exports) → AreSpacesSound R cores canons s → AreSound R cores canons exports → AreSpacesSound R cores canons (record s { exports = exports })
   sound_exports cores canons s exports h k = record { core = h.core; defined = h.defined; exports_sound = k; arguments_sound = h.arguments_sound }
 
-  pub sound_new : (cores : List CoreMake) (canons : List CanonFunc) (arguments : Option Exports) (around : List ℕ) → IfSome arguments (AreSound R reach cores canons) → AreSpacesSound R reach cores canons (new_spaces arguments around)
+  pub sound_new : (cores : List CoreMake) (canons : List CanonFunc) (arguments : Option Exports) (around : List ℕ) → IfSome arguments (AreSound R cores canons) → AreSpacesSound R cores canons (new_spaces arguments around)
   sound_new cores canons arguments around h = record {
     core = record { modules_have = tt; instances_there = tt; funcs_there = tt; tables_there = tt; memories_there = tt; globals_there = tt };
     defined = record { components_have = tt; instances_sound = tt; funcs_sound = tt; types_apart = tt };
@@ -228,7 +227,7 @@ module _ (R : ModuleTree → Type 0) (reach : Reach) where
   memory_item cores canons (Table t limits) h = absurd h
   memory_item cores canons (Global g type) h = absurd h
 
-  pub item_there : (cores : List CoreMake) (canons : List CanonFunc) (s : Spaces) (sort : CoreSort) (index : ℕ) → AreSpacesSound R reach cores canons s → IfSome (core_item_at s sort index) (IsItem cores canons)
+  pub item_there : (cores : List CoreMake) (canons : List CanonFunc) (s : Spaces) (sort : CoreSort) (index : ℕ) → AreSpacesSound R cores canons s → IfSome (core_item_at s sort index) (IsItem cores canons)
   item_there cores canons s core_sort.Func index h = all_at (IsItem cores canons) s.core_funcs index h.core.funcs_there
   item_there cores canons s core_sort.Table index h = all_at (IsItem cores canons) s.core_tables index h.core.tables_there
   item_there cores canons s core_sort.Memory index h = if_weaker (IsMemoryItem cores canons) (IsItem cores canons) (memory_item cores canons) (slice_get s.core_memories index) (all_at (IsMemoryItem cores canons) s.core_memories index h.core.memories_there)
@@ -236,37 +235,37 @@ module _ (R : ModuleTree → Type 0) (reach : Reach) where
   item_there cores canons s core_sort.Module index h = tt
   item_there cores canons s core_sort.Instance index h = tt
 
-  core_definition_sound : (cores : List CoreMake) (canons : List CanonFunc) (s : Spaces) (sort : CoreSort) (index : ℕ) → AreSpacesSound R reach cores canons s → IfSome (core_definition_at s sort index) (IsSound R reach cores canons)
+  core_definition_sound : (cores : List CoreMake) (canons : List CanonFunc) (s : Spaces) (sort : CoreSort) (index : ℕ) → AreSpacesSound R cores canons s → IfSome (core_definition_at s sort index) (IsSound R cores canons)
   core_definition_sound cores canons s core_sort.Func index h = tt
   core_definition_sound cores canons s core_sort.Table index h = tt
   core_definition_sound cores canons s core_sort.Memory index h = tt
   core_definition_sound cores canons s core_sort.Global index h = tt
-  core_definition_sound cores canons s core_sort.Module index h = if_mapped AModule (IsSound R reach cores canons) (slice_get s.core_modules index) (all_at R s.core_modules index h.core.modules_have)
+  core_definition_sound cores canons s core_sort.Module index h = if_mapped AModule (IsSound R cores canons) (slice_get s.core_modules index) (all_at R s.core_modules index h.core.modules_have)
   core_definition_sound cores canons s core_sort.Instance index h = tt
 
-  pub definition_sound : (cores : List CoreMake) (canons : List CanonFunc) (s : Spaces) (sort : Sort) (index : ℕ) → AreSpacesSound R reach cores canons s → IfSome (definition_at s sort index) (IsSound R reach cores canons)
+  pub definition_sound : (cores : List CoreMake) (canons : List CanonFunc) (s : Spaces) (sort : Sort) (index : ℕ) → AreSpacesSound R cores canons s → IfSome (definition_at s sort index) (IsSound R cores canons)
   definition_sound cores canons s (sorts.Core sort) index h = core_definition_sound cores canons s sort index h
-  definition_sound cores canons s sorts.Func index h = if_mapped AFunc (IsSound R reach cores canons) (slice_get s.funcs index) (all_at (IsFuncSound reach cores canons) s.funcs index h.defined.funcs_sound)
-  definition_sound cores canons s sorts.Type index h = if_mapped AType (IsSound R reach cores canons) (slice_get s.types index) (all_at IsApart s.types index h.defined.types_apart)
+  definition_sound cores canons s sorts.Func index h = if_mapped AFunc (IsSound R cores canons) (slice_get s.funcs index) (all_at (IsFuncSound cores canons) s.funcs index h.defined.funcs_sound)
+  definition_sound cores canons s sorts.Type index h = if_mapped AType (IsSound R cores canons) (slice_get s.types index) (all_at IsApart s.types index h.defined.types_apart)
   definition_sound cores canons s sorts.Component index h =
-      if_mapped AComponent (IsSound R reach cores canons) (slice_get s.components index) (all_at (λ (c : Closure). ModulesHave R c.items) s.components index h.defined.components_have)
-  definition_sound cores canons s sorts.Instance index h = if_mapped AnInstance (IsSound R reach cores canons) (slice_get s.instances index) (all_at (AreSound R reach cores canons) s.instances index h.defined.instances_sound)
+      if_mapped AComponent (IsSound R cores canons) (slice_get s.components index) (all_at (λ (c : Closure). ModulesHave R c.items) s.components index h.defined.components_have)
+  definition_sound cores canons s sorts.Instance index h = if_mapped AnInstance (IsSound R cores canons) (slice_get s.instances index) (all_at (AreSound R cores canons) s.instances index h.defined.instances_sound)
 
-  pub outer_sound : (cores : List CoreMake) (canons : List CanonFunc) (s : Spaces) (sort : Sort) (index : ℕ) → AreSpacesSound R reach cores canons s → IfSome (outer_definition sort index s) (IsSound R reach cores canons)
+  pub outer_sound : (cores : List CoreMake) (canons : List CanonFunc) (s : Spaces) (sort : Sort) (index : ℕ) → AreSpacesSound R cores canons s → IfSome (outer_definition sort index s) (IsSound R cores canons)
   outer_sound cores canons s (sorts.Core sort) index h = tt
   outer_sound cores canons s sorts.Func index h = tt
   outer_sound cores canons s sorts.Type index h = definition_sound cores canons s sorts.Type index h
   outer_sound cores canons s sorts.Component index h = definition_sound cores canons s sorts.Component index h
   outer_sound cores canons s sorts.Instance index h = tt
 
-  first_sound : (cores : List CoreMake) (canons : List CanonFunc) (a b : Option Definition) → IfSome a (IsSound R reach cores canons) → IfSome b (IsSound R reach cores canons) → IfSome (first_of a b) (IsSound R reach cores canons)
+  first_sound : (cores : List CoreMake) (canons : List CanonFunc) (a b : Option Definition) → IfSome a (IsSound R cores canons) → IfSome b (IsSound R cores canons) → IfSome (first_of a b) (IsSound R cores canons)
   first_sound cores canons None b h k = k
   first_sound cores canons (Some a) b h k = h
 
-  pub named_sound : (cores : List CoreMake) (canons : List CanonFunc) (q : List ℕ) (exports : Exports) → AreSound R reach cores canons exports → IfSome (export_named q exports) (IsSound R reach cores canons)
+  pub named_sound : (cores : List CoreMake) (canons : List CanonFunc) (q : List ℕ) (exports : Exports) → AreSound R cores canons exports → IfSome (export_named q exports) (IsSound R cores canons)
   named_sound cores canons q EmptyInstance h = tt
   named_sound cores canons q (WithExport others name d) h =
-      first_sound cores canons (export_named q others) (cond (bytes_eq name q) (Some d) None) (named_sound cores canons q others h.0) (if_cond (IsSound R reach cores canons) (bytes_eq name q) (Some d) None h.1 tt)
+      first_sound cores canons (export_named q others) (cond (bytes_eq name q) (Some d) None) (named_sound cores canons q others h.0) (if_cond (IsSound R cores canons) (bytes_eq name q) (Some d) None h.1 tt)
 
 pub core_named_there : (cores : List CoreMake) (canons : List CanonFunc) (q : List ℕ) (exports : List CoreExport) → AreThere cores canons exports → IfSome (core_named q exports) (IsItem cores canons)
 core_named_there cores canons q [] h = tt

@@ -13,13 +13,11 @@ use Rattle.laid_types.specs.Depth.{greatest, depth, depth_step, depth_case, dept
 use Rattle.comp_tree.specs.declared.items.Item.TheVariants as plain
 use Rattle.comp_tree.specs.declared.items.Item.TheViews.{outs-Type}
 use Rattle.comp_linking.specs.declared.fault.LinkWhy.TheVariants as why
-use Rattle.comp_linking.specs.declared.reach.Reach.{Reach}
-use Rattle.comp_linking.specs.declared.reach.Reach.TheVariants.{Runs, Whole}
 use Rattle.comp_linking.specs.Linked.{root_begun}
 use Rattle.comp_linking.specs.Computed.{Run, run, answer_of}
 use Rattle.comp_linking.specs.Examples.{root, fault, u32, list_of, record_of, begins}
 use Rattle.comp_linking.proofs.Depths.{leaf_depth}
-use Rattle.comp_linking.proofs.Samples.{value_rolled, value_runs, within}
+use Rattle.comp_linking.proofs.Samples.{value_rolled}
 
 pub list_depth : (element : ValType) → depth (val_type.List element) ≡ suc (depth element)
 list_depth element = ap depth (sym (rolls-List element)) ∙ fold-roll-ValType ℕ ℕ ℕ depth_step depth_case depth_field (F.List element)
@@ -30,19 +28,16 @@ record_depth fields =
     ∙ fold-roll-ValType ℕ ℕ ℕ depth_step depth_case depth_field (F.Record fields)
     ∙ ap (λ ds. suc (greatest ds)) (map_alike _ _ (fold_field ℕ ℕ ℕ depth_step depth_case depth_field) fields)
 
-ruleset layers = (outs-Type, value_rolled, leaf_depth, list_depth, record_depth, value_runs, within)
+ruleset layers = (outs-Type, value_rolled, leaf_depth, list_depth, record_depth)
 
-pub empty : (inside : Run) (reach : Reach) → answer_of (run inside (root_begun reach) 0 (root (record_of [] 0 ∷ [])).items) ≡ fault 0 why.Typing
-empty inside reach = simp layers refl
+pub empty : (inside : Run) → answer_of (run inside root_begun 0 (root (record_of [] 0 ∷ [])).items) ≡ fault 0 why.Typing
+empty inside = simp layers refl
 
-pub label_twice : (inside : Run) (reach : Reach) → answer_of (run inside (root_begun reach) 0 (root (plain.Type u32 ∷ record_of (codes "a" ∷ codes "a" ∷ []) 0 ∷ [])).items) ≡ fault 1 why.Typing
-label_twice inside reach = simp layers refl
+pub label_twice : (inside : Run) → answer_of (run inside root_begun 0 (root (plain.Type u32 ∷ record_of (codes "a" ∷ codes "a" ∷ []) 0 ∷ [])).items) ≡ fault 1 why.Typing
+label_twice inside = simp layers refl
 
-pub not_there : (inside : Run) (reach : Reach) → answer_of (run inside (root_begun reach) 0 (root (record_of (codes "a" ∷ codes "a" ∷ []) 0 ∷ [])).items) ≡ fault 0 why.Index
-not_there inside reach = simp layers refl
+pub not_there : (inside : Run) → answer_of (run inside root_begun 0 (root (record_of (codes "a" ∷ codes "a" ∷ []) 0 ∷ [])).items) ≡ fault 0 why.Index
+not_there inside = simp layers refl
 
-pub made : (inside : Run) → answer_of (run inside (root_begun Whole) 0 (root (plain.Type u32 ∷ list_of 0 ∷ list_of 1 ∷ record_of (codes "a" ∷ codes "b" ∷ []) 2 ∷ [])).items) ≡ begins (0 ∷ [])
+pub made : (inside : Run) → answer_of (run inside root_begun 0 (root (plain.Type u32 ∷ list_of 0 ∷ list_of 1 ∷ record_of (codes "a" ∷ codes "b" ∷ []) 2 ∷ [])).items) ≡ begins (0 ∷ [])
 made inside = simp layers refl
-
-pub past : (inside : Run) → answer_of (run inside (root_begun Runs) 0 (root (plain.Type u32 ∷ list_of 0 ∷ [])).items) ≡ fault 1 why.Limit
-past inside = simp layers refl

@@ -22,7 +22,6 @@ use Rattle.comp_tree.specs.declared.instances.AliasTarget.{AliasTarget}
 use Rattle.comp_tree.specs.declared.instances.AliasTarget.TheVariants as target
 use Rattle.comp_tree.specs.declared.externs.ExternDesc.{ExternDesc}
 use Rattle.comp_tree.specs.declared.externs.Export as read
-use Rattle.comp_tree.specs.declared.types.DefType.{DefType}
 use Rattle.comp_tree.specs.declared.items.CanonOption.{CanonOption}
 use Rattle.comp_tree.specs.declared.items.Canon.TheVariants.{Lift, Lower}
 use Rattle.comp_tree.specs.declared.items.Item.{Item, out-Item}
@@ -33,8 +32,6 @@ use Rattle.comp_linking.specs.declared.fault.LinkWhy.TheVariants as why
 use Rattle.comp_linking.specs.declared.fault.LinkFault.{LinkFault}
 use Rattle.comp_graph.specs.Closed.{Closed, Extern, OfInstance, func_of}
 use Rattle.comp_linking.specs.Definitions.{CoreItem, CoreExport, core_named, Lifted, Closure, Definition, AFunc, AType, AComponent, AnInstance, AModule, Exports, EmptyInstance, WithExport, export_names, export_named, lacks, seen_as, types_of}
-use Rattle.comp_linking.specs.declared.reach.Reach.{Reach}
-use Rattle.comp_linking.specs.Runs.{reaches, runs_type, runs_lift, runs_lower}
 use Rattle.comp_linking.specs.Canons.{Given, given_by, stand_once, is_option_there, can_be_lifted, can_be_lowered}
 use Rattle.comp_linking.specs.Types.{Meaning, meaning_of}
 use Rattle.comp_linking.specs.Spaces.{Spaces, Linking, core_size, size_of, core_item_at, definition_at, with_core_item, with_core_instance, with_definition, with_spaces, levels_at, outer_at}
@@ -152,53 +149,50 @@ alias_outcome l n s sort (target.Outer up index) =
 
 -- Types.
 
-abbrev pub type_outcome : Linking → ℕ → Spaces → DefType → Meaning Closed → Result Outcome LinkWhy
-type_outcome l n s type meaning =
+abbrev pub type_outcome : Linking → ℕ → Spaces → Meaning Closed → Result Outcome LinkWhy
+type_outcome l n s meaning =
     only_if meaning.is_there why.Index (
     none_missing meaning.missing (
     after (there_or why.Typing meaning.means) (λ closed.
     only_if (not meaning.deep) why.Limit (
-    only_if (reaches l.reach (runs_type type)) why.Limit (
-    Ok (one_more l n s (AType closed)))))))
+    Ok (one_more l n s (AType closed))))))
 
 -- Lifts.
 
 -- the lift of a core item to a function of a type, with what options give, in the component instance of this number
-abbrev pub lifted_to : Reach → ℕ → FuncType → CoreItem → List CanonOption → Given → Result Lifted LinkWhy
-lifted_to reach n type item options given =
+abbrev pub lifted_to : ℕ → FuncType → CoreItem → List CanonOption → Given → Result Lifted LinkWhy
+lifted_to n type item options given =
     only_if (stand_once options) why.Canon (
     only_if (can_be_lifted type item given) why.Canon (
     after (there_or why.Canon (core_func_of item)) (λ core.
-    only_if (reaches reach (runs_lift options type)) why.Limit (
-    Ok (lifted_with n type core given)))))
+    Ok (lifted_with n type core given))))
 
 -- the lift of the core function of an index, with options, to a function of the type of an index
-abbrev pub lifted_of : Reach → ℕ → Spaces → ℕ → List CanonOption → ℕ → Result Lifted LinkWhy
-lifted_of reach n s f options t =
+abbrev pub lifted_of : ℕ → Spaces → ℕ → List CanonOption → ℕ → Result Lifted LinkWhy
+lifted_of n s f options t =
     after (there_or why.Index (slice_get s.core_funcs f)) (λ item.
     only_if (list_all (is_option_there s) options) why.Index (
     after (there_or why.Index (slice_get s.types t)) (λ type.
     after (there_or why.Typing (func_of type)) (λ of_func.
-    lifted_to reach n of_func item options (given_by s options)))))
+    lifted_to n of_func item options (given_by s options)))))
 
 abbrev pub lift_outcome : Linking → ℕ → Spaces → ℕ → List CanonOption → ℕ → Result Outcome LinkWhy
-lift_outcome l n s f options t = after (lifted_of l.reach n s f options t) (λ lifted. Ok (one_more l n s (AFunc lifted)))
+lift_outcome l n s f options t = after (lifted_of n s f options t) (λ lifted. Ok (one_more l n s (AFunc lifted)))
 
 -- Lowers.
 
 -- that a function can be lowered, with options and what they give
-abbrev pub lowered_from : Reach → FuncType → List CanonOption → Given → Result Given LinkWhy
-lowered_from reach type options given =
+abbrev pub lowered_from : FuncType → List CanonOption → Given → Result Given LinkWhy
+lowered_from type options given =
     only_if (stand_once options) why.Canon (
     only_if (can_be_lowered type given) why.Canon (
-    only_if (reaches reach runs_lower) why.Limit (
-    Ok given)))
+    Ok given))
 
 abbrev pub lower_outcome : Linking → ℕ → Spaces → ℕ → List CanonOption → Result Outcome LinkWhy
 lower_outcome l n s f options =
     after (there_or why.Index (slice_get s.funcs f)) (λ func.
     only_if (list_all (is_option_there s) options) why.Index (
-    after (lowered_from l.reach func.func_type options (given_by s options)) (λ given.
+    after (lowered_from func.func_type options (given_by s options)) (λ given.
     Ok (Makes (lower_made l n s func given)))))
 
 -- Imports.
@@ -259,7 +253,7 @@ outcome_case l n s (Item-F.CoreInstance c) = core_instance_outcome l n s c
 outcome_case l n s (Item-F.Component c) = Ok (one_more l n s (AComponent (record { items = c.items; around = n ∷ s.around })))
 outcome_case l n s (Item-F.Instance i) = instance_outcome l n s i
 outcome_case l n s (Item-F.Alias alias) = alias_outcome l n s alias.sort alias.target
-outcome_case l n s (Item-F.Type type) = type_outcome l n s type (meaning_of type (levels_at l (n ∷ s.around)))
+outcome_case l n s (Item-F.Type type) = type_outcome l n s (meaning_of type (levels_at l (n ∷ s.around)))
 outcome_case l n s (Item-F.Canon (Lift f options t)) = lift_outcome l n s f options t
 outcome_case l n s (Item-F.Canon (Lower f options)) = lower_outcome l n s f options
 outcome_case l n s (Item-F.Import i) = import_outcome l n s i.name (wanted s i.desc) i.desc s.arguments
@@ -298,10 +292,10 @@ abbrev pub run_within : ℕ → Run
 run_within zero = run (λ l n items. Ok l)
 run_within (suc budget) = run (run_within budget)
 
--- What a component is linked to, or its fault, where linking goes so far.
+-- What a component is linked to, or its fault.
 abbrev pub answer_of : Result Linking LinkFault → Result Graph LinkFault
 answer_of (Ok l) = Ok (graph_of l)
 answer_of (Err fault) = Err fault
 
-abbrev pub linked : Reach → Component → Result Graph LinkFault
-linked reach c = answer_of (run_within instance_limit (root_begun reach) 0 c.items)
+abbrev pub linked : Component → Result Graph LinkFault
+linked c = answer_of (run_within instance_limit root_begun 0 c.items)

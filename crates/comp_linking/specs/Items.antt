@@ -25,7 +25,6 @@ use Rattle.comp_tree.specs.declared.instances.AliasTarget.TheVariants as target
 use Rattle.comp_tree.specs.declared.externs.ExternDesc.{ExternDesc}
 use Rattle.comp_tree.specs.declared.externs.ExternDesc.TheVariants as desc
 use Rattle.comp_tree.specs.declared.externs.Export as read
-use Rattle.comp_tree.specs.declared.types.DefType.{DefType}
 use Rattle.comp_tree.specs.declared.items.CanonOption.{CanonOption}
 use Rattle.comp_tree.specs.declared.items.Canon.TheVariants.{Lift, Lower}
 use Rattle.comp_tree.specs.declared.items.Item.{Item, out-Item}
@@ -42,8 +41,6 @@ use Rattle.comp_graph.specs.declared.graph.CanonFunc.TheVariants as canon_func
 use Rattle.comp_graph.specs.Closed.{Closed, first_of, Extern, OfInstance, func_of, AreTypes}
 use Rattle.comp_linking.specs.Definitions.{CoreItem, Func, extern_of, CoreExport, core_named, exports_of, CoreFits, Lifted, Definition, AFunc, AType, AComponent, AnInstance, AModule, Exports, EmptyInstance, WithExport, export_names, export_named, Fits, lacks, seen_as, types_of}
 pub use Rattle.comp_graph.specs.Graph.{instance_limit}
-use Rattle.comp_linking.specs.declared.reach.Reach.{Reach}
-use Rattle.comp_linking.specs.Runs.{reaches, runs_type, runs_lift, runs_lower}
 use Rattle.comp_linking.specs.Canons.{IsOptionThere, StandOnce, Given, given_by, options_of, CanBeLifted, CanBeLowered}
 use Rattle.comp_linking.specs.Types.{Meaning, meaning_of, desc_meaning}
 use Rattle.comp_linking.specs.Spaces.{Spaces, Make, Linking, core_size, size_of, core_item_at, definition_at, IsOfCoreSort, IsOfSort, with_core_item, with_core_instance, with_definition, with_spaces, levels_at, outer_at}
@@ -120,7 +117,6 @@ core_made l n s m imports = record {
   cores = l.cores ++ record { of_module = m; imports = map extern_of imports; owner = n } ∷ [];
   canons = l.canons;
   plan = l.plan ++ Make (length l.cores) ∷ [];
-  reach = l.reach;
 }
 
 abbrev pub core_instance_makes : Linking → ℕ → Spaces → CoreInstance → Linking → Type 0
@@ -195,36 +191,33 @@ alias_makes l n s sort (target.CoreInstanceExport instance name) new =
 alias_makes l n s sort (target.Outer up index) new =
     (d : Definition) × (outer_at l (n ∷ s.around) sort up index ≡ Some d) × (new ≡ with_spaces l n (with_definition s d))
 
--- Types: what keeps a type from a meaning, that a value type in it is too deep, or that it is past the reach.
-abbrev pub type_has : Reach → DefType → Meaning Closed → LinkWhy → Type 0
-type_has reach type meaning why.Index = meaning.is_there ≡ false
-type_has reach type meaning (why.Missing name) = meaning.missing ≡ Some name
-type_has reach type meaning why.Typing = meaning.means ≡ None
-type_has reach type meaning why.Limit = (meaning.deep ≡ true) ⊎ (reaches reach (runs_type type) ≡ false)
-type_has reach type meaning why = ⊥
+-- Types: what keeps a type from a meaning, or that a value type in it is too deep.
+abbrev pub type_has : Meaning Closed → LinkWhy → Type 0
+type_has meaning why.Index = meaning.is_there ≡ false
+type_has meaning (why.Missing name) = meaning.missing ≡ Some name
+type_has meaning why.Typing = meaning.means ≡ None
+type_has meaning why.Limit = meaning.deep ≡ true
+type_has meaning why = ⊥
 
 -- what a type stands for
 abbrev pub StandsFor : Meaning Closed → Closed → Type 0
 StandsFor meaning closed = (meaning.means ≡ Some closed) × (meaning.deep ≡ false)
 
-abbrev pub type_makes : Linking → ℕ → Spaces → DefType → Meaning Closed → Linking → Type 0
-type_makes l n s type meaning new =
-    (closed : Closed) × StandsFor meaning closed × (reaches l.reach (runs_type type) ≡ true)
-    × (new ≡ with_spaces l n (with_definition s (AType closed)))
+abbrev pub type_makes : Linking → ℕ → Spaces → Meaning Closed → Linking → Type 0
+type_makes l n s meaning new =
+    (closed : Closed) × StandsFor meaning closed × (new ≡ with_spaces l n (with_definition s (AType closed)))
 
 -- Lifts: an index that is not there, also of an option; a type that is none of functions; an option twice, or a core item that
--- cannot be lifted with the options; or that the lift is past the reach.
-abbrev pub lift_has : Reach → Spaces → ℕ → List CanonOption → ℕ → LinkWhy → Type 0
-lift_has reach s f options t why.Index =
+-- cannot be lifted with the options.
+abbrev pub lift_has : Spaces → ℕ → List CanonOption → ℕ → LinkWhy → Type 0
+lift_has s f options t why.Index =
     (slice_get s.core_funcs f ≡ None) ⊎ AnyByRecursion (λ o. IsOptionThere s o → ⊥) options ⊎ (slice_get s.types t ≡ None)
-lift_has reach s f options t why.Typing = MatchOption (slice_get s.types t) ⊥ (λ type. func_of type ≡ None)
-lift_has reach s f options t why.Canon =
+lift_has s f options t why.Typing = MatchOption (slice_get s.types t) ⊥ (λ type. func_of type ≡ None)
+lift_has s f options t why.Canon =
     (StandOnce options → ⊥)
     ⊎ MatchOption (option_and_then func_of (slice_get s.types t)) ⊥
     (λ type. MatchOption (slice_get s.core_funcs f) ⊥ (λ item. CanBeLifted type item (given_by s options) → ⊥))
-lift_has reach s f options t why.Limit =
-    MatchOption (option_and_then func_of (slice_get s.types t)) ⊥ (λ type. reaches reach (runs_lift options type) ≡ false)
-lift_has reach s f options t why = ⊥
+lift_has s f options t why = ⊥
 
 -- the function that a core function is lifted to, in the component instance of a number
 abbrev pub lifted_with : ℕ → FuncType → FuncRef → Given → Lifted
@@ -235,17 +228,15 @@ lift_makes l n s f options t new =
     (item : CoreItem) × (core : FuncRef) × (type : FuncType)
     × (slice_get s.core_funcs f ≡ Some item) × (core_func_of item ≡ Some core) × AllByRecursion (IsOptionThere s) options
     × (option_and_then func_of (slice_get s.types t) ≡ Some type)
-    × StandOnce options × CanBeLifted type item (given_by s options) × (reaches l.reach (runs_lift options type) ≡ true)
+    × StandOnce options × CanBeLifted type item (given_by s options)
     × (new ≡ with_spaces l n (with_definition s (AFunc (lifted_with n type core (given_by s options)))))
 
--- Lowers: an index that is not there, also of an option; an option twice, or a function that cannot be lowered with the options; or
--- that a lower is past the reach.
-abbrev pub lower_has : Reach → Spaces → ℕ → List CanonOption → LinkWhy → Type 0
-lower_has reach s f options why.Index = (slice_get s.funcs f ≡ None) ⊎ AnyByRecursion (λ o. IsOptionThere s o → ⊥) options
-lower_has reach s f options why.Canon =
+-- Lowers: an index that is not there, also of an option; an option twice, or a function that cannot be lowered with the options.
+abbrev pub lower_has : Spaces → ℕ → List CanonOption → LinkWhy → Type 0
+lower_has s f options why.Index = (slice_get s.funcs f ≡ None) ⊎ AnyByRecursion (λ o. IsOptionThere s o → ⊥) options
+lower_has s f options why.Canon =
     (StandOnce options → ⊥) ⊎ MatchOption (slice_get s.funcs f) ⊥ (λ func. CanBeLowered func.func_type (given_by s options) → ⊥)
-lower_has reach s f options why.Limit = reaches reach runs_lower ≡ false
-lower_has reach s f options why = ⊥
+lower_has s f options why = ⊥
 
 -- the core function that a function is lowered to, in the component instance of a number
 abbrev pub lowered_with : ℕ → Lifted → Given → CanonFunc
@@ -263,13 +254,12 @@ lower_made l n s func given = record {
   cores = l.cores;
   canons = l.canons ++ lowered_with n func given ∷ [];
   plan = l.plan;
-  reach = l.reach;
 }
 
 abbrev pub lower_makes : Linking → ℕ → Spaces → ℕ → List CanonOption → Linking → Type 0
 lower_makes l n s f options new =
     (func : Lifted) × (slice_get s.funcs f ≡ Some func) × AllByRecursion (IsOptionThere s) options
-    × StandOnce options × CanBeLowered func.func_type (given_by s options) × (reaches l.reach runs_lower ≡ true)
+    × StandOnce options × CanBeLowered func.func_type (given_by s options)
     × (new ≡ lower_made l n s func (given_by s options))
 
 -- Imports.
@@ -298,9 +288,9 @@ abbrev pub DoesNotFit : Option Definition → Option Extern → Type 0
 DoesNotFit (Some d) (Some extern) = Fits d extern → ⊥
 DoesNotFit d extern = ⊥
 
--- An import of the root that is none of an instance of types; an index that is not there; an argument, or an export that is
--- asked for of one, that is missing; a name twice, an argument of another sort or type, or an index of another type than is
--- wanted.
+-- An import of the root of a function or a type, or of an instance whose exports are not all types; an index that is not there; an
+-- argument, or an export that is asked for of one, that is missing; a name twice, an argument of another sort or type, or an index of
+-- another type than is wanted.
 abbrev pub import_has : Spaces → List ℕ → ExternDesc → LinkWhy → Type 0
 import_has s name asked why.RootImport = (s.arguments ≡ None) × IsRootImport (wanted s asked) asked
 import_has s name asked why.Index = (wanted s asked).is_there ≡ false
@@ -368,9 +358,9 @@ has_case l n s (Item-F.CoreInstance c) why = core_instance_has l s c why
 has_case l n s (Item-F.Component c) why = ⊥
 has_case l n s (Item-F.Instance i) why = instance_has l s i why
 has_case l n s (Item-F.Alias alias) why = alias_has l n s alias.sort alias.target why
-has_case l n s (Item-F.Type type) why = type_has l.reach type (meaning_of type (levels_at l (n ∷ s.around))) why
-has_case l n s (Item-F.Canon (Lift f options t)) why = lift_has l.reach s f options t why
-has_case l n s (Item-F.Canon (Lower f options)) why = lower_has l.reach s f options why
+has_case l n s (Item-F.Type type) why = type_has (meaning_of type (levels_at l (n ∷ s.around))) why
+has_case l n s (Item-F.Canon (Lift f options t)) why = lift_has s f options t why
+has_case l n s (Item-F.Canon (Lower f options)) why = lower_has s f options why
 has_case l n s (Item-F.Import i) why = import_has s i.name i.desc why
 has_case l n s (Item-F.Export e) why = export_has s e why
 
@@ -384,7 +374,7 @@ makes_case l n s (Item-F.CoreInstance c) new = core_instance_makes l n s c new
 makes_case l n s (Item-F.Component c) new = new ≡ with_spaces l n (with_definition s (AComponent (record { items = c.items; around = n ∷ s.around })))
 makes_case l n s (Item-F.Instance i) new = instance_makes l n s i new
 makes_case l n s (Item-F.Alias alias) new = alias_makes l n s alias.sort alias.target new
-makes_case l n s (Item-F.Type type) new = type_makes l n s type (meaning_of type (levels_at l (n ∷ s.around))) new
+makes_case l n s (Item-F.Type type) new = type_makes l n s (meaning_of type (levels_at l (n ∷ s.around))) new
 makes_case l n s (Item-F.Canon (Lift f options t)) new = lift_makes l n s f options t new
 makes_case l n s (Item-F.Canon (Lower f options)) new = lower_makes l n s f options new
 makes_case l n s (Item-F.Import i) new = import_makes l n s i.name i.desc new

@@ -7,7 +7,7 @@ use Rattle.ca_base.specs.declared.placed.Placed.{Placed}
 use Rattle.ca_types.specs.declared.types.FuncType.{FuncType}
 use Rattle.ca_types.specs.declared.exports.Export.{Export}
 use Rattle.comp_graph.specs.declared.graph.CanonFunc.{CanonFunc}
-use Rattle.comp_graph.specs.Graph.{Graph, CoreMake, names, IsLiftThere, IsCallable, AreImported, AreMade, called_type}
+use Rattle.comp_graph.specs.Graph.{Graph, CoreMake, names, IsLiftThere, AreImported, AreMade, called_type}
 use Rattle.comp_tree.specs.declared.items.Item.{Item}
 use Rattle.comp_tree.specs.declared.items.Component.{Component}
 use Rattle.comp_linking.specs.declared.fault.LinkWhy.{LinkWhy}
@@ -19,8 +19,6 @@ use Rattle.comp_linking.specs.Spaces.{Spaces, Linking}
 use Rattle.comp_linking.specs.Items.{instance_limit, item_has, item_makes}
 use Rattle.comp_linking.specs.Linked.{IsFirst, Begins, exports_at, Links, IsRefusedAt, root_begun, graph_of, IsLinked, IsLinkRefused}
 use Rattle.comp_linking.specs.Distinct.{HasDistinctLabels, HasNoHash}
-use Rattle.comp_linking.specs.declared.reach.Reach.{Reach}
-use Rattle.comp_linking.specs.declared.reach.Reach.TheVariants.{Runs, Whole}
 use Rattle.comp_linking.specs.Shallow.{HasShallowTypes}
 use Rattle.comp_linking.specs.Standing.{StandsIn}
 use Rattle.comp_linking.specs.Same.{same_func, same_closed}
@@ -74,18 +72,14 @@ OneFault = (l : Linking) (n : ℕ) (items : List (Placed Item)) (a b : LinkFault
 
 -- A component has one graph, or one fault, and not both.
 abbrev pub OneGraph : Type 0
-OneGraph = (reach : Reach) (c : Component) (g h : Graph) → IsLinked reach c g → IsLinked reach c h → g ≡ h
+OneGraph = (c : Component) (g h : Graph) → IsLinked c g → IsLinked c h → g ≡ h
 
 abbrev pub LinkedIsNotRefused : Type 0
 LinkedIsNotRefused =
-    (reach : Reach) (c : Component) (g : Graph) (fault : LinkFault) → IsLinked reach c g → IsLinkRefused reach c fault → ⊥
+    (c : Component) (g : Graph) (fault : LinkFault) → IsLinked c g → IsLinkRefused c fault → ⊥
 
 abbrev pub OneRefusal : Type 0
-OneRefusal = (reach : Reach) (c : Component) (a b : LinkFault) → IsLinkRefused reach c a → IsLinkRefused reach c b → a ≡ b
-
--- What is linked where linking leads to a run is linked to the same graph over all that is read.
-abbrev pub RunsAreLinked : Type 0
-RunsAreLinked = (c : Component) (g : Graph) → IsLinked Runs c g → IsLinked Whole c g
+OneRefusal = (c : Component) (a b : LinkFault) → IsLinkRefused c a → IsLinkRefused c b → a ≡ b
 
 -- there are at most as many component instances as there may be, and as many core instances
 abbrev pub IsFew : Linking → Type 0
@@ -97,43 +91,38 @@ FewInstances = (l : Linking) (n : ℕ) (items : List (Placed Item)) (last : Link
 -- the graph of a component
 abbrev pub GraphsAreFew : Type 0
 GraphsAreFew =
-    (reach : Reach) (c : Component) (g : Graph) → IsLinked reach c g → (g.instance_count ≤ instance_limit) × (length g.cores ≤ instance_limit)
+    (c : Component) (g : Graph) → IsLinked c g → (g.instance_count ≤ instance_limit) × (length g.cores ≤ instance_limit)
 
 -- The core instances of a graph have the imports that their modules ask for, of core instances before them and of core functions of
 -- the Canonical ABI.
 abbrev pub GraphsAreImported : Type 0
-GraphsAreImported = (reach : Reach) (c : Component) (g : Graph) → IsLinked reach c g → AreImported g.canons [] g.cores
-
--- The exports of a graph that is linked to be run can be called: the core function of each lift is there, and of the flat type, and
--- no function is lowered.
-abbrev pub GraphsAreCallable : Type 0
-GraphsAreCallable = (c : Component) (g : Graph) → IsLinked Runs c g → IsCallable g
+GraphsAreImported = (c : Component) (g : Graph) → IsLinked c g → AreImported g.canons [] g.cores
 
 -- The lift of each export is there: its core function, its memory and its other core functions, with the types that it needs.
 abbrev pub LiftsAreThere : Type 0
 LiftsAreThere =
-    (reach : Reach) (c : Component) (g : Graph) → IsLinked reach c g → AllZip (λ (e : Export) lift. IsLiftThere g.cores g.canons e.func_type lift) g.exports g.lifts
+    (c : Component) (g : Graph) → IsLinked c g → AllZip (λ (e : Export) lift. IsLiftThere g.cores g.canons e.func_type lift) g.exports g.lifts
 
 -- Core instances and core functions of the Canonical ABI are made one behind the other, in some order: each core instance has the
 -- imports that its module asks for, and what is lowered is there, with the memory and the core functions that the lower uses, of what
 -- was made before it.
 abbrev pub GraphsAreMade : Type 0
-GraphsAreMade = (reach : Reach) (c : Component) (g : Graph) → IsLinked reach c g → AreMade g.cores g.canons
+GraphsAreMade = (c : Component) (g : Graph) → IsLinked c g → AreMade g.cores g.canons
 
 -- No two parameters of an export have one label.
 abbrev pub LabelsAreDistinct : Type 0
 LabelsAreDistinct =
-    (reach : Reach) (c : Component) (g : Graph) → IsLinked reach c g → AllByRecursion (λ (e : Export). HasDistinctLabels e.func_type) g.exports
+    (c : Component) (g : Graph) → IsLinked c g → AllByRecursion (λ (e : Export). HasDistinctLabels e.func_type) g.exports
 
 -- The types of parameters and results of an export nest at most 32 types.
 abbrev pub TypesAreShallow : Type 0
 TypesAreShallow =
-    (reach : Reach) (c : Component) (g : Graph) → IsLinked reach c g → AllByRecursion (λ (e : Export). HasShallowTypes e.func_type) g.exports
+    (c : Component) (g : Graph) → IsLinked c g → AllByRecursion (λ (e : Export). HasShallowTypes e.func_type) g.exports
 
 -- So it is for the functions that are lowered.
 abbrev pub LoweredTypesAreSound : Type 0
 LoweredTypesAreSound =
-    (reach : Reach) (c : Component) (g : Graph) → IsLinked reach c g
+    (c : Component) (g : Graph) → IsLinked c g
     → AllByRecursion (λ (f : CanonFunc). HasDistinctLabels (called_type f) × HasShallowTypes (called_type f)) g.canons
 
 -- The names of the root's exports are distinct. The functions that can be called are those among them, and those of instances
@@ -141,17 +130,17 @@ LoweredTypesAreSound =
 -- may export a function `a#b`, and an instance `a` with a function `b`.
 abbrev pub RootNamesAreDistinct : Type 0
 RootNamesAreDistinct =
-    (reach : Reach) (c : Component) (l : Linking) → Links (root_begun reach) 0 c.items l → AreDistinct (export_names (exports_at l 0))
+    (c : Component) (l : Linking) → Links root_begun 0 c.items l → AreDistinct (export_names (exports_at l 0))
 
 abbrev pub NamesAreDistinct : Type 0
 NamesAreDistinct =
-    (reach : Reach) (c : Component) (l : Linking) → Links (root_begun reach) 0 c.items l → AllByRecursion HasNoHash (export_names (exports_at l 0))
+    (c : Component) (l : Linking) → Links root_begun 0 c.items l → AllByRecursion HasNoHash (export_names (exports_at l 0))
     → AreDistinct (names (graph_of l).exports)
 
 -- Each core instance is of a module that stands in the component. So it has what all modules of the component have.
 abbrev pub ModulesStand : Type 0
 ModulesStand =
-    (reach : Reach) (c : Component) (g : Graph) → IsLinked reach c g → AllByRecursion (λ (core : CoreMake). StandsIn core.of_module c.items) g.cores
+    (c : Component) (g : Graph) → IsLinked c g → AllByRecursion (λ (core : CoreMake). StandsIn core.of_module c.items) g.cores
 
 -- What is computed of an item is what it makes or begins, or its first reason.
 abbrev pub IsOutcome : Linking → ℕ → Spaces → Item → Outcome → Type 0
@@ -168,14 +157,14 @@ ReasonComputed =
 
 -- What is computed of a component is its graph, or its fault. So each component has exactly one graph or exactly one fault.
 abbrev pub GraphComputed : Type 0
-GraphComputed = (reach : Reach) (c : Component) (g : Graph) → (linked reach c ≡ Ok g) ↔ IsLinked reach c g
+GraphComputed = (c : Component) (g : Graph) → (linked c ≡ Ok g) ↔ IsLinked c g
 
 abbrev pub FaultComputed : Type 0
-FaultComputed = (reach : Reach) (c : Component) (fault : LinkFault) → (linked reach c ≡ Err fault) ↔ IsLinkRefused reach c fault
+FaultComputed = (c : Component) (fault : LinkFault) → (linked c ≡ Err fault) ↔ IsLinkRefused c fault
 
 abbrev pub LinkedOrRefused : Type 0
 LinkedOrRefused =
-    (reach : Reach) (c : Component) → ((g : Graph) × IsLinked reach c g) ⊎ ((fault : LinkFault) × IsLinkRefused reach c fault)
+    (c : Component) → ((g : Graph) × IsLinked c g) ⊎ ((fault : LinkFault) × IsLinkRefused c fault)
 
 -- The tests say whether types are the same, and whether a definition is what is asked for.
 abbrev pub FuncsCompared : Type 0

@@ -7,7 +7,6 @@ pub mod Items
 pub mod Laws
 pub mod Linked
 pub mod Meaning
-pub mod Runs
 pub mod Same
 pub mod Shallow
 pub mod Spaces

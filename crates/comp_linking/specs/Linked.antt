@@ -16,7 +16,6 @@ use Rattle.comp_tree.specs.declared.items.Component.{Component}
 use Rattle.comp_linking.specs.declared.fault.LinkWhy.{LinkWhy}
 use Rattle.comp_linking.specs.declared.fault.LinkWhy.TheVariants as why
 use Rattle.comp_linking.specs.declared.fault.LinkFault.{LinkFault}
-use Rattle.comp_linking.specs.declared.reach.Reach.{Reach}
 use Rattle.comp_linking.specs.Definitions.{Lifted, Closure, Definition, AFunc, AnInstance, Exports, EmptyInstance, WithExport}
 use Rattle.comp_linking.specs.Spaces.{Spaces, new_spaces, Begin, Linking, with_definition, with_spaces}
 use Rattle.comp_linking.specs.Items.{instance_limit, AreNamed, item_has, item_makes}
@@ -52,7 +51,6 @@ begun l c arguments = record {
   cores = l.cores;
   canons = l.canons;
   plan = l.plan ++ Begin (length l.scopes) ∷ [];
-  reach = l.reach;
 }
 
 -- the exports of a component instance
@@ -97,9 +95,9 @@ pub data IsRefusedAt : Linking → ℕ → List (Placed Item) → LinkFault → 
       → IsRefusedAt (with_instance inner n s (length l.scopes)) n items fault
       → IsRefusedAt l n (placed ∷ items) fault
 
--- the root begins, where linking goes so far
-abbrev pub root_begun : Reach → Linking
-root_begun reach = record { scopes = new_spaces None [] ∷ []; cores = []; canons = []; plan = Begin 0 ∷ []; reach = reach }
+-- the root begins
+abbrev pub root_begun : Linking
+root_begun = record { scopes = new_spaces None [] ∷ []; cores = []; canons = []; plan = Begin 0 ∷ [] }
 
 -- A function that can be called from outside, under its written name.
 pub record Callable : Type 0 where
@@ -145,9 +143,9 @@ graph_of l = record {
   lifts = map lift_of (callables (exports_at l 0));
 }
 
--- the component is linked to the graph, where linking goes so far; it is refused at this place, for this reason
-abbrev pub IsLinked : Reach → Component → Graph → Type 0
-IsLinked reach c g = (l : Linking) × Links (root_begun reach) 0 c.items l × (g ≡ graph_of l)
+-- the component is linked to the graph; it is refused at this place, for this reason
+abbrev pub IsLinked : Component → Graph → Type 0
+IsLinked c g = (l : Linking) × Links root_begun 0 c.items l × (g ≡ graph_of l)
 
-abbrev pub IsLinkRefused : Reach → Component → LinkFault → Type 0
-IsLinkRefused reach c fault = IsRefusedAt (root_begun reach) 0 c.items fault
+abbrev pub IsLinkRefused : Component → LinkFault → Type 0
+IsLinkRefused c fault = IsRefusedAt root_begun 0 c.items fault

@@ -15,7 +15,6 @@ pub use Rattle.comp_graph.specs.declared.graph.Action.TheVariants.{Begin, Make}
 pub use Rattle.comp_graph.specs.Graph.{CoreMake}
 use Rattle.comp_graph.specs.declared.graph.CanonFunc.{CanonFunc}
 use Rattle.comp_graph.specs.Closed.{Closed}
-use Rattle.comp_linking.specs.declared.reach.Reach.{Reach}
 use Rattle.comp_linking.specs.Definitions.{CoreItem, Func, Table, Memory, Global, CoreExport, Lifted, Closure, Definition, AFunc, AType, AComponent, AnInstance, AModule, Exports, EmptyInstance}
 
 -- the index spaces of a component instance, and what is known of it besides
@@ -58,13 +57,12 @@ new_spaces arguments around = record {
 }
 
 -- the component instances, the core instances and the core functions of the Canonical ABI so far, by their numbers, and what was
--- made so far; and how far linking goes, which stays
+-- made so far
 pub record Linking : Type 0 where
   pub scopes : List Spaces
   pub cores : List CoreMake
   pub canons : List CanonFunc
   pub plan : List Action
-  pub reach : Reach
 
 -- how many definitions a space has
 abbrev pub core_size : Spaces → CoreSort → ℕ

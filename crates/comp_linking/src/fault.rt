@@ -5,7 +5,7 @@ use ca_base::Name;
 /// Why an item of a component is refused. Of the reasons against one item the first in this order is told.
 #[derive(Debug, Drop)]
 pub enum LinkWhy {
-    /// The root imports something other than an instance whose exports are all types.
+    /// The root imports a function or a type, or an instance whose exports are not all types.
     RootImport,
     /// An index is past its index space, or an outer alias past the outermost level.
     Index,
@@ -21,8 +21,7 @@ pub enum LinkWhy {
     /// gives places (Component Model, CanonicalABI.md, "Canonical ABI Options", "Flattening", `canon
     /// lift` and `canon lower`).
     Canon,
-    /// There are more than 256 component instances, more than 256 core instances, or more than 32 value types in one another; or
-    /// the item holds what is past the reach (`Reach`).
+    /// There are more than 256 component instances, more than 256 core instances, or more than 32 value types in one another.
     Limit,
 }
 

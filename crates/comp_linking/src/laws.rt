@@ -1,6 +1,6 @@
 //! What holds of every linking.
 
-ghost use Rattle.comp_linking.specs.Laws.{MakesExcludesReasons, BeginsExcludesReasons, MakesExcludesBegins, MakesOnce, BeginsOnce, OneName, OneFirst, OneLinking, LinksExcludesFaults, OneFault, OneGraph, LinkedIsNotRefused, OneRefusal, RunsAreLinked, FewInstances, GraphsAreFew, GraphsAreImported, GraphsAreCallable, LiftsAreThere, GraphsAreMade, LabelsAreDistinct, TypesAreShallow, LoweredTypesAreSound, RootNamesAreDistinct, NamesAreDistinct, ModulesStand, OutcomeComputed, ReasonComputed, GraphComputed, FaultComputed, LinkedOrRefused, FuncsCompared, ClosedCompared, FitsTested};
+ghost use Rattle.comp_linking.specs.Laws.{MakesExcludesReasons, BeginsExcludesReasons, MakesExcludesBegins, MakesOnce, BeginsOnce, OneName, OneFirst, OneLinking, LinksExcludesFaults, OneFault, OneGraph, LinkedIsNotRefused, OneRefusal, FewInstances, GraphsAreFew, GraphsAreImported, LiftsAreThere, GraphsAreMade, LabelsAreDistinct, TypesAreShallow, LoweredTypesAreSound, RootNamesAreDistinct, NamesAreDistinct, ModulesStand, OutcomeComputed, ReasonComputed, GraphComputed, FaultComputed, LinkedOrRefused, FuncsCompared, ClosedCompared, FitsTested};
 
 /// An item that makes something, or begins an instance of a component, has no reason against it, and none does both.
 pub fn items_make_or_are_refused()
@@ -35,11 +35,6 @@ pub fn components_have_one_graph()
     ensures fault { OneRefusal }
 {}
 
-/// A component that is linked where linking leads to a run is linked to the same graph over all that is read.
-pub fn runs_are_linked()
-    ensures { RunsAreLinked }
-{}
-
 /// Where there are at most 256 component instances and 256 core instances, items lead to a linking that has at most so many.
 /// So a component's graph has.
 pub fn instances_stay_few()
@@ -48,13 +43,11 @@ pub fn instances_stay_few()
 {}
 
 /// The core instances of a graph have the imports that their modules ask for, of core instances before them and of functions that
-/// are lowered. The exports of one that is linked to be run can be called. What a lift uses is there, with the types that it needs,
-/// and so is what is lowered, with what the lowering uses: of functions that are lowered each stands on those before it alone. No
-/// two parameters of an export have one label, and its types nest at most 32 types in one another. Each core instance is of a
-/// module that stands in the component.
+/// are lowered. What a lift uses is there, with the types that it needs, and so is what is lowered, with what the lowering uses: of
+/// functions that are lowered each stands on those before it alone. No two parameters of an export have one label, and its types
+/// nest at most 32 types in one another. Each core instance is of a module that stands in the component.
 pub fn graphs_are_sound()
     ensures imported { GraphsAreImported }
-    ensures callable { GraphsAreCallable }
     ensures lifts { LiftsAreThere }
     ensures made { GraphsAreMade }
     ensures labels { LabelsAreDistinct }

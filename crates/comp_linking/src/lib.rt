@@ -4,7 +4,6 @@
 //! says it by relations, and `specs/Computed` computes the same.
 //!
 //! - `fault`: why an item is refused, and where
-//! - `reach`, of `runs`: how far linking goes, and whether a type, a lift or a lower is within reach
 //! - `well_made`: what a type needs as it is written
 //! - `laws`: what holds of every linking
 //! - `examples`: the definitions on small components
@@ -13,10 +12,7 @@
 pub mod examples;
 mod fault;
 pub mod laws;
-mod reach;
-mod runs;
 mod well_made;
 
 pub use fault::{LinkFault, LinkWhy};
-pub use reach::Reach;
 pub use well_made::{all_within, is_well_made, parts_within};

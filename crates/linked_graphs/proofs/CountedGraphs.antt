@@ -21,7 +21,6 @@ use Rattle.comp_tree.specs.declared.items.Component.{Component}
 use Rattle.comp_graph.specs.declared.graph.FuncRef.TheVariants as func_ref
 use Rattle.comp_graph.specs.Closed.{Extern, OfFunc, OfType, OfInstance, func_of}
 use Rattle.comp_graph.specs.Needs.{lowered_type}
-use Rattle.comp_linking.specs.declared.reach.Reach.{Reach}
 use Rattle.comp_linking.specs.Definitions.{Func, exports_of, Closure, Definition, AFunc, AType, AComponent, AnInstance, AModule, Exports, EmptyInstance, WithExport, export_named}
 use Rattle.comp_linking.specs.Spaces.{Spaces, Linking, Level, new_spaces, level_of, listed_level, levels_at, definition_at, with_core_item, with_core_instance, with_definition, with_spaces, outer_definition, outer_at}
 use Rattle.comp_linking.specs.Canons.{given_by}
@@ -94,12 +93,12 @@ levels_counted l numbers h =
     (if_weaker AreSpacesCounted (λ s. IsLevelCounted (level_of s)) level_counted (slice_get l.scopes n) (all_at AreSpacesCounted l.scopes n h.scopes)))) numbers
 
 lift_counted : (l : Linking) (n : ℕ) (s : Spaces) (f : ℕ) (options : List CanonOption) (t : ℕ) (new : Linking) → IsLinkingCounted l → AreSpacesCounted s → lift_makes l n s f options t new → IsLinkingCounted new
-lift_counted l n s f options t new h k (item, core, type, is, of_item, there, of_type, once, fits, within, made) =
+lift_counted l n s f options t new h k (item, core, type, is, of_item, there, of_type, once, fits, made) =
     defined l n s (AFunc (lifted_with n type core (given_by s options))) new h k made
     (holds_at HasCountedTypes (option_and_then func_of (slice_get s.types t)) type (if_found func_of IsCounted HasCountedTypes of_func_counted (slice_get s.types t) (all_at IsCounted s.types t k.types)) of_type)
 
 lower_counted : (l : Linking) (n : ℕ) (s : Spaces) (f : ℕ) (options : List CanonOption) (new : Linking) → IsLinkingCounted l → AreSpacesCounted s → lower_makes l n s f options new → IsLinkingCounted new
-lower_counted l n s f options new h k (func, is, there, once, fits, within, made) =
+lower_counted l n s f options new h k (func, is, there, once, fits, made) =
     subst IsLinkingCounted (sym made) (record {
       scopes =
           all_set AreSpacesCounted l.scopes n (with_core_item s (Func (func_ref.Canon (length l.canons)) (lowered_type func.func_type))) h.scopes
@@ -138,7 +137,7 @@ case_counted l n s (Item-F.CoreInstance c) new has h k makes = core_instance_cou
 case_counted l n s (Item-F.Component c) new has h k made = defined l n s (AComponent (record { items = c.items; around = n ∷ s.around })) new h k made has
 case_counted l n s (Item-F.Instance i) new has h k makes = instance_counted l n s i new h k makes
 case_counted l n s (Item-F.Alias alias) new has h k makes = alias_counted l n s alias.sort alias.target new h k makes
-case_counted l n s (Item-F.Type type) new has h k (closed, means, within, made) =
+case_counted l n s (Item-F.Type type) new has h k (closed, means, made) =
     defined l n s (AType closed) new h k made
     (holds_at IsCounted (meaning_of type (levels_at l (n ∷ s.around))).means closed (meaning_counted type (levels_at l (n ∷ s.around)) has (levels_counted l (n ∷ s.around) h)) means.0)
 case_counted l n s (Item-F.Canon (Lift f options t)) new has h k makes = lift_counted l n s f options t new h k makes
@@ -195,13 +194,13 @@ callables_counted (WithExport others name (AnInstance inner)) h =
     all_both (λ (c : Callable). IsFuncCounted c.func) (callables others) _ (callables_counted others h.0) (funcs_behind_counted _ inner h.1)
 callables_counted (WithExport others name d) h = all_both (λ (c : Callable). IsFuncCounted c.func) (callables others) [] (callables_counted others h.0) tt
 
-linked_counted : (reach : Reach) (c : Component) (l : Linking) → TypesHave c.items → Links (root_begun reach) 0 c.items l → HasCountedFuncs (graph_of l)
-linked_counted reach c l has links =
-    let counted = links_counted (root_begun reach) 0 c.items l has (record { scopes = (new_counted None [] tt, tt); canons = tt }) links in
+linked_counted : (c : Component) (l : Linking) → TypesHave c.items → Links root_begun 0 c.items l → HasCountedFuncs (graph_of l)
+linked_counted c l has links =
+    let counted = links_counted root_begun 0 c.items l has (record { scopes = (new_counted None [] tt, tt); canons = tt }) links in
     record {
       exports = all_mapped export_of (λ (e : exported_func.Export). HasCountedTypes e.func_type) (callables (exports_at l 0)) (callables_counted (exports_at l 0) (exports_counted l 0 counted));
       canons = counted.canons;
     }
 
 pub read_types_are_counted : ReadTypesAreCounted
-read_types_are_counted reach bytes c g are read (l, links, is) = subst HasCountedFuncs (sym is) (linked_counted reach c l (types_have bytes c are read) links)
+read_types_are_counted bytes c g are read (l, links, is) = subst HasCountedFuncs (sym is) (linked_counted c l (types_have bytes c are read) links)

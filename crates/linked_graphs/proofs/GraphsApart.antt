@@ -9,7 +9,6 @@ use Rattle.comp_tree.specs.declared.items.Item.{Item, out-Item}
 use Rattle.comp_tree.specs.declared.items.Component.{Component}
 use Rattle.comp_graph.specs.declared.graph.Lift.{Lift}
 use Rattle.comp_graph.specs.Graph.{CoreMake, Graph}
-use Rattle.comp_linking.specs.declared.reach.Reach.{Reach}
 use Rattle.comp_linking.specs.Definitions.{Closure, AFunc, AnInstance, Exports, EmptyInstance, WithExport}
 use Rattle.comp_linking.specs.Spaces.{Spaces, Linking, new_spaces, with_definition}
 use Rattle.comp_linking.specs.Standing.{StandsIn}
@@ -66,16 +65,16 @@ links_reached l n items last h (instance_links m inner end k s c arguments place
     let ended = instance_reached m inner k s (length m.scopes) reached.keeps reached.apart spaces in
     through m (with_instance inner k s (length m.scopes)) end ended (links_reached (with_instance inner k s (length m.scopes)) k others end ended.apart behind)
 
-root_apart : (reach : Reach) → IsLinkingApart (root_begun reach)
-root_apart reach = record {
-  scopes = at_push (AreSpacesApart (made_by (root_begun reach))) [] (new_spaces None []) (new_apart (made_by (root_begun reach)) 0 None [] tt) (λ k s e. cc);
+root_apart : IsLinkingApart root_begun
+root_apart = record {
+  scopes = at_push (AreSpacesApart (made_by root_begun)) [] (new_spaces None []) (new_apart (made_by root_begun) 0 None [] tt) (λ k s e. cc);
   imports = tt;
   lowers = tt;
   planned = refl;
 }
 
-linked_apart : (reach : Reach) (c : Component) (l : Linking) → Links (root_begun reach) 0 c.items l → IsLinkingApart l
-linked_apart reach c l links = (links_reached (root_begun reach) 0 c.items l (root_apart reach) links).apart
+linked_apart : (c : Component) (l : Linking) → Links root_begun 0 c.items l → IsLinkingApart l
+linked_apart c l links = (links_reached root_begun 0 c.items l root_apart links).apart
 
 -- The functions that can be called.
 funcs_behind_apart : (g : Graph) (front : List ℕ) (exports : Exports) → AreDefinedApart g exports → AllByRecursion (λ (c : Callable). IsFuncApart g c.func) (funcs_behind front exports)
@@ -106,24 +105,24 @@ graph_apart l h = record {
 }
 
 pub linked_graphs_are_apart : LinkedGraphsAreApart
-linked_graphs_are_apart reach c g (l, links, is) = subst IsApart (sym is) (graph_apart l (linked_apart reach c l links))
+linked_graphs_are_apart c g (l, links, is) = subst IsApart (sym is) (graph_apart l (linked_apart c l links))
 
 pub plans_make_in_order : PlansMakeInOrder
-plans_make_in_order reach c g (l, links, is) = subst (λ (g : Graph). Makes 0 g.plan g.cores) (sym is) (linked_apart reach c l links).planned
+plans_make_in_order c g (l, links, is) = subst (λ (g : Graph). Makes 0 g.plan g.cores) (sym is) (linked_apart c l links).planned
 
 -- Each core instance is of a sound module.
 all_sound : (c : Component) (cores : List CoreMake) → HasSoundModules c → AllByRecursion (λ (core : CoreMake). StandsIn core.of_module c.items) cores → AllByRecursion (λ (core : CoreMake). IsSoundModule core.of_module) cores
 all_sound c cores has stand = all_weaker (λ (core : CoreMake). StandsIn core.of_module c.items) (λ (core : CoreMake). IsSoundModule core.of_module) (λ core s. has core.of_module s) cores stand
 
 pub linked_graphs_are_sound : GraphsAreImported → LiftsAreThere → GraphsAreMade → ModulesStand → LinkedGraphsAreSound
-linked_graphs_are_sound imported there made stand reach c g has linked =
-    let sound = all_sound c g.cores has (stand reach c g linked) in
+linked_graphs_are_sound imported there made stand c g has linked =
+    let sound = all_sound c g.cores has (stand c g linked) in
     record {
       valid = all_weaker (λ (core : CoreMake). IsSoundModule core.of_module) (λ (core : CoreMake). Typed core.of_module) (λ core s. s.typed) g.cores sound;
       in_range = all_weaker (λ (core : CoreMake). IsSoundModule core.of_module) (λ (core : CoreMake). InRange core.of_module) (λ core s. s.in_range) g.cores sound;
       bytes = all_weaker (λ (core : CoreMake). IsSoundModule core.of_module) (λ (core : CoreMake). HasBytes core.of_module) (λ core s. s.bytes) g.cores sound;
-      imported = imported reach c g linked;
-      lifts = there reach c g linked;
-      made = made reach c g linked;
-      planned = plans_make_in_order reach c g linked;
+      imported = imported c g linked;
+      lifts = there c g linked;
+      made = made c g linked;
+      planned = plans_make_in_order c g linked;
     }

@@ -169,11 +169,11 @@ alias_reached l n s sort (target.Outer up index) new h k (d, is, made) =
 
 -- Lifts and lowers.
 lift_reached : (l : Linking) (n : ℕ) (s : Spaces) (f : ℕ) (options : List CanonOption) (t : ℕ) (new : Linking) → IsLinkingApart l → AreSpacesApart (made_by l) n s → lift_makes l n s f options t new → IsReachedApart l new
-lift_reached l n s f options t new h k (item, core, type, is, of_item, there, of_type, once, fits, within, made) =
+lift_reached l n s f options t new h k (item, core, type, is, of_item, there, of_type, once, fits, made) =
     defined_reached l n s (AFunc (lifted_with n type core (given_by s options))) new h k made (options_own (made_by l) n s k options)
 
 lower_reached : (l : Linking) (n : ℕ) (s : Spaces) (f : ℕ) (options : List CanonOption) (new : Linking) → IsLinkingApart l → AreSpacesApart (made_by l) n s → lower_makes l n s f options new → IsReachedApart l new
-lower_reached l n s f options new h k (func, is, there, once, fits, within, made) =
+lower_reached l n s f options new h k (func, is, there, once, fits, made) =
     subst (IsReachedApart l) (sym made) (record {
       apart = record {
         scopes = at_set (AreSpacesApart longer) l.scopes n (with_core_item s item) (with_item_apart longer n s item (kept_spaces (made_by l) longer keeps n s k) own) (λ i t e. kept_spaces (made_by l) longer keeps i t (h.scopes i t e));
@@ -234,7 +234,7 @@ case_reached l n s (Item-F.CoreInstance c) new h k makes = core_instance_reached
 case_reached l n s (Item-F.Component c) new h k made = defined_reached l n s (AComponent (record { items = c.items; around = n ∷ s.around })) new h k made tt
 case_reached l n s (Item-F.Instance i) new h k makes = instance_reached l n s i new h k makes
 case_reached l n s (Item-F.Alias alias) new h k makes = alias_reached l n s alias.sort alias.target new h k makes
-case_reached l n s (Item-F.Type type) new h k (closed, means, within, made) = defined_reached l n s (AType closed) new h k made tt
+case_reached l n s (Item-F.Type type) new h k (closed, means, made) = defined_reached l n s (AType closed) new h k made tt
 case_reached l n s (Item-F.Canon (Lift f options t)) new h k makes = lift_reached l n s f options t new h k makes
 case_reached l n s (Item-F.Canon (Lower f options)) new h k makes = lower_reached l n s f options new h k makes
 case_reached l n s (Item-F.Import i) new h k makes = import_reached l n s i.name i.desc new h k makes

@@ -23,14 +23,13 @@ use Rattle.comp_tree.specs.declared.types.DefType.TheViews.{rolls-Func}
 use Rattle.comp_tree.specs.declared.types.DefType.TheFolds.{fold-roll-DefType}
 use Rattle.comp_tree.specs.declared.types.DefType.TheVariants as plain_type
 use Rattle.comp_tree.specs.declared.items.Item.TheViews.{outs-CoreModule, outs-CoreInstance, outs-Canon, outs-Alias, outs-Export, outs-Type, outs-Instance, outs-Component}
-use Rattle.comp_linking.specs.declared.reach.Reach.TheVariants.{Whole}
 use Rattle.comp_linking.specs.Spaces.{Spaces, new_spaces, Linking, Level}
 use Rattle.comp_linking.specs.Types.{InLevels, Declared, func_meaning, types_around, type_step, decl_step, meaning_of}
 use Rattle.comp_linking.specs.Linked.{root_begun}
 use Rattle.comp_linking.specs.Computed.{after, Run, step, run, run_within, answer_of, linked}
 use Rattle.comp_linking.specs.Examples.{placed_from, root, of_one}
 use Rattle.comp_linking.proofs.Holding.{all_both}
-use Rattle.comp_linking.proofs.FlatLifts.{u32_flat, u32_holds_no_list}
+use Rattle.comp_linking.proofs.Samples.{u32_flat, u32_holds_no_list}
 use Rattle.linked_graphs.specs.Laws.{IsSoundModule}
 use Rattle.linked_graphs.specs.Examples.{of_caller, making, exporting, child, begins, lowering, calling, lifting, parent, gives_u32, func_at, both, ModulesAreSound}
 use Rattle.linked_graphs.proofs.ModulesRead.{ItemHas, PlacedHave, module_has, nested_has, core_instance_has, instance_has, alias_has, type_has, canon_has, export_has, placed_have}
@@ -89,10 +88,10 @@ abbrev one_core : CoreMake
 one_core = record { of_module = of_one; imports = []; owner = 1 }
 
 abbrev child_begun : Linking
-child_begun = record { scopes = root_spaces ∷ new_spaces (Some EmptyInstance) (0 ∷ []) ∷ []; cores = []; canons = []; plan = Begin 0 ∷ Begin 1 ∷ []; reach = Whole }
+child_begun = record { scopes = root_spaces ∷ new_spaces (Some EmptyInstance) (0 ∷ []) ∷ []; cores = []; canons = []; plan = Begin 0 ∷ Begin 1 ∷ [] }
 
 abbrev child_linked : Spaces → Linking
-child_linked s = record { scopes = s ∷ child_spaces ∷ []; cores = one_core ∷ []; canons = []; plan = Begin 0 ∷ Begin 1 ∷ Make 0 ∷ []; reach = Whole }
+child_linked s = record { scopes = s ∷ child_spaces ∷ []; cores = one_core ∷ []; canons = []; plan = Begin 0 ∷ Begin 1 ∷ Make 0 ∷ [] }
 
 child_runs : (inside : Run) → run inside child_begun 1 (placed_from 10 child) ≡ Ok (child_linked root_spaces)
 child_runs inside = simp layers refl
@@ -101,7 +100,7 @@ child_runs inside = simp layers refl
 abbrev with_child : Spaces
 with_child = record root_spaces { instances = child_exports ∷ [] }
 
-begins_child : (inside : Run) → inside child_begun 1 (placed_from 10 child) ≡ Ok (child_linked root_spaces) → run inside (root_begun Whole) 0 (placed_from 0 begins) ≡ Ok (child_linked with_child)
+begins_child : (inside : Run) → inside child_begun 1 (placed_from 10 child) ≡ Ok (child_linked root_spaces) → run inside root_begun 0 (placed_from 0 begins) ≡ Ok (child_linked with_child)
 begins_child inside h = simp (outs-Component, outs-Instance, h) refl
 
 abbrev with_lowered : Spaces
@@ -128,7 +127,7 @@ with_caller = record with_lowered {
 }
 
 abbrev all_made : Spaces → Linking
-all_made s = record { scopes = s ∷ child_spaces ∷ []; cores = both.cores; canons = both.canons; plan = both.plan; reach = Whole }
+all_made s = record { scopes = s ∷ child_spaces ∷ []; cores = both.cores; canons = both.canons; plan = both.plan }
 
 calls_one : (inside : Run) → run inside lowered_linked 0 (placed_from 5 calling) ≡ Ok (all_made with_caller)
 calls_one inside = simp layers refl
@@ -146,14 +145,14 @@ with_export = record with_caller {
 lifts_run : (inside : Run) → run inside (all_made with_caller) 0 (placed_from 9 lifting) ≡ Ok (all_made with_export)
 lifts_run inside = simp layers refl
 
-both_computed : (inside : Run) → inside child_begun 1 (placed_from 10 child) ≡ Ok (child_linked root_spaces) → run inside (root_begun Whole) 0 (root parent).items ≡ Ok (all_made with_export)
+both_computed : (inside : Run) → inside child_begun 1 (placed_from 10 child) ≡ Ok (child_linked root_spaces) → run inside root_begun 0 (root parent).items ≡ Ok (all_made with_export)
 both_computed inside h =
-    run_more inside 0 (placed_from 0 begins) (placed_from 2 (lowering ++ calling ++ lifting)) (root_begun Whole) (child_linked with_child) (begins_child inside h)
+    run_more inside 0 (placed_from 0 begins) (placed_from 2 (lowering ++ calling ++ lifting)) root_begun (child_linked with_child) (begins_child inside h)
     ∙ run_more inside 0 (placed_from 2 lowering) (placed_from 5 (calling ++ lifting)) (child_linked with_child) lowered_linked (lowers_one inside)
     ∙ run_more inside 0 (placed_from 5 calling) (placed_from 9 lifting) lowered_linked (all_made with_caller) (calls_one inside)
     ∙ lifts_run inside
 
-pub both_linked : linked Whole (root parent) ≡ Ok both
+pub both_linked : linked (root parent) ≡ Ok both
 both_linked = ap answer_of (both_computed (run_within 255) (child_runs (run_within 254)))
 
 -- The modules.

@@ -28,7 +28,6 @@ use Rattle.comp_graph.specs.declared.graph.CoreExtern.TheVariants as extern
 use Rattle.comp_graph.specs.declared.graph.Action.TheVariants.{Begin, Make}
 use Rattle.comp_graph.specs.declared.graph.CanonFunc.TheVariants as canon_func
 use Rattle.comp_graph.specs.Graph.{Graph, no_options}
-use Rattle.comp_linking.specs.declared.reach.Reach.TheVariants.{Whole}
 use Rattle.comp_linking.specs.Linked.{IsLinked}
 use Rattle.comp_linking.specs.Examples.{root, inside, of_one, instantiate}
 use Rattle.canonical_machine.specs.Sound.{IsSoundGraph}
@@ -130,7 +129,7 @@ both = record {
 
 -- The component is linked to it, and has what the laws ask of it; so the graph is sound and apart.
 abbrev pub IsLinkedToBoth : Type 0
-IsLinkedToBoth = IsLinked Whole (root parent) both
+IsLinkedToBoth = IsLinked (root parent) both
 
 abbrev pub ModulesAreSound : Type 0
 ModulesAreSound = HasSoundModules (root parent)

@@ -9,7 +9,6 @@ use Rattle.comp_tree.specs.declared.items.Component.{Component}
 use Rattle.comp_reader.specs.Binary.{IsComponent}
 use Rattle.comp_graph.specs.Graph.{Graph}
 use Rattle.script_reader.specs.Script.{Script, CallsExport}
-use Rattle.comp_linking.specs.declared.reach.Reach.{Reach}
 use Rattle.comp_linking.specs.Standing.{StandsIn}
 use Rattle.comp_linking.specs.Linked.{IsLinked}
 use Rattle.canonical_machine.specs.Sound.{AreBytes, HasBytes, Makes, IsSoundGraph, IsSound}
@@ -29,15 +28,15 @@ HasSoundModules c = (m : ModuleTree) → StandsIn m c.items → IsSoundModule m
 
 -- Where a component has sound modules, its graph is sound.
 abbrev pub LinkedGraphsAreSound : Type 0
-LinkedGraphsAreSound = (reach : Reach) (c : Component) (g : Graph) → HasSoundModules c → IsLinked reach c g → IsSoundGraph g
+LinkedGraphsAreSound = (c : Component) (g : Graph) → HasSoundModules c → IsLinked c g → IsSoundGraph g
 
 -- The plan of a graph makes each core instance, in order.
 abbrev pub PlansMakeInOrder : Type 0
-PlansMakeInOrder = (reach : Reach) (c : Component) (g : Graph) → IsLinked reach c g → Makes 0 g.plan g.cores
+PlansMakeInOrder = (c : Component) (g : Graph) → IsLinked c g → Makes 0 g.plan g.cores
 
 -- Core definitions stay in the component instance that makes them.
 abbrev pub LinkedGraphsAreApart : Type 0
-LinkedGraphsAreApart = (reach : Reach) (c : Component) (g : Graph) → IsLinked reach c g → IsApart g
+LinkedGraphsAreApart = (c : Component) (g : Graph) → IsLinked c g → IsApart g
 
 -- Modules that are read are typed and in range.
 abbrev pub ReadModulesAreTyped : Type 0
@@ -52,13 +51,13 @@ abbrev pub ReadModulesAreSound : Type 0
 ReadModulesAreSound = (bytes : List ℕ) (c : Component) → AreBytes bytes → IsComponent bytes c → HasSoundModules c
 
 abbrev pub ReadGraphsAreSound : Type 0
-ReadGraphsAreSound = (reach : Reach) (bytes : List ℕ) (c : Component) (g : Graph) → AreBytes bytes → IsComponent bytes c → IsLinked reach c g → IsSoundGraph g
+ReadGraphsAreSound = (bytes : List ℕ) (c : Component) (g : Graph) → AreBytes bytes → IsComponent bytes c → IsLinked c g → IsSoundGraph g
 
 -- What functions of a graph pass that is read of bytes and linked has types whose labels are counted.
 abbrev pub ReadTypesAreCounted : Type 0
 ReadTypesAreCounted =
-    (reach : Reach) (bytes : List ℕ) (c : Component) (g : Graph)
-    → AreBytes bytes → IsComponent bytes c → IsLinked reach c g → HasCountedFuncs g
+    (bytes : List ℕ) (c : Component) (g : Graph)
+    → AreBytes bytes → IsComponent bytes c → IsLinked c g → HasCountedFuncs g
 
 -- Such a graph passes no handle and no end.
 abbrev pub CountedGraphsArePlain : Type 0

@@ -1,52 +1,38 @@
-use Rattle.std.proofs.Common.{◌≡◌, ◌∙◌, refl, sym, ap, true, false}
-use Rattle.ca_types.specs.declared.types.FuncType.{FuncType}
+use Rattle.std.proofs.Common.{◌≡◌, ◌∙◌, refl, sym, true}
 use Rattle.comp_linking.specs.declared.fault.LinkWhy.TheVariants as why
 use Rattle.comp_linking.specs.Canons.{stand_once, can_be_lifted}
-use Rattle.comp_linking.specs.Runs.{reaches, runs_lift}
 use Rattle.comp_linking.specs.Computed.{lifted_to}
 use Rattle.instance_tables.specs.References.{IsLifted}
 use Rattle.comp_link.proofs.Told.{told_why, told_value}
-use Rattle.comp_link.proofs.CoreParts.{not_once, not_lifted, no_core, past_reach, is_lift}
+use Rattle.comp_link.proofs.CoreParts.{not_once, not_lifted, no_core, is_lift}
 use Rattle.comp_link.proofs.lifts.lifted_to.Goals as goal
 
 pub returns-then-not-stand_once : goal.returns-then-not-stand_once
 returns-then-not-stand_once c =
     λ f h.
-    told_why (IsLifted c.args.types.now) why.Canon (lifted_to c.args.reach c.args.n f c.args.item.now c.args.options.now c.args.given.now)
-    (not_once c.args.reach c.args.n f c.args.item.now c.args.options.now c.args.given.now (sym c.stand_once.ensures ∙ c.if-not-stand_once.true))
+    told_why (IsLifted c.args.types.now) why.Canon (lifted_to c.args.n f c.args.item.now c.args.options.now c.args.given.now)
+    (not_once c.args.n f c.args.item.now c.args.options.now c.args.given.now (sym c.stand_once.ensures ∙ c.if-not-stand_once.true))
 
 pub returns-then-not-can_be_lifted : goal.returns-then-not-can_be_lifted
 returns-then-not-can_be_lifted c =
     λ f h.
     let once : stand_once c.args.options.now ≡ true = sym c.stand_once.ensures ∙ c.if-not-stand_once.false in
-    told_why (IsLifted c.args.types.now) why.Canon (lifted_to c.args.reach c.args.n f c.args.item.now c.args.options.now c.args.given.now)
-    (not_lifted c.args.reach c.args.n f c.args.item.now c.args.options.now c.args.given.now once (sym (c.can_be_lifted.ensures f (c.in-Some.ensures f h)) ∙ c.if-not-can_be_lifted.true))
+    told_why (IsLifted c.args.types.now) why.Canon (lifted_to c.args.n f c.args.item.now c.args.options.now c.args.given.now)
+    (not_lifted c.args.n f c.args.item.now c.args.options.now c.args.given.now once (sym (c.can_be_lifted.ensures f (c.in-Some.ensures f h)) ∙ c.if-not-can_be_lifted.true))
 
 pub returns-in_default-core_func : goal.returns-in_default-core_func
 returns-in_default-core_func c =
     λ f h.
     let once : stand_once c.args.options.now ≡ true = sym c.stand_once.ensures ∙ c.if-not-stand_once.false in
     let lifts : can_be_lifted f c.args.item.now c.args.given.now ≡ true = sym (c.can_be_lifted.ensures f (c.in-Some.ensures f h)) ∙ c.if-not-can_be_lifted.false in
-    told_why (IsLifted c.args.types.now) why.Canon (lifted_to c.args.reach c.args.n f c.args.item.now c.args.options.now c.args.given.now)
-    (no_core c.args.reach c.args.n f c.args.item.now c.args.options.now c.args.given.now once lifts (sym c.core_func.ensures ∙ c.in_default-core_func.is))
-
-pub returns-then-not-has_lift : goal.returns-then-not-has_lift
-returns-then-not-has_lift c =
-    λ f h.
-    let once : stand_once c.args.options.now ≡ true = sym c.stand_once.ensures ∙ c.if-not-stand_once.false in
-    let lifts : can_be_lifted f c.args.item.now c.args.given.now ≡ true = sym (c.can_be_lifted.ensures f (c.in-Some.ensures f h)) ∙ c.if-not-can_be_lifted.false in
-    let past : reaches c.args.reach (runs_lift c.args.options.now f) ≡ false =
-    ap (λ (t : FuncType). reaches c.args.reach (runs_lift c.args.options.now t)) (sym (c.get.ensures ∙ c.in-Some-func_at.ensures.stands f h)) ∙ sym c.has_lift.ensures ∙ c.if-not-has_lift.true in
-    told_why (IsLifted c.args.types.now) why.Limit (lifted_to c.args.reach c.args.n f c.args.item.now c.args.options.now c.args.given.now)
-    (past_reach c.args.reach c.args.n f c.args.item.now c.args.options.now c.args.given.now once lifts c.in-Some-core_func.core (sym c.core_func.ensures ∙ c.in-Some-core_func.is) past)
+    told_why (IsLifted c.args.types.now) why.Canon (lifted_to c.args.n f c.args.item.now c.args.options.now c.args.given.now)
+    (no_core c.args.n f c.args.item.now c.args.options.now c.args.given.now once lifts (sym c.core_func.ensures ∙ c.in_default-core_func.is))
 
 pub returns : goal.returns
 returns c =
     λ f h.
     let once : stand_once c.args.options.now ≡ true = sym c.stand_once.ensures ∙ c.if-not-stand_once.false in
     let lifts : can_be_lifted f c.args.item.now c.args.given.now ≡ true = sym (c.can_be_lifted.ensures f (c.in-Some.ensures f h)) ∙ c.if-not-can_be_lifted.false in
-    let within : reaches c.args.reach (runs_lift c.args.options.now f) ≡ true =
-    ap (λ (t : FuncType). reaches c.args.reach (runs_lift c.args.options.now t)) (sym (c.get.ensures ∙ c.in-Some-func_at.ensures.stands f h)) ∙ sym c.has_lift.ensures ∙ c.if-not-has_lift.false in
-    told_value (IsLifted c.args.types.now) _ _ (lifted_to c.args.reach c.args.n f c.args.item.now c.args.options.now c.args.given.now)
-    (is_lift c.args.reach c.args.n f c.args.item.now c.args.options.now c.args.given.now once lifts c.in-Some-core_func.core (sym c.core_func.ensures ∙ c.in-Some-core_func.is) within)
+    told_value (IsLifted c.args.types.now) _ _ (lifted_to c.args.n f c.args.item.now c.args.options.now c.args.given.now)
+    (is_lift c.args.n f c.args.item.now c.args.options.now c.args.given.now once lifts c.in-Some-core_func.core (sym c.core_func.ensures ∙ c.in-Some-core_func.is))
     (record { instance = refl; core = refl; options = sym c.options.ensures; func_type = h })

@@ -10,11 +10,11 @@ pub returns-in_err-lifted-clause-made : goal.returns-in_err-lifted-clause-made
 returns-in_err-lifted-clause-made c =
     λ bases l s at.
     let p = err_from_is_err_and c.from_residual.result c.from_residual.ensures.1 in
-    rw (p.1, p.2) (reason_after _ (lifted_of l.reach c.args.n s c.args.core_func c.args.options.now c.args.func_type) _ (c.in_err-lifted.ensures bases l s at))
+    rw (p.1, p.2) (reason_after _ (lifted_of c.args.n s c.args.core_func c.args.options.now c.args.func_type) _ (c.in_err-lifted.ensures bases l s at))
 
 pub returns-clause-made : goal.returns-clause-made
 returns-clause-made c =
     λ bases l s at.
-    let f = value_told (IsLifted c.args.linker.now.types) _ (lifted_of l.reach c.args.n s c.args.core_func c.args.options.now c.args.func_type) (c.in_ok-lifted.ensures bases l s at) in
-    made_from c.add.new.self bases (lifted_of l.reach c.args.n s c.args.core_func c.args.options.now c.args.func_type) f.0 (λ lifted. with_spaces l c.args.n (with_definition s (AFunc lifted))) f.1
+    let f = value_told (IsLifted c.args.linker.now.types) _ (lifted_of c.args.n s c.args.core_func c.args.options.now c.args.func_type) (c.in_ok-lifted.ensures bases l s at) in
+    made_from c.add.new.self bases (lifted_of c.args.n s c.args.core_func c.args.options.now c.args.func_type) f.0 (λ lifted. with_spaces l c.args.n (with_definition s (AFunc lifted))) f.1
     (c.in_ok-add.ensures.ok bases l s (AFunc f.0) at f.2)

@@ -17,33 +17,33 @@ pub returns-in_err-link_items-clause-refused : goal.returns-in_err-link_items-cl
 returns-in_err-link_items-clause-refused c =
     let p = err_from_is_err_and c.from_residual-in_err-link_items.result c.from_residual-in_err-link_items.ensures.1 in
     rw (p.1, p.2)
-    (refused_told c.args.reach c.args.component.now c.in_err-link_items.field-0.0
-    (subst (λ (items : List (Placed Item)). IsReason {A = Linking} c.in_err-link_items.field-0.0 (run_within instance_limit (root_begun c.args.reach) 0 items)) c.as_slice-items.ensures
-    (c.in_err-link_items.ensures.told [] (root_begun c.args.reach) c.in_ok-linker.ensures.ok c.in_ok-linker.ensures.live (root_begins c.args.reach))))
+    (refused_told c.args.component.now c.in_err-link_items.field-0.0
+    (subst (λ (items : List (Placed Item)). IsReason {A = Linking} c.in_err-link_items.field-0.0 (run_within instance_limit root_begun 0 items)) c.as_slice-items.ensures
+    (c.in_err-link_items.ensures.told [] root_begun c.in_ok-linker.ensures.ok c.in_ok-linker.ensures.live root_begins)))
 
 pub graph_of-requires-clause-few : goal.graph_of-requires-clause-few
 graph_of-requires-clause-few c =
-    few_scopes c.args.reach c.args.component.now c.link_items.new.linker
-    (subst (λ (items : List (Placed Item)). IsTold (λ _ last. Stands c.link_items.new.linker last) done (run_within instance_limit (root_begun c.args.reach) 0 items)) c.as_slice-items.ensures
-    (c.in_ok-link_items.ensures.told [] (root_begun c.args.reach) c.in_ok-linker.ensures.ok c.in_ok-linker.ensures.live (root_begins c.args.reach)))
+    few_scopes c.args.component.now c.link_items.new.linker
+    (subst (λ (items : List (Placed Item)). IsTold (λ _ last. Stands c.link_items.new.linker last) done (run_within instance_limit root_begun 0 items)) c.as_slice-items.ensures
+    (c.in_ok-link_items.ensures.told [] root_begun c.in_ok-linker.ensures.ok c.in_ok-linker.ensures.live root_begins))
 
 pub graph_of-requires-clause-few_cores : goal.graph_of-requires-clause-few_cores
 graph_of-requires-clause-few_cores c =
-    few_cores c.args.reach c.args.component.now c.link_items.new.linker
-    (subst (λ (items : List (Placed Item)). IsTold (λ _ last. Stands c.link_items.new.linker last) done (run_within instance_limit (root_begun c.args.reach) 0 items)) c.as_slice-items.ensures
-    (c.in_ok-link_items.ensures.told [] (root_begun c.args.reach) c.in_ok-linker.ensures.ok c.in_ok-linker.ensures.live (root_begins c.args.reach)))
+    few_cores c.args.component.now c.link_items.new.linker
+    (subst (λ (items : List (Placed Item)). IsTold (λ _ last. Stands c.link_items.new.linker last) done (run_within instance_limit root_begun 0 items)) c.as_slice-items.ensures
+    (c.in_ok-link_items.ensures.told [] root_begun c.in_ok-linker.ensures.ok c.in_ok-linker.ensures.live root_begins))
 
 pub graph_of-requires-clause-typed : goal.graph_of-requires-clause-typed
 graph_of-requires-clause-typed c =
-    canons_typed c.args.reach c.args.component.now c.link_items.new.linker
-    (subst (λ (items : List (Placed Item)). IsTold (λ _ last. Stands c.link_items.new.linker last) done (run_within instance_limit (root_begun c.args.reach) 0 items)) c.as_slice-items.ensures
-    (c.in_ok-link_items.ensures.told [] (root_begun c.args.reach) c.in_ok-linker.ensures.ok c.in_ok-linker.ensures.live (root_begins c.args.reach)))
+    canons_typed c.args.component.now c.link_items.new.linker
+    (subst (λ (items : List (Placed Item)). IsTold (λ _ last. Stands c.link_items.new.linker last) done (run_within instance_limit root_begun 0 items)) c.as_slice-items.ensures
+    (c.in_ok-link_items.ensures.told [] root_begun c.in_ok-linker.ensures.ok c.in_ok-linker.ensures.live root_begins))
 
 pub returns-clause-ok : goal.returns-clause-ok
 returns-clause-ok c =
-    linked_told c.args.reach c.args.component.now c.link_items.new.linker
-    (subst (λ (items : List (Placed Item)). IsTold (λ _ last. Stands c.link_items.new.linker last) done (run_within instance_limit (root_begun c.args.reach) 0 items)) c.as_slice-items.ensures
-    (c.in_ok-link_items.ensures.told [] (root_begun c.args.reach) c.in_ok-linker.ensures.ok c.in_ok-linker.ensures.live (root_begins c.args.reach))) _ c.in_ok-graph_of.ensures
+    linked_told c.args.component.now c.link_items.new.linker
+    (subst (λ (items : List (Placed Item)). IsTold (λ _ last. Stands c.link_items.new.linker last) done (run_within instance_limit root_begun 0 items)) c.as_slice-items.ensures
+    (c.in_ok-link_items.ensures.told [] root_begun c.in_ok-linker.ensures.ok c.in_ok-linker.ensures.live root_begins)) _ c.in_ok-graph_of.ensures
 
 pub returns-clause-shallow : goal.returns-clause-shallow
-returns-clause-shallow c = c.graphs_are_sound.ensures.shallow c.args.reach c.args.component.now _ (returns-clause-ok c)
+returns-clause-shallow c = c.graphs_are_sound.ensures.shallow c.args.component.now _ (returns-clause-ok c)

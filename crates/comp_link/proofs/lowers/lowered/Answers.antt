@@ -5,7 +5,6 @@ use Rattle.std.proofs.lemmas.Result.{err_from_is_err_and}
 use Rattle.comp_graph.specs.declared.graph.Options.{Options}
 use Rattle.comp_linking.specs.declared.fault.LinkWhy.{LinkWhy}
 use Rattle.comp_linking.specs.declared.fault.LinkWhy.TheVariants as why
-use Rattle.comp_linking.specs.declared.reach.Reach.{Reach}
 use Rattle.comp_linking.specs.Canons.{Given, given_by, options_of, is_option_there}
 use Rattle.comp_linking.specs.Items.{lower_made}
 use Rattle.comp_linking.specs.Computed.{Makes, after, lowered_from, lower_outcome}
@@ -36,12 +35,11 @@ returns-in_err-used c = λ bases l s at.
     let are : list_all (is_option_there s) c.args.options.now ≡ true =
     sym (c.are_there.ensures s (scope.core_memories ∙ sym c.deref.ensures.value) (scope.core_funcs ∙ sym c.deref-2.ensures.value)) ∙ c.if-not-are_there.false in
     let given : c.by-given.result ≡ given_by s c.args.options.now = c.by-given.ensures s (scope.core_memories ∙ sym c.deref-3.ensures.value) (scope.core_funcs ∙ sym c.deref-4.ensures.value) in
-    let told : IsReason c.in_err-used.field-0.0 (lowered_from l.reach func.0.func_type c.args.options.now (given_by s c.args.options.now)) =
-    subst (λ (reach : Reach). IsReason c.in_err-used.field-0.0 (lowered_from reach func.0.func_type c.args.options.now (given_by s c.args.options.now))) (sym at.state.reach)
-    (subst (λ (given : Given). IsReason c.in_err-used.field-0.0 (lowered_from c.args.linker.now.reach func.0.func_type c.args.options.now given)) given (c.in_err-used.ensures func.0.func_type func.2.func_type)) in
+    let told : IsReason c.in_err-used.field-0.0 (lowered_from func.0.func_type c.args.options.now (given_by s c.args.options.now)) =
+    subst (λ (given : Given). IsReason c.in_err-used.field-0.0 (lowered_from func.0.func_type c.args.options.now given)) given (c.in_err-used.ensures func.0.func_type func.2.func_type) in
     let p = err_from_is_err_and c.from_residual.result c.from_residual.ensures.1 in
     rw (p.1, p.2, of_parts l c.args.n s c.args.func c.args.options.now func.0 func.1 are)
-    (reason_after _ (lowered_from l.reach func.0.func_type c.args.options.now (given_by s c.args.options.now)) _ told)
+    (reason_after _ (lowered_from func.0.func_type c.args.options.now (given_by s c.args.options.now)) _ told)
 
 pub returns : goal.returns
 returns c = λ bases l s at.
@@ -51,9 +49,8 @@ returns c = λ bases l s at.
     sym (c.are_there.ensures s (scope.core_memories ∙ sym c.deref.ensures.value) (scope.core_funcs ∙ sym c.deref-2.ensures.value)) ∙ c.if-not-are_there.false in
     let given : c.by-given.result ≡ given_by s c.args.options.now = c.by-given.ensures s (scope.core_memories ∙ sym c.deref-3.ensures.value) (scope.core_funcs ∙ sym c.deref-4.ensures.value) in
     let uses = λ (used : Options) (given : Given). used ≡ options_of given in
-    let from = value_told uses c.in_ok-used.used (lowered_from l.reach func.0.func_type c.args.options.now (given_by s c.args.options.now))
-    (subst (λ (reach : Reach). IsTold {W = LinkWhy} uses (Ok c.in_ok-used.used) (lowered_from reach func.0.func_type c.args.options.now (given_by s c.args.options.now))) (sym at.state.reach)
-    (subst (λ (given : Given). IsTold {W = LinkWhy} uses (Ok c.in_ok-used.used) (lowered_from c.args.linker.now.reach func.0.func_type c.args.options.now given)) given (c.in_ok-used.ensures func.0.func_type func.2.func_type))) in
+    let from = value_told uses c.in_ok-used.used (lowered_from func.0.func_type c.args.options.now (given_by s c.args.options.now))
+    (subst (λ (given : Given). IsTold {W = LinkWhy} uses (Ok c.in_ok-used.used) (lowered_from func.0.func_type c.args.options.now given)) given (c.in_ok-used.ensures func.0.func_type func.2.func_type)) in
     told_value (IsLowering c.args.linker.now.types l c.args.n s) _ (Makes (lower_made l c.args.n s func.0 from.0)) (lower_outcome l c.args.n s c.args.func c.args.options.now)
     (of_parts l c.args.n s c.args.func c.args.options.now func.0 func.1 are ∙ ap (λ (r : Result Given LinkWhy). after r (λ given. Ok (Makes (lower_made l c.args.n s func.0 given)))) from.1)
     (record { lifted = func.0; given = from.0; stands = func.2; used = from.2; makes = refl })

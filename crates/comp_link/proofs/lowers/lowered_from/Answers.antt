@@ -4,7 +4,7 @@ use Rattle.comp_linking.specs.declared.fault.LinkWhy.TheVariants as why
 use Rattle.comp_linking.specs.Canons.{Given, options_of, stand_once, can_be_lowered}
 use Rattle.comp_linking.specs.Computed.{lowered_from}
 use Rattle.comp_link.proofs.Told.{told_why, told_value}
-use Rattle.comp_link.proofs.CanonParts.{not_once, not_lowered, past_reach, is_lower}
+use Rattle.comp_link.proofs.CanonParts.{not_once, not_lowered, is_lower}
 use Rattle.comp_link.proofs.lowers.lowered_from.Goals as goal
 
 abbrev Uses : Options → Given → Type 0
@@ -12,25 +12,18 @@ Uses used given = used ≡ options_of given
 
 pub returns-then-not-stand_once : goal.returns-then-not-stand_once
 returns-then-not-stand_once c = λ f h.
-    told_why Uses why.Canon (lowered_from c.args.reach f c.args.options.now c.args.given.now)
-    (not_once c.args.reach f c.args.options.now c.args.given.now (sym c.stand_once.ensures ∙ c.if-not-stand_once.true))
+    told_why Uses why.Canon (lowered_from f c.args.options.now c.args.given.now)
+    (not_once f c.args.options.now c.args.given.now (sym c.stand_once.ensures ∙ c.if-not-stand_once.true))
 
 pub returns-then-not-can_be_lowered : goal.returns-then-not-can_be_lowered
 returns-then-not-can_be_lowered c = λ f h.
     let once : stand_once c.args.options.now ≡ true = sym c.stand_once.ensures ∙ c.if-not-stand_once.false in
-    told_why Uses why.Canon (lowered_from c.args.reach f c.args.options.now c.args.given.now)
-    (not_lowered c.args.reach f c.args.options.now c.args.given.now once (sym (c.can_be_lowered.ensures f (c.in-Some.ensures f h)) ∙ c.if-not-can_be_lowered.true))
-
-pub returns-then-not-has_lower : goal.returns-then-not-has_lower
-returns-then-not-has_lower c = λ f h.
-    let once : stand_once c.args.options.now ≡ true = sym c.stand_once.ensures ∙ c.if-not-stand_once.false in
-    let lowers : can_be_lowered f c.args.given.now ≡ true = sym (c.can_be_lowered.ensures f (c.in-Some.ensures f h)) ∙ c.if-not-can_be_lowered.false in
-    told_why Uses why.Limit (lowered_from c.args.reach f c.args.options.now c.args.given.now)
-    (past_reach c.args.reach f c.args.options.now c.args.given.now once lowers (sym c.has_lower.ensures ∙ c.if-not-has_lower.true))
+    told_why Uses why.Canon (lowered_from f c.args.options.now c.args.given.now)
+    (not_lowered f c.args.options.now c.args.given.now once (sym (c.can_be_lowered.ensures f (c.in-Some.ensures f h)) ∙ c.if-not-can_be_lowered.true))
 
 pub returns : goal.returns
 returns c = λ f h.
     let once : stand_once c.args.options.now ≡ true = sym c.stand_once.ensures ∙ c.if-not-stand_once.false in
     let lowers : can_be_lowered f c.args.given.now ≡ true = sym (c.can_be_lowered.ensures f (c.in-Some.ensures f h)) ∙ c.if-not-can_be_lowered.false in
-    told_value Uses _ _ (lowered_from c.args.reach f c.args.options.now c.args.given.now)
-    (is_lower c.args.reach f c.args.options.now c.args.given.now once lowers (sym c.has_lower.ensures ∙ c.if-not-has_lower.false)) c.options.ensures
+    told_value Uses _ _ (lowered_from f c.args.options.now c.args.given.now)
+    (is_lower f c.args.options.now c.args.given.now once lowers) c.options.ensures

@@ -1,9 +1,7 @@
-use Rattle.std.proofs.Common.{◌≡◌, ◌∷◌, refl, sym, ap, ◌∙◌, false, None}
+use Rattle.std.proofs.Common.{◌≡◌, ◌∷◌, refl, sym, ap, ◌∙◌, None}
 use Rattle.std.specs.Option.{option_map}
 use Rattle.comp_linking.specs.declared.fault.LinkWhy.TheVariants as why
 use Rattle.comp_linking.specs.Definitions.{AType}
-use Rattle.comp_linking.specs.declared.reach.Reach.{Reach}
-use Rattle.comp_linking.specs.Runs.{reaches, runs_type}
 use Rattle.comp_linking.specs.Spaces.{levels_at}
 use Rattle.comp_linking.specs.Types.{meaning_of}
 use Rattle.comp_linking.specs.Computed.{type_outcome, one_more}
@@ -12,7 +10,7 @@ use Rattle.instance_tables.specs.declared.references.DefinitionRef.TheVariants a
 use Rattle.type_meanings.specs.Meant.{text_of}
 use Rattle.comp_link.proofs.Told.{reason_is}
 use Rattle.comp_link.proofs.Steps.{some_found, outcome_ready}
-use Rattle.comp_link.proofs.Wanting.{type_made, type_deep, type_past}
+use Rattle.comp_link.proofs.Wanting.{type_made, type_deep}
 use Rattle.comp_link.proofs.types.type_definition.Goals as goal
 
 pub returns-then-meant-clause-made : goal.returns-then-meant-clause-made
@@ -23,20 +21,8 @@ returns-then-meant-clause-made c = λ bases l s at.
     let m = c.in_ok-meant.ensures.means bases l s at in
     let none : meaning.missing ≡ None = sym m.missing ∙ ap (option_map text_of) c.in_default.is in
     let one = some_found (IsType k.types) c.in_ok-meant.meant.means c.in-Some-means.closed meaning.means c.in-Some-means.is m.means in
-    reason_is why.Limit (type_outcome l n s c.args.def_type.now meaning)
-    (type_deep l n s c.args.def_type.now meaning one.0 (sym m.is_there ∙ c.if-not-meant.false) none one.1 (sym m.deep ∙ c.if-meant.true))
-
-pub returns-then-not-has_type-clause-made : goal.returns-then-not-has_type-clause-made
-returns-then-not-has_type-clause-made c = λ bases l s at.
-    let k = c.meaning_at.new.linker in
-    let n = c.args.n in
-    let meaning = meaning_of c.args.def_type.now (levels_at l (n ∷ s.around)) in
-    let m = c.in_ok-meant.ensures.means bases l s at in
-    let none : meaning.missing ≡ None = sym m.missing ∙ ap (option_map text_of) c.in_default.is in
-    let one = some_found (IsType k.types) c.in_ok-meant.meant.means c.in-Some-means.closed meaning.means c.in-Some-means.is m.means in
-    let past : reaches l.reach (runs_type c.args.def_type.now) ≡ false =
-    ap (λ (reach : Reach). reaches reach (runs_type c.args.def_type.now)) (c.in_ok-meant.ensures.at bases l s at).state.reach ∙ sym c.has_type.ensures ∙ c.if-not-has_type.true in
-    reason_is why.Limit (type_outcome l n s c.args.def_type.now meaning) (type_past l n s c.args.def_type.now meaning one.0 (sym m.is_there ∙ c.if-not-meant.false) none one.1 (sym m.deep ∙ c.if-meant.false) past)
+    reason_is why.Limit (type_outcome l n s meaning)
+    (type_deep l n s meaning one.0 (sym m.is_there ∙ c.if-not-meant.false) none one.1 (sym m.deep ∙ c.if-meant.true))
 
 pub returns-clause-made : goal.returns-clause-made
 returns-clause-made c = λ bases l s at.
@@ -46,7 +32,6 @@ returns-clause-made c = λ bases l s at.
     let m = c.in_ok-meant.ensures.means bases l s at in
     let none : meaning.missing ≡ None = sym m.missing ∙ ap (option_map text_of) c.in_default.is in
     let one = some_found (IsType k.types) c.in_ok-meant.meant.means c.in-Some-means.closed meaning.means c.in-Some-means.is m.means in
-    let within = ap (λ (reach : Reach). reaches reach (runs_type c.args.def_type.now)) (c.in_ok-meant.ensures.at bases l s at).state.reach ∙ sym c.has_type.ensures ∙ c.if-not-has_type.false in
-    outcome_ready k l (one_more l n s) (ref.Type c.in-Some-means.closed) (type_outcome l n s c.args.def_type.now meaning) (one_more l n s (AType one.0))
-    (type_made l n s c.args.def_type.now meaning one.0 (sym m.is_there ∙ c.if-not-meant.false) none one.1 (sym m.deep ∙ c.if-meant.false) within)
+    outcome_ready k l (one_more l n s) (ref.Type c.in-Some-means.closed) (type_outcome l n s meaning) (one_more l n s (AType one.0))
+    (type_made l n s meaning one.0 (sym m.is_there ∙ c.if-not-meant.false) none one.1 (sym m.deep ∙ c.if-meant.false))
     (record { bases = bases; state = (c.in_ok-meant.ensures.at bases l s at).state; definition = AType one.0; stands = one.2; makes = refl })

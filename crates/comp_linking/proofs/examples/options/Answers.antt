@@ -1,15 +1,11 @@
 use Rattle.std.specs.Prelude.{[], ◌∷◌}
 use Rattle.comp_tree.specs.declared.items.CanonOption.TheVariants as option
-use Rattle.comp_linking.specs.declared.reach.Reach.TheVariants.{Runs, Whole}
 use Rattle.comp_linking.specs.Examples.{root, lifting}
-use Rattle.comp_linking.proofs.Samples.{linked_so_far, linked_by, lifts_with_memory, past_runs, memory_twice}
+use Rattle.comp_linking.proofs.Samples.{linked_by, lifts_with_memory, memory_twice}
 use Rattle.comp_linking.proofs.examples.options.Goals as goal
 
 pub returns-clause-made : goal.returns-clause-made
-returns-clause-made c = linked_so_far Whole (root (lifting (option.Memory 0 ∷ []))) _ lifts_with_memory
-
-pub returns-clause-past : goal.returns-clause-past
-returns-clause-past c = linked_so_far Runs (root (lifting (option.Memory 0 ∷ []))) _ past_runs
+returns-clause-made c = linked_by (root (lifting (option.Memory 0 ∷ []))) _ lifts_with_memory
 
 pub returns-clause-twice : goal.returns-clause-twice
 returns-clause-twice c = linked_by (root (lifting (option.Memory 0 ∷ option.Memory 0 ∷ []))) _ memory_twice

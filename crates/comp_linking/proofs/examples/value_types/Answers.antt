@@ -1,13 +1,12 @@
 use Rattle.comp_tree.specs.declared.items.Item.TheVariants as plain
 use Rattle.std.specs.Prelude.{[], ◌∷◌, codes}
-use Rattle.comp_linking.specs.declared.reach.Reach.TheVariants.{Runs, Whole}
 use Rattle.comp_linking.specs.Examples.{root, u32, list_of, record_of}
-use Rattle.comp_linking.proofs.Samples.{linked_so_far, linked_by}
-use Rattle.comp_linking.proofs.ValueSamples.{made, past, empty, label_twice, not_there}
+use Rattle.comp_linking.proofs.Samples.{linked_by}
+use Rattle.comp_linking.proofs.ValueSamples.{made, empty, label_twice, not_there}
 use Rattle.comp_linking.proofs.examples.value_types.Goals as goal
 
 pub returns-clause-made : goal.returns-clause-made
-returns-clause-made c = linked_so_far Whole (root (plain.Type u32 ∷ list_of 0 ∷ list_of 1 ∷ record_of (codes "a" ∷ codes "b" ∷ []) 2 ∷ [])) _ made
+returns-clause-made c = linked_by (root (plain.Type u32 ∷ list_of 0 ∷ list_of 1 ∷ record_of (codes "a" ∷ codes "b" ∷ []) 2 ∷ [])) _ made
 
 pub returns-clause-empty : goal.returns-clause-empty
 returns-clause-empty c = linked_by (root (record_of [] 0 ∷ [])) _ empty
@@ -17,6 +16,3 @@ returns-clause-twice c = linked_by (root (plain.Type u32 ∷ record_of (codes "a
 
 pub returns-clause-not_there : goal.returns-clause-not_there
 returns-clause-not_there c = linked_by (root (record_of (codes "a" ∷ codes "a" ∷ []) 0 ∷ [])) _ not_there
-
-pub returns-clause-past : goal.returns-clause-past
-returns-clause-past c = linked_so_far Runs (root (plain.Type u32 ∷ list_of 0 ∷ [])) _ past

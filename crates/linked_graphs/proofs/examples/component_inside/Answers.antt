@@ -1,4 +1,3 @@
-use Rattle.comp_linking.specs.declared.reach.Reach.TheVariants.{Whole}
 use Rattle.comp_linking.specs.Examples.{root}
 use Rattle.linked_graphs.specs.Examples.{parent, both}
 use Rattle.linked_graphs.proofs.Samples.{both_linked, modules_are_sound}
@@ -6,10 +5,10 @@ use Rattle.linked_graphs.proofs.examples.component_inside.Goals as goal
 
 pub returns : goal.returns
 returns c =
-    let is_linked = (c.graphs_are_computed.ensures.graph Whole (root parent) both).0 both_linked in
+    let is_linked = (c.graphs_are_computed.ensures.graph (root parent) both).0 both_linked in
     record {
       linked = is_linked;
       modules = modules_are_sound;
-      sound = c.linked_graphs_are_sound.ensures.sound Whole (root parent) both modules_are_sound is_linked;
-      apart = c.linked_graphs_are_apart.ensures Whole (root parent) both is_linked;
+      sound = c.linked_graphs_are_sound.ensures.sound (root parent) both modules_are_sound is_linked;
+      apart = c.linked_graphs_are_apart.ensures (root parent) both is_linked;
     }

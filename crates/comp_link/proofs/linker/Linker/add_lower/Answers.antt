@@ -43,7 +43,6 @@ returns-clause-ok c bases l s lifted given at is used =
       canons = rw (at.state.canons, c.in_ok-push-2.ensures.items, made) refl;
       canon_types = typed;
       plan = at.state.plan;
-      reach = at.state.reach;
     }
 
 pub returns-clause-live : goal.returns-clause-live
