@@ -1,4 +1,4 @@
--- Lifts that can be run, of functions over u32 and without options, are there with the flat type.
+-- Lifts that plain runs have, of functions over u32 and without options, are there with the flat type.
 use Rattle.std.proofs.Common.{◌≡◌, ◌≤◌, ℕ, suc, Bool, true, false, ◌&&◌, ◌||◌, ◌==◌, nat_le, nat_lt, List, [], ◌∷◌, ◌++◌, length, map, refl, sym, ◌∙◌, ap, subst, arith, Option, Some, None}
 use Rattle.std.specs.Prelude.{IsSome}
 use Rattle.std.specs.List.{list_all, flat_map}

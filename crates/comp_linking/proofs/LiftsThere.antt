@@ -91,7 +91,7 @@ lower_there cores canons n func given h k fits = record {
   realloc_given = λ needs. func_given realloc_type given.realloc fits.realloc (fits.realloc_given needs);
 }
 
--- Where linking leads to a run, a lift has no options.
+-- In plain runs a lift has no options.
 plain : (s : Spaces) (options : List CanonOption) (type : FuncType) → runs_lift options type ≡ true → (options_of (given_by s options) ≡ no_options) × (runs_lift [] type ≡ true)
 plain s [] type h = (refl, h)
 plain s (o ∷ options) type h = never h

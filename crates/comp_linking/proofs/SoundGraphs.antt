@@ -46,7 +46,7 @@ all_there : (reach : Reach) (cores : List CoreMake) (canons : List CanonFunc) (c
 all_there reach cores canons [] h = tt
 all_there reach cores canons (c ∷ cs) h = (h.0.there, all_there reach cores canons cs h.1)
 
--- where linking leads to a run, they can be, and nothing is lowered
+-- where linking goes no further than plain runs, they are lifted plainly, and nothing is lowered
 all_callable : (cores : List CoreMake) (cs : List Callable) → AllByRecursion (λ (c : Callable). IsFuncSound Runs cores [] c.func) cs → AllZip (λ (e : Export) (lift : Lift). LiftsCore cores e.func_type lift) (map export_of cs) (map lift_of cs)
 all_callable cores [] h = tt
 all_callable cores (c ∷ cs) h = (let runs = h.0.runs refl in (lifts_core cores c.func.func_type (lift_for c.func) h.0.there runs.0 runs.1, all_callable cores cs h.1))

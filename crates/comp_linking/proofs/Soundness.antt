@@ -1,7 +1,7 @@
--- Sound definitions: what each function lifts with is there, with the types that it needs, and can be run where linking leads to
--- a run; types are apart, no two names of an instance are equal, and each module has what those of the component have. Sound spaces
--- hold sound definitions and core items that are there. Of sound linkings what is lowered is there, and nothing is lowered where
--- linking leads to a run.
+-- Sound definitions: what each function lifts with is there, with the types that it needs, and plain runs have it where linking goes
+-- no further; types are apart, no two names of an instance are equal, and each module has what those of the component have. Sound
+-- spaces hold sound definitions and core items that are there. Of sound linkings what is lowered is there, and nothing is lowered
+-- where linking goes no further than plain runs.
 use Rattle.std.proofs.Common.{◌≡◌, true, false, List, []}
 use Rattle.std.specs.Prelude.{IfSome}
 use Rattle.std.specs.List.{AllByRecursion}
@@ -23,7 +23,7 @@ use Rattle.comp_linking.proofs.Modules.{ModulesHave}
 abbrev pub lift_for : Lifted → Lift
 lift_for f = record { instance = f.instance; core = f.core; options = f.options }
 
--- a function that can be run, where linking leads to a run
+-- a function that plain runs have, where linking goes no further
 abbrev pub CanRun : Reach → Lifted → Type 0
 CanRun reach f = reach ≡ Runs → (f.options ≡ no_options) × (runs_lift [] f.func_type ≡ true)
 

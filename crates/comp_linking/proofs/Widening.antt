@@ -1,4 +1,5 @@
--- What is linked where linking leads to a run is linked to the same over all that is read: the same items make the same.
+-- What is linked where linking goes no further than plain runs is linked to the same over all that is read: the same items make
+-- the same.
 use Rattle.std.proofs.Common.{ℕ, List, length, refl, ap}
 use Rattle.ca_base.specs.declared.placed.Placed.{Placed}
 use Rattle.comp_tree.specs.declared.core_instances.CoreInstance.{CoreInstance}

@@ -83,7 +83,7 @@ LinkedIsNotRefused =
 abbrev pub OneRefusal : Type 0
 OneRefusal = (reach : Reach) (c : Component) (a b : LinkFault) → IsLinkRefused reach c a → IsLinkRefused reach c b → a ≡ b
 
--- What is linked where linking leads to a run is linked to the same graph over all that is read.
+-- What is linked where linking goes no further than plain runs is linked to the same graph over all that is read.
 abbrev pub RunsAreLinked : Type 0
 RunsAreLinked = (c : Component) (g : Graph) → IsLinked Runs c g → IsLinked Whole c g
 
@@ -104,8 +104,8 @@ GraphsAreFew =
 abbrev pub GraphsAreImported : Type 0
 GraphsAreImported = (reach : Reach) (c : Component) (g : Graph) → IsLinked reach c g → AreImported g.canons [] g.cores
 
--- The exports of a graph that is linked to be run can be called: the core function of each lift is there, and of the flat type, and
--- no function is lowered.
+-- Where linking goes no further than plain runs, the core function of each export's lift is there, and of the flat type, the lift
+-- uses nothing else, and no function is lowered.
 abbrev pub GraphsAreCallable : Type 0
 GraphsAreCallable = (c : Component) (g : Graph) → IsLinked Runs c g → IsCallable g
 

@@ -1,8 +1,8 @@
--- How far linking goes. No section of the standard says this, it is the tool's own: what can be run may be less than what is read
--- and can be linked, so linking that is to lead to a run refuses, as `Limit`, the first item that holds what cannot be run. A
--- type can be run where each value type that is written in it is u32, in functions and in instance types. An index, an alias and
--- an export stand for what is held elsewhere. A lift can be run where it has no options, and the parameters and the result of its
--- function are u32. A lower cannot be run.
+-- How far linking goes. No section of the standard says this, it is the tool's own: linking goes over all that is read, or no
+-- further than plain runs, which pass u32 alone and have neither options nor lowers. Then it refuses, as `Limit`, the first item
+-- that holds what plain runs have not. They have a type where each value type that is written in it is u32, in functions and in
+-- instance types. An index, an alias and an export stand for what is held elsewhere. They have a lift where it has no options, and
+-- the parameters and the result of its function are u32. They have no lower.
 use Rattle.std.specs.Prelude.{Bool, true, false, ◌&&◌, List, [], ◌∷◌, Option, Some, None}
 use Rattle.std.specs.List.{list_all}
 use Rattle.std.specs.Option.{option_map_or}
@@ -23,7 +23,7 @@ use Rattle.comp_tree.specs.declared.types.InstanceDecl.{InstanceDecl}
 use Rattle.comp_linking.specs.declared.reach.Reach.{Reach}
 use Rattle.comp_linking.specs.declared.reach.Reach.TheVariants.{Runs, Whole}
 
--- whether what can be run, or cannot, is within reach
+-- whether what plain runs have, or have not, is within reach
 abbrev pub reaches : Reach → Bool → Bool
 reaches Runs runs = runs
 reaches Whole runs = true
@@ -80,7 +80,7 @@ abbrev pub runs_lift : List CanonOption → FuncType → Bool
 runs_lift options type =
     runs_options options && list_all (λ p. is_u32 p.val_type) type.params && option_map_or is_u32 type.result true
 
--- Lowers: none can be run.
+-- Lowers: plain runs have none.
 
 abbrev pub runs_lower : Bool
 runs_lower = false

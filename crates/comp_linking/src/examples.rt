@@ -1,4 +1,4 @@
-//! Examples of the definitions, worked out by hand. Those whose types are all u32, and which lower nothing, come to the same
+//! Examples of the definitions, worked out by hand. Those over u32 alone, without options and without lowers, come to the same
 //! however far linking goes.
 
 ghost use Rattle.std.specs.Prelude.{◌≡◌, true, false, [], ◌∷◌, Ok, codes};
@@ -24,8 +24,8 @@ pub fn faults()
     ensures twice { (reach : Reach) → linked reach (root (plain.Type u32 ∷ export_type (codes "a") ∷ export_type (codes "a") ∷ [])) ≡ fault 2 why.Typing }
 {}
 
-/// A record over a list of lists is linked, and a list is past what can be run. A record without fields is refused, and one with a
-/// label twice; where an index is not there, that is told first.
+/// A record over a list of lists is linked, and plain runs have no list. A record without fields is refused, and one with a label
+/// twice; where an index is not there, that is told first.
 pub fn value_types()
     ensures made { linked Whole (root (plain.Type u32 ∷ list_of 0 ∷ list_of 1 ∷ record_of (codes "a" ∷ codes "b" ∷ []) 2 ∷ [])) ≡ begins (0 ∷ []) }
     ensures past { linked Runs (root (plain.Type u32 ∷ list_of 0 ∷ [])) ≡ fault 1 why.Limit }
@@ -75,7 +75,7 @@ pub fn core_instances()
     ensures absent { (reach : Reach) → linked reach (root (plain.CoreModule of_one ∷ make_with_absent ∷ [])) ≡ fault 1 why.Index }
 {}
 
-/// A lift with a memory is linked, and is past what can be run. With the memory twice it is refused.
+/// A lift with a memory is linked, and plain runs have none. With the memory twice it is refused.
 pub fn options()
     ensures made { linked Whole (root (lifting (option.Memory 0 ∷ []))) ≡ Ok (callable_as with_memory (codes "run" ∷ [])) }
     ensures past { linked Runs (root (lifting (option.Memory 0 ∷ []))) ≡ fault 5 why.Limit }
@@ -88,8 +88,8 @@ pub fn one_name()
     ensures { (reach : Reach) → linked reach (root lifting_twice) ≡ Ok (callable_as no_options (codes "a#run" ∷ codes "a#run" ∷ [])) }
 {}
 
-/// A function that is lifted, lowered and passed to a core module is what the core instance imports. A lower is past what can be
-/// run. A function that is not there is not lowered.
+/// A function that is lifted, lowered and passed to a core module is what the core instance imports. Plain runs have no lower. A
+/// function that is not there is not lowered.
 pub fn lowers()
     ensures made { linked Whole (root passing) ≡ Ok passed }
     ensures past { linked Runs (root passing) ≡ fault 6 why.Limit }

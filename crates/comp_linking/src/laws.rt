@@ -35,7 +35,7 @@ pub fn components_have_one_graph()
     ensures fault { OneRefusal }
 {}
 
-/// A component that is linked where linking leads to a run is linked to the same graph over all that is read.
+/// A component that is linked where linking goes no further than plain runs is linked to the same graph over all that is read.
 pub fn runs_are_linked()
     ensures { RunsAreLinked }
 {}
@@ -48,10 +48,10 @@ pub fn instances_stay_few()
 {}
 
 /// The core instances of a graph have the imports that their modules ask for, of core instances before them and of functions that
-/// are lowered. The exports of one that is linked to be run can be called. What a lift uses is there, with the types that it needs,
-/// and so is what is lowered, with what the lowering uses: of functions that are lowered each stands on those before it alone. No
-/// two parameters of an export have one label, and its types nest at most 32 types in one another. Each core instance is of a
-/// module that stands in the component.
+/// are lowered. Where linking goes no further than plain runs, exports are lifted over u32 alone and without options, and nothing
+/// is lowered. What a lift uses is there, with the types that it needs, and so is what is lowered, with what the lowering uses: of
+/// functions that are lowered each stands on those before it alone. No two parameters of an export have one label, and its types
+/// nest at most 32 types in one another. Each core instance is of a module that stands in the component.
 pub fn graphs_are_sound()
     ensures imported { GraphsAreImported }
     ensures callable { GraphsAreCallable }

@@ -1,4 +1,4 @@
-//! How far linking goes.
+//! How far linking goes: over all that is read, or no further than plain runs.
 
 ghost use Rattle.std.specs.Prelude.{◌≡◌};
 ghost use Rattle.comp_linking.specs.Runs.{reaches};
@@ -11,8 +11,8 @@ use comp_tree::{CanonOption, DefType};
 /// How far linking goes. It is the tool's own, and no section of the standard has it.
 #[derive(Clone, Copy)]
 pub enum Reach {
-    /// As far as what is linked can be run: an item is refused as `LinkWhy::Limit` that holds a type, a lift or a lower which
-    /// cannot be run.
+    /// No further than plain runs, which pass u32 alone and have neither options nor lowers: an item is refused as
+    /// `LinkWhy::Limit` that holds a type, a lift or a lower which they have not.
     Runs,
     /// Over all that is read.
     Whole,

@@ -1,4 +1,4 @@
-//! Which types and lifts can be run.
+//! Which types and lifts plain runs have.
 
 ghost use Rattle.std.specs.Prelude.{◌≡◌, true};
 ghost use Rattle.std.specs.List.{list_all};
@@ -9,14 +9,14 @@ ghost use Rattle.comp_linking.specs.Runs as running;
 use ca_types::{FuncType, Param, Shared, ValType};
 use comp_tree::{CanonOption, DefType, DefValType, InstanceDecl, PrimValType, ValTypeRef};
 
-/// Whether values of a primitive type can be run.
+/// Whether plain runs pass values of a primitive type.
 fn runs_primitive(val_type: PrimValType) -> bool
     ensures { result ≡ running.runs_primitive val_type }
 {
     matches!(val_type, PrimValType::U32)
 }
 
-/// Whether values of a type that is defined can be run.
+/// Whether plain runs pass values of a type that is defined.
 fn runs_def(val_type: &DefValType) -> bool
     ensures { result ≡ running.runs_def val_type.now }
 {
@@ -26,7 +26,7 @@ fn runs_def(val_type: &DefValType) -> bool
     }
 }
 
-/// Whether values of a type can be run, as it is written.
+/// Whether plain runs pass values of a type, as it is written.
 fn runs_value(val_type: ValTypeRef) -> bool
     ensures { result ≡ running.runs_value val_type }
 {
@@ -36,7 +36,7 @@ fn runs_value(val_type: ValTypeRef) -> bool
     }
 }
 
-/// Whether a result can be run, where there is one.
+/// Whether plain runs pass a result, where there is one.
 fn runs_result(returned: Option<ValTypeRef>) -> bool
     ensures { result ≡ running.runs_result returned }
 {
@@ -46,21 +46,21 @@ fn runs_result(returned: Option<ValTypeRef>) -> bool
     }
 }
 
-/// Whether parameters can be run.
+/// Whether plain runs pass parameters.
 fn runs_params(params: &[comp_tree::Param]) -> bool
     ensures { result ≡ list_all (λ p. running.runs_value p.val_type) params.now }
 {
     params.iter().all(|param| runs_value(param.val_type))
 }
 
-/// Whether functions of a type can be run, as it is written.
+/// Whether plain runs have functions of a type, as it is written.
 fn runs_func(func_type: &comp_tree::FuncType) -> bool
     ensures { result ≡ running.runs_func func_type.now }
 {
     runs_params(func_type.params.as_slice()) && runs_result(func_type.result)
 }
 
-/// Whether a type can be run, as it is written: each value type in it is u32.
+/// Whether plain runs have a type, as it is written: each value type in it is u32.
 pub fn runs_type(def_type: &DefType) -> bool
     ensures { result ≡ running.runs_type def_type.now }
 {
@@ -104,8 +104,8 @@ fn result_is_u32(returned: &Option<Shared<ValType>>) -> bool
     }
 }
 
-/// Whether a lift with these options to a function of this type can be run: it has no options, and its parameters and its result
-/// are u32.
+/// Whether plain runs have a lift with these options to a function of this type: it has no options, and its parameters and its
+/// result are u32.
 pub fn runs_lift(options: &[CanonOption], func_type: &FuncType) -> bool
     ensures { result ≡ running.runs_lift options.now func_type.now }
 {
