@@ -11,9 +11,6 @@ use Rattle.comp_graph.specs.declared.func_types.NumberedFunc.{NumberedFunc}
 use Rattle.comp_graph.specs.declared.func_types.PassedTypes.{PassedTypes}
 use Rattle.comp_graph.specs.Passed.{params_type, MayBeValue, IsNumbered, ArePassed, HaveNumbers}
 
-pub params_there : (values : List ValType) (f : NumberedFunc) → IsNumbered values f → f.params < length values
-params_there values f h = slice_get_within values f.params (params_type f.func_type) h.params
-
 may_be_read : (values : List ValType) (number : Option ℕ) (type : Option ValType) → MayBeValue values number type → option_and_then (λ n. slice_get values n) number ≡ type
 may_be_read values None None h = refl
 may_be_read values (Some number) (Some type) h = h

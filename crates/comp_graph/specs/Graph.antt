@@ -1,7 +1,7 @@
 -- Graphs: what a component is linked to (Component Model, Explainer.md, "Instance Definitions"; CanonicalABI.md, `canon lift` and
 -- `canon lower`). Component instances begin and core instances are made of core modules, in file order, functions are lowered to
--- core functions, and the exports can be called: each lifts a core function. What can be run so far is over u32 alone, without
--- options and without lowers.
+-- core functions, and the exports can be called: each lifts a core function. What lifts, lowers and core instances stand on is
+-- there, of the types that they ask for, and was made before them (Core 2.0, section 4.5.4).
 use Rattle.std.specs.Prelude.{◌≡◌, ℕ, Bool, true, false, ◌&&◌, ◌==◌, nat_le, List, [], ◌∷◌, ◌++◌, length, map, Option, None, Some, IfSome, IsSome}
 use Rattle.std.specs.List.{slice_get, list_all, AllByRecursion, AllZip}
 use Rattle.std.specs.Option.{option_map, option_and_then, option_map_or}
@@ -120,7 +120,7 @@ pub record LiftsCore (cores : List CoreMake) (func_type : FuncType) (lift : Lift
   pub flat : is_flat func_type type ≡ true
   pub plain : lift.options ≡ no_options
 
--- what a graph needs so that its exports can be called
+-- each export of a graph is lifted so, and no function is lowered
 pub record IsCallable (g : Graph) : Type 0 where
   pub lifts : AllZip (λ e lift. LiftsCore g.cores e.func_type lift) g.exports g.lifts
   pub plain : g.canons ≡ []

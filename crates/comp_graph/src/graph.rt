@@ -276,8 +276,8 @@ impl<'a> Graph<'a> {
         passed_at(&self.types.types, self.types.exports.as_slice(), number)
     }
 
-    /// The types of what the function passes that the core function of this number calls, of those that the Canonical ABI makes, where it is
-    /// there.
+    /// The types of what the function passes that the core function of this number calls, of those that the Canonical ABI makes,
+    /// which is there.
     pub fn canon_types(&self, number: usize) -> PassedTypes<'_>
         requires { number < length self.now.canons }
         ensures { (f : CanonFunc) → slice_get self.now.canons number ≡ Some f → ArePassed result (called_type f) }

@@ -20,7 +20,7 @@ use Rattle.instance_tables.specs.declared.references.LiftedRef.{LiftedRef}
 use Rattle.instance_tables.specs.declared.references.InstanceRef.{InstanceRef}
 use Rattle.instance_tables.specs.declared.references.DefinitionRef.{DefinitionRef}
 use Rattle.instance_tables.specs.declared.references.DefinitionRef.TheVariants as definition_ref
-use Rattle.instance_tables.specs.References.{World, IsInstance, IsLifted, Stands, listed, IsEntry, IsListing, func_ref, instance_ref}
+use Rattle.instance_tables.specs.References.{World, IsInstance, IsLifted, Stands, listed, IsEntry, IsListing, func_ref}
 use Rattle.instance_tables.specs.Instances.{AreInstances}
 use Rattle.comp_link.specs.declared.scope.Scope.{Scope}
 use Rattle.comp_link.specs.declared.linker.Linker.{Linker}
@@ -80,21 +80,7 @@ module _ {A B C : Type 0} (R : A → B → Type 0) (f : B → List C) (xs : List
       let long : length ys ≡ length xs = AllZip-long R xs ys goes in
       so_far ∙ ap (λ ys. before ++ flat_map f ys) (take_all at ys (omega (arith, long, past)))
 
--- one more of what stands beside a list
-pub stand_more : {A B : Type 0} (R : A → B → Type 0) (xs : List A) (ys now new : List B) (at : ℕ) (d : A) → at < length xs → AllZip R xs ys → now ≡ take at ys
-    → ((y : B) → R (get_or xs at d) y → new ≡ now ++ y ∷ []) → new ≡ take (at + 1) ys
-stand_more R xs ys now new at d within goes so_far told =
-    let p = zip_at R xs ys at d within goes in
-    let long : length ys ≡ length xs = AllZip-long R xs ys goes in
-    told p.0 p.2 ∙ ap (λ zs. zs ++ p.0 ∷ []) so_far
-    ∙ sym (take_more ys at p.0 (omega (arith, long, within)) ∙ ap (λ y. take at ys ++ y ∷ []) (get_or_from_slice_get ys at p.0 p.0 p.1))
-
-pub stand_all : {A B : Type 0} (R : A → B → Type 0) (xs : List A) (ys now : List B) (at : ℕ) → length xs ≤ at → AllZip R xs ys → now ≡ take at ys → now ≡ ys
-stand_all R xs ys now at past goes so_far =
-    let long : length ys ≡ length xs = AllZip-long R xs ys goes in
-    so_far ∙ take_all at ys (omega (arith, long, past))
-
--- What a reference to a function, or to an instance, stands for.
+-- What a reference to a function stands for.
 
 pub is_func : (t : Table) (w : World) (ref : DefinitionRef) (d : Definition) (r : LiftedRef) → func_ref ref ≡ Some r → Stands t w ref d → (f : Lifted) × (d ≡ AFunc f) × IsLifted t r f
 is_func t w (definition_ref.Func other) (AFunc f) r is h = (f, refl, subst (λ (r : LiftedRef). IsLifted t r f) (cc) h)
@@ -106,17 +92,6 @@ is_func t w (definition_ref.Type type) d r is h = cc
 is_func t w (definition_ref.Component number) d r is h = cc
 is_func t w (definition_ref.Instance i) d r is h = cc
 is_func t w (definition_ref.Module number) d r is h = cc
-
-pub is_instance : (t : Table) (w : World) (ref : DefinitionRef) (d : Definition) (i : InstanceRef) → instance_ref ref ≡ Some i → Stands t w ref d → (exports : Exports) × (d ≡ AnInstance exports) × IsInstance t w i exports
-is_instance t w (definition_ref.Instance other) (AnInstance exports) i is h = (exports, refl, subst (λ (i : InstanceRef). IsInstance t w i exports) (cc) h)
-is_instance t w (definition_ref.Instance other) (AFunc f) i is h = absurd h
-is_instance t w (definition_ref.Instance other) (AType type) i is h = absurd h
-is_instance t w (definition_ref.Instance other) (AComponent c) i is h = absurd h
-is_instance t w (definition_ref.Instance other) (AModule m) i is h = absurd h
-is_instance t w (definition_ref.Func r) d i is h = cc
-is_instance t w (definition_ref.Type type) d i is h = cc
-is_instance t w (definition_ref.Component number) d i is h = cc
-is_instance t w (definition_ref.Module number) d i is h = cc
 
 -- There is no function where the reference is of none.
 not_func : (t : Table) (w : World) (ref : DefinitionRef) (name : List ℕ) (d : Definition) → func_ref ref ≡ None → Stands t w ref d → func_of (name, d) ≡ []

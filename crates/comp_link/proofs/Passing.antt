@@ -25,7 +25,7 @@ use Rattle.comp_link.specs.State.{world_of, IsKept, IsLive, IsState, Stands, IsA
 use Rattle.comp_link.specs.Told.{IsReason, IsTold}
 use Rattle.comp_link.specs.Next.{IsNext}
 use Rattle.comp_link.specs.Reached.{IsReached, component_begins}
-use Rattle.comp_link.specs.Running.{inside, placed_error, next_of}
+use Rattle.comp_link.specs.Running.{inside, next_of}
 use Rattle.comp_link.proofs.Keeping.{maker_stays}
 use Rattle.comp_link.proofs.Reaching.{step_reached}
 
@@ -41,16 +41,11 @@ pub on_ok : {X E P Q : Type 0} (r : Result X E) → (P → Q) → OnOk r P → O
 on_ok (Ok x) f h = f h
 on_ok (Err e) f h = tt
 
--- What is refused stays refused behind it, and at its place.
+-- What is refused stays refused behind it.
 pub reason_after : {A B W : Type 0} (e : MemoryOr W) (r : Result A W) (f : A → Result B W) → IsReason e r → IsReason e (after r f)
 reason_after Memory r f h = tt
 reason_after (Fault w) (Ok a) f h = absurd h
 reason_after (Fault w) (Err v) f h = h
-
-pub reason_placed : {A : Type 0} (place : ℕ) (e : MemoryOr LinkWhy) (r : Result A LinkWhy) → IsReason e r → IsReason (placed_error place e) (placed_at place r)
-reason_placed place Memory r h = tt
-reason_placed place (Fault w) (Ok a) h = absurd h
-reason_placed place (Fault w) (Err v) h = ap (λ (w : LinkWhy). (let f : LinkFault = record { place = place; why = w } in f)) h
 
 -- An item that made what it makes.
 pub next_told : (k : Linker) (l : Linking) (made : Result (Unit {0}) (MemoryOr LinkWhy)) (r : Result Outcome LinkWhy) → IsTold (λ _ outcome. IsMade k outcome) made r → IsTold (IsNext k l) (next_of made) r
@@ -83,11 +78,6 @@ spaces_at bases k l n h within live =
 -- One item.
 
 module _ (within : Run) (k : Linker) (l : Linking) (n : ℕ) (s : Spaces) (place : ℕ) where
-  pub placed_made : (r : Result Outcome LinkWhy) → IsTold (IsNext k l) (comes next.Made) r → IsTold (λ _ new. Stands k new) done (after (placed_at place r) (behind within l n s))
-  placed_made (Ok (Makes new)) h = h
-  placed_made (Ok (Starts c given)) h = absurd h
-  placed_made (Err w) h = absurd h
-
   pub placed_begins : (new : Linker) (answer : Result (Unit {0}) (MemoryOr LinkFault)) (item : Item) (component : Bor Component) (around : List ℕ) (arguments : InstanceRef) → slice_get l.scopes n ≡ Some s → IsLive k n → IsReached l
       → ((bases : List Exports) (given : Exports) → IsAt bases k n l s → IsReached (begun l (record { items = component.now.items; around = around }) given) → IsInstance k.types (world_of bases k) arguments given
       → IsTold (λ _ next. Stands new next) answer (after (within (begun l (record { items = component.now.items; around = around }) given) (length l.scopes) component.now.items) (λ inner. Ok (with_instance inner n s (length l.scopes)))))
@@ -101,9 +91,6 @@ module _ (within : Run) (k : Linker) (l : Linking) (n : ℕ) (s : Spaces) (place
           subst (λ (c : Closure). IsTold (λ _ next. Stands new next) answer (behind within l n s (Starts c given))) (sym same)
           (nested bases given (record { state = state; there = there; live = live }) begins instance)
       by (Err w) is h = absurd h
-
-pub placed_refused : (within : Run) (k : Linker) (l : Linking) (n : ℕ) (s : Spaces) (place : ℕ) (e : MemoryOr LinkWhy) (r : Result Outcome LinkWhy) → IsReason e r → IsReason (placed_error place e) (after (placed_at place r) (behind within l n s))
-placed_refused within k l n s place e r h = reason_after (placed_error place e) (placed_at place r) (behind within l n s) (reason_placed place e r h)
 
 -- The items of a component that begins, and its instance.
 
@@ -141,9 +128,6 @@ pub record Goes (depth n : ℕ) (first : Linking) (items rest : List (Placed Ite
   pub stands : Stands k last
   pub reached : IsReached last
   pub same : run_within depth first n items ≡ run_within depth last n rest
-
-pub goes_first : (depth n : ℕ) (first : Linking) (items : List (Placed Item)) (bases : List Exports) (k : Linker) → IsState bases k first → IsReached first → Goes depth n first items (drop 0 items) k
-goes_first depth n first items bases k h reached = record { last = first; stands = (bases, h); reached = reached; same = refl }
 
 module _ (depth n : ℕ) (first : Linking) (items : List (Placed Item)) (at : ℕ) (placed : Placed Item) (within : at < length items) (is : placed ≡ get_or items at placed) (old : Linker) (here : n < length old.scopes.items) (live : IsLive old n) where
   left : (last : Linking) (s : Spaces) → slice_get last.scopes n ≡ Some s → run_within depth first n items ≡ run_within depth last n (drop at items)

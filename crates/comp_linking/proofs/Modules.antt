@@ -1,5 +1,5 @@
 -- What all modules have that stand among items: by the items, one by one.
-use Rattle.std.proofs.Common.{◌≡◌, ◌⊎◌, inl, inr, List, [], ◌∷◌, ◌++◌, refl, subst}
+use Rattle.std.proofs.Common.{◌≡◌, ◌⊎◌, inl, inr, List, [], ◌∷◌, subst}
 use Rattle.ca_base.specs.declared.placed.Placed.{Placed}
 use Rattle.wasm_module.specs.declared.module.ModuleTree.{ModuleTree}
 use Rattle.comp_tree.specs.declared.items.Item.{Item, out-Item}
@@ -48,8 +48,3 @@ module _ (R : ModuleTree → Type 0) where
   shape_has placed items h (Item-F.CoreModule m) e = h m (stands_first placed items e)
   shape_has placed items h (Item-F.Component c) e = λ m k. h m (stands_inside placed items c e k)
   shape_has placed items h shape e = tt
-
-  pub both_have : (items more : List (Placed Item)) → ModulesHave R items → ModulesHave R more → ModulesHave R (items ++ more)
-  both_have [] more h k = k
-  both_have (placed ∷ items) more h k =
-      more_have placed (items ++ more) (shape_has placed items h (out-Item placed.item) refl) (both_have items more (λ m s. h m (stands_behind placed items s)) k)

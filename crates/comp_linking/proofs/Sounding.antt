@@ -19,9 +19,6 @@ abbrev pub Sound : {A : Type 0} → (LinkWhy → Type 0) → (A → Type 0) → 
 Sound P Q (Ok a) = Q a
 Sound P Q (Err w) = First P w
 
-pub clear_none : (P : LinkWhy → Type 0) → Clear P 0
-clear_none P w less h = absurd (omega arith)
-
 pub clear_root : (P : LinkWhy → Type 0) → (P why.RootImport → ⊥) → Clear P 1
 clear_root P not why.RootImport less h = not h
 clear_root P not w less h = absurd (omega arith)

@@ -74,41 +74,25 @@ impl<'a> CoreModule<'a> {
     }
 
     /// What an export offers in the core instance of this number.
-    fn offered(&self, number: usize, desc: ExportDesc) -> Option<CoreItem<'a>>
-        ensures { result ≡ item_of self.now number desc }
+    fn offered(&self, instance: usize, desc: ExportDesc) -> Option<CoreItem<'a>>
+        ensures { result ≡ item_of self.now instance desc }
     {
         match desc {
             ExportDesc::Func(index) => {
                 let func_type = self.space.type_of_func(index)?;
-                let core = CoreRef {
-                    instance: number,
-                    index,
-                };
-                Some(CoreItem::func(core, func_type))
+                Some(CoreItem::func(CoreRef { instance, index }, func_type))
             }
             ExportDesc::Table(index) => {
                 let limits = self.tables.get(index as usize).copied()?;
-                let core = CoreRef {
-                    instance: number,
-                    index,
-                };
-                Some(CoreItem::table(core, limits))
+                Some(CoreItem::table(CoreRef { instance, index }, limits))
             }
             ExportDesc::Memory(index) => {
                 let limits = self.memories.get(index as usize).copied()?;
-                let core = CoreRef {
-                    instance: number,
-                    index,
-                };
-                Some(CoreItem::memory(core, limits))
+                Some(CoreItem::memory(CoreRef { instance, index }, limits))
             }
             ExportDesc::Global(index) => {
                 let global_type = self.space.globals().get(index as usize).copied()?;
-                let core = CoreRef {
-                    instance: number,
-                    index,
-                };
-                Some(CoreItem::global(core, global_type))
+                Some(CoreItem::global(CoreRef { instance, index }, global_type))
             }
         }
     }

@@ -85,14 +85,3 @@ compared_instance t w (definition_ref.Func l) i r d x is h k = cc
 compared_instance t w (definition_ref.Type l) i r d x is h k = cc
 compared_instance t w (definition_ref.Component l) i r d x is h k = cc
 compared_instance t w (definition_ref.Module l) i r d x is h k = cc
-
-pub no_instance : (t : Table) (w : World) (given : DefinitionRef) (r : InstanceTypeRef) (d : Definition) (x : Extern)
-    → instance_ref given ≡ None → Stands t w given d → IsExtern t (extern_ref.Instance r) x → IsCompared t w d x (Agrees false)
-no_instance t w (definition_ref.Instance l) r d x is h k = cc
-no_instance t w (definition_ref.Func l) r (AFunc a) (OfInstance type) is h k = (λ name. refl, refl)
-no_instance t w (definition_ref.Type l) r (AType a) (OfInstance type) is h k = (λ name. refl, refl)
-no_instance t w (definition_ref.Component l) r (AComponent a) (OfInstance type) is h k = (λ name. refl, refl)
-no_instance t w (definition_ref.Module l) r (AModule a) (OfInstance type) is h k = (λ name. refl, refl)
-no_instance t w given r d (OfFunc type) is h k = absurd k
-no_instance t w given r d (OfType type) is h k = absurd k
-no_instance t w given r d x is h k = absurd h

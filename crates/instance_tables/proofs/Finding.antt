@@ -1,7 +1,7 @@
 -- What a table of instances finds under the number of a name.
 use Rattle.std.proofs.Common.{◌≡◌, ◌≤◌, ℕ, List, length, sym, subst, arith, Option, Some, None}
 use Rattle.std.specs.List.{slice_get}
-use Rattle.std.proofs.lemmas.Option.{slice_get_within, slice_get_past}
+use Rattle.std.proofs.lemmas.Option.{slice_get_past}
 use Rattle.comp_graph.specs.Closed.{Externs, extern_named}
 use Rattle.comp_linking.specs.Definitions.{Exports, export_named}
 use Rattle.type_tables.specs.declared.refs.InstanceTypeRef.{InstanceTypeRef}
@@ -32,9 +32,6 @@ module _ (t : Table) (w : World) (listings : List (List (ℕ × DefinitionRef)))
   sees d r x is seen asked =
       view_has t w q i exports (Some d) x h r seen (subst (λ (o : Option DefinitionRef). IsFound t w o (export_named q h.base)) is in_base) (λ wanted type. is_asked t x (extern_named q wanted) (asked wanted type))
 
--- A type of instances that was made has a number below their count.
-pub not_made : (t : Table) (r : InstanceTypeRef) (asked : Externs) → length t.instances ≤ r.number → IsInstanceType t r asked → ⊥
-not_made t r asked past h = let within = slice_get_within t.instances r.number h.1.0 h.1.1 in omega (arith, past)
-
+-- Behind all that a type asks for it asks for nothing.
 pub none_behind : (t : Table) (asked : Externs) (at count : ℕ) → count ≡ length (in_order asked) → count ≤ at → MayBeEntry t None (slice_get (in_order asked) at)
 none_behind t asked at count is past = let long : length (in_order asked) ≤ at = omega (arith, is, past) in rw (slice_get_past (in_order asked) at long) tt

@@ -3,12 +3,11 @@ use Rattle.std.proofs.Common.{◌≡◌, ℕ, Bool, true, false, cond, List, [],
 use Rattle.std.specs.Ordering.{is_eq}
 use Rattle.std.specs.List.{slice_get}
 use Rattle.std.specs.BTreeSet.{BTreeSet}
-use Rattle.std.specs.BTreeMap.{BTreeMap, Updates}
+use Rattle.std.specs.BTreeMap.{Updates}
 use Rattle.comp_graph.specs.Closed.{Externs}
 use Rattle.comp_linking.specs.Definitions.{Exports, types_of}
 use Rattle.comp_linking.specs.Tests.{are_types}
 use Rattle.type_tables.specs.declared.refs.InstanceTypeRef.{InstanceTypeRef}
-use Rattle.instance_tables.specs.declared.references.InstanceRef.{InstanceRef}
 use Rattle.instance_tables.specs.declared.references.DefinitionRef.{DefinitionRef}
 use Rattle.instance_tables.specs.declared.pairs.Pair.{Pair}
 use Rattle.instance_tables.specs.declared.instances.Instances.{Instances}
@@ -16,7 +15,7 @@ use Rattle.type_tables.specs.Table.{Table, AreDistinct, IsInstanceType}
 use Rattle.type_tables.proofs.TypesGrow.{grows_refl}
 use Rattle.instance_tables.specs.References.{World, IsInstance, IsListing, with_base}
 use Rattle.instance_tables.specs.Pairs.{has_pair}
-use Rattle.instance_tables.specs.OfTypes.{type_cmp, base_of, instance_of, kept_for, StayKept, HasTypes}
+use Rattle.instance_tables.specs.OfTypes.{type_cmp, base_of, HasTypes}
 use Rattle.instance_tables.specs.Instances.{AreInstances, HasInstance}
 use Rattle.instance_tables.proofs.Growing.{more_bases, known_stays, has_types_stays, base_added, base_made}
 use Rattle.instance_tables.proofs.PairOrder.{type_same}
@@ -30,21 +29,6 @@ kept_types t apart w type base externs h asked =
       subst (λ (externs : Externs). are_types externs ≡ true) same h.types,
       record { base = types_of externs; stands = subst (λ (externs : Externs). slice_get w.bases base ≡ Some (types_of externs)) same h.stands; seen = refl },
     )
-
--- The one more is kept, and so are the others, where there was none for its type.
-module _ (old new : BTreeMap InstanceTypeRef ℕ) (type : InstanceTypeRef) (base : ℕ) (kept : Updates type_cmp old new type (Some base)) where
-  pub this_kept : kept_for new type ≡ Some (record { base = base; seen_as = None })
-  this_kept = ap instance_of kept.1
-
-  other_kept : (other : InstanceTypeRef) (i : InstanceRef) (same : Bool) → base_of old type ≡ None → is_eq (type_cmp type other) ≡ same
-      → base_of new other ≡ cond same (Some base) (base_of old other) → kept_for old other ≡ Some i → kept_for new other ≡ Some i
-  other_kept other i true none same found h =
-      let gone : base_of old other ≡ None = subst (λ (other : InstanceTypeRef). base_of old other ≡ None) (type_same type other same) none in
-      let both : None ≡ Some i = sym (ap instance_of gone) ∙ h in cc
-  other_kept other i false none same found h = ap instance_of found ∙ h
-
-  pub others_kept : base_of old type ≡ None → StayKept old new
-  others_kept none = λ other i h. other_kept other i (is_eq (type_cmp type other)) none refl (kept.0 other) h
 
 -- one more is kept
 module _ (t : Table) (w : World) (old new : Instances) (type : InstanceTypeRef) (entries : List (ℕ × DefinitionRef)) (externs : Externs) (base : ℕ)

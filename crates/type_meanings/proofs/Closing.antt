@@ -18,16 +18,9 @@ one_more : {A : Type 0} (closed : List A) (x : A) (o : Option (List A)) → behi
 one_more closed x None = refl
 one_more {A} closed x (Some others) = ap (λ (xs : List A). Some xs) (sym (append_assoc closed (x ∷ []) others))
 
-none_behind : {A : Type 0} (o : Option (List A)) → behind [] o ≡ o
-none_behind None = refl
-none_behind (Some others) = refl
-
 -- What is found stands for the items up to a place.
 abbrev pub IsFoundSoFar : {X A B : Type 0} → (B → A → Type 0) → (X → Option A) → List X → List B → ℕ → Type 0
 IsFoundSoFar {X} {A} {B} R close xs found at = (all : List A) × AllZip R found all × (close_all close xs ≡ behind all (close_all close (drop at xs)))
-
-pub found_begins : {X A B : Type 0} (R : B → A → Type 0) (close : X → Option A) (xs : List X) → IsFoundSoFar R close xs [] 0
-found_begins R close xs = ([], tt, sym (none_behind (close_all close xs)))
 
 -- no item is left
 pub found_ends : {X A B : Type 0} (R : B → A → Type 0) (close : X → Option A) (xs : List X) (found : List B) (at : ℕ) → length xs ≤ at → IsFoundSoFar R close xs found at

@@ -1,6 +1,6 @@
 -- Instance types with one declaration more.
 use Rattle.std.proofs.Common.{◌≡◌, ◌∙◌, ℕ, Bool, true, false, cond, List, [], ◌∷◌, ◌++◌, refl, ap, sym, subst, Option, Some, None}
-use Rattle.std.specs.Prelude.{◌||◌, is_some, not}
+use Rattle.std.specs.Prelude.{◌||◌, not}
 use Rattle.std.specs.Option.{option_map}
 use denote.Ref.{Bor}
 use Rattle.std.specs.Str.{bytes_eq}
@@ -11,7 +11,7 @@ use Rattle.comp_tree.specs.declared.instances.Sort.TheVariants as sorts
 use Rattle.comp_graph.specs.Closed.{Closed, Extern, OfFunc, OfType, OfInstance, Externs, extern_named}
 use Rattle.comp_linking.specs.Definitions.{Closure}
 use Rattle.comp_linking.specs.Types as types_read
-use Rattle.comp_linking.specs.Types.{Meaning, meant, nothing_declared, type_in, instance_in, with_declared, and_told, told, kept_if, with_type, with_component, declared_as, extended, under_name, of_sort, exported}
+use Rattle.comp_linking.specs.Types.{Meaning, type_in, instance_in, with_declared, told, kept_if, with_type, with_component, declared_as, extended, under_name, of_sort, exported}
 use Rattle.type_tables.specs.declared.refs.InstanceTypeRef.{InstanceTypeRef}
 use Rattle.type_tables.specs.declared.refs.TypeRef.{TypeRef}
 use Rattle.type_tables.specs.declared.refs.ExternRef.{ExternRef}
@@ -60,7 +60,7 @@ components_more t closures old new d x y h r e a b n s = record {
 
 -- All is the same but what is told.
 pub one_told : {A B : Type 0} (t : Table) (closures : List Closure) (R : B → A → Type 0) (old new : Declared) (d : types_read.Declared) (r : Meant B) (now : Meaning A) → IsDeclared t closures old d → IsMeaning R r now
-    → new.so_far ≡ told_more old.so_far r.is_there r.missing r.deep (is_some r.means) → new.types ≡ old.types → new.components ≡ old.components → new.instances ≡ old.instances → new.names ≡ old.names → IsDeclared t closures new (told d now)
+    → new.so_far ≡ told_more old.so_far r → new.types ≡ old.types → new.components ≡ old.components → new.instances ≡ old.instances → new.names ≡ old.names → IsDeclared t closures new (told d now)
 one_told t closures R old new d r now h k e a b c n = record {
   types = rw a h.types;
   components = rw b h.components;
@@ -105,14 +105,14 @@ type_again (Some c) = refl
 
 pub type_declared : (t : Table) (closures : List Closure) (old mid new : Declared) (d : types_read.Declared) (r : Meant TypeRef) (e : Meaning Closed) → IsDeclared t closures old d → IsMeaning (IsType t) r e
     → mid.types.items ≡ old.types.items ++ r.means ∷ [] → mid.components ≡ old.components → mid.instances ≡ old.instances → mid.names ≡ old.names → mid.so_far ≡ old.so_far
-    → new.so_far ≡ told_more mid.so_far r.is_there r.missing r.deep (is_some r.means) → new.types ≡ mid.types → new.components ≡ mid.components → new.instances ≡ mid.instances → new.names ≡ mid.names → IsDeclared t closures new (with_type d e)
+    → new.so_far ≡ told_more mid.so_far r → new.types ≡ mid.types → new.components ≡ mid.components → new.instances ≡ mid.instances → new.names ≡ mid.names → IsDeclared t closures new (with_type d e)
 type_declared t closures old mid new d r e h k a1 a2 a3 a4 a5 =
     one_told t closures (IsType t) mid new (with_declared d sorts.Type (option_map OfType e.means)) r e
     (types_more t closures old mid d r.means (type_in (option_map OfType e.means)) h (rw (type_again e.means) k.means) a1 a2 a3 a4 a5) k
 
 pub component_declared : (t : Table) (closures : List Closure) (old mid new : Declared) (d : types_read.Declared) (r : Meant ℕ) (e : Meaning Closure) → IsDeclared t closures old d → IsMeaning (IsClosure closures) r e
     → mid.components.items ≡ old.components.items ++ r.means ∷ [] → mid.types ≡ old.types → mid.instances ≡ old.instances → mid.names ≡ old.names → mid.so_far ≡ old.so_far
-    → new.so_far ≡ told_more mid.so_far r.is_there r.missing r.deep (is_some r.means) → new.types ≡ mid.types → new.components ≡ mid.components → new.instances ≡ mid.instances → new.names ≡ mid.names → IsDeclared t closures new (with_component d e)
+    → new.so_far ≡ told_more mid.so_far r → new.types ≡ mid.types → new.components ≡ mid.components → new.instances ≡ mid.instances → new.names ≡ mid.names → IsDeclared t closures new (with_component d e)
 component_declared t closures old mid new d r e h k a1 a2 a3 a4 a5 =
     one_told t closures (IsClosure closures) mid new (record d { components = d.components ++ e.means ∷ [] }) r e (components_more t closures old mid d r.means e.means h k.means a1 a2 a3 a4 a5) k
 

@@ -12,12 +12,11 @@ use Rattle.type_tables.specs.Table.{Table, IsType, IsInstanceType, Grows}
 use Rattle.type_tables.specs.Begun.{IsBegun}
 use Rattle.type_tables.proofs.TypesGrow.{type_stays, instance_type_stays, externs_layer_stays, listed_stays}
 use Rattle.type_tables.proofs.Zips.{all_stay}
-use Rattle.type_meanings.specs.declared.levels.Level.{Level}
 use Rattle.type_meanings.specs.declared.levels.Enclosing.{Enclosing}
 use Rattle.type_meanings.specs.declared.so_far.SoFar.{SoFar}
 use Rattle.type_meanings.specs.declared.declaring.Declared.{Declared}
 use Rattle.type_meanings.specs.Meant.{IsFoundAs}
-use Rattle.type_meanings.specs.Levels.{AreTypes, IsSeenAs, IsLevel, AreLevels, IsEnclosing, level_types, level_components, enclosed_types, enclosed_components}
+use Rattle.type_meanings.specs.Levels.{AreTypes, IsSeenAs, IsEnclosing, enclosed_types, enclosed_components}
 use Rattle.type_meanings.specs.Declaring.{IsSoFar, IsDeclared}
 use Rattle.type_meanings.proofs.Lists.{found_stays}
 
@@ -30,9 +29,6 @@ module _ (t u : Table) (g : Grows t u) where
 
   pub enclosing_stay : (closures : List Closure) (around : List Enclosing) (levels : List spaces.Level) → AllZip (IsEnclosing t closures) around levels → AllZip (IsEnclosing u closures) around levels
   enclosing_stay closures = all_stay (IsEnclosing t closures) (IsEnclosing u closures) (λ e l. seen_stays closures (enclosed_types e) (enclosed_components e) l)
-
-  pub levels_stay : (closures : List Closure) (levels : List Level) (around : List spaces.Level) → AreLevels t closures levels around → AreLevels u closures levels around
-  levels_stay closures = all_stay (IsLevel t closures) (IsLevel u closures) (λ e l. seen_stays closures (level_types e) (level_components e) l)
 
   pub begun_stays : (maker : InstanceTypeMaker) (externs : Externs) → IsBegun t maker externs → IsBegun u maker externs
   begun_stays maker externs h = (externs_layer_stays t u g maker.layer externs h.0, listed_stays t u g maker.externs externs h.1)

@@ -60,10 +60,7 @@ param_closed t closed p l e h = rw h.1 (record { label = p.label; val_type = h.0
 pub param_stays : (t u : Table) → Grows t u → (l : LabelledType) (p : Param) → IsParam t.values l p → IsParam u.values l p
 param_stays t u g l p h = (h.0, g.values l.val_type p.val_type h.1)
 
--- a part that may not be there, without a type, and one with its type
-pub held_open : (closed : List (Option Closed)) (type : ValTypeRef) → close_val closed type ≡ None → close_held closed (Some type) ≡ None
-held_open closed type h = rw h refl
-
+-- a part that may not be there, with its type
 pub held_closed : (t : Table) (closed : List (Option Closed)) (type : ValTypeRef) (number : ℕ) → IsFoundAs (IsValue t) (Some number) (close_val closed type) → IsFoundAs (MayBeValue t.values) (Some (Some number)) (close_held closed (Some type))
 held_closed t closed type number h = rw h.1 (Some h.0, refl, h.2)
 

@@ -70,14 +70,11 @@ images R image is [] (a ∷ all) h = absurd h
 images R image is (b ∷ found) [] h = absurd h
 images R image is (b ∷ found) (a ∷ all) h = two_alike _ _ _ _ (is b a h.0) (images R image is found all h.1)
 
--- A type that is made of what is found, and of one part.
+-- A type that is made of what is found.
 pub made_of_all : {A B : Type 0} (u : Table) (R : B → A → Type 0) (image : B → A) → ((b : B) (a : A) → R b a → image b ≡ a) → (make : List A → ValType) (number : ℕ) (found : List B) (o : Option (List A))
     → (all : List A) × (o ≡ Some all) × AllZip R found all → IsValue u number (make (map image found)) → IsFoundAs (IsValue u) (Some number) (option_map make o)
 made_of_all {A} {B} u R image is make number found o h at =
     rw h.1 (make h.0, refl, subst (λ (all : List A). IsValue u number (make all)) (images R image is found h.0 h.2) at)
-
-pub made_of_one : (t u : Table) (make : ValType → ValType) (number part : ℕ) (o : Option ValType) → IsFoundAs (IsValue t) (Some part) o → IsValue u number (make (tree_at t.values part)) → IsFoundAs (IsValue u) (Some number) (option_map make o)
-made_of_one t u make number part o h at = rw h.1 (make h.0, refl, subst (λ (v : ValType). IsValue u number (make v)) (tree_is t.values part h.0 h.2) at)
 
 -- One that is made of two parts that may not be there.
 pub made_of_two : (s t u : Table) → Grows s t → (make : Option ValType → Option ValType → ValType) (number : ℕ) (ok err : Option ℕ) (o p : Option (Option ValType))

@@ -1,6 +1,6 @@
 -- What declarations tell, one behind the others, and the exports that are made.
-use Rattle.std.proofs.Common.{◌≡◌, ◌∙◌, ℕ, cond, List, refl, ap, Option, Some, None}
-use Rattle.std.specs.Prelude.{◌&&◌, ◌||◌, is_some}
+use Rattle.std.proofs.Common.{◌≡◌, ◌∙◌, ℕ, List, refl, ap, Option, Some, None}
+use Rattle.std.specs.Prelude.{◌&&◌, ◌||◌}
 use Rattle.std.specs.Option.{option_map}
 use denote.Ref.{Bor}
 use Rattle.comp_graph.specs.Closed.{Instance, Extern, Externs, WithExtern, first_of}
@@ -21,12 +21,12 @@ first_named None b = refl
 first_named (Some name) b = refl
 
 means_kept : {A B : Type 0} (t : Table) (R : B → A → Type 0) (m : Option InstanceTypeMaker) (before : Option Externs) (b : Option B) (a : Option A) → IsFoundAs (IsBegun t) m before → IsFoundAs R b a
-    → IsFoundAs (IsBegun t) (cond (is_some b) m None) (kept_if a before)
+    → IsFoundAs (IsBegun t) (kept_if b m) (kept_if a before)
 means_kept t R m before None a h k = rw k refl
 means_kept t R m before (Some x) a h k = rw k.1 h
 
 -- One declaration more tells what its meaning tells.
-pub told_stands : {A B : Type 0} (t : Table) (R : B → A → Type 0) (s new : SoFar) (m : Meaning Externs) (r : Meant B) (now : Meaning A) → IsSoFar t s m → IsMeaning R r now → new ≡ told_more s r.is_there r.missing r.deep (is_some r.means) → IsSoFar t new (and_told m now)
+pub told_stands : {A B : Type 0} (t : Table) (R : B → A → Type 0) (s new : SoFar) (m : Meaning Externs) (r : Meant B) (now : Meaning A) → IsSoFar t s m → IsMeaning R r now → new ≡ told_more s r → IsSoFar t new (and_told m now)
 told_stands {A} {B} t R s new m r now h k e = rw e (record {
   is_there = ap (λ b. b && r.is_there) h.is_there ∙ ap (λ b. m.is_there && b) k.is_there;
   missing = first_named s.missing r.missing ∙ ap (λ (o : Option (List ℕ)). first_of o (option_map text_of r.missing)) h.missing ∙ ap (λ (o : Option (List ℕ)). first_of m.missing o) k.missing;

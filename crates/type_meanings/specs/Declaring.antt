@@ -1,9 +1,8 @@
 -- An instance type whose declarations are read (Component Model, Explainer.md, "Type Definitions"), beside its definition: the index
 -- spaces so far, the names of its exports so far, and what its declarations tell.
-use Rattle.std.specs.Prelude.{◌≡◌, ℕ, Bool, ◌&&◌, ◌||◌, cond, List, Option, None}
+use Rattle.std.specs.Prelude.{◌≡◌, ℕ, ◌&&◌, ◌||◌, List}
 use Rattle.std.specs.Option.{option_map}
 use Rattle.std.specs.List.{AllZip}
-use denote.Ref.{Bor}
 use Rattle.ca_base.specs.Names.{has, is_among}
 use Rattle.comp_tree.specs.declared.types.InstanceDecl.{InstanceDecl}
 use Rattle.comp_tree.specs.declared.types.DefType.TheFolds.{fold-InstanceDecl}
@@ -11,9 +10,10 @@ use Rattle.comp_graph.specs.Closed.{Closed, Instance, Externs, first_of}
 use Rattle.comp_linking.specs.Definitions.{Closure}
 use Rattle.comp_linking.specs.Spaces as spaces
 use Rattle.comp_linking.specs.Types as types_read
-use Rattle.comp_linking.specs.Types.{Meaning, InLevels, type_step, decl_step}
+use Rattle.comp_linking.specs.Types.{Meaning, kept_if, InLevels, type_step, decl_step}
 use Rattle.type_tables.specs.Table.{Table, IsInstanceType}
 use Rattle.type_tables.specs.Begun.{IsBegun}
+use Rattle.type_meanings.specs.declared.meant.Meant.{Meant}
 use Rattle.type_meanings.specs.declared.so_far.SoFar.{SoFar}
 use Rattle.type_meanings.specs.declared.declaring.Declared.{Declared}
 use Rattle.type_meanings.specs.Meant.{IsFoundAs, text_of}
@@ -26,13 +26,13 @@ pub record IsSoFar (t : Table) (s : SoFar) (meaning : Meaning Externs) : Type 0 
   pub deep : s.deep ≡ meaning.deep
   pub means : IsFoundAs (IsBegun t) s.means meaning.means
 
--- what one more declaration tells behind it
-abbrev pub told_more : SoFar → Bool → Option (Bor (List ℕ)) → Bool → Bool → SoFar
-told_more s is_there missing deep has_meaning = record {
-  is_there = s.is_there && is_there;
-  missing = first_of s.missing missing;
-  deep = s.deep || deep;
-  means = cond has_meaning s.means None;
+-- what one more declaration tells behind it, which has this meaning
+abbrev pub told_more : {B : Type 0} → SoFar → Meant B → SoFar
+told_more s meant = record {
+  is_there = s.is_there && meant.is_there;
+  missing = first_of s.missing meant.missing;
+  deep = s.deep || meant.deep;
+  means = kept_if meant.means s.means;
 }
 
 -- what an instance type means whose declarations have told this

@@ -115,12 +115,7 @@ impl<'a> Declared<'a> {
         ensures { OnOk result ((t : Table) (closures : List Closure) (d : types_read.Declared) (e : Meaning Extern) → IsDeclared t closures self.old d → IsMeaning (IsExtern t) meant.now e → IsDeclared t closures self.new (declared_as d sort e)) }
     {
         self.add(sort, meant.means)?;
-        self.so_far.tell(
-            meant.is_there,
-            meant.missing,
-            meant.deep,
-            meant.means.is_some(),
-        );
+        self.so_far.tell(meant);
         Ok(())
     }
 
@@ -129,12 +124,7 @@ impl<'a> Declared<'a> {
         ensures { OnOk result ((t : Table) (closures : List Closure) (d : types_read.Declared) (e : Meaning Closed) → IsDeclared t closures self.old d → IsMeaning (IsType t) meant.now e → IsDeclared t closures self.new (with_type d e)) }
     {
         self.types.push(meant.means)?;
-        self.so_far.tell(
-            meant.is_there,
-            meant.missing,
-            meant.deep,
-            meant.means.is_some(),
-        );
+        self.so_far.tell(meant);
         Ok(())
     }
 
@@ -143,12 +133,7 @@ impl<'a> Declared<'a> {
         ensures { OnOk result ((t : Table) (closures : List Closure) (d : types_read.Declared) (e : Meaning Closure) → IsDeclared t closures self.old d → IsMeaning (IsClosure closures) meant.now e → IsDeclared t closures self.new (with_component d e)) }
     {
         self.components.push(meant.means)?;
-        self.so_far.tell(
-            meant.is_there,
-            meant.missing,
-            meant.deep,
-            meant.means.is_some(),
-        );
+        self.so_far.tell(meant);
         Ok(())
     }
 

@@ -31,9 +31,7 @@ fn index_of(desc: ExternDesc) -> u32
     ensures { result ≡ desc_index desc }
 {
     match desc {
-        ExternDesc::Func(index) => index,
-        ExternDesc::TypeEq(index) => index,
-        ExternDesc::Instance(index) => index,
+        ExternDesc::Func(index) | ExternDesc::TypeEq(index) | ExternDesc::Instance(index) => index,
     }
 }
 

@@ -44,22 +44,16 @@ impl<'a> SoFar<'a> {
         })
     }
 
-    /// What one more declaration tells.
-    pub(crate) fn tell(
-        &mut self,
-        is_there: bool,
-        missing: Option<&'a Name>,
-        deep: bool,
-        has_meaning: bool,
-    )
-        ensures { self.new ≡ told_more self.old is_there missing.entry deep has_meaning }
+    /// What one more declaration tells, which has this meaning.
+    pub(crate) fn tell<T>(&mut self, meant: &Meant<'a, T>)
+        ensures { self.new ≡ told_more self.old meant.now }
     {
-        self.is_there = self.is_there && is_there;
+        self.is_there = self.is_there && meant.is_there;
         if self.missing.is_none() {
-            self.missing = missing;
+            self.missing = meant.missing;
         }
-        self.deep = self.deep || deep;
-        if !has_meaning {
+        self.deep = self.deep || meant.deep;
+        if meant.means.is_none() {
             self.means = None;
         }
     }

@@ -1,4 +1,4 @@
--- What lifts ask of a function type, parameter by parameter.
+-- What lifts and lowers ask of a function type, parameter by parameter.
 use Rattle.std.proofs.Common.{◌≡◌, ◌∙◌, ◌<◌, ◌≤◌, ◌+◌, ℕ, Bool, true, false, ◌||◌, List, [], ◌∷◌, ◌++◌, length, map, take, drop, get_or, ap, sym, Option, Some}
 use Rattle.std.specs.List.{slice_get, AllZip, flat_map}
 use Rattle.ca_types.specs.declared.core_type.CoreType.{CoreType}

@@ -114,6 +114,3 @@ layers_grow t layers one number added = record { texts = λ k x h. h; values = �
 
 pub funcs_grow : (t : Table) (funcs : List FuncType) (type : FuncType) → funcs ≡ t.funcs ++ type ∷ [] → Grows t (record t { funcs = funcs })
 funcs_grow t funcs type more = record { texts = λ k x h. h; values = λ k x h. h; layers = λ k x h. h; funcs = λ k x h. rw more (stays_at t.funcs (type ∷ []) k x h); instances = λ k x h. h }
-
-pub instances_grow : (t : Table) (instances : List (List (ℕ × ExternRef))) (entries : List (ℕ × ExternRef)) → instances ≡ t.instances ++ entries ∷ [] → Grows t (record t { instances = instances })
-instances_grow t instances entries more = record { texts = λ k x h. h; values = λ k x h. h; layers = λ k x h. h; funcs = λ k x h. h; instances = λ k x h. rw more (stays_at t.instances (entries ∷ []) k x h) }

@@ -1,5 +1,5 @@
 -- Types that are made, layer by layer.
-use Rattle.std.proofs.Common.{◌≡◌, ◌<◌, ◌≤◌, ◌+◌, ◌-◌, ℕ, zero, suc, List, [], ◌∷◌, ◌++◌, length, drop, take, get_or, refl, ap, sym, ◌∙◌, subst, Some, None, Option, arith}
+use Rattle.std.proofs.Common.{◌≡◌, ◌<◌, ◌≤◌, ◌+◌, ◌-◌, ℕ, List, [], ◌∷◌, ◌++◌, length, drop, take, get_or, ap, sym, ◌∙◌, subst, Some, None, Option, arith}
 use Rattle.std.specs.Prelude.{IfSome}
 use Rattle.std.specs.Ordering.{nat_cmp}
 use Rattle.std.specs.BTreeMap.{BTreeMap, get}
@@ -34,19 +34,6 @@ param_more t u v p label others number g k name at first all is h =
     (label, p.val_type, others, at, name_stays u v k label first.label (name ∙ ap (λ (text : List ℕ). Some text) is.0), both.values p.val_type first.val_type is.1, params_stay t v both others all h)
 
 -- The parameters from a place on.
-drop_length : {A : Type 0} (xs : List A) → drop (length xs) xs ≡ []
-drop_length [] = refl
-drop_length (x ∷ xs) = drop_length xs
-
-no_params : (values : List ValType) (t : Table) (number : ℕ) (all : List Param) → slice_get t.layers number ≡ Some layer.NoParams → AllZip (IsParam values) [] all → IsParams t.texts t.values t.layers number all
-no_params values t number [] at h = at
-no_params values t number (p ∷ all) at h = absurd h
-
-pub none_from_end : (values : List ValType) (t : Table) (params : List LabelledType) (at number : ℕ) → at ≡ length params → slice_get t.layers number ≡ Some layer.NoParams
-    → (all : List Param) → AllZip (IsParam values) (drop at params) all → IsParams t.texts t.values t.layers number all
-none_from_end values t params at number e there all h =
-    no_params values t number all there (subst (λ (ps : List LabelledType). AllZip (IsParam values) ps all) (ap (λ (k : ℕ). drop k params) e ∙ drop_length params) h)
-
 one_before : (s t u : Table) (p : LabelledType) (rest : List LabelledType) (others number : ℕ) → Grows s t
     → ((all : List Param) → AllZip (IsParam s.values) rest all → IsParams t.texts t.values t.layers others all)
     → ((first : Param) (all : List Param) → IsParam t.values p first → IsParams t.texts t.values t.layers others all → IsParams u.texts u.values u.layers number (first ∷ all))
@@ -63,11 +50,6 @@ one_from s t u params at d others number some is g before more all h =
     let next : at - 1 + 1 ≡ at = omega arith in
     let dropped : drop (at - 1) params ≡ p ∷ drop at params = drop_more params (at - 1) d (omega arith) ∙ ap (λ (k : ℕ). p ∷ drop k params) next in
     one_before s t u p (drop at params) others number g before more all (subst (λ (ps : List LabelledType). AllZip (IsParam s.values) ps all) dropped h)
-
-pub all_from_start : (values : List ValType) (t : Table) (params : List LabelledType) (at number : ℕ) → (0 < at → ⊥) → ((all : List Param) → AllZip (IsParam values) (drop at params) all → IsParams t.texts t.values t.layers number all)
-    → (all : List Param) → AllZip (IsParam values) params all → IsParams t.texts t.values t.layers number all
-all_from_start values t params zero number h made = made
-all_from_start values t params (suc at) number h made = absurd (h (omega arith))
 
 -- The parameters up to a place.
 pub closed_more : (values : List ValType) (params : List LabelledType) (closed more : List Param) (at : ℕ) (d : LabelledType) (p : Param) → AllZip (IsParam values) (take at params) closed → at < length params

@@ -1,5 +1,6 @@
--- What is kept of a function type, so that no lift goes over its parameters (Component Model, CanonicalABI.md, "Flattening"): the
--- first 17 core types of the parameters, and of the result, so that more than 16 are seen, and whether they hold a string or a list.
+-- What is kept of a function type, so that no lift or lower goes over its parameters (Component Model, CanonicalABI.md,
+-- "Flattening"): the first 17 core types of the parameters, and of the result, so that more than 16 are seen, and whether they hold
+-- a string or a list.
 use Rattle.std.specs.Prelude.{◌≡◌, take}
 use Rattle.ca_types.specs.declared.types.FuncType.{FuncType}
 use Rattle.ca_types.specs.Flat.{flat_params, flat_payload}

@@ -1,4 +1,4 @@
--- What numbers of layers stand for (Component Model, Explainer.md, "Type Definitions"): the closed types of comp_linking, layer
+-- What numbers of layers stand for (Component Model, Explainer.md, "Type Definitions"): the closed types of comp_graph, layer
 -- by layer. A layer stands on others by their numbers, names are told by their numbers among the texts, and types of values by
 -- their numbers among the value types.
 use Rattle.std.specs.Prelude.{◌≡◌, ℕ, List, [], ◌∷◌, Option, Some}

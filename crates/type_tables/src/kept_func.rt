@@ -1,4 +1,4 @@
-//! Function types, each with what lifts ask of it.
+//! Function types, each with what lifts and lowers ask of it.
 
 ghost use Rattle.std.specs.Prelude.{◌≡◌, IfOk};
 ghost use Rattle.type_tables.specs.Labels.{AreValues, IsFuncOf};
@@ -12,7 +12,7 @@ use std::alloc::{AllocError, Global};
 use std::marker::Model;
 use value_tables::ValueTypes;
 
-/// A function type, with what lifts ask of it. Contracts see the function type.
+/// A function type, with what lifts and lowers ask of it. Contracts see the function type.
 #[derive(Drop)]
 pub(crate) struct KeptFunc {
     func_type: Shared<FuncType>,
@@ -73,7 +73,7 @@ impl KeptFunc {
         })
     }
 
-    /// What lifts ask of it.
+    /// What lifts and lowers ask of it.
     pub(crate) fn laid(&self) -> &LaidFunc
         ensures { IsLaid result.now self.now }
     {

@@ -1,4 +1,4 @@
-//! What is kept of a function type, so that no lift goes over its parameters.
+//! What is kept of a function type, so that no lift or lower goes over its parameters.
 
 ghost use Rattle.std.specs.Prelude.{◌≡◌, take, IfOk, Option};
 ghost use Rattle.std.specs.List.{AllZip};
@@ -21,7 +21,7 @@ use value_tables::ValueTypes;
 /// How many core types are kept: one more than are passed as core parameters, so that "too many" can be told.
 const MOST_KEPT: usize = 17;
 
-/// What lifts ask of a function type (Component Model, CanonicalABI.md, "Flattening").
+/// What lifts and lowers ask of a function type (Component Model, CanonicalABI.md, "Flattening").
 #[derive(Drop)]
 pub struct LaidFunc {
     /// The first 17 core types of the parameters: where there are more than 16, that is seen.
@@ -35,8 +35,8 @@ pub struct LaidFunc {
 }
 
 impl LaidFunc {
-    /// What lifts ask of the function type of parameters and a result, each by the number of its value type. It fails for want of
-    /// memory alone.
+    /// What lifts and lowers ask of the function type of parameters and a result, each by the number of its value type. It fails
+    /// for want of memory alone.
     pub(crate) fn of(
         alloc: Global,
         values: &ValueTypes<'_>,

@@ -5,8 +5,8 @@
 //! - `layers`: the layers of types, each once, by number
 //! - `refs`: references into a table of types
 //! - `labels`: labels with the numbers of value types, which function types are made of
-//! - `laid_func`: what lifts ask of a function type
-//! - `kept_func`: function types, each with what lifts ask of it
+//! - `laid_func`: what lifts and lowers ask of a function type
+//! - `kept_func`: function types, each with what lifts and lowers ask of it
 //! - `types`: the table of types
 //! - `maker`: types of instances, made export by export
 //! - `asked`: what a type of instances asks for

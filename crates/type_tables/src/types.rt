@@ -367,7 +367,7 @@ impl<'a> Types<'a> {
         Some(kept.func_type())
     }
 
-    /// What lifts ask of a function type, where its number is there. It is computed once, where the type is added.
+    /// What lifts and lowers ask of a function type, where its number is there. It is computed once, where the type is added.
     pub fn laid_func(&self, func_type: FuncTypeRef) -> Option<&LaidFunc>
         ensures { (f : FuncType) → IsFunc self.now func_type f → MatchOption result ⊥ (λ laid. IsLaid laid.now f) }
     {

@@ -1,6 +1,5 @@
-use Rattle.std.proofs.Common.{◌∙◌, ap, refl}
+use Rattle.std.proofs.Common.{refl}
 use Rattle.type_meanings.specs.declared.declaring.Declared.{Declared}
-use Rattle.type_meanings.specs.Declaring.{told_more}
 use Rattle.type_meanings.proofs.Declares.{type_declared}
 use Rattle.type_meanings.proofs.declaring.Declared.add_type.Goals as goal
 
@@ -11,4 +10,4 @@ returns c = λ t closures d e h k.
     let mid : Declared = record { types = c.push.new.self; components = old.components; instances = old.instances; names = old.names; so_far = old.so_far } in
     let new : Declared = record { types = c.push.new.self; components = old.components; instances = old.instances; names = old.names; so_far = c.tell.new.self } in
     type_declared t closures old mid new d meant e h k c.in_ok-push.ensures.items refl refl refl refl
-    (c.tell.ensures ∙ ap (told_more old.so_far meant.is_there meant.missing meant.deep) c.is_some.ensures) refl refl refl refl
+    c.tell.ensures refl refl refl refl

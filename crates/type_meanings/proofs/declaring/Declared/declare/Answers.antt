@@ -1,8 +1,7 @@
-use Rattle.std.proofs.Common.{◌∙◌, ap, refl}
+use Rattle.std.proofs.Common.{refl}
 use Rattle.comp_linking.specs.Types.{with_declared}
 use Rattle.type_tables.specs.Table.{IsExtern}
 use Rattle.type_meanings.specs.declared.declaring.Declared.{Declared}
-use Rattle.type_meanings.specs.Declaring.{told_more}
 use Rattle.type_meanings.proofs.Declares.{one_told}
 use Rattle.type_meanings.proofs.declaring.Declared.declare.Goals as goal
 
@@ -12,4 +11,4 @@ returns c = λ t closures d e h k.
     let meant = c.args.meant.now in
     let new : Declared = record { types = mid.types; components = mid.components; instances = mid.instances; names = mid.names; so_far = c.tell.new.self } in
     one_told t closures (IsExtern t) mid new (with_declared d c.args.sort e.means) meant e (c.in_ok-add.ensures t closures d e.means h k.means) k
-    (c.tell.ensures ∙ ap (told_more mid.so_far meant.is_there meant.missing meant.deep) c.is_some.ensures) refl refl refl refl
+    c.tell.ensures refl refl refl refl
