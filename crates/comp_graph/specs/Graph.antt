@@ -2,16 +2,12 @@
 -- `canon lower`). Component instances begin and core instances are made of core modules, in file order, functions are lowered to
 -- core functions, and the exports can be called: each lifts a core function. What lifts, lowers and core instances stand on is
 -- there, of the types that they ask for, and was made before them (Core 2.0, section 4.5.4).
-use Rattle.std.specs.Prelude.{◌≡◌, ℕ, Bool, true, false, ◌&&◌, ◌==◌, nat_le, List, [], ◌∷◌, ◌++◌, length, map, Option, None, Some, IfSome, IsSome}
-use Rattle.std.specs.List.{slice_get, list_all, AllByRecursion, AllZip}
-use Rattle.std.specs.Option.{option_map, option_and_then, option_map_or}
+use Rattle.std.specs.Prelude.{◌≡◌, ℕ, true, List, [], ◌∷◌, ◌++◌, map, Option, None, Some, IfSome, IsSome}
+use Rattle.std.specs.List.{slice_get, AllByRecursion, AllZip}
+use Rattle.std.specs.Option.{option_map, option_and_then}
 use Rattle.ca_base.specs.Names.{first_named}
-use Rattle.ca_types.specs.declared.types.ValType.{ValType, out-ValType}
-use Rattle.ca_types.specs.declared.types.ValType.TheOpen.{ValType-F}
 use Rattle.ca_types.specs.declared.types.FuncType.{FuncType}
 use Rattle.ca_types.specs.declared.exports.Export.{Export}
-use Rattle.wasm_module.specs.declared.types.ValType as core_val
-use Rattle.wasm_module.specs.declared.types.ValType.TheVariants.{I32, I64}
 use Rattle.wasm_module.specs.declared.types.FuncType as core
 use Rattle.wasm_module.specs.declared.module.Import.{Import}
 use Rattle.wasm_module.specs.declared.module.ModuleTree.{ModuleTree}
@@ -27,7 +23,7 @@ use Rattle.comp_graph.specs.declared.graph.Lower.{Lower}
 use Rattle.comp_graph.specs.declared.graph.CanonFunc.{CanonFunc}
 use Rattle.comp_graph.specs.declared.graph.CanonFunc.TheVariants as canon_func
 use Rattle.comp_graph.specs.CoreItems.{CoreItem, Func, Table, Memory, Global, extern_of, table_space, memory_space, CoreFits}
-use Rattle.comp_graph.specs.Needs.{flat_param_limit, lifted_type, lowered_type, realloc_type, post_return_type, needs_memory, lift_needs_realloc, lower_needs_realloc}
+use Rattle.comp_graph.specs.Needs.{lifted_type, lowered_type, realloc_type, post_return_type, needs_memory, lift_needs_realloc, lower_needs_realloc}
 
 -- a core instance: its module, what its module's imports are, in order, and the component instance that makes it
 pub record CoreMake : Type 0 where
@@ -87,43 +83,6 @@ canon_type (canon_func.Lower l) = lowered_type l.func_type
 abbrev pub core_type : List CoreMake → List CanonFunc → FuncRef → Option core.FuncType
 core_type cores canons (func_ref.Instance f) = option_and_then (λ c. type_of_func c.of_module f.index) (slice_get cores f.instance)
 core_type cores canons (func_ref.Canon number) = option_map canon_type (slice_get canons number)
-
-abbrev pub is_i32 : core_val.ValType → Bool
-is_i32 I32 = true
-is_i32 I64 = false
-
-abbrev pub is_u32_case : {A B C : Type 0} → ValType-F A B C → Bool
-is_u32_case ValType-F.U32 = true
-is_u32_case _ = false
-
-abbrev pub is_u32 : ValType → Bool
-is_u32 type = is_u32_case (out-ValType type)
-
--- how many core results a result has
-abbrev pub result_count : Option ValType → ℕ
-result_count None = 0
-result_count (Some type) = 1
-
--- The core type is that of the lift of a function of this type without options: an i32 for each parameter and for the
--- result, which are u32. Without a memory no parameters are passed in it.
-abbrev pub is_flat : FuncType → core.FuncType → Bool
-is_flat type of_core =
-    nat_le (length type.params) flat_param_limit
-    && list_all (λ p. is_u32 p.val_type) type.params && option_map_or is_u32 type.result true
-    && length of_core.params == length type.params && list_all is_i32 of_core.params
-    && length of_core.results == result_count type.result && list_all is_i32 of_core.results
-
--- the core function of a lift is one of an instance and has the flat type, and the lift uses nothing else
-pub record LiftsCore (cores : List CoreMake) (func_type : FuncType) (lift : Lift) : Type 0 where
-  pub type : core.FuncType
-  pub there : core_type cores [] lift.core ≡ Some type
-  pub flat : is_flat func_type type ≡ true
-  pub plain : lift.options ≡ no_options
-
--- each export of a graph is lifted so, and no function is lowered
-pub record IsCallable (g : Graph) : Type 0 where
-  pub lifts : AllZip (λ e lift. LiftsCore g.cores e.func_type lift) g.exports g.lifts
-  pub plain : g.canons ≡ []
 
 -- A core item is there, among these core instances, with the type that its module gives it.
 pub record IsIn (cores : List CoreMake) (f : CoreRef) (P : ModuleTree → Type 0) : Type 0 where
