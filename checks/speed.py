@@ -5,8 +5,10 @@
 
 Each file is made at its full number of items, and at twice that number; where that is past a limit of the formats, at
 half of it. The full number is wanted within 3 seconds, and the greater of the two in less than three times the time of the
-smaller. FACTOR, a number such as 0.01, makes all files smaller or larger. A line a case is printed. The status is 1
-where a case fails.
+smaller. Two files are nearly as long as a component file may be, and made at that length alone: aliases are wanted within
+10 seconds, and types within 20, each of which is one byte (the program takes 8 GB of memory for them). Components that are
+instantiated level by level are wanted within one second. FACTOR, a number such as 0.01, makes all files smaller or larger.
+A line a case is printed. The status is 1 where a case fails.
 """
 
 import subprocess
@@ -23,6 +25,12 @@ import formats
 
 # Seconds for the full number of items.
 SECONDS = 3.0
+# Seconds for files that are nearly as long as a component file may be, and for components that are instantiated level by level.
+ALIAS_SECONDS = 10.0
+TYPE_SECONDS = 20.0
+LEVEL_SECONDS = 1.0
+# How many components may be open at a place.
+LEVELS = 16
 # How much longer twice the number of items may take.
 TIMES = 3.0
 # The time in seconds that the start of a process and the clock may take: shorter times are not compared.
@@ -41,6 +49,10 @@ class Case(NamedTuple):
     # What is done with the component, and the status that is wanted.
     command: str = "run"
     status: int = 0
+    # The seconds within which the full number is wanted.
+    within: float = SECONDS
+    # Whether no other number is tried.
+    alone: bool = False
 
 
 def module_exports(count):
@@ -283,6 +295,33 @@ def imported_wide_inline(count):
     return formats.component(*parts), b"", 1
 
 
+def level_by_level(count):
+    """Components in one another, as many as may be, each of which is instantiated so many times in the one around it: refused."""
+    levels = formats.component()
+    for _ in range(LEVELS - 1):
+        levels = formats.component(formats.section(4, levels), *[formats.instantiated()] * count)
+    return levels, b"", 0
+
+
+def instantiating_itself(count):
+    """A component of so many types that instantiates itself, by an alias of it: refused."""
+    alias = formats.section(6, formats.vec([b"\x04\x02" + formats.u32(1) + formats.u32(0)]))
+    inner = formats.nested(formats.types([b"\x79"] * count), alias, formats.instantiated())
+    return formats.component(inner, formats.instantiated()), b"", 0
+
+
+def full_of_aliases(count):
+    """So many aliases, by turns of a type and of the export of an instance."""
+    aliased = [b"\x03\x02\x00\x00", b"\x03\x00\x00" + formats.name("")]
+    aliases = formats.section(6, formats.vec(aliased[index % 2] for index in range(count)))
+    return formats.component(formats.types([b"\x79"]), formats.inline_types([""]), aliases), b"", 1
+
+
+def full_of_types(count):
+    """So many types of values, each of one byte."""
+    return formats.component(formats.types([b"\x79"] * count)), b"", 1
+
+
 CASES = [
     Case("exports of a core module", 400_000, module_exports),
     Case("labels of a function type", 400_000, labels),
@@ -313,6 +352,10 @@ CASES = [
     Case("imports of a core module that are lowered functions", 370_000, lowered_imports, command="check"),
     Case("imports of 255 core instances that are lowered functions", 6_000, lowered_imports_again, command="check"),
     Case("calls of a script, for a component with 1,000 exports", 60_000, calls, doubles=False),
+    Case("types in a component that instantiates itself", 4_000, instantiating_itself, command="check", status=10),
+    Case("instances of each of 16 levels of components", 2, level_by_level, command="check", status=10, within=LEVEL_SECONDS),
+    Case("aliases in a file of 16 MiB", 4_194_000, full_of_aliases, command="check", within=ALIAS_SECONDS, alone=True),
+    Case("types in a file of 16 MiB", 16_777_000, full_of_types, command="check", within=TYPE_SECONDS, alone=True),
 ]
 
 
@@ -343,20 +386,28 @@ def seconds(program, case, size):
     return best
 
 
+def sizes_of(case, number):
+    """The numbers of items that are tried, of which one is this."""
+    if case.alone:
+        return [number]
+    return [number, 2 * number] if case.doubles else [number // 2, number]
+
+
 def check(program, case, factor):
     """Prints the line of a case, and answers whether it passed."""
     number = max(2, int(case.number * factor))
-    sizes = (number, 2 * number) if case.doubles else (number // 2, number)
+    sizes = sizes_of(case, number)
     try:
-        small, large = (seconds(program, case, size) for size in sizes)
+        times = [seconds(program, case, size) for size in sizes]
     except (ValueError, subprocess.TimeoutExpired) as why:
         print(f"failed: {number:,} {case.title}: {why}")
         return False
-    full = small if case.doubles else large
-    in_time = full <= SECONDS
+    small, large = times[0], times[-1]
+    in_time = times[sizes.index(number)] <= case.within
     in_proportion = large <= START or large < TIMES * max(small, START)
     word = "ok" if in_time and in_proportion else "failed"
-    print(f"{word}: {number:,} {case.title}: {sizes[0]:,} in {small:.2f} s, {sizes[1]:,} in {large:.2f} s")
+    told = ", ".join(f"{size:,} in {took:.2f} s" for size, took in zip(sizes, times))
+    print(f"{word}: {number:,} {case.title}: {told}")
     return in_time and in_proportion
 
 
