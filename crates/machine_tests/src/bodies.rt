@@ -14,7 +14,7 @@ use crate::words::words_of;
 use ca_base::Fuel;
 use cases::{Answers, bytes_of, check_lines};
 use core_machine::Store;
-use module_texts::valid_of;
+use module_reading::valid_of;
 use std::alloc::Global;
 use std::test::Fail;
 use wasm_code::External;

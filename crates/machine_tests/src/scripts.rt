@@ -12,7 +12,7 @@ use crate::words::{hex, words_of, write_words};
 use ca_base::Fuel;
 use cases::{Steps, bytes_of};
 use core_machine::{AddFault, Store, laws};
-use module_texts::valid_of;
+use module_reading::valid_of;
 use std::alloc::Global;
 use std::fmt::Write;
 use std::test::Fail;

@@ -1,7 +1,7 @@
 //! What becomes of the bytes of a module that is read and then validated.
 
-use crate::reading::{checked, read_at};
 use ca_base::{MemoryOr, ReadError, Refusal};
+use module_reading::{checked, read_at};
 use std::alloc::Global;
 use std::test::Fail;
 use wasm_module::{Module, ModuleWhy};
@@ -33,7 +33,7 @@ fn validity(alloc: Global, read: Module) -> Result<String, Fail> {
 
 /// What becomes of bytes, of which the first one stands at a place: `ok`, or the place and the reason of the refusal or the
 /// fault, and for a fault in a body also its function.
-pub fn fate(alloc: Global, bytes: &[u8], base: u16) -> Result<String, Fail> {
+pub(crate) fn fate(alloc: Global, bytes: &[u8], base: u16) -> Result<String, Fail> {
     match read_at(alloc, bytes, base) {
         Ok(read) => validity(alloc, read),
         Err(ReadError::Memory) => Err(Fail::new("memory")),

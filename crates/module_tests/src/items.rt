@@ -1,5 +1,6 @@
 //! Modules as text.
 
+use crate::ops::{write_found, write_op};
 use ca_base::Seq;
 use std::alloc::{AllocError, Global};
 use std::fmt::{Debug, Write};
@@ -41,7 +42,8 @@ fn write_func(
 /// Writes the operations of a function at their places.
 fn write_body(text: &mut String, func: &Func, places: &FuncPlaces) -> Result<(), AllocError> {
     for (op, place) in func.body.ops().iter().zip(places.ops.as_slice()) {
-        write!(text, "\n{place} {op:?}")?;
+        write!(text, "\n{place} ")?;
+        write_op(text, op)?;
     }
     Ok(())
 }
@@ -89,7 +91,7 @@ fn write_exports(
 }
 
 /// The items of a module, a line each, behind a line break.
-pub fn items_text(
+pub(crate) fn items_text(
     alloc: Global,
     tree: &ModuleTree,
     places: &ModulePlaces,
@@ -108,7 +110,7 @@ pub fn items_text(
 }
 
 /// How many types and exports a module has, and how many locals each of its functions declares, behind a line break.
-pub fn sizes_text(alloc: Global, tree: &ModuleTree) -> Result<String, AllocError> {
+pub(crate) fn sizes_text(alloc: Global, tree: &ModuleTree) -> Result<String, AllocError> {
     let types = tree.types.len();
     let exports = tree.exports.len();
     let mut text = format!(in alloc; "\n{types} types, {exports} exports")?;
@@ -130,11 +132,13 @@ fn write_counts(alloc: Global, text: &mut String, funcs: &[Func]) -> Result<(), 
 }
 
 /// The operation at a place of the first function's body, if there is one, and how many the body has.
-pub fn op_text(alloc: Global, funcs: &[Func], at: usize) -> Result<String, AllocError> {
+pub(crate) fn op_text(alloc: Global, funcs: &[Func], at: usize) -> Result<String, AllocError> {
     let Some(func) = funcs.first() else {
         return String::from_str(alloc, "no function");
     };
-    let op = func.body.op_at(at);
+    let mut text = String::new(alloc);
+    write_found(&mut text, func.body.op_at(at))?;
     let count = func.body.len();
-    format!(in alloc; "{op:?} of {count}")
+    write!(text, " of {count}")?;
+    Ok(text)
 }

@@ -2,7 +2,7 @@
 
 use ca_base::{Bytes, Memory};
 use comp_make::{Build, module_bytes};
-use module_texts::{read_at, valid_of};
+use module_reading::{read_at, valid_of};
 use std::alloc::Global;
 use std::test::Fail;
 use wasm_module::Module;

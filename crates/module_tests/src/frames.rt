@@ -1,9 +1,4 @@
-//! Bodies of functions inside fixed modules.
-
-use cases::{Answers, bytes_of};
-use module_texts::fate;
-use std::alloc::Global;
-use std::test::Fail;
+//! Fixed modules in which bodies of functions stand.
 
 /// A module of 110 bytes, whose code section is missing. Its types are from nothing to nothing, from i32 to i32, from i32
 /// and i64 to i64 and i32, from nothing to i32, from two i32 to i32, from i64 to i32, and from i32 to i32 and i64. Function 0
@@ -35,25 +30,11 @@ const BARE: &str = "0061736d01000000
     071b011778787878787878787878787878787878787878787878780000";
 
 /// The frame of a name.
-fn frame_of(name: &str) -> Option<&'static str> {
+pub(crate) fn frame_of(name: &str) -> Option<&'static str> {
     match name {
         "full" => Some(FULL),
         "giving" => Some(GIVING),
         "bare" => Some(BARE),
         _ => None,
-    }
-}
-
-/// Bodies in their frames.
-pub(crate) struct Bodies;
-
-impl Answers for Bodies {
-    fn answer(alloc: Global, given: &str) -> Result<String, Fail> {
-        let (start, hex) = given.rsplit_once(" | ").ok_or("no bytes")?;
-        let (_title, name) = start.rsplit_once(" | ").ok_or("no frame")?;
-        let frame = frame_of(name).ok_or("another frame")?;
-        let text = format!(in alloc; "{frame}{hex}")?;
-        let bytes = bytes_of(alloc, text.as_str())?;
-        fate(alloc, &bytes, 0)
     }
 }

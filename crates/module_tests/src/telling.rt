@@ -1,7 +1,7 @@
 //! What is told of the module of bytes.
 
 use crate::items::{items_text, op_text, sizes_text};
-use crate::reading::{checked, read_at};
+use module_reading::{checked, read_at};
 use std::alloc::{AllocError, Global};
 use std::test::Fail;
 use wasm_module::Module;
@@ -40,7 +40,7 @@ fn valid_text(alloc: Global, read: Module) -> Result<String, Fail> {
 
 /// What is told of the module of bytes, of which the first one stands at a place: its `items`, or its `sizes`, which is how
 /// much it has; its items in its `parts`; or how much it has where it is `valid`.
-pub fn told(alloc: Global, kind: &str, bytes: &[u8], base: u16) -> Result<String, Fail> {
+pub(crate) fn told(alloc: Global, kind: &str, bytes: &[u8], base: u16) -> Result<String, Fail> {
     let read = read_at(alloc, bytes, base)?;
     match kind {
         "parts" => Ok(parts_text(alloc, read)?),
@@ -55,7 +55,7 @@ fn op_of(alloc: Global, read: Module, at: usize) -> Result<String, AllocError> {
 }
 
 /// The same of the module of bytes.
-pub fn operation(alloc: Global, bytes: &[u8], at: usize) -> Result<String, Fail> {
+pub(crate) fn operation(alloc: Global, bytes: &[u8], at: usize) -> Result<String, Fail> {
     let read = read_at(alloc, bytes, 0)?;
     Ok(op_of(alloc, read, at)?)
 }
