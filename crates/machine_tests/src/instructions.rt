@@ -1,4 +1,4 @@
-//! What numeric instructions give, as text.
+//! What numeric instructions give of operands, as text.
 
 use crate::hex::{hex, hex8, split};
 use cases::Steps;
@@ -25,7 +25,7 @@ fn write_result(text: &mut String, outcome: Result<u64, NumberTrap>) -> Result<(
 }
 
 /// Writes a result, or a trap, or that an instruction takes other operands.
-pub(crate) fn write_outcome(
+fn write_outcome(
     text: &mut String,
     outcome: Option<Result<u64, NumberTrap>>,
 ) -> Result<(), AllocError> {
@@ -53,14 +53,6 @@ fn given_two(op: NumericOp, a: u64, b: u64) -> Option<Result<u64, NumberTrap>> {
     }
 }
 
-/// What the instruction of an opcode gives of two operands, if there is one and it takes these.
-pub(crate) fn given_by(opcode: u8, a: u64, b: u64) -> Option<Result<u64, NumberTrap>> {
-    match numeric(opcode) {
-        Some(op) => given_two(op, a, b),
-        None => None,
-    }
-}
-
 /// What an instruction gives of the operands of a text, if it takes these.
 fn given(op: NumericOp, operands: &str) -> Option<Result<u64, NumberTrap>> {
     let (a, b) = split(operands);
@@ -71,29 +63,50 @@ fn given(op: NumericOp, operands: &str) -> Option<Result<u64, NumberTrap>> {
     }
 }
 
-/// Writes what an instruction gives of the operands of a text.
-fn write_given(text: &mut String, op: Option<NumericOp>, operands: &str) -> Result<(), AllocError> {
-    match op {
+/// Writes what the instruction of an opcode gives of the operands of a text, if there is one.
+fn write_given(text: &mut String, opcode: u8, operands: &str) -> Result<(), AllocError> {
+    match numeric(opcode) {
         Some(op) => write_outcome(text, given(op, operands)),
         None => text.push_str("no such opcode"),
     }
 }
 
-/// The instruction of an opcode, if there is one. Operands are given to it.
-#[derive(Drop)]
-pub(crate) struct Instruction {
-    op: Option<NumericOp>,
+/// Writes what so many instructions give of the operands of a text, by the opcode of the first, with a space between two.
+fn write_all_given(
+    text: &mut String,
+    first: u8,
+    count: usize,
+    operands: &str,
+) -> Result<(), AllocError> {
+    let mut opcode = first;
+    for number in 0..count {
+        if number > 0 {
+            text.push(' ')?;
+        }
+        write_given(text, opcode, operands)?;
+        opcode = opcode.saturating_add(1);
+    }
+    Ok(())
 }
 
-impl Steps for Instruction {
-    fn begin(_alloc: Global, title: &str) -> Result<Instruction, Fail> {
-        let (opcode, _name) = split(title);
-        let op = numeric(hex8(opcode));
-        Ok(Instruction { op })
+/// So many opcodes, from the first one on. Operands are given to the instruction of each.
+#[derive(Drop)]
+pub(crate) struct Opcodes {
+    first: u8,
+    count: usize,
+}
+
+impl Steps for Opcodes {
+    fn begin(_alloc: Global, title: &str) -> Result<Opcodes, Fail> {
+        let (opcode, names) = split(title);
+        Ok(Opcodes {
+            first: hex8(opcode),
+            count: names.split(' ').count(),
+        })
     }
 
     fn step(&mut self, _alloc: Global, line: &str, text: &mut String) -> Result<(), Fail> {
-        write_given(text, self.op, line)?;
+        write_all_given(text, self.first, self.count, line)?;
         Ok(())
     }
 }

@@ -1,22 +1,12 @@
-//! Numeric instructions over operands.
+//! What numeric instructions make of the operands on a stack, as text.
 
 use crate::hex::{hex, hex8, hex32};
-use cases::{Acts, Answers, acted, check_lines};
+use cases::{Acts, write_acts};
 use std::alloc::{AllocError, Global};
 use std::fmt::Write;
 use std::test::Fail;
 use wasm_module::{BinaryOp, NumericOp, Width, numeric};
-use wasm_numbers::laws::results_have_their_type;
 use wasm_numbers::{NumberTrap, apply, operand_count};
-
-/// A line an instruction and the operands on a stack, in hexadecimal, and what it answers and leaves of the stack; or how many
-/// operands the instructions of opcodes take, `i32.wrap_i64` and `i32.add`.
-const STACKS: &str = "
-i64.sub:9,7,3 = Ok(()) [9, 4]
-i32.div_u:9,7,0 = Err(DivideByZero) [9]
-i32.wrap_i64:9,100000007 = Ok(()) [9, 7]
-count:a7 count:6a = 1 2
-";
 
 /// Writes an answer, and what is left of the operands.
 fn write_left(
@@ -85,7 +75,7 @@ fn write_made(
     }
 }
 
-/// Instructions over stacks.
+/// Instructions over stacks, which keep nothing.
 #[derive(Drop)]
 struct OverStacks;
 
@@ -102,18 +92,10 @@ impl Acts for OverStacks {
     }
 }
 
-impl Answers for OverStacks {
-    fn answer(alloc: Global, given: &str) -> Result<String, Fail> {
-        acted(alloc, OverStacks, given)
-    }
-}
-
-#[test]
-fn results_take_the_place_of_operands(rt: HostRuntime) -> Result<(), Fail> {
-    check_lines::<OverStacks>(rt.alloc(), STACKS, " =", 4)
-}
-
-#[test]
-fn laws_hold() {
-    results_have_their_type();
+/// What the words of a line make of operands, or answer.
+pub(crate) fn operands_answer(alloc: Global, given: &str) -> Result<String, Fail> {
+    let mut text = String::new(alloc);
+    let mut stacks = OverStacks;
+    write_acts(alloc, &mut stacks, given, &mut text)?;
+    Ok(text)
 }

@@ -1,5 +1,5 @@
-use Rattle.number_tests.proofs.Agreeing.{numeric_agree, loads_agree, stores_agree}
-use Rattle.number_tests.proofs.agreement.types_are_those_of_validation.Goals as goal
+use Rattle.machine_tests.proofs.Agreeing.{numeric_agree, loads_agree, stores_agree}
+use Rattle.machine_tests.proofs.agreement.types_are_those_of_validation.Goals as goal
 
 pub returns-clause-numeric : goal.returns-clause-numeric
 returns-clause-numeric c = numeric_agree
