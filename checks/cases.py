@@ -3,13 +3,12 @@
 
     checks/cases.py crates/wcm/out/wcm
 
-The tables are those of the tests in crates/module_tests: bodies in fixed modules, modules behind the preamble, and files. A
+The tables are those of crates/module_tests/data: bodies in fixed modules, modules behind the preamble, and files. A
 line is a case, worked out by hand: its title, the fixed module or the place of the module's first byte, hexadecimal bytes,
 and the answer: `ok`, or the place and the reason, with the function in whose body it is. A line a table is printed, and one
 for each case that fails. The status is 1 where one fails.
 """
 
-import re
 import subprocess
 import sys
 import tempfile
@@ -20,9 +19,9 @@ sys.dont_write_bytecode = True
 
 import formats
 
-TESTS = Path(__file__).resolve().parent.parent / "crates" / "module_tests" / "src"
+DATA = Path(__file__).resolve().parent.parent / "crates" / "module_tests" / "data"
 # The files of the tables, and whether their modules stand in a frame, behind the preamble, or alone.
-TABLES = {"body_cases.rt": "framed", "module_cases.rt": "behind", "file_cases.rt": "alone"}
+TABLES = {"bodies.txt": "framed", "modules.txt": "behind", "files.txt": "alone"}
 # How many cases there are.
 COUNT = 671
 
@@ -100,8 +99,7 @@ def main():
     with tempfile.TemporaryDirectory() as folder:
         (Path(folder) / "script.txt").write_bytes(b"")
         for name, kind in TABLES.items():
-            table = re.search(r'const [A-Z]+: &str = "\n(.*?)\n";', (TESTS / name).read_text(), re.S)
-            lines = table[1].splitlines()
+            lines = (DATA / name).read_text().splitlines()
             here = sum(passes(program, folder, kind, line) for line in lines)
             print(f"{here} of {len(lines)} in {name}")
             passed, count = passed + here, count + len(lines)

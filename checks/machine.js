@@ -7,13 +7,14 @@
 const fs = require('fs');
 const path = require('path');
 
-// The table in a file of the crate: its one text of several lines.
-function read(name) {
-  const file = path.join(__dirname, '..', 'crates', 'machine_tests', 'src', `${name}.rt`);
-  return fs.readFileSync(file, 'utf8').match(/"\n([^"]*)\n"/)[1];
+// What a file of the crate holds.
+function read(...names) {
+  return fs.readFileSync(path.join(__dirname, '..', 'crates', 'machine_tests', ...names), 'utf8');
 }
 
-const parts = Object.fromEntries(read('frame').split('\n').map((line) => line.split(' | ')));
+// The parts of the module: the one text of several lines in its file.
+const frame = read('src', 'frame.rt').match(/"\n([^"]*)\n"/)[1];
+const parts = Object.fromEntries(frame.split('\n').map((line) => line.split(' | ')));
 const I64 = 0x7e;
 
 const bytesOf = (hex) => hex.replace(/\s+/g, '');
@@ -94,7 +95,7 @@ const traps = {
 let count = 0;
 let differing = 0;
 for (const name of ['numbers', 'memories', 'blocks', 'calls']) {
-  for (const line of read(name).split('\n')) {
+  for (const line of read('data', `body_${name}.txt`).trimEnd().split('\n')) {
     count += 1;
     const cut = line.lastIndexOf(' = ');
     const wanted = line.slice(cut + 3).replace(/ for \d+$/, '');

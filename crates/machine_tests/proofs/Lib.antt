@@ -1,1 +1,2 @@
+mod Agreeing
 pub mod Typing

@@ -3,18 +3,14 @@
 ghost use Rattle.std.specs.Prelude.{IfOk};
 ghost use Rattle.machine_tests.specs.Typed.{MayRun, MayGoOn};
 
-use crate::blocks::BLOCKS;
-use crate::calls::CALLS;
 use crate::frame::part;
-use crate::memories::MEMORIES;
 use crate::modules::{func_type, push_section, push_sized, sections_of};
-use crate::numbers::NUMBERS;
 use crate::running::{answered, called, given, name_of, run_for, told};
 use crate::words::words_of;
 use ca_base::Fuel;
-use cases::{Answers, bytes_of, check_lines};
+use cases::bytes_of;
 use core_machine::Store;
-use module_texts::valid_of;
+use module_reading::valid_of;
 use std::alloc::Global;
 use std::test::Fail;
 use wasm_code::External;
@@ -164,7 +160,7 @@ fn all_outcomes(alloc: Global, valid: Valid, args: &[u64]) -> Result<String, Fai
     outcomes(alloc, &valid, args)
 }
 
-/// What the body of a line gives.
+/// What the body of a line gives: it has a title, the index of the body's type, the body without its size, and its arguments.
 fn answer(alloc: Global, given: &str, pages: Pages) -> Result<String, Fail> {
     let (given, args) = given.rsplit_once(" | ").ok_or("no arguments")?;
     let (given, body) = given.rsplit_once(" | ").ok_or("no body")?;
@@ -175,31 +171,12 @@ fn answer(alloc: Global, given: &str, pages: Pages) -> Result<String, Fail> {
     all_outcomes(alloc, valid, &args)
 }
 
-/// Bodies in a module whose memory has a page. A line has a title, the index of the body's type, the body without its size,
-/// its arguments, and what it gives for how many units of fuel. All but the units is hexadecimal. The function of the host
-/// gives its words the last one first.
-struct WithBytes;
-
-impl Answers for WithBytes {
-    fn answer(alloc: Global, given: &str) -> Result<String, Fail> {
-        answer(alloc, given, WITH_BYTES)
-    }
+/// What the body of a line gives in a module whose memory has a page.
+pub(crate) fn answer_with_bytes(alloc: Global, given: &str) -> Result<String, Fail> {
+    answer(alloc, given, WITH_BYTES)
 }
 
 /// The same in a module whose memory has no pages.
-struct WithoutPages;
-
-impl Answers for WithoutPages {
-    fn answer(alloc: Global, given: &str) -> Result<String, Fail> {
-        answer(alloc, given, WITHOUT_PAGES)
-    }
-}
-
-#[test]
-fn bodies_give_words(rt: HostRuntime) -> Result<(), Fail> {
-    let alloc = rt.alloc();
-    check_lines::<WithoutPages>(alloc, NUMBERS, " = ", 176)?;
-    check_lines::<WithoutPages>(alloc, BLOCKS, " = ", 93)?;
-    check_lines::<WithoutPages>(alloc, CALLS, " = ", 44)?;
-    check_lines::<WithBytes>(alloc, MEMORIES, " = ", 163)
+pub(crate) fn answer_without_pages(alloc: Global, given: &str) -> Result<String, Fail> {
+    answer(alloc, given, WITHOUT_PAGES)
 }

@@ -20,7 +20,7 @@ ghost use Rattle.wasm_module.specs.Expr.{End};
 ghost use Rattle.wasm_valid.specs.Context.{arrow};
 
 /// Operations at the edges of their widths.
-pub fn numbers()
+pub(crate) fn numbers()
     ensures overflow { binary w32 DivS 0x8000_0000 0xFFFF_FFFF ≡ Err number_trap.DivideOverflow }
     ensures no_overflow { binary w64 DivS 0x8000_0000 0xFFFF_FFFF ≡ Ok 0 }
     ensures least_rest { binary w32 RemS 0x8000_0000 0xFFFF_FFFF ≡ Ok 0 }
@@ -38,7 +38,7 @@ pub fn numbers()
 {}
 
 /// Bytes of a memory: numbers in them, what is inside, and a copy over itself.
-pub fn memories()
+pub(crate) fn memories()
     ensures whole { loaded I32Load 0 four ≡ Some 0x8403_0201 }
     ensures byte { loaded I32Load8S 3 four ≡ Some 0xFFFF_FF84 }
     ensures pair { loaded I32Load16U 2 four ≡ Some 0x8403 }
@@ -51,7 +51,7 @@ pub fn memories()
 {}
 
 /// Runs: what they come to, and the units that they took.
-pub fn runs()
+pub(crate) fn runs()
     ensures sum { outcome sums 0 (3 ∷ []) ≡ (29, Ends (6 ∷ [])) }
     ensures out_of_a_block { outcome leaves 1 [] ≡ (6, Ends (9 ∷ [])) }
     ensures returned { outcome returns 2 (1 ∷ []) ≡ (4, Ends (1 ∷ [])) }
@@ -87,14 +87,14 @@ pub fn runs()
 {}
 
 /// What a move costs: a unit for a call out of a frame and for a trap, and none for a function of the host alone.
-pub fn costs()
+pub(crate) fn costs()
     ensures trap { cost (nested 511) (next store (nested 511)) ≡ 1 }
     ensures call { cost at_call (next store at_call) ≡ 1 }
     ensures alone { cost host_alone (next store host_alone) ≡ 0 }
 {}
 
 /// A module that is added: segments in order, up to one that does not fit, and the call of the start function.
-pub fn segments()
+pub(crate) fn segments()
     ensures all { written (added (segment 0 (1 ∷ 0 ∷ []) ∷ segment 1 (1 ∷ []) ∷ [])) ≡ (true, (Some 1 ∷ Some 1 ∷ None ∷ []) ∷ []) }
     ensures up_to_one { written (added (segment 2 (1 ∷ []) ∷ segment 2 (0 ∷ 0 ∷ []) ∷ segment 0 (1 ∷ []) ∷ [])) ≡ (false, (None ∷ None ∷ Some 1 ∷ []) ∷ []) }
     ensures none_at_the_end { written (added (segment 3 [] ∷ [])) ≡ (true, (None ∷ None ∷ None ∷ []) ∷ []) }

@@ -1,168 +1,193 @@
-//! Bodies that access the memory.
+//! What lines make of a linear memory, as text.
 
-/// Lines as those that `bodies` describes.
-pub(crate) const MEMORIES: &str = "
-i32.load with the offset 0 | 01 | 00 2000 28 02 00 0b | 10 = 17fff80 for 2
-i32.load with the offset 0 | 01 | 00 2000 28 02 00 0b | 11 = fe017fff for 2
-i32.load with the offset 0 | 01 | 00 2000 28 02 00 0b | fffc = 84030201 for 2
-i32.load with the offset 0 | 01 | 00 2000 28 02 00 0b | fffd = MemoryBounds for 2
-i32.load with the offset ffffffff | 01 | 00 2000 28 02 ffffffff0f 0b | 1 = MemoryBounds for 2
-i32.load with the offset c | 01 | 00 2000 28 02 0c 0b | fff0 = 84030201 for 2
-i64.load with the offset 0 | 0f | 00 2000 29 03 00 0b | 10 = 98badcfe017fff80 for 2
-i64.load with the offset 0 | 0f | 00 2000 29 03 00 0b | 11 = 98badcfe017fff for 2
-i64.load with the offset 0 | 0f | 00 2000 29 03 00 0b | fff8 = 8403020100000000 for 2
-i64.load with the offset 0 | 0f | 00 2000 29 03 00 0b | fff9 = MemoryBounds for 2
-i64.load with the offset ffffffff | 0f | 00 2000 29 03 ffffffff0f 0b | 1 = MemoryBounds for 2
-i64.load with the offset 8 | 0f | 00 2000 29 03 08 0b | fff0 = 8403020100000000 for 2
-i32.load8_s with the offset 0 | 01 | 00 2000 2c 00 00 0b | 10 = ffffff80 for 2
-i32.load8_s with the offset 0 | 01 | 00 2000 2c 00 00 0b | 12 = 7f for 2
-i32.load8_s with the offset 0 | 01 | 00 2000 2c 00 00 0b | ffff = ffffff84 for 2
-i32.load8_s with the offset 0 | 01 | 00 2000 2c 00 00 0b | 10000 = MemoryBounds for 2
-i32.load8_s with the offset ffffffff | 01 | 00 2000 2c 00 ffffffff0f 0b | 1 = MemoryBounds for 2
-i32.load8_s with the offset f | 01 | 00 2000 2c 00 0f 0b | fff0 = ffffff84 for 2
-i32.load8_u with the offset 0 | 01 | 00 2000 2d 00 00 0b | 10 = 80 for 2
-i32.load8_u with the offset 0 | 01 | 00 2000 2d 00 00 0b | 12 = 7f for 2
-i32.load8_u with the offset 0 | 01 | 00 2000 2d 00 00 0b | ffff = 84 for 2
-i32.load8_u with the offset 0 | 01 | 00 2000 2d 00 00 0b | 10000 = MemoryBounds for 2
-i32.load8_u with the offset ffffffff | 01 | 00 2000 2d 00 ffffffff0f 0b | 1 = MemoryBounds for 2
-i32.load8_u with the offset f | 01 | 00 2000 2d 00 0f 0b | fff0 = 84 for 2
-i32.load16_s with the offset 0 | 01 | 00 2000 2e 01 00 0b | 10 = ffffff80 for 2
-i32.load16_s with the offset 0 | 01 | 00 2000 2e 01 00 0b | 11 = 7fff for 2
-i32.load16_s with the offset 0 | 01 | 00 2000 2e 01 00 0b | fffe = ffff8403 for 2
-i32.load16_s with the offset 0 | 01 | 00 2000 2e 01 00 0b | ffff = MemoryBounds for 2
-i32.load16_s with the offset ffffffff | 01 | 00 2000 2e 01 ffffffff0f 0b | 1 = MemoryBounds for 2
-i32.load16_s with the offset e | 01 | 00 2000 2e 01 0e 0b | fff0 = ffff8403 for 2
-i32.load16_u with the offset 0 | 01 | 00 2000 2f 01 00 0b | 10 = ff80 for 2
-i32.load16_u with the offset 0 | 01 | 00 2000 2f 01 00 0b | 11 = 7fff for 2
-i32.load16_u with the offset 0 | 01 | 00 2000 2f 01 00 0b | fffe = 8403 for 2
-i32.load16_u with the offset 0 | 01 | 00 2000 2f 01 00 0b | ffff = MemoryBounds for 2
-i32.load16_u with the offset ffffffff | 01 | 00 2000 2f 01 ffffffff0f 0b | 1 = MemoryBounds for 2
-i32.load16_u with the offset e | 01 | 00 2000 2f 01 0e 0b | fff0 = 8403 for 2
-i64.load8_s with the offset 0 | 0f | 00 2000 30 00 00 0b | 10 = ffffffffffffff80 for 2
-i64.load8_s with the offset 0 | 0f | 00 2000 30 00 00 0b | 12 = 7f for 2
-i64.load8_s with the offset 0 | 0f | 00 2000 30 00 00 0b | ffff = ffffffffffffff84 for 2
-i64.load8_s with the offset 0 | 0f | 00 2000 30 00 00 0b | 10000 = MemoryBounds for 2
-i64.load8_s with the offset ffffffff | 0f | 00 2000 30 00 ffffffff0f 0b | 1 = MemoryBounds for 2
-i64.load8_s with the offset f | 0f | 00 2000 30 00 0f 0b | fff0 = ffffffffffffff84 for 2
-i64.load8_u with the offset 0 | 0f | 00 2000 31 00 00 0b | 10 = 80 for 2
-i64.load8_u with the offset 0 | 0f | 00 2000 31 00 00 0b | 12 = 7f for 2
-i64.load8_u with the offset 0 | 0f | 00 2000 31 00 00 0b | ffff = 84 for 2
-i64.load8_u with the offset 0 | 0f | 00 2000 31 00 00 0b | 10000 = MemoryBounds for 2
-i64.load8_u with the offset ffffffff | 0f | 00 2000 31 00 ffffffff0f 0b | 1 = MemoryBounds for 2
-i64.load8_u with the offset f | 0f | 00 2000 31 00 0f 0b | fff0 = 84 for 2
-i64.load16_s with the offset 0 | 0f | 00 2000 32 01 00 0b | 10 = ffffffffffffff80 for 2
-i64.load16_s with the offset 0 | 0f | 00 2000 32 01 00 0b | 11 = 7fff for 2
-i64.load16_s with the offset 0 | 0f | 00 2000 32 01 00 0b | fffe = ffffffffffff8403 for 2
-i64.load16_s with the offset 0 | 0f | 00 2000 32 01 00 0b | ffff = MemoryBounds for 2
-i64.load16_s with the offset ffffffff | 0f | 00 2000 32 01 ffffffff0f 0b | 1 = MemoryBounds for 2
-i64.load16_s with the offset e | 0f | 00 2000 32 01 0e 0b | fff0 = ffffffffffff8403 for 2
-i64.load16_u with the offset 0 | 0f | 00 2000 33 01 00 0b | 10 = ff80 for 2
-i64.load16_u with the offset 0 | 0f | 00 2000 33 01 00 0b | 11 = 7fff for 2
-i64.load16_u with the offset 0 | 0f | 00 2000 33 01 00 0b | fffe = 8403 for 2
-i64.load16_u with the offset 0 | 0f | 00 2000 33 01 00 0b | ffff = MemoryBounds for 2
-i64.load16_u with the offset ffffffff | 0f | 00 2000 33 01 ffffffff0f 0b | 1 = MemoryBounds for 2
-i64.load16_u with the offset e | 0f | 00 2000 33 01 0e 0b | fff0 = 8403 for 2
-i64.load32_s with the offset 0 | 0f | 00 2000 34 02 00 0b | 10 = 17fff80 for 2
-i64.load32_s with the offset 0 | 0f | 00 2000 34 02 00 0b | 11 = fffffffffe017fff for 2
-i64.load32_s with the offset 0 | 0f | 00 2000 34 02 00 0b | fffc = ffffffff84030201 for 2
-i64.load32_s with the offset 0 | 0f | 00 2000 34 02 00 0b | fffd = MemoryBounds for 2
-i64.load32_s with the offset ffffffff | 0f | 00 2000 34 02 ffffffff0f 0b | 1 = MemoryBounds for 2
-i64.load32_s with the offset c | 0f | 00 2000 34 02 0c 0b | fff0 = ffffffff84030201 for 2
-i64.load32_u with the offset 0 | 0f | 00 2000 35 02 00 0b | 10 = 17fff80 for 2
-i64.load32_u with the offset 0 | 0f | 00 2000 35 02 00 0b | 11 = fe017fff for 2
-i64.load32_u with the offset 0 | 0f | 00 2000 35 02 00 0b | fffc = 84030201 for 2
-i64.load32_u with the offset 0 | 0f | 00 2000 35 02 00 0b | fffd = MemoryBounds for 2
-i64.load32_u with the offset ffffffff | 0f | 00 2000 35 02 ffffffff0f 0b | 1 = MemoryBounds for 2
-i64.load32_u with the offset c | 0f | 00 2000 35 02 0c 0b | fff0 = 84030201 for 2
-i32.store with the offset 0, then i64.load at 10 | 11 | 00 2000 2001 36 02 00 4110 29 03 00 0b | 11 a1b2c3d4 = 98badca1b2c3d480 for 5
-i32.store with the offset 0, then i64.load at fff8 | 11 | 00 2000 2001 36 02 00 41f8ff03 29 03 00 0b | fffc a1b2c3d4 = a1b2c3d400000000 for 5
-i32.store with the offset 1, then i64.load at fff8 | 11 | 00 2000 2001 36 02 01 41f8ff03 29 03 00 0b | fff7 a1b2c3d4 = 84030201a1b2c3d4 for 5
-i32.store with the offset 0, then i64.load at fff8 | 11 | 00 2000 2001 36 02 00 41f8ff03 29 03 00 0b | fffd a1b2c3d4 = MemoryBounds for 3
-i32.store with the offset 11, then i64.load at fff8 | 11 | 00 2000 2001 36 02 11 41f8ff03 29 03 00 0b | ffffffff a1b2c3d4 = MemoryBounds for 3
-i32.store with the offset ffffffff, then i64.load at fff8 | 11 | 00 2000 2001 36 02 ffffffff0f 41f8ff03 29 03 00 0b | 11 a1b2c3d4 = MemoryBounds for 3
-i32.store8 with the offset 0, then i64.load at 10 | 11 | 00 2000 2001 3a 00 00 4110 29 03 00 0b | 11 a1b2c3d4 = 98badcfe017fd480 for 5
-i32.store8 with the offset 0, then i64.load at fff8 | 11 | 00 2000 2001 3a 00 00 41f8ff03 29 03 00 0b | ffff a1b2c3d4 = d403020100000000 for 5
-i32.store8 with the offset 1, then i64.load at fff8 | 11 | 00 2000 2001 3a 00 01 41f8ff03 29 03 00 0b | fff7 a1b2c3d4 = 84030201000000d4 for 5
-i32.store8 with the offset 0, then i64.load at fff8 | 11 | 00 2000 2001 3a 00 00 41f8ff03 29 03 00 0b | 10000 a1b2c3d4 = MemoryBounds for 3
-i32.store8 with the offset 11, then i64.load at fff8 | 11 | 00 2000 2001 3a 00 11 41f8ff03 29 03 00 0b | ffffffff a1b2c3d4 = MemoryBounds for 3
-i32.store8 with the offset ffffffff, then i64.load at fff8 | 11 | 00 2000 2001 3a 00 ffffffff0f 41f8ff03 29 03 00 0b | 11 a1b2c3d4 = MemoryBounds for 3
-i32.store16 with the offset 0, then i64.load at 10 | 11 | 00 2000 2001 3b 01 00 4110 29 03 00 0b | 11 a1b2c3d4 = 98badcfe01c3d480 for 5
-i32.store16 with the offset 0, then i64.load at fff8 | 11 | 00 2000 2001 3b 01 00 41f8ff03 29 03 00 0b | fffe a1b2c3d4 = c3d4020100000000 for 5
-i32.store16 with the offset 1, then i64.load at fff8 | 11 | 00 2000 2001 3b 01 01 41f8ff03 29 03 00 0b | fff7 a1b2c3d4 = 840302010000c3d4 for 5
-i32.store16 with the offset 0, then i64.load at fff8 | 11 | 00 2000 2001 3b 01 00 41f8ff03 29 03 00 0b | ffff a1b2c3d4 = MemoryBounds for 3
-i32.store16 with the offset 11, then i64.load at fff8 | 11 | 00 2000 2001 3b 01 11 41f8ff03 29 03 00 0b | ffffffff a1b2c3d4 = MemoryBounds for 3
-i32.store16 with the offset ffffffff, then i64.load at fff8 | 11 | 00 2000 2001 3b 01 ffffffff0f 41f8ff03 29 03 00 0b | 11 a1b2c3d4 = MemoryBounds for 3
-i64.store with the offset 0, then i64.load at 10 | 02 | 00 2000 2001 37 03 00 4110 29 03 00 3f00 0b | 11 a1b2c3d4e5f60718 = b2c3d4e5f6071880 1 for 6
-i64.store with the offset 0, then i64.load at fff8 | 02 | 00 2000 2001 37 03 00 41f8ff03 29 03 00 3f00 0b | fff8 a1b2c3d4e5f60718 = a1b2c3d4e5f60718 1 for 6
-i64.store with the offset 1, then i64.load at fff8 | 02 | 00 2000 2001 37 03 01 41f8ff03 29 03 00 3f00 0b | fff7 a1b2c3d4e5f60718 = a1b2c3d4e5f60718 1 for 6
-i64.store with the offset 0, then i64.load at fff8 | 02 | 00 2000 2001 37 03 00 41f8ff03 29 03 00 3f00 0b | fff9 a1b2c3d4e5f60718 = MemoryBounds for 3
-i64.store with the offset 11, then i64.load at fff8 | 02 | 00 2000 2001 37 03 11 41f8ff03 29 03 00 3f00 0b | ffffffff a1b2c3d4e5f60718 = MemoryBounds for 3
-i64.store with the offset ffffffff, then i64.load at fff8 | 02 | 00 2000 2001 37 03 ffffffff0f 41f8ff03 29 03 00 3f00 0b | 11 a1b2c3d4e5f60718 = MemoryBounds for 3
-i64.store8 with the offset 0, then i64.load at 10 | 02 | 00 2000 2001 3c 00 00 4110 29 03 00 3f00 0b | 11 a1b2c3d4e5f60718 = 98badcfe017f1880 1 for 6
-i64.store8 with the offset 0, then i64.load at fff8 | 02 | 00 2000 2001 3c 00 00 41f8ff03 29 03 00 3f00 0b | ffff a1b2c3d4e5f60718 = 1803020100000000 1 for 6
-i64.store8 with the offset 1, then i64.load at fff8 | 02 | 00 2000 2001 3c 00 01 41f8ff03 29 03 00 3f00 0b | fff7 a1b2c3d4e5f60718 = 8403020100000018 1 for 6
-i64.store8 with the offset 0, then i64.load at fff8 | 02 | 00 2000 2001 3c 00 00 41f8ff03 29 03 00 3f00 0b | 10000 a1b2c3d4e5f60718 = MemoryBounds for 3
-i64.store8 with the offset 11, then i64.load at fff8 | 02 | 00 2000 2001 3c 00 11 41f8ff03 29 03 00 3f00 0b | ffffffff a1b2c3d4e5f60718 = MemoryBounds for 3
-i64.store8 with the offset ffffffff, then i64.load at fff8 | 02 | 00 2000 2001 3c 00 ffffffff0f 41f8ff03 29 03 00 3f00 0b | 11 a1b2c3d4e5f60718 = MemoryBounds for 3
-i64.store16 with the offset 0, then i64.load at 10 | 02 | 00 2000 2001 3d 01 00 4110 29 03 00 3f00 0b | 11 a1b2c3d4e5f60718 = 98badcfe01071880 1 for 6
-i64.store16 with the offset 0, then i64.load at fff8 | 02 | 00 2000 2001 3d 01 00 41f8ff03 29 03 00 3f00 0b | fffe a1b2c3d4e5f60718 = 718020100000000 1 for 6
-i64.store16 with the offset 1, then i64.load at fff8 | 02 | 00 2000 2001 3d 01 01 41f8ff03 29 03 00 3f00 0b | fff7 a1b2c3d4e5f60718 = 8403020100000718 1 for 6
-i64.store16 with the offset 0, then i64.load at fff8 | 02 | 00 2000 2001 3d 01 00 41f8ff03 29 03 00 3f00 0b | ffff a1b2c3d4e5f60718 = MemoryBounds for 3
-i64.store16 with the offset 11, then i64.load at fff8 | 02 | 00 2000 2001 3d 01 11 41f8ff03 29 03 00 3f00 0b | ffffffff a1b2c3d4e5f60718 = MemoryBounds for 3
-i64.store16 with the offset ffffffff, then i64.load at fff8 | 02 | 00 2000 2001 3d 01 ffffffff0f 41f8ff03 29 03 00 3f00 0b | 11 a1b2c3d4e5f60718 = MemoryBounds for 3
-i64.store32 with the offset 0, then i64.load at 10 | 02 | 00 2000 2001 3e 02 00 4110 29 03 00 3f00 0b | 11 a1b2c3d4e5f60718 = 98badce5f6071880 1 for 6
-i64.store32 with the offset 0, then i64.load at fff8 | 02 | 00 2000 2001 3e 02 00 41f8ff03 29 03 00 3f00 0b | fffc a1b2c3d4e5f60718 = e5f6071800000000 1 for 6
-i64.store32 with the offset 1, then i64.load at fff8 | 02 | 00 2000 2001 3e 02 01 41f8ff03 29 03 00 3f00 0b | fff7 a1b2c3d4e5f60718 = 84030201e5f60718 1 for 6
-i64.store32 with the offset 0, then i64.load at fff8 | 02 | 00 2000 2001 3e 02 00 41f8ff03 29 03 00 3f00 0b | fffd a1b2c3d4e5f60718 = MemoryBounds for 3
-i64.store32 with the offset 11, then i64.load at fff8 | 02 | 00 2000 2001 3e 02 11 41f8ff03 29 03 00 3f00 0b | ffffffff a1b2c3d4e5f60718 = MemoryBounds for 3
-i64.store32 with the offset ffffffff, then i64.load at fff8 | 02 | 00 2000 2001 3e 02 ffffffff0f 41f8ff03 29 03 00 3f00 0b | 11 a1b2c3d4e5f60718 = MemoryBounds for 3
-memory.size | 03 | 00 3f00 0b | - = 1 for 1
-memory.grow by one page | 01 | 00 2000 4000 0b | 1 = 1 for 2
-memory.grow by none | 01 | 00 2000 4000 0b | 0 = 1 for 2
-memory.grow past the maximum | 01 | 00 2000 4000 0b | 2 = ffffffff for 2
-memory.grow by 65,536 pages | 01 | 00 2000 4000 0b | 10000 = ffffffff for 2
-memory.grow by 2^32 - 1 pages | 01 | 00 2000 4000 0b | ffffffff = ffffffff for 2
-the size behind memory.grow | 01 | 00 2000 4000 1a 3f00 0b | 1 = 2 for 4
-the size behind a refused memory.grow | 01 | 00 2000 4000 1a 3f00 0b | 2 = 1 for 4
-memory.grow to the maximum, and then past it | 01 | 00 2000 4000 1a 2000 4000 0b | 1 = ffffffff for 5
-memory.grow to the maximum, and then by none | 01 | 00 2000 4000 1a 4100 4000 0b | 1 = 2 for 5
-the last byte of a page that is new | 01 | 00 2000 4000 1a 41ffff07 2d0000 0b | 1 = 0 for 5
-the last byte of a page that was refused | 01 | 00 2000 4000 1a 41ffff07 2d0000 0b | 2 = MemoryBounds for 5
-a store into a page that is new | 01 | 00 2000 4000 1a 41ffff07 412a 3a0000 41ffff07 2d0000 0b | 1 = 2a for 8
-bytes of before memory.grow | 01 | 00 2000 4000 1a 41fcff03 280200 0b | 1 = 84030201 for 5
-a load over the border of two pages | 01 | 00 2000 4000 1a 41feff03 280200 0b | 1 = 8403 for 5
-a load over the end of the memory | 01 | 00 2000 4000 1a 41feff03 280200 0b | 0 = MemoryBounds for 5
-memory.copy | 13 | 00 2000 2001 2002 fc0a0000 2000 280200 0b | 20 10 8 = 17fff80 for 6
-memory.copy over itself, upwards | 13 | 00 2000 2001 2002 fc0a0000 2000 280200 0b | 12 10 6 = 17fff80 for 6
-memory.copy over itself, upwards, its last bytes | 13 | 00 2000 2001 2002 fc0a0000 4114 280200 0b | 12 10 6 = dcfe017f for 6
-memory.copy over itself, downwards | 13 | 00 2000 2001 2002 fc0a0000 2000 280200 0b | 10 12 6 = dcfe017f for 6
-memory.copy over itself, downwards, its last bytes | 13 | 00 2000 2001 2002 fc0a0000 4114 280200 0b | 10 12 6 = 98ba98ba for 6
-memory.copy onto itself | 13 | 00 2000 2001 2002 fc0a0000 2000 280200 0b | 10 10 8 = 17fff80 for 6
-memory.copy to the last bytes | 13 | 00 2000 2001 2002 fc0a0000 41fcff03 280200 0b | fff8 10 8 = 98badcfe for 6
-memory.copy of no bytes at the end | 13 | 00 2000 2001 2002 fc0a0000 4114 280200 0b | 10000 10000 0 = 98badcfe for 6
-memory.copy of no bytes to past the end | 13 | 00 2000 2001 2002 fc0a0000 4114 280200 0b | 10001 0 0 = MemoryBounds for 4
-memory.copy of no bytes from past the end | 13 | 00 2000 2001 2002 fc0a0000 4114 280200 0b | 0 10001 0 = MemoryBounds for 4
-memory.copy of two bytes to the last two | 13 | 00 2000 2001 2002 fc0a0000 4114 280200 0b | fffe 10 2 = 98badcfe for 6
-memory.copy of two bytes to the last one | 13 | 00 2000 2001 2002 fc0a0000 4114 280200 0b | ffff 10 2 = MemoryBounds for 4
-memory.copy of two bytes from the last one | 13 | 00 2000 2001 2002 fc0a0000 4114 280200 0b | 10 ffff 2 = MemoryBounds for 4
-memory.copy of all bytes | 13 | 00 2000 2001 2002 fc0a0000 4114 280200 0b | 0 0 10000 = 98badcfe for 6
-memory.copy of all bytes to 1 | 13 | 00 2000 2001 2002 fc0a0000 4114 280200 0b | 1 0 10000 = MemoryBounds for 4
-memory.copy to 2^32 - 1 | 13 | 00 2000 2001 2002 fc0a0000 4114 280200 0b | ffffffff 0 1 = MemoryBounds for 4
-memory.copy from 2^32 - 1 | 13 | 00 2000 2001 2002 fc0a0000 4114 280200 0b | 0 ffffffff 1 = MemoryBounds for 4
-memory.copy of 2^32 - 1 bytes | 13 | 00 2000 2001 2002 fc0a0000 4114 280200 0b | 0 0 ffffffff = MemoryBounds for 4
-memory.copy whose end passes 2^32 | 13 | 00 2000 2001 2002 fc0a0000 4114 280200 0b | ffffffff 1 ffffffff = MemoryBounds for 4
-memory.fill | 13 | 00 2000 2001 2002 fc0b00 4110 280200 0b | 10 aa 2 = 17faaaa for 6
-memory.fill with the lowest byte of its value | 13 | 00 2000 2001 2002 fc0b00 4110 280200 0b | 12 1ab 1 = 1abff80 for 6
-memory.fill with 0 | 13 | 00 2000 2001 2002 fc0b00 4110 280200 0b | 10 ffffff00 4 = 0 for 6
-memory.fill of no bytes | 13 | 00 2000 2001 2002 fc0b00 4110 280200 0b | 10 5 0 = 17fff80 for 6
-memory.fill of no bytes at the end | 13 | 00 2000 2001 2002 fc0b00 4110 280200 0b | 10000 1 0 = 17fff80 for 6
-memory.fill of no bytes past the end | 13 | 00 2000 2001 2002 fc0b00 4110 280200 0b | 10001 1 0 = MemoryBounds for 4
-memory.fill of the last byte | 13 | 00 2000 2001 2002 fc0b00 41feff03 2f0100 0b | ffff 5 1 = 503 for 6
-memory.fill of two bytes from the last one on | 13 | 00 2000 2001 2002 fc0b00 4110 280200 0b | ffff 5 2 = MemoryBounds for 4
-memory.fill of all bytes | 13 | 00 2000 2001 2002 fc0b00 4110 280200 0b | 0 1 10000 = 1010101 for 6
-memory.fill of more than all bytes | 13 | 00 2000 2001 2002 fc0b00 4110 280200 0b | 0 1 10001 = MemoryBounds for 4
-memory.fill of 2^32 - 1 bytes | 13 | 00 2000 2001 2002 fc0b00 4110 280200 0b | 0 1 ffffffff = MemoryBounds for 4
-memory.fill whose end passes 2^32 | 13 | 00 2000 2001 2002 fc0b00 4110 280200 0b | 1 1 ffffffff = MemoryBounds for 4
-memory.fill at 2^32 - 1 | 13 | 00 2000 2001 2002 fc0b00 4110 280200 0b | ffffffff 1 1 = MemoryBounds for 4
-call of a function that stores | 03 | 00 1007 4100 2d0000 0b | - = 2a for 6
-";
+use crate::hex::{hex, hex32, split};
+use ca_base::Memory;
+use cases::{Steps, bytes_of_lines};
+use std::alloc::{AllocError, Global};
+use std::fmt::Write;
+use std::test::Fail;
+use wasm_memory::{LinearMemory, MOST_PAGES, OutOfBounds};
+use wasm_module::{load, store};
+
+/// The words behind the name of a line, as numbers. The text from the second one on may be bytes too.
+#[derive(Clone, Copy)]
+struct Words<'a> {
+    first: u32,
+    second: u32,
+    third: u32,
+    value: u64,
+    bytes: &'a str,
+}
+
+/// The words of a text.
+fn words_of(text: &str) -> Words<'_> {
+    let (first, bytes) = split(text);
+    let (second, rest) = split(bytes);
+    let (third, value) = split(rest);
+    Words {
+        first: hex32(first),
+        second: hex32(second),
+        third: hex32(third),
+        value: hex(value),
+        bytes,
+    }
+}
+
+/// The lowest byte of a number.
+fn low_byte(number: u32) -> u8 {
+    (number % 256) as u8
+}
+
+/// The answer of a call that may be out of bounds.
+fn done(answer: Result<(), OutOfBounds>) -> &'static str {
+    match answer {
+        Ok(()) => "ok",
+        Err(OutOfBounds) => "out of bounds",
+    }
+}
+
+/// Writes a value that may be out of bounds.
+fn write_value(text: &mut String, value: Option<u64>) -> Result<(), AllocError> {
+    match value {
+        Some(value) => write!(text, "{value:x}"),
+        None => text.push_str("out of bounds"),
+    }
+}
+
+/// Writes what a load gives: its opcode, its operand and its offset.
+fn write_loaded(
+    text: &mut String,
+    memory: &LinearMemory,
+    words: Words<'_>,
+) -> Result<(), AllocError> {
+    match load(low_byte(words.first)) {
+        Some(op) => write_value(text, memory.load(op, words.second, words.third)),
+        None => text.push_str("no such load"),
+    }
+}
+
+/// Stores a value: the opcode, the operand, the offset and the value.
+fn stored(memory: &mut LinearMemory, words: Words<'_>) -> &'static str {
+    match store(low_byte(words.first)) {
+        Some(op) => done(memory.store(op, words.second, words.third, words.value)),
+        None => "no such store",
+    }
+}
+
+/// Sets one byte by a reference to all: where, and which.
+fn set(memory: &mut LinearMemory, words: Words<'_>) -> &'static str {
+    let at = words.first as usize;
+    let bytes = memory.bytes_mut();
+    if at < bytes.len() {
+        bytes[at] = low_byte(words.second);
+        "ok"
+    } else {
+        "out of bounds"
+    }
+}
+
+/// Does what a line says that changes bytes, and answers what comes of it. A copy has the places to which and from which it
+/// copies, and how many bytes; a fill a place, a byte, and how many.
+fn changed(memory: &mut LinearMemory, name: &str, words: Words<'_>) -> &'static str {
+    match name {
+        "store" => stored(memory, words),
+        "copy" => done(memory.copy(words.first, words.second, words.third)),
+        "fill" => done(memory.fill(words.first, low_byte(words.second), words.third)),
+        "set" => set(memory, words),
+        _ => "no such step",
+    }
+}
+
+/// Writes the first of bytes.
+fn write_first(text: &mut String, bytes: &[u8], count: usize) -> Result<(), AllocError> {
+    for byte in bytes.get(..count).unwrap_or(bytes) {
+        write!(text, "{byte:02x}")?;
+    }
+    Ok(())
+}
+
+/// Writes so many bytes from a place on.
+fn write_bytes(
+    text: &mut String,
+    memory: &LinearMemory,
+    words: Words<'_>,
+) -> Result<(), AllocError> {
+    match memory.bytes().split_at_checked(words.first as usize) {
+        Some((_front, rest)) => write_first(text, rest, words.second as usize),
+        None => text.push_str("no such place"),
+    }
+}
+
+/// Writes how many pages a memory had that is grown.
+fn write_grown(text: &mut String, grown: Result<Option<u32>, Memory>) -> Result<(), AllocError> {
+    match grown {
+        Ok(Some(before)) => write!(text, "{before:x}"),
+        Ok(None) => text.push_str("too many"),
+        Err(Memory) => text.push_str("want of memory"),
+    }
+}
+
+/// Does what a line says, and writes what comes of it.
+fn write_step(
+    text: &mut String,
+    memory: &mut LinearMemory,
+    name: &str,
+    words: Words<'_>,
+) -> Result<(), AllocError> {
+    match name {
+        "pages" => write_value(text, Some(u64::from(memory.pages()))),
+        "grow" => write_grown(text, memory.grow(words.first)),
+        "load" => write_loaded(text, memory, words),
+        "bytes" => write_bytes(text, memory, words),
+        _ => text.push_str(changed(memory, name, words)),
+    }
+}
+
+/// Writes bytes from a place on, and writes what comes of it.
+fn write_into(
+    alloc: Global,
+    text: &mut String,
+    memory: &mut LinearMemory,
+    words: Words<'_>,
+) -> Result<(), Fail> {
+    let bytes = bytes_of_lines(alloc, words.bytes)?;
+    text.push_str(done(memory.write(words.first, &bytes)))?;
+    Ok(())
+}
+
+/// The maximum of a text, where `-` stands for none.
+fn max_of(text: &str) -> Option<u32> {
+    if text == "-" { None } else { Some(hex32(text)) }
+}
+
+/// The memory of so many pages and of a maximum.
+fn memory_of(alloc: Global, pages: u32, max: Option<u32>) -> Result<LinearMemory, Fail> {
+    if pages > MOST_PAGES.min(max.unwrap_or(MOST_PAGES)) {
+        return Err(Fail::new("more pages than it may have"));
+    }
+    Ok(LinearMemory::new(alloc, pages, max)?)
+}
+
+/// A memory that lines change.
+#[derive(Drop)]
+pub(crate) struct Paged {
+    memory: LinearMemory,
+}
+
+impl Steps for Paged {
+    fn begin(alloc: Global, title: &str) -> Result<Paged, Fail> {
+        let (pages, max) = split(title);
+        let memory = memory_of(alloc, hex32(pages), max_of(max))?;
+        Ok(Paged { memory })
+    }
+
+    fn step(&mut self, alloc: Global, line: &str, text: &mut String) -> Result<(), Fail> {
+        let (name, rest) = split(line);
+        let words = words_of(rest);
+        if name == "write" {
+            return write_into(alloc, text, &mut self.memory, words);
+        }
+        write_step(text, &mut self.memory, name, words)?;
+        Ok(())
+    }
+}

@@ -6,13 +6,14 @@ ghost use Rattle.core_machine.specs.Views.{address_of};
 ghost use Rattle.std.specs.Option.{IfSome};
 ghost use Rattle.machine_tests.specs.Typed.{MayRun, MayGoOn};
 
+use crate::hex::{hex, split};
 use crate::modules::{func_type, imports_of, sections_of};
 use crate::running::{answered, called, given, name_of, run_for, told};
-use crate::words::{hex, words_of, write_words};
+use crate::words::{words_of, write_words};
 use ca_base::Fuel;
 use cases::{Steps, bytes_of};
 use core_machine::{AddFault, Store, laws};
-use module_texts::valid_of;
+use module_reading::valid_of;
 use std::alloc::Global;
 use std::fmt::Write;
 use std::test::Fail;
@@ -39,14 +40,6 @@ impl Steps for Stage {
         let answer = step(alloc, self, line)?;
         text.push_str(answer.as_str())?;
         Ok(())
-    }
-}
-
-/// A text up to its first space, and what stands behind it.
-fn split(text: &str) -> (&str, &str) {
-    match text.split_once(' ') {
-        Some((word, rest)) => (word, rest),
-        None => (text, ""),
     }
 }
 

@@ -4,28 +4,11 @@ ghost use Rattle.std.specs.Prelude.{◌≡◌, ℕ, List, ◌∷◌, true};
 ghost use Rattle.wasm_module.specs.declared.types.ValType.{ValType};
 ghost use Rattle.wasm_numbers.specs.Types.{AreWords};
 
+use crate::hex::hex;
 use std::alloc::Global;
 use std::fmt::Write;
 use std::test::Fail;
 use wasm_module::ValType;
-
-/// The number of a digit.
-fn digit(letter: u8) -> u64 {
-    match letter {
-        b'0'..=b'9' => u64::from(letter - b'0'),
-        b'a'..=b'f' => u64::from(letter - b'a') + 10,
-        _ => 0,
-    }
-}
-
-/// The number of a text of hexadecimal digits, modulo 2^64.
-pub(crate) fn hex(text: &str) -> u64 {
-    let mut number = 0u64;
-    for letter in text.bytes() {
-        number = number.wrapping_mul(16).wrapping_add(digit(letter));
-    }
-    number
-}
 
 /// The words of a text, as hexadecimal numbers, between which a letter stands. A line stands for none.
 pub(crate) fn words_of(alloc: Global, text: &str, between: char) -> Result<Vec<u64>, Fail> {

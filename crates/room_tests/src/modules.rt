@@ -3,7 +3,7 @@
 use ca_base::Seq;
 use cases::bytes_of;
 use core_machine::Store;
-use module_texts::valid_of;
+use module_reading::valid_of;
 use std::alloc::Global;
 use std::test::Fail;
 use wasm_code::External;
