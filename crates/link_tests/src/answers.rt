@@ -7,7 +7,7 @@ use ca_base::{MemoryOr, ReadError, Refusal};
 use comp_graph::{
     Action, CanonFunc, CoreExtern, CoreMake, CoreRef, FuncRef, Graph, Lift, Lower, Options,
 };
-use comp_link::{LinkFault, LinkWhy, Reach, link};
+use comp_link::{LinkFault, LinkWhy, link};
 use comp_reader::{Component, ComponentWhy, read_component};
 use std::alloc::{AllocError, Global};
 use std::fmt::Write;
@@ -200,46 +200,23 @@ fn fault_text(alloc: Global, fault: LinkFault) -> Result<String, AllocError> {
     fault_shown(alloc, &fault)
 }
 
-/// The graph of a component, where linking goes so far, or its fault.
-fn graph_of(
-    alloc: Global,
-    component: &Component,
-    reach: Reach,
-) -> Result<Graph<'_>, MemoryOr<LinkFault>> {
-    link(alloc, component, reach)
+/// The graph of a component, or its fault.
+fn graph_of(alloc: Global, component: &Component) -> Result<Graph<'_>, MemoryOr<LinkFault>> {
+    link(alloc, component)
 }
 
-/// The text of what a component is linked to, where linking goes so far, or of its fault.
-fn linked(alloc: Global, component: &Component, reach: Reach) -> Result<String, Fail> {
-    match graph_of(alloc, component, reach) {
+/// The text of what a component is linked to, or of its fault.
+fn linked(alloc: Global, component: &Component) -> Result<String, Fail> {
+    match graph_of(alloc, component) {
         Ok(graph) => Ok(graph_text(alloc, graph)?),
         Err(MemoryOr::Memory) => Err(Fail::new("memory")),
         Err(MemoryOr::Fault(fault)) => Ok(fault_text(alloc, fault)?),
     }
 }
 
-/// What linking over all that is read comes to, and a line more where linking that leads to a run comes to something else.
-/// Neither has line feeds around it.
-fn both_text(alloc: Global, whole: &str, run: &str) -> Result<String, AllocError> {
-    let whole = whole.trim_matches('\n');
-    let run = run.trim_matches('\n');
-    if run == whole {
-        String::from_str(alloc, whole)
-    } else {
-        format!(in alloc; "{whole}\nto be run: {run}")
-    }
-}
-
-/// The same of a component.
-fn both_linked(alloc: Global, component: &Component) -> Result<String, Fail> {
-    let whole = linked(alloc, component, Reach::Whole)?;
-    let run = linked(alloc, component, Reach::Runs)?;
-    Ok(both_text(alloc, whole.as_str(), run.as_str())?)
-}
-
 /// The same of a component that is let go then.
 fn told(alloc: Global, component: Component) -> Result<String, Fail> {
-    both_linked(alloc, &component)
+    linked(alloc, &component)
 }
 
 /// The component of bytes, or its refusal.

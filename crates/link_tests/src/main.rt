@@ -4,9 +4,8 @@
 //! stands behind a `;` in a line is a remark. `provider` is a section of the core module `PROVIDER`, `lifted` that and the lift of
 //! its function `f`, `adder` a component that exports this lift, `functions` is a section of the core module `FUNCTIONS`,
 //! `allocating` that and an instance of it, with a memory and a realloc, and `times N BYTES` are bytes that stand N times. Answers
-//! are derived from the definitions by hand. Each component is linked over all that is read, and as far as can be run; where the
-//! second comes to something else, the answer has a line `to be run` for it. The file `stdin` names the tables, and the file
-//! `stdout` has how many cases are in each.
+//! are derived from the definitions by hand. The file `stdin` names the tables, and the file `stdout` has how many cases are in
+//! each.
 //!
 //! - `core`: the arguments of core modules, and inline exports
 //! - `fit`: what imports of core modules ask for
