@@ -67,5 +67,6 @@ pub mod TransportEntry
 pub mod TransportReturn
 pub mod TransportMemories
 pub mod TransportSpared
+pub mod TransportResolved
 pub mod TransportGot
 pub mod TransportSamples

@@ -4,7 +4,8 @@
 use Rattle.std.specs.Prelude.{◌≡◌, ◌≢◌, ◌≤◌, ℕ, if◌then◌else◌, List, [], ◌∷◌, Some, Result, Ok}
 use Rattle.std.specs.List.{slice_get}
 use Rattle.core_machine.specs.Store.{Function, Instance, Store, found_at}
-use Rattle.core_machine.specs.Step.{start}
+use Rattle.core_machine.specs.Stack.{Stack}
+use Rattle.core_machine.specs.Step.{start, resume}
 use Rattle.ca_types.specs.declared.types.ValType.{ValType}
 use Rattle.ca_types.specs.declared.types.FuncType.{FuncType}
 use Rattle.ca_types.specs.declared.value.Value.{Value}
@@ -35,6 +36,7 @@ use Rattle.canonical_machine.specs.Nested.{EndsIn, hosted_next}
 use Rattle.canonical_machine.specs.Next.{next}
 use Rattle.canonical_machine.specs.Run.{Reaches}
 use Rattle.canonical_machine.specs.Sound.{IsSound}
+use Rattle.canonical_machine.specs.Tasks.{IsAt}
 use Rattle.canonical_machine.specs.Owners.{owner_of_core, IsApart}
 
 -- A lowering, in a run.
@@ -153,6 +155,10 @@ unfoldable pub result_taken : FuncType → ValType → List ℕ → List ℕ →
 result_taken f type bytes passed words =
     if result_in_memory f then load whole.Value type bytes (last_of passed) else lift_flat whole.Value type bytes words
 
+-- These words are kept for the caller of this task, with its side of the call.
+abbrev pub KeepsWords : World → ℕ → Subtask → List ℕ → Type 0
+KeepsWords v t subtask words = IsAt v.tasks t (λ task. task.caller ≡ Guest (record subtask { result = words }))
+
 -- After a return the caller has the result: what is lifted of its memory behind the lowering, and of the words that are kept for it, is
 -- the result that the task's line shows.
 abbrev pub ResultsArrive : Type 0
@@ -160,7 +166,7 @@ ResultsArrive =
     (g : Graph) (s : Script) (steps : List (List Label)) (w v : World) (t : ℕ) (subtask : Subtask) (l : Lower) (result : TypedValue) (answers : List Answer) (words : List ℕ)
     → IsSound g s → Reaches g s (first_world g) steps w → IsReturn g s w t subtask l result answers words v
     → Apart (result_target l.func_type result.val_type subtask.words) answers
-    → result_taken l.func_type result.val_type (bytes_of v.store (memory_of v.store l.options)) subtask.words words ≡ Ok result.value
+    → KeepsWords v t subtask words × (result_taken l.func_type result.val_type (bytes_of v.store (memory_of v.store l.options)) subtask.words words ≡ Ok result.value)
 
 -- These steps lead from the one world to the other, in which control is back at a task that called, and in none before it.
 abbrev pub UntilBack : Graph → Script → World → List (List Label) → World → Type 0
@@ -198,12 +204,19 @@ pub record IsMemoryOf (g : Graph) (s : Store) (owner address : ℕ) : Type 0 whe
 abbrev pub IsShared : Graph → Store → Lower → Type 0
 IsShared g s l = (address : ℕ) × (memory_of s l.options ≡ Some address) × IsMemoryOf g s l.lift.instance address
 
+-- In the one world a task waits with a stack, which in the other one goes on with these words.
+pub record IsResumed (t : ℕ) (words : List ℕ) (back u : World) : Type 0 where
+  pub stack : Stack
+  pub waits : IsAt back.tasks t (λ task. task.stacks ≡ stack ∷ [])
+  pub goes_on : IsAt u.tasks t (λ task. task.stacks ≡ resume words stack ∷ [])
+
 -- The caller goes on with these words, which its line shows, and has the result: also behind the post-return, which runs in the component
 -- instance of the task that was called, unless this has the caller's memory.
-pub record HasGot (g : Graph) (v : World) (subtask : Subtask) (l : Lower) (result : TypedValue) (words : List ℕ) (labels : List Label) (u : World) : Type 0 where
+pub record HasGot (g : Graph) (v : World) (subtask : Subtask) (l : Lower) (result : TypedValue) (words : List ℕ) (labels : List Label) (back u : World) : Type 0 where
   pub lines : labels ≡ line.Got subtask.by words ∷ []
   pub control : u.control ≡ Runs
   pub acts : slice_get u.chain 0 ≡ Some subtask.by
+  pub resumed : IsResumed subtask.by words back u
   pub taken : (IsShared g v.store l → ⊥) → result_taken l.func_type result.val_type (bytes_of u.store (memory_of u.store l.options)) subtask.words words ≡ Ok result.value
 
 -- So it is where control comes back to the caller, on a graph whose core definitions stay in their component instance.
@@ -212,4 +225,4 @@ ResultsAreGot =
     (g : Graph) (s : Script) (steps more : List (List Label)) (w v back u : World) (t : ℕ) (subtask : Subtask) (l : Lower) (result : TypedValue) (answers : List Answer) (words : List ℕ)
     (labels : List Label) → IsSound g s → IsApart g → Reaches g s (first_world g) steps w → IsReturn g s w t subtask l result answers words v
     → Apart (result_target l.func_type result.val_type subtask.words) answers → UntilBack g s v more back → next g s back ≡ Steps labels u
-    → HasGot g v subtask l result words labels u
+    → HasGot g v subtask l result words labels back u
