@@ -1,7 +1,7 @@
 //! What a call passes arrives.
 
 ghost use Rattle.canonical_machine.specs.Transport.{ArgumentsArrive, EntriesAreWhole, ResultsArrive, ReturnsAreWhole, ResultsAreGot};
-ghost use Rattle.canonical_machine.specs.TransportExamples.{NumberArrives, TextArrives, PairArrives};
+ghost use Rattle.canonical_machine.specs.TransportExamples.{NumberArrives, NumberReturns, TextArrives, FirstTextArrives, PairArrives};
 
 /// After an entry a task has its caller's arguments: where the places that reallocs give for them lie apart, what is lifted of the words
 /// with which its core function begins, and of its memory as it is then, are the arguments that were passed. Each entry that does not
@@ -22,10 +22,13 @@ pub fn results_arrive()
     ensures got { ResultsAreGot }
 {}
 
-/// Worked out by hand: a number that the script passes in a run from the first world, a text that it passes, over the place that the realloc
-/// gives for it, and a pair that a task returns into its caller's memory. The places lie apart, and the values are lifted there.
+/// Worked out by hand: a number that the script passes in a run from the first world, and one that a task returns to its caller in that run;
+/// two texts that a script passes, each over the place that the realloc gives for it, the second in a run from the first world; and a pair
+/// that a task returns into its caller's memory. The places lie apart, and the values are lifted there.
 pub fn values_arrive()
     ensures number { NumberArrives }
+    ensures result { NumberReturns }
     ensures text { TextArrives }
+    ensures first_text { FirstTextArrives }
     ensures pair { PairArrives }
 {}
