@@ -1,6 +1,6 @@
 -- Transport (Component Model, CanonicalABI.md, `canon lift` and `canon lower`; "Flat Lifting", "Flat Lowering", "Loading", "Storing"):
 -- what a call passes arrives. Where the places that reallocs give for a lowering lie apart, a task's core function begins with words
--- and a memory of which its arguments are lifted, and the task that called it has words and a memory of which the result is lifted.
+-- and a memory of which its arguments are lifted, and the task that called it goes on with words and a memory of which the result is lifted.
 use Rattle.std.specs.Prelude.{◌≡◌, ◌≢◌, ◌≤◌, ℕ, if◌then◌else◌, List, [], ◌∷◌, Some, Result, Ok}
 use Rattle.std.specs.List.{slice_get}
 use Rattle.core_machine.specs.Store.{Function, Instance, Store, found_at}
@@ -124,8 +124,8 @@ pub record BeginsByEntry (g : Graph) (s : Script) (w u : World) : Type 0 where
   pub steps : List (List Label)
   pub goes_on : Reaches g s begun steps u
 
--- Where a task is new, no core function of a task runs before the entry is done. So each entry that does not end the run is one as
--- above.
+-- Where a task is new, no core function of a task runs before the entry is done, but the reallocs that it asks. So each entry that does not
+-- end the run is one as above, over the places that these gave, apart or not.
 abbrev pub EntriesAreWhole : Type 0
 EntriesAreWhole =
     (g : Graph) (s : Script) (before steps : List (List Label)) (w u : World) → IsSound g s → Reaches g s (first_world g) before w → w.control ≡ Arrives
@@ -184,7 +184,7 @@ pub record GoesBackByReturn (g : Graph) (s : Script) (w : World) (t : ℕ) (subt
   pub until : UntilBack g s behind steps back
 
 -- Where a step shows the result of a task that another one called, the result is lowered before control is back at a task. So each return
--- to a task that does not end the run is one as above.
+-- of a result to a task that does not end the run is one as above, over the places that reallocs gave, apart or not.
 abbrev pub ReturnsAreWhole : Type 0
 ReturnsAreWhole =
     (g : Graph) (s : Script) (before steps : List (List Label)) (w v back : World) (t : ℕ) (task : Task) (subtask : Subtask) (result : TypedValue)
