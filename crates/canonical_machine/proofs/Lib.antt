@@ -66,6 +66,7 @@ pub mod TransportRuns
 pub mod TransportEntry
 pub mod TransportReturn
 pub mod TransportMemories
+pub mod CallersApart
 pub mod TransportSpared
 pub mod TransportResolved
 pub mod TransportGot

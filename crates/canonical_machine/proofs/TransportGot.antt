@@ -28,11 +28,12 @@ use Rattle.canonical_machine.specs.Tasks.{IsCalleeOf, AreCalled, caller_number, 
 use Rattle.canonical_machine.specs.KeptLaws.{IsKept}
 use Rattle.canonical_machine.specs.Transport.{RunsNested, result_taken, ResultsArrive, UntilBack, ReturnsAreWhole, IsResumed, ResultsAreGot}
 use Rattle.canonical_machine.specs.Owners.{IsApartWorld}
-use Rattle.canonical_machine.proofs.ApartSteps.{first_apart, apart_stays}
+use Rattle.canonical_machine.proofs.ApartSteps.{first_apart, lower_apart, apart_stays}
+use Rattle.canonical_machine.proofs.CallersApart.{AreTasksApart, first_tasks, reached_tasks, called_other}
 use Rattle.canonical_machine.proofs.Changed.{changed_there, changed_other}
 use Rattle.canonical_machine.proofs.Graphs.{same_func}
 use Rattle.canonical_machine.proofs.Ordered.{called_at}
-use Rattle.canonical_machine.proofs.TransportSpared.{comes_reaches, reached_apart, run_spares, spared_bytes}
+use Rattle.canonical_machine.proofs.TransportSpared.{comes_reaches, reached_apart, other_memory, run_spares, spared_bytes}
 use Rattle.canonical_machine.proofs.TransportEntry.{memory_same}
 use Rattle.canonical_machine.proofs.TransportRuns.{IsDoomed, IsMidst, lowers_on}
 use Rattle.canonical_machine.proofs.TransportReturn.{HasReturned, returned_by, returned_of, IsRunning, running_of, is_taken}
@@ -338,15 +339,18 @@ results_are_got g s steps more w v back u t subtask l result answers words label
     let inst : f.instance ≡ l.lift.instance = callee_instance g t f subtask l w h.ordered.called e.by both.0 in
     let there : result_taken l.func_type result.val_type (bytes_of v.store (memory_of v.store l.options)) subtask.words words ≡ Ok result.value =
     is_taken g s steps w v t subtask l result answers words sound r e apart in
+    let tasks : AreTasksApart g w = reached_tasks g s steps (first_world g) w is_apart (first_kept g s sound) (first_apart g) (first_tasks g) r in
+    let other : l.lift.instance ≢ l.instance = called_other g w t e.task subtask l tasks k.there e.called e.by in
     record {
       lines = got.lines;
       control = got.control;
       acts = got.acts;
       resumed = got.resumed;
-      taken = λ shared.
+      taken =
           let same : bytes_of got.left.store (memory_of v.store l.options) ≡ bytes_of v.store (memory_of v.store l.options) =
           spared_bytes v.store got.left.store (memory_of v.store l.options) (λ a is.
-          run_spares a g s BeforeLeaving l.lift.instance is_apart got.steps v got.left kept parts (post_of f l.lift.instance v inst done.leaves) (λ m. shared (a, is, m)) got.runs) in
+          run_spares a g s BeforeLeaving l.lift.instance is_apart got.steps v got.left kept parts (post_of f l.lift.instance v inst done.leaves)
+          (other_memory g v.store l l.lift.instance a parts.owned (lower_apart g is_apart subtask.canon l e.by).0 other is) got.runs) in
           ap (λ (m : Option ℕ). result_taken l.func_type result.val_type (bytes_of u.store m) subtask.words words) memory
           ∙ (ap (λ (s : Store). result_taken l.func_type result.val_type (bytes_of s (memory_of v.store l.options)) subtask.words words) got.store
           ∙ (ap (λ (bytes : List ℕ). result_taken l.func_type result.val_type bytes subtask.words words) same ∙ there));

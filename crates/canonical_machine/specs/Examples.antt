@@ -410,8 +410,8 @@ sharing instance =
     [] of_text
     (lifts 0 (func_at 2 0) (record { memory = Some (record { instance = 1; index = 0 }); realloc = Some (func_at instance 0); post_return = None }))
 
--- Graphs in which what a core instance imports, and the realloc and the post-return of a lift or a lower, were made by its own component
--- instance, and whose plan makes each core instance in order.
+-- Graphs in which what a core instance imports, the core function of a lift, and what the options of a lift or a lower give, were made by its
+-- own component instance, and whose plan makes each core instance in order.
 abbrev pub AreApart : Type 0
 AreApart = IsApart calling_behind × IsApart coming_back × IsApart (sharing 1) × IsApart doubling
 

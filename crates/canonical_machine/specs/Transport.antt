@@ -3,7 +3,7 @@
 -- and a memory of which its arguments are lifted, and the task that called it goes on with words and a memory of which the result is lifted.
 use Rattle.std.specs.Prelude.{◌≡◌, ◌≢◌, ◌≤◌, ℕ, if◌then◌else◌, List, [], ◌∷◌, Some, Result, Ok}
 use Rattle.std.specs.List.{slice_get}
-use Rattle.core_machine.specs.Store.{Function, Instance, Store, found_at}
+use Rattle.core_machine.specs.Store.{Function, found_at}
 use Rattle.core_machine.specs.Stack.{Stack}
 use Rattle.core_machine.specs.Step.{start, resume}
 use Rattle.ca_types.specs.declared.types.ValType.{ValType}
@@ -37,7 +37,7 @@ use Rattle.canonical_machine.specs.Next.{next}
 use Rattle.canonical_machine.specs.Run.{Reaches}
 use Rattle.canonical_machine.specs.Sound.{IsSound}
 use Rattle.canonical_machine.specs.Tasks.{IsAt}
-use Rattle.canonical_machine.specs.Owners.{owner_of_core, IsApart}
+use Rattle.canonical_machine.specs.Owners.{IsApart}
 
 -- A lowering, in a run.
 
@@ -191,19 +191,6 @@ ReturnsAreWhole =
     → IsSound g s → Reaches g s (first_world g) before w → w.control ≡ Runs → acting w ≡ Some (t, task) → task.caller ≡ Guest subtask
     → next g s w ≡ Steps (line.Return t (Some result) ∷ []) v → UntilBack g s v steps back → GoesBackByReturn g s w t subtask result back
 
--- This is a memory of a core instance that a component instance made.
-pub record IsMemoryOf (g : Graph) (s : Store) (owner address : ℕ) : Type 0 where
-  pub number : ℕ
-  pub instance : Instance
-  pub index : ℕ
-  pub owned : owner_of_core g number ≡ Some owner
-  pub there : slice_get s.instances number ≡ Some instance
-  pub at : slice_get instance.memories index ≡ Some address
-
--- The memory of a caller is one of the component instance whose function is lowered.
-abbrev pub IsShared : Graph → Store → Lower → Type 0
-IsShared g s l = (address : ℕ) × (memory_of s l.options ≡ Some address) × IsMemoryOf g s l.lift.instance address
-
 -- In the one world a task waits with a stack, which in the other one goes on with these words.
 pub record IsResumed (t : ℕ) (words : List ℕ) (back u : World) : Type 0 where
   pub stack : Stack
@@ -211,13 +198,13 @@ pub record IsResumed (t : ℕ) (words : List ℕ) (back u : World) : Type 0 wher
   pub goes_on : IsAt u.tasks t (λ task. task.stacks ≡ resume words stack ∷ [])
 
 -- The caller goes on with these words, which its line shows, and has the result: also behind the post-return, which runs in the component
--- instance of the task that was called, unless this has the caller's memory.
-pub record HasGot (g : Graph) (v : World) (subtask : Subtask) (l : Lower) (result : TypedValue) (words : List ℕ) (labels : List Label) (back u : World) : Type 0 where
+-- instance of the task that was called, and so leaves the caller's memory alone.
+pub record HasGot (subtask : Subtask) (l : Lower) (result : TypedValue) (words : List ℕ) (labels : List Label) (back u : World) : Type 0 where
   pub lines : labels ≡ line.Got subtask.by words ∷ []
   pub control : u.control ≡ Runs
   pub acts : slice_get u.chain 0 ≡ Some subtask.by
   pub resumed : IsResumed subtask.by words back u
-  pub taken : (IsShared g v.store l → ⊥) → result_taken l.func_type result.val_type (bytes_of u.store (memory_of u.store l.options)) subtask.words words ≡ Ok result.value
+  pub taken : result_taken l.func_type result.val_type (bytes_of u.store (memory_of u.store l.options)) subtask.words words ≡ Ok result.value
 
 -- So it is where control comes back to the caller, on a graph whose core definitions stay in their component instance.
 abbrev pub ResultsAreGot : Type 0
@@ -225,4 +212,4 @@ ResultsAreGot =
     (g : Graph) (s : Script) (steps more : List (List Label)) (w v back u : World) (t : ℕ) (subtask : Subtask) (l : Lower) (result : TypedValue) (answers : List Answer) (words : List ℕ)
     (labels : List Label) → IsSound g s → IsApart g → Reaches g s (first_world g) steps w → IsReturn g s w t subtask l result answers words v
     → Apart (result_target l.func_type result.val_type subtask.words) answers → UntilBack g s v more back → next g s back ≡ Steps labels u
-    → HasGot g v subtask l result words labels back u
+    → HasGot subtask l result words labels back u

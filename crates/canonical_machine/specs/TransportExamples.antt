@@ -60,7 +60,7 @@ pub record NumberReturns : Type 0 where
   pub lifted : result_taken of_two type.U32 (bytes_of behind.store (memory_of behind.store no_options)) adding.words (8 ∷ []) ≡ Ok (value.U32 8)
   pub until : UntilBack doubling number_script behind ((line.Exit 2 ∷ []) ∷ []) back
   pub goes_on : next doubling number_script back ≡ Steps (line.Got 1 (8 ∷ []) ∷ []) on
-  pub got : HasGot doubling behind adding adds_lower (u32 8) (8 ∷ []) (line.Got 1 (8 ∷ []) ∷ []) back on
+  pub got : HasGot adding adds_lower (u32 8) (8 ∷ []) (line.Got 1 (8 ∷ []) ∷ []) back on
 
 -- The script passes the text to a function whose memory has 40 bytes.
 abbrev pub measures : Lifted

@@ -73,8 +73,8 @@ pub fn results_in_memory()
     ensures too_far { Pairs 20 (pair_returned 20) (Trapped 2 trap.Bounds) 4 (replicate 24 0) }
 {}
 
-/// In four graphs what a core instance imports, and the realloc and the post-return of a lift or a lower, were made by its own
-/// component instance, and the plan makes each core instance in order; in one of them a core instance imports a memory, and a function is
+/// In four graphs what a core instance imports, the core function of a lift, and what the options of a lift or a lower give, were made by
+/// its own component instance, and the plan makes each core instance in order; in one of them a core instance imports a memory, and a function is
 /// lifted with that memory and a realloc. In two others the root imports a function that its child made, or lifts with a realloc of the
 /// child's.
 pub fn graphs_apart()

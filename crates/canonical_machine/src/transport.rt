@@ -15,8 +15,8 @@ pub fn arguments_arrive()
 /// place that the caller passed, words are kept for the caller, and what is lifted, behind the lowering, from the caller's memory, or from
 /// these words, is the result that the line of the return shows. Each return of a result to a task that does not end the run is done before
 /// control is back at a task, over the places that reallocs gave, apart or not. On a graph whose core definitions stay in their component
-/// instance the caller's stack goes on with these words, and the caller has the result then too, unless its memory is one of the component
-/// instance that it called: the post-return alone runs between.
+/// instance the caller's stack goes on with these words, and the caller has the result then too: the post-return alone runs between, in
+/// another component instance.
 pub fn results_arrive()
     ensures arrive { ResultsArrive }
     ensures whole { ReturnsAreWhole }
