@@ -125,5 +125,5 @@ first_text_arrives =
       entry = text_entry;
       may = text_few;
       apart = text_apart;
-      lifted = arguments_arrive (sharing 1) sharing_script r.0 text_new text_begun 1 shares (Host (value.String text ∷ [])) text_value (at_16 ∷ []) (16 ∷ 6 ∷ []) are_sound.1 r.1 text_entry text_few text_apart;
+      lifted = (arguments_arrive (sharing 1) sharing_script r.0 text_new text_begun 1 shares (Host (value.String text ∷ [])) text_value (at_16 ∷ []) (16 ∷ 6 ∷ []) are_sound.1 r.1 text_entry text_apart).lifted text_few;
     }

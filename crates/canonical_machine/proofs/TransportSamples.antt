@@ -122,7 +122,7 @@ number_arrives =
       reached = r.1;
       entry = number_entry;
       may = number_few;
-      lifted = arguments_arrive doubling number_script r.0 number_new number_begun 1 doubles (Host (value.U32 4 ∷ [])) number_value [] (4 ∷ []) are_sound.0 r.1 number_entry number_few tt;
+      lifted = (arguments_arrive doubling number_script r.0 number_new number_begun 1 doubles (Host (value.U32 4 ∷ [])) number_value [] (4 ∷ []) are_sound.0 r.1 number_entry tt).lifted number_few;
     }
 
 -- A text is passed.

@@ -1,7 +1,7 @@
 -- Transport (Component Model, CanonicalABI.md, `canon lift` and `canon lower`; "Flat Lifting", "Flat Lowering", "Loading", "Storing"):
 -- what a call passes arrives. Where the places that reallocs give for a lowering lie apart, a task's core function begins with words
 -- and a memory of which its arguments are lifted, and the task that called it goes on with words and a memory of which the result is lifted.
-use Rattle.std.specs.Prelude.{◌≡◌, ◌≢◌, ◌≤◌, ℕ, if◌then◌else◌, List, [], ◌∷◌, Some, Result, Ok}
+use Rattle.std.specs.Prelude.{◌≡◌, ◌≢◌, ◌≤◌, ℕ, Bool, true, false, if◌then◌else◌, List, [], ◌∷◌, Some, Result, Ok}
 use Rattle.std.specs.List.{slice_get}
 use Rattle.core_machine.specs.Store.{Function, found_at}
 use Rattle.core_machine.specs.Stack.{Stack}
@@ -14,10 +14,11 @@ use Rattle.value_lift.specs.declared.trap.LiftTrap.{LiftTrap}
 use Rattle.value_lift.specs.declared.counting.LiftOf.TheVariants as whole
 use Rattle.value_lift.specs.Lifting.{load, lift_flat, most}
 use Rattle.value_lift.specs.Standing.{counts}
+use Rattle.value_lift.specs.Stored.{IsFlattened}
 use Rattle.value_lower.specs.Plan.{Plan}
 use Rattle.canonical_machine.specs.Settling.{Answer}
 use Rattle.canonical_machine.specs.ApartPlaces.{Region, Apart}
-use Rattle.canonical_machine.specs.ValueLaws.{target}
+use Rattle.canonical_machine.specs.ValueLaws.{target, IsPlaced}
 use Rattle.comp_graph.specs.declared.graph.Lower.{Lower}
 use Rattle.comp_graph.specs.Graph.{Graph, Lifted}
 use Rattle.script_reader.specs.Script.{Script}
@@ -27,7 +28,7 @@ use Rattle.trace_show.specs.declared.typed.TypedValue.{TypedValue}
 use Rattle.canonical_machine.specs.Control.{Runs, Arrives, Lowers, Quiet, Back, Lowering, Nested, Behind, InLowering}
 use Rattle.canonical_machine.specs.World.{Func, Subtask, Caller, Nobody, Host, Guest, Task, World, first_world}
 use Rattle.canonical_machine.specs.Reading.{func_address, memory_of, bytes_of, lower_at, acting}
-use Rattle.canonical_machine.specs.Passing.{result_in_memory, arguments_lifted, arguments_plan, result_plan, last_of}
+use Rattle.canonical_machine.specs.Passing.{params_type, params_in_memory, result_in_memory, arguments_lifted, arguments_plan, result_plan, last_of}
 use Rattle.canonical_machine.specs.Pausing.{Words, Asked, settle}
 use Rattle.canonical_machine.specs.Entering.{arguments_of, arguments_lowering}
 use Rattle.canonical_machine.specs.Returning.{result_lowering}
@@ -103,13 +104,23 @@ MayBeLifted Nobody = Unit {0}
 MayBeLifted (Host values) = counts (value.Record values) ≤ most whole.Arguments
 MayBeLifted (Guest subtask) = Unit {0}
 
--- After an entry a task has its caller's arguments: what is lifted of the words with which its core function begins, and of its memory
--- as it is then, are the arguments that were passed.
+-- Words stand for a value, over a memory: the one word is its place, or they are its core values.
+abbrev pub IsPassedIn : Bool → ValType → Value → List ℕ → List ℕ → Type 0
+IsPassedIn true type v bytes words = IsPlaced type v bytes words
+IsPassedIn false type v bytes words = IsFlattened bytes type v words
+
+-- The arguments stand in these words, over the task's memory, and where they may be lifted they are what is lifted of both.
+pub record HasArrived (f : Lifted) (caller : Caller) (arguments : Value) (words : List ℕ) (v : World) : Type 0 where
+  pub stand : IsPassedIn (params_in_memory f.func_type) (params_type f.func_type) arguments (bytes_of v.store (memory_of v.store f.options)) words
+  pub lifted : MayBeLifted caller → arguments_lifted f.func_type (bytes_of v.store (memory_of v.store f.options)) words ≡ Ok arguments
+
+-- After an entry a task has its caller's arguments: those that were passed stand in the words with which its core function begins, over its
+-- memory as it is then, and are what is lifted of both.
 abbrev pub ArgumentsArrive : Type 0
 ArgumentsArrive =
     (g : Graph) (s : Script) (steps : List (List Label)) (w v : World) (t : ℕ) (f : Lifted) (caller : Caller) (arguments : Value) (answers : List Answer) (words : List ℕ)
-    → IsSound g s → Reaches g s (first_world g) steps w → IsEntry g s w t f caller arguments answers words v → MayBeLifted caller → Apart [] answers
-    → arguments_lifted f.func_type (bytes_of v.store (memory_of v.store f.options)) words ≡ Ok arguments
+    → IsSound g s → Reaches g s (first_world g) steps w → IsEntry g s w t f caller arguments answers words v → Apart [] answers
+    → HasArrived f caller arguments words v
 
 -- A task's entry, with which a run from the one world to the other begins.
 pub record BeginsByEntry (g : Graph) (s : Script) (w u : World) : Type 0 where

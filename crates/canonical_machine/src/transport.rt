@@ -3,9 +3,10 @@
 ghost use Rattle.canonical_machine.specs.Transport.{ArgumentsArrive, EntriesAreWhole, ResultsArrive, ReturnsAreWhole, ResultsAreGot};
 ghost use Rattle.canonical_machine.specs.TransportExamples.{NumberArrives, NumberReturns, TextArrives, FirstTextArrives, PairArrives};
 
-/// After an entry a task has its caller's arguments: where the places that reallocs give for them lie apart, what is lifted of the words
-/// with which its core function begins, and of its memory as it is then, are the arguments that were passed. Each entry that does not
-/// end the run is done before the task's core function runs, over the places that reallocs gave, apart or not.
+/// After an entry a task has its caller's arguments: where the places that reallocs give for them lie apart, those that were passed stand in
+/// the words with which its core function begins, over its memory as it is then, and are what is lifted of both, of a call of the script
+/// where they are not too large. Each entry that does not end the run is done before the task's core function runs, over the places that
+/// reallocs gave, apart or not.
 pub fn arguments_arrive()
     ensures arrive { ArgumentsArrive }
     ensures whole { EntriesAreWhole }
