@@ -71,5 +71,5 @@ pub mod TransportSpared
 pub mod TransportResolved
 pub mod TransportGot
 pub mod TransportSamples
-pub mod ReturnSamples
 pub mod TextSamples
+pub mod ReturnSamples

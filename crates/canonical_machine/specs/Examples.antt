@@ -121,14 +121,14 @@ gives n = Plain (I32Const (pos n)) End
 
 -- Modules: with so many imports of functions of the first type, these functions, and one that starts. A function is its type and its
 -- body.
-abbrev pub func_of : ℕ × Expr → Func
-func_of f = record { type_index = f.0; locals = []; body = f.1 }
+abbrev pub core_function : ℕ × Expr → Func
+core_function f = record { type_index = f.0; locals = []; body = f.1 }
 
 abbrev pub module_of : List core.FuncType → ℕ → List (ℕ × Expr) → Option ℕ → ModuleTree
 module_of types imports funcs start = record {
   types = types;
   imports = replicate imports (record { «module» = codes "m"; name = codes "n"; desc = wanted.Func 0 });
-  funcs = map func_of funcs;
+  funcs = map core_function funcs;
   tables = [];
   memories = [];
   globals = [];
