@@ -1,6 +1,6 @@
 -- Graphs whose component instances import and call only what they made, and those in which they do not.
 use Rattle.std.proofs.Common.{◌≡◌, ℕ, refl, arith, Some}
-use Rattle.canonical_machine.specs.Examples.{AreApart, ArePlanned, IsNotApart, HasOtherRealloc}
+use Rattle.canonical_machine.specs.Examples.{AreApart, ArePlanned, IsNotApart, HasOtherRealloc, HasOtherMemory, HasOtherFunction}
 
 pub are_apart : AreApart
 are_apart = (
@@ -40,3 +40,9 @@ is_not_apart h = let e : 1 ≡ 0 = some_same 1 0 h.imports.1.0.0 in omega (arith
 
 pub has_other_realloc : HasOtherRealloc
 has_other_realloc h = let e : 1 ≡ 0 = some_same 1 0 h.lifts.0.1.realloc in omega (arith, e)
+
+pub has_other_memory : HasOtherMemory
+has_other_memory h = let e : 1 ≡ 0 = some_same 1 0 h.lifts.0.1.memory in omega (arith, e)
+
+pub has_other_function : HasOtherFunction
+has_other_function h = let e : 1 ≡ 0 = some_same 1 0 h.lifts.0.0 in omega (arith, e)

@@ -427,9 +427,25 @@ calling_across = record calling_behind { canons = lowers 1 (lifts 1 (func_at 0 0
 abbrev pub IsNotApart : Type 0
 IsNotApart = IsApart calling_across → ⊥
 
--- In this one the root lifts with the realloc of its child.
+-- In this one the root lifts with the realloc of its child,
 abbrev pub HasOtherRealloc : Type 0
 HasOtherRealloc = IsApart (sharing 0) → ⊥
+
+-- in this one with the memory of its child,
+abbrev pub with_other_memory : Graph
+with_other_memory = record (sharing 1) {
+  lifts = lifts 0 (func_at 2 0) (record { memory = Some first_memory; realloc = Some (func_at 1 0); post_return = None }) ∷ [];
+}
+
+abbrev pub HasOtherMemory : Type 0
+HasOtherMemory = IsApart with_other_memory → ⊥
+
+-- and in this one a core function of its child.
+abbrev pub with_other_function : Graph
+with_other_function = record doubling { lifts = lifts 0 (func_at 0 0) no_options ∷ [] }
+
+abbrev pub HasOtherFunction : Type 0
+HasOtherFunction = IsApart with_other_function → ⊥
 
 -- Graphs and scripts of which all holds that linking and reading give: with a number as argument, and with a text.
 abbrev pub AreSound : Type 0
