@@ -8,7 +8,7 @@ use Rattle.ca_types.specs.declared.exports.Export.{Export}
 use Rattle.value_lift.specs.declared.trap.LiftTrap.{LiftTrap}
 use Rattle.value_lower.specs.Plan.{Plan}
 use Rattle.core_machine.specs.Store.{Function, Own, Host as HostFunction, Store, found_at}
-use Rattle.wasm_memory.specs.Memories.{MemoryState}
+use Rattle.wasm_memory.specs.Memories.{MemoryState, with_bytes}
 use Rattle.core_machine.specs.Stack.{Frame, Stack, Running, AtHost, Given}
 use Rattle.core_machine.specs.Step.{Move, Goes, Calls, Traps, start, next}
 use Rattle.core_machine.specs.Step as core
@@ -46,7 +46,7 @@ use Rattle.canonical_machine.specs.Sound.{IsSound}
 use Rattle.canonical_machine.specs.Tasks.{IsCalleeOf, AreCalled}
 use Rattle.canonical_machine.specs.Nested.{HostedTurn, On, EndsIn, TrapsBy, CallsHost, NoRule, hosted_move, hosted_next}
 use Rattle.canonical_machine.specs.Next.{next_by}
-use Rattle.canonical_machine.specs.Owners.{owner_of_core, owner_of_func, owner_of_extern, AreOptionsOf, IsCanonApart, IsApart, IsFuncOf, IsOwned, IsEntryOwned, AreOwnedBy, AreOwned, IsStackOf, IsStateOf, HasOwnRealloc, IsBehindApart, IsControlApart, IsApartWorld, FirstApart, ApartStays}
+use Rattle.canonical_machine.specs.Owners.{owner_of_core, owner_of_func, owner_of_extern, AreOptionsOf, IsLiftApart, IsCanonApart, IsApart, IsFuncOf, IsOwned, IsEntryOwned, StoreOwners, AreOwnedBy, AreOwned, IsStackOf, IsStateOf, HasOwnRealloc, IsBehindApart, IsControlApart, IsApartWorld, FirstApart, ApartStays}
 use Rattle.canonical_machine.proofs.Imports.{then_some}
 use Rattle.canonical_machine.specs.Traps.{lift_name, lower_name, core_name}
 use Rattle.canonical_machine.specs.Returning.{result_lowering, post_return_call, post_return, finished, passed_on, returned, returning_turn, control_behind, left_chain, leaving_turn}
@@ -60,7 +60,7 @@ use Rattle.canonical_machine.specs.Lowering.{nested_of, started, lowered, paused
 use Rattle.canonical_machine.specs.Nested.{nested_ended, refused, hosted, nested_turn}
 use Rattle.canonical_machine.specs.Kept.{WereMadeSoFar, IsHosted, IsKeptBy}
 use Rattle.canonical_machine.specs.Sound as sounds
-use Rattle.canonical_machine.proofs.Changed.{drop_next}
+use Rattle.canonical_machine.proofs.Changed.{drop_next, set_length}
 use Rattle.canonical_machine.proofs.Graphs.{hosts_of}
 use Rattle.canonical_machine.proofs.Imports.{Hosts}
 use Rattle.canonical_machine.proofs.Made.{LeavesWith}
@@ -102,7 +102,7 @@ charged_parts g true s w f h = either_parts g (nat_lt w.units s.fuel) (f (unit_s
 some_same : {A : Type 0} (x y : A) → Some x ≡ Some y → x ≡ y
 some_same x y h = cc
 
-lower_apart : (g : Graph) → IsApart g → (number : ℕ) (l : Lower) → lower_at g number ≡ Some l → IsCanonApart g (canon_func.Lower l)
+pub lower_apart : (g : Graph) → IsApart g → (number : ℕ) (l : Lower) → lower_at g number ≡ Some l → IsCanonApart g (canon_func.Lower l)
 lower_apart g a number l e =
     let c = then_some lower_of (slice_get g.canons number) l e in
     by c.0 (all_at (IsCanonApart g) g.canons number c.0 a.lowers c.1) c.2
@@ -113,36 +113,39 @@ lower_apart g a number l e =
 abbrev HasOptions : Graph → Lifted → Type 0
 HasOptions g f = AreOptionsOf g f.instance f.options
 
-export_apart : (g : Graph) → IsApart g → (name : List ℕ) (f : Lifted) → func_named g name ≡ Some f → HasOptions g f
+abbrev pub IsLiftedApart : Graph → Lifted → Type 0
+IsLiftedApart g f = (owner_of_func g f.core ≡ Some f.instance) × HasOptions g f
+
+export_apart : (g : Graph) → IsApart g → (name : List ℕ) (f : Lifted) → func_named g name ≡ Some f → IsLiftedApart g f
 export_apart g a name f e =
     let n = then_some (func_at g) (first_named name (names g.exports)) f e in
     by n.0 (slice_get g.exports n.0) (slice_get g.lifts n.0) refl n.2
   where
-    by : (n : ℕ) (e : Option Export) (l : Option Lift) → slice_get g.lifts n ≡ l → lifted_as e l ≡ Some f → HasOptions g f
+    by : (n : ℕ) (e : Option Export) (l : Option Lift) → slice_get g.lifts n ≡ l → lifted_as e l ≡ Some f → IsLiftedApart g f
     by n None None b h = cc
     by n None (Some l) b h = cc
     by n (Some e) None b h = cc
     by n (Some e) (Some l) b h =
         let k : Lifted = record { instance = l.instance; core = l.core; options = l.options; func_type = e.func_type } in
-        subst (HasOptions g) (some_same k f h) (all_at (λ (lift : Lift). AreOptionsOf g lift.instance lift.options) g.lifts n l a.lifts b)
+        subst (IsLiftedApart g) (some_same k f h) (all_at (IsLiftApart g) g.lifts n l a.lifts b)
 
-func_is : (callee : Callee) (f : Lifted) → func_of callee ≡ Some f → callee ≡ Func f
+pub func_is : (callee : Callee) (f : Lifted) → func_of callee ≡ Some f → callee ≡ Func f
 func_is Init f h = cc
 func_is (Func l) f h = ap Func (some_same l f h)
 
-callee_apart : (g : Graph) → IsApart g → (caller : Caller) (callee : Callee) (f : Lifted) → IsCalleeOf g caller callee → callee ≡ Func f → HasOptions g f
+callee_apart : (g : Graph) → IsApart g → (caller : Caller) (callee : Callee) (f : Lifted) → IsCalleeOf g caller callee → callee ≡ Func f → IsLiftedApart g f
 callee_apart g a Nobody callee f h e = absurd h
-callee_apart g a (Host values) callee f h e = subst (HasOptions g) (same h.1 (sym h.3 ∙ e)) (export_apart g a h.0 h.1 h.2)
+callee_apart g a (Host values) callee f h e = subst (IsLiftedApart g) (same h.1 (sym h.3 ∙ e)) (export_apart g a h.0 h.1 h.2)
   where
     same : (k : Lifted) → Func k ≡ Func f → k ≡ f
     same k e = cc
-callee_apart g a (Guest subtask) callee f h e = subst (HasOptions g) (same (lifted_of h.0) (sym h.2 ∙ e)) (lower_apart g a subtask.canon h.0 h.1).1
+callee_apart g a (Guest subtask) callee f h e = subst (IsLiftedApart g) (same (lifted_of h.0) (sym h.2 ∙ e)) (lower_apart g a subtask.canon h.0 h.1).1
   where
     same : (k : Lifted) → Func k ≡ Func f → k ≡ f
     same k e = cc
 
--- the options of the function that the acting task runs
-acting_apart : (g : Graph) → IsApart g → (w : World) → AreCalled g w.tasks → (a : ℕ × Task) (f : Lifted) → acting w ≡ Some a → func_of a.1.callee ≡ Some f → HasOptions g f
+-- the function that the acting task runs
+pub acting_apart : (g : Graph) → IsApart g → (w : World) → AreCalled g w.tasks → (a : ℕ × Task) (f : Lifted) → acting w ≡ Some a → func_of a.1.callee ≡ Some f → IsLiftedApart g f
 acting_apart g apart w called a f e k =
     let there = found_there w.tasks (slice_get w.chain 0) a e in
     let runs : a.1.callee ≡ Func f = func_is a.1.callee f k in
@@ -161,7 +164,7 @@ start_of g owner address (Own type instance locals body) words h = (h, tt)
 start_of g owner address (HostFunction type) words h = h
 
 -- a function that was found, of a component instance
-found_of : (g : Graph) (s : Store) (owner : ℕ) (o : Option ℕ) (p : ℕ × Function) (words : List ℕ) → found_at s.funcs o ≡ Some p → ((address : ℕ) → o ≡ Some address → IsOwned g s owner address)
+pub found_of : (g : Graph) (s : Store) (owner : ℕ) (o : Option ℕ) (p : ℕ × Function) (words : List ℕ) → found_at s.funcs o ≡ Some p → ((address : ℕ) → o ≡ Some address → IsOwned g s owner address)
     → IsStackOf g owner (start p.1 p.0 words)
 found_of g s owner o p words e h =
     let there = found_there s.funcs o p e in
@@ -170,7 +173,7 @@ found_of g s owner o p words e h =
 
 -- Results.
 
-record Known (g : Graph) (w : World) : Type 0 where
+pub record Known (g : Graph) (w : World) : Type 0 where
   pub called : AreCalled g w.tasks
   pub hosts : Hosts g.canons w.store
   pub owned : AreOwned g w.store
@@ -189,7 +192,7 @@ post_return_parts g t f ended w hosts owned h = by f.options.post_return h.post_
 finished_parts : (g : Graph) → IsApart g → (ended : List ℕ) (w : World) → Known g w → Parts g (finished ended w)
 unfolding finished
 finished_parts g a ended w k =
-    given_parts g (acting w) _ (λ at e. given_parts g (func_of at.1.callee) _ (λ f i. post_return_parts g at.0 f ended w k.hosts k.owned (acting_apart g a w k.called at f e i)))
+    given_parts g (acting w) _ (λ at e. given_parts g (func_of at.1.callee) _ (λ f i. post_return_parts g at.0 f ended w k.hosts k.owned (acting_apart g a w k.called at f e i).1))
 
 passed_parts : (g : Graph) → IsApart g → (t : ℕ) (caller : Caller) (ended : List ℕ) (result : Option TypedValue) (w : World) → Known g w → Parts g (passed_on g t caller ended result w)
 unfolding passed_on
@@ -220,7 +223,7 @@ ended_parts g a t task Exited words w k = tt
 
 moved_parts : (g : Graph) → IsApart g → (t : ℕ) (task : Task) (m : Move) (w : World) → MoveSame w.store m → Known g w → Parts g (moved g t task m w)
 unfolding moved
-moved_parts g a t task (Goes paid u l) w same k = apart g (with_control Runs (with_stack t l (with_store u w))) (k.owned.0, owned_same g k.owned.0 w.store u same.0 same.1.0 same.1.2 k.owned.1) tt
+moved_parts g a t task (Goes paid u l) w same k = apart g (with_control Runs (with_stack t l (with_store u w))) (k.owned.0, owned_same g k.owned.0 w.store u same.0 same.1.0 same.1.2 same.1.3 k.owned.1) tt
 moved_parts g a t task (Calls address words l) w same k = apart g (with_control (control.Calls address words) (with_stack t l w)) k.owned tt
 moved_parts g a t task (core.Ends words) w same k =
     ended_parts g a t task task.state words (unstacked t w) (record { called = called_changed g t _ w.tasks (λ n task is. is) k.called; hosts = k.hosts; owned = k.owned })
@@ -299,7 +302,7 @@ with_arguments_parts g t f (Ok v) w hosts owned h = apart g (with_control (Lower
 arriving_parts : (g : Graph) → IsApart g → (w : World) → Known g w → Parts g (arriving_turn g w)
 unfolding arriving_turn entered
 arriving_parts g a w k =
-    given_parts g (acting w) _ (λ at e. given_parts g (func_of at.1.callee) _ (λ f i. by at f (acting_apart g a w k.called at f e i) at.1.state))
+    given_parts g (acting w) _ (λ at e. given_parts g (func_of at.1.callee) _ (λ f i. by at f (acting_apart g a w k.called at f e i).1 at.1.state))
   where
     by : (at : ℕ × Task) (f : Lifted) → HasOptions g f → (state : TaskState) → Parts g (entered g at.0 at.1 state f w)
     by at f h New =
@@ -337,11 +340,11 @@ paused_parts g a l (Asked ask more) w k h =
     apart g (with_control (Quiet (nested_of l ask f) (InLowering l more)) w) k.owned (found_of g w.store l.inst l.realloc f (ask_words ask) e h, h))
 
 -- a memory with other bytes has nothing to do with functions
-rewritten_owned : (g : Graph) (s : Store) (o : Option (ℕ × MemoryState)) (bytes : List ℕ) → AreOwned g s → AreOwned g (rewritten o bytes s)
+pub rewritten_owned : (g : Graph) (s : Store) (o : Option (ℕ × MemoryState)) (bytes : List ℕ) → AreOwned g s → AreOwned g (rewritten o bytes s)
 rewritten_owned g s None bytes h = h
-rewritten_owned g s (Some m) bytes h = (h.0, owned_same g h.0 s (rewritten (Some m) bytes s) refl refl refl h.1)
+rewritten_owned g s (Some m) bytes h = (h.0, owned_same g h.0 s (rewritten (Some m) bytes s) refl refl refl (set_length s.memories m.0 (with_bytes m.1 bytes)) h.1)
 
-rewritten_hosts : (g : Graph) (s : Store) (o : Option (ℕ × MemoryState)) (bytes : List ℕ) → Hosts g.canons s → Hosts g.canons (rewritten o bytes s)
+pub rewritten_hosts : (g : Graph) (s : Store) (o : Option (ℕ × MemoryState)) (bytes : List ℕ) → Hosts g.canons s → Hosts g.canons (rewritten o bytes s)
 rewritten_hosts g s None bytes h = h
 rewritten_hosts g s (Some m) bytes h = h
 
@@ -359,32 +362,33 @@ lowers_parts g a l plan w k h =
 
 -- Nested code.
 
-closed : (g : Graph) (owners : List ℕ) (s : Store) (owner : ℕ) → AreOwnedBy g owners s → Closed (λ number. owner_of_core g number ≡ Some owner) (IsOwned g s owner) s
+pub closed : (g : Graph) (owners : StoreOwners) (s : Store) (owner : ℕ) → AreOwnedBy g owners s → Closed (λ number. owner_of_core g number ≡ Some owner) (IsOwned g s owner) s
 closed g owners s owner h = record {
   own = λ address type instance locals body own there.
       subst (IsFuncOf g owner address) (some_same own.0 (Own type instance locals body) (sym own.1 ∙ there)) own.2;
   funcs = λ number i index address p there at. all_at (IsOwned g s owner) i.funcs index address (h.funcs number owner i p there) at;
   entries = λ number i index at t n address p there found table is.
-      all_at (IsEntryOwned g s owner) t.entries n (Some address) (h.entries at owner t (all_at (λ a. slice_get owners a ≡ Some owner) i.tables index at (h.tables number owner i p there) found) table) is;
+      all_at (IsEntryOwned g s owner) t.entries n (Some address) (h.entries at owner t (all_at (λ a. slice_get owners.tables a ≡ Some owner) i.tables index at (h.tables number owner i p there) found) table) is;
 }
 
 -- the next turn of nested code
 abbrev TurnOf : Graph → ℕ → Store → HostedTurn → Type 0
-TurnOf g owner s (On paid state t) = (t.funcs ≡ s.funcs) × (t.instances ≡ s.instances) × (t.tables ≡ s.tables) × IsStateOf g owner state
+TurnOf g owner s (On paid state t) = (t.funcs ≡ s.funcs) × (t.instances ≡ s.instances) × (t.tables ≡ s.tables) × (length t.memories ≡ length s.memories) × IsStateOf g owner state
 TurnOf g owner s other = Unit {0}
 
 move_of : (g : Graph) (s : Store) (owner : ℕ) (results : List ValType) (f : Frame) (fs : List Frame) (m : Move) → MoveTyped s results m → MoveSame s m
     → MoveWithin (λ number. owner_of_core g number ≡ Some owner) (IsOwned g s owner) m → TurnOf g owner s (hosted_move (Running f fs) s m)
-move_of g s owner results f fs (Goes paid t (Running h hs)) typed same within = (same.0, same.1.0, same.1.2, within)
+move_of g s owner results f fs (Goes paid t (Running h hs)) typed same within = (same.0, same.1.0, same.1.2, same.1.3, within)
 move_of g s owner results f fs (Goes paid t (AtHost address words)) typed same within = (
   same.0,
   same.1.0,
   same.1.2,
+  same.1.3,
   subst (IsFuncOf g owner address) (some_same within.0 (HostFunction typed.2.0) (sym within.1 ∙ (ap (λ (fs : List Function). slice_get fs address) (sym same.0) ∙ typed.2.1))) within.2,
 )
-move_of g s owner results f fs (Goes paid t (Given words)) typed same within = (same.0, same.1.0, same.1.2, tt)
+move_of g s owner results f fs (Goes paid t (Given words)) typed same within = (same.0, same.1.0, same.1.2, same.1.3, tt)
 move_of g s owner results f fs (Calls address words l) typed same within =
-    (refl, refl, refl, subst (IsFuncOf g owner address) (some_same within.0.0 (HostFunction typed.0) (sym within.0.1 ∙ typed.1)) within.0.2)
+    (refl, refl, refl, refl, subst (IsFuncOf g owner address) (some_same within.0.0 (HostFunction typed.0) (sym within.0.1 ∙ typed.1)) within.0.2)
 move_of g s owner results f fs (core.Ends words) typed same within = tt
 move_of g s owner results f fs (Traps why) typed same within = tt
 move_of g s owner results f fs core.Stuck typed same within = tt
@@ -394,7 +398,7 @@ state_turn : (g : Graph) (s : Store) (owner : ℕ) (results : List ValType) (sta
 state_turn g s owner results (Going (Running f fs)) store owned typed h =
     move_of g s owner results f fs (next s (Running f fs)) (moves_typed s results (Running f fs) store typed) (move_same s (Running f fs) (next s (Running f fs)) refl)
     (next_within (λ number. owner_of_core g number ≡ Some owner) (IsOwned g s owner) s (closed g owned.0 s owner owned.1) (Running f fs) h)
-state_turn g s owner results (Going (AtHost address words)) store owned typed h = (refl, refl, refl, h)
+state_turn g s owner results (Going (AtHost address words)) store owned typed h = (refl, refl, refl, refl, h)
 state_turn g s owner results (Going (Given words)) store owned typed h = tt
 state_turn g s owner results (AtCall number words k) store owned typed h = tt
 
@@ -413,7 +417,7 @@ unfolding hosted refused
 hosted_parts g s n b (On paid state t) w owned goes h =
     charged_parts g paid s w (λ v. silent (Quiet (record n { state = state }) b) (with_store t v)) (λ units.
     apart g (with_control (Quiet (record n { state = state }) b) (with_store t (record w { units = units })))
-    (owned.0, owned_same g owned.0 w.store t goes.0 goes.1 goes.2 owned.1) (goes.3, behind_later g w.store t b goes.0 h))
+    (owned.0, owned_same g owned.0 w.store t goes.0 goes.1 goes.2 goes.3 owned.1) (goes.4, behind_later g w.store t b goes.0 h))
 hosted_parts g s n b (EndsIn words) w owned goes h = nested_ended_parts g b words w owned h
 hosted_parts g s n b (TrapsBy why) w owned goes h =
     charged_parts g true s w (λ v. doomed n.blame (core_name why) v) (λ units. apart g (with_control (Doomed n.blame (core_name why)) (record w { units = units })) owned tt)
@@ -475,7 +479,18 @@ parts_by g a s w (Doomed t why) k store kept h = tt
 -- The laws.
 
 pub first_apart : FirstApart
-first_apart g = apart g (first_world g) ([], record { count = refl; funcs = λ number owner i e there. cc; tables = λ number owner i e there. cc; entries = λ address owner t e there. cc }) tt
+first_apart g =
+    apart g (first_world g) (
+      record { tables = []; memories = [] },
+      record {
+        count = refl;
+        memory_count = refl;
+        funcs = λ number owner i e there. cc;
+        tables = λ number owner i e there. cc;
+        memories = λ number owner i e there. cc;
+        entries = λ address owner t e there. cc;
+      },
+    ) tt
 
 pub apart_stays : ApartStays
 apart_stays g s w v labels a h p e =

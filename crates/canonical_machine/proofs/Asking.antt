@@ -6,7 +6,7 @@ use Rattle.value_lower.specs.Plan.{Ask, Plan, Fails, Asks}
 use Rattle.value_lower.specs.declared.ends.LowerWhy.TheVariants.{Bounds}
 use Rattle.value_lower.specs.Lowering.{tested, asked}
 use Rattle.canonical_machine.specs.Settling.{Answer, IsAnswer, Settles}
-use Rattle.canonical_machine.specs.ApartPlaces.{Region, Within, In, Apart, given}
+use Rattle.canonical_machine.specs.ApartPlaces.{Region, Within, In, Apart, region_of}
 use Rattle.canonical_machine.proofs.Going.{Goes, Went, WasTested, was_tested, region, in_left, in_right, in_both, apart_fewer}
 
 abbrev pub question : ℕ → ℕ → Ask
@@ -62,7 +62,7 @@ module _ (count align size place span : ℕ) (P Q : ℕ → Plan → Plan) (Post
       → Went k (region place span) regions memory after words (Placed count align size Post Next)
   goes_answered k regions memory after words answer rest inside within apart few is was first second =
       let to : ℕ = answer.place in
-      let r : Region = given answer in
+      let r : Region = region_of answer in
       let same : answer.asked.size ≡ size = ap (λ (q : Ask). q.size) is.asked in
       let there : (a : ℕ) → Within (region to size) a → Within r a = λ a w. (w.0, (let n : a < answer.place + answer.asked.size = omega (arith, w.1, same) in n)) in
       let back : (a : ℕ) → Within r a → Within (region to size) a = λ a w. (w.0, (let n : a < answer.place + size = omega (arith, w.1, same) in n)) in

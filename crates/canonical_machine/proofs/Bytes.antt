@@ -58,7 +58,11 @@ grown_bytes more m h =
     if_both (λ (n : MemoryState). AreBytes n.bytes) (nat_le (page_count m + more) (most_pages m.maximum)) _ _
     (λ t. all_append IsByte m.bytes (replicate (more * 65536) 0) h (zeros_are_bytes (more * 65536))) (λ t. h)
 
--- Each byte by its place, and 0 where there is none.
+-- Bytes are bytes by their places, with 0 where there is none.
+pub are_bytes : (bytes : List ℕ) → ((i : ℕ) → slice_index bytes i < 256) → AreBytes bytes
+are_bytes [] h = tt
+are_bytes (b ∷ bytes) h = (h zero, are_bytes bytes (λ i. h (suc i)))
+
 pub each_byte : (memory : List ℕ) → AreBytes memory → (i : ℕ) → slice_index memory i < 256
 each_byte [] h i = omega arith
 each_byte (byte ∷ memory) h zero = h.0

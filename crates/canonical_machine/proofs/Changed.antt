@@ -1,5 +1,5 @@
 -- Lists in which one item is changed, or to which one is added.
-use Rattle.std.proofs.Common.{◌≡◌, ◌≢◌, ◌<◌, ◌+◌, ℕ, zero, suc, List, [], ◌∷◌, ◌++◌, length, drop, refl, ap, ◌∙◌, subst, arith, Some, None}
+use Rattle.std.proofs.Common.{◌≡◌, ◌≢◌, ◌<◌, ◌+◌, ℕ, zero, suc, List, [], ◌∷◌, ◌++◌, length, drop, set, refl, ap, ◌∙◌, subst, arith, Some, None}
 use Rattle.std.specs.List.{slice_get, AllByRecursion}
 use Rattle.canonical_machine.specs.Edits.{changed_at}
 
@@ -7,6 +7,11 @@ pub changed_length : {A : Type 0} (n : ℕ) (f : A → A) (xs : List A) → leng
 changed_length n f [] = refl
 changed_length zero f (x ∷ xs) = refl
 changed_length (suc n) f (x ∷ xs) = ap suc (changed_length n f xs)
+
+pub set_length : {A : Type 0} (xs : List A) (n : ℕ) (y : A) → length (set xs n y) ≡ length xs
+set_length [] n y = refl
+set_length (x ∷ xs) zero y = refl
+set_length (x ∷ xs) (suc n) y = ap suc (set_length xs n y)
 
 pub changed_there : {A : Type 0} (n : ℕ) (f : A → A) (xs : List A) (x : A) → slice_get xs n ≡ Some x → slice_get (changed_at n f xs) n ≡ Some (f x)
 changed_there n f [] x h = cc

@@ -8,7 +8,7 @@ use Rattle.value_lower.specs.Lowering.{tested}
 use Rattle.value_lift.specs.Bytes.{bytes_at}
 use Rattle.value_lower.specs.Following.{written}
 use Rattle.canonical_machine.specs.Settling.{Answer, Settles}
-use Rattle.canonical_machine.specs.ApartPlaces.{Region, Within, In, Apart, given}
+use Rattle.canonical_machine.specs.ApartPlaces.{Region, Within, In, Apart, region_of}
 use Rattle.canonical_machine.proofs.Memories.{length_written, there, beside, same_bytes}
 
 -- Addresses.
@@ -37,7 +37,7 @@ among_more xs ys r h a (inr i) = inr (h a i)
 pub apart_fewer : (answers : List Answer) (xs ys : List Region) → Among xs ys → Apart ys answers → Apart xs answers
 apart_fewer [] xs ys h p = tt
 apart_fewer (e ∷ answers) xs ys h p =
-    ((λ a i w. p.0 a (h a i) w), (λ a i. p.1 a (h a i)), apart_fewer answers (given e ∷ xs) (given e ∷ ys) (among_more xs ys (given e) h) p.2)
+    ((λ a i w. p.0 a (h a i) w), (λ a i. p.1 a (h a i)), apart_fewer answers (region_of e ∷ xs) (region_of e ∷ ys) (among_more xs ys (region_of e) h) p.2)
 
 -- What is left of a plan after a piece of it, the memory now, and the regions that were answered on the way.
 pub record Went (k : Plan) (target : Region) (regions : List Region) (memory after words : List ℕ) (Post : List ℕ → Type 0) : Type 0 where

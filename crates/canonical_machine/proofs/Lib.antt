@@ -66,6 +66,10 @@ pub mod TransportRuns
 pub mod TransportEntry
 pub mod TransportReturn
 pub mod TransportMemories
+pub mod CallersApart
 pub mod TransportSpared
+pub mod TransportResolved
 pub mod TransportGot
 pub mod TransportSamples
+pub mod TextSamples
+pub mod ReturnSamples

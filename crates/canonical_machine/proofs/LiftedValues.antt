@@ -2,7 +2,7 @@
 use Rattle.std.proofs.Common.{◌≡◌, ◌∙◌, ◌≤◌, ◌<◌, ◌+◌, ◌/◌, ◌%◌, ◌^◌, ℕ, zero, suc, Bool, true, false, cond, List, [], ◌∷◌, ◌++◌, map, length, get_or, Option, Some, None, Ok, Err, refl, ap, sym, subst, arith}
 use Rattle.std.proofs.lemmas.Bool.{cond_both}
 use Rattle.std.proofs.Math.Facts.{sfits_to_z}
-use Rattle.std.specs.Prelude.{nat_le, FitsSigned}
+use Rattle.std.specs.Prelude.{nat_le, FitsSigned, slice_index}
 use Rattle.std.specs.Int.{Width, w8, w16, w32, w64, cast_signed}
 use mir.Val.{bits}
 use Rattle.ca_types.specs.declared.core_type.CoreType.{CoreType}
@@ -33,13 +33,18 @@ use Rattle.value_lift.proofs.Views.{out_s32, out_u32, out_s64, out_u64, out_flag
 use Rattle.value_lift.proofs.WordStood.{flat_of_record, flat_of_tuple}
 use Rattle.value_lift.proofs.WordTypes.{word_told_type}
 use Rattle.value_lift.proofs.Wrapped.{Shares, shares, words_many, below_length}
-use Rattle.canonical_machine.specs.LiftedValues.{AreBytes, StandingValuesAre, StandingListsAre, FlattenedValuesAre, LoadedValuesAre, LoadedListsAre, LiftedValuesAre}
+use Rattle.canonical_machine.specs.LiftedValues.{StandingValuesAre, StandingListsAre, FlattenedValuesAre, LoadedValuesAre, LoadedListsAre, LiftedValuesAre}
 use Rattle.canonical_machine.specs.Values.{IsOf, AllAre, EachIs, PayloadIs, bool_is, s8_is, u8_is, s16_is, u16_is, s32_is, u32_is, s64_is, u64_is, char_is, string_is, list_is, record_is, tuple_is, flags_are, case_is, enum_is, none_is, some_is, ok_is, err_is, none_are, more_are, no_types, more_types, no_payload_is, payload_is}
+use Rattle.canonical_machine.proofs.Bytes.{each_byte}
 use Rattle.canonical_machine.proofs.Memories.{byte_of}
 use Rattle.canonical_machine.proofs.WordsByKind.{types_of}
 
+-- a memory of bytes, by their places
+abbrev pub EachByte : List ℕ → Type 0
+EachByte memory = (i : ℕ) → slice_index memory i < 256
+
 -- Numbers of bytes.
-module _ (memory : List ℕ) (bytes : AreBytes memory) (place : ℕ) where
+module _ (memory : List ℕ) (bytes : EachByte memory) (place : ℕ) where
   byte : (count i : ℕ) → i < count → get_or (bytes_at place count memory) i 0 < 256
   byte count i low = subst (λ (n : ℕ). n < 256) (sym (byte_of place count memory i low)) (bytes (place + i))
 
@@ -103,7 +108,7 @@ flags_of : (labels : List (List ℕ)) (n : ℕ) (flags : List Bool) → AreBits 
 flags_of labels n flags a low = flags_are labels flags (many_flags labels n flags a) (omega (arith, few_flags labels n flags a, low))
 
 mutual
-  pub standing : {memory : List ℕ} {place : ℕ} {t : ValType} {v : Value} → Stands memory place t v → AreBytes memory → IsOf t v
+  pub standing : {memory : List ℕ} {place : ℕ} {t : ValType} {v : Value} → Stands memory place t v → EachByte memory → IsOf t v
   standing (false_stands place e) bytes = bool_is false
   standing (true_stands place e) bytes = bool_is true
   standing {memory = m} (s8_stands place) bytes = s8_is (cast_signed w8 (number w8 place m)) (signed w8 (number w8 place m) (number_8 m bytes place))
@@ -128,15 +133,15 @@ mutual
   standing (ok_stands place ok err payload e p) bytes = ok_is ok err payload (payload_standing p bytes)
   standing (err_stands place ok err payload e p) bytes = err_is ok err payload (payload_standing p bytes)
 
-  pub elements_standing : {memory : List ℕ} {at : ℕ} {element : ValType} {all : List Value} → AreElements memory at element all → AreBytes memory → AllAre element all
+  pub elements_standing : {memory : List ℕ} {at : ℕ} {element : ValType} {all : List Value} → AreElements memory at element all → EachByte memory → AllAre element all
   elements_standing (no_elements at element) bytes = none_are element
   elements_standing (more_elements at element v all s are) bytes = more_are element v all (standing s bytes) (elements_standing are bytes)
 
-  fields_standing : {memory : List ℕ} {place end : ℕ} {types : List ValType} {all : List Value} → AreFields memory place end types all → AreBytes memory → EachIs types all
+  fields_standing : {memory : List ℕ} {place end : ℕ} {types : List ValType} {all : List Value} → AreFields memory place end types all → EachByte memory → EachIs types all
   fields_standing (no_fields place end) bytes = no_types
   fields_standing (more_fields place end t types v all s are) bytes = more_types t types v all (standing s bytes) (fields_standing are bytes)
 
-  payload_standing : {memory : List ℕ} {place : ℕ} {p : Option ValType} {payload : Option Value} → IsPayload memory place p payload → AreBytes memory → PayloadIs p payload
+  payload_standing : {memory : List ℕ} {place : ℕ} {p : Option ValType} {payload : Option Value} → IsPayload memory place p payload → EachByte memory → PayloadIs p payload
   payload_standing (no_payload place) bytes = no_payload_is
   payload_standing (payload_stands place t v s) bytes = payload_is t v (standing s bytes)
 
@@ -188,7 +193,7 @@ case_words t y n p words e kind at a =
     }
 
 mutual
-  pub flat_standing : {memory : List ℕ} {t : ValType} {v : Value} {words : List ℕ} → FlatOf memory t v words → AreBytes memory → AreWords (flat t) words → IsOf t v
+  pub flat_standing : {memory : List ℕ} {t : ValType} {v : Value} {words : List ℕ} → FlatOf memory t v words → EachByte memory → AreWords (flat t) words → IsOf t v
   flat_standing false_flat bytes a = bool_is false
   flat_standing (true_flat w n) bytes a = bool_is true
   flat_standing (s8_flat w) bytes a = s8_is (cast_signed w8 (w % 2 ^ 8)) (signed w8 (w % 2 ^ 8) (low_8 w))
@@ -217,34 +222,34 @@ mutual
   flat_standing (err_flat ok err payload words p) bytes a =
       err_is ok err payload (paid_standing p bytes (case_words (types.Result ok err) (F.Result ok err) 1 err words (out_result ok err) tt refl a).room)
 
-  row_standing : {memory : List ℕ} {types : List ValType} {all : List Value} {words : List ℕ} → AreFlat memory types all words → AreBytes memory → AreWords (all_of (map flat types)) words
+  row_standing : {memory : List ℕ} {types : List ValType} {all : List Value} {words : List ℕ} → AreFlat memory types all words → EachByte memory → AreWords (all_of (map flat types)) words
       → EachIs types all
   row_standing no_flat bytes a = no_types
   row_standing (more_flat t types v all words others many s are) bytes a =
       let r = are_split (flat t) (all_of (map flat types)) words others many a in
       more_types t types v all (flat_standing s bytes r.0) (row_standing are bytes r.1)
 
-  paid_standing : {memory : List ℕ} {p : Option ValType} {payload : Option Value} {words : List ℕ} → IsFlatPayload memory p payload words → AreBytes memory
+  paid_standing : {memory : List ℕ} {p : Option ValType} {payload : Option Value} {words : List ℕ} → IsFlatPayload memory p payload words → EachByte memory
       → ((q : ValType) → p ≡ Some q → length (flat q) ≤ length words) → PayloadIs p payload
   paid_standing (no_flat_payload words) bytes room = no_payload_is
   paid_standing (flat_payload_of t v words s) bytes room = payload_is t v (flat_standing s bytes (wrapped_are (flat t) words (room t refl)))
 
 -- The laws.
 pub standing_values_are : StandingValuesAre
-standing_values_are type memory place v bytes s = standing s bytes
+standing_values_are type memory place v bytes s = standing s (each_byte memory bytes)
 
 pub standing_lists_are : StandingListsAre
-standing_lists_are type memory place all bytes are = elements_standing are bytes
+standing_lists_are type memory place all bytes are = elements_standing are (each_byte memory bytes)
 
 pub flattened_values_are : FlattenedValuesAre
-flattened_values_are type memory words v bytes is = flat_standing is.stands bytes is.typed
+flattened_values_are type memory words v bytes is = flat_standing is.stands (each_byte memory bytes) is.typed
 
 pub loaded_values_are : LoadedValuesAre
-loaded_values_are what type memory place v bytes h = standing ((loaded_values_stand what type memory place v).0 h).stored.stands bytes
+loaded_values_are what type memory place v bytes h = standing ((loaded_values_stand what type memory place v).0 h).stored.stands (each_byte memory bytes)
 
 pub loaded_lists_are : LoadedListsAre
 loaded_lists_are type memory place zero all bytes h = subst (λ (l : List Value). AllAre type l) (ok_same [] all h) (none_are type)
-loaded_lists_are type memory place (suc count) all bytes h = elements_standing ((loaded_lists_stand type memory place (suc count) all (omega arith)).0 h).stored.stand bytes
+loaded_lists_are type memory place (suc count) all bytes h = elements_standing ((loaded_lists_stand type memory place (suc count) all (omega arith)).0 h).stored.stand (each_byte memory bytes)
 
 value_was : (l : Lifted Value) (v : Value) → value_of l ≡ Ok v → (rest : ℕ) × (l ≡ Ok (v, rest))
 value_was (Ok x) v h = (x.1, ap (λ (w : Value). (let r : Lifted Value = Ok (w, x.1) in r)) (ok_same x.0 v h))
@@ -254,4 +259,4 @@ pub lifted_values_are : LiftedValuesAre
 lifted_values_are what type memory words v bytes many h =
     let w = value_was (lift_words type memory words 0 (most what)) v h in
     let f = word_told_type type memory words 0 (most what) w.0 v (omega (arith, many)) w.1 in
-    flat_standing f.stands bytes (wrapped_are (flat type) words (omega (arith, many)))
+    flat_standing f.stands (each_byte memory bytes) (wrapped_are (flat type) words (omega (arith, many)))

@@ -22,11 +22,12 @@ use Rattle.core_machine.specs.Step.{Move, Goes, Calls, Ends, Traps, Stuck, ended
 use Rattle.core_machine.proofs.Lists.{if_both, all_at, all_set}
 use Rattle.canonical_machine.specs.Sound.{AreBytes}
 use Rattle.canonical_machine.specs.Kept.{HasBytesAlone}
+use Rattle.canonical_machine.proofs.Changed.{set_length}
 use Rattle.canonical_machine.proofs.Bytes.{put_bytes, stored_are_bytes, grown_bytes, filled_bytes, copied_bytes}
 
--- a store with the same instances and tables, and with memories of bytes where the other one has such
+-- a store with the same instances and tables, with memories of bytes where the other one has such, and with as many
 abbrev pub IsOnward : Store → Store → Type 0
-IsOnward s t = (t.instances ≡ s.instances) × (HasBytesAlone s → HasBytesAlone t) × (t.tables ≡ s.tables)
+IsOnward s t = (t.instances ≡ s.instances) × (HasBytesAlone s → HasBytesAlone t) × (t.tables ≡ s.tables) × (length t.memories ≡ length s.memories)
 
 -- what an instruction leaves, and what a move leaves
 abbrev pub EffectKeeps : Store → Effect → Type 0
@@ -43,12 +44,12 @@ MoveKeeps s Stuck = Unit {0}
 
 number_keeps : (o : Option (Result (List ℕ) NumberTrap)) (s : Store) (ls : List ℕ) → EffectKeeps s (by_number o s ls)
 number_keeps None s ls = tt
-number_keeps (Some (Ok vs)) s ls = (refl, λ h. h, refl)
+number_keeps (Some (Ok vs)) s ls = (refl, λ h. h, refl, refl)
 number_keeps (Some (Err why)) s ls = tt
 
 dropped_keeps : (s : Store) (ls vs : List ℕ) → EffectKeeps s (dropped s ls vs)
 dropped_keeps s ls [] = tt
-dropped_keeps s ls (a ∷ vs) = (refl, λ h. h, refl)
+dropped_keeps s ls (a ∷ vs) = (refl, λ h. h, refl, refl)
 
 selected_keeps : (s : Store) (ls vs : List ℕ) → EffectKeeps s (selected s ls vs)
 selected_keeps s ls [] = tt
@@ -56,33 +57,33 @@ selected_keeps s ls (zero ∷ []) = tt
 selected_keeps s ls (suc n ∷ []) = tt
 selected_keeps s ls (zero ∷ b ∷ []) = tt
 selected_keeps s ls (suc n ∷ b ∷ []) = tt
-selected_keeps s ls (zero ∷ b ∷ a ∷ vs) = (refl, λ h. h, refl)
-selected_keeps s ls (suc n ∷ b ∷ a ∷ vs) = (refl, λ h. h, refl)
+selected_keeps s ls (zero ∷ b ∷ a ∷ vs) = (refl, λ h. h, refl, refl)
+selected_keeps s ls (suc n ∷ b ∷ a ∷ vs) = (refl, λ h. h, refl, refl)
 
 local_get_keeps : (o : Option ℕ) (s : Store) (ls vs : List ℕ) → EffectKeeps s (local_get o s ls vs)
 local_get_keeps None s ls vs = tt
-local_get_keeps (Some value) s ls vs = (refl, λ h. h, refl)
+local_get_keeps (Some value) s ls vs = (refl, λ h. h, refl, refl)
 
 local_set_keeps : (index : ℕ) (s : Store) (ls vs : List ℕ) → EffectKeeps s (local_set index s ls vs)
 local_set_keeps index s ls [] = tt
-local_set_keeps index s ls (a ∷ vs) = (refl, λ h. h, refl)
+local_set_keeps index s ls (a ∷ vs) = (refl, λ h. h, refl, refl)
 
 local_tee_keeps : (index : ℕ) (s : Store) (ls vs : List ℕ) → EffectKeeps s (local_tee index s ls vs)
 local_tee_keeps index s ls [] = tt
-local_tee_keeps index s ls (a ∷ vs) = (refl, λ h. h, refl)
+local_tee_keeps index s ls (a ∷ vs) = (refl, λ h. h, refl, refl)
 
 global_get_keeps : (o : Option (ℕ × Global)) (s : Store) (ls vs : List ℕ) → EffectKeeps s (global_get o s ls vs)
 global_get_keeps None s ls vs = tt
-global_get_keeps (Some g) s ls vs = (refl, λ h. h, refl)
+global_get_keeps (Some g) s ls vs = (refl, λ h. h, refl, refl)
 
 global_set_keeps : (o : Option (ℕ × Global)) (s : Store) (ls vs : List ℕ) → EffectKeeps s (global_set o s ls vs)
 global_set_keeps None s ls vs = tt
 global_set_keeps (Some g) s ls [] = tt
-global_set_keeps (Some g) s ls (a ∷ vs) = (refl, λ h. h, refl)
+global_set_keeps (Some g) s ls (a ∷ vs) = (refl, λ h. h, refl, refl)
 
 by_load_keeps : (o : Option ℕ) (s : Store) (ls vs : List ℕ) → EffectKeeps s (by_load o s ls vs)
 by_load_keeps None s ls vs = tt
-by_load_keeps (Some value) s ls vs = (refl, λ h. h, refl)
+by_load_keeps (Some value) s ls vs = (refl, λ h. h, refl, refl)
 
 -- a memory that was found, of bytes
 abbrev FoundBytes : Option (ℕ × MemoryState) → Type 0
@@ -98,14 +99,15 @@ found_bytes s (Some a) h = by (slice_get s.memories a) refl
     by (Some m) e = all_at (λ (memory : MemoryState). AreBytes memory.bytes) s.memories a m h e
 
 rewritten_onward : (address : ℕ) (m : MemoryState) (s : Store) → (HasBytesAlone s → AreBytes m.bytes) → IsOnward s (with_memory address m s)
-rewritten_onward address m s h = (refl, λ all. all_set (λ (memory : MemoryState). AreBytes memory.bytes) s.memories address m all (h all), refl)
+rewritten_onward address m s h =
+    (refl, λ all. all_set (λ (memory : MemoryState). AreBytes memory.bytes) s.memories address m all (h all), refl, set_length s.memories address m)
 
 bounds_keep : (inside : Bool) (m : ℕ × MemoryState) (bytes : List ℕ) (s : Store) (ls vs : List ℕ) → (HasBytesAlone s → AreBytes bytes) → EffectKeeps s (by_bounds inside m bytes s ls vs)
 bounds_keep true m bytes s ls vs h = rewritten_onward m.0 (with_bytes m.1 bytes) s h
 bounds_keep false m bytes s ls vs h = tt
 
 growth_keeps : (o : Option ℕ) (address : ℕ) (m : MemoryState) (s : Store) (ls vs : List ℕ) → (HasBytesAlone s → AreBytes m.bytes) → EffectKeeps s (by_growth o address m s ls vs)
-growth_keeps None address m s ls vs h = (refl, λ h. h, refl)
+growth_keeps None address m s ls vs h = (refl, λ h. h, refl, refl)
 growth_keeps (Some pages) address m s ls vs h = rewritten_onward address m s h
 
 load_keeps : (op : LoadOp) (offset : ℕ) (o : Option (ℕ × MemoryState)) (s : Store) (ls vs : List ℕ) → EffectKeeps s (load op offset o s ls vs)
@@ -123,7 +125,7 @@ store_keeps op offset (Some m) s ls (b ∷ a ∷ vs) h =
 
 size_keeps : (o : Option (ℕ × MemoryState)) (s : Store) (ls vs : List ℕ) → EffectKeeps s (memory_size o s ls vs)
 size_keeps None s ls vs = tt
-size_keeps (Some m) s ls vs = (refl, λ h. h, refl)
+size_keeps (Some m) s ls vs = (refl, λ h. h, refl, refl)
 
 grow_keeps : (o : Option (ℕ × MemoryState)) (s : Store) (ls vs : List ℕ) → (HasBytesAlone s → FoundBytes o) → EffectKeeps s (memory_grow o s ls vs)
 grow_keeps None s ls vs h = tt
@@ -147,7 +149,7 @@ copy_keeps (Some m) s ls (count ∷ from ∷ to ∷ vs) h =
     bounds_keep (is_inside to count m.1.bytes && is_inside from count m.1.bytes) m (copied to from count m.1.bytes) s ls vs (λ all. copied_bytes to from count m.1.bytes (h all))
 
 pub effect_keeps : (p : Instr) (i : Instance) (s : Store) (ls vs : List ℕ) → EffectKeeps s (effect p i s ls vs)
-effect_keeps instr.Nop i s ls vs = (refl, λ h. h, refl)
+effect_keeps instr.Nop i s ls vs = (refl, λ h. h, refl, refl)
 effect_keeps instr.Drop i s ls vs = dropped_keeps s ls vs
 effect_keeps instr.Select i s ls vs = selected_keeps s ls vs
 effect_keeps (instr.SelectTyped types) i s ls vs = selected_keeps s ls vs
@@ -162,8 +164,8 @@ effect_keeps instr.MemorySize i s ls vs = size_keeps (memory_at 0 i s) s ls vs
 effect_keeps instr.MemoryGrow i s ls vs = grow_keeps (memory_at 0 i s) s ls vs (λ all. found_bytes s (slice_get i.memories 0) all)
 effect_keeps instr.MemoryCopy i s ls vs = copy_keeps (memory_at 0 i s) s ls vs (λ all. found_bytes s (slice_get i.memories 0) all)
 effect_keeps instr.MemoryFill i s ls vs = fill_keeps (memory_at 0 i s) s ls vs (λ all. found_bytes s (slice_get i.memories 0) all)
-effect_keeps (instr.I32Const value) i s ls vs = (refl, λ h. h, refl)
-effect_keeps (instr.I64Const value) i s ls vs = (refl, λ h. h, refl)
+effect_keeps (instr.I32Const value) i s ls vs = (refl, λ h. h, refl, refl)
+effect_keeps (instr.I64Const value) i s ls vs = (refl, λ h. h, refl, refl)
 effect_keeps (instr.Numeric op) i s ls vs = number_keeps (applied op vs) s ls
 effect_keeps control i s ls vs = tt
 
@@ -176,11 +178,11 @@ leaving_keeps NoRule s f fs h = tt
 
 branch_keeps : (o : Option Label) (depth : ℕ) (vs : List ℕ) (s : Store) (f : Frame) (fs : List Frame) → MoveKeeps s (branched_to o depth vs s f fs)
 branch_keeps None depth vs s f fs = tt
-branch_keeps (Some l) depth vs s f fs = (refl, λ h. h, refl)
+branch_keeps (Some l) depth vs s f fs = (refl, λ h. h, refl, refl)
 
 if_keeps : (depth : ℕ) (vs : List ℕ) (s : Store) (f : Frame) (fs : List Frame) → MoveKeeps s (branched_if depth vs s f fs)
 if_keeps depth [] s f fs = tt
-if_keeps depth (zero ∷ vs) s f fs = (refl, λ h. h, refl)
+if_keeps depth (zero ∷ vs) s f fs = (refl, λ h. h, refl, refl)
 if_keeps depth (suc n ∷ vs) s f fs = branch_keeps (slice_get f.labels depth) depth vs s f fs
 
 by_keeps : (others : List ℕ) (last : ℕ) (vs : List ℕ) (s : Store) (f : Frame) (fs : List Frame) → MoveKeeps s (branched_by others last vs s f fs)
@@ -189,7 +191,7 @@ by_keeps others last (n ∷ vs) s f fs = branch_keeps (slice_get f.labels (table
 
 invoked_keeps : (address : ℕ) (function : Function) (vs : List ℕ) (s : Store) (f : Frame) (fs : List Frame) → MoveKeeps s (invoked address function vs s f fs)
 invoked_keeps address (Own type instance locals body) vs s f fs =
-    if_both (MoveKeeps s) (nat_le frame_limit (suc (length fs))) _ _ (λ t. tt) (λ t. (refl, λ h. h, refl))
+    if_both (MoveKeeps s) (nat_le frame_limit (suc (length fs))) _ _ (λ t. tt) (λ t. (refl, λ h. h, refl, refl))
 invoked_keeps address (Host type) vs s f fs = tt
 
 called_keeps : (o : Option (ℕ × Function)) (vs : List ℕ) (s : Store) (f : Frame) (fs : List Frame) → MoveKeeps s (called o vs s f fs)
@@ -216,26 +218,26 @@ instr_keeps instr.Unreachable i s f fs = tt
 instr_keeps (instr.Br depth) i s f fs = branch_keeps (slice_get f.labels depth) depth f.values s f fs
 instr_keeps (instr.BrIf depth) i s f fs = if_keeps depth f.values s f fs
 instr_keeps (instr.BrTable others last) i s f fs = by_keeps others last f.values s f fs
-instr_keeps instr.Return i s f fs = (refl, λ h. h, refl)
+instr_keeps instr.Return i s f fs = (refl, λ h. h, refl, refl)
 instr_keeps (instr.Call index) i s f fs = called_keeps (func_at index i s) f.values s f fs
 instr_keeps (instr.CallIndirect index table) i s f fs = through_keeps (slice_get i.types index) (table_at table i s) f.values s f fs
 instr_keeps other i s f fs = leaving_keeps (effect other i s f.locals f.values) s f fs (effect_keeps other i s f.locals f.values)
 
 chosen_keeps : (t : BlockType) (first second after : Expr) (vs : List ℕ) (i : Instance) (s : Store) (f : Frame) (fs : List Frame) → MoveKeeps s (chosen t first second after vs i s f fs)
 chosen_keeps t first second after [] i s f fs = tt
-chosen_keeps t first second after (zero ∷ vs) i s f fs = (refl, λ h. h, refl)
-chosen_keeps t first second after (suc n ∷ vs) i s f fs = (refl, λ h. h, refl)
+chosen_keeps t first second after (zero ∷ vs) i s f fs = (refl, λ h. h, refl, refl)
+chosen_keeps t first second after (suc n ∷ vs) i s f fs = (refl, λ h. h, refl, refl)
 
 ended_keeps : (ls : List Label) (s : Store) (f : Frame) (fs : List Frame) → MoveKeeps s (ended ls s f fs)
 ended_keeps [] s f [] = tt
-ended_keeps [] s f (g ∷ fs) = (refl, λ h. h, refl)
-ended_keeps (l ∷ ls) s f fs = (refl, λ h. h, refl)
+ended_keeps [] s f (g ∷ fs) = (refl, λ h. h, refl, refl)
+ended_keeps (l ∷ ls) s f fs = (refl, λ h. h, refl, refl)
 
 rest_keeps : (e : Expr) (i : Instance) (s : Store) (f : Frame) (fs : List Frame) → MoveKeeps s (move_at e i s f fs)
 rest_keeps End i s f fs = ended_keeps f.labels s f fs
 rest_keeps (Plain p e) i s f fs = instr_keeps p i s (record f { rest = e }) fs
-rest_keeps (Block t b e) i s f fs = (refl, λ h. h, refl)
-rest_keeps (Loop t b e) i s f fs = (refl, λ h. h, refl)
+rest_keeps (Block t b e) i s f fs = (refl, λ h. h, refl, refl)
+rest_keeps (Loop t b e) i s f fs = (refl, λ h. h, refl, refl)
 rest_keeps (If t a e) i s f fs = chosen_keeps t a End e f.values i s f fs
 rest_keeps (IfElse t a b e) i s f fs = chosen_keeps t a b e f.values i s f fs
 

@@ -1,8 +1,9 @@
 -- The runs of the examples that pass a pair in memory.
-use Rattle.std.proofs.Common.{◌+◌, [], ◌∷◌, ◌++◌, replicate, Some, None, refl, ap}
+use Rattle.std.proofs.Common.{◌+◌, List, [], ◌∷◌, ◌++◌, replicate, Some, None, refl, ap}
 use Rattle.std.specs.Prelude.{Result, Ok}
 use Rattle.ca_types.specs.declared.value.Value.TheVariants as value
 use Rattle.ca_types.specs.declared.value.Value.TheViews as values
+use Rattle.trace_show.specs.declared.label.Label.{Label}
 use Rattle.trace_show.specs.declared.label.Label.TheVariants as line
 use Rattle.trace_show.specs.declared.trap.TrapName.TheVariants as trap
 use Rattle.canonical_machine.specs.declared.run_end.RunEnd.TheVariants.{Done, Trapped}
@@ -21,6 +22,8 @@ use Rattle.canonical_machine.specs.Calling.{taken, item_turn, free_turn, call_be
 use Rattle.canonical_machine.specs.Reply.{reply, allowed, calling_turn}
 use Rattle.canonical_machine.specs.Lowering.{started, lowered, paused, lowers_turn}
 use Rattle.canonical_machine.specs.Nested.{nested_ended, refused, hosted, nested_turn}
+use Rattle.canonical_machine.specs.Run.{Reaches}
+use Rattle.canonical_machine.specs.TransportExamples.{pair_ended}
 use Rattle.canonical_machine.specs.Examples.{Pairs, pairing, pair_store, pair_bytes, pair_returned, pair, instantiated, script_of}
 use Rattle.canonical_machine.proofs.Passed.{pair_result, pair_plan, lifted_at, none_plan}
 use Rattle.canonical_machine.proofs.Walks.{walk, begun, walks, steps_to, at_world, shows, planned, with_plan, entered_world, enters, ended_world, ends}
@@ -77,6 +80,23 @@ pair_stands =
     let a10 = steps_to g s w pair_stands_9 pair_stands_10 _ _ a9 (ends g s pair_stands_9 ([]) (Ok None) refl tt tt refl refl tt refl tt) in
     let a11 = walks 9 g s w pair_stands_10 _ a10 in
     shows g s w pair_stands_11 _ Done _ _ _ a11 refl refl refl refl
+
+-- The world in which task 2 has ended.
+pub pair_reached : (steps : List (List Label)) × Reaches pairing (script_of 10 []) (instantiated 2 (pair_store 16)) steps pair_ended
+unfolding started_up made action_turn instantiating_turn post_return finished passed_on returned returning_turn leaving_turn stack_ended moved running_turn with_arguments entered arriving_turn taken item_turn free_turn call_begun call_ended back_from back_turn reply allowed calling_turn started lowered paused lowers_turn nested_ended refused hosted nested_turn
+pair_reached =
+    let g : Graph = pairing in
+    let s : Script = script_of 10 [] in
+    let w : World = instantiated 2 (pair_store 16) in
+    let a0 = begun g s w in
+    let a1 = walks 2 g s w (instantiated 2 (pair_store 16)) _ a0 in
+    let a2 = at_world g s w pair_stands_1 pair_stands_2 _ a1 (with_plan pair_stands_1 (Gives []) tt (none_plan None)) in
+    let a3 = walks 4 g s w pair_stands_2 _ a2 in
+    let a4 = steps_to g s w pair_stands_3 pair_stands_4 _ _ a3 (enters g s pair_stands_3 (values.Record []) refl tt tt refl (ap (λ (r : Result Value LiftTrap). Some r) (lifted_at 16))) in
+    let a5 = at_world g s w pair_stands_4 pair_stands_5 _ a4 (with_plan pair_stands_4 (Gives []) tt (none_plan (Some pair))) in
+    let a6 = walks 3 g s w pair_stands_5 _ a5 in
+    let a7 = at_world g s w pair_stands_6 pair_ended _ a6 refl in
+    (a7.steps, a7.reaches)
 
 abbrev pair_misaligned_1 : World
 pair_misaligned_1 = walk 2 pairing (script_of 10 []) (instantiated 2 (pair_store 18))

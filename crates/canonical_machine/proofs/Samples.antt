@@ -1,9 +1,10 @@
 -- The runs of the examples, in pieces between the places where values are passed.
-use Rattle.std.proofs.Common.{[], ◌∷◌, ◌++◌, replicate, Some, None, refl, ap}
+use Rattle.std.proofs.Common.{List, [], ◌∷◌, ◌++◌, replicate, Some, None, refl, ap}
 use Rattle.std.specs.Prelude.{Result, Ok, Err}
 use Rattle.ca_types.specs.declared.value.Value.TheVariants as value
 use Rattle.ca_types.specs.declared.value.Value.TheViews as values
 use Rattle.trace_show.specs.declared.builtin.Builtin.TheVariants as builtin
+use Rattle.trace_show.specs.declared.label.Label.{Label}
 use Rattle.trace_show.specs.declared.label.Label.TheVariants as line
 use Rattle.trace_show.specs.declared.trap.TrapName.TheVariants as trap
 use Rattle.canonical_machine.specs.declared.run_end.RunEnd.TheVariants.{Done, Trapped, Fuel}
@@ -18,7 +19,10 @@ use Rattle.comp_graph.specs.Graph.{Graph}
 use Rattle.script_reader.specs.Script.{Script}
 use Rattle.value_lower.specs.Plan.{Gives}
 use Rattle.value_lower.specs.Lowering.{text_in}
-use Rattle.canonical_machine.specs.World.{World, first_world}
+use Rattle.core_machine.specs.Stack.{Running}
+use Rattle.canonical_machine.specs.Control.{Runs}
+use Rattle.canonical_machine.specs.World.{Init, Func, Nobody, Host, Guest, Unresolved, Acting, AfterCall, Exited, World, first_world}
+use Rattle.canonical_machine.specs.Reading.{lifted_of}
 use Rattle.canonical_machine.specs.Instantiating.{started_up, made, action_turn, instantiating_turn}
 use Rattle.canonical_machine.specs.Returning.{typed_result, post_return, finished, passed_on, returned, returning_turn, leaving_turn}
 use Rattle.canonical_machine.specs.CoreSteps.{stack_ended, moved, running_turn}
@@ -27,6 +31,8 @@ use Rattle.canonical_machine.specs.Calling.{taken, item_turn, free_turn, call_be
 use Rattle.canonical_machine.specs.Reply.{reply, allowed, calling_turn}
 use Rattle.canonical_machine.specs.Lowering.{started, lowered, paused, lowers_turn}
 use Rattle.canonical_machine.specs.Nested.{nested_ended, refused, hosted, nested_turn}
+use Rattle.canonical_machine.specs.Run.{Reaches}
+use Rattle.canonical_machine.specs.TransportExamples.{doubles, adds_lower, adding, ended_frame, waiting_frame}
 use Rattle.canonical_machine.specs.Examples.{RunOf, Measures, measuring, store_of, instantiated, script_of, doubling, calling_behind, asking_for_char, calling_at_start, coming_back, gives, calls_with_ask, words, of_two, of_one, of_text, text, u32, begins, calls_child, doubled, begins_measuring}
 use Rattle.canonical_machine.proofs.Passed.{two_type, char_type, two_lifted, two_plan, one_plan, text_plan, none_plan, none_lifted, u32_result, char_result, u32_result_plan}
 use Rattle.canonical_machine.proofs.Walks.{walk, begun, walks, steps_to, at_world, shows, planned, with_plan, entered_world, enters, ended_world, ends}
@@ -199,6 +205,39 @@ doubled_done =
     let a11 = steps_to g s w doubled_done_10 doubled_done_11 _ _ a10 (ends g s doubled_done_10 (8 ∷ []) (Ok (Some (u32 8))) refl tt tt refl refl tt (ap (typed_result type.U32) (u32_result of_one.params [] 8)) tt) in
     let a12 = walks 9 g s w (doubled_done_11) _ a11 in
     shows g s w doubled_done_12 _ Done _ _ _ a12 refl refl refl refl
+
+-- The world in which task 2 has ended.
+abbrev pub eight_ended : World
+eight_ended = record {
+  store = doubled_done_2.store;
+  instances = 2;
+  tasks =
+      record { callee = Init; caller = Nobody; stacks = []; resolution = Unresolved; state = Exited }
+      ∷ record { callee = Func doubles; caller = Host (value.U32 4 ∷ []); stacks = Running (waiting_frame 1 1 (4 ∷ [])) [] ∷ []; resolution = Unresolved; state = AfterCall 2 }
+      ∷ record { callee = Func (lifted_of adds_lower); caller = Guest adding; stacks = Running (ended_frame 0 (4 ∷ 4 ∷ []) (8 ∷ [])) [] ∷ []; resolution = Unresolved; state = Acting }
+      ∷ [];
+  chain = 2 ∷ 1 ∷ [];
+  control = Runs;
+  units = 7;
+  taken = 1;
+}
+
+pub eight_reached : (steps : List (List Label)) × Reaches doubling (script_of 7 (value.U32 4 ∷ [])) (first_world doubling) steps eight_ended
+unfolding started_up made action_turn instantiating_turn post_return finished passed_on returned returning_turn leaving_turn stack_ended moved running_turn with_arguments entered arriving_turn taken item_turn free_turn call_begun call_ended back_from back_turn reply allowed calling_turn started lowered paused lowers_turn nested_ended refused hosted nested_turn
+eight_reached =
+    let g : Graph = doubling in
+    let s : Script = script_of 7 (value.U32 4 ∷ []) in
+    let w : World = first_world doubling in
+    let a0 = begun g s w in
+    let a1 = at_world g s w w doubled_done_1 [] a0 (ap with_types two_type) in
+    let a2 = walks 7 g s w (doubled_done_1) _ a1 in
+    let a3 = at_world g s w doubled_done_2 doubled_done_3 _ a2 (with_plan doubled_done_2 (Gives (4 ∷ [])) tt one_plan) in
+    let a4 = walks 5 g s w (doubled_done_3) _ a3 in
+    let a5 = steps_to g s w doubled_done_4 doubled_done_5 _ _ a4 (enters g s doubled_done_4 (values.Record (value.U32 4 ∷ value.U32 4 ∷ [])) refl tt tt refl (ap (λ (r : Result Value LiftTrap). Some r) two_lifted)) in
+    let a6 = at_world g s w doubled_done_5 doubled_done_6 _ a5 (with_plan doubled_done_5 (Gives (4 ∷ 4 ∷ [])) tt two_plan) in
+    let a7 = walks 5 g s w (doubled_done_6) _ a6 in
+    let a8 = at_world g s w doubled_done_7 eight_ended _ a7 refl in
+    (a8.steps, a8.reaches)
 
 abbrev doubled_wants_1 : World
 doubled_wants_1 = with_types (words 2 1)

@@ -9,7 +9,7 @@ use Rattle.value_lift.specs.Standing.{Stands, AreElements}
 use Rattle.value_lift.specs.Stored.{IsStored, AreStored, IsFlattened}
 use Rattle.value_lift.proofs.Loaded.{loaded_values_stand, loaded_lists_stand, lifted_words_stand}
 use Rattle.canonical_machine.specs.Settling.{Answer, Settles}
-use Rattle.canonical_machine.specs.ApartPlaces.{Region, Within, In, Apart, given}
+use Rattle.canonical_machine.specs.ApartPlaces.{Region, Within, In, Apart, region_of}
 use Rattle.canonical_machine.specs.Values.{IsOf, AllAre}
 use Rattle.canonical_machine.specs.ValueLaws.{StoredValuesStand, StoredListsStand, PlacedValuesStand, IsPlaced, StoresLeaveOthers, ListsLeaveOthers, PlacedLeaveOthers, WordsLeaveOthers, StoredValuesAreLoaded, StoredListsAreLoaded, LoweredWordsStand, LoweredWordsAreLifted, target, list_target}
 use Rattle.canonical_machine.proofs.Going.{Went, was_tested, region}
@@ -101,8 +101,8 @@ was_placed type v r memory after words answers is settles apart =
     let h : Apart r (w.answer ∷ w.rest) = subst (λ (es : List Answer). Apart r es) w.all apart in
     let size : w.answer.asked.size ≡ (laid type).size = ap (λ q. q.size) w.is.asked in
     let e =
-    ended (p ∷ []) (target type p) (given w.answer ∷ r) w.answer.after after words (λ m. Stands m p type v)
-    (sound is p (Gives (p ∷ [])) (given w.answer ∷ r) w.answer.after w.rest after words w.tested.inside
+    ended (p ∷ []) (target type p) (region_of w.answer ∷ r) w.answer.after after words (λ m. Stands m p type v)
+    (sound is p (Gives (p ∷ [])) (region_of w.answer ∷ r) w.answer.after w.rest after words w.tested.inside
     (λ a i. inl (i.0, (let n : a < w.answer.place + w.answer.asked.size = omega (arith, i.1, size) in n))) h.2 w.tested.settles) in
     record {
       is = record { place = p; words_are = e.words_are; low = w.is.low; stored = record { aligned = w.tested.aligned; inside = omega (arith, w.tested.inside, e.grown); stands = e.post } };

@@ -26,7 +26,7 @@ use Rattle.trace_show.specs.declared.label.Label.TheVariants as line
 use Rattle.canonical_machine.specs.Control.{Control, Free, Runs, Arrives, Lowers, Then, Starts, Lowering}
 use Rattle.canonical_machine.specs.World.{Callee, Func, Caller, Nobody, Host, Guest, Unresolved, TaskState, New, Acting, Task, World, first_world}
 use Rattle.canonical_machine.specs.Edits.{with_control, changed_at, in_state, stacked}
-use Rattle.canonical_machine.specs.Passing.{params_type, arguments_lifted, arguments_plan}
+use Rattle.canonical_machine.specs.Passing.{params_type, params_in_memory, arguments_lifted, arguments_plan}
 use Rattle.canonical_machine.specs.Reading.{func_address, memory_of, bytes_of, lifted_of, acting, func_of}
 use Rattle.canonical_machine.specs.Entering.{passed, arguments_of, arguments_lowering, with_arguments, entered, arriving_turn}
 use Rattle.canonical_machine.specs.Traps.{lift_name}
@@ -37,12 +37,12 @@ use Rattle.canonical_machine.specs.Run.{Reaches}
 use Rattle.canonical_machine.specs.Tasks.{IsCalleeOf, NoStack, IsSoFar, Acts, IsChain}
 use Rattle.canonical_machine.specs.Kept.{params_by, HasArguments, IsKeptBy}
 use Rattle.canonical_machine.specs.KeptLaws.{IsKept}
-use Rattle.canonical_machine.specs.Transport.{BeginsWith, MayBeLifted, ArgumentsArrive, BeginsByEntry, EntriesAreWhole}
+use Rattle.canonical_machine.specs.Transport.{BeginsWith, MayBeLifted, IsPassedIn, ArgumentsArrive, BeginsByEntry, EntriesAreWhole}
 use Rattle.canonical_machine.proofs.Changed.{changed_there}
 use Rattle.canonical_machine.proofs.Graphs.{same_func, lower_there}
 use Rattle.canonical_machine.proofs.Ordered.{called_at, acting_is}
 use Rattle.canonical_machine.proofs.Staying.{spot_of, at_spot, memory_bytes}
-use Rattle.canonical_machine.proofs.TransportPlans.{arguments_lift, few_arguments}
+use Rattle.canonical_machine.proofs.TransportPlans.{arguments_lift, arguments_stand, few_arguments}
 use Rattle.canonical_machine.proofs.TransportRuns.{IsDoomed, doomed_stops, IsMidst, lowers_on}
 use Rattle.canonical_machine.proofs.TransportSteps.{OnStep, given_step, found_step, behind_step, step_is, reached_kept, acting_at, HasCome, has_come}
 use Rattle.canonical_machine.proofs.Words.{arguments_are}
@@ -154,7 +154,7 @@ same_acting : (p q : ℕ × Task) → Some p ≡ Some q → p ≡ q
 same_acting p q h = cc
 
 pub arguments_arrive : ArgumentsArrive
-arguments_arrive g s steps w v t f caller arguments answers words sound r e may apart =
+arguments_arrive g s steps w v t f caller arguments answers words sound r e apart =
     let h : IsKept g s w = reached_kept g s steps (first_world g) w (first_kept g s sound) r in
     let a : Acts w.tasks w.chain IsNew = acts_new g s w h e.control in
     let same : a.task ≡ e.task = ap (λ (p : ℕ × Task). p.1) (same_acting (a.number, a.task) (t, e.task) (sym (acting_is w IsNew a) ∙ e.acts)) in
@@ -170,9 +170,13 @@ arguments_arrive g s steps w v t f caller arguments answers words sound r e may 
     has_come g s (arguments_lowering w.store t f) answers (arguments_plan f.func_type arguments) e.entered v words (stays_kept g s w e.entered (line.Enter t ∷ []) h e.enters) e.lowered in
     let memory : memory_of v.store f.options ≡ memory_of w.store f.options =
     memory_same w.store v.store f.options (came.instances ∙ ap (λ (t : Store). t.instances) entered.store) in
-    subst (λ (m : Option ℕ). arguments_lifted f.func_type (bytes_of v.store m) words ≡ Ok arguments) (sym memory)
-    (arguments_lift f.func_type arguments (bytes_of e.entered.store (memory_of w.store f.options)) (bytes_of v.store (memory_of w.store f.options)) words answers them.typed (them.few may)
-    came.settles apart)
+    record {
+      stand = subst (λ (m : Option ℕ). IsPassedIn (params_in_memory f.func_type) (params_type f.func_type) arguments (bytes_of v.store m) words) (sym memory)
+          (arguments_stand f.func_type arguments (bytes_of e.entered.store (memory_of w.store f.options)) (bytes_of v.store (memory_of w.store f.options)) words answers them.typed came.settles apart);
+      lifted = λ may. subst (λ (m : Option ℕ). arguments_lifted f.func_type (bytes_of v.store m) words ≡ Ok arguments) (sym memory)
+          (arguments_lift f.func_type arguments (bytes_of e.entered.store (memory_of w.store f.options)) (bytes_of v.store (memory_of w.store f.options)) words answers them.typed (them.few may)
+          came.settles apart);
+    }
 
 -- From an entry to the core function.
 

@@ -1,9 +1,9 @@
 -- From the end of a lowering of a result to the task that called: the post-return runs, the task exits, and the caller gets its words.
-use Rattle.std.proofs.Common.{◌≡◌, ◌⊎◌, inl, inr, ◌∙◌, ◌<◌, ℕ, true, nat_eq, List, [], ◌∷◌, drop, Option, Some, None, Ok, refl, ap, sym, subst, arith}
+use Rattle.std.proofs.Common.{◌≡◌, ◌≢◌, ◌⊎◌, inl, inr, ◌∙◌, ◌<◌, ℕ, true, nat_eq, List, [], ◌∷◌, drop, Option, Some, None, Ok, refl, ap, sym, subst, arith}
 use Rattle.std.specs.List.{slice_get}
 use Rattle.core_machine.specs.Store.{Store, found_at}
-use Rattle.value_lower.specs.Plan.{Ask, Plan}
-use Rattle.canonical_machine.specs.Settling.{Answer}
+use Rattle.core_machine.specs.Stack.{Stack}
+use Rattle.value_lower.specs.Plan.{Plan}
 use Rattle.comp_graph.specs.declared.graph.FuncRef.{FuncRef}
 use Rattle.comp_graph.specs.declared.graph.Lower.{Lower}
 use Rattle.comp_graph.specs.Graph.{Graph, Lifted}
@@ -12,174 +12,39 @@ use Rattle.trace_show.specs.declared.label.Label.{Label}
 use Rattle.trace_show.specs.declared.label.Label.TheVariants as line
 use Rattle.trace_show.specs.declared.typed.TypedValue.{TypedValue}
 use Rattle.trace_show.specs.declared.trap.TrapName.TheVariants as trap
-use Rattle.canonical_machine.specs.Control.{Control, Free, Runs, Lowers, Quiet, Back, Leaves, Doomed, Then, Resolves, Lowering, Nested, InLowering, BeforeLeaving}
-use Rattle.canonical_machine.specs.World.{Func, Subtask, Caller, Guest, Returned, TaskState, AfterCall, Exited, Resolution, Task, World, first_world}
-use Rattle.canonical_machine.specs.Edits.{with_control, with_store, with_memory, changed_at, caller_changed, result_kept, unstacked}
-use Rattle.canonical_machine.specs.Reading.{func_address, memory_of, bytes_of, lower_at, lifted_of, acting, func_of, task_at, subtask_of, state_number, subtask_state, builtin_of, inst_of_canon}
+use Rattle.canonical_machine.specs.Control.{Control, Free, Runs, Quiet, Back, Leaves, Doomed, Resolves, Lowering, Nested, BeforeLeaving}
+use Rattle.canonical_machine.specs.World.{Func, Subtask, Caller, Guest, Returned, TaskState, Acting, AfterCall, Exited, Resolution, Task, World, first_world}
+use Rattle.canonical_machine.specs.Edits.{with_control, with_store, changed_at, in_state, caller_changed, answered_stacks, answered, told, result_kept, unstacked}
+use Rattle.canonical_machine.specs.Reading.{func_address, memory_of, bytes_of, lower_at, lifted_of, acting, task_at, subtask_of, state_number, subtask_state, builtin_of, inst_of_canon}
 use Rattle.canonical_machine.specs.Passing.{result_plan}
-use Rattle.canonical_machine.specs.Pausing.{Paused, Words, Asked, settle}
 use Rattle.canonical_machine.specs.Traps.{core_name}
 use Rattle.canonical_machine.specs.Turn.{Steps, Stuck, silent, doomed, behind}
 use Rattle.canonical_machine.specs.Returning.{result_lowering, post_return_call, post_return, finished, control_behind, leaving_turn}
 use Rattle.canonical_machine.specs.Calling.{call_ended, back_from, back_turn}
-use Rattle.canonical_machine.specs.Lowering.{nested_of, lowered, paused, left_by, lowers_turn}
+use Rattle.canonical_machine.specs.Lowering.{lowered}
 use Rattle.canonical_machine.specs.Nested.{HostedTurn, On, EndsIn, TrapsBy, CallsHost, NoRule, hosted_next, nested_ended, refused, hosted, nested_turn}
 use Rattle.canonical_machine.specs.Next.{next}
-use Rattle.canonical_machine.specs.Tasks.{IsCalleeOf, AreCalled, caller_number, AreWaiting, IsChain}
+use Rattle.canonical_machine.specs.Tasks.{IsCalleeOf, AreCalled, caller_number, IsAt, AreWaiting, IsChain}
 use Rattle.canonical_machine.specs.KeptLaws.{IsKept}
-use Rattle.canonical_machine.specs.Transport.{RunsNested, IsAnswered, Comes, result_taken, UntilBack, ReturnsAreWhole, ResultsAreGot}
+use Rattle.canonical_machine.specs.Transport.{RunsNested, result_taken, ResultsArrive, UntilBack, ReturnsAreWhole, IsResumed, ResultsAreGot}
 use Rattle.canonical_machine.specs.Owners.{IsApartWorld}
-use Rattle.canonical_machine.proofs.ApartSteps.{first_apart, apart_stays}
+use Rattle.canonical_machine.proofs.ApartSteps.{first_apart, lower_apart, apart_stays}
+use Rattle.canonical_machine.proofs.CallersApart.{AreTasksApart, first_tasks, reached_tasks, called_other}
 use Rattle.canonical_machine.proofs.Changed.{changed_there, changed_other}
 use Rattle.canonical_machine.proofs.Graphs.{same_func}
 use Rattle.canonical_machine.proofs.Ordered.{called_at}
-use Rattle.canonical_machine.proofs.TransportSpared.{comes_reaches, reached_apart, run_spares, spared_bytes}
+use Rattle.canonical_machine.proofs.TransportSpared.{comes_reaches, reached_apart, other_memory, run_spares, spared_bytes}
 use Rattle.canonical_machine.proofs.TransportEntry.{memory_same}
 use Rattle.canonical_machine.proofs.TransportRuns.{IsDoomed, IsMidst, lowers_on}
-use Rattle.canonical_machine.proofs.TransportReturn.{HasReturned, returned_by, returned_of, IsRunning, running_of, results_arrive}
-use Rattle.canonical_machine.proofs.TransportSteps.{OnStep, given_step, found_step, func_step, either_step, charged_step, step_is, acting_at, reached_kept, IsBeside, nested_step, nested_run}
+use Rattle.canonical_machine.proofs.TransportReturn.{HasReturned, returned_by, returned_of, IsRunning, running_of, is_taken}
+use Rattle.canonical_machine.proofs.TransportResolved.{IsCallee, callee_same, callee_changed, with_words, IsLeaving, HasResolved, has_resolved}
+use Rattle.canonical_machine.proofs.TransportSteps.{OnStep, given_step, found_step, func_step, either_step, charged_step, step_is, acting_at, reached_kept, nested_step, nested_run}
 use Rattle.canonical_machine.proofs.Worlds.{first_kept, stays_kept}
-
--- The last step of a lowering.
-
--- the world from which it is made, which has the tasks and the chain of that from which the lowering goes on
-pub record LastPause (g : Graph) (s : Script) (l : Lowering) (w : World) (words : List ℕ) (v : World) : Type 0 where
-  pub plan : Plan
-  pub last : World
-  pub kept : IsKept g s last
-  pub tasks : last.tasks ≡ w.tasks
-  pub chain : last.chain ≡ w.chain
-  pub control : last.control ≡ Lowers l plan
-  pub gives : (settle plan (bytes_of last.store l.memory)).0 ≡ Words words
-  pub steps : next g s last ≡ Steps [] v
-
-abbrev SameTasks : World → List Label → World → Type 0
-SameTasks w labels v = (v.tasks ≡ w.tasks) × (v.chain ≡ w.chain)
-
-asked_same : (l : Lowering) (ask : Ask) (k : ℕ → Plan) (bytes : List ℕ) (w : World) → OnStep (SameTasks w) (left_by l (Asked ask k, bytes) w)
-unfolding paused
-asked_same l ask k bytes w =
-    given_step (SameTasks w) (found_at (with_memory l.memory bytes w).store.funcs l.realloc) (λ f. silent (Quiet (nested_of l ask f) (InLowering l k)) (with_memory l.memory bytes w)) (λ f e. (refl, refl))
-
-asks_same : (l : Lowering) (plan : Plan) (ask : Ask) (k : ℕ → Plan) (bytes : List ℕ) (w : World) → settle plan (bytes_of w.store l.memory) ≡ (Asked ask k, bytes)
-    → OnStep (SameTasks w) (lowers_turn l plan w)
-unfolding lowers_turn
-asks_same l plan ask k bytes w e = subst (λ (p : Paused × List ℕ). OnStep (SameTasks w) (left_by l p w)) (sym e) (asked_same l ask k bytes w)
-
-pub last_pause : (g : Graph) (s : Script) (l : Lowering) (answers : List Answer) (plan : Plan) (w v : World) (words : List ℕ) → IsKept g s w → Comes g s l plan w answers words v
-    → LastPause g s l w words v
-last_pause g s l [] plan w v words h c = record { plan = plan; last = w; kept = h; tasks = refl; chain = refl; control = c.0; gives = c.1; steps = c.2 }
-last_pause g s l (answer ∷ answers) plan w v words h c =
-    let a : IsAnswered g s l plan w answer c.1 c.2 = c.3 in
-    let first = step_is g s (SameTasks (with_control Free w)) w a.first [] (Lowers l plan) c.0 a.calls (asks_same l plan answer.asked c.1 answer.before (with_control Free w) a.asks) in
-    let run = nested_run g s (InLowering l c.1) a.steps a.first a.last (stays_kept g s w a.first [] h a.calls) a.runs in
-    let back : IsBeside a.last c.2 = nested_step g s a.last c.2 [] a.nested (InLowering l c.1) run.0 a.control a.goes_on in
-    let x : LastPause g s l c.2 words v = last_pause g s l answers (c.1 answer.place) c.2 v words (stays_kept g s a.last c.2 [] run.0 a.goes_on) c.4 in
-    record {
-      plan = x.plan;
-      last = x.last;
-      kept = x.kept;
-      tasks = x.tasks ∙ (back.tasks ∙ (run.1.tasks ∙ first.0));
-      chain = x.chain ∙ (back.chain ∙ (run.1.chain ∙ first.1));
-      control = x.control;
-      gives = x.gives;
-      steps = x.steps;
-    }
-
--- The acting task runs this function, and this is its caller's side.
-pub record IsCallee (t : ℕ) (f : Lifted) (subtask : Subtask) (w : World) : Type 0 where
-  pub below : List ℕ
-  pub chain_is : w.chain ≡ t ∷ below
-  pub task : Task
-  pub there : slice_get w.tasks t ≡ Some task
-  pub runs : task.callee ≡ Func f
-  pub called : task.caller ≡ Guest subtask
-
-pub callee_same : (t : ℕ) (f : Lifted) (subtask : Subtask) (w v : World) → v.tasks ≡ w.tasks → v.chain ≡ w.chain → IsCallee t f subtask w → IsCallee t f subtask v
-callee_same t f subtask w v tasks chain h = record {
-  below = h.below;
-  chain_is = chain ∙ h.chain_is;
-  task = h.task;
-  there = ap (λ (tasks : List Task). slice_get tasks t) tasks ∙ h.there;
-  runs = h.runs;
-  called = h.called;
-}
-
--- a change of the acting task that leaves the function, and makes this of the caller's side
-pub callee_changed : (t : ℕ) (f : Lifted) (subtask other : Subtask) (w v : World) (change : Task → Task) → v.tasks ≡ changed_at t change w.tasks → v.chain ≡ w.chain
-    → ((task : Task) → (change task).callee ≡ task.callee) → ((task : Task) → task.caller ≡ Guest subtask → (change task).caller ≡ Guest other) → IsCallee t f subtask w → IsCallee t f other v
-callee_changed t f subtask other w v change tasks chain runs called h = record {
-  below = h.below;
-  chain_is = chain ∙ h.chain_is;
-  task = change h.task;
-  there = ap (λ (tasks : List Task). slice_get tasks t) tasks ∙ changed_there t change w.tasks h.task h.there;
-  runs = runs h.task ∙ h.runs;
-  called = called h.task h.called;
-}
-
--- the words of the result are kept with it
-abbrev pub with_words : List ℕ → Subtask → Subtask
-with_words words subtask = record subtask { result = words }
-
-abbrev pub Keeping : List ℕ → Task → Task
-Keeping words task = record task { caller = caller_changed (λ subtask. with_words words subtask) task.caller }
-
--- The task leaves, or its post-return runs.
-abbrev pub IsLeaving : Lifted → World → Type 0
-IsLeaving f v = (v.control ≡ Leaves) ⊎ ((n : Nested) × (v.control ≡ Quiet n BeforeLeaving) × (n.inst ≡ f.instance))
-
-abbrev Finishes : ℕ → Lifted → List ℕ → World → List Label → World → Type 0
-Finishes t f words w labels v = (v.tasks ≡ changed_at t (Keeping words) w.tasks) × (v.chain ≡ w.chain) × IsLeaving f v
-
-post_return_leaves : (t : ℕ) (f : Lifted) (ended words : List ℕ) (o : Option FuncRef) (w : World) → OnStep (Finishes t f words w) (post_return t f ended o (result_kept t words w))
-unfolding post_return
-post_return_leaves t f ended words None w = (refl, refl, inl refl)
-post_return_leaves t f ended words (Some ref) w =
-    given_step (Finishes t f words w) (found_at w.store.funcs (func_address w.store ref)) (λ function. silent (Quiet (post_return_call t f ended function) BeforeLeaving) (result_kept t words w))
-    (λ function e. (refl, refl, inr (post_return_call t f ended function, refl, refl)))
-
-finished_leaves : (t : ℕ) (f : Lifted) (subtask : Subtask) (ended words : List ℕ) (w : World) → IsCallee t f subtask w → OnStep (Finishes t f words w) (finished ended (result_kept t words w))
-unfolding finished
-finished_leaves t f subtask ended words w h =
-    let task : Task = Keeping words h.task in
-    let P : List Label → World → Type 0 = Finishes t f words w in
-    found_step P (acting (result_kept t words w)) (t, task) _ (acting_at (result_kept t words w) t h.below task h.chain_is (changed_there t (Keeping words) w.tasks h.task h.there))
-    (found_step P (func_of h.task.callee) f (λ f. post_return t f ended f.options.post_return (result_kept t words w)) (ap func_of h.runs) (post_return_leaves t f ended words f.options.post_return w))
-
-words_leave : (t : ℕ) (f : Lifted) (subtask : Subtask) (ended words : List ℕ) (l : Lowering) (plan : Plan) (w : World) → l.next ≡ Resolves t ended → IsCallee t f subtask w
-    → (settle plan (bytes_of w.store l.memory)).0 ≡ Words words → OnStep (Finishes t f words w) (lowers_turn l plan w)
-unfolding lowers_turn paused lowered
-words_leave t f subtask ended words l plan w resolves h gives =
-    let here : World = with_memory l.memory (settle plan (bytes_of w.store l.memory)).1 w in
-    subst (λ (p : Paused). OnStep (Finishes t f words w) (paused l p here)) (sym gives)
-    (subst (λ (n : Then). OnStep (Finishes t f words w) (lowered n words here)) (sym resolves)
-    (finished_leaves t f subtask ended words here (callee_same t f subtask w here refl refl h)))
-
--- What a lowering of a result leaves.
-pub record HasResolved (t : ℕ) (f : Lifted) (subtask : Subtask) (words : List ℕ) (v : World) : Type 0 where
-  pub callee : IsCallee t f (with_words words subtask) v
-  pub leaves : IsLeaving f v
-
-kept_words : (words : List ℕ) (subtask : Subtask) (task : Task) → task.caller ≡ Guest subtask → (Keeping words task).caller ≡ Guest (with_words words subtask)
-kept_words words subtask task e = ap (λ (c : Caller). caller_changed (λ subtask. with_words words subtask) c) e
-
-pub has_resolved : (g : Graph) (s : Script) (l : Lowering) (answers : List Answer) (plan : Plan) (w v : World) (words : List ℕ) (t : ℕ) (f : Lifted) (subtask : Subtask) (ended : List ℕ)
-    → IsKept g s w → l.next ≡ Resolves t ended → IsCallee t f subtask w → Comes g s l plan w answers words v → HasResolved t f subtask words v
-has_resolved g s l answers plan w v words t f subtask ended h resolves callee c =
-    let x : LastPause g s l w words v = last_pause g s l answers plan w v words h c in
-    let here : IsCallee t f subtask x.last = callee_same t f subtask w x.last x.tasks x.chain callee in
-    let is : Finishes t f words (with_control Free x.last) [] v =
-    step_is g s (Finishes t f words (with_control Free x.last)) x.last v [] (Lowers l x.plan) x.control x.steps
-    (words_leave t f subtask ended words l x.plan (with_control Free x.last) resolves (callee_same t f subtask x.last (with_control Free x.last) refl refl here) x.gives) in
-    record {
-      callee = callee_changed t f subtask (with_words words subtask) x.last v (Keeping words) is.0 is.1 (λ task. refl) (λ task e. kept_words words subtask task e) here;
-      leaves = is.2;
-    }
 
 -- The caller gets the words.
 
 -- A run from this world to the caller: the post-return, and what the caller then has.
-pub record GetsFrom (g : Graph) (s : Script) (w : World) (subtask : Subtask) (labels : List Label) (u : World) : Type 0 where
+pub record GetsFrom (g : Graph) (s : Script) (w : World) (subtask : Subtask) (labels : List Label) (back u : World) : Type 0 where
   pub steps : List (List Label)
   pub left : World
   pub runs : RunsNested g s BeforeLeaving w steps left
@@ -187,6 +52,7 @@ pub record GetsFrom (g : Graph) (s : Script) (w : World) (subtask : Subtask) (la
   pub lines : labels ≡ line.Got subtask.by subtask.result ∷ []
   pub control : u.control ≡ Runs
   pub acts : slice_get u.chain 0 ≡ Some subtask.by
+  pub resumed : IsResumed subtask.by subtask.result back u
 
 -- what the exit leaves
 abbrev Exits : ℕ → World → List Label → World → Type 0
@@ -205,6 +71,8 @@ record IsCaller (t by : ℕ) (w : World) : Type 0 where
   pub task : Task
   pub there : slice_get w.tasks by ≡ Some task
   pub state_is : task.state ≡ AfterCall t
+  pub stack : Stack
+  pub stacks_are : task.stacks ≡ stack ∷ []
 
 some_task : (x y : Task) → Some x ≡ Some y → x ≡ y
 some_task x y h = cc
@@ -227,7 +95,16 @@ waits_behind t subtask task w [] chain there called h =
 waits_behind t subtask task w (u ∷ below) chain there called h =
     let same : h.0.0 ≡ task = some_task h.0.0 task (sym h.0.1 ∙ there) in
     let by : caller_number (Guest subtask) ≡ Some u = subst (λ (c : Caller). caller_number c ≡ Some u) called (subst (λ (task : Task). caller_number task.caller ≡ Some u) same h.0.2) in
-    subst (λ (n : ℕ). IsCaller t n w) (sym (some_number subtask.by u by)) (record { below = below; chain_is = chain; less = h.2; task = h.1.0; there = h.1.1; state_is = h.1.2.state_is })
+    subst (λ (n : ℕ). IsCaller t n w) (sym (some_number subtask.by u by)) (record {
+      below = below;
+      chain_is = chain;
+      less = h.2;
+      task = h.1.0;
+      there = h.1.1;
+      state_is = h.1.2.state_is;
+      stack = h.1.2.stacks_are.0;
+      stacks_are = h.1.2.stacks_are.1;
+    })
 
 caller_of : (g : Graph) (s : Script) (t : ℕ) (f : Lifted) (subtask : Subtask) (w : World) → IsKept g s w → w.control ≡ Leaves → IsCallee t f subtask w → IsCaller t subtask.by w
 caller_of g s t f subtask w h at callee =
@@ -242,26 +119,42 @@ returned_is g s t f subtask w h at callee =
     let same : a.task ≡ callee.task = some_task a.task callee.task (sym a.there ∙ (ap (λ (n : ℕ). slice_get w.tasks n) number ∙ callee.there)) in
     subst (λ (task : Task). task.resolution ≡ Returned) same a.holds.resolution_is
 
--- what the caller's next step leaves
-abbrev Gets : Subtask → World → List Label → World → Type 0
-Gets subtask w labels v = (labels ≡ line.Got subtask.by subtask.result ∷ []) × (v.control ≡ Runs) × (v.chain ≡ w.chain) × (v.store ≡ w.store)
+-- what the caller's next step leaves, where its stacks waited
+abbrev Gets : Subtask → List Stack → World → List Label → World → Type 0
+Gets subtask stacks w labels v =
+    (labels ≡ line.Got subtask.by subtask.result ∷ []) × (v.control ≡ Runs) × (v.chain ≡ w.chain) × (v.store ≡ w.store)
+    × IsAt v.tasks subtask.by (λ task. task.stacks ≡ answered_stacks subtask.result stacks)
+
+answered_at : (t state : ℕ) (subtask : Subtask) (caller : Task) (w : World) → subtask.by ≢ t → slice_get w.tasks subtask.by ≡ Some caller
+    → IsAt (answered subtask.by subtask.result (in_state subtask.by Acting (told t state w))).tasks subtask.by (λ task. task.stacks ≡ answered_stacks subtask.result caller.stacks)
+answered_at t state subtask caller w other there =
+    let acts : Task = record caller { state = Acting } in
+    let told_so : slice_get (told t state w).tasks subtask.by ≡ Some caller =
+    changed_other t subtask.by (λ (task : Task). record task { caller = caller_changed (λ (subtask : Subtask). record subtask { told = state }) task.caller }) w.tasks other ∙ there in
+    let acts_there : slice_get (in_state subtask.by Acting (told t state w)).tasks subtask.by ≡ Some acts =
+    changed_there subtask.by (λ (task : Task). record task { state = Acting }) (told t state w).tasks caller told_so in (
+      record acts { stacks = answered_stacks subtask.result caller.stacks },
+      changed_there subtask.by (λ (task : Task). record task { stacks = answered_stacks subtask.result task.stacks }) (in_state subtask.by Acting (told t state w)).tasks acts acts_there,
+      refl,
+    )
 
 back_gets : (t : ℕ) (subtask : Subtask) (below : List ℕ) (caller task : Task) (w : World) → w.chain ≡ subtask.by ∷ below → slice_get w.tasks subtask.by ≡ Some caller → caller.state ≡ AfterCall t
-    → slice_get w.tasks t ≡ Some task → task.caller ≡ Guest subtask → subtask_state task ≡ 2 → OnStep (Gets subtask w) (back_turn w)
+    → slice_get w.tasks t ≡ Some task → task.caller ≡ Guest subtask → subtask_state task ≡ 2 → subtask.by ≢ t → OnStep (Gets subtask caller.stacks w) (back_turn w)
 unfolding back_turn back_from call_ended
-back_gets t subtask below caller task w chain there waits at called two =
-    found_step (Gets subtask w) (acting w) (subtask.by, caller) _ (acting_at w subtask.by below caller chain there)
-    (subst (λ (state : TaskState). OnStep (Gets subtask w) (back_from subtask.by state w)) (sym waits)
-    (found_step (Gets subtask w) (task_at w t) task _ at
-    (found_step (Gets subtask w) (subtask_of task.caller) subtask _ (ap subtask_of called)
-    (subst (λ (state : ℕ). OnStep (Gets subtask w) (call_ended subtask.by t subtask state w)) (sym two) (refl, refl, refl, refl)))))
+back_gets t subtask below caller task w chain there waits at called two other =
+    let P : List Label → World → Type 0 = Gets subtask caller.stacks w in
+    found_step P (acting w) (subtask.by, caller) _ (acting_at w subtask.by below caller chain there)
+    (subst (λ (state : TaskState). OnStep P (back_from subtask.by state w)) (sym waits)
+    (found_step P (task_at w t) task _ at
+    (found_step P (subtask_of task.caller) subtask _ (ap subtask_of called)
+    (subst (λ (state : ℕ). OnStep P (call_ended subtask.by t subtask state w)) (sym two) (refl, refl, refl, refl, answered_at t 2 subtask caller w other there)))))
 
 module _ (g : Graph) (s : Script) (t : ℕ) (f : Lifted) (subtask : Subtask) (labels : List Label) (back u : World) (gets : next g s back ≡ Steps labels u) where
   not_back : {A : Type 0} (w : World) (c : Control) → w.control ≡ c → (c ≡ Back → ⊥) → w.control ≡ Back → A
   not_back w c e other is = absurd (other (sym e ∙ is))
 
   gets_at : (w v : World) (exit : List Label) → IsKept g s w → w.control ≡ Leaves → IsCallee t f subtask w → next g s w ≡ Steps exit v → (rest : List (List Label)) → UntilBack g s v rest back
-      → GetsFrom g s w subtask labels u
+      → GetsFrom g s w subtask labels back u
   gets_at w v exit h at callee e rest until = by rest until
     where
       caller : IsCaller t subtask.by w
@@ -282,14 +175,16 @@ module _ (g : Graph) (s : Script) (t : ℕ) (f : Lifted) (subtask : Subtask) (la
       two : subtask_state (change callee.task) ≡ 2
       two = ap (λ (r : Resolution). state_number Exited r) (returned_is g s t f subtask w h at callee)
 
-      last : next g s v ≡ Steps labels u → GetsFrom g s w subtask labels u
-      last gets =
+      last : back ≡ v → GetsFrom g s w subtask labels back u
+      last same =
           let less : subtask.by < t = caller.less in
-          let is : Gets subtask (with_control Free v) labels u =
-          step_is g s (Gets subtask (with_control Free v)) v u labels Back is_back gets
-          (back_gets t subtask caller.below caller.task (change callee.task) (with_control Free v) chain
-          (ap (λ (tasks : List Task). slice_get tasks subtask.by) leaves.1 ∙ (changed_other t subtask.by change w.tasks (omega (arith, less)) ∙ caller.there)) caller.state_is
-          (ap (λ (tasks : List Task). slice_get tasks t) leaves.1 ∙ changed_there t change w.tasks callee.task callee.there) callee.called two) in
+          let other : subtask.by ≢ t = omega (arith, less) in
+          let there : slice_get v.tasks subtask.by ≡ Some caller.task =
+          ap (λ (tasks : List Task). slice_get tasks subtask.by) leaves.1 ∙ (changed_other t subtask.by change w.tasks other ∙ caller.there) in
+          let is : Gets subtask caller.task.stacks (with_control Free v) labels u =
+          step_is g s (Gets subtask caller.task.stacks (with_control Free v)) v u labels Back is_back (subst (λ (w : World). next g s w ≡ Steps labels u) same gets)
+          (back_gets t subtask caller.below caller.task (change callee.task) (with_control Free v) chain there caller.state_is
+          (ap (λ (tasks : List Task). slice_get tasks t) leaves.1 ∙ changed_there t change w.tasks callee.task callee.there) callee.called two other) in
           record {
             steps = [];
             left = w;
@@ -298,10 +193,15 @@ module _ (g : Graph) (s : Script) (t : ℕ) (f : Lifted) (subtask : Subtask) (la
             lines = is.0;
             control = is.1;
             acts = ap (λ (chain : List ℕ). slice_get chain 0) (is.2 ∙ chain);
+            resumed = record {
+              stack = caller.stack;
+              waits = subst (λ (w : World). IsAt w.tasks subtask.by (λ task. task.stacks ≡ caller.stack ∷ [])) (sym same) (caller.task, there, caller.stacks_are);
+              goes_on = subst (λ (stacks : List Stack). IsAt u.tasks subtask.by (λ task. task.stacks ≡ answered_stacks subtask.result stacks)) caller.stacks_are is.4;
+            };
           }
 
-      by : (rest : List (List Label)) → UntilBack g s v rest back → GetsFrom g s w subtask labels u
-      by [] until = last (subst (λ (w : World). next g s w ≡ Steps labels u) until.1 gets)
+      by : (rest : List (List Label)) → UntilBack g s v rest back → GetsFrom g s w subtask labels back u
+      by [] until = last until.1
       by (more ∷ rest) until = absurd (until.0 is_back)
 
   -- What a step of the post-return leads to.
@@ -325,16 +225,16 @@ module _ (g : Graph) (s : Script) (t : ℕ) (f : Lifted) (subtask : Subtask) (la
   unfolding nested_turn
   nested_post n w = hosted_post n (hosted_next n.state w.store) w
 
-  doomed_never : (steps : List (List Label)) (w : World) → IsDoomed w → UntilBack g s w steps back → GetsFrom g s w subtask labels u
+  doomed_never : (steps : List (List Label)) (w : World) → IsDoomed w → UntilBack g s w steps back → GetsFrom g s w subtask labels back u
   doomed_never [] w d until = not_back w (Doomed d.0 d.1) d.2 (λ e. cc) until.0
   doomed_never (exit ∷ steps) w d until = absurd (step_is g s (λ labels v. ⊥) w until.1 exit (Doomed d.0 d.1) d.2 until.2 tt)
 
-  pub gets_leaving : (steps : List (List Label)) (w : World) → IsKept g s w → w.control ≡ Leaves → IsCallee t f subtask w → UntilBack g s w steps back → GetsFrom g s w subtask labels u
+  pub gets_leaving : (steps : List (List Label)) (w : World) → IsKept g s w → w.control ≡ Leaves → IsCallee t f subtask w → UntilBack g s w steps back → GetsFrom g s w subtask labels back u
   gets_leaving [] w h at callee until = not_back w Leaves at (λ e. cc) until.0
   gets_leaving (exit ∷ steps) w h at callee until = gets_at w until.1 exit h at callee until.2 steps until.3
 
   pub gets_nested : (steps : List (List Label)) (n : Nested) (w : World) → IsKept g s w → w.control ≡ Quiet n BeforeLeaving → IsCallee t f subtask w → UntilBack g s w steps back
-      → GetsFrom g s w subtask labels u
+      → GetsFrom g s w subtask labels back u
   gets_nested [] n w h at callee until = not_back w (Quiet n BeforeLeaving) at (λ e. cc) until.0
   gets_nested (step ∷ steps) n w h at callee until =
       by (step_is g s (PostTo n) w v step (Quiet n BeforeLeaving) at until.2 (nested_post n (with_control Free w)))
@@ -349,7 +249,7 @@ module _ (g : Graph) (s : Script) (t : ℕ) (f : Lifted) (subtask : Subtask) (la
       still : IsCallee t f subtask v
       still = let b = nested_step g s w v step n BeforeLeaving h at until.2 in callee_same t f subtask w v b.tasks b.chain callee
 
-      more : GetsFrom g s v subtask labels u → GetsFrom g s w subtask labels u
+      more : GetsFrom g s v subtask labels back u → GetsFrom g s w subtask labels back u
       more x = record {
         steps = step ∷ x.steps;
         left = x.left;
@@ -358,15 +258,16 @@ module _ (g : Graph) (s : Script) (t : ℕ) (f : Lifted) (subtask : Subtask) (la
         lines = x.lines;
         control = x.control;
         acts = x.acts;
+        resumed = x.resumed;
       }
 
-      by : PostTo n step v → ((m : Nested) → v.control ≡ Quiet m BeforeLeaving → GetsFrom g s v subtask labels u) → (v.control ≡ Leaves → GetsFrom g s v subtask labels u)
-          → GetsFrom g s w subtask labels u
+      by : PostTo n step v → ((m : Nested) → v.control ≡ Quiet m BeforeLeaving → GetsFrom g s v subtask labels back u) → (v.control ≡ Leaves → GetsFrom g s v subtask labels back u)
+          → GetsFrom g s w subtask labels back u
       by (inl d) nested leaving = more (doomed_never steps v d until.3)
       by (inr (inl m)) nested leaving = more (nested m.0 m.1)
       by (inr (inr at)) nested leaving = more (leaving at)
 
-  pub gets_from : (steps : List (List Label)) (w : World) → IsKept g s w → IsCallee t f subtask w → IsLeaving f w → UntilBack g s w steps back → GetsFrom g s w subtask labels u
+  pub gets_from : (steps : List (List Label)) (w : World) → IsKept g s w → IsCallee t f subtask w → IsLeaving f w → UntilBack g s w steps back → GetsFrom g s w subtask labels back u
   gets_from steps w h callee (inl at) until = gets_leaving steps w h at callee until
   gets_from steps w h callee (inr n) until = gets_nested steps n.0 w h n.1 callee until
 
@@ -404,6 +305,16 @@ returns_as g w v t task subtask result k called x =
     callee_changed t x.lifted subtask subtask w (unstacked t w) (λ task. record task { stacks = drop 1 task.stacks }) refl refl (λ task. refl) (λ task is. is) at in
     (at, callee_changed t x.lifted subtask subtask (unstacked t w) v (λ task. record task { resolution = Returned }) x.tasks x.chain (λ task. refl) (λ task is. is) ended)
 
+pub results_arrive : ResultsArrive
+results_arrive g s steps w v t subtask l result answers words sound r e apart =
+    let h : IsKept g s w = reached_kept g s steps (first_world g) w (first_kept g s sound) r in
+    let x : HasReturned g w t e.task subtask result e.resolved = returned_of g s w v t subtask l result answers words e in
+    let both = returns_as g w e.resolved t e.task subtask result (running_of g s w t e.task h e.control e.acts) e.called x in
+    let done : HasResolved t x.lifted subtask words v =
+    has_resolved g s (result_lowering w t subtask l e.ended) answers (result_plan l.func_type result.val_type result.value subtask.words) e.resolved v words t x.lifted subtask e.ended
+    (stays_kept g s w e.resolved (line.Return t (Some result) ∷ []) h e.returns) refl both.1 e.lowered in
+    ((done.callee.task, done.callee.there, done.callee.called), is_taken g s steps w v t subtask l result answers words sound r e apart)
+
 pub results_are_got : ResultsAreGot
 results_are_got g s steps more w v back u t subtask l result answers words labels sound is_apart r e apart until gets =
     let h : IsKept g s w = reached_kept g s steps (first_world g) w (first_kept g s sound) r in
@@ -421,21 +332,25 @@ results_are_got g s steps more w v back u t subtask l result answers words label
     let first : IsApartWorld g w = reached_apart g s steps (first_world g) w is_apart (first_kept g s sound) (first_apart g) r in
     let parts : IsApartWorld g v =
     reached_apart g s path.0 e.resolved v is_apart resolved (apart_stays g s w e.resolved (line.Return t (Some result) ∷ []) is_apart h first e.returns) path.1 in
-    let got : GetsFrom g s v (with_words words subtask) labels u = gets_from g s t f (with_words words subtask) labels back u gets more v kept done.callee done.leaves until in
+    let got : GetsFrom g s v (with_words words subtask) labels back u = gets_from g s t f (with_words words subtask) labels back u gets more v kept done.callee done.leaves until in
     let run = nested_run g s BeforeLeaving got.steps v got.left kept got.runs in
     let memory : memory_of u.store l.options ≡ memory_of v.store l.options =
     memory_same v.store u.store l.options (ap (λ (s : Store). s.instances) got.store ∙ run.1.store.instances) in
     let inst : f.instance ≡ l.lift.instance = callee_instance g t f subtask l w h.ordered.called e.by both.0 in
     let there : result_taken l.func_type result.val_type (bytes_of v.store (memory_of v.store l.options)) subtask.words words ≡ Ok result.value =
-    results_arrive g s steps w v t subtask l result answers words sound r e apart in
+    is_taken g s steps w v t subtask l result answers words sound r e apart in
+    let tasks : AreTasksApart g w = reached_tasks g s steps (first_world g) w is_apart (first_kept g s sound) (first_apart g) (first_tasks g) r in
+    let other : l.lift.instance ≢ l.instance = called_other g w t e.task subtask l tasks k.there e.called e.by in
     record {
       lines = got.lines;
       control = got.control;
       acts = got.acts;
-      taken = λ shared.
+      resumed = got.resumed;
+      taken =
           let same : bytes_of got.left.store (memory_of v.store l.options) ≡ bytes_of v.store (memory_of v.store l.options) =
           spared_bytes v.store got.left.store (memory_of v.store l.options) (λ a is.
-          run_spares a g s BeforeLeaving l.lift.instance is_apart got.steps v got.left kept parts (post_of f l.lift.instance v inst done.leaves) (λ m. shared (a, is, m)) got.runs) in
+          run_spares a g s BeforeLeaving l.lift.instance is_apart got.steps v got.left kept parts (post_of f l.lift.instance v inst done.leaves)
+          (other_memory g v.store l l.lift.instance a parts.owned (lower_apart g is_apart subtask.canon l e.by).0 other is) got.runs) in
           ap (λ (m : Option ℕ). result_taken l.func_type result.val_type (bytes_of u.store m) subtask.words words) memory
           ∙ (ap (λ (s : Store). result_taken l.func_type result.val_type (bytes_of s (memory_of v.store l.options)) subtask.words words) got.store
           ∙ (ap (λ (bytes : List ℕ). result_taken l.func_type result.val_type bytes subtask.words words) same ∙ there));

@@ -29,11 +29,11 @@ use Rattle.canonical_machine.specs.Settling.{Answer, IsAnswer, Settles}
 use Rattle.canonical_machine.specs.ApartPlaces.{Apart}
 use Rattle.canonical_machine.specs.ValueLaws.{target}
 use Rattle.canonical_machine.specs.Values.{IsOf}
-use Rattle.canonical_machine.proofs.Standing.{placed_values_stand, stored_values_are_loaded, lowered_words_are_lifted}
+use Rattle.canonical_machine.proofs.Standing.{placed_values_stand, stored_values_are_loaded, lowered_words_stand, lowered_words_are_lifted}
 use Rattle.comp_graph.specs.Needs.{core_val, lifted_type, lowered_type, flat_param_limit}
 use Rattle.canonical_machine.specs.Passing.{params_type, params_in_memory, result_in_memory, arguments_lifted, arguments_plan, result_lifted, result_plan, last_of}
 use Rattle.canonical_machine.specs.Pausing.{Paused, Words, Failed, Asked, settle}
-use Rattle.canonical_machine.specs.Transport.{result_target, result_taken}
+use Rattle.canonical_machine.specs.Transport.{IsPassedIn, result_target, result_taken}
 use Rattle.canonical_machine.proofs.Words.{many_words}
 
 -- How a plan goes on from where it pauses.
@@ -66,6 +66,15 @@ arguments_lift f v memory after words answers is few settles apart = by (params_
         ap (λ (ws : List ℕ). load whole.Arguments (params_type f) after (slice_index ws 0)) p.words_are
         ∙ (loaded_values_stand whole.Arguments (params_type f) after p.place v).1 (record { stored = p.stored; few = few })
     by false h = lowered_words_are_lifted whole.Arguments (params_type f) v memory after words answers is h apart few
+
+pub arguments_stand : (f : FuncType) (v : Value) (memory after words : List ℕ) (answers : List Answer) → IsOf (params_type f) v → Settles (arguments_plan f v) memory answers after words → Apart [] answers
+    → IsPassedIn (params_in_memory f) (params_type f) v after words
+unfolding arguments_plan
+arguments_stand f v memory after words answers is settles apart = by (params_in_memory f) settles
+  where
+    by : (b : Bool) → Settles (if b then placed (params_type f) v else flat_lowered (params_type f) v) memory answers after words → IsPassedIn b (params_type f) v after words
+    by true h = placed_values_stand (params_type f) v memory after words answers is h apart
+    by false h = lowered_words_stand (params_type f) v memory after words answers is h apart
 
 pub result_lifts : (f : FuncType) (type : ValType) (v : Value) (passed memory after words : List ℕ) (answers : List Answer) → IsOf type v → counts v ≤ most whole.Value
     → Settles (result_plan f type v passed) memory answers after words → Apart (result_target f type passed) answers → result_taken f type after passed words ≡ Ok v

@@ -37,7 +37,10 @@ use Rattle.canonical_machine.specs.Turn.{Turn, Steps, Ends, Stuck}
 use Rattle.canonical_machine.specs.Next.{next}
 use Rattle.canonical_machine.specs.Kept.{AreTyped, core_results, IsKeptBy}
 use Rattle.canonical_machine.specs.KeptLaws.{IsKept}
-use Rattle.canonical_machine.specs.Transport.{IsReturn, result_taken, ResultsArrive}
+use Rattle.canonical_machine.specs.Sound.{IsSound}
+use Rattle.canonical_machine.specs.ApartPlaces.{Apart}
+use Rattle.canonical_machine.specs.Run.{Reaches}
+use Rattle.canonical_machine.specs.Transport.{IsReturn, result_target, result_taken}
 use Rattle.canonical_machine.proofs.Staying.{memory_bytes}
 use Rattle.canonical_machine.proofs.TransportPlans.{result_lifts, few_result}
 use Rattle.canonical_machine.proofs.TransportEntry.{memory_same}
@@ -237,8 +240,11 @@ is_lifted g s w v t task subtask result h r x =
       few = few_result f.func_type result.val_type bytes x.ended result.value x.has words_fit x.is;
     }
 
-pub results_arrive : ResultsArrive
-results_arrive g s steps w v t subtask l result answers words sound r e apart =
+-- The caller has the result behind the lowering.
+pub is_taken : (g : Graph) (s : Script) (steps : List (List Label)) (w v : World) (t : ℕ) (subtask : Subtask) (l : Lower) (result : TypedValue) (answers : List Answer) (words : List ℕ) → IsSound g s
+    → Reaches g s (first_world g) steps w → IsReturn g s w t subtask l result answers words v → Apart (result_target l.func_type result.val_type subtask.words) answers
+    → result_taken l.func_type result.val_type (bytes_of v.store (memory_of v.store l.options)) subtask.words words ≡ Ok result.value
+is_taken g s steps w v t subtask l result answers words sound r e apart =
     let h : IsKept g s w = reached_kept g s steps (first_world g) w (first_kept g s sound) r in
     let x : HasReturned g w t e.task subtask result e.resolved = returned_of g s w v t subtask l result answers words e in
     let is : IsLifted result = is_lifted g s w e.resolved t e.task subtask result h (running_of g s w t e.task h e.control e.acts) x in

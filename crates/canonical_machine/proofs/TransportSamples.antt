@@ -39,6 +39,7 @@ use Rattle.canonical_machine.specs.Examples.{doubling, measuring, store_of, give
 use Rattle.canonical_machine.specs.Transport.{IsEntry, Comes}
 use Rattle.canonical_machine.specs.TransportExamples.{number_script, doubles, NumberArrives, measures, text_script, at_32, TextArrives, five_six, pair_lower, pair_ended, PairArrives}
 use Rattle.canonical_machine.proofs.Passed.{two_type, one_plan, text_plan, pair_result, pair_plan}
+use Rattle.canonical_machine.proofs.PairSamples.{pair_reached}
 use Rattle.canonical_machine.proofs.Samples.{with_types}
 use Rattle.canonical_machine.proofs.SoundSamples.{are_sound}
 use Rattle.canonical_machine.proofs.TransportEntry.{arguments_arrive}
@@ -46,12 +47,12 @@ use Rattle.canonical_machine.proofs.TransportPlans.{arguments_lift, result_lifts
 use Rattle.canonical_machine.proofs.Walks.{walk, at_world, begun, walks, planned, entered_world, enters, ended_world, ends, the_task}
 
 -- what a plan asks next, and the nested code that runs
-abbrev the_k : Paused → ℕ → Plan
+abbrev pub the_k : Paused → ℕ → Plan
 the_k (Asked ask k) place = k place
 the_k (Words words) place = Gives []
 the_k (Failed why) place = Gives []
 
-abbrev the_nested : Control → Nested
+abbrev pub the_nested : Control → Nested
 the_nested (Quiet n b) = n
 the_nested control = record { state = Going (Given []); inst = 0; acts_for = 0; blame = 0 }
 
@@ -121,7 +122,7 @@ number_arrives =
       reached = r.1;
       entry = number_entry;
       may = number_few;
-      lifted = arguments_arrive doubling number_script r.0 number_new number_begun 1 doubles (Host (value.U32 4 ∷ [])) number_value [] (4 ∷ []) are_sound.0 r.1 number_entry number_few tt;
+      lifted = (arguments_arrive doubling number_script r.0 number_new number_begun 1 doubles (Host (value.U32 4 ∷ [])) number_value [] (4 ∷ []) are_sound.0 r.1 number_entry tt).lifted number_few;
     }
 
 -- A text is passed.
@@ -183,7 +184,7 @@ text_utf8 = (0x68 ∷ 0xE9 ∷ 0x6C ∷ 0x6C ∷ 0x6F ∷ [], (refl, refl))
 text_is : IsOf (params_type of_text) text_value
 text_is = tuple_is (type.String ∷ []) (value.String text ∷ []) (more_types type.String [] (value.String text) [] (string_is text text_utf8) no_types)
 
-text_few : counts text_value ≤ most whole.Arguments
+pub text_few : counts text_value ≤ most whole.Arguments
 text_few =
     let all : counts text_value ≡ suc (counts (value.String text) + 0) = count_record (value.String text ∷ []) in
     let one : counts (value.String text) ≡ 7 = count_string text in
@@ -271,8 +272,11 @@ unfolding started_up made action_turn instantiating_turn post_return finished pa
 pair_arrives =
     let g : Graph = pairing in
     let s : Script = pair_script in
+    let r = pair_reached in
     record {
       behind = pair_behind;
+      steps = r.0;
+      reached = r.1;
       returns = record {
         control = refl;
         task = the_task pair_ended;

@@ -1,7 +1,7 @@
 -- A post-return leaves the caller's memory alone, where this is none of its own component instance.
-use Rattle.std.proofs.Common.{◌≡◌, ◌∙◌, ℕ, true, nat_eq, List, [], ◌∷◌, ◌++◌, Option, Some, None, refl, ap, sym, subst}
+use Rattle.std.proofs.Common.{◌≡◌, ◌≢◌, ◌∙◌, ℕ, true, nat_eq, List, [], ◌∷◌, ◌++◌, Option, Some, None, refl, ap, sym, subst}
 use Rattle.std.specs.List.{slice_get}
-use Rattle.std.specs.Option.{option_map}
+use Rattle.std.specs.Option.{option_map, option_and_then, IfSome}
 use Rattle.wasm_memory.specs.Memories.{MemoryState}
 use Rattle.core_machine.specs.Store.{Instance, Store}
 use Rattle.core_machine.specs.Stack.{Stack, Running, AtHost, Given}
@@ -9,6 +9,9 @@ use Rattle.core_machine.specs.Step.{Move, Goes, Traps}
 use Rattle.core_machine.specs.Step as core
 use Rattle.value_lower.specs.Plan.{Plan}
 use Rattle.canonical_machine.specs.Settling.{Answer}
+use Rattle.core_machine.proofs.Lists.{all_at}
+use Rattle.comp_graph.specs.declared.graph.CoreRef.{CoreRef}
+use Rattle.comp_graph.specs.declared.graph.Lower.{Lower}
 use Rattle.comp_graph.specs.Graph.{Graph}
 use Rattle.script_reader.specs.Script.{Script}
 use Rattle.trace_show.specs.declared.label.Label.{Label}
@@ -17,7 +20,7 @@ use Rattle.trace_show.specs.declared.trap.TrapName.TheVariants as trap
 use Rattle.canonical_machine.specs.Control.{Control, Free, Quiet, Lowering, HostedState, Going, AtCall, Nested, Behind, InLowering, BeforeLeaving}
 use Rattle.canonical_machine.specs.World.{World}
 use Rattle.canonical_machine.specs.Edits.{with_control, with_store}
-use Rattle.canonical_machine.specs.Reading.{bytes_of_memory, bytes_of, builtin_of, inst_of_canon}
+use Rattle.canonical_machine.specs.Reading.{address_in, memory_of, bytes_of_memory, bytes_of, builtin_of, inst_of_canon}
 use Rattle.canonical_machine.specs.Traps.{core_name}
 use Rattle.canonical_machine.specs.Turn.{Steps, Stuck, silent, doomed, behind}
 use Rattle.canonical_machine.specs.Nested.{HostedTurn, On, EndsIn, TrapsBy, CallsHost, NoRule, hosted_move, hosted_next, nested_ended, refused, hosted, nested_turn}
@@ -25,9 +28,10 @@ use Rattle.canonical_machine.specs.Next.{next}
 use Rattle.canonical_machine.specs.Run.{Reaches}
 use Rattle.canonical_machine.specs.KeptLaws.{IsKept}
 use Rattle.canonical_machine.specs.Laws.{IsQuietTurn, FollowsNested}
-use Rattle.canonical_machine.specs.Owners.{IsStackOf, IsStateOf, IsBehindApart, IsControlApart, IsApart, IsApartWorld}
-use Rattle.canonical_machine.specs.Transport.{RunsNested, IsAnswered, Comes, IsMemoryOf}
+use Rattle.canonical_machine.specs.Owners.{owner_of_core, AreOptionsOf, AreOwned, IsStackOf, IsStateOf, IsBehindApart, IsControlApart, IsApart, IsApartWorld}
+use Rattle.canonical_machine.specs.Transport.{RunsNested, IsAnswered, Comes}
 use Rattle.canonical_machine.proofs.ApartSteps.{apart_stays}
+use Rattle.canonical_machine.proofs.Owned.{memory_owned}
 use Rattle.canonical_machine.proofs.Quiets.{nested_is_quiet}
 use Rattle.canonical_machine.proofs.TransportMemories.{IsSpared, MoveSpares, HasNot, next_spares}
 use Rattle.canonical_machine.proofs.TransportSteps.{OnStep, given_step, either_step, charged_step, step_is, IsBeside, nested_step}
@@ -56,6 +60,32 @@ comes_reaches g s l (answer ∷ answers) plan w v words c =
 pub reached_apart : (g : Graph) (s : Script) (steps : List (List Label)) (w v : World) → IsApart g → IsKept g s w → IsApartWorld g w → Reaches g s w steps v → IsApartWorld g v
 reached_apart g s [] w v a h p r = subst (IsApartWorld g) (sym r) p
 reached_apart g s (labels ∷ steps) w v a h p r = reached_apart g s steps r.0 v a (stays_kept g s w r.0 labels h r.1) (apart_stays g s w r.0 labels a h p r.1) r.2
+
+-- Memories of component instances.
+
+-- This is a memory of a core instance that a component instance made.
+pub record IsMemoryOf (g : Graph) (s : Store) (owner address : ℕ) : Type 0 where
+  pub number : ℕ
+  pub instance : Instance
+  pub index : ℕ
+  pub owned : owner_of_core g number ≡ Some owner
+  pub there : slice_get s.instances number ≡ Some instance
+  pub at : slice_get instance.memories index ≡ Some address
+
+some_number : (m n : ℕ) → Some m ≡ Some n → m ≡ n
+some_number m n h = cc
+
+-- The memory of a lower is none of another component instance.
+pub other_memory : (g : Graph) (s : Store) (l : Lower) (inst a : ℕ) → AreOwned g s → AreOptionsOf g l.instance l.options → inst ≢ l.instance → memory_of s l.options ≡ Some a → IsMemoryOf g s inst a → ⊥
+other_memory g s l inst a owned h other at m = by l.options.memory h.memory at
+  where
+    mine : slice_get owned.0.memories a ≡ Some inst
+    mine =
+        all_at (λ (address : ℕ). slice_get owned.0.memories address ≡ Some inst) m.instance.memories m.index a (owned.1.memories m.number inst m.instance m.owned m.there) m.at
+
+    by : (o : Option CoreRef) → IfSome o (λ r. owner_of_core g r.instance ≡ Some l.instance) → option_and_then (address_in (λ i. i.memories) s) o ≡ Some a → ⊥
+    by None h e = cc
+    by (Some r) h e = other (some_number inst l.instance (sym mine ∙ memory_owned g owned.0 s l.instance r a owned.1 h e))
 
 -- Nested code of a component instance.
 

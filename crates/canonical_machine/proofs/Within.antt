@@ -14,6 +14,11 @@ use Rattle.core_machine.specs.Effects.{Effect, Leaves, Fails, NoRule, effect}
 use Rattle.core_machine.specs.Step.{Move, Goes, Calls, Ends, Traps, Stuck, ended, branched_to, branched_if, branched_by, table_label, frame_limit, invoked, called, same_signature, called_as, called_entry, called_through, by_effect, moved, chosen, move_at, move_in, next}
 use Rattle.core_machine.proofs.Lists.{if_both, found_there}
 
+-- A stack that waits at a call is at no further one.
+abbrev pub WaitsOn : Stack → Type 0
+WaitsOn (AtHost address words) = ⊥
+WaitsOn k = Unit {0}
+
 module _ (P Q : ℕ → Type 0) where
   -- A stack runs code of such instances, or is at a call of such a function.
   abbrev pub StackWithin : Stack → Type 0
@@ -23,7 +28,7 @@ module _ (P Q : ℕ → Type 0) where
 
   abbrev pub MoveWithin : Move → Type 0
   MoveWithin (Goes costs t l) = StackWithin l
-  MoveWithin (Calls address words l) = Q address × StackWithin l
+  MoveWithin (Calls address words l) = Q address × StackWithin l × WaitsOn l
   MoveWithin (Ends words) = Unit {0}
   MoveWithin (Traps why) = Unit {0}
   MoveWithin Stuck = Unit {0}
@@ -65,7 +70,7 @@ module _ (P Q : ℕ → Type 0) where
         → MoveWithin (invoked address function vs s f fs)
     invoke address (Own type instance locals body) vs f fs there q p h =
         if_both MoveWithin (nat_le frame_limit (suc (length fs))) _ _ (λ t. tt) (λ t. (closed.own address type instance locals body q there, (p, h)))
-    invoke address (Host type) vs f fs there q p h = (q, (p, h))
+    invoke address (Host type) vs f fs there q p h = (q, (p, h), tt)
 
     call : (o : Option ℕ) (vs : List ℕ) (f : Frame) (fs : List Frame) → ((address : ℕ) → o ≡ Some address → Q address) → P f.instance → Waits fs → MoveWithin (called (found_at s.funcs o) vs s f fs)
     call o vs f fs q p h = by (found_at s.funcs o) refl
@@ -134,5 +139,5 @@ module _ (P Q : ℕ → Type 0) where
         by : (o : Option Instance) → slice_get s.instances f.instance ≡ o → MoveWithin (move_in o s f fs)
         by None e = tt
         by (Some i) e = rest f.rest i f fs e h.0 h.1
-    next_within (AtHost address words) h = (h, tt)
+    next_within (AtHost address words) h = (h, tt, tt)
     next_within (Given words) h = tt

@@ -30,7 +30,6 @@ use Rattle.value_lower.specs.Lowering.{stored, flat_lowered, placed, store}
 use Rattle.value_lower.proofs.Giving.{AllGive, tested_gives}
 use Rattle.value_lower.proofs.Counts.{good}
 use Rattle.canonical_machine.specs.Values.{IsOf}
-use Rattle.canonical_machine.specs.LiftedValues as lifted
 use Rattle.canonical_machine.proofs.LiftedValues.{flat_standing, loaded_values_are}
 use Rattle.canonical_machine.proofs.Widths.{flat_gives, placed_gives}
 use Rattle.core_machine.proofs.Lists.{if_both}
@@ -111,9 +110,6 @@ arguments_planned f v A n is asks =
     (λ words a. subst (λ (ts : List CoreType). AreWords (map core_val ts) words) (flat_is_params f ∙ sym (at_most_few flat_param_limit (flat_params f) e)) (core_words (flat (params_type f)) words a)) n (flat_lowered (params_type f) v)
     (flat_fits A (params_type f) v n is (λ l. asks (or_right (params_in_memory f) (hold_list f) (params_list f l)))) (flat_gives (params_type f) v is))
 
-bytes_read : (memory : List ℕ) → AreBytes memory → lifted.AreBytes memory
-bytes_read memory h i = each_byte memory h i
-
 value_was : (l : Lifted Value) (v : Value) → value_of l ≡ Ok v → (rest : ℕ) × (l ≡ Ok (v, rest))
 value_was (Ok x) v h = (x.1, ap (λ (w : Value). (let r : Lifted Value = Ok (w, x.1) in r)) (ok_same x.0 v h))
 value_was (Err e) v h = cc
@@ -129,7 +125,7 @@ flat_is_of : (what : LiftOf) (type : ValType) (memory words : List ℕ) (v : Val
 flat_is_of what type memory words v bytes many h =
     let w = value_was (lift_words type memory words 0 (most what)) v h in
     let f = word_told_type type memory words 0 (most what) w.0 v (omega (arith, many)) w.1 in
-    flat_standing f.stands (bytes_read memory bytes) (enough_wrapped (flat type) words many)
+    flat_standing f.stands (each_byte memory bytes) (enough_wrapped (flat type) words many)
 
 -- what is lifted from either is of the type where what is lifted from each is
 either_is_of : (type : ValType) (v : Value) (b : Bool) (x y : Result Value LiftTrap) → (b ≡ true → x ≡ Ok v → IsOf type v) → (b ≡ false → y ≡ Ok v → IsOf type v)
@@ -141,7 +137,7 @@ pub arguments_are : (f : FuncType) (bytes words : List ℕ) (v : Value) → AreB
 unfolding arguments_lifted
 arguments_are f bytes words v all typed h =
     either_is_of (params_type f) v (params_in_memory f) (load whole.Arguments (params_type f) bytes (slice_index words 0)) (lift_flat whole.Arguments (params_type f) bytes words)
-    (λ b e. loaded_values_are whole.Arguments (params_type f) bytes (slice_index words 0) v (bytes_read bytes all) e)
+    (λ b e. loaded_values_are whole.Arguments (params_type f) bytes (slice_index words 0) v all e)
     (λ b e.
     let few : at_most flat_param_limit (flat_params f) ≡ flat_params f = at_most_few flat_param_limit (flat_params f) b in
     let place : List CoreType = out_place 1 (flat_payload f.result) in
@@ -157,7 +153,7 @@ pub result_is : (f : FuncType) (type : ValType) (bytes words : List ℕ) (v : Va
 unfolding result_lifted
 result_is f type bytes words v has all typed h =
     either_is_of type v (result_in_memory f) (load whole.Value type bytes (slice_index words 0)) (lift_flat whole.Value type bytes words)
-    (λ b e. loaded_values_are whole.Value type bytes (slice_index words 0) v (bytes_read bytes all) e)
+    (λ b e. loaded_values_are whole.Value type bytes (slice_index words 0) v all e)
     (λ b e.
     let few : at_most 1 (flat_payload f.result) ≡ flat_payload f.result = at_most_few 1 (flat_payload f.result) b in
     let count : length words ≡ length (at_most 1 (flat_payload f.result)) = core_many (at_most 1 (flat_payload f.result)) words typed in

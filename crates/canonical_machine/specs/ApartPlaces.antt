@@ -18,9 +18,9 @@ abbrev pub In : List Region → ℕ → Type 0
 In [] a = ⊥
 In (r ∷ regions) a = Within r a ⊎ In regions a
 
--- what an answer gives
-abbrev pub given : Answer → Region
-given answer = record { place = answer.place; size = answer.asked.size }
+-- the region that an answer gives
+abbrev pub region_of : Answer → Region
+region_of answer = record { place = answer.place; size = answer.asked.size }
 
 -- It has no address of some regions.
 abbrev pub Disjoint : List Region → Region → Type 0
@@ -34,4 +34,4 @@ Same regions before after = (a : ℕ) → In regions a → get_or after a 0 ≡ 
 abbrev pub Apart : List Region → List Answer → Type 0
 Apart regions [] = Unit {0}
 Apart regions (answer ∷ answers) =
-    Disjoint regions (given answer) × Same regions answer.before answer.after × Apart (given answer ∷ regions) answers
+    Disjoint regions (region_of answer) × Same regions answer.before answer.after × Apart (region_of answer ∷ regions) answers

@@ -121,14 +121,14 @@ gives n = Plain (I32Const (pos n)) End
 
 -- Modules: with so many imports of functions of the first type, these functions, and one that starts. A function is its type and its
 -- body.
-abbrev pub func_of : ℕ × Expr → Func
-func_of f = record { type_index = f.0; locals = []; body = f.1 }
+abbrev pub core_function : ℕ × Expr → Func
+core_function f = record { type_index = f.0; locals = []; body = f.1 }
 
 abbrev pub module_of : List core.FuncType → ℕ → List (ℕ × Expr) → Option ℕ → ModuleTree
 module_of types imports funcs start = record {
   types = types;
   imports = replicate imports (record { «module» = codes "m"; name = codes "n"; desc = wanted.Func 0 });
-  funcs = map func_of funcs;
+  funcs = map core_function funcs;
   tables = [];
   memories = [];
   globals = [];
@@ -410,8 +410,8 @@ sharing instance =
     [] of_text
     (lifts 0 (func_at 2 0) (record { memory = Some (record { instance = 1; index = 0 }); realloc = Some (func_at instance 0); post_return = None }))
 
--- Graphs in which what a core instance imports, and the realloc and the post-return of a lift or a lower, were made by its own component
--- instance, and whose plan makes each core instance in order.
+-- Graphs in which what a core instance imports, the core function of a lift, and what the options of a lift or a lower give, were made by its
+-- own component instance, and whose plan makes each core instance in order.
 abbrev pub AreApart : Type 0
 AreApart = IsApart calling_behind × IsApart coming_back × IsApart (sharing 1) × IsApart doubling
 
@@ -427,9 +427,25 @@ calling_across = record calling_behind { canons = lowers 1 (lifts 1 (func_at 0 0
 abbrev pub IsNotApart : Type 0
 IsNotApart = IsApart calling_across → ⊥
 
--- In this one the root lifts with the realloc of its child.
+-- In this one the root lifts with the realloc of its child,
 abbrev pub HasOtherRealloc : Type 0
 HasOtherRealloc = IsApart (sharing 0) → ⊥
+
+-- in this one with the memory of its child,
+abbrev pub with_other_memory : Graph
+with_other_memory = record (sharing 1) {
+  lifts = lifts 0 (func_at 2 0) (record { memory = Some first_memory; realloc = Some (func_at 1 0); post_return = None }) ∷ [];
+}
+
+abbrev pub HasOtherMemory : Type 0
+HasOtherMemory = IsApart with_other_memory → ⊥
+
+-- and in this one a core function of its child.
+abbrev pub with_other_function : Graph
+with_other_function = record doubling { lifts = lifts 0 (func_at 0 0) no_options ∷ [] }
+
+abbrev pub HasOtherFunction : Type 0
+HasOtherFunction = IsApart with_other_function → ⊥
 
 -- Graphs and scripts of which all holds that linking and reading give: with a number as argument, and with a text.
 abbrev pub AreSound : Type 0

@@ -1,6 +1,6 @@
 -- What is lifted is of its type (Component Model, CanonicalABI.md, "Loading", "Flat Lifting"): a value that stands in a memory of bytes,
 -- or for which core values stand, fits its type and is in its ranges.
-use Rattle.std.specs.Prelude.{◌≡◌, ◌<◌, ℕ, true, List, length, Ok, slice_index}
+use Rattle.std.specs.Prelude.{◌≡◌, ℕ, true, List, length, Ok}
 use Rattle.ca_types.specs.declared.types.ValType.{ValType}
 use Rattle.ca_types.specs.declared.value.Value.{Value}
 use Rattle.ca_types.specs.Fits.{fits}
@@ -9,7 +9,7 @@ use Rattle.value_lift.specs.declared.counting.LiftOf.{LiftOf}
 use Rattle.value_lift.specs.Lifting.{load, load_list, lift_flat}
 use Rattle.value_lift.specs.Standing.{Stands, AreElements}
 use Rattle.value_lift.specs.Stored.{IsFlattened}
-use Rattle.canonical_machine.specs.Values.{InRange, AllInRange, IsOf, AllAre}
+use Rattle.canonical_machine.specs.Values.{InRange, AllInRange, IsOf, AllAre, AreBytes}
 
 -- A value of a type fits it, and is in its ranges;
 abbrev pub ValuesOfTypesFit : Type 0
@@ -19,11 +19,7 @@ ValuesOfTypesFit = (type : ValType) (v : Value) → IsOf type v → (fits v type
 abbrev pub ValuesOfTypesAreInRange : Type 0
 ValuesOfTypesAreInRange = (type : ValType) (all : List Value) → AllAre type all → AllInRange all
 
--- A memory of bytes.
-abbrev pub AreBytes : List ℕ → Type 0
-AreBytes memory = (i : ℕ) → slice_index memory i < 256
-
--- A value that stands there is of its type,
+-- A value that stands in a memory of bytes is of its type,
 abbrev pub StandingValuesAre : Type 0
 StandingValuesAre = (type : ValType) (memory : List ℕ) (place : ℕ) (v : Value) → AreBytes memory → Stands memory place type v → IsOf type v
 

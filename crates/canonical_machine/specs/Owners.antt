@@ -1,6 +1,6 @@
 -- Core definitions do not leave the component instance that makes them (Component Model, Explainer.md, "Instance Definitions" and
--- "Canonical Definitions"): what a core instance imports, and the realloc and the post-return of a lift or a lower, were made by its own
--- component instance, and so core code calls only functions of its own component instance.
+-- "Canonical Definitions"): what a core instance imports, the core function of a lift, and what the options of a lift or a lower give, were
+-- made by its own component instance, and so core code calls only functions of its own component instance, and has only memories of it.
 use Rattle.std.specs.Prelude.{◌≡◌, ◌≢◌, ◌⊎◌, ℕ, List, length, Option, Some, None}
 use Rattle.std.specs.List.{slice_get, AllByRecursion}
 use Rattle.std.specs.Option.{option_map, IfSome}
@@ -11,6 +11,7 @@ use Rattle.comp_graph.specs.declared.graph.FuncRef.TheVariants as func_ref
 use Rattle.comp_graph.specs.declared.graph.CoreExtern.{CoreExtern}
 use Rattle.comp_graph.specs.declared.graph.CoreExtern.TheVariants as extern
 use Rattle.comp_graph.specs.declared.graph.Options.{Options}
+use Rattle.comp_graph.specs.declared.graph.Lift.{Lift}
 use Rattle.comp_graph.specs.declared.graph.CanonFunc.{CanonFunc}
 use Rattle.comp_graph.specs.declared.graph.CanonFunc.TheVariants as canon_func
 use Rattle.comp_graph.specs.Graph.{Graph}
@@ -42,18 +43,24 @@ owner_of_extern g (extern.Table t) = owner_of_core g t.instance
 owner_of_extern g (extern.Memory m) = owner_of_core g m.instance
 owner_of_extern g (extern.Global global) = owner_of_core g global.instance
 
--- The functions that options give were made by this component instance.
+-- The memory, the realloc and the post-return that options give were made by this component instance.
 pub record AreOptionsOf (g : Graph) (owner : ℕ) (options : Options) : Type 0 where
+  pub memory : IfSome options.memory (λ m. owner_of_core g m.instance ≡ Some owner)
   pub realloc : IfSome options.realloc (λ f. owner_of_func g f ≡ Some owner)
   pub post_return : IfSome options.post_return (λ f. owner_of_func g f ≡ Some owner)
 
-abbrev pub IsCanonApart : Graph → CanonFunc → Type 0
-IsCanonApart g (canon_func.Lower l) = AreOptionsOf g l.instance l.options × AreOptionsOf g l.lift.instance l.lift.options
+-- A component instance made the core function that it lifts, and what its options give.
+abbrev pub IsLiftApart : Graph → Lift → Type 0
+IsLiftApart g lift = (owner_of_func g lift.core ≡ Some lift.instance) × AreOptionsOf g lift.instance lift.options
 
--- What a core instance imports, and the realloc and the post-return of a lift or a lower, were made by its own component instance.
+abbrev pub IsCanonApart : Graph → CanonFunc → Type 0
+IsCanonApart g (canon_func.Lower l) = AreOptionsOf g l.instance l.options × IsLiftApart g l.lift
+
+-- What a core instance imports, the core function of a lift, and what the options of a lift or a lower give, were made by its own component
+-- instance.
 pub record IsApart (g : Graph) : Type 0 where
   pub imports : AllByRecursion (λ c. AllByRecursion (λ e. owner_of_extern g e ≡ Some c.owner) c.imports) g.cores
-  pub lifts : AllByRecursion (λ lift. AreOptionsOf g lift.instance lift.options) g.lifts
+  pub lifts : AllByRecursion (IsLiftApart g) g.lifts
   pub lowers : AllByRecursion (IsCanonApart g) g.canons
 
 -- Worlds.
@@ -70,17 +77,25 @@ abbrev pub IsEntryOwned : Graph → Store → ℕ → Option ℕ → Type 0
 IsEntryOwned g s owner None = Unit {0}
 IsEntryOwned g s owner (Some address) = IsOwned g s owner address
 
--- Each table belongs to a component instance. The core instances of a component instance have functions and tables of it, and its
--- tables have functions of it.
-pub record AreOwnedBy (g : Graph) (owners : List ℕ) (s : Store) : Type 0 where
-  pub count : length owners ≡ length s.tables
+-- the component instances that made the tables and the memories of a store, by their addresses
+pub record StoreOwners : Type 0 where
+  pub tables : List ℕ
+  pub memories : List ℕ
+
+-- Each table and each memory belongs to a component instance. The core instances of a component instance have functions, tables and
+-- memories of it, and its tables have functions of it.
+pub record AreOwnedBy (g : Graph) (owners : StoreOwners) (s : Store) : Type 0 where
+  pub count : length owners.tables ≡ length s.tables
+  pub memory_count : length owners.memories ≡ length s.memories
   pub funcs : (number owner : ℕ) (i : Instance) → owner_of_core g number ≡ Some owner → slice_get s.instances number ≡ Some i → AllByRecursion (IsOwned g s owner) i.funcs
   pub tables : (number owner : ℕ) (i : Instance) → owner_of_core g number ≡ Some owner → slice_get s.instances number ≡ Some i
-      → AllByRecursion (λ address. slice_get owners address ≡ Some owner) i.tables
-  pub entries : (address owner : ℕ) (t : Table) → slice_get owners address ≡ Some owner → slice_get s.tables address ≡ Some t → AllByRecursion (IsEntryOwned g s owner) t.entries
+      → AllByRecursion (λ address. slice_get owners.tables address ≡ Some owner) i.tables
+  pub memories : (number owner : ℕ) (i : Instance) → owner_of_core g number ≡ Some owner → slice_get s.instances number ≡ Some i
+      → AllByRecursion (λ address. slice_get owners.memories address ≡ Some owner) i.memories
+  pub entries : (address owner : ℕ) (t : Table) → slice_get owners.tables address ≡ Some owner → slice_get s.tables address ≡ Some t → AllByRecursion (IsEntryOwned g s owner) t.entries
 
 abbrev pub AreOwned : Graph → Store → Type 0
-AreOwned g s = (owners : List ℕ) × AreOwnedBy g owners s
+AreOwned g s = (owners : StoreOwners) × AreOwnedBy g owners s
 
 -- A stack runs code of a component instance, or waits at a call of what it made.
 abbrev pub IsStackOf : Graph → ℕ → Stack → Type 0

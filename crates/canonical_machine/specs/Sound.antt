@@ -1,6 +1,6 @@
 -- Graphs and scripts that run (Component Model, Explainer.md, "Instance Definitions"; CanonicalABI.md, `canon lift` and `canon lower`):
 -- what linking and reading give of them.
-use Rattle.std.specs.Prelude.{◌≡◌, ◌<◌, ℕ, suc, List, [], ◌∷◌, Some}
+use Rattle.std.specs.Prelude.{◌≡◌, ℕ, suc, List, [], ◌∷◌, Some}
 use Rattle.std.specs.List.{AllByRecursion, AllZip}
 use Rattle.wasm_module.specs.declared.module.ModuleTree.{ModuleTree}
 use Rattle.wasm_valid.specs.Modules.{Typed}
@@ -8,6 +8,7 @@ use Rattle.core_machine.specs.Instantiation.{InRange}
 use Rattle.ca_types.specs.declared.value.Value.TheViews as value
 use Rattle.ca_types.specs.declared.exports.Export.{Export}
 use Rattle.canonical_machine.specs.Values.{IsOf}
+pub use Rattle.canonical_machine.specs.Values.{AreBytes}
 use Rattle.comp_graph.specs.declared.graph.Action.{Action}
 use Rattle.comp_graph.specs.declared.graph.Action.TheVariants.{Begin, Make}
 use Rattle.comp_graph.specs.Graph.{CoreMake, Graph, Lifted, AreImported, AreMade, IsLiftThere, func_named}
@@ -16,10 +17,6 @@ use Rattle.script_reader.specs.declared.script.Item.{Item}
 use Rattle.script_reader.specs.declared.script.Item.TheVariants as item
 use Rattle.script_reader.specs.Script.{Script}
 use Rattle.canonical_machine.specs.Passing.{params_type}
-
--- bytes as numbers
-abbrev pub AreBytes : List ℕ → Type 0
-AreBytes bytes = AllByRecursion (λ byte. byte < 256) bytes
 
 -- A module's data are bytes.
 abbrev pub HasBytes : ModuleTree → Type 0

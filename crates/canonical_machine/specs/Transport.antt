@@ -1,10 +1,11 @@
 -- Transport (Component Model, CanonicalABI.md, `canon lift` and `canon lower`; "Flat Lifting", "Flat Lowering", "Loading", "Storing"):
 -- what a call passes arrives. Where the places that reallocs give for a lowering lie apart, a task's core function begins with words
--- and a memory of which its arguments are lifted, and the task that called it has words and a memory of which the result is lifted.
-use Rattle.std.specs.Prelude.{◌≡◌, ◌≢◌, ◌≤◌, ℕ, if◌then◌else◌, List, [], ◌∷◌, Some, Result, Ok}
+-- and a memory of which its arguments are lifted, and the task that called it goes on with words and a memory of which the result is lifted.
+use Rattle.std.specs.Prelude.{◌≡◌, ◌≢◌, ◌≤◌, ℕ, Bool, true, false, if◌then◌else◌, List, [], ◌∷◌, Some, Result, Ok}
 use Rattle.std.specs.List.{slice_get}
-use Rattle.core_machine.specs.Store.{Function, Instance, Store, found_at}
-use Rattle.core_machine.specs.Step.{start}
+use Rattle.core_machine.specs.Store.{Function, found_at}
+use Rattle.core_machine.specs.Stack.{Stack}
+use Rattle.core_machine.specs.Step.{start, resume}
 use Rattle.ca_types.specs.declared.types.ValType.{ValType}
 use Rattle.ca_types.specs.declared.types.FuncType.{FuncType}
 use Rattle.ca_types.specs.declared.value.Value.{Value}
@@ -13,10 +14,11 @@ use Rattle.value_lift.specs.declared.trap.LiftTrap.{LiftTrap}
 use Rattle.value_lift.specs.declared.counting.LiftOf.TheVariants as whole
 use Rattle.value_lift.specs.Lifting.{load, lift_flat, most}
 use Rattle.value_lift.specs.Standing.{counts}
+use Rattle.value_lift.specs.Stored.{IsFlattened}
 use Rattle.value_lower.specs.Plan.{Plan}
 use Rattle.canonical_machine.specs.Settling.{Answer}
 use Rattle.canonical_machine.specs.ApartPlaces.{Region, Apart}
-use Rattle.canonical_machine.specs.ValueLaws.{target}
+use Rattle.canonical_machine.specs.ValueLaws.{target, IsPlaced}
 use Rattle.comp_graph.specs.declared.graph.Lower.{Lower}
 use Rattle.comp_graph.specs.Graph.{Graph, Lifted}
 use Rattle.script_reader.specs.Script.{Script}
@@ -26,7 +28,7 @@ use Rattle.trace_show.specs.declared.typed.TypedValue.{TypedValue}
 use Rattle.canonical_machine.specs.Control.{Runs, Arrives, Lowers, Quiet, Back, Lowering, Nested, Behind, InLowering}
 use Rattle.canonical_machine.specs.World.{Func, Subtask, Caller, Nobody, Host, Guest, Task, World, first_world}
 use Rattle.canonical_machine.specs.Reading.{func_address, memory_of, bytes_of, lower_at, acting}
-use Rattle.canonical_machine.specs.Passing.{result_in_memory, arguments_lifted, arguments_plan, result_plan, last_of}
+use Rattle.canonical_machine.specs.Passing.{params_type, params_in_memory, result_in_memory, arguments_lifted, arguments_plan, result_plan, last_of}
 use Rattle.canonical_machine.specs.Pausing.{Words, Asked, settle}
 use Rattle.canonical_machine.specs.Entering.{arguments_of, arguments_lowering}
 use Rattle.canonical_machine.specs.Returning.{result_lowering}
@@ -35,7 +37,8 @@ use Rattle.canonical_machine.specs.Nested.{EndsIn, hosted_next}
 use Rattle.canonical_machine.specs.Next.{next}
 use Rattle.canonical_machine.specs.Run.{Reaches}
 use Rattle.canonical_machine.specs.Sound.{IsSound}
-use Rattle.canonical_machine.specs.Owners.{owner_of_core, IsApart}
+use Rattle.canonical_machine.specs.Tasks.{IsAt}
+use Rattle.canonical_machine.specs.Owners.{IsApart}
 
 -- A lowering, in a run.
 
@@ -101,13 +104,23 @@ MayBeLifted Nobody = Unit {0}
 MayBeLifted (Host values) = counts (value.Record values) ≤ most whole.Arguments
 MayBeLifted (Guest subtask) = Unit {0}
 
--- After an entry a task has its caller's arguments: what is lifted of the words with which its core function begins, and of its memory
--- as it is then, are the arguments that were passed.
+-- Words stand for a value, over a memory: the one word is its place, or they are its core values.
+abbrev pub IsPassedIn : Bool → ValType → Value → List ℕ → List ℕ → Type 0
+IsPassedIn true type v bytes words = IsPlaced type v bytes words
+IsPassedIn false type v bytes words = IsFlattened bytes type v words
+
+-- The arguments stand in these words, over the task's memory, and where they may be lifted they are what is lifted of both.
+pub record HasArrived (f : Lifted) (caller : Caller) (arguments : Value) (words : List ℕ) (v : World) : Type 0 where
+  pub stand : IsPassedIn (params_in_memory f.func_type) (params_type f.func_type) arguments (bytes_of v.store (memory_of v.store f.options)) words
+  pub lifted : MayBeLifted caller → arguments_lifted f.func_type (bytes_of v.store (memory_of v.store f.options)) words ≡ Ok arguments
+
+-- After an entry a task has its caller's arguments: those that were passed stand in the words with which its core function begins, over its
+-- memory as it is then, and are what is lifted of both.
 abbrev pub ArgumentsArrive : Type 0
 ArgumentsArrive =
     (g : Graph) (s : Script) (steps : List (List Label)) (w v : World) (t : ℕ) (f : Lifted) (caller : Caller) (arguments : Value) (answers : List Answer) (words : List ℕ)
-    → IsSound g s → Reaches g s (first_world g) steps w → IsEntry g s w t f caller arguments answers words v → MayBeLifted caller → Apart [] answers
-    → arguments_lifted f.func_type (bytes_of v.store (memory_of v.store f.options)) words ≡ Ok arguments
+    → IsSound g s → Reaches g s (first_world g) steps w → IsEntry g s w t f caller arguments answers words v → Apart [] answers
+    → HasArrived f caller arguments words v
 
 -- A task's entry, with which a run from the one world to the other begins.
 pub record BeginsByEntry (g : Graph) (s : Script) (w u : World) : Type 0 where
@@ -122,8 +135,8 @@ pub record BeginsByEntry (g : Graph) (s : Script) (w u : World) : Type 0 where
   pub steps : List (List Label)
   pub goes_on : Reaches g s begun steps u
 
--- Where a task is new, no core function of a task runs before the entry is done. So each entry that does not end the run is one as
--- above.
+-- Where a task is new, no core function of a task runs before the entry is done, but the reallocs that it asks. So each entry that does not
+-- end the run is one as above, over the places that these gave, apart or not.
 abbrev pub EntriesAreWhole : Type 0
 EntriesAreWhole =
     (g : Graph) (s : Script) (before steps : List (List Label)) (w u : World) → IsSound g s → Reaches g s (first_world g) before w → w.control ≡ Arrives
@@ -153,6 +166,10 @@ unfoldable pub result_taken : FuncType → ValType → List ℕ → List ℕ →
 result_taken f type bytes passed words =
     if result_in_memory f then load whole.Value type bytes (last_of passed) else lift_flat whole.Value type bytes words
 
+-- These words are kept for the caller of this task, with its side of the call.
+abbrev pub KeepsWords : World → ℕ → Subtask → List ℕ → Type 0
+KeepsWords v t subtask words = IsAt v.tasks t (λ task. task.caller ≡ Guest (record subtask { result = words }))
+
 -- After a return the caller has the result: what is lifted of its memory behind the lowering, and of the words that are kept for it, is
 -- the result that the task's line shows.
 abbrev pub ResultsArrive : Type 0
@@ -160,7 +177,7 @@ ResultsArrive =
     (g : Graph) (s : Script) (steps : List (List Label)) (w v : World) (t : ℕ) (subtask : Subtask) (l : Lower) (result : TypedValue) (answers : List Answer) (words : List ℕ)
     → IsSound g s → Reaches g s (first_world g) steps w → IsReturn g s w t subtask l result answers words v
     → Apart (result_target l.func_type result.val_type subtask.words) answers
-    → result_taken l.func_type result.val_type (bytes_of v.store (memory_of v.store l.options)) subtask.words words ≡ Ok result.value
+    → KeepsWords v t subtask words × (result_taken l.func_type result.val_type (bytes_of v.store (memory_of v.store l.options)) subtask.words words ≡ Ok result.value)
 
 -- These steps lead from the one world to the other, in which control is back at a task that called, and in none before it.
 abbrev pub UntilBack : Graph → Script → World → List (List Label) → World → Type 0
@@ -178,33 +195,27 @@ pub record GoesBackByReturn (g : Graph) (s : Script) (w : World) (t : ℕ) (subt
   pub until : UntilBack g s behind steps back
 
 -- Where a step shows the result of a task that another one called, the result is lowered before control is back at a task. So each return
--- to a task that does not end the run is one as above.
+-- of a result to a task that does not end the run is one as above, over the places that reallocs gave, apart or not.
 abbrev pub ReturnsAreWhole : Type 0
 ReturnsAreWhole =
     (g : Graph) (s : Script) (before steps : List (List Label)) (w v back : World) (t : ℕ) (task : Task) (subtask : Subtask) (result : TypedValue)
     → IsSound g s → Reaches g s (first_world g) before w → w.control ≡ Runs → acting w ≡ Some (t, task) → task.caller ≡ Guest subtask
     → next g s w ≡ Steps (line.Return t (Some result) ∷ []) v → UntilBack g s v steps back → GoesBackByReturn g s w t subtask result back
 
--- This is a memory of a core instance that a component instance made.
-pub record IsMemoryOf (g : Graph) (s : Store) (owner address : ℕ) : Type 0 where
-  pub number : ℕ
-  pub instance : Instance
-  pub index : ℕ
-  pub owned : owner_of_core g number ≡ Some owner
-  pub there : slice_get s.instances number ≡ Some instance
-  pub at : slice_get instance.memories index ≡ Some address
-
--- The memory of a caller is one of the component instance whose function is lowered.
-abbrev pub IsShared : Graph → Store → Lower → Type 0
-IsShared g s l = (address : ℕ) × (memory_of s l.options ≡ Some address) × IsMemoryOf g s l.lift.instance address
+-- In the one world a task waits with a stack, which in the other one goes on with these words.
+pub record IsResumed (t : ℕ) (words : List ℕ) (back u : World) : Type 0 where
+  pub stack : Stack
+  pub waits : IsAt back.tasks t (λ task. task.stacks ≡ stack ∷ [])
+  pub goes_on : IsAt u.tasks t (λ task. task.stacks ≡ resume words stack ∷ [])
 
 -- The caller goes on with these words, which its line shows, and has the result: also behind the post-return, which runs in the component
--- instance of the task that was called, unless this has the caller's memory.
-pub record HasGot (g : Graph) (v : World) (subtask : Subtask) (l : Lower) (result : TypedValue) (words : List ℕ) (labels : List Label) (u : World) : Type 0 where
+-- instance of the task that was called, and so leaves the caller's memory alone.
+pub record HasGot (subtask : Subtask) (l : Lower) (result : TypedValue) (words : List ℕ) (labels : List Label) (back u : World) : Type 0 where
   pub lines : labels ≡ line.Got subtask.by words ∷ []
   pub control : u.control ≡ Runs
   pub acts : slice_get u.chain 0 ≡ Some subtask.by
-  pub taken : (IsShared g v.store l → ⊥) → result_taken l.func_type result.val_type (bytes_of u.store (memory_of u.store l.options)) subtask.words words ≡ Ok result.value
+  pub resumed : IsResumed subtask.by words back u
+  pub taken : result_taken l.func_type result.val_type (bytes_of u.store (memory_of u.store l.options)) subtask.words words ≡ Ok result.value
 
 -- So it is where control comes back to the caller, on a graph whose core definitions stay in their component instance.
 abbrev pub ResultsAreGot : Type 0
@@ -212,4 +223,4 @@ ResultsAreGot =
     (g : Graph) (s : Script) (steps more : List (List Label)) (w v back u : World) (t : ℕ) (subtask : Subtask) (l : Lower) (result : TypedValue) (answers : List Answer) (words : List ℕ)
     (labels : List Label) → IsSound g s → IsApart g → Reaches g s (first_world g) steps w → IsReturn g s w t subtask l result answers words v
     → Apart (result_target l.func_type result.val_type subtask.words) answers → UntilBack g s v more back → next g s back ≡ Steps labels u
-    → HasGot g v subtask l result words labels u
+    → HasGot subtask l result words labels back u

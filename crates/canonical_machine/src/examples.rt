@@ -6,7 +6,7 @@ ghost use Rattle.trace_show.specs.declared.builtin.Builtin.TheVariants as builti
 ghost use Rattle.trace_show.specs.declared.label.Label.TheVariants as line;
 ghost use Rattle.trace_show.specs.declared.trap.TrapName.TheVariants as trap;
 ghost use Rattle.canonical_machine.specs.declared.run_end.RunEnd.TheVariants.{Done, Trapped, Fuel};
-ghost use Rattle.canonical_machine.specs.Examples.{RunOf, RunTwice, Measures, Places, Pairs, seventeen, doubling, calling_behind, dropping_behind, asking_for_char, passing_no_char, calling, calling_at_start, calling_itself, trapping, coming_back, gives, calls_with_ask, text, u32, begins, returns, calls_child, called_through, doubled, begins_measuring, begins_placing, pair_bytes, pair_returned, AreApart, ArePlanned, IsNotApart, HasOtherRealloc, AreSound, NamesNothing, HasNoRealloc};
+ghost use Rattle.canonical_machine.specs.Examples.{RunOf, RunTwice, Measures, Places, Pairs, seventeen, doubling, calling_behind, dropping_behind, asking_for_char, passing_no_char, calling, calling_at_start, calling_itself, trapping, coming_back, gives, calls_with_ask, text, u32, begins, returns, calls_child, called_through, doubled, begins_measuring, begins_placing, pair_bytes, pair_returned, AreApart, ArePlanned, IsNotApart, HasOtherRealloc, HasOtherMemory, HasOtherFunction, AreSound, NamesNothing, HasNoRealloc};
 
 /// A call of a child's function by the root, with its argument twice: seven units, one for the item and three for each core
 /// function. With six the last instruction of the child's does not come.
@@ -73,15 +73,17 @@ pub fn results_in_memory()
     ensures too_far { Pairs 20 (pair_returned 20) (Trapped 2 trap.Bounds) 4 (replicate 24 0) }
 {}
 
-/// In four graphs what a core instance imports, and the realloc and the post-return of a lift or a lower, were made by its own
-/// component instance, and the plan makes each core instance in order; in one of them a core instance imports a memory, and a function is
-/// lifted with that memory and a realloc. In two others the root imports a function that its child made, or lifts with a realloc of the
-/// child's.
+/// In four graphs what a core instance imports, the core function of a lift, and what the options of a lift or a lower give, were made by
+/// its own component instance, and the plan makes each core instance in order; in one of them a core instance imports a memory, and a
+/// function is lifted with that memory and a realloc. In four others the root imports a function that its child made, lifts one, or lifts
+/// with a realloc or a memory of the child's.
 pub fn graphs_apart()
     ensures apart { AreApart }
     ensures planned { ArePlanned }
     ensures across { IsNotApart }
     ensures other_realloc { HasOtherRealloc }
+    ensures other_memory { HasOtherMemory }
+    ensures other_function { HasOtherFunction }
 {}
 
 /// A graph in which the root calls its child's function, with a script that passes a number, and one in which a text is placed by a

@@ -74,9 +74,10 @@ pub fn more_fuel_goes_on()
     ensures behind { GoesOnBehind }
 {}
 
-/// Where what a core instance imports, and the realloc and the post-return of a lift or a lower, were made by its own component
-/// instance, core code calls only what its own component instance made: in the first world, and in every step. So a world that is kept
-/// is not stuck, and wherever a run of a sound script comes one move comes next, and it is the only one.
+/// Where what a core instance imports, the core function of a lift, and what the options of a lift or a lower give, were made by its own
+/// component instance, core code calls only what its own component instance made, and has only memories of it: in the first world, and in
+/// every step. So a world that is kept is not stuck, and wherever a run of a sound script comes one move comes next, and it is the only
+/// one.
 pub fn worlds_stay_apart()
     ensures first { FirstApart }
     ensures stays { ApartStays }
@@ -97,8 +98,8 @@ pub fn callers_stay()
     ensures { CallersStay }
 {}
 
-/// Each run of a sound script ends, where what a core instance imports, and the realloc and the post-return of a lift or a lower, were
-/// made by its own component instance: a graph and such a script have a run, with its lines, its last world and its end, and no other.
+/// Each run of a sound script ends, where what a core instance imports, the core function of a lift, and what the options of a lift or a
+/// lower give, were made by its own component instance: a graph and such a script have a run, with its lines, its last world and its end, and no other.
 pub fn runs_end()
     ensures ends { EachRunEnds }
     ensures one { OneRunComes }

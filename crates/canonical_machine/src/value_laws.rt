@@ -1,7 +1,8 @@
 //! What holds of values that were lowered, and of those that are lifted.
 
 ghost use Rattle.canonical_machine.specs.ValueLaws.{FittingValuesAre, StoredValuesStand, StoredListsStand, PlacedValuesStand, StoredValuesAreLoaded, StoredListsAreLoaded, LoweredWordsStand, LoweredWordsAreLifted, LoweredWordsAreTyped, PlacedWordsAreTyped, StoresLeaveOthers, ListsLeaveOthers, PlacedLeaveOthers, WordsLeaveOthers};
-ghost use Rattle.canonical_machine.specs.LiftedValues.{AreBytes, ValuesOfTypesFit, ValuesOfTypesAreInRange, StandingValuesAre, StandingListsAre, FlattenedValuesAre, LoadedValuesAre, LoadedListsAre, LiftedValuesAre};
+ghost use Rattle.canonical_machine.specs.LiftedValues.{ValuesOfTypesFit, ValuesOfTypesAreInRange, StandingValuesAre, StandingListsAre, FlattenedValuesAre, LoadedValuesAre, LoadedListsAre, LiftedValuesAre};
+ghost use Rattle.canonical_machine.specs.Values.{AreBytes};
 ghost use Rattle.canonical_machine.specs.ValueRooms.{FollowedOver, FollowedSettle, StoredStand, ListsStand, PlacedStand, LoweredStand, LoweredAreTyped, PlacedAreTyped};
 
 use value_lower::Room;

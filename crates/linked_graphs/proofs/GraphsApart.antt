@@ -7,7 +7,6 @@ use Rattle.wasm_valid.specs.Modules.{Typed}
 use Rattle.core_machine.specs.Instantiation.{InRange}
 use Rattle.comp_tree.specs.declared.items.Item.{Item, out-Item}
 use Rattle.comp_tree.specs.declared.items.Component.{Component}
-use Rattle.comp_graph.specs.declared.graph.Lift.{Lift}
 use Rattle.comp_graph.specs.Graph.{CoreMake, Graph}
 use Rattle.comp_linking.specs.Definitions.{Closure, AFunc, AnInstance, Exports, EmptyInstance, WithExport}
 use Rattle.comp_linking.specs.Spaces.{Spaces, Linking, new_spaces, with_definition}
@@ -16,7 +15,7 @@ use Rattle.comp_linking.specs.Linked.{Begins, begun, exports_or, exports_at, wit
 use Rattle.comp_linking.specs.Laws.{GraphsAreImported, LiftsAreThere, GraphsAreMade, ModulesStand}
 use Rattle.comp_linking.proofs.Holding.{all_push, all_both, all_mapped, all_weaker}
 use Rattle.canonical_machine.specs.Sound.{HasBytes, Makes}
-use Rattle.canonical_machine.specs.Owners.{AreOptionsOf, IsApart}
+use Rattle.canonical_machine.specs.Owners.{IsLiftApart, IsApart}
 use Rattle.linked_graphs.specs.Laws.{IsSoundModule, HasSoundModules, LinkedGraphsAreSound, PlansMakeInOrder, LinkedGraphsAreApart}
 use Rattle.linked_graphs.proofs.Owning.{made_by, KeepsOwners, IsFuncApart, AreDefinedApart, AreSpacesApart, IsLinkingApart, IsReachedApart}
 use Rattle.linked_graphs.proofs.Keeping.{kept_canons, kept_lifts, kept_imports, kept_spaces, keeps_itself, keeps_through}
@@ -100,7 +99,7 @@ graph_apart l h = record {
   imports = kept_imports (made_by l) (graph_of l) (keeps_graph l) l.cores h.imports;
   lifts =
       kept_lifts (made_by l) (graph_of l) (keeps_graph l) (map lift_of (callables (exports_at l 0)))
-      (all_mapped lift_of (λ (lift : Lift). AreOptionsOf (made_by l) lift.instance lift.options) (callables (exports_at l 0)) (callables_apart (made_by l) (exports_at l 0) (exports_apart l 0 h)));
+      (all_mapped lift_of (IsLiftApart (made_by l)) (callables (exports_at l 0)) (callables_apart (made_by l) (exports_at l 0) (exports_apart l 0 h)));
   lowers = kept_canons (made_by l) (graph_of l) (keeps_graph l) l.canons h.lowers;
 }
 

@@ -25,17 +25,18 @@ use Rattle.comp_tree.specs.declared.items.Canon.TheVariants.{Lift, Lower}
 use Rattle.comp_tree.specs.declared.items.Item.{Item}
 use Rattle.comp_tree.specs.declared.items.Item.TheOpen.{Item-F}
 use Rattle.comp_tree.specs.declared.items.Component.{Component}
+use Rattle.comp_graph.specs.declared.graph.CoreRef.{CoreRef}
 use Rattle.comp_graph.specs.declared.graph.FuncRef.{FuncRef}
 use Rattle.comp_graph.specs.declared.graph.FuncRef.TheVariants as func_ref
 use Rattle.comp_graph.specs.declared.graph.CoreExtern.{CoreExtern}
 use Rattle.comp_graph.specs.declared.graph.CanonFunc.{CanonFunc}
-use Rattle.comp_graph.specs.CoreItems.{core_func_of, table_space, memory_space}
+use Rattle.comp_graph.specs.CoreItems.{core_func_of, core_memory_of, table_space, memory_space}
 use Rattle.comp_graph.specs.Closed.{Extern, OfFunc, OfType, OfInstance}
 use Rattle.comp_graph.specs.Graph.{CoreMake, Graph}
 use Rattle.comp_graph.specs.Needs.{lowered_type}
 use Rattle.comp_linking.specs.Definitions.{CoreItem, Func, Table, Memory, Global, extern_of, item_of, CoreExport, core_named, listed, exports_of, Definition, AFunc, AType, AComponent, AnInstance, AModule, Exports, EmptyInstance, WithExport, export_named}
 use Rattle.comp_linking.specs.Spaces.{Spaces, Linking, core_item_at, definition_at, with_core_item, with_core_instance, with_definition, with_spaces, outer_definition, outer_at}
-use Rattle.comp_linking.specs.Canons.{realloc_index, post_return_index, first_index, given_by, options_of}
+use Rattle.comp_linking.specs.Canons.{memory_index, realloc_index, post_return_index, first_index, given_by, options_of}
 use Rattle.comp_linking.specs.Items.{argument_named, import_found, FindsItem, IsInline, core_made, core_instance_makes, instance_makes, alias_makes, lifted_with, lift_makes, lowered_with, lower_made, lower_makes, IsImported, import_makes, said, IsExported, export_makes, makes_case}
 use Rattle.comp_linking.proofs.Holding.{all_push, all_mapped, all_flat, all_at, all_second, holds_at, if_mapped, if_found, if_each, if_cond, last_there}
 use Rattle.canonical_machine.specs.Reading.{inst_of_canon}
@@ -91,8 +92,17 @@ module _ (g : Graph) (owner : ℕ) (s : Spaces) (apart : AreSpacesApart g owner 
   given_own : (given : Option CoreItem) → IfSome given (IsItemOf g owner) → IfSome (option_and_then core_func_of given) (λ f. owner_of_func g f ≡ Some owner)
   given_own given h = if_found core_func_of (IsItemOf g owner) (λ (f : FuncRef). owner_of_func g f ≡ Some owner) func_own given h
 
+  memory_own : (item : CoreItem) → IsItemOf g owner item → IfSome (core_memory_of item) (λ m. owner_of_core g m.instance ≡ Some owner)
+  memory_own (Func f type) h = tt
+  memory_own (Table t limits) h = tt
+  memory_own (Memory m limits) h = h
+  memory_own (Global global type) h = tt
+
   options_own : (options : List CanonOption) → AreOptionsOf g owner (options_of (given_by s options))
   options_own options = record {
+    memory =
+        if_found core_memory_of (IsItemOf g owner) (λ (m : CoreRef). owner_of_core g m.instance ≡ Some owner) memory_own (option_and_then (slice_get s.core_memories) (first_index memory_index options))
+        (if_each (slice_get s.core_memories) (IsItemOf g owner) (λ index. all_at (IsItemOf g owner) s.core_memories index apart.core.memories_of) (first_index memory_index options));
     realloc =
         given_own (option_and_then (slice_get s.core_funcs) (first_index realloc_index options))
         (if_each (slice_get s.core_funcs) (IsItemOf g owner) (λ index. all_at (IsItemOf g owner) s.core_funcs index apart.core.funcs_of) (first_index realloc_index options));
@@ -170,7 +180,11 @@ alias_reached l n s sort (target.Outer up index) new h k (d, is, made) =
 -- Lifts and lowers.
 lift_reached : (l : Linking) (n : ℕ) (s : Spaces) (f : ℕ) (options : List CanonOption) (t : ℕ) (new : Linking) → IsLinkingApart l → AreSpacesApart (made_by l) n s → lift_makes l n s f options t new → IsReachedApart l new
 lift_reached l n s f options t new h k (item, core, type, is, of_item, there, of_type, once, fits, made) =
-    defined_reached l n s (AFunc (lifted_with n type core (given_by s options))) new h k made (options_own (made_by l) n s k options)
+    defined_reached l n s (AFunc (lifted_with n type core (given_by s options))) new h k made (
+      holds_at (λ (f : FuncRef). owner_of_func (made_by l) f ≡ Some n) (core_func_of item) core
+          (func_own (made_by l) n s k item (holds_at (IsItemOf (made_by l) n) (slice_get s.core_funcs f) item (all_at (IsItemOf (made_by l) n) s.core_funcs f k.core.funcs_of) is)) of_item,
+      options_own (made_by l) n s k options,
+    )
 
 lower_reached : (l : Linking) (n : ℕ) (s : Spaces) (f : ℕ) (options : List CanonOption) (new : Linking) → IsLinkingApart l → AreSpacesApart (made_by l) n s → lower_makes l n s f options new → IsReachedApart l new
 lower_reached l n s f options new h k (func, is, there, once, fits, made) =

@@ -2,6 +2,7 @@
 use Rattle.std.proofs.Common.{◌≡◌, ℕ, List, ◌++◌, ◌∙◌, ap, Some}
 use Rattle.std.specs.List.{slice_get, AllByRecursion}
 use Rattle.std.specs.Option.{option_map}
+use Rattle.comp_graph.specs.declared.graph.CoreRef.{CoreRef}
 use Rattle.comp_graph.specs.declared.graph.FuncRef.{FuncRef}
 use Rattle.comp_graph.specs.declared.graph.FuncRef.TheVariants as func_ref
 use Rattle.comp_graph.specs.declared.graph.CoreExtern.{CoreExtern}
@@ -15,7 +16,7 @@ use Rattle.comp_linking.specs.Definitions.{CoreItem, extern_of, CoreExport, Lift
 use Rattle.comp_linking.specs.Spaces.{Spaces}
 use Rattle.comp_linking.proofs.Holding.{all_weaker, if_weaker, kept_at}
 use Rattle.comp_linking.proofs.Lists.{map_some}
-use Rattle.canonical_machine.specs.Owners.{owner_of_func, owner_of_extern, AreOptionsOf, IsCanonApart}
+use Rattle.canonical_machine.specs.Owners.{owner_of_core, owner_of_func, owner_of_extern, AreOptionsOf, IsLiftApart, IsCanonApart}
 use Rattle.linked_graphs.proofs.Owning.{KeepsOwners, IsItemOf, AreExportsOf, IsFuncApart, IsDefinedApart, AreDefinedApart, AreSpacesApart, AreImportsOf}
 
 -- what is made of an item of a list, when others come behind
@@ -35,18 +36,22 @@ module _ (g h : Graph) (keeps : KeepsOwners g h) where
 
   pub kept_options : (owner : ℕ) (options : Options) → AreOptionsOf g owner options → AreOptionsOf h owner options
   kept_options owner options k = record {
+    memory = if_weaker (λ (m : CoreRef). owner_of_core g m.instance ≡ Some owner) (λ (m : CoreRef). owner_of_core h m.instance ≡ Some owner) (λ m e. keeps.cores m.instance owner e) options.memory k.memory;
     realloc = if_weaker (λ (f : FuncRef). owner_of_func g f ≡ Some owner) (λ (f : FuncRef). owner_of_func h f ≡ Some owner) (λ f e. kept_func f owner e) options.realloc k.realloc;
     post_return = if_weaker (λ (f : FuncRef). owner_of_func g f ≡ Some owner) (λ (f : FuncRef). owner_of_func h f ≡ Some owner) (λ f e. kept_func f owner e) options.post_return k.post_return;
   }
 
+  kept_lift : (lift : Lift) → IsLiftApart g lift → IsLiftApart h lift
+  kept_lift lift k = (kept_func lift.core lift.instance k.0, kept_options lift.instance lift.options k.1)
+
   pub kept_canon : (f : CanonFunc) → IsCanonApart g f → IsCanonApart h f
-  kept_canon (canon_func.Lower l) k = (kept_options l.instance l.options k.0, kept_options l.lift.instance l.lift.options k.1)
+  kept_canon (canon_func.Lower l) k = (kept_options l.instance l.options k.0, kept_lift l.lift k.1)
 
   pub kept_canons : (canons : List CanonFunc) → AllByRecursion (IsCanonApart g) canons → AllByRecursion (IsCanonApart h) canons
   kept_canons canons k = all_weaker (IsCanonApart g) (IsCanonApart h) kept_canon canons k
 
-  pub kept_lifts : (lifts : List Lift) → AllByRecursion (λ (l : Lift). AreOptionsOf g l.instance l.options) lifts → AllByRecursion (λ (l : Lift). AreOptionsOf h l.instance l.options) lifts
-  kept_lifts lifts k = all_weaker (λ (l : Lift). AreOptionsOf g l.instance l.options) (λ (l : Lift). AreOptionsOf h l.instance l.options) (λ l o. kept_options l.instance l.options o) lifts k
+  pub kept_lifts : (lifts : List Lift) → AllByRecursion (IsLiftApart g) lifts → AllByRecursion (IsLiftApart h) lifts
+  kept_lifts lifts k = all_weaker (IsLiftApart g) (IsLiftApart h) kept_lift lifts k
 
   kept_imports_of : (c : CoreMake) → AreImportsOf g c → AreImportsOf h c
   kept_imports_of c k = all_weaker (λ (e : CoreExtern). owner_of_extern g e ≡ Some c.owner) (λ (e : CoreExtern). owner_of_extern h e ≡ Some c.owner) (λ e is. kept_extern e c.owner is) c.imports k
@@ -65,7 +70,7 @@ module _ (g h : Graph) (keeps : KeepsOwners g h) where
   kept_exports owner exports k = all_weaker (λ (e : CoreExport). IsItemOf g owner e.item) (λ (e : CoreExport). IsItemOf h owner e.item) (λ e is. kept_item owner e.item is) exports k
 
   pub kept_apart : (f : Lifted) → IsFuncApart g f → IsFuncApart h f
-  kept_apart f k = kept_options f.instance f.options k
+  kept_apart f k = (kept_func f.core f.instance k.0, kept_options f.instance f.options k.1)
 
   mutual
     kept_definition : (d : Definition) → IsDefinedApart g d → IsDefinedApart h d

@@ -7,7 +7,7 @@ use Rattle.comp_graph.specs.Graph.{CoreMake, Graph}
 use Rattle.comp_linking.specs.Definitions.{CoreItem, extern_of, CoreExport, Lifted, Definition, AFunc, AType, AComponent, AnInstance, AModule, Exports, EmptyInstance, WithExport}
 use Rattle.comp_linking.specs.Spaces.{Spaces, Linking}
 use Rattle.canonical_machine.specs.Sound.{Makes}
-use Rattle.canonical_machine.specs.Owners.{owner_of_core, owner_of_canon, owner_of_extern, AreOptionsOf, IsCanonApart}
+use Rattle.canonical_machine.specs.Owners.{owner_of_core, owner_of_canon, owner_of_func, owner_of_extern, AreOptionsOf, IsCanonApart}
 
 -- what a linking has made so far, as a graph
 abbrev pub made_by : Linking → Graph
@@ -25,9 +25,9 @@ IsItemOf g owner item = owner_of_extern g (extern_of item) ≡ Some owner
 abbrev pub AreExportsOf : Graph → ℕ → List CoreExport → Type 0
 AreExportsOf g owner exports = AllByRecursion (λ (e : CoreExport). IsItemOf g owner e.item) exports
 
--- a function whose options are of the component instance that lifts it
+-- a function whose core function and options are of the component instance that lifts it
 abbrev pub IsFuncApart : Graph → Lifted → Type 0
-IsFuncApart g f = AreOptionsOf g f.instance f.options
+IsFuncApart g f = (owner_of_func g f.core ≡ Some f.instance) × AreOptionsOf g f.instance f.options
 
 abbrev mutual
   pub IsDefinedApart : Graph → Definition → Type 0

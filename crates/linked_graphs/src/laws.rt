@@ -14,8 +14,8 @@ pub fn linked_graphs_are_sound()
     graphs_are_sound();
 }
 
-/// In a linked graph what a core instance imports, and the realloc and the post-return of a lift or a lower, were made by its own
-/// component instance.
+/// In a linked graph what a core instance imports, the core function of a lift, and what the options of a lift or a lower give, were made
+/// by its own component instance.
 pub fn linked_graphs_are_apart()
     ensures { LinkedGraphsAreApart }
 {}

@@ -1,5 +1,4 @@
-use Rattle.canonical_machine.proofs.TransportReturn.{results_arrive}
-use Rattle.canonical_machine.proofs.TransportGot.{returns_are_whole, results_are_got}
+use Rattle.canonical_machine.proofs.TransportGot.{results_arrive, returns_are_whole, results_are_got}
 use Rattle.canonical_machine.proofs.transport.results_arrive.Goals as goal
 
 pub returns : goal.returns
