@@ -288,7 +288,7 @@ module _ (g : Graph) (s : Script) (run : RunState) (t : ℕ) (sound : IsSound g 
       subst (λ (n : ℕ). EndsBy g s (record run { labels = labels }) (Trapped n trap.Reentrant)) h.number
       (ends_there g s (record run { labels = labels }) v (Trapped u.task trap.Reentrant)
       (subst (λ (ls : List Label). Leads g s (first_world g) ls v) same (leads_then g s (first_world g) w v run.labels said h.stands.leads (leads_step g s w v said step))) refl
-      h.stands.sees.store h.stands.sees.instances)
+      h.stands.sees.store h.stands.sees.units h.stands.sees.instances h.stands.sees.made h.stands.sees.taken)
 
   -- Else the task is made, and the one that calls waits for it.
   pub call_makes : (tasks : ℕ) (labels : List Label) → is_reentrant here call_lower.0.lift.instance u.task ≡ false → tasks ≡ run.tasks + 1

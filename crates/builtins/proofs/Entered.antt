@@ -105,7 +105,7 @@ module _ (g : Graph) (s : Script) (run : RunState) (t : ℕ) (f : Lifted) (v : V
       → EndsBy g s (record run { store = store; left = after }) (Trapped t why)
   entry_traps why store after u =
       let v : World = with_room w store u.0 (Doomed t why) in
-      ends_there g s (record run { store = store; left = after }) v (Trapped t why) (behind_all store u.0 (Doomed t why) u.2) refl refl h.stands.sees.instances
+      ends_there g s (record run { store = store; left = after }) v (Trapped t why) (behind_all store u.0 (Doomed t why) u.2) refl refl u.1 h.stands.sees.instances h.stands.sees.made h.stands.sees.taken
 
   pub entry_wants : (store : Store) (after : ℕ) → WithUsed s after (λ used. LoweredLeads g s w l came.NoFuel store used) → EndsBy g s (record run { store = store; left = after }) Fuel
   entry_wants store after u =
@@ -114,7 +114,10 @@ module _ (g : Graph) (s : Script) (run : RunState) (t : ℕ) (f : Lifted) (v : V
         last = last;
         runs = subst (λ (ls : List Label). RunsFrom g s (first_world g) ls last Fuel) (append-nil run.labels) (ends_behind g s (first_world g) w last run.labels [] Fuel h.stands.leads u.2.1);
         store = refl;
+        units = u.1;
         instances = h.stands.sees.instances;
+        made = h.stands.sees.made;
+        taken = h.stands.sees.taken;
       }
 
   -- A realloc calls a core function of the Canonical ABI.
@@ -126,7 +129,7 @@ module _ (g : Graph) (s : Script) (run : RunState) (t : ℕ) (f : Lifted) (v : V
   entry_refused call store after labels end u refused =
       let v : World = with_room w store u.0 (Doomed t trap.CannotLeave) in
       refused_ends g s (record run { store = store; left = after; labels = labels }) run.labels v u.2.0 call.address call.words t t end u.2.1
-      (leads_then g s (first_world g) w v run.labels (line.Do t (builtin_of u.2.0) call.words ∷ []) h.stands.leads u.2.2) refl refl h.stands.sees.instances refused
+      (leads_then g s (first_world g) w v run.labels (line.Do t (builtin_of u.2.0) call.words ∷ []) h.stands.leads u.2.2) refl refl u.1 h.stands.sees.instances h.stands.sees.made h.stands.sees.taken refused
 
   -- It gives words, with which the core function starts.
   record Started (words : List ℕ) (store : Store) (after : ℕ) : Type 0 where

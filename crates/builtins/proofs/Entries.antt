@@ -218,7 +218,8 @@ module _ (g : Graph) (s : Script) (run : RunState) (t : ℕ) (c : CalledFunc) (s
       step p.0 p.1 ∙ ap (λ (r : Result Value LiftTrap). behind (line.Enter t ∷ []) (with_arguments t f r (in_state t Acting (with_control controls.Free w)))) p.2
       ∙ ap (λ (turn : Turn). behind (line.Enter t ∷ []) turn) (arguments_fail t f trap (in_state t Acting (with_control controls.Free w))) in
       subst (λ (name : TrapName). EndsBy g s (record run { labels = labels }) (Trapped t name)) (sym named)
-      (ends_there g s (record run { labels = labels }) v (Trapped t (lift_name trap.why)) (there_by v labels e said) refl h.stands.sees.store h.stands.sees.instances)
+      (ends_there g s (record run { labels = labels }) v (Trapped t (lift_name trap.why)) (there_by v labels e said) refl h.stands.sees.store h.stands.sees.units h.stands.sees.instances
+      (changed_length t (λ task. record task { state = Acting }) w.tasks ∙ h.stands.sees.made) h.stands.sees.taken)
 
   -- The arguments are there.
   pub entry_fits : (v : Value) → ((x : Task) → IsCalled g s run.taken (waiters run) x → IsPassedBy g run.store x.caller (Ok v)) → fits v c.types.params ≡ true

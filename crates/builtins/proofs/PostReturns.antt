@@ -219,7 +219,7 @@ module _ (g : Graph) (s : Script) (run : RunState) (t : ℕ) (k : Stack) (words 
       let there : Leads g s w [] v = subst (λ (n : ℕ). Leads g s w [] (with_room w store u.0 (Doomed n (core_name why)))) h.holds.blame u.2 in
       subst (λ (name : TrapName). EndsBy g s (record run { store = store; left = after }) (Trapped t name)) (sym is)
       (ends_there g s (record run { store = store; left = after }) v (Trapped t (core_name why))
-      (subst (λ (ls : List Label). Leads g s (first_world g) ls v) (append-nil run.labels) (leads_then g s (first_world g) w v run.labels [] h.leads there)) refl refl h.sees.instances)
+      (subst (λ (ls : List Label). Leads g s (first_world g) ls v) (append-nil run.labels) (leads_then g s (first_world g) w v run.labels [] h.leads there)) refl refl u.1 h.sees.instances h.sees.made h.sees.taken)
 
   -- No unit is left.
   pub post_return_wants : (later : Stack) (store : Store) (after : ℕ) → RunGives run.store k run.left (outcome.NoFuel later) store after → EndsBy g s (record run { store = store; left = after }) Fuel
@@ -231,7 +231,10 @@ module _ (g : Graph) (s : Script) (run : RunState) (t : ℕ) (k : Stack) (words 
         last = last;
         runs = subst (λ (ls : List Label). RunsFrom g s (first_world g) ls last Fuel) (append-nil run.labels) (ends_behind g s (first_world g) w last run.labels [] Fuel h.leads u.2);
         store = refl;
+        units = u.1;
         instances = h.sees.instances;
+        made = h.sees.made;
+        taken = h.sees.taken;
       }
 
   -- It calls a core function of the Canonical ABI.
@@ -252,4 +255,4 @@ module _ (g : Graph) (s : Script) (run : RunState) (t : ℕ) (k : Stack) (words 
       subst (λ (m : ℕ). Leads g s w (line.Do m (builtin_of u.2.0) results ∷ []) v) h.holds.acts_for
       (subst (λ (m : ℕ). Leads g s w (line.Do n.acts_for (builtin_of u.2.0) results ∷ []) (with_room w store u.0 (Doomed m trap.CannotLeave))) h.holds.blame u.2.2) in
       refused_ends g s (record run { store = store; left = after; labels = labels }) run.labels v u.2.0 number results t t end u.2.1
-      (leads_then g s (first_world g) w v run.labels (line.Do t (builtin_of u.2.0) results ∷ []) h.leads said) refl refl h.sees.instances refused
+      (leads_then g s (first_world g) w v run.labels (line.Do t (builtin_of u.2.0) results ∷ []) h.leads said) refl refl u.1 h.sees.instances h.sees.made h.sees.taken refused

@@ -266,7 +266,7 @@ module _ (g : Graph) (s : Script) (run : RunState) (t : ℕ) (words : List ℕ) 
       subst (λ (name : TrapName). EndsBy g s run (Trapped t name)) (sym named)
       (ends_there g s run v (Trapped t (lift_name trap.why))
       (subst (λ (ls : List Label). Leads g s (first_world g) ls v) (append-nil run.labels) (leads_then g s (first_world g) w v run.labels [] h.at.stands.leads (leads_step g s w v [] step)))
-      refl h.at.stands.sees.store h.at.stands.sees.instances)
+      refl h.at.stands.sees.store h.at.stands.sees.units h.at.stands.sees.instances (changed_length t leaving w.tasks ∙ h.at.stands.sees.made) h.at.stands.sees.taken)
 
   -- The script takes a result by its line. Where there is none, nothing is passed on.
   pub resolves : (result : Option TypedValue) (labels : List Label) → result_of c.func_type.now c.func_type.now.result (bytes_of run.store (memory_of run.store c.lift.options)) words ≡ Ok result
@@ -340,6 +340,9 @@ module _ (g : Graph) (s : Script) (run : RunState) (t : ℕ) (words : List ℕ) 
 
     lowers_there : Leads g s (first_world g) (run.labels ++ line.Return t (Some result) ∷ []) lowering_world
     lowers_there = leads_then g s (first_world g) w lowering_world run.labels (line.Return t (Some result) ∷ []) h.at.stands.leads (leads_step g s w lowering_world (line.Return t (Some result) ∷ []) lowers_next)
+
+    made_there : length resolved_world.tasks ≡ run.tasks
+    made_there = changed_length t resolving (changed_at t leaving w.tasks) ∙ changed_length t leaving w.tasks ∙ h.at.stands.sees.made
 
     pub is_lowering : (options : LowerOptions) → IsMemory (memory_of run.store l.options) options.memory run.store → options.realloc ≡ realloc_of run.store l.options
         → IsAtLowering g s lowering_world lowering plan options run.store run.left
@@ -437,7 +440,7 @@ module _ (g : Graph) (s : Script) (run : RunState) (t : ℕ) (words : List ℕ) 
         ends_there g s (record run { store = store; left = after; labels = labels }) v (Trapped t why)
         (subst (λ (ls : List Label). Leads g s (first_world g) ls v) (append-nil (run.labels ++ line.Return t (Some result) ∷ []) ∙ sym said)
         (leads_then g s (first_world g) lowering_world v (run.labels ++ line.Return t (Some result) ∷ []) [] lowers_there to))
-        refl refl h.at.stands.sees.instances
+        refl refl units_are h.at.stands.sees.instances made_there h.at.stands.sees.taken
 
     -- A realloc calls a core function of the Canonical ABI: the line is that of the task that called.
     pub passing_call_there : (call : HostCall) (store : Store) (after : ℕ) → WithUsed s after (λ used. LoweredLeads g s lowering_world lowering (came.Refused call) store used) → call.address < length g.canons
@@ -451,7 +454,7 @@ module _ (g : Graph) (s : Script) (run : RunState) (t : ℕ) (words : List ℕ) 
         refused_ends g s (record run { store = store; left = after; labels = more }) labels v to.0 call.address call.words u.task t end to.1
         (subst (λ (ls : List Label). Leads g s (first_world g) (ls ++ line.Do u.task (builtin_of to.0) call.words ∷ []) v) (sym said)
         (leads_then g s (first_world g) lowering_world v (run.labels ++ line.Return t (Some result) ∷ []) (line.Do u.task (builtin_of to.0) call.words ∷ []) lowers_there to.2))
-        refl refl h.at.stands.sees.instances refused
+        refl refl units_are h.at.stands.sees.instances made_there h.at.stands.sees.taken refused
 
     -- No unit is left.
     pub passing_wants : (store : Store) (after : ℕ) (labels : List Label) → labels ≡ run.labels ++ line.Return t (Some result) ∷ []
@@ -463,7 +466,10 @@ module _ (g : Graph) (s : Script) (run : RunState) (t : ℕ) (words : List ℕ) 
           runs = subst (λ (ls : List Label). RunsFrom g s (first_world g) ls last Fuel) (append-nil (run.labels ++ line.Return t (Some result) ∷ []) ∙ sym said)
               (ends_behind g s (first_world g) lowering_world last (run.labels ++ line.Return t (Some result) ∷ []) [] Fuel lowers_there to.1);
           store = refl;
+          units = units_are;
           instances = h.at.stands.sees.instances;
+          made = made_there;
+          taken = h.at.stands.sees.taken;
         }
 
     -- The result is of its type.

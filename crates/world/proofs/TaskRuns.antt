@@ -136,7 +136,8 @@ stack_traps g s run t k why store after name h gives is =
     let u = run_leads g s run t k (outcome.Trapped why) store after h gives in
     let v : World = with_stack t u.2.0 (with_room w store u.0 (Doomed t (core_name why))) in
     subst (λ (name : TrapName). EndsBy g s (record run { store = store; left = after }) (Trapped t name)) (sym is)
-    (ends_there g s (record run { store = store; left = after }) v (Trapped t (core_name why)) (behind_all g s w v run.labels h.stands.leads u.2.1) refl refl h.stands.sees.instances)
+    (ends_there g s (record run { store = store; left = after }) v (Trapped t (core_name why)) (behind_all g s w v run.labels h.stands.leads u.2.1) refl refl u.1 h.stands.sees.instances
+    (changed_length t (λ task. record task { stacks = u.2.0 ∷ drop 1 task.stacks }) w.tasks ∙ h.stands.sees.made) h.stands.sees.taken)
 
 pub stack_wants : (g : Graph) (s : Script) (run : RunState) (t : ℕ) (k later : Stack) (store : Store) (after : ℕ) → IsAtStack g s run t k
     → RunGives run.store k run.left (outcome.NoFuel later) store after → EndsBy g s (record run { store = store; left = after }) Fuel
@@ -148,7 +149,10 @@ stack_wants g s run t k later store after h gives =
       last = last;
       runs = subst (λ (ls : List Label). RunsFrom g s (first_world g) ls last Fuel) (append-nil run.labels) (ends_behind g s (first_world g) w last run.labels [] Fuel h.stands.leads u.2);
       store = refl;
+      units = u.1;
       instances = h.stands.sees.instances;
+      made = changed_length t (λ task. record task { stacks = later ∷ drop 1 task.stacks }) w.tasks ∙ h.stands.sees.made;
+      taken = h.stands.sees.taken;
     }
 
 reverse_last : (us : List Waiter) (u : Waiter) → reverse (us ++ u ∷ []) ≡ u ∷ reverse us

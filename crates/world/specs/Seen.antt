@@ -127,9 +127,13 @@ pub record IsAtCall (g : Graph) (s : Script) (run : RunState) (t : ℕ) : Type 0
   pub number : caller.task ≡ t
   pub stands : Stands g s run (λ w. (w.control ≡ Calls caller.canon caller.words) × (w.chain ≡ numbers (waiters run)))
 
--- The run ends, with its lines, in a world that has its store and its component instances.
+-- The run ends, with its lines, in a world that has its store and its component instances, and in which as many units are used, tasks
+-- made and items taken.
 pub record EndsBy (g : Graph) (s : Script) (run : RunState) (end : RunEnd) : Type 0 where
   pub last : World
   pub runs : canonical.Runs g s run.labels last end
   pub store : last.store ≡ run.store
+  pub units : last.units + run.left ≡ s.fuel
   pub instances : last.instances ≡ run.instances
+  pub made : length last.tasks ≡ run.tasks
+  pub taken : last.taken ≡ run.taken

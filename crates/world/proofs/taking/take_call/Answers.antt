@@ -3,7 +3,7 @@ use Rattle.world.proofs.Items.{item_wants, sound_call, export_within, same_type,
 use Rattle.world.proofs.taking.take_call.Goals as goal
 
 pub returns-then-not-spend-clause-taken : goal.returns-then-not-spend-clause-taken
-returns-then-not-spend-clause-taken c = item_wants c.args.graph.now c.args.script.now c.args.run.now c.args.call.now c.spend.new.self c.requires.free c.requires.there (search rules)
+returns-then-not-spend-clause-taken c = item_wants c.args.graph.now c.args.script.now c.args.run.now c.args.call.now c.spend.new.self c.requires.free c.requires.there (search rules) c.spend.ensures.left
 
 pub called_export-export-requires : goal.called_export-export-requires
 called_export-export-requires c = sound_call c.args.graph.now c.args.script.now c.args.run.now.taken c.args.call.now c.requires.sound c.requires.there
