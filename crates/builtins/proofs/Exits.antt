@@ -97,7 +97,7 @@ for_it all others t [] order same = tt
 for_it all others t (u ∷ below) order same = (order.1.0, same u.task order.2 ∙ order.1.1, order.1.2.state_is)
 
 answers_alike : (us : List Waiter) (words : List ℕ) (task other : Task) → other.caller ≡ task.caller → Answers us words task → Answers us words other
-answers_alike [] words task other caller h = tt
+answers_alike [] words task other caller h = h
 answers_alike (u ∷ below) words task other caller h = (h.0, caller ∙ h.1, h.2, h.3)
 
 abbrev IsGone : RunState → ℕ → List ℕ → World → Type 0

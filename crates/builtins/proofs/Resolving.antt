@@ -175,7 +175,7 @@ passes_nothing g s taken us task t words result w (inl none) h = to_script g s t
 passes_nothing g s taken us task t words result w (inr none) h = ap (λ (r : Option TypedValue). passed_on g t task.caller words r w) none ∙ no_result g t task.caller words w
 
 no_answer : (g : Graph) (s : Script) (taken : ℕ) (us : List Waiter) (task other : Task) → other.caller ≡ task.caller → IsCalled g s taken us task → Answers us [] other
-no_answer g s taken [] task other same h = tt
+no_answer g s taken [] task other same h = refl
 no_answer g s taken (u ∷ below) task other same h = (called_by u.task u.canon u.words, same ∙ h.caller, refl, refl)
 
 returned_ok : (g : Graph) (t : ℕ) (caller : Caller) (words : List ℕ) (result : Option TypedValue) (w : World)

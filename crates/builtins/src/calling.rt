@@ -1,6 +1,6 @@
 //! Calls between components.
 
-ghost use Rattle.std.specs.Prelude.{◌≡◌, ◌<◌, ◌+◌, ◌-◌, ℕ, length, reverse, take, Some, IfOk, IfSome, MatchResult};
+ghost use Rattle.std.specs.Prelude.{◌≡◌, ◌<◌, ◌≤◌, ◌+◌, ◌-◌, ◌^◌, ℕ, length, reverse, take, Some, IfOk, MatchOption, MatchResult};
 ghost use Rattle.std.specs.List.{slice_get};
 ghost use Rattle.comp_graph.specs.declared.graph.Lower.{Lower};
 ghost use Rattle.canonical_machine.specs.Control.{Free};
@@ -86,9 +86,9 @@ fn same_words(alloc: Global, words: &[u64]) -> Result<Words, Memory>
     Ok(Seq::from_vec(Vec::from_slice(alloc, words)?))
 }
 
-/// The number of a component instance in a line, where those are counted from 1.
+/// The number of a component instance in a line, where those are counted from 1, if it has 32 bits.
 fn line_number(instance: usize) -> Option<u32>
-    ensures { IfSome result (λ number. number ≡ instance + 1) }
+    ensures { MatchOption result (2 ^ 32 ≤ instance + 1) (λ number. number ≡ instance + 1) }
 {
     match u32::try_from(instance) {
         Ok(number) => number.checked_add(1),

@@ -16,9 +16,10 @@ use Rattle.world.specs.declared.state.RunState.{RunState}
 use Rattle.world.specs.Parts.{Meets}
 use Rattle.world.specs.Seen.{waiters, numbers, Sees, Stands, IsAtFree}
 
--- The words are kept for the innermost of these tasks that wait, with a task that it called by its core function of the Canonical ABI.
+-- The words are kept for the innermost of these tasks that wait, with a task that it called by its core function of the Canonical ABI. Where
+-- none waits, the script called, for which no words are kept.
 abbrev pub Answers : List Waiter → List ℕ → Task → Type 0
-Answers [] words task = Unit {0}
+Answers [] words task = words ≡ []
 Answers (u ∷ below) words task = (subtask : Subtask) × (task.caller ≡ Guest subtask) × (subtask.canon ≡ u.canon) × (subtask.result ≡ words)
 
 -- The acting task, which runs this function, has resolved, and what it resolved to has reached its caller: with the words that are kept

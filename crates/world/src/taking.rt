@@ -2,7 +2,8 @@
 
 ghost use Rattle.std.specs.Prelude.{◌≡◌, map, Some, IfOk, MatchResult};
 ghost use Rattle.std.specs.List.{slice_get};
-ghost use Rattle.comp_graph.specs.Graph.{Lifted, func_named, func_at};
+ghost use Rattle.ca_base.specs.Names.{first_named};
+ghost use Rattle.comp_graph.specs.Graph.{Lifted, names, func_named, func_at};
 ghost use Rattle.canonical_machine.specs.Calling.{typed};
 ghost use Rattle.canonical_machine.specs.Sound.{IsSound, IsSoundCall};
 ghost use Rattle.canonical_machine.specs.Owners.{IsApart};
@@ -78,10 +79,11 @@ fn take_call(
     Ok(Ok(task))
 }
 
-/// The number of the export that a call names.
+/// The number of the export that a call names: the first of its name.
 pub fn called_export(graph: &NamedGraph, call: &Call) -> usize
     requires { IsSoundCall graph.now call.now }
-    ensures { (f : Lifted) × (func_named graph.now call.now.name ≡ Some f) × (func_at graph.now result ≡ Some f) }
+    ensures first { first_named call.now.name (names graph.now.exports) ≡ Some result }
+    ensures lifts { (f : Lifted) × (func_named graph.now call.now.name ≡ Some f) × (func_at graph.now result ≡ Some f) }
 {
     graph.number(call.name.as_str()).unwrap()
 }
