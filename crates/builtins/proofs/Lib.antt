@@ -11,3 +11,4 @@ mod Entries
 mod PostReturns
 mod Resolving
 mod Places
+mod Telling

@@ -1,4 +1,5 @@
 pub mod Rooms
 pub mod Lowering
 pub mod Reentering
+pub mod Telling
 pub mod Ran

@@ -11,6 +11,7 @@ ghost use Rattle.canonical_machine.specs.Owners.{IsApart};
 ghost use Rattle.world.specs.Seen.{IsAtCall, IsAtArrival, EndsBy};
 ghost use Rattle.world.specs.Onward.{Begins};
 ghost use Rattle.builtins.specs.Reentering.{calls_into, reenters};
+ghost use Rattle.builtins.specs.Telling.{AddsCall};
 
 use ca_base::{Memory, Seq};
 use canonical_machine::RunEnd;
@@ -129,6 +130,7 @@ pub(crate) fn begin_call(
     requires at { IsAtCall graph.now script.now run.old task }
     ensures arrives { IfOk result (λ begun. MatchResult begun (λ t. IsAtArrival graph.now script.now run.new t) (λ end. EndsBy graph.now script.now run.new end)) }
     ensures begins { IfOk result (λ begun. MatchResult begun (λ t. Begins graph.now run.old run.new) (λ end. Unit {0})) }
+    ensures tells { IfOk result (λ begun. AddsCall run.old run.new task begun) }
 {
     let caller = innermost(&run.waiting);
     let canon = caller.canon;

@@ -1,6 +1,6 @@
 //! The entry of tasks.
 
-ghost use Rattle.std.specs.Prelude.{◌≡◌, ◌≤◌, true, false, length, IfOk, MatchResult};
+ghost use Rattle.std.specs.Prelude.{◌≡◌, ◌≤◌, true, false, [], ◌∷◌, length, IfOk, MatchResult};
 ghost use Rattle.ca_types.specs.declared.types.FuncType.{FuncType};
 ghost use Rattle.ca_types.specs.declared.value.Value.{Value};
 ghost use Rattle.ca_types.specs.Fits.{fits};
@@ -18,6 +18,7 @@ ghost use Rattle.world.specs.Passed.{IsAtEntry};
 ghost use Rattle.world.specs.Seen.{IsAtArrival, IsAtStack, EndsBy};
 ghost use Rattle.world.specs.Onward.{Spends};
 ghost use Rattle.builtins.specs.Lowering.{plan_to};
+ghost use Rattle.builtins.specs.Telling.{Adds, AddsOnly, IsOfEntry, IsStart};
 
 use crate::lower_options::lower_options;
 use crate::lower_values::{Lowered, Target, lower};
@@ -34,7 +35,8 @@ use world::{
     CalledFunc, NamedGraph, RunState, arguments, called_func, func_address, lift_name, refuse,
 };
 
-/// A task enters, by its line, and its arguments are lifted and passed. It answers the stack of its core function, or how the run ends.
+/// A task enters, by its line, and its arguments are lifted and passed. It answers the stack on which its core function starts, or how the
+/// run ends.
 pub(crate) fn enter(
     alloc: Global,
     graph: &NamedGraph,
@@ -48,6 +50,7 @@ pub(crate) fn enter(
     requires at { IsAtArrival graph.now script.now run.old task }
     ensures enters { IfOk result (λ entered. MatchResult entered (λ k. IsAtStack graph.now script.now run.new task k) (λ end. EndsBy graph.now script.now run.new end)) }
     ensures spends { IfOk result (λ entered. Spends run.old run.new) }
+    ensures tells { IfOk result (λ entered. MatchResult entered (λ k. Adds run.old run.new 0 (Label.Enter task ∷ []) × IsStart run.new.store k) (λ end. AddsOnly IsOfEntry run.old run.new)) }
 {
     run.labels.push(Label::Enter { task })?;
     let func = called_func(graph, script, run);
@@ -62,7 +65,8 @@ pub(crate) fn enter(
 }
 
 /// The arguments of the acting task, which has entered, are lowered, and its core function starts with their words. It answers the stack
-/// of that function, or how the run ends.
+/// on which that function starts, or how the run ends.
+#[tactic(auto, using(crate::proofs::Telling::entry_none))]
 fn pass(
     alloc: Global,
     graph: &NamedGraph,
@@ -82,6 +86,7 @@ fn pass(
     requires at { IsAtEntry graph.now script.now run.old task (lifted_by func.now) value.now }
     ensures enters { IfOk result (λ entered. MatchResult entered (λ k. IsAtStack graph.now script.now run.new task k) (λ end. EndsBy graph.now script.now run.new end)) }
     ensures spends { IfOk result (λ entered. Spends run.old run.new) }
+    ensures tells { IfOk result (λ entered. MatchResult entered (λ k. Adds run.old run.new 0 [] × IsStart run.new.store k) (λ end. AddsOnly IsOfEntry run.old run.new)) }
 {
     let of_type = &func.types.params;
     let options = lower_options(&run.store, func.lift.options);

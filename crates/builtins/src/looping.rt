@@ -1,6 +1,6 @@
 //! A call of the script, from the arrival of its task to the exit: tasks call one another, and control comes back to them.
 
-ghost use Rattle.std.specs.Prelude.{◌≤◌, IfOk, MatchResult, MatchOption};
+ghost use Rattle.std.specs.Prelude.{◌≡◌, ◌≤◌, IfOk, MatchResult, MatchOption};
 ghost use Rattle.canonical_machine.specs.Sound.{IsSound};
 ghost use Rattle.canonical_machine.specs.Owners.{IsApart};
 ghost use Rattle.canonical_machine.specs.Plain.{IsPlain};
@@ -59,6 +59,7 @@ fn run_call(
     requires held { AreHeld run.old.waiting.items }
     ensures goes { IfOk result (λ ended. GoesOrEnds graph.now script.now run.new (IsAtFree graph.now script.now run.new) ended) }
     ensures spends { IfOk result (λ ended. MatchOption ended (run.new.left ≤ run.old.left) (λ end. Unit {0})) }
+    ensures takes_none { IfOk result (λ ended. run.new.taken ≡ run.old.taken) }
 {
     let mut task = first;
     loop {
@@ -87,7 +88,8 @@ fn descend(
     requires plain { IsPlain graph.now }
     requires at { IsAtArrival graph.now script.now run.old first }
     requires held { AreHeld run.old.waiting.items }
-    ensures { IfOk result (λ returned. MatchResult returned (λ r. IsReturned graph.now script.now run.old run.new r.0 r.1) (λ end. EndsBy graph.now script.now run.new end)) }
+    ensures goes { IfOk result (λ returned. MatchResult returned (λ r. IsReturned graph.now script.now run.old run.new r.0 r.1) (λ end. EndsBy graph.now script.now run.new end)) }
+    ensures takes_none { IfOk result (λ returned. run.new.taken ≡ run.old.taken) }
 {
     let mut task = first;
     loop {
@@ -114,7 +116,8 @@ fn ascend(
     requires plain { IsPlain graph.now }
     requires at { IsAtReturn graph.now script.now run.old first ended }
     requires held { AreHeld run.old.waiting.items }
-    ensures { IfOk result (λ left. MatchResult left (λ next. IsLeft graph.now script.now run.old run.new next) (λ end. EndsBy graph.now script.now run.new end)) }
+    ensures goes { IfOk result (λ left. MatchResult left (λ next. IsLeft graph.now script.now run.old run.new next) (λ end. EndsBy graph.now script.now run.new end)) }
+    ensures takes_none { IfOk result (λ left. run.new.taken ≡ run.old.taken) }
 {
     let mut task = first;
     let mut words = ended;
@@ -132,6 +135,7 @@ fn ascend(
 }
 
 /// A task enters, and its stack runs. It answers which task is next.
+#[tactic(auto, using(crate::proofs::Telling::entry_takes_none))]
 fn arrive(
     alloc: Global,
     graph: &NamedGraph,
@@ -146,6 +150,7 @@ fn arrive(
     requires held { AreHeld run.old.waiting.items }
     ensures goes { IfOk result (λ next. GoesOnAt graph.now script.now run.new next) }
     ensures descends { IfOk result (λ next. Descends graph.now run.old run.new next) }
+    ensures takes_none { IfOk result (λ next. run.new.taken ≡ run.old.taken) }
 {
     match enter(alloc, graph, script, run, task)? {
         Ok(running) => run_on(alloc, graph, script, run, task, running),
@@ -154,6 +159,7 @@ fn arrive(
 }
 
 /// A task exits, and where another one waits for it, control goes back and its stack runs. It answers which task is next, where one is.
+#[tactic(auto, using(crate::proofs::Telling::exit_takes_none))]
 fn leave(
     alloc: Global,
     graph: &NamedGraph,
@@ -169,6 +175,7 @@ fn leave(
     requires held { AreHeld run.old.waiting.items }
     ensures goes { IfOk result (λ next. MatchOption next (IsAtFree graph.now script.now run.new) (λ next. GoesOnAt graph.now script.now run.new next)) }
     ensures ascends { IfOk result (λ next. MatchOption next (run.new.left ≤ run.old.left) (λ next. Ascends run.old run.new next)) }
+    ensures takes_none { IfOk result (λ next. run.new.taken ≡ run.old.taken) }
 {
     match finish(alloc, graph, script, run, task, words)? {
         Leaving::Free => Ok(None),
@@ -181,6 +188,7 @@ fn leave(
 }
 
 /// Runs the stack of the acting task, and begins the call that it makes, where it makes one. It answers which task is next.
+#[tactic(auto, using(crate::proofs::Telling::call_takes_none))]
 fn run_on(
     alloc: Global,
     graph: &NamedGraph,
@@ -195,6 +203,7 @@ fn run_on(
     requires at { IsAtStack graph.now script.now run.old task running }
     ensures goes { IfOk result (λ next. GoesOnAt graph.now script.now run.new next) }
     ensures went { IfOk result (λ next. WentOn graph.now run.old run.new running next) }
+    ensures takes_none { IfOk result (λ next. run.new.taken ≡ run.old.taken) }
 {
     match run_stack(alloc, graph.graph(), script, task, running, run)? {
         Stop::AtCall => match begin_call(alloc, graph, script, task, run)? {

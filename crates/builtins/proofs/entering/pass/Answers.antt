@@ -1,4 +1,4 @@
-use Rattle.std.proofs.Common.{◌≡◌, ◌<◌, List, ℕ, length, sym, subst, Some}
+use Rattle.std.proofs.Common.{◌≡◌, ◌<◌, List, ℕ, length, refl, sym, subst, arith, append-nil, Some}
 use Rattle.std.specs.List.{slice_get}
 use Rattle.core_machine.specs.Store.{Function}
 use Rattle.core_machine.specs.Step.{start}
@@ -9,6 +9,7 @@ use Rattle.world.specs.Called.{lifted_by}
 use Rattle.world.specs.Refusing.{IsRefused}
 use Rattle.builtins.specs.Lowering.{plan_to}
 use Rattle.builtins.proofs.Entered.{entry_lowers, entry_given, entry_traps, entry_wants, entry_calls, entry_refused, core_there, core_within, entry_starts}
+use Rattle.builtins.proofs.Telling.{refused_at_entry}
 use Rattle.builtins.proofs.entering.pass.Goals as goal
 
 pub lower-requires-clause-at : goal.lower-requires-clause-at
@@ -83,3 +84,19 @@ returns-in-NoFuel-clause-enters c =
     (entry_given c.args.graph.now c.args.script.now c.args.run.now c.args.task (lifted_by c.args.func.now) c.args.value.now c.requires.sound c.requires.apart c.requires.at
     c.lower_options-options.result (plan_to c.target_of-to.result c.args.func.now.types.params c.args.value.now) c.in_ok-words.field-0 came.NoFuel c.lower.new.store c.lower.new.left
     (c.target_of-to.ensures.plan c.args.func.now.func_type.now c.args.value.now c.requires.passed.params) c.lower_options-options.ensures.memory c.lower_options-options.ensures.realloc c.in-NoFuel.is c.in_ok-words.ensures.leads)
+
+pub returns-in_ok-running-in-Words-clause-tells : goal.returns-in_ok-running-in-Words-clause-tells
+returns-in_ok-running-in-Words-clause-tells c = (
+  record { taken = refl; tasks = omega arith; told = sym (append-nil c.args.run.now.labels) },
+  record {
+    address = c.func_address-address.result;
+    function = c.in_ok-running-in-Words.ensures.0;
+    there = c.in_ok-running-in-Words.ensures.1;
+    words = c.as_slice.result.now;
+    starts = c.in_ok-running-in-Words.ensures.2;
+  },
+)
+
+pub returns-in_ok-end-in-Refused-clause-tells : goal.returns-in_ok-end-in-Refused-clause-tells
+returns-in_ok-end-in-Refused-clause-tells c =
+    refused_at_entry _ _ c.graph.result.now c.in-Refused.call.address c.in-Refused.call.words c.args.task c.args.task c.in_ok-end-in-Refused.end c.in_ok-end-in-Refused.ensures refl refl
