@@ -36,11 +36,11 @@ use Rattle.canonical_machine.proofs.Changed.{changed_length, changed_there}
 use Rattle.world.specs.declared.state.RunState.{RunState}
 use Rattle.builtins.specs.declared.lower_values.Lowered.{Lowered}
 use Rattle.builtins.specs.declared.lower_values.Lowered.TheVariants as came
-use Rattle.world.specs.Parts.{Leads, Meets, with_room, WithUsed, IsSafe}
+use Rattle.world.specs.Parts.{LeadsTo, Meets, with_room, WithUsed, IsSafe}
 use Rattle.builtins.specs.Rooms.{IsMemory}
 use Rattle.builtins.specs.Lowering.{IsAtLowering, LoweredLeads}
 use Rattle.world.specs.Passed.{IsAtEntry}
-use Rattle.world.specs.Seen.{Acts, waiters, numbers, IsAtStack, EndsBy}
+use Rattle.world.specs.Seen.{IsActing, waiters, numbers, IsAtStack, EndsBy}
 use Rattle.world.proofs.Leads.{leads_then, meets_behind, meets_step, ends_behind, first_safe, safe_moves}
 use Rattle.world.specs.Refusing.{IsRefused}
 use Rattle.world.proofs.Refusals.{refused_ends}
@@ -95,9 +95,9 @@ module _ (g : Graph) (s : Script) (run : RunState) (t : ℕ) (f : Lifted) (v : V
       let at = first_same t (numbers (waiters run)) a.number a.below (sym h.stands.holds.1.chain ∙ a.chain_is) in
       subst (λ (n : ℕ). AreWaiting w.tasks n (numbers (waiters run))) (sym at.0) (subst (AreWaiting w.tasks a.number) (sym at.1) a.waiting)
 
-  behind_all : (store : Store) (used : ℕ) (c : Control) → Leads g s w [] (with_room w store used c) → Leads g s (first_world g) run.labels (with_room w store used c)
+  behind_all : (store : Store) (used : ℕ) (c : Control) → LeadsTo g s w [] (with_room w store used c) → LeadsTo g s (first_world g) run.labels (with_room w store used c)
   behind_all store used c m =
-      subst (λ (ls : List Label). Leads g s (first_world g) ls (with_room w store used c)) (append-nil run.labels)
+      subst (λ (ls : List Label). LeadsTo g s (first_world g) ls (with_room w store used c)) (append-nil run.labels)
       (leads_then g s (first_world g) w (with_room w store used c) run.labels [] h.stands.leads m)
 
   -- A trap of the lowering, and want of fuel.
@@ -143,7 +143,7 @@ module _ (g : Graph) (s : Script) (run : RunState) (t : ℕ) (f : Lifted) (v : V
       by (found_at store.funcs (func_address store f.core)) refl
       (subst (λ (turn : Turn). Meets g s (first_world g) run.labels turn) (started_is t (numbers (waiters run)) a.task f words x a.chain a.there a.holds.0) all)
     where
-      a : Acts g s run t (λ task. (task.callee ≡ Func f) × (task.stacks ≡ [])) w
+      a : IsActing g s run t (λ task. (task.callee ≡ Func f) × (task.stacks ≡ [])) w
       a = h.stands.holds.1
 
       x : World
@@ -173,7 +173,7 @@ module _ (g : Graph) (s : Script) (run : RunState) (t : ℕ) (f : Lifted) (v : V
             at = record {
               stands = record {
                 world = y;
-                leads = subst (λ (ls : List Label). Leads g s (first_world g) ls y) (append-nil run.labels) (meets_step g s (first_world g) y run.labels [] m);
+                leads = subst (λ (ls : List Label). LeadsTo g s (first_world g) ls y) (append-nil run.labels) (meets_step g s (first_world g) y run.labels [] m);
                 sees = record {
                   store = refl;
                   units = used;

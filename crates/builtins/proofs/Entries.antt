@@ -51,7 +51,7 @@ use Rattle.world.specs.declared.state.Waiter.{Waiter}
 use Rattle.world.specs.declared.state.RunState.{RunState}
 use Rattle.world.specs.Addresses.{HasOptions}
 use Rattle.world.specs.Called.{lifted_by, IsRunBy}
-use Rattle.world.specs.Parts.{Leads, IsSafe}
+use Rattle.world.specs.Parts.{LeadsTo, IsSafe}
 use Rattle.world.specs.Passed.{CanPass, IsPassedBy, IsAtEntry}
 use Rattle.world.specs.Seen.{IsCalled, waiters, numbers, IsAtArrival, EndsBy}
 use Rattle.world.proofs.Leads.{leads_then, leads_step}
@@ -204,9 +204,9 @@ module _ (g : Graph) (s : Script) (run : RunState) (t : ℕ) (c : CalledFunc) (s
   step : (r : Result Value LiftTrap) → arguments_of g run.store task.caller ≡ Some r → next g s w ≡ behind (line.Enter t ∷ []) (with_arguments t f r (in_state t Acting (with_control controls.Free w)))
   step r e = arrives_next g s w t (numbers (waiters run)) task f r h.stands.holds.0 h.stands.holds.1.chain h.stands.holds.1.there callee known.state (in_world r e)
 
-  there_by : (v : World) (labels : List Label) → next g s w ≡ Steps (line.Enter t ∷ []) v → labels ≡ run.labels ++ line.Enter t ∷ [] → Leads g s (first_world g) labels v
+  there_by : (v : World) (labels : List Label) → next g s w ≡ Steps (line.Enter t ∷ []) v → labels ≡ run.labels ++ line.Enter t ∷ [] → LeadsTo g s (first_world g) labels v
   there_by v labels e said =
-      subst (λ (ls : List Label). Leads g s (first_world g) ls v) (sym said) (leads_then g s (first_world g) w v run.labels (line.Enter t ∷ []) h.stands.leads (leads_step g s w v (line.Enter t ∷ []) e))
+      subst (λ (ls : List Label). LeadsTo g s (first_world g) ls v) (sym said) (leads_then g s (first_world g) w v run.labels (line.Enter t ∷ []) h.stands.leads (leads_step g s w v (line.Enter t ∷ []) e))
 
   -- A lift that fails is a trap, behind the line.
   pub entry_fails : (trap : LiftTrap) (name : TrapName) (labels : List Label) → ((x : Task) → IsCalled g s run.taken (waiters run) x → IsPassedBy g run.store x.caller (Err (MemoryOr.Fault trap))) → labels ≡ run.labels ++ line.Enter t ∷ [] → name ≡ lift_name trap.why

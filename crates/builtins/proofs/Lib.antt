@@ -12,3 +12,4 @@ mod PostReturns
 mod Resolving
 mod Places
 mod Telling
+mod Progress

@@ -11,8 +11,8 @@ use Rattle.trace_show.specs.declared.label.Label.TheVariants as line
 use Rattle.trace_show.specs.declared.typed.TypedValue.{TypedValue}
 use Rattle.canonical_machine.specs.declared.run_end.RunEnd.{RunEnd}
 use Rattle.world.specs.declared.state.RunState.{RunState}
-use Rattle.world.specs.declared.next_task.Leaving.{Leaving}
-use Rattle.world.specs.declared.next_task.Leaving.TheVariants as leaving
+use Rattle.builtins.specs.declared.next_task.Leaving.{Leaving}
+use Rattle.builtins.specs.declared.next_task.Leaving.TheVariants as leaving
 use Rattle.world.specs.Refusing.{IsRefused}
 use Rattle.builtins.specs.Telling.{Adds, AddsOnly, IsOfEntry, IsOfReturn, IsStart, AddsCall, AddsExit}
 

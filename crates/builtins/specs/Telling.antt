@@ -10,8 +10,8 @@ use Rattle.trace_show.specs.declared.label.Label.{Label}
 use Rattle.trace_show.specs.declared.label.Label.TheVariants as line
 use Rattle.canonical_machine.specs.declared.run_end.RunEnd.{RunEnd}
 use Rattle.world.specs.declared.state.RunState.{RunState}
-use Rattle.world.specs.declared.next_task.Leaving.{Leaving}
-use Rattle.world.specs.declared.next_task.Leaving.TheVariants as leaving
+use Rattle.builtins.specs.declared.next_task.Leaving.{Leaving}
+use Rattle.builtins.specs.declared.next_task.Leaving.TheVariants as leaving
 
 -- So many tasks were made, and these lines added. No item was taken.
 pub record Adds (old new : RunState) (made : ℕ) (lines : List Label) : Type 0 where

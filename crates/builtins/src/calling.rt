@@ -9,27 +9,27 @@ ghost use Rattle.canonical_machine.specs.Reading.{lower_at, is_reentrant};
 ghost use Rattle.canonical_machine.specs.Sound.{IsSound};
 ghost use Rattle.canonical_machine.specs.Owners.{IsApart};
 ghost use Rattle.world.specs.Seen.{IsAtCall, IsAtArrival, EndsBy};
-ghost use Rattle.world.specs.Onward.{Begins};
+ghost use Rattle.builtins.specs.NextTask.{BeginsCall};
 ghost use Rattle.builtins.specs.Reentering.{calls_into, reenters};
 ghost use Rattle.builtins.specs.Telling.{AddsCall};
 
 use ca_base::{Memory, Seq};
 use canonical_machine::RunEnd;
 use comp_graph::{CanonFunc, Graph};
-use script_reader::{Call, Item, Script};
+use script_reader::Script;
 use std::alloc::Global;
 use trace_show::{Label, TrapName};
 use wasm_execution::Words;
-use world::{NamedGraph, RunState, Waiter, builtin_of, called_export};
+use world::{
+    NamedGraph, RunState, Waiter, builtin_of, called_export, canon_at, last_call, lower_of,
+};
 
 /// The component instance of the function that the core function of the Canonical ABI of a number calls.
 fn called_instance(graph: &Graph, canon: usize) -> usize
     requires { canon < length graph.now.canons }
     ensures { (l : Lower) → lower_at graph.now canon ≡ Some l → result ≡ l.lift.instance }
 {
-    match &graph.canons()[canon] {
-        CanonFunc::Lower(lower) => lower.lift.instance,
-    }
+    lower_of(canon_at(graph, canon)).lift.instance
 }
 
 /// Whether a task calls into a component instance, by the core function of the Canonical ABI of this number.
@@ -68,16 +68,6 @@ fn others(waiting: &[Waiter]) -> &[Waiter]
     ensures { result.now ≡ take (length waiting.now - 1) waiting.now }
 {
     &waiting[..waiting.len() - 1]
-}
-
-/// The call of the script that is taken last, of so many.
-fn last_call(script: &Script, taken: u32) -> &Call
-    requires { (number : ℕ) × (taken ≡ number + 1) × (number < length script.now.items) }
-    ensures { (number : ℕ) → taken ≡ number + 1 → slice_get script.now.items number ≡ Some (Item.Call result.now) }
-{
-    match &script.items()[taken as usize - 1] {
-        Item::Call(call) => call,
-    }
 }
 
 /// The same words.
@@ -129,7 +119,7 @@ pub(crate) fn begin_call(
     requires apart { IsApart graph.now }
     requires at { IsAtCall graph.now script.now run.old task }
     ensures arrives { IfOk result (λ begun. MatchResult begun (λ t. IsAtArrival graph.now script.now run.new t) (λ end. EndsBy graph.now script.now run.new end)) }
-    ensures begins { IfOk result (λ begun. MatchResult begun (λ t. Begins graph.now run.old run.new) (λ end. Unit {0})) }
+    ensures begins { IfOk result (λ begun. MatchResult begun (λ t. BeginsCall graph.now run.old run.new) (λ end. Unit {0})) }
     ensures tells { IfOk result (λ begun. AddsCall run.old run.new task begun) }
 {
     let caller = innermost(&run.waiting);

@@ -16,7 +16,7 @@ ghost use Rattle.world.specs.Addresses.{HasOptions};
 ghost use Rattle.world.specs.Called.{lifted_by};
 ghost use Rattle.world.specs.Passed.{IsAtEntry};
 ghost use Rattle.world.specs.Seen.{IsAtArrival, IsAtStack, EndsBy};
-ghost use Rattle.world.specs.Onward.{Spends};
+ghost use Rattle.world.specs.Changes.{Spends};
 ghost use Rattle.builtins.specs.Lowering.{plan_to};
 ghost use Rattle.builtins.specs.Telling.{Adds, AddsOnly, IsOfEntry, IsStart};
 

@@ -6,17 +6,18 @@ ghost use Rattle.canonical_machine.specs.Owners.{IsApart};
 ghost use Rattle.canonical_machine.specs.Plain.{IsPlain};
 ghost use Rattle.world.specs.Seen.{IsAtFree, IsAtArrival, IsAtStack, IsAtReturn, EndsBy};
 ghost use Rattle.world.specs.Starting.{GoesOrEnds};
-ghost use Rattle.world.specs.Onward.{AreHeld, GoesOnAt, WentOn, Descends, Ascends, IsReturned, IsLeft};
+ghost use Rattle.builtins.specs.NextTask.{AreHeld, GoesOnAt, WentOn, Descends, Ascends, IsReturned, HasAscended};
 
 use crate::calling::begin_call;
 use crate::entering::enter;
 use crate::leaving::{finish, go_back};
+use crate::next_task::{Leaving, Onward};
 use ca_base::Memory;
 use canonical_machine::RunEnd;
 use script_reader::Script;
 use std::alloc::Global;
 use wasm_execution::{Running, Words};
-use world::{Leaving, NamedGraph, Onward, RunState, Stop, run_stack, take_item};
+use world::{NamedGraph, RunState, Stop, run_stack, take_item};
 
 /// Runs the items of the script that are left, one after the other, and answers how the run ends.
 pub(crate) fn run_items(
@@ -116,8 +117,8 @@ fn ascend(
     requires plain { IsPlain graph.now }
     requires at { IsAtReturn graph.now script.now run.old first ended }
     requires held { AreHeld run.old.waiting.items }
-    ensures goes { IfOk result (λ left. MatchResult left (λ next. IsLeft graph.now script.now run.old run.new next) (λ end. EndsBy graph.now script.now run.new end)) }
-    ensures takes_none { IfOk result (λ left. run.new.taken ≡ run.old.taken) }
+    ensures goes { IfOk result (λ ascended. MatchResult ascended (λ next. HasAscended graph.now script.now run.old run.new next) (λ end. EndsBy graph.now script.now run.new end)) }
+    ensures takes_none { IfOk result (λ ascended. run.new.taken ≡ run.old.taken) }
 {
     let mut task = first;
     let mut words = ended;

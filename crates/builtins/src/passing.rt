@@ -16,7 +16,7 @@ ghost use Rattle.canonical_machine.specs.Plain.{IsPlain};
 ghost use Rattle.world.specs.Called.{lifted_by, IsRunBy};
 ghost use Rattle.builtins.specs.Lowering.{plan_to};
 ghost use Rattle.builtins.specs.Telling.{AddsOnly, IsOfReturn};
-ghost use Rattle.world.specs.Onward.{Spends};
+ghost use Rattle.world.specs.Changes.{Spends};
 ghost use Rattle.world.specs.Points.{IsAtFinish};
 ghost use Rattle.world.specs.Seen.{IsCalled, waiters, IsAtReturn, EndsBy};
 

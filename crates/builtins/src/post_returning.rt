@@ -6,7 +6,7 @@ ghost use Rattle.canonical_machine.specs.Owners.{IsApart};
 ghost use Rattle.world.specs.Called.{lifted_by};
 ghost use Rattle.world.specs.Points.{IsAtFinish, IsAtPostReturn, IsAtExit};
 ghost use Rattle.world.specs.Starting.{GoesOrEnds};
-ghost use Rattle.world.specs.Onward.{SpendsOrEnds};
+ghost use Rattle.builtins.specs.NextTask.{SpendsOrEnds};
 ghost use Rattle.builtins.specs.Telling.{AddsOnly, IsOfReturn};
 
 use ca_base::Memory;

@@ -11,7 +11,8 @@ ghost use Rattle.world.specs.Called.{lifted_by, IsRunBy};
 ghost use Rattle.world.specs.Seen.{IsCalled, waiters, IsAtReturn, EndsBy};
 ghost use Rattle.world.specs.Points.{IsAtFinish, IsAtExit};
 ghost use Rattle.world.specs.Starting.{GoesOrEnds};
-ghost use Rattle.world.specs.Onward.{Spends, SpendsOrEnds};
+ghost use Rattle.world.specs.Changes.{Spends};
+ghost use Rattle.builtins.specs.NextTask.{SpendsOrEnds};
 ghost use Rattle.builtins.specs.Telling.{AddsOnly, IsOfReturn};
 
 use crate::passing::lower_result;

@@ -32,7 +32,7 @@ use Rattle.canonical_machine.specs.Tasks.{IsChain}
 use Rattle.canonical_machine.proofs.Deadlocks.{no_deadlock}
 use Rattle.world.specs.declared.state.Waiter.{Waiter}
 use Rattle.world.specs.declared.state.RunState.{RunState}
-use Rattle.world.specs.Parts.{Leads, IsSafe}
+use Rattle.world.specs.Parts.{LeadsTo, IsSafe}
 use Rattle.world.specs.Seen.{IsCalled, IsScriptCall, numbers, IsAtFree, IsAtArrival, EndsBy}
 use Rattle.world.proofs.Leads.{leads_then, leads_step}
 use Rattle.world.proofs.Moving.{charged_left, charged_none}
@@ -161,7 +161,7 @@ call_taken g s run call f left tasks labels sound apart h there named paid more 
     record {
       stands = record {
         world = v;
-        leads = subst (λ (ls : List Label). Leads g s (first_world g) ls v) same
+        leads = subst (λ (ls : List Label). LeadsTo g s (first_world g) ls v) same
             (leads_then g s (first_world g) w v run.labels (line.Take (w.taken + 1) (length w.tasks) call.name args ∷ []) h.stands.leads
             (leads_step g s w v (line.Take (w.taken + 1) (length w.tasks) call.name args ∷ []) step));
         sees = record {

@@ -44,7 +44,7 @@ use Rattle.canonical_machine.specs.Kept.{IsCalling, IsOfActing, core_results, Ar
 use Rattle.canonical_machine.proofs.Changed.{changed_length}
 use Rattle.canonical_machine.proofs.Ordered.{init_acting, init_changed}
 use Rattle.world.specs.declared.state.RunState.{RunState}
-use Rattle.world.specs.Parts.{Leads, Meets, with_room, WithUsed, IsSafe}
+use Rattle.world.specs.Parts.{LeadsTo, Meets, with_room, WithUsed, IsSafe}
 use Rattle.world.specs.Stacks.{StackLeads}
 use Rattle.world.specs.Seen.{IsAtPlan, EndsBy}
 use Rattle.world.specs.Starting.{IsStarting, IsAtStart}
@@ -260,7 +260,7 @@ start_done g s run n k words store after h gives =
       none = h.none;
       stands = record {
         world = v;
-        leads = subst (λ (ls : List Label). Leads g s (first_world g) ls v) (append-nil run.labels) (leads_then g s (first_world g) w v run.labels [] h.stands.leads (meets_step g s w v [] [] meets));
+        leads = subst (λ (ls : List Label). LeadsTo g s (first_world g) ls v) (append-nil run.labels) (leads_then g s (first_world g) w v run.labels [] h.stands.leads (meets_step g s w v [] [] meets));
         sees = record {
           store = refl;
           units = used;
@@ -283,7 +283,7 @@ start_traps g s run n k why store after name h gives is =
     let v : World = with_stack 0 u.2.0 (with_room w store u.0 (Doomed 0 (core_name why))) in
     subst (λ (name : TrapName). EndsBy g s (record run { store = store; left = after }) (Trapped 0 name)) (sym is)
     (ends_there g s (record run { store = store; left = after }) v (Trapped 0 (core_name why))
-    (subst (λ (ls : List Label). Leads g s (first_world g) ls v) (append-nil run.labels) (leads_then g s (first_world g) w v run.labels [] h.stands.leads u.2.1)) refl refl u.1 h.stands.sees.instances
+    (subst (λ (ls : List Label). LeadsTo g s (first_world g) ls v) (append-nil run.labels) (leads_then g s (first_world g) w v run.labels [] h.stands.leads u.2.1)) refl refl u.1 h.stands.sees.instances
     (changed_length 0 (λ (task : Task). record task { stacks = u.2.0 ∷ drop 1 task.stacks }) w.tasks ∙ h.stands.sees.made) h.stands.sees.taken)
 
 -- No unit is left.
@@ -320,7 +320,7 @@ leave_turn g s v n number words canon S control there a =
 -- where the task waits at the call
 record AtCall (g : Graph) (s : Script) (run : RunState) (n number : ℕ) (words : List ℕ) (left : Store) (after : ℕ) : Type 0 where
   world : World
-  leads : Leads g s (first_world g) run.labels world
+  leads : LeadsTo g s (first_world g) run.labels world
   control : world.control ≡ Calls number words
   store : world.store ≡ left
   units : world.units + after ≡ s.fuel
@@ -339,7 +339,7 @@ start_calls g s run n k number words waiting store after h gives =
     let change : Task → Task = λ task. record task { stacks = waiting.stack ∷ drop 1 task.stacks } in
     record {
       world = v;
-      leads = subst (λ (ls : List Label). Leads g s (first_world g) ls v) (append-nil run.labels) (leads_then g s (first_world g) w v run.labels [] h.stands.leads u.2);
+      leads = subst (λ (ls : List Label). LeadsTo g s (first_world g) ls v) (append-nil run.labels) (leads_then g s (first_world g) w v run.labels [] h.stands.leads u.2);
       control = refl;
       store = refl;
       units = u.1;
@@ -373,6 +373,6 @@ start_cannot_leave g s run n k number words waiting store after labels end sound
     let canon = canon_called g s run n number words store after sound apart at in
     let v : World = with_control (Doomed 0 trap.CannotLeave) at.world in
     let step = leave_turn g s at.world n number words canon.0 (λ ks. (k : Stack) × (ks ≡ k ∷ [])) at.control canon.1 at.init in
-    let lead : Leads g s (first_world g) (run.labels ++ line.Do 0 (builtin_of canon.0) words ∷ []) v =
+    let lead : LeadsTo g s (first_world g) (run.labels ++ line.Do 0 (builtin_of canon.0) words ∷ []) v =
     leads_then g s (first_world g) at.world v run.labels (line.Do 0 (builtin_of canon.0) words ∷ []) at.leads (leads_step g s at.world v (line.Do 0 (builtin_of canon.0) words ∷ []) step) in
     refused_ends g s (record run { store = store; left = after; labels = labels }) run.labels v canon.0 number words 0 0 end canon.1 lead refl at.store at.units at.instances at.made at.taken refused

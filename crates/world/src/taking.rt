@@ -8,7 +8,7 @@ ghost use Rattle.canonical_machine.specs.Calling.{typed};
 ghost use Rattle.canonical_machine.specs.Sound.{IsSound, IsSoundCall};
 ghost use Rattle.canonical_machine.specs.Owners.{IsApart};
 ghost use Rattle.world.specs.Seen.{IsAtFree, IsAtArrival, EndsBy};
-ghost use Rattle.world.specs.Onward.{Takes, TellsNone};
+ghost use Rattle.world.specs.Changes.{TakesItem, TellsNone};
 
 use crate::copying::same_value;
 use crate::named_graph::NamedGraph;
@@ -33,7 +33,7 @@ pub fn take_item(
     requires apart { IsApart graph.now }
     requires free { IsAtFree graph.now script.now run.old }
     ensures taken { IfOk result (λ taken. MatchResult taken (λ t. IsAtArrival graph.now script.now run.new t) (λ end. EndsBy graph.now script.now run.new end)) }
-    ensures pays { IfOk result (λ taken. MatchResult taken (λ t. Takes run.old run.new) (λ end. TellsNone run.old run.new)) }
+    ensures pays { IfOk result (λ taken. MatchResult taken (λ t. TakesItem run.old run.new) (λ end. TellsNone run.old run.new)) }
 {
     match script.items().get(run.taken as usize) {
         Some(Item::Call(call)) => take_call(alloc, graph, script, call, run),
@@ -54,7 +54,7 @@ fn take_call(
     requires free { IsAtFree graph.now script.now run.old }
     requires there { slice_get script.now.items run.old.taken ≡ Some (Item.Call call.now) }
     ensures taken { IfOk result (λ taken. MatchResult taken (λ t. IsAtArrival graph.now script.now run.new t) (λ end. EndsBy graph.now script.now run.new end)) }
-    ensures pays { IfOk result (λ taken. MatchResult taken (λ t. Takes run.old run.new) (λ end. TellsNone run.old run.new)) }
+    ensures pays { IfOk result (λ taken. MatchResult taken (λ t. TakesItem run.old run.new) (λ end. TellsNone run.old run.new)) }
 {
     // Its clause says how much fuel there is at most.
     let _fuel = script.fuel();

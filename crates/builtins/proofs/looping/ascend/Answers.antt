@@ -1,5 +1,5 @@
 use Rattle.std.proofs.Common.{◌∙◌, rules, arith}
-use Rattle.world.proofs.Progress.{returned_at, returned_fewer}
+use Rattle.builtins.proofs.Progress.{returned_at, returned_fewer}
 use Rattle.builtins.proofs.looping.ascend.Goals as goal
 
 pub loop-called-preserved : goal.loop-called-preserved

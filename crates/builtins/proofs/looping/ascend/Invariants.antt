@@ -1,7 +1,7 @@
 -- Fewer tasks wait.
 use Rattle.std.proofs.Common.{◌≡◌, ◌≤◌, length}
 use Rattle.world.specs.Seen.{IsAtReturn}
-use Rattle.world.specs.Onward.{AreHeld}
+use Rattle.builtins.specs.NextTask.{AreHeld}
 use Rattle.builtins.proofs.looping.ascend.Given as goal
 
 abbrev pub invariant-loop-called : goal.invariant-loop-called

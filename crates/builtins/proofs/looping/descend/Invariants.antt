@@ -1,8 +1,8 @@
 -- Each call that begins leaves fewer functions that may be called.
 use Rattle.std.proofs.Common.{◌≡◌, ◌≤◌}
 use Rattle.world.specs.Seen.{IsAtArrival}
-use Rattle.world.specs.Onward.{AreHeld}
-use Rattle.world.proofs.Progress.{calls_left}
+use Rattle.builtins.specs.NextTask.{AreHeld}
+use Rattle.builtins.proofs.Progress.{calls_left}
 use Rattle.builtins.proofs.looping.descend.Given as goal
 
 abbrev pub invariant-loop-called : goal.invariant-loop-called

@@ -1,7 +1,7 @@
 -- A task that goes on pays for its next call.
 use Rattle.std.proofs.Common.{◌≡◌, ◌≤◌}
 use Rattle.world.specs.Seen.{IsAtArrival}
-use Rattle.world.specs.Onward.{AreHeld}
+use Rattle.builtins.specs.NextTask.{AreHeld}
 use Rattle.builtins.proofs.looping.run_call.Given as goal
 
 abbrev pub invariant-loop-returned : goal.invariant-loop-returned
