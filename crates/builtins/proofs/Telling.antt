@@ -1,11 +1,9 @@
 -- What parts add to a run's data, one behind the other.
-use Rattle.std.proofs.Common.{◌≡◌, ◌+◌, ℕ, List, [], ◌∷◌, ◌++◌, refl, sym, ap, ◌∙◌, arith, append_assoc, append-nil, Result, Ok, Err, MatchResult, Option, Some}
+use Rattle.std.proofs.Common.{◌≡◌, ◌+◌, ℕ, List, [], ◌∷◌, ◌++◌, refl, sym, ap, ◌∙◌, arith, append_assoc, append-nil, Result, Ok, Err, MatchResult, Option}
 use Rattle.std.specs.Prelude.{IfOk}
-use Rattle.std.specs.List.{AllByRecursion}
 use Rattle.core_machine.specs.Stack.{Stack}
 use Rattle.core_machine.proofs.Lists.{all_append}
 use Rattle.comp_graph.specs.Graph.{Graph}
-use Rattle.trace_show.specs.declared.builtin.Builtin.{Builtin}
 use Rattle.trace_show.specs.declared.label.Label.{Label}
 use Rattle.trace_show.specs.declared.label.Label.TheVariants as line
 use Rattle.trace_show.specs.declared.typed.TypedValue.{TypedValue}
