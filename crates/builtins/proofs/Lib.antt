@@ -12,4 +12,5 @@ mod PostReturns
 mod Resolving
 mod Places
 mod Telling
+mod Unstarted
 mod Progress

@@ -1,15 +1,20 @@
 -- What the parts of a call between components do to a run's data (Component Model, CanonicalABI.md, `canon lift` and `canon lower`): the
--- tasks that they make, and the lines by which they tell what they do. No item of the script is taken there.
+-- tasks that they make, and the lines by which they tell what they do; and where a core function has not begun. No item of the script is
+-- taken there.
 use Rattle.std.specs.Prelude.{◌≡◌, ◌+◌, ℕ, List, [], ◌∷◌, ◌++◌, Some, Result, Ok, Err}
 use Rattle.std.specs.List.{slice_get, AllByRecursion}
 use Rattle.core_machine.specs.Store.{Function, Store}
 use Rattle.core_machine.specs.Stack.{Stack}
 use Rattle.core_machine.specs.Step.{start}
+use Rattle.comp_graph.specs.Graph.{Graph}
+use Rattle.script_reader.specs.Script.{Script}
 use Rattle.trace_show.specs.declared.builtin.Builtin.{Builtin}
 use Rattle.trace_show.specs.declared.label.Label.{Label}
 use Rattle.trace_show.specs.declared.label.Label.TheVariants as line
 use Rattle.canonical_machine.specs.declared.run_end.RunEnd.{RunEnd}
+use Rattle.canonical_machine.specs.Tasks.{IsAt}
 use Rattle.world.specs.declared.state.RunState.{RunState}
+use Rattle.world.specs.Seen.{EndsBy}
 use Rattle.builtins.specs.declared.next_task.Leaving.{Leaving}
 use Rattle.builtins.specs.declared.next_task.Leaving.TheVariants as leaving
 
@@ -44,6 +49,11 @@ pub record IsStart (s : Store) (k : Stack) : Type 0 where
   pub there : slice_get s.funcs address ≡ Some function
   pub words : List ℕ
   pub starts : k ≡ start function address words
+
+-- The run ends before the core function of this task has started: the task has no stack in the last world.
+pub record EndsBeforeStart (g : Graph) (s : Script) (run : RunState) (t : ℕ) (end : RunEnd) : Type 0 where
+  pub ends : EndsBy g s run end
+  pub unstarted : IsAt ends.last.tasks t (λ task. task.stacks ≡ [])
 
 -- A task called: by a line, and where the call begins, by the line of the task that it makes.
 abbrev pub AddsCall : RunState → RunState → ℕ → Result ℕ RunEnd → Type 0

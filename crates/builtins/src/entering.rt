@@ -18,7 +18,7 @@ ghost use Rattle.world.specs.Passed.{IsAtEntry};
 ghost use Rattle.world.specs.Seen.{IsAtArrival, IsAtStack, EndsBy};
 ghost use Rattle.world.specs.Changes.{Spends};
 ghost use Rattle.builtins.specs.Lowering.{plan_to};
-ghost use Rattle.builtins.specs.Telling.{Adds, AddsOnly, IsOfEntry, IsStart};
+ghost use Rattle.builtins.specs.Telling.{Adds, AddsOnly, IsOfEntry, IsStart, EndsBeforeStart};
 
 use crate::lower_options::lower_options;
 use crate::lower_values::{Lowered, Target, lower};
@@ -36,7 +36,7 @@ use world::{
 };
 
 /// A task enters, by its line, and its arguments are lifted and passed. It answers the stack on which its core function starts, or how the
-/// run ends.
+/// run ends before that.
 pub(crate) fn enter(
     alloc: Global,
     graph: &NamedGraph,
@@ -49,6 +49,7 @@ pub(crate) fn enter(
     requires plain { IsPlain graph.now }
     requires at { IsAtArrival graph.now script.now run.old task }
     ensures enters { IfOk result (λ entered. MatchResult entered (λ k. IsAtStack graph.now script.now run.new task k) (λ end. EndsBy graph.now script.now run.new end)) }
+    ensures ends { IfOk result (λ entered. MatchResult entered (λ k. Unit {0}) (λ end. EndsBeforeStart graph.now script.now run.new task end)) }
     ensures spends { IfOk result (λ entered. Spends run.old run.new) }
     ensures tells { IfOk result (λ entered. MatchResult entered (λ k. Adds run.old run.new 0 (Label.Enter task ∷ []) × IsStart run.new.store k) (λ end. AddsOnly IsOfEntry run.old run.new)) }
 {
@@ -65,7 +66,7 @@ pub(crate) fn enter(
 }
 
 /// The arguments of the acting task, which has entered, are lowered, and its core function starts with their words. It answers the stack
-/// on which that function starts, or how the run ends.
+/// on which that function starts, or how the run ends before that.
 #[tactic(auto, using(crate::proofs::Telling::entry_none))]
 fn pass(
     alloc: Global,
@@ -85,6 +86,7 @@ fn pass(
     requires options { HasOptions run.old.store func.now.lift.options }
     requires at { IsAtEntry graph.now script.now run.old task (lifted_by func.now) value.now }
     ensures enters { IfOk result (λ entered. MatchResult entered (λ k. IsAtStack graph.now script.now run.new task k) (λ end. EndsBy graph.now script.now run.new end)) }
+    ensures ends { IfOk result (λ entered. MatchResult entered (λ k. Unit {0}) (λ end. EndsBeforeStart graph.now script.now run.new task end)) }
     ensures spends { IfOk result (λ entered. Spends run.old run.new) }
     ensures tells { IfOk result (λ entered. MatchResult entered (λ k. Adds run.old run.new 0 [] × IsStart run.new.store k) (λ end. AddsOnly IsOfEntry run.old run.new)) }
 {

@@ -35,6 +35,12 @@ pass-requires-clause-at c = enters_with c.args.graph.now c.args.script.now c.arg
 
 pub returns-in-Err-Fault-clause-enters : goal.returns-in-Err-Fault-clause-enters
 returns-in-Err-Fault-clause-enters c =
+    (entry_fails c.args.graph.now c.args.script.now c.args.run.now c.args.task c.called_func-func.result c.requires.sound c.requires.apart c.requires.at c.called_func-func.ensures c.in-Err-Fault.trap c.lift_name.result c.push.new.self
+    (subst (λ (e : MemoryOr LiftTrap). (x : Task) → IsCalled c.args.graph.now c.args.script.now c.args.run.now.taken (waiters c.args.run.now) x → IsPassedBy c.args.graph.now c.args.run.now.store x.caller (Err e)) c.in-Err-Fault.field-0-is c.in-Err-Fault.ensures)
+    c.in_ok-push.ensures.ok (c.lift_name.ensures ∙ ap (λ (trap : LiftTrap). lift_name trap.why) c.in-Err-Fault.trap-is)).ends
+
+pub returns-in-Err-Fault-clause-ends : goal.returns-in-Err-Fault-clause-ends
+returns-in-Err-Fault-clause-ends c =
     entry_fails c.args.graph.now c.args.script.now c.args.run.now c.args.task c.called_func-func.result c.requires.sound c.requires.apart c.requires.at c.called_func-func.ensures c.in-Err-Fault.trap c.lift_name.result c.push.new.self
     (subst (λ (e : MemoryOr LiftTrap). (x : Task) → IsCalled c.args.graph.now c.args.script.now c.args.run.now.taken (waiters c.args.run.now) x → IsPassedBy c.args.graph.now c.args.run.now.store x.caller (Err e)) c.in-Err-Fault.field-0-is c.in-Err-Fault.ensures)
     c.in_ok-push.ensures.ok (c.lift_name.ensures ∙ ap (λ (trap : LiftTrap). lift_name trap.why) c.in-Err-Fault.trap-is)

@@ -62,6 +62,14 @@ returns-in_ok-running-in-Words-clause-enters c =
 
 pub returns-in-Trapped-clause-enters : goal.returns-in-Trapped-clause-enters
 returns-in-Trapped-clause-enters c =
+    (entry_traps c.args.graph.now c.args.script.now c.args.run.now c.args.task (lifted_by c.args.func.now) c.args.value.now c.requires.sound c.requires.apart c.requires.at
+    c.in-Trapped.why c.lower.new.store c.lower.new.left
+    (entry_given c.args.graph.now c.args.script.now c.args.run.now c.args.task (lifted_by c.args.func.now) c.args.value.now c.requires.sound c.requires.apart c.requires.at
+    c.lower_options-options.result (plan_to c.target_of-to.result c.args.func.now.types.params c.args.value.now) c.in_ok-words.field-0 (came.Trapped c.in-Trapped.why) c.lower.new.store c.lower.new.left
+    (c.target_of-to.ensures.plan c.args.func.now.func_type.now c.args.value.now c.requires.passed.params) c.lower_options-options.ensures.memory c.lower_options-options.ensures.realloc c.in-Trapped.is c.in_ok-words.ensures.leads)).ends
+
+pub returns-in-Trapped-clause-ends : goal.returns-in-Trapped-clause-ends
+returns-in-Trapped-clause-ends c =
     entry_traps c.args.graph.now c.args.script.now c.args.run.now c.args.task (lifted_by c.args.func.now) c.args.value.now c.requires.sound c.requires.apart c.requires.at
     c.in-Trapped.why c.lower.new.store c.lower.new.left
     (entry_given c.args.graph.now c.args.script.now c.args.run.now c.args.task (lifted_by c.args.func.now) c.args.value.now c.requires.sound c.requires.apart c.requires.at
@@ -70,6 +78,15 @@ returns-in-Trapped-clause-enters c =
 
 pub returns-in_ok-end-in-Refused-clause-enters : goal.returns-in_ok-end-in-Refused-clause-enters
 returns-in_ok-end-in-Refused-clause-enters c =
+    (entry_refused c.args.graph.now c.args.script.now c.args.run.now c.args.task (lifted_by c.args.func.now) c.args.value.now c.requires.sound c.requires.apart c.requires.at
+    c.in-Refused.call c.lower.new.store c.lower.new.left c.refuse.new.labels c.in_ok-end-in-Refused.end
+    (entry_given c.args.graph.now c.args.script.now c.args.run.now c.args.task (lifted_by c.args.func.now) c.args.value.now c.requires.sound c.requires.apart c.requires.at
+    c.lower_options-options.result (plan_to c.target_of-to.result c.args.func.now.types.params c.args.value.now) c.in_ok-words.field-0 (came.Refused c.in-Refused.call) c.lower.new.store c.lower.new.left
+    (c.target_of-to.ensures.plan c.args.func.now.func_type.now c.args.value.now c.requires.passed.params) c.lower_options-options.ensures.memory c.lower_options-options.ensures.realloc c.in-Refused.is c.in_ok-words.ensures.leads)
+    (subst (λ (g : Graph). IsRefused g c.in-Refused.call.address c.in-Refused.call.words c.args.task c.args.task c.args.run.now.labels c.refuse.new.labels c.in_ok-end-in-Refused.end) c.graph.ensures c.in_ok-end-in-Refused.ensures)).ends
+
+pub returns-in_ok-end-in-Refused-clause-ends : goal.returns-in_ok-end-in-Refused-clause-ends
+returns-in_ok-end-in-Refused-clause-ends c =
     entry_refused c.args.graph.now c.args.script.now c.args.run.now c.args.task (lifted_by c.args.func.now) c.args.value.now c.requires.sound c.requires.apart c.requires.at
     c.in-Refused.call c.lower.new.store c.lower.new.left c.refuse.new.labels c.in_ok-end-in-Refused.end
     (entry_given c.args.graph.now c.args.script.now c.args.run.now c.args.task (lifted_by c.args.func.now) c.args.value.now c.requires.sound c.requires.apart c.requires.at
@@ -79,6 +96,14 @@ returns-in_ok-end-in-Refused-clause-enters c =
 
 pub returns-in-NoFuel-clause-enters : goal.returns-in-NoFuel-clause-enters
 returns-in-NoFuel-clause-enters c =
+    (entry_wants c.args.graph.now c.args.script.now c.args.run.now c.args.task (lifted_by c.args.func.now) c.args.value.now c.requires.sound c.requires.apart c.requires.at
+    c.lower.new.store c.lower.new.left
+    (entry_given c.args.graph.now c.args.script.now c.args.run.now c.args.task (lifted_by c.args.func.now) c.args.value.now c.requires.sound c.requires.apart c.requires.at
+    c.lower_options-options.result (plan_to c.target_of-to.result c.args.func.now.types.params c.args.value.now) c.in_ok-words.field-0 came.NoFuel c.lower.new.store c.lower.new.left
+    (c.target_of-to.ensures.plan c.args.func.now.func_type.now c.args.value.now c.requires.passed.params) c.lower_options-options.ensures.memory c.lower_options-options.ensures.realloc c.in-NoFuel.is c.in_ok-words.ensures.leads)).ends
+
+pub returns-in-NoFuel-clause-ends : goal.returns-in-NoFuel-clause-ends
+returns-in-NoFuel-clause-ends c =
     entry_wants c.args.graph.now c.args.script.now c.args.run.now c.args.task (lifted_by c.args.func.now) c.args.value.now c.requires.sound c.requires.apart c.requires.at
     c.lower.new.store c.lower.new.left
     (entry_given c.args.graph.now c.args.script.now c.args.run.now c.args.task (lifted_by c.args.func.now) c.args.value.now c.requires.sound c.requires.apart c.requires.at
