@@ -63,7 +63,7 @@ fn last_taken<'g>(graph: &NamedGraph<'g, '_>, script: &Script, taken: u32) -> Ca
     requires { (task : Task) × IsScriptCall graph.now script.now taken task }
     ensures { (task : Task) → IsScriptCall graph.now script.now taken task → IsRunBy result task }
 {
-    let call = call_of(item_at(script, taken as usize - 1));
+    let call = last_call(script, taken);
     exported(graph, call.name.as_str())
 }
 
@@ -76,7 +76,7 @@ pub fn last_call(script: &Script, taken: u32) -> &Call
 }
 
 /// The item of a number.
-pub(crate) fn item_at(script: &Script, number: usize) -> &Item
+fn item_at(script: &Script, number: usize) -> &Item
     requires { number < length script.now.items }
     ensures { slice_get script.now.items number ≡ Some result.now }
 {
@@ -84,7 +84,7 @@ pub(crate) fn item_at(script: &Script, number: usize) -> &Item
 }
 
 /// The call that an item is.
-pub(crate) fn call_of(item: &Item) -> &Call
+fn call_of(item: &Item) -> &Call
     ensures { item.now ≡ Item.Call result.now }
 {
     match item {
