@@ -12,7 +12,7 @@ use Rattle.world.specs.declared.state.RunState.{RunState}
 use Rattle.builtins.specs.declared.next_task.Leaving.{Leaving}
 use Rattle.builtins.specs.declared.next_task.Leaving.TheVariants as leaving
 use Rattle.world.specs.Refusing.{IsRefused}
-use Rattle.builtins.specs.Telling.{Adds, AddsOnly, IsOfEntry, IsOfReturn, IsStart, AddsCall, AddsExit}
+use Rattle.builtins.specs.Telling.{Adds, AddsOnly, IsOfEntry, IsOfReturn, AddsCall, AddsExit}
 
 -- no line, one, and the lines of two parts
 only_none : (P : Label → Type 0) (old new : RunState) → new.labels ≡ old.labels → new.tasks ≡ old.tasks → new.taken ≡ old.taken → AddsOnly P old new
@@ -77,18 +77,16 @@ refused_at_entry old new g number words acts_for blame end r tasks taken = only_
 
 -- the line of an entry, and what its arguments add
 pub enters : {E : Type 0} (old mid new : RunState) (t : ℕ) (r : Result (Result Stack RunEnd) E) → mid.labels ≡ old.labels ++ line.Enter t ∷ [] → mid.tasks ≡ old.tasks → mid.taken ≡ old.taken
-    → IfOk r (λ entered. MatchResult entered (λ k. Adds mid new 0 [] × IsStart new.store k) (λ end. AddsOnly IsOfEntry mid new))
-    → IfOk r (λ entered. MatchResult entered (λ k. Adds old new 0 (line.Enter t ∷ []) × IsStart new.store k) (λ end. AddsOnly IsOfEntry old new))
+    → IfOk r (λ entered. MatchResult entered (λ k. Adds mid new 0 []) (λ end. AddsOnly IsOfEntry mid new))
+    → IfOk r (λ entered. MatchResult entered (λ k. Adds old new 0 (line.Enter t ∷ [])) (λ end. AddsOnly IsOfEntry old new))
 enters old mid new t (Err e) labels tasks taken h = tt
 enters old mid new t (Ok (Ok k)) labels tasks taken h =
-    let first = h.0.tasks in (
-      record {
-        taken = h.0.taken ∙ taken;
-        tasks = omega (arith, first, tasks);
-        told = h.0.told ∙ append-nil mid.labels ∙ labels;
-      },
-      h.1,
-    )
+    let first = h.tasks in
+    record {
+      taken = h.taken ∙ taken;
+      tasks = omega (arith, first, tasks);
+      told = h.told ∙ append-nil mid.labels ∙ labels;
+    }
 enters old mid new t (Ok (Err end)) labels tasks taken h = only_then IsOfEntry old mid new (entry_told old mid t labels tasks taken) h
 
 -- two lines
@@ -97,8 +95,8 @@ two_lines labels first all a b one two = two ∙ ap (λ (ls : List Label). ls ++
 
 -- No item is taken.
 pub entry_takes_none : (old new : RunState) (t : ℕ) (r : Result Stack RunEnd)
-    → MatchResult r (λ k. Adds old new 0 (line.Enter t ∷ []) × IsStart new.store k) (λ end. AddsOnly IsOfEntry old new) → new.taken ≡ old.taken
-entry_takes_none old new t (Ok k) h = h.0.taken
+    → MatchResult r (λ k. Adds old new 0 (line.Enter t ∷ [])) (λ end. AddsOnly IsOfEntry old new) → new.taken ≡ old.taken
+entry_takes_none old new t (Ok k) h = h.taken
 entry_takes_none old new t (Err end) h = h.adds.taken
 
 pub call_takes_none : (old new : RunState) (by : ℕ) (r : Result ℕ RunEnd) → AddsCall old new by r → new.taken ≡ old.taken

@@ -6,15 +6,17 @@ use Rattle.std.specs.List.{slice_get, AllByRecursion}
 use Rattle.core_machine.specs.Store.{Function, Store}
 use Rattle.core_machine.specs.Stack.{Stack}
 use Rattle.core_machine.specs.Step.{start}
-use Rattle.comp_graph.specs.Graph.{Graph}
+use Rattle.comp_graph.specs.Graph.{Graph, Lifted}
 use Rattle.script_reader.specs.Script.{Script}
 use Rattle.trace_show.specs.declared.builtin.Builtin.{Builtin}
 use Rattle.trace_show.specs.declared.label.Label.{Label}
 use Rattle.trace_show.specs.declared.label.Label.TheVariants as line
 use Rattle.canonical_machine.specs.declared.run_end.RunEnd.{RunEnd}
+use Rattle.canonical_machine.specs.World.{Func, Task}
+use Rattle.canonical_machine.specs.Reading.{func_address}
 use Rattle.canonical_machine.specs.Tasks.{IsAt}
 use Rattle.world.specs.declared.state.RunState.{RunState}
-use Rattle.world.specs.Seen.{EndsBy}
+use Rattle.world.specs.Seen.{IsCalled, waiters, EndsBy}
 use Rattle.builtins.specs.declared.next_task.Leaving.{Leaving}
 use Rattle.builtins.specs.declared.next_task.Leaving.TheVariants as leaving
 
@@ -42,13 +44,18 @@ IsOfReturn (line.Return t value) = Unit {0}
 IsOfReturn (line.Do t builtin words) = Unit {0}
 IsOfReturn other = ⊥
 
--- A core function of the store starts on this stack, and has done nothing yet.
-pub record IsStart (s : Store) (k : Stack) : Type 0 where
+-- The core function that is lifted starts on this stack, with some words, and has done nothing yet.
+pub record IsStart (s : Store) (f : Lifted) (k : Stack) : Type 0 where
   pub address : ℕ
+  pub at : func_address s f.core ≡ Some address
   pub function : Function
   pub there : slice_get s.funcs address ≡ Some function
   pub words : List ℕ
   pub starts : k ≡ start function address words
+
+-- so does the one that the acting task runs, over what its arguments leave of the store
+abbrev pub IsTaskStart : Graph → Script → RunState → Store → Stack → Type 0
+IsTaskStart g s run store k = (task : Task) → IsCalled g s run.taken (waiters run) task → (f : Lifted) × (task.callee ≡ Func f) × IsStart store f k
 
 -- The run ends before the core function of this task has started: the task has no stack in the last world.
 pub record EndsBeforeStart (g : Graph) (s : Script) (run : RunState) (t : ℕ) (end : RunEnd) : Type 0 where

@@ -18,7 +18,7 @@ ghost use Rattle.world.specs.Passed.{IsAtEntry};
 ghost use Rattle.world.specs.Seen.{IsAtArrival, IsAtStack, EndsBy};
 ghost use Rattle.world.specs.Changes.{Spends};
 ghost use Rattle.builtins.specs.Lowering.{plan_to};
-ghost use Rattle.builtins.specs.Telling.{Adds, AddsOnly, IsOfEntry, IsStart, EndsBeforeStart};
+ghost use Rattle.builtins.specs.Telling.{Adds, AddsOnly, IsOfEntry, IsStart, IsTaskStart, EndsBeforeStart};
 
 use crate::lower_options::lower_options;
 use crate::lower_values::{Lowered, Target, lower};
@@ -49,9 +49,9 @@ pub(crate) fn enter(
     requires plain { IsPlain graph.now }
     requires at { IsAtArrival graph.now script.now run.old task }
     ensures enters { IfOk result (λ entered. MatchResult entered (λ k. IsAtStack graph.now script.now run.new task k) (λ end. EndsBy graph.now script.now run.new end)) }
-    ensures ends { IfOk result (λ entered. MatchResult entered (λ k. Unit {0}) (λ end. EndsBeforeStart graph.now script.now run.new task end)) }
+    ensures starts { IfOk result (λ entered. MatchResult entered (λ k. IsTaskStart graph.now script.now run.old run.new.store k) (λ end. EndsBeforeStart graph.now script.now run.new task end)) }
     ensures spends { IfOk result (λ entered. Spends run.old run.new) }
-    ensures tells { IfOk result (λ entered. MatchResult entered (λ k. Adds run.old run.new 0 (Label.Enter task ∷ []) × IsStart run.new.store k) (λ end. AddsOnly IsOfEntry run.old run.new)) }
+    ensures tells { IfOk result (λ entered. MatchResult entered (λ k. Adds run.old run.new 0 (Label.Enter task ∷ [])) (λ end. AddsOnly IsOfEntry run.old run.new)) }
 {
     run.labels.push(Label::Enter { task })?;
     let func = called_func(graph, script, run);
@@ -86,9 +86,9 @@ fn pass(
     requires options { HasOptions run.old.store func.now.lift.options }
     requires at { IsAtEntry graph.now script.now run.old task (lifted_by func.now) value.now }
     ensures enters { IfOk result (λ entered. MatchResult entered (λ k. IsAtStack graph.now script.now run.new task k) (λ end. EndsBy graph.now script.now run.new end)) }
-    ensures ends { IfOk result (λ entered. MatchResult entered (λ k. Unit {0}) (λ end. EndsBeforeStart graph.now script.now run.new task end)) }
+    ensures starts { IfOk result (λ entered. MatchResult entered (λ k. IsStart run.new.store (lifted_by func.now) k) (λ end. EndsBeforeStart graph.now script.now run.new task end)) }
     ensures spends { IfOk result (λ entered. Spends run.old run.new) }
-    ensures tells { IfOk result (λ entered. MatchResult entered (λ k. Adds run.old run.new 0 [] × IsStart run.new.store k) (λ end. AddsOnly IsOfEntry run.old run.new)) }
+    ensures tells { IfOk result (λ entered. MatchResult entered (λ k. Adds run.old run.new 0 []) (λ end. AddsOnly IsOfEntry run.old run.new)) }
 {
     let of_type = &func.types.params;
     let options = lower_options(&run.store, func.lift.options);

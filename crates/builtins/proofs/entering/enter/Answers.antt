@@ -7,6 +7,7 @@ use Rattle.world.specs.Seen.{IsCalled, waiters}
 use Rattle.world.specs.Passed.{IsPassedBy}
 use Rattle.builtins.proofs.Entries.{entry_passes, entry_holds_none, entry_options, entry_fits, enters_with, entry_fails}
 use Rattle.builtins.proofs.Telling.{entry_told, enters}
+use Rattle.builtins.proofs.Unstarted.{task_starts}
 use Rattle.builtins.proofs.entering.enter.Goals as goal
 
 pub arguments-requires-clause-handles : goal.arguments-requires-clause-handles
@@ -39,8 +40,8 @@ returns-in-Err-Fault-clause-enters c =
     (subst (λ (e : MemoryOr LiftTrap). (x : Task) → IsCalled c.args.graph.now c.args.script.now c.args.run.now.taken (waiters c.args.run.now) x → IsPassedBy c.args.graph.now c.args.run.now.store x.caller (Err e)) c.in-Err-Fault.field-0-is c.in-Err-Fault.ensures)
     c.in_ok-push.ensures.ok (c.lift_name.ensures ∙ ap (λ (trap : LiftTrap). lift_name trap.why) c.in-Err-Fault.trap-is)).ends
 
-pub returns-in-Err-Fault-clause-ends : goal.returns-in-Err-Fault-clause-ends
-returns-in-Err-Fault-clause-ends c =
+pub returns-in-Err-Fault-clause-starts : goal.returns-in-Err-Fault-clause-starts
+returns-in-Err-Fault-clause-starts c =
     entry_fails c.args.graph.now c.args.script.now c.args.run.now c.args.task c.called_func-func.result c.requires.sound c.requires.apart c.requires.at c.called_func-func.ensures c.in-Err-Fault.trap c.lift_name.result c.push.new.self
     (subst (λ (e : MemoryOr LiftTrap). (x : Task) → IsCalled c.args.graph.now c.args.script.now c.args.run.now.taken (waiters c.args.run.now) x → IsPassedBy c.args.graph.now c.args.run.now.store x.caller (Err e)) c.in-Err-Fault.field-0-is c.in-Err-Fault.ensures)
     c.in_ok-push.ensures.ok (c.lift_name.ensures ∙ ap (λ (trap : LiftTrap). lift_name trap.why) c.in-Err-Fault.trap-is)
@@ -51,3 +52,7 @@ returns-in-Ok-clause-tells c =
 
 pub returns-in-Err-Fault-clause-tells : goal.returns-in-Err-Fault-clause-tells
 returns-in-Err-Fault-clause-tells c = entry_told _ _ c.args.task c.in_ok-push.ensures.ok refl refl
+
+pub returns-in-Ok-clause-starts : goal.returns-in-Ok-clause-starts
+returns-in-Ok-clause-starts c =
+    task_starts c.args.graph.now c.args.script.now c.args.run.now c.pass.new.run c.args.task c.called_func-func.result c.pass.result c.called_func-func.ensures c.pass.ensures.starts
