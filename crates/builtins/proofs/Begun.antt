@@ -41,9 +41,9 @@ use Rattle.canonical_machine.proofs.OrderSteps.{first_ordered}
 use Rattle.canonical_machine.proofs.Over.{first_over}
 use Rattle.world.specs.declared.state.Waiter.{Waiter}
 use Rattle.world.specs.declared.state.RunState.{RunState}
-use Rattle.world.specs.Parts.{Leads, IsSafe}
+use Rattle.world.specs.Parts.{LeadsTo, IsSafe}
 use Rattle.world.specs.Seen.{IsScriptCall, IsCalled, IsWaiter, AreWaiters, waiters, numbers, IsAtArrival, IsAtCall, EndsBy}
-use Rattle.world.specs.Onward.{is_called, CallsAnother}
+use Rattle.builtins.specs.NextTask.{is_called, CallsAnother}
 use Rattle.builtins.specs.Reentering.{calls_into, reenters}
 use Rattle.world.proofs.Leads.{leads_then, leads_step}
 use Rattle.world.proofs.Instancing.{safe_there, ends_there}
@@ -287,8 +287,8 @@ module _ (g : Graph) (s : Script) (run : RunState) (t : ℕ) (sound : IsSound g 
       let same : run.labels ++ said ≡ labels = ap (λ (n : ℕ). run.labels ++ line.Do n (builtin_of (canon_func.Lower call_lower.0)) u.words ∷ []) h.number ∙ sym told in
       subst (λ (n : ℕ). EndsBy g s (record run { labels = labels }) (Trapped n trap.Reentrant)) h.number
       (ends_there g s (record run { labels = labels }) v (Trapped u.task trap.Reentrant)
-      (subst (λ (ls : List Label). Leads g s (first_world g) ls v) same (leads_then g s (first_world g) w v run.labels said h.stands.leads (leads_step g s w v said step))) refl
-      h.stands.sees.store h.stands.sees.instances)
+      (subst (λ (ls : List Label). LeadsTo g s (first_world g) ls v) same (leads_then g s (first_world g) w v run.labels said h.stands.leads (leads_step g s w v said step))) refl
+      h.stands.sees.store h.stands.sees.units h.stands.sees.instances h.stands.sees.made h.stands.sees.taken)
 
   -- Else the task is made, and the one that calls waits for it.
   pub call_makes : (tasks : ℕ) (labels : List Label) → is_reentrant here call_lower.0.lift.instance u.task ≡ false → tasks ≡ run.tasks + 1
@@ -315,7 +315,7 @@ module _ (g : Graph) (s : Script) (run : RunState) (t : ℕ) (sound : IsSound g 
       record {
         stands = record {
           world = v;
-          leads = subst (λ (ls : List Label). Leads g s (first_world g) ls v) same (leads_then g s (first_world g) w v run.labels all h.stands.leads (leads_step g s w v all step));
+          leads = subst (λ (ls : List Label). LeadsTo g s (first_world g) ls v) same (leads_then g s (first_world g) w v run.labels all h.stands.leads (leads_step g s w v all step));
           sees = record {
             store = sees.store;
             units = sees.units;

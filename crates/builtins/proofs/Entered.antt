@@ -31,21 +31,22 @@ use Rattle.canonical_machine.specs.Entering.{arguments_lowering}
 use Rattle.canonical_machine.specs.Run.{RunsFrom}
 use Rattle.canonical_machine.specs.Sound.{IsSound}
 use Rattle.canonical_machine.specs.Owners.{IsApart}
-use Rattle.canonical_machine.specs.Tasks.{AreWaiting, IsChain}
+use Rattle.canonical_machine.specs.Tasks.{IsAt, AreWaiting, IsChain}
 use Rattle.canonical_machine.proofs.Changed.{changed_length, changed_there}
 use Rattle.world.specs.declared.state.RunState.{RunState}
 use Rattle.builtins.specs.declared.lower_values.Lowered.{Lowered}
 use Rattle.builtins.specs.declared.lower_values.Lowered.TheVariants as came
-use Rattle.world.specs.Parts.{Leads, Meets, with_room, WithUsed, IsSafe}
+use Rattle.world.specs.Parts.{LeadsTo, Meets, with_room, WithUsed, IsSafe}
 use Rattle.builtins.specs.Rooms.{IsMemory}
 use Rattle.builtins.specs.Lowering.{IsAtLowering, LoweredLeads}
 use Rattle.world.specs.Passed.{IsAtEntry}
-use Rattle.world.specs.Seen.{Acts, waiters, numbers, IsAtStack, EndsBy}
+use Rattle.world.specs.Seen.{IsActing, waiters, numbers, IsAtStack}
+use Rattle.builtins.specs.Telling.{EndsBeforeStart}
 use Rattle.world.proofs.Leads.{leads_then, meets_behind, meets_step, ends_behind, first_safe, safe_moves}
 use Rattle.world.specs.Refusing.{IsRefused}
-use Rattle.world.proofs.Refusals.{refused_ends}
-use Rattle.world.proofs.Instancing.{safe_there, ends_there}
+use Rattle.world.proofs.Instancing.{safe_there}
 use Rattle.world.proofs.TaskRuns.{first_same, called_as, waiters_still}
+use Rattle.builtins.proofs.Unstarted.{ends_before, refused_before}
 
 -- The core function starts.
 started_is : (t : ℕ) (below : List ℕ) (task : Task) (f : Lifted) (words : List ℕ) (w : World) → w.chain ≡ t ∷ below → slice_get w.tasks t ≡ Some task → task.callee ≡ Func f
@@ -95,26 +96,36 @@ module _ (g : Graph) (s : Script) (run : RunState) (t : ℕ) (f : Lifted) (v : V
       let at = first_same t (numbers (waiters run)) a.number a.below (sym h.stands.holds.1.chain ∙ a.chain_is) in
       subst (λ (n : ℕ). AreWaiting w.tasks n (numbers (waiters run))) (sym at.0) (subst (AreWaiting w.tasks a.number) (sym at.1) a.waiting)
 
-  behind_all : (store : Store) (used : ℕ) (c : Control) → Leads g s w [] (with_room w store used c) → Leads g s (first_world g) run.labels (with_room w store used c)
+  behind_all : (store : Store) (used : ℕ) (c : Control) → LeadsTo g s w [] (with_room w store used c) → LeadsTo g s (first_world g) run.labels (with_room w store used c)
   behind_all store used c m =
-      subst (λ (ls : List Label). Leads g s (first_world g) ls (with_room w store used c)) (append-nil run.labels)
+      subst (λ (ls : List Label). LeadsTo g s (first_world g) ls (with_room w store used c)) (append-nil run.labels)
       (leads_then g s (first_world g) w (with_room w store used c) run.labels [] h.stands.leads m)
+
+  -- The task has no stack yet.
+  unstarted : IsAt w.tasks t (λ task. task.stacks ≡ [])
+  unstarted = (h.stands.holds.1.task, h.stands.holds.1.there, h.stands.holds.1.holds.1)
 
   -- A trap of the lowering, and want of fuel.
   pub entry_traps : (why : TrapName) (store : Store) (after : ℕ) → WithUsed s after (λ used. LoweredLeads g s w l (came.Trapped why) store used)
-      → EndsBy g s (record run { store = store; left = after }) (Trapped t why)
+      → EndsBeforeStart g s (record run { store = store; left = after }) t (Trapped t why)
   entry_traps why store after u =
       let v : World = with_room w store u.0 (Doomed t why) in
-      ends_there g s (record run { store = store; left = after }) v (Trapped t why) (behind_all store u.0 (Doomed t why) u.2) refl refl h.stands.sees.instances
+      ends_before g s (record run { store = store; left = after }) t v (Trapped t why) (behind_all store u.0 (Doomed t why) u.2) refl refl u.1 h.stands.sees.instances h.stands.sees.made h.stands.sees.taken unstarted
 
-  pub entry_wants : (store : Store) (after : ℕ) → WithUsed s after (λ used. LoweredLeads g s w l came.NoFuel store used) → EndsBy g s (record run { store = store; left = after }) Fuel
+  pub entry_wants : (store : Store) (after : ℕ) → WithUsed s after (λ used. LoweredLeads g s w l came.NoFuel store used) → EndsBeforeStart g s (record run { store = store; left = after }) t Fuel
   entry_wants store after u =
       let last : World = with_room w store u.0 u.2.0 in
       record {
-        last = last;
-        runs = subst (λ (ls : List Label). RunsFrom g s (first_world g) ls last Fuel) (append-nil run.labels) (ends_behind g s (first_world g) w last run.labels [] Fuel h.stands.leads u.2.1);
-        store = refl;
-        instances = h.stands.sees.instances;
+        ends = record {
+          last = last;
+          runs = subst (λ (ls : List Label). RunsFrom g s (first_world g) ls last Fuel) (append-nil run.labels) (ends_behind g s (first_world g) w last run.labels [] Fuel h.stands.leads u.2.1);
+          store = refl;
+          units = u.1;
+          instances = h.stands.sees.instances;
+          made = h.stands.sees.made;
+          taken = h.stands.sees.taken;
+        };
+        unstarted = unstarted;
       }
 
   -- A realloc calls a core function of the Canonical ABI.
@@ -122,11 +133,11 @@ module _ (g : Graph) (s : Script) (run : RunState) (t : ℕ) (f : Lifted) (v : V
   entry_calls call store after u = slice_get_within g.canons call.address u.2.0 u.2.1
 
   pub entry_refused : (call : HostCall) (store : Store) (after : ℕ) (labels : List Label) (end : RunEnd) → WithUsed s after (λ used. LoweredLeads g s w l (came.Refused call) store used)
-      → IsRefused g call.address call.words t t run.labels labels end → EndsBy g s (record run { store = store; left = after; labels = labels }) end
+      → IsRefused g call.address call.words t t run.labels labels end → EndsBeforeStart g s (record run { store = store; left = after; labels = labels }) t end
   entry_refused call store after labels end u refused =
       let v : World = with_room w store u.0 (Doomed t trap.CannotLeave) in
-      refused_ends g s (record run { store = store; left = after; labels = labels }) run.labels v u.2.0 call.address call.words t t end u.2.1
-      (leads_then g s (first_world g) w v run.labels (line.Do t (builtin_of u.2.0) call.words ∷ []) h.stands.leads u.2.2) refl refl h.stands.sees.instances refused
+      refused_before g s (record run { store = store; left = after; labels = labels }) run.labels t v u.2.0 call.address call.words t t end u.2.1
+      (leads_then g s (first_world g) w v run.labels (line.Do t (builtin_of u.2.0) call.words ∷ []) h.stands.leads u.2.2) refl refl u.1 h.stands.sees.instances h.stands.sees.made h.stands.sees.taken unstarted refused
 
   -- It gives words, with which the core function starts.
   record Started (words : List ℕ) (store : Store) (after : ℕ) : Type 0 where
@@ -140,7 +151,7 @@ module _ (g : Graph) (s : Script) (run : RunState) (t : ℕ) (f : Lifted) (v : V
       by (found_at store.funcs (func_address store f.core)) refl
       (subst (λ (turn : Turn). Meets g s (first_world g) run.labels turn) (started_is t (numbers (waiters run)) a.task f words x a.chain a.there a.holds.0) all)
     where
-      a : Acts g s run t (λ task. (task.callee ≡ Func f) × (task.stacks ≡ [])) w
+      a : IsActing g s run t (λ task. (task.callee ≡ Func f) × (task.stacks ≡ [])) w
       a = h.stands.holds.1
 
       x : World
@@ -170,7 +181,7 @@ module _ (g : Graph) (s : Script) (run : RunState) (t : ℕ) (f : Lifted) (v : V
             at = record {
               stands = record {
                 world = y;
-                leads = subst (λ (ls : List Label). Leads g s (first_world g) ls y) (append-nil run.labels) (meets_step g s (first_world g) y run.labels [] m);
+                leads = subst (λ (ls : List Label). LeadsTo g s (first_world g) ls y) (append-nil run.labels) (meets_step g s (first_world g) y run.labels [] m);
                 sees = record {
                   store = refl;
                   units = used;

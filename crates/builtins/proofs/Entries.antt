@@ -51,14 +51,16 @@ use Rattle.world.specs.declared.state.Waiter.{Waiter}
 use Rattle.world.specs.declared.state.RunState.{RunState}
 use Rattle.world.specs.Addresses.{HasOptions}
 use Rattle.world.specs.Called.{lifted_by, IsRunBy}
-use Rattle.world.specs.Parts.{Leads, IsSafe}
+use Rattle.world.specs.Parts.{LeadsTo, IsSafe}
 use Rattle.world.specs.Passed.{CanPass, IsPassedBy, IsAtEntry}
-use Rattle.world.specs.Seen.{IsCalled, waiters, numbers, IsAtArrival, EndsBy}
+use Rattle.world.specs.Seen.{IsCalled, waiters, numbers, IsAtArrival}
+use Rattle.builtins.specs.Telling.{EndsBeforeStart}
 use Rattle.world.proofs.Leads.{leads_then, leads_step}
-use Rattle.world.proofs.Instancing.{safe_there, ends_there}
+use Rattle.world.proofs.Instancing.{safe_there}
 use Rattle.world.proofs.TaskRuns.{first_same, some_same, called_as, waiters_still}
 use Rattle.builtins.proofs.Options.{lift_options, lower_options}
 use Rattle.builtins.proofs.PlainCalls.{plain_called}
+use Rattle.builtins.proofs.Unstarted.{ends_before}
 
 -- It is used.
 called_used : (g : Graph) (s : Script) (taken : ℕ) (us : List Waiter) (task : Task) (f : Lifted) → IsSound g s → IsCalled g s taken us task → task.callee ≡ Func f → IsUsed g f
@@ -204,21 +206,23 @@ module _ (g : Graph) (s : Script) (run : RunState) (t : ℕ) (c : CalledFunc) (s
   step : (r : Result Value LiftTrap) → arguments_of g run.store task.caller ≡ Some r → next g s w ≡ behind (line.Enter t ∷ []) (with_arguments t f r (in_state t Acting (with_control controls.Free w)))
   step r e = arrives_next g s w t (numbers (waiters run)) task f r h.stands.holds.0 h.stands.holds.1.chain h.stands.holds.1.there callee known.state (in_world r e)
 
-  there_by : (v : World) (labels : List Label) → next g s w ≡ Steps (line.Enter t ∷ []) v → labels ≡ run.labels ++ line.Enter t ∷ [] → Leads g s (first_world g) labels v
+  there_by : (v : World) (labels : List Label) → next g s w ≡ Steps (line.Enter t ∷ []) v → labels ≡ run.labels ++ line.Enter t ∷ [] → LeadsTo g s (first_world g) labels v
   there_by v labels e said =
-      subst (λ (ls : List Label). Leads g s (first_world g) ls v) (sym said) (leads_then g s (first_world g) w v run.labels (line.Enter t ∷ []) h.stands.leads (leads_step g s w v (line.Enter t ∷ []) e))
+      subst (λ (ls : List Label). LeadsTo g s (first_world g) ls v) (sym said) (leads_then g s (first_world g) w v run.labels (line.Enter t ∷ []) h.stands.leads (leads_step g s w v (line.Enter t ∷ []) e))
 
   -- A lift that fails is a trap, behind the line.
   pub entry_fails : (trap : LiftTrap) (name : TrapName) (labels : List Label) → ((x : Task) → IsCalled g s run.taken (waiters run) x → IsPassedBy g run.store x.caller (Err (MemoryOr.Fault trap))) → labels ≡ run.labels ++ line.Enter t ∷ [] → name ≡ lift_name trap.why
-      → EndsBy g s (record run { labels = labels }) (Trapped t name)
+      → EndsBeforeStart g s (record run { labels = labels }) t (Trapped t name)
   entry_fails trap name labels made said named =
       let p : IsPassedBy g run.store task.caller (Err (MemoryOr.Fault trap)) = made task called in
       let v : World = with_control (Doomed t (lift_name trap.why)) (in_state t Acting (with_control controls.Free w)) in
       let e : next g s w ≡ Steps (line.Enter t ∷ []) v =
       step p.0 p.1 ∙ ap (λ (r : Result Value LiftTrap). behind (line.Enter t ∷ []) (with_arguments t f r (in_state t Acting (with_control controls.Free w)))) p.2
       ∙ ap (λ (turn : Turn). behind (line.Enter t ∷ []) turn) (arguments_fail t f trap (in_state t Acting (with_control controls.Free w))) in
-      subst (λ (name : TrapName). EndsBy g s (record run { labels = labels }) (Trapped t name)) (sym named)
-      (ends_there g s (record run { labels = labels }) v (Trapped t (lift_name trap.why)) (there_by v labels e said) refl h.stands.sees.store h.stands.sees.instances)
+      let change : Task → Task = λ task. record task { state = Acting } in
+      subst (λ (name : TrapName). EndsBeforeStart g s (record run { labels = labels }) t (Trapped t name)) (sym named)
+      (ends_before g s (record run { labels = labels }) t v (Trapped t (lift_name trap.why)) (there_by v labels e said) refl h.stands.sees.store h.stands.sees.units h.stands.sees.instances
+      (changed_length t change w.tasks ∙ h.stands.sees.made) h.stands.sees.taken (change task, changed_there t change w.tasks task h.stands.holds.1.there, known.stacks))
 
   -- The arguments are there.
   pub entry_fits : (v : Value) → ((x : Task) → IsCalled g s run.taken (waiters run) x → IsPassedBy g run.store x.caller (Ok v)) → fits v c.types.params ≡ true

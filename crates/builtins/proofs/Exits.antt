@@ -29,9 +29,9 @@ use Rattle.canonical_machine.proofs.Changed.{changed_length, changed_there, chan
 use Rattle.canonical_machine.proofs.Words.{many_words}
 use Rattle.world.specs.declared.state.Waiter.{Waiter}
 use Rattle.world.specs.declared.state.RunState.{RunState}
-use Rattle.world.specs.Parts.{Leads}
-use Rattle.world.specs.Seen.{IsWaiter, AreWaiters, waiters, numbers, Stands, IsAtFree, IsAtStack}
-use Rattle.world.specs.Points.{Answers, IsAnswered, IsAtExit, IsAtBack}
+use Rattle.world.specs.Parts.{LeadsTo}
+use Rattle.world.specs.Seen.{IsWaiter, AreWaiters, waiters, numbers, IsAtWorld, IsAtFree, IsAtStack}
+use Rattle.world.specs.Points.{Answers, AreFor, IsAtExit, IsAtBack}
 use Rattle.world.proofs.Leads.{leads_then, leads_step}
 use Rattle.world.proofs.Instancing.{safe_there}
 use Rattle.world.proofs.TaskRuns.{called_as}
@@ -97,7 +97,7 @@ for_it all others t [] order same = tt
 for_it all others t (u ∷ below) order same = (order.1.0, same u.task order.2 ∙ order.1.1, order.1.2.state_is)
 
 answers_alike : (us : List Waiter) (words : List ℕ) (task other : Task) → other.caller ≡ task.caller → Answers us words task → Answers us words other
-answers_alike [] words task other caller h = tt
+answers_alike [] words task other caller h = h
 answers_alike (u ∷ below) words task other caller h = (h.0, caller ∙ h.1, h.2, h.3)
 
 abbrev IsGone : RunState → ℕ → List ℕ → World → Type 0
@@ -105,7 +105,7 @@ IsGone run t words v =
     (v.control ≡ control_behind (numbers (waiters run))) × (v.chain ≡ numbers (waiters run)) × IsAt v.tasks t (Answers (waiters run) words) × IsFor v.tasks t (waiters run)
 
 exits : (g : Graph) (s : Script) (run : RunState) (lines : List Label) (t : ℕ) (words : List ℕ) → IsSound g s → IsApart g → lines ≡ run.labels ++ line.Exit t ∷ [] → IsAtExit g s run t words
-    → Stands g s (with_lines lines run) (IsGone run t words)
+    → IsAtWorld g s (with_lines lines run) (IsGone run t words)
 exits g s run lines t words sound apart said st =
     let w : World = st.world in
     let us : List Waiter = waiters run in
@@ -117,7 +117,7 @@ exits g s run lines t words sound apart said st =
     let same : (n : ℕ) → n < t → slice_get v.tasks n ≡ slice_get w.tasks n = λ n few. changed_other t n exited w.tasks (omega (arith, few)) in
     record {
       world = v;
-      leads = subst (λ (ls : List Label). Leads g s (first_world g) ls v) (sym said)
+      leads = subst (λ (ls : List Label). LeadsTo g s (first_world g) ls v) (sym said)
           (leads_then g s (first_world g) w v run.labels (line.Exit t ∷ []) st.leads
           (leads_step g s w v (line.Exit t ∷ []) (leaves g s w t (numbers us) h.0 st.holds.0 st.holds.1 h.1)));
       sees = record {
@@ -152,7 +152,7 @@ exits_free g s run lines t words sound apart said none st =
     }
 
 to_answer : (us : List Waiter) (t : ℕ) (words : List ℕ) (v : World) → (us ≡ [] → ⊥) → v.control ≡ control_behind (numbers us) → IsAt v.tasks t (Answers us words) → IsFor v.tasks t us
-    → (v.control ≡ Back) × IsAnswered v.tasks us words
+    → (v.control ≡ Back) × AreFor v.tasks us words
 to_answer [] t words v some control h waits = absurd (some refl)
 to_answer (u ∷ below) t words v some control h waits = (control, (t, waits, h))
 
@@ -213,8 +213,8 @@ record CameBack (w : World) (u : Waiter) (below : List Waiter) (words : List ℕ
 same_number : (m n : ℕ) → AfterCall m ≡ AfterCall n → m ≡ n
 same_number m n h = cc
 
-came_back : (g : Graph) (s : Script) (w : World) (lines : List Label) (u : Waiter) (below : List Waiter) (words : List ℕ) → IsSound g s → IsApart g → Leads g s (first_world g) lines w
-    → w.control ≡ Back → w.chain ≡ u.task ∷ numbers below → IsAnswered w.tasks (u ∷ below) words → AreWaiters g s w.taken w.tasks (u ∷ below) → CameBack w u below words
+came_back : (g : Graph) (s : Script) (w : World) (lines : List Label) (u : Waiter) (below : List Waiter) (words : List ℕ) → IsSound g s → IsApart g → LeadsTo g s (first_world g) lines w
+    → w.control ≡ Back → w.chain ≡ u.task ∷ numbers below → AreFor w.tasks (u ∷ below) words → AreWaiters g s w.taken w.tasks (u ∷ below) → CameBack w u below words
 came_back g s w lines u below words sound apart leads control chain answer waiting =
     let kept : IsKept g s w = (safe_there g s lines w sound apart leads).kept in
     let h : Heads w.tasks (λ t task. IsBack w.tasks t task) (u.task ∷ numbers below) =
@@ -263,7 +263,7 @@ is_back : (g : Graph) (s : Script) (run : RunState) (u : Waiter) (below : List W
     → CameBack st.world u below words
 is_back g s run u below words sound apart e st =
     let w : World = st.world in
-    let at : IsAnswered w.tasks (u ∷ below) words = subst (λ (us : List Waiter). IsAnswered w.tasks us words) e st.holds.2 in
+    let at : AreFor w.tasks (u ∷ below) words = subst (λ (us : List Waiter). AreFor w.tasks us words) e st.holds.2 in
     let chain : w.chain ≡ u.task ∷ numbers below = st.holds.1 ∙ ap (λ (us : List Waiter). numbers us) e in
     came_back g s w run.labels u below words sound apart st.leads st.holds.0 chain at (subst (AreWaiters g s w.taken w.tasks) e st.sees.waiting)
 
@@ -292,7 +292,7 @@ went_back g s run after u words k sound apart items said store left instances ta
     record {
       stands = record {
         world = v;
-        leads = subst (λ (ls : List Label). Leads g s (first_world g) ls v) (sym said)
+        leads = subst (λ (ls : List Label). LeadsTo g s (first_world g) ls v) (sym said)
             (leads_then g s (first_world g) w v run.labels (line.Got u.task words ∷ []) st.leads (leads_step g s w v (line.Got u.task words ∷ []) step));
         sees = record {
           store = st.sees.store ∙ sym store;

@@ -11,3 +11,6 @@ mod Entries
 mod PostReturns
 mod Resolving
 mod Places
+mod Telling
+mod Unstarted
+mod Progress

@@ -19,7 +19,7 @@ use Rattle.builtins.specs.declared.lower_values.Came.TheVariants as came
 use Rattle.world.specs.Parts.{WithUsed}
 use Rattle.builtins.specs.Rooms.{LoweringLeads}
 use Rattle.world.specs.Stacks.{Refused}
-use Rattle.builtins.specs.Lowering.{IsAtLowering, LoweredLeads, CanTell, Tells, as_plan, ComesTo}
+use Rattle.builtins.specs.Lowering.{IsAtLowering, LoweredLeads, CanTell, Tells, as_plan, PlanComesTo}
 use Rattle.builtins.proofs.Lowering.{lowerings_lead}
 
 counts : (c : Came) → Counts (as_plan c)
@@ -33,7 +33,7 @@ module _ (g : Graph) (s : Script) (w : World) (l : Lowering) (plan : Plan) (opti
   room = record { store = b; units = after; call = call }
 
   abbrev Came_to : Came → Type 0
-  Came_to c = ComesTo options plan (record { store = a; units = before; call = None }) c room
+  Came_to c = PlanComesTo options plan (record { store = a; units = before; call = None }) c room
 
   leads : (c : Came) → IsAtLowering g s w l plan options a before → Came_to c → WithUsed s after (λ used. LoweringLeads g s w l (as_plan c) room used)
   leads c h comes = lowerings_lead g s w l plan options (record { store = a; units = before; call = None }) room (as_plan c) h.safe h.control h.room (counts c) comes

@@ -37,7 +37,7 @@ use Rattle.wasm_module.specs.SameTypes.{same_types}
 use Rattle.value_lower.specs.declared.ends.LowerWhy.{LowerWhy}
 use Rattle.canonical_machine.specs.Kept.{IsFunction}
 use Rattle.canonical_machine.proofs.Apart.{never_stuck}
-use Rattle.world.specs.Parts.{Leads, with_room, IsSafe}
+use Rattle.world.specs.Parts.{LeadsTo, with_room, IsSafe}
 use Rattle.builtins.specs.Rooms.{IsMemory, LoweringLeads, LoweringsLead}
 use Rattle.world.proofs.Leads.{leads_step, leads_then, leads_safe, meets_here, meets_behind, meets_step, ends_behind}
 use Rattle.builtins.proofs.Counts.{HasAsMany, moves_keep}
@@ -47,7 +47,7 @@ use Rattle.world.proofs.Nesting.{nested_at, nested_ends, nested_traps, nested_wa
 
 module _ (g : Graph) (s : Script) (w : World) (l : Lowering) (options : LowerOptions) where
   -- A part before that of a lowering.
-  lowering_behind : (came : Came NestedTrap) (r : RoomState) (used m n : ℕ) (a b : Store) (c d : Control) → Leads g s (with_room w a m c) [] (with_room w b n d)
+  lowering_behind : (came : Came NestedTrap) (r : RoomState) (used m n : ℕ) (a b : Store) (c d : Control) → LeadsTo g s (with_room w a m c) [] (with_room w b n d)
       → LoweringLeads g s (with_room w b n d) l came r used → LoweringLeads g s (with_room w a m c) l came r used
   lowering_behind (Words words) r used m n a b c d to h =
       meets_behind g s (with_room w a m c) (with_room w b n d) [] [] (lowered l.next words (with_room w r.store used Free)) to h
@@ -169,7 +169,7 @@ module _ (g : Graph) (s : Script) (w : World) (l : Lowering) (options : LowerOpt
   -- It ends with a place, with which the plan goes on.
   nested_places : (r mid : RoomState) (n now place : ℕ) (ask : Ask) (k : ℕ → Plan) (f : ℕ × Function) → Comes r.store (begun f ask) r.units mid.store mid.units (Ends (place ∷ []))
       → n + r.units ≡ s.fuel → now + mid.units ≡ s.fuel
-      → Leads g s (nested_at w (nested_of l ask f) (InLowering l k) r.store n (begun f ask)) [] (with_room w mid.store now (Lowers l (k place)))
+      → LeadsTo g s (nested_at w (nested_of l ask f) (InLowering l k) r.store n (begun f ask)) [] (with_room w mid.store now (Lowers l (k place)))
   unfolding nested_ended
   nested_places r mid n now place ask k f c before behind =
       meets_step g s (nested_at w (nested_of l ask f) (InLowering l k) r.store n (begun f ask)) (with_room w mid.store now (Lowers l (k place))) [] []
@@ -190,7 +190,7 @@ module _ (g : Graph) (s : Script) (w : World) (l : Lowering) (options : LowerOpt
       let now : ℕ = n + c.spent in
       let left : now + mid.units ≡ s.fuel = (let q = c.paid in let u = h.units in omega (arith, q, u)) in
       let start : World = nested_at w (nested_of l ask p) (InLowering l k) r.store n (begun p ask) in
-      let to : Leads g s (with_room w a n (Lowers l whole)) [] (with_room w mid.store now (Lowers l (k f.0))) =
+      let to : LeadsTo g s (with_room w a n (Lowers l whole)) [] (with_room w mid.store now (Lowers l (k f.0))) =
       leads_then g s (with_room w a n (Lowers l whole)) start (with_room w mid.store now (Lowers l (k f.0))) [] []
       (leads_step g s (with_room w a n (Lowers l whole)) start [] (asked_turn a n whole r ask k (Some p) h e))
       (nested_places r mid n now f.0 ask k p c h.units left) in
@@ -200,7 +200,7 @@ module _ (g : Graph) (s : Script) (w : World) (l : Lowering) (options : LowerOpt
       (stands_here now (k f.0) mid (memory_kept l.memory options.memory r.store mid.store many h.memory) h.realloc left) f.3)
   asked_leads ask k whole a n used r t came (Some p) safe h counts behind e more (inr f) =
       let start : World = nested_at w (nested_of l ask p) (InLowering l k) r.store n (begun p ask) in
-      let to : Leads g s (with_room w a n (Lowers l whole)) [] start = leads_step g s (with_room w a n (Lowers l whole)) start [] (asked_turn a n whole r ask k (Some p) h e) in
+      let to : LeadsTo g s (with_room w a n (Lowers l whole)) [] start = leads_step g s (with_room w a n (Lowers l whole)) start [] (asked_turn a n whole r ask k (Some p) h e) in
       let gives : NestedGives r (begun p ask) (Err f.0) t = subst (λ (o : Option (ℕ × Function)). ReallocGives o r ask (Err f.0) t) (realloc_is a n whole (Asks ask k) r p safe h e) f.1 in
       subst (λ (x : Came NestedTrap). LoweringLeads g s (with_room w a n (Lowers l whole)) l x t used) (sym f.2)
       (lowering_behind (Ended f.0) t used n n a r.store (Lowers l whole) (Quiet (nested_of l ask p) (InLowering l k)) to

@@ -17,7 +17,7 @@ use Rattle.canonical_machine.proofs.Graphs.{same_func}
 use Rattle.world.specs.declared.state.Waiter.{Waiter}
 use Rattle.world.specs.Seen.{IsCalled}
 use Rattle.world.proofs.Items.{function_at}
-use Rattle.world.proofs.Progress.{lower_there}
+use Rattle.builtins.proofs.Progress.{lower_there}
 
 plain_lower : (g : Graph) (number : ℕ) (l : Lower) → IsPlain g → lower_at g number ≡ Some l → PassesNone l.func_type
 plain_lower g number l plain h = all_at (λ (c : CanonFunc). PassesNone (called_type c)) g.canons number (canon_func.Lower l) plain.canons (lower_there g number l h)

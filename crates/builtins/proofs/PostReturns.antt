@@ -36,7 +36,7 @@ use Rattle.canonical_machine.specs.Sound.{IsSound}
 use Rattle.canonical_machine.specs.Owners.{IsApart}
 use Rattle.canonical_machine.specs.Kept.{IsHosted, IsKeptBy}
 use Rattle.world.specs.declared.state.RunState.{RunState}
-use Rattle.world.specs.Parts.{Leads, Meets, with_room, WithUsed, IsSafe}
+use Rattle.world.specs.Parts.{LeadsTo, Meets, with_room, WithUsed, IsSafe}
 use Rattle.world.specs.Stacks.{PostReturnLeads}
 use Rattle.world.specs.Seen.{waiters, numbers, EndsBy}
 use Rattle.world.specs.Points.{IsAtFinish, IsAtPostReturn, IsAtExit}
@@ -79,7 +79,7 @@ exits_at_once g s run t f ended words none h =
     let meets : Meets g s (first_world g) h.before (Steps (h.lines ++ []) v) = subst (λ (turn : Turn). Meets g s (first_world g) h.before (behind h.lines turn)) turn h.meets in
     record {
       world = v;
-      leads = subst (λ (ls : List Label). Leads g s (first_world g) ls v) (all_said run.labels h.before h.lines h.said) (meets_step g s (first_world g) v h.before (h.lines ++ []) meets);
+      leads = subst (λ (ls : List Label). LeadsTo g s (first_world g) ls v) (all_said run.labels h.before h.lines h.said) (meets_step g s (first_world g) v h.before (h.lines ++ []) meets);
       sees = record {
         store = h.sees.store;
         units = h.sees.units;
@@ -121,7 +121,7 @@ starts g s run t f ended words ref sound apart one h =
           there = subst (λ (store : Store). slice_get store.funcs p.0 ≡ Some p.1) h.sees.store both.1;
           at = record {
             world = v;
-            leads = subst (λ (ls : List Label). Leads g s (first_world g) ls v) (all_said run.labels h.before h.lines h.said) (meets_step g s (first_world g) v h.before (h.lines ++ []) m);
+            leads = subst (λ (ls : List Label). LeadsTo g s (first_world g) ls v) (all_said run.labels h.before h.lines h.said) (meets_step g s (first_world g) v h.before (h.lines ++ []) m);
             sees = record {
               store = h.sees.store;
               units = h.sees.units;
@@ -196,7 +196,7 @@ module _ (g : Graph) (s : Script) (run : RunState) (t : ℕ) (k : Stack) (words 
       let before = h.sees.few in
       record {
         world = v;
-        leads = subst (λ (ls : List Label). Leads g s (first_world g) ls v) (append-nil run.labels) (leads_then g s (first_world g) w v run.labels [] h.leads u.2);
+        leads = subst (λ (ls : List Label). LeadsTo g s (first_world g) ls v) (append-nil run.labels) (leads_then g s (first_world g) w v run.labels [] h.leads u.2);
         sees = record {
           store = refl;
           units = used;
@@ -216,10 +216,10 @@ module _ (g : Graph) (s : Script) (run : RunState) (t : ℕ) (k : Stack) (words 
       let w : World = h.world in
       let u = leads (outcome.Trapped why) store after gives in
       let v : World = with_room w store u.0 (Doomed t (core_name why)) in
-      let there : Leads g s w [] v = subst (λ (n : ℕ). Leads g s w [] (with_room w store u.0 (Doomed n (core_name why)))) h.holds.blame u.2 in
+      let there : LeadsTo g s w [] v = subst (λ (n : ℕ). LeadsTo g s w [] (with_room w store u.0 (Doomed n (core_name why)))) h.holds.blame u.2 in
       subst (λ (name : TrapName). EndsBy g s (record run { store = store; left = after }) (Trapped t name)) (sym is)
       (ends_there g s (record run { store = store; left = after }) v (Trapped t (core_name why))
-      (subst (λ (ls : List Label). Leads g s (first_world g) ls v) (append-nil run.labels) (leads_then g s (first_world g) w v run.labels [] h.leads there)) refl refl h.sees.instances)
+      (subst (λ (ls : List Label). LeadsTo g s (first_world g) ls v) (append-nil run.labels) (leads_then g s (first_world g) w v run.labels [] h.leads there)) refl refl u.1 h.sees.instances h.sees.made h.sees.taken)
 
   -- No unit is left.
   pub post_return_wants : (later : Stack) (store : Store) (after : ℕ) → RunGives run.store k run.left (outcome.NoFuel later) store after → EndsBy g s (record run { store = store; left = after }) Fuel
@@ -231,7 +231,10 @@ module _ (g : Graph) (s : Script) (run : RunState) (t : ℕ) (k : Stack) (words 
         last = last;
         runs = subst (λ (ls : List Label). RunsFrom g s (first_world g) ls last Fuel) (append-nil run.labels) (ends_behind g s (first_world g) w last run.labels [] Fuel h.leads u.2);
         store = refl;
+        units = u.1;
         instances = h.sees.instances;
+        made = h.sees.made;
+        taken = h.sees.taken;
       }
 
   -- It calls a core function of the Canonical ABI.
@@ -248,8 +251,8 @@ module _ (g : Graph) (s : Script) (run : RunState) (t : ℕ) (k : Stack) (words 
       let n : Nested = h.holds.nested in
       let u = leads (outcome.Calls number results waiting) store after gives in
       let v : World = with_room w store u.0 (Doomed t trap.CannotLeave) in
-      let said : Leads g s w (line.Do t (builtin_of u.2.0) results ∷ []) v =
-      subst (λ (m : ℕ). Leads g s w (line.Do m (builtin_of u.2.0) results ∷ []) v) h.holds.acts_for
-      (subst (λ (m : ℕ). Leads g s w (line.Do n.acts_for (builtin_of u.2.0) results ∷ []) (with_room w store u.0 (Doomed m trap.CannotLeave))) h.holds.blame u.2.2) in
+      let said : LeadsTo g s w (line.Do t (builtin_of u.2.0) results ∷ []) v =
+      subst (λ (m : ℕ). LeadsTo g s w (line.Do m (builtin_of u.2.0) results ∷ []) v) h.holds.acts_for
+      (subst (λ (m : ℕ). LeadsTo g s w (line.Do n.acts_for (builtin_of u.2.0) results ∷ []) (with_room w store u.0 (Doomed m trap.CannotLeave))) h.holds.blame u.2.2) in
       refused_ends g s (record run { store = store; left = after; labels = labels }) run.labels v u.2.0 number results t t end u.2.1
-      (leads_then g s (first_world g) w v run.labels (line.Do t (builtin_of u.2.0) results ∷ []) h.leads said) refl refl h.sees.instances refused
+      (leads_then g s (first_world g) w v run.labels (line.Do t (builtin_of u.2.0) results ∷ []) h.leads said) refl refl u.1 h.sees.instances h.sees.made h.sees.taken refused

@@ -69,7 +69,7 @@ use Rattle.world.specs.declared.state.RunState.{RunState}
 use Rattle.world.specs.declared.state.Waiter.{Waiter}
 use Rattle.world.specs.Addresses.{HasOptions}
 use Rattle.world.specs.Called.{lifted_by, IsRunBy}
-use Rattle.world.specs.Parts.{Leads, Meets, with_room, WithUsed}
+use Rattle.world.specs.Parts.{LeadsTo, Meets, with_room, WithUsed}
 use Rattle.world.specs.Seen.{IsCalled, IsTaskCall, AreWaiters, waiters, numbers, IsAtReturn, EndsBy}
 use Rattle.world.specs.Points.{Answers, IsAtFinish}
 use Rattle.world.proofs.Leads.{leads_then, leads_step, meets_here, meets_behind, ends_behind}
@@ -77,7 +77,7 @@ use Rattle.builtins.proofs.Exits.{waiters_same, Heads, heads, KeptHead, kept_hea
 use Rattle.world.specs.Refusing.{IsRefused}
 use Rattle.world.proofs.Refusals.{refused_ends}
 use Rattle.world.proofs.Instancing.{ends_there, safe_there}
-use Rattle.world.proofs.Progress.{lower_there}
+use Rattle.builtins.proofs.Progress.{lower_there}
 use Rattle.builtins.proofs.Options.{lift_options, lower_options}
 use Rattle.builtins.proofs.PlainCalls.{plain_called}
 
@@ -121,7 +121,7 @@ is_running all chain below t task f e there callee (inl b) =
     absurd (not_init f (sym b.1.callee_is ∙ ap (λ (x : Task). x.callee) first ∙ callee))
 
 ended : (g : Graph) (s : Script) (w : World) (lines : List Label) (t : ℕ) (below : List ℕ) (task : Task) (f : Lifted) (k : Stack) (words : List ℕ) → IsSound g s → IsApart g
-    → Leads g s (first_world g) lines w → w.control ≡ Runs → w.chain ≡ t ∷ below → slice_get w.tasks t ≡ Some task → task.stacks ≡ k ∷ [] → task.callee ≡ Func f
+    → LeadsTo g s (first_world g) lines w → w.control ≡ Runs → w.chain ≡ t ∷ below → slice_get w.tasks t ≡ Some task → task.stacks ≡ k ∷ [] → task.callee ≡ Func f
     → core.next w.store k ≡ core.Ends words → Ended g w t below words task f
 ended g s w lines t below task f k words sound apart leads control chain there stacks callee ends =
     let kept : IsKept g s w = (safe_there g s lines w sound apart leads).kept in
@@ -175,7 +175,7 @@ passes_nothing g s taken us task t words result w (inl none) h = to_script g s t
 passes_nothing g s taken us task t words result w (inr none) h = ap (λ (r : Option TypedValue). passed_on g t task.caller words r w) none ∙ no_result g t task.caller words w
 
 no_answer : (g : Graph) (s : Script) (taken : ℕ) (us : List Waiter) (task other : Task) → other.caller ≡ task.caller → IsCalled g s taken us task → Answers us [] other
-no_answer g s taken [] task other same h = tt
+no_answer g s taken [] task other same h = refl
 no_answer g s taken (u ∷ below) task other same h = (called_by u.task u.canon u.words, same ∙ h.caller, refl, refl)
 
 returned_ok : (g : Graph) (t : ℕ) (caller : Caller) (words : List ℕ) (result : Option TypedValue) (w : World)
@@ -265,8 +265,8 @@ module _ (g : Graph) (s : Script) (run : RunState) (t : ℕ) (words : List ℕ) 
       let step : next g s w ≡ Steps [] v = comes (Err trap) e ∙ returned_err g t task.caller words trap (unstacked t (with_control Free w)) in
       subst (λ (name : TrapName). EndsBy g s run (Trapped t name)) (sym named)
       (ends_there g s run v (Trapped t (lift_name trap.why))
-      (subst (λ (ls : List Label). Leads g s (first_world g) ls v) (append-nil run.labels) (leads_then g s (first_world g) w v run.labels [] h.at.stands.leads (leads_step g s w v [] step)))
-      refl h.at.stands.sees.store h.at.stands.sees.instances)
+      (subst (λ (ls : List Label). LeadsTo g s (first_world g) ls v) (append-nil run.labels) (leads_then g s (first_world g) w v run.labels [] h.at.stands.leads (leads_step g s w v [] step)))
+      refl h.at.stands.sees.store h.at.stands.sees.units h.at.stands.sees.instances (changed_length t leaving w.tasks ∙ h.at.stands.sees.made) h.at.stands.sees.taken)
 
   -- The script takes a result by its line. Where there is none, nothing is passed on.
   pub resolves : (result : Option TypedValue) (labels : List Label) → result_of c.func_type.now c.func_type.now.result (bytes_of run.store (memory_of run.store c.lift.options)) words ≡ Ok result
@@ -338,8 +338,11 @@ module _ (g : Graph) (s : Script) (run : RunState) (t : ℕ) (words : List ℕ) 
         ∙ ap (λ (caller : Caller). behind (line.Return t (Some result) ∷ []) (passed_on g t caller words (Some result) resolved_world)) by_task.caller
         ∙ ap (λ (turn : Turn). behind (line.Return t (Some result) ∷ []) turn) (passes_some g t (called_by u.task u.canon u.words) l words result resolved_world lowers)
 
-    lowers_there : Leads g s (first_world g) (run.labels ++ line.Return t (Some result) ∷ []) lowering_world
+    lowers_there : LeadsTo g s (first_world g) (run.labels ++ line.Return t (Some result) ∷ []) lowering_world
     lowers_there = leads_then g s (first_world g) w lowering_world run.labels (line.Return t (Some result) ∷ []) h.at.stands.leads (leads_step g s w lowering_world (line.Return t (Some result) ∷ []) lowers_next)
+
+    made_there : length resolved_world.tasks ≡ run.tasks
+    made_there = changed_length t resolving (changed_at t leaving w.tasks) ∙ changed_length t leaving w.tasks ∙ h.at.stands.sees.made
 
     pub is_lowering : (options : LowerOptions) → IsMemory (memory_of run.store l.options) options.memory run.store → options.realloc ≡ realloc_of run.store l.options
         → IsAtLowering g s lowering_world lowering plan options run.store run.left
@@ -435,9 +438,9 @@ module _ (g : Graph) (s : Script) (run : RunState) (t : ℕ) (words : List ℕ) 
     passing_traps why store after labels said (used, units_are, to) =
         let v : World = with_room lowering_world store used (Doomed t why) in
         ends_there g s (record run { store = store; left = after; labels = labels }) v (Trapped t why)
-        (subst (λ (ls : List Label). Leads g s (first_world g) ls v) (append-nil (run.labels ++ line.Return t (Some result) ∷ []) ∙ sym said)
+        (subst (λ (ls : List Label). LeadsTo g s (first_world g) ls v) (append-nil (run.labels ++ line.Return t (Some result) ∷ []) ∙ sym said)
         (leads_then g s (first_world g) lowering_world v (run.labels ++ line.Return t (Some result) ∷ []) [] lowers_there to))
-        refl refl h.at.stands.sees.instances
+        refl refl units_are h.at.stands.sees.instances made_there h.at.stands.sees.taken
 
     -- A realloc calls a core function of the Canonical ABI: the line is that of the task that called.
     pub passing_call_there : (call : HostCall) (store : Store) (after : ℕ) → WithUsed s after (λ used. LoweredLeads g s lowering_world lowering (came.Refused call) store used) → call.address < length g.canons
@@ -449,9 +452,9 @@ module _ (g : Graph) (s : Script) (run : RunState) (t : ℕ) (words : List ℕ) 
     passing_refused call store after labels more end said refused (used, units_are, to) =
         let v : World = with_room lowering_world store used (Doomed t trap.CannotLeave) in
         refused_ends g s (record run { store = store; left = after; labels = more }) labels v to.0 call.address call.words u.task t end to.1
-        (subst (λ (ls : List Label). Leads g s (first_world g) (ls ++ line.Do u.task (builtin_of to.0) call.words ∷ []) v) (sym said)
+        (subst (λ (ls : List Label). LeadsTo g s (first_world g) (ls ++ line.Do u.task (builtin_of to.0) call.words ∷ []) v) (sym said)
         (leads_then g s (first_world g) lowering_world v (run.labels ++ line.Return t (Some result) ∷ []) (line.Do u.task (builtin_of to.0) call.words ∷ []) lowers_there to.2))
-        refl refl h.at.stands.sees.instances refused
+        refl refl units_are h.at.stands.sees.instances made_there h.at.stands.sees.taken refused
 
     -- No unit is left.
     pub passing_wants : (store : Store) (after : ℕ) (labels : List Label) → labels ≡ run.labels ++ line.Return t (Some result) ∷ []
@@ -463,7 +466,10 @@ module _ (g : Graph) (s : Script) (run : RunState) (t : ℕ) (words : List ℕ) 
           runs = subst (λ (ls : List Label). RunsFrom g s (first_world g) ls last Fuel) (append-nil (run.labels ++ line.Return t (Some result) ∷ []) ∙ sym said)
               (ends_behind g s (first_world g) lowering_world last (run.labels ++ line.Return t (Some result) ∷ []) [] Fuel lowers_there to.1);
           store = refl;
+          units = units_are;
           instances = h.at.stands.sees.instances;
+          made = made_there;
+          taken = h.at.stands.sees.taken;
         }
 
     -- The result is of its type.

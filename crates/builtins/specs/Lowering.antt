@@ -31,7 +31,7 @@ use Rattle.builtins.specs.declared.lower_values.Lowered.{Lowered}
 use Rattle.builtins.specs.declared.lower_values.Lowered.TheVariants as lowered
 use Rattle.builtins.specs.declared.lower_values.Came.{Came}
 use Rattle.builtins.specs.declared.lower_values.Came.TheVariants as came
-use Rattle.world.specs.Parts.{Leads, Meets, with_room, IsSafe}
+use Rattle.world.specs.Parts.{LeadsTo, Meets, with_room, IsSafe}
 use Rattle.world.specs.Stacks.{Refused}
 use Rattle.builtins.specs.Rooms.{IsRoomOf}
 
@@ -49,7 +49,7 @@ pub record IsAtLowering (g : Graph) (s : Script) (w : World) (l : Lowering) (pla
 -- Where it leads, by what comes of it, with the store and the used units that it leaves.
 abbrev pub LoweredLeads : Graph → Script → World → Lowering → Lowered → Store → ℕ → Type 0
 LoweredLeads g s w l (lowered.Words words) store used = Meets g s w [] (machine.lowered l.next words (with_room w store used Free))
-LoweredLeads g s w l (lowered.Trapped why) store used = Leads g s w [] (with_room w store used (Doomed l.blame why))
+LoweredLeads g s w l (lowered.Trapped why) store used = LeadsTo g s w [] (with_room w store used (Doomed l.blame why))
 LoweredLeads g s w l (lowered.Refused call) store used = Refused g s w l.acts_for l.blame call.address call.words store used
 LoweredLeads g s w l lowered.NoFuel store used = (control : Control) × RunsFrom g s w [] (with_room w store used control) Fuel
 
@@ -82,8 +82,8 @@ as_plan (came.Failed why) = follow.Failed why
 as_plan (came.Trapped why) = follow.Ended (Trapped why)
 as_plan came.NoFuel = follow.Ended NoFuel
 
-abbrev pub ComesTo : LowerOptions → Plan → RoomState → Came → RoomState → Type 0
-ComesTo options plan before came after = follow.Follows (Reallocs options) (memory_with options) (Stores options) plan before (as_plan came) after
+abbrev pub PlanComesTo : LowerOptions → Plan → RoomState → Came → RoomState → Type 0
+PlanComesTo options plan before came after = follow.Follows (Reallocs options) (memory_with options) (Stores options) plan before (as_plan came) after
 
 abbrev pub IsCame : Result (List ℕ) (LowerError NestedTrap) → Result Came Want → Type 0
 IsCame (Ok words) result = result ≡ Ok (came.Words words)

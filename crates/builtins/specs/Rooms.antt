@@ -19,7 +19,7 @@ use Rattle.canonical_machine.specs.Control.{Control, Free, Lowering, Lowers, Doo
 use Rattle.canonical_machine.specs.World.{World}
 use Rattle.canonical_machine.specs.Lowering.{lowered}
 use Rattle.canonical_machine.specs.Run.{RunsFrom}
-use Rattle.world.specs.Parts.{Leads, Meets, with_room, WithUsed, IsSafe}
+use Rattle.world.specs.Parts.{LeadsTo, Meets, with_room, WithUsed, IsSafe}
 use Rattle.world.specs.Stacks.{Refused}
 
 -- The address of the memory, where a lowering has one; else an address at which none is.
@@ -37,8 +37,8 @@ pub record IsRoomOf (s : Script) (w : World) (l : Lowering) (options : LowerOpti
 -- Where a lowering leads, by what its plan comes to, with the room that is left and the used units then.
 abbrev pub LoweringLeads : Graph → Script → World → Lowering → Came NestedTrap → RoomState → ℕ → Type 0
 LoweringLeads g s w l (Words words) r used = Meets g s w [] (lowered l.next words (with_room w r.store used Free))
-LoweringLeads g s w l (Failed why) r used = Leads g s w [] (with_room w r.store used (Doomed l.blame (lower_name why)))
-LoweringLeads g s w l (Ended (Trapped (Core why))) r used = Leads g s w [] (with_room w r.store used (Doomed l.blame (core_name why)))
+LoweringLeads g s w l (Failed why) r used = LeadsTo g s w [] (with_room w r.store used (Doomed l.blame (lower_name why)))
+LoweringLeads g s w l (Ended (Trapped (Core why))) r used = LeadsTo g s w [] (with_room w r.store used (Doomed l.blame (core_name why)))
 LoweringLeads g s w l (Ended (Trapped CannotLeave)) r used =
     (call : HostCall) × (r.call ≡ Some call) × Refused g s w l.acts_for l.blame call.address call.words r.store used
 LoweringLeads g s w l (Ended (Trapped NoRealloc)) r used = ⊥

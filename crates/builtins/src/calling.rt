@@ -1,6 +1,6 @@
 //! Calls between components.
 
-ghost use Rattle.std.specs.Prelude.{◌≡◌, ◌<◌, ◌+◌, ◌-◌, ℕ, length, reverse, take, Some, IfOk, IfSome, MatchResult};
+ghost use Rattle.std.specs.Prelude.{◌≡◌, ◌<◌, ◌≤◌, ◌+◌, ◌-◌, ◌^◌, ℕ, length, reverse, take, Some, IfOk, MatchOption, MatchResult};
 ghost use Rattle.std.specs.List.{slice_get};
 ghost use Rattle.comp_graph.specs.declared.graph.Lower.{Lower};
 ghost use Rattle.canonical_machine.specs.Control.{Free};
@@ -9,26 +9,27 @@ ghost use Rattle.canonical_machine.specs.Reading.{lower_at, is_reentrant};
 ghost use Rattle.canonical_machine.specs.Sound.{IsSound};
 ghost use Rattle.canonical_machine.specs.Owners.{IsApart};
 ghost use Rattle.world.specs.Seen.{IsAtCall, IsAtArrival, EndsBy};
-ghost use Rattle.world.specs.Onward.{Begins};
+ghost use Rattle.builtins.specs.NextTask.{BeginsCall};
 ghost use Rattle.builtins.specs.Reentering.{calls_into, reenters};
+ghost use Rattle.builtins.specs.Telling.{AddsCall};
 
 use ca_base::{Memory, Seq};
 use canonical_machine::RunEnd;
 use comp_graph::{CanonFunc, Graph};
-use script_reader::{Call, Item, Script};
+use script_reader::Script;
 use std::alloc::Global;
 use trace_show::{Label, TrapName};
 use wasm_execution::Words;
-use world::{NamedGraph, RunState, Waiter, builtin_of, called_export};
+use world::{
+    NamedGraph, RunState, Waiter, builtin_of, called_export, canon_at, last_call, lower_of,
+};
 
 /// The component instance of the function that the core function of the Canonical ABI of a number calls.
 fn called_instance(graph: &Graph, canon: usize) -> usize
     requires { canon < length graph.now.canons }
     ensures { (l : Lower) → lower_at graph.now canon ≡ Some l → result ≡ l.lift.instance }
 {
-    match &graph.canons()[canon] {
-        CanonFunc::Lower(lower) => lower.lift.instance,
-    }
+    lower_of(canon_at(graph, canon)).lift.instance
 }
 
 /// Whether a task calls into a component instance, by the core function of the Canonical ABI of this number.
@@ -69,16 +70,6 @@ fn others(waiting: &[Waiter]) -> &[Waiter]
     &waiting[..waiting.len() - 1]
 }
 
-/// The call of the script that is taken last, of so many.
-fn last_call(script: &Script, taken: u32) -> &Call
-    requires { (number : ℕ) × (taken ≡ number + 1) × (number < length script.now.items) }
-    ensures { (number : ℕ) → taken ≡ number + 1 → slice_get script.now.items number ≡ Some (Item.Call result.now) }
-{
-    match &script.items()[taken as usize - 1] {
-        Item::Call(call) => call,
-    }
-}
-
 /// The same words.
 fn same_words(alloc: Global, words: &[u64]) -> Result<Words, Memory>
     ensures { IfOk result (λ same. same ≡ words.now) }
@@ -86,9 +77,9 @@ fn same_words(alloc: Global, words: &[u64]) -> Result<Words, Memory>
     Ok(Seq::from_vec(Vec::from_slice(alloc, words)?))
 }
 
-/// The number of a component instance in a line, where those are counted from 1.
+/// The number of a component instance in a line, where those are counted from 1, if it has 32 bits.
 fn line_number(instance: usize) -> Option<u32>
-    ensures { IfSome result (λ number. number ≡ instance + 1) }
+    ensures { MatchOption result (2 ^ 32 ≤ instance + 1) (λ number. number ≡ instance + 1) }
 {
     match u32::try_from(instance) {
         Ok(number) => number.checked_add(1),
@@ -128,7 +119,8 @@ pub(crate) fn begin_call(
     requires apart { IsApart graph.now }
     requires at { IsAtCall graph.now script.now run.old task }
     ensures arrives { IfOk result (λ begun. MatchResult begun (λ t. IsAtArrival graph.now script.now run.new t) (λ end. EndsBy graph.now script.now run.new end)) }
-    ensures begins { IfOk result (λ begun. MatchResult begun (λ t. Begins graph.now run.old run.new) (λ end. Unit {0})) }
+    ensures begins { IfOk result (λ begun. MatchResult begun (λ t. BeginsCall graph.now run.old run.new) (λ end. Unit {0})) }
+    ensures tells { IfOk result (λ begun. AddsCall run.old run.new task begun) }
 {
     let caller = innermost(&run.waiting);
     let canon = caller.canon;

@@ -1,6 +1,6 @@
 //! The entry of tasks.
 
-ghost use Rattle.std.specs.Prelude.{◌≡◌, ◌≤◌, true, false, length, IfOk, MatchResult};
+ghost use Rattle.std.specs.Prelude.{◌≡◌, ◌≤◌, true, false, [], ◌∷◌, length, IfOk, MatchResult};
 ghost use Rattle.ca_types.specs.declared.types.FuncType.{FuncType};
 ghost use Rattle.ca_types.specs.declared.value.Value.{Value};
 ghost use Rattle.ca_types.specs.Fits.{fits};
@@ -16,8 +16,9 @@ ghost use Rattle.world.specs.Addresses.{HasOptions};
 ghost use Rattle.world.specs.Called.{lifted_by};
 ghost use Rattle.world.specs.Passed.{IsAtEntry};
 ghost use Rattle.world.specs.Seen.{IsAtArrival, IsAtStack, EndsBy};
-ghost use Rattle.world.specs.Onward.{Spends};
+ghost use Rattle.world.specs.Changes.{Spends};
 ghost use Rattle.builtins.specs.Lowering.{plan_to};
+ghost use Rattle.builtins.specs.Telling.{Adds, AddsOnly, IsOfEntry, IsStart, IsTaskStart, EndsBeforeStart};
 
 use crate::lower_options::lower_options;
 use crate::lower_values::{Lowered, Target, lower};
@@ -34,7 +35,8 @@ use world::{
     CalledFunc, NamedGraph, RunState, arguments, called_func, func_address, lift_name, refuse,
 };
 
-/// A task enters, by its line, and its arguments are lifted and passed. It answers the stack of its core function, or how the run ends.
+/// A task enters, by its line, and its arguments are lifted and passed. It answers the stack on which its core function starts, or how the
+/// run ends before that.
 pub(crate) fn enter(
     alloc: Global,
     graph: &NamedGraph,
@@ -47,7 +49,9 @@ pub(crate) fn enter(
     requires plain { IsPlain graph.now }
     requires at { IsAtArrival graph.now script.now run.old task }
     ensures enters { IfOk result (λ entered. MatchResult entered (λ k. IsAtStack graph.now script.now run.new task k) (λ end. EndsBy graph.now script.now run.new end)) }
+    ensures starts { IfOk result (λ entered. MatchResult entered (λ k. IsTaskStart graph.now script.now run.old run.new.store k) (λ end. EndsBeforeStart graph.now script.now run.new task end)) }
     ensures spends { IfOk result (λ entered. Spends run.old run.new) }
+    ensures tells { IfOk result (λ entered. MatchResult entered (λ k. Adds run.old run.new 0 (Label.Enter task ∷ [])) (λ end. AddsOnly IsOfEntry run.old run.new)) }
 {
     run.labels.push(Label::Enter { task })?;
     let func = called_func(graph, script, run);
@@ -62,7 +66,8 @@ pub(crate) fn enter(
 }
 
 /// The arguments of the acting task, which has entered, are lowered, and its core function starts with their words. It answers the stack
-/// of that function, or how the run ends.
+/// on which that function starts, or how the run ends before that.
+#[tactic(auto, using(crate::proofs::Telling::entry_none))]
 fn pass(
     alloc: Global,
     graph: &NamedGraph,
@@ -81,7 +86,9 @@ fn pass(
     requires options { HasOptions run.old.store func.now.lift.options }
     requires at { IsAtEntry graph.now script.now run.old task (lifted_by func.now) value.now }
     ensures enters { IfOk result (λ entered. MatchResult entered (λ k. IsAtStack graph.now script.now run.new task k) (λ end. EndsBy graph.now script.now run.new end)) }
+    ensures starts { IfOk result (λ entered. MatchResult entered (λ k. IsStart run.new.store (lifted_by func.now) k) (λ end. EndsBeforeStart graph.now script.now run.new task end)) }
     ensures spends { IfOk result (λ entered. Spends run.old run.new) }
+    ensures tells { IfOk result (λ entered. MatchResult entered (λ k. Adds run.old run.new 0 []) (λ end. AddsOnly IsOfEntry run.old run.new)) }
 {
     let of_type = &func.types.params;
     let options = lower_options(&run.store, func.lift.options);

@@ -1,20 +1,23 @@
 //! Tasks that return and exit, and control that goes back to the tasks that called them.
 
-ghost use Rattle.std.specs.Prelude.{ℕ, List, IfOk};
+ghost use Rattle.std.specs.Prelude.{ℕ, List, [], ◌∷◌, IfOk};
 ghost use Rattle.canonical_machine.specs.Sound.{IsSound};
 ghost use Rattle.canonical_machine.specs.Owners.{IsApart};
 ghost use Rattle.canonical_machine.specs.Plain.{IsPlain};
 ghost use Rattle.world.specs.Points.{IsAtExit, IsAtBack, HasExited};
 ghost use Rattle.world.specs.Seen.{IsAtReturn, IsAtStack};
-ghost use Rattle.world.specs.Onward.{Spends, GoesBack, LeavesAt, Left};
+ghost use Rattle.world.specs.Changes.{Spends};
+ghost use Rattle.builtins.specs.NextTask.{GoesBack, LeavesAt, ExitSpends};
+ghost use Rattle.builtins.specs.Telling.{Adds, AddsExit};
 
+use crate::next_task::Leaving;
 use crate::returning::resolve;
 use ca_base::Memory;
 use script_reader::Script;
 use std::alloc::Global;
 use trace_show::Label;
 use wasm_execution::{Running, Words};
-use world::{Leaving, NamedGraph, RunState, Waiter};
+use world::{NamedGraph, RunState, Waiter};
 
 /// The acting task, whose core function has ended with these words, returns its result and exits. It answers where control goes, or how
 /// the run ends. It fails for want of memory alone.
@@ -30,8 +33,9 @@ pub(crate) fn finish(
     requires apart { IsApart graph.now }
     requires plain { IsPlain graph.now }
     requires at { IsAtReturn graph.now script.now run.old task ended }
-    ensures leaves { IfOk result (λ left. LeavesAt graph.now script.now run.new left) }
-    ensures left { IfOk result (λ left. Left run.old run.new left) }
+    ensures leaves { IfOk result (λ leaving. LeavesAt graph.now script.now run.new leaving) }
+    ensures spends { IfOk result (λ leaving. ExitSpends run.old run.new leaving) }
+    ensures tells { IfOk result (λ leaving. AddsExit run.old run.new task leaving) }
 {
     match resolve(alloc, graph, script, run, task, ended)? {
         Ok(words) => {
@@ -57,6 +61,7 @@ pub(crate) fn exit(
     requires apart { IsApart graph.now }
     ensures exits { IfOk result (λ waits. (words : List ℕ) → IsAtExit graph.now script.now run.old task words → HasExited graph.now script.now run.new words waits) }
     ensures spends { IfOk result (λ waits. Spends run.old run.new) }
+    ensures tells { IfOk result (λ waits. Adds run.old run.new 0 (Label.Exit task ∷ [])) }
 {
     run.labels.push(Label::Exit { task })?;
     if run.waiting.is_empty() {
@@ -79,6 +84,7 @@ pub(crate) fn go_back(
     requires back { IsAtBack graph.now script.now run.old words }
     ensures at { IfOk result (λ next. IsAtStack graph.now script.now run.new next.0 next.1) }
     ensures fewer { IfOk result (λ next. GoesBack run.old run.new words next.1) }
+    ensures tells { IfOk result (λ next. Adds run.old run.new 0 (Label.Got next.0 words ∷ [])) }
 {
     let Some(waiter) = run.waiting.pop() else {
         unreachable!()

@@ -1,22 +1,23 @@
 //! A call of the script, from the arrival of its task to the exit: tasks call one another, and control comes back to them.
 
-ghost use Rattle.std.specs.Prelude.{◌≤◌, IfOk, MatchResult, MatchOption};
+ghost use Rattle.std.specs.Prelude.{◌≡◌, ◌≤◌, IfOk, MatchResult, MatchOption};
 ghost use Rattle.canonical_machine.specs.Sound.{IsSound};
 ghost use Rattle.canonical_machine.specs.Owners.{IsApart};
 ghost use Rattle.canonical_machine.specs.Plain.{IsPlain};
 ghost use Rattle.world.specs.Seen.{IsAtFree, IsAtArrival, IsAtStack, IsAtReturn, EndsBy};
 ghost use Rattle.world.specs.Starting.{GoesOrEnds};
-ghost use Rattle.world.specs.Onward.{AreHeld, GoesOnAt, WentOn, Descends, Ascends, IsReturned, IsLeft};
+ghost use Rattle.builtins.specs.NextTask.{AreHeld, GoesOnAt, WentOn, Descends, Ascends, IsReturned, HasAscended};
 
 use crate::calling::begin_call;
 use crate::entering::enter;
 use crate::leaving::{finish, go_back};
+use crate::next_task::{Leaving, Onward};
 use ca_base::Memory;
 use canonical_machine::RunEnd;
 use script_reader::Script;
 use std::alloc::Global;
 use wasm_execution::{Running, Words};
-use world::{Leaving, NamedGraph, Onward, RunState, Stop, run_stack, take_item};
+use world::{NamedGraph, RunState, Stop, run_stack, take_item};
 
 /// Runs the items of the script that are left, one after the other, and answers how the run ends.
 pub(crate) fn run_items(
@@ -59,6 +60,7 @@ fn run_call(
     requires held { AreHeld run.old.waiting.items }
     ensures goes { IfOk result (λ ended. GoesOrEnds graph.now script.now run.new (IsAtFree graph.now script.now run.new) ended) }
     ensures spends { IfOk result (λ ended. MatchOption ended (run.new.left ≤ run.old.left) (λ end. Unit {0})) }
+    ensures takes_none { IfOk result (λ ended. run.new.taken ≡ run.old.taken) }
 {
     let mut task = first;
     loop {
@@ -87,7 +89,8 @@ fn descend(
     requires plain { IsPlain graph.now }
     requires at { IsAtArrival graph.now script.now run.old first }
     requires held { AreHeld run.old.waiting.items }
-    ensures { IfOk result (λ returned. MatchResult returned (λ r. IsReturned graph.now script.now run.old run.new r.0 r.1) (λ end. EndsBy graph.now script.now run.new end)) }
+    ensures goes { IfOk result (λ returned. MatchResult returned (λ r. IsReturned graph.now script.now run.old run.new r.0 r.1) (λ end. EndsBy graph.now script.now run.new end)) }
+    ensures takes_none { IfOk result (λ returned. run.new.taken ≡ run.old.taken) }
 {
     let mut task = first;
     loop {
@@ -114,7 +117,8 @@ fn ascend(
     requires plain { IsPlain graph.now }
     requires at { IsAtReturn graph.now script.now run.old first ended }
     requires held { AreHeld run.old.waiting.items }
-    ensures { IfOk result (λ left. MatchResult left (λ next. IsLeft graph.now script.now run.old run.new next) (λ end. EndsBy graph.now script.now run.new end)) }
+    ensures goes { IfOk result (λ ascended. MatchResult ascended (λ next. HasAscended graph.now script.now run.old run.new next) (λ end. EndsBy graph.now script.now run.new end)) }
+    ensures takes_none { IfOk result (λ ascended. run.new.taken ≡ run.old.taken) }
 {
     let mut task = first;
     let mut words = ended;
@@ -132,6 +136,7 @@ fn ascend(
 }
 
 /// A task enters, and its stack runs. It answers which task is next.
+#[tactic(auto, using(crate::proofs::Telling::entry_takes_none))]
 fn arrive(
     alloc: Global,
     graph: &NamedGraph,
@@ -146,6 +151,7 @@ fn arrive(
     requires held { AreHeld run.old.waiting.items }
     ensures goes { IfOk result (λ next. GoesOnAt graph.now script.now run.new next) }
     ensures descends { IfOk result (λ next. Descends graph.now run.old run.new next) }
+    ensures takes_none { IfOk result (λ next. run.new.taken ≡ run.old.taken) }
 {
     match enter(alloc, graph, script, run, task)? {
         Ok(running) => run_on(alloc, graph, script, run, task, running),
@@ -154,6 +160,7 @@ fn arrive(
 }
 
 /// A task exits, and where another one waits for it, control goes back and its stack runs. It answers which task is next, where one is.
+#[tactic(auto, using(crate::proofs::Telling::exit_takes_none))]
 fn leave(
     alloc: Global,
     graph: &NamedGraph,
@@ -169,6 +176,7 @@ fn leave(
     requires held { AreHeld run.old.waiting.items }
     ensures goes { IfOk result (λ next. MatchOption next (IsAtFree graph.now script.now run.new) (λ next. GoesOnAt graph.now script.now run.new next)) }
     ensures ascends { IfOk result (λ next. MatchOption next (run.new.left ≤ run.old.left) (λ next. Ascends run.old run.new next)) }
+    ensures takes_none { IfOk result (λ next. run.new.taken ≡ run.old.taken) }
 {
     match finish(alloc, graph, script, run, task, words)? {
         Leaving::Free => Ok(None),
@@ -181,6 +189,7 @@ fn leave(
 }
 
 /// Runs the stack of the acting task, and begins the call that it makes, where it makes one. It answers which task is next.
+#[tactic(auto, using(crate::proofs::Telling::call_takes_none))]
 fn run_on(
     alloc: Global,
     graph: &NamedGraph,
@@ -195,6 +204,7 @@ fn run_on(
     requires at { IsAtStack graph.now script.now run.old task running }
     ensures goes { IfOk result (λ next. GoesOnAt graph.now script.now run.new next) }
     ensures went { IfOk result (λ next. WentOn graph.now run.old run.new running next) }
+    ensures takes_none { IfOk result (λ next. run.new.taken ≡ run.old.taken) }
 {
     match run_stack(alloc, graph.graph(), script, task, running, run)? {
         Stop::AtCall => match begin_call(alloc, graph, script, task, run)? {

@@ -11,7 +11,7 @@ ghost use Rattle.canonical_machine.specs.Control.{Lowering};
 ghost use Rattle.canonical_machine.specs.World.{World};
 ghost use Rattle.copy_engine.specs.Rooms.{Same, IfTold, Lowers, state_of};
 ghost use Rattle.world.specs.Parts.{WithUsed};
-ghost use Rattle.builtins.specs.Lowering.{plan_to, IsAtLowering, LoweredLeads, CanTellTrap, TellsTrap, CanTell, Tells, ComesTo, IsCame};
+ghost use Rattle.builtins.specs.Lowering.{plan_to, IsAtLowering, LoweredLeads, CanTellTrap, TellsTrap, CanTell, Tells, PlanComesTo, IsCame};
 
 use ca_base::{Fuel, Memory, Seq};
 use ca_types::Value;
@@ -130,7 +130,7 @@ fn lower_over(
     requires ends { has_end t.now ≡ false }
     requires fits { fits value.now t.now ≡ true }
     requires few { to ≡ Target.Flat → length (flat t.now) ≤ 16 }
-    ensures { IfOk result (λ kept. ComesTo options (plan_to to t.now value.now) (record { store = store.old; units = left.old; call = None }) kept.came (record { store = store.new; units = left.new; call = kept.call })) }
+    ensures { IfOk result (λ kept. PlanComesTo options (plan_to to t.now value.now) (record { store = store.old; units = left.old; call = None }) kept.came (record { store = store.new; units = left.new; call = kept.call })) }
 {
     let mut kept = None;
     let done = {
@@ -167,7 +167,7 @@ fn lower_in(
     requires ends { has_end t.now ≡ false }
     requires fits { fits value.now t.now ≡ true }
     requires few { to ≡ Target.Flat → length (flat t.now) ≤ 16 }
-    ensures { IfOk result (λ done. ComesTo room.old.options (plan_to to t.now value.now) (state_of room.old) done.came (record { store = done.taken.store; units = done.taken.fuel; call = done.taken.call })) }
+    ensures { IfOk result (λ done. PlanComesTo room.old.options (plan_to to t.now value.now) (state_of room.old) done.came (record { store = done.taken.store; units = done.taken.fuel; call = done.taken.call })) }
 {
     let lowered = words_in(alloc, room, value, t, to);
     let came = came_of(lowered)?;

@@ -15,7 +15,8 @@ ghost use Rattle.canonical_machine.specs.Owners.{IsApart};
 ghost use Rattle.canonical_machine.specs.Plain.{IsPlain};
 ghost use Rattle.world.specs.Called.{lifted_by, IsRunBy};
 ghost use Rattle.builtins.specs.Lowering.{plan_to};
-ghost use Rattle.world.specs.Onward.{Spends};
+ghost use Rattle.builtins.specs.Telling.{AddsOnly, IsOfReturn};
+ghost use Rattle.world.specs.Changes.{Spends};
 ghost use Rattle.world.specs.Points.{IsAtFinish};
 ghost use Rattle.world.specs.Seen.{IsCalled, waiters, IsAtReturn, EndsBy};
 
@@ -53,6 +54,7 @@ pub(crate) fn lower_result(
     requires lifts { result_of func.now.func_type.now func.now.func_type.now.result (bytes_of run.old.store (memory_of run.old.store func.now.lift.options)) ended.now ≡ Ok (Some typed) }
     ensures goes { IfOk result (λ passed. MatchResult passed (λ words. IsAtFinish graph.now script.now run.new task (lifted_by func.now) ended.now words) (λ end. EndsBy graph.now script.now run.new end)) }
     ensures spends { IfOk result (λ passed. MatchResult passed (λ words. Spends run.old run.new) (λ end. Unit {0})) }
+    ensures tells { IfOk result (λ passed. AddsOnly IsOfReturn run.old run.new) }
 {
     let Some(of_type) = &func.types.returned else {
         unreachable!()

@@ -6,7 +6,8 @@ ghost use Rattle.canonical_machine.specs.Owners.{IsApart};
 ghost use Rattle.world.specs.Called.{lifted_by};
 ghost use Rattle.world.specs.Points.{IsAtFinish, IsAtPostReturn, IsAtExit};
 ghost use Rattle.world.specs.Starting.{GoesOrEnds};
-ghost use Rattle.world.specs.Onward.{SpendsOrEnds};
+ghost use Rattle.builtins.specs.NextTask.{SpendsOrEnds};
+ghost use Rattle.builtins.specs.Telling.{AddsOnly, IsOfReturn};
 
 use ca_base::Memory;
 use canonical_machine::RunEnd;
@@ -18,6 +19,7 @@ use world::{CalledFunc, RunState, core_name, func_address, refuse};
 
 /// Runs the post-return of the function that the acting task runs, if it has one, with the words with which its core function ended. It
 /// answers how the run ends, if it does so there; else the task is to exit.
+#[tactic(auto, using(crate::proofs::Telling::return_none))]
 pub(crate) fn post_return(
     alloc: Global,
     graph: &Graph,
@@ -32,6 +34,7 @@ pub(crate) fn post_return(
     requires at { (words : List ℕ) × IsAtFinish graph.now script.now state.old task (lifted_by func.now) ended.now words }
     ensures goes { IfOk result (λ end. (words : List ℕ) → IsAtFinish graph.now script.now state.old task (lifted_by func.now) ended.now words → GoesOrEnds graph.now script.now state.new (IsAtExit graph.now script.now state.new task words) end) }
     ensures spends { IfOk result (λ end. SpendsOrEnds state.old state.new end) }
+    ensures tells { IfOk result (λ end. AddsOnly IsOfReturn state.old state.new) }
 {
     let Some(post_return) = func.lift.options.post_return else {
         return Ok(None);
@@ -44,6 +47,7 @@ pub(crate) fn post_return(
 
 /// Runs the stack of a post-return, and answers how the run ends, if it does so there. A call of a core function of the Canonical ABI
 /// is written, and is a trap.
+#[tactic(auto, using(crate::proofs::Telling::return_none))]
 fn run_post_return(
     alloc: Global,
     graph: &Graph,
@@ -57,6 +61,7 @@ fn run_post_return(
     requires at { (words : List ℕ) × IsAtPostReturn graph.now script.now state.old task running words }
     ensures goes { IfOk result (λ end. (words : List ℕ) → IsAtPostReturn graph.now script.now state.old task running words → GoesOrEnds graph.now script.now state.new (IsAtExit graph.now script.now state.new task words) end) }
     ensures spends { IfOk result (λ end. SpendsOrEnds state.old state.new end) }
+    ensures tells { IfOk result (λ end. AddsOnly IsOfReturn state.old state.new) }
 {
     match run(alloc, running, &mut state.store, &mut state.left) {
         Outcome::Done(_words) => Ok(None),

@@ -11,7 +11,9 @@ ghost use Rattle.world.specs.Called.{lifted_by, IsRunBy};
 ghost use Rattle.world.specs.Seen.{IsCalled, waiters, IsAtReturn, EndsBy};
 ghost use Rattle.world.specs.Points.{IsAtFinish, IsAtExit};
 ghost use Rattle.world.specs.Starting.{GoesOrEnds};
-ghost use Rattle.world.specs.Onward.{Spends, SpendsOrEnds};
+ghost use Rattle.world.specs.Changes.{Spends};
+ghost use Rattle.builtins.specs.NextTask.{SpendsOrEnds};
+ghost use Rattle.builtins.specs.Telling.{AddsOnly, IsOfReturn};
 
 use crate::passing::lower_result;
 use crate::post_returning::post_return;
@@ -39,6 +41,7 @@ pub(crate) fn resolve(
     requires at { IsAtReturn graph.now script.now run.old task ended }
     ensures goes { IfOk result (λ resolved. MatchResult resolved (λ words. IsAtExit graph.now script.now run.new task words) (λ end. EndsBy graph.now script.now run.new end)) }
     ensures spends { IfOk result (λ resolved. MatchResult resolved (λ words. Spends run.old run.new) (λ end. Unit {0})) }
+    ensures tells { IfOk result (λ resolved. AddsOnly IsOfReturn run.old run.new) }
 {
     if !run.waiting.is_empty() {
         return finish_for_task(alloc, graph, script, task, ended.as_slice(), run);
@@ -52,6 +55,7 @@ pub(crate) fn resolve(
 /// What follows where the core function of the acting task, which another one called, has ended with these words: the result is lifted, the
 /// task resolves to it by its line, it is lowered into the task that called, and the post-return runs. It answers the words for that
 /// task, or how the run ends.
+#[tactic(auto, using(crate::proofs::Telling::return_none, crate::proofs::Telling::return_then))]
 fn finish_for_task(
     alloc: Global,
     graph: &NamedGraph<'_, '_>,
@@ -67,6 +71,7 @@ fn finish_for_task(
     requires at { IsAtReturn graph.now script.now run.old task ended.now }
     ensures goes { IfOk result (λ resolved. MatchResult resolved (λ words. IsAtExit graph.now script.now run.new task words) (λ end. EndsBy graph.now script.now run.new end)) }
     ensures spends { IfOk result (λ resolved. MatchResult resolved (λ words. Spends run.old run.new) (λ end. Unit {0})) }
+    ensures tells { IfOk result (λ resolved. AddsOnly IsOfReturn run.old run.new) }
 {
     let func = called_func(graph, script, run);
     match lifted_result(alloc, &run.store, &func, ended) {
@@ -106,6 +111,7 @@ fn pass_on(
     requires lifts { result_of func.now.func_type.now func.now.func_type.now.result (bytes_of run.old.store (memory_of run.old.store func.now.lift.options)) ended.now ≡ Ok value }
     ensures goes { IfOk result (λ passed. MatchResult passed (λ words. IsAtFinish graph.now script.now run.new task (lifted_by func.now) ended.now words) (λ end. EndsBy graph.now script.now run.new end)) }
     ensures spends { IfOk result (λ passed. MatchResult passed (λ words. Spends run.old run.new) (λ end. Unit {0})) }
+    ensures tells { IfOk result (λ passed. AddsOnly IsOfReturn run.old run.new) }
 {
     match value {
         Some(result) => lower_result(alloc, graph, script, task, func, ended, result, run),
@@ -119,6 +125,7 @@ fn pass_on(
 /// What follows where the core function of the acting task, which the script called, has ended with these words: the result is lifted,
 /// the task resolves to it by its line, which is all that the script takes, and the post-return runs. It answers how the run ends, if
 /// it does so there; else the task is to exit.
+#[tactic(auto, using(crate::proofs::Telling::return_none, crate::proofs::Telling::return_told, crate::proofs::Telling::return_then))]
 fn finish_for_script(
     alloc: Global,
     graph: &NamedGraph<'_, '_>,
@@ -134,6 +141,7 @@ fn finish_for_script(
     requires at { IsAtReturn graph.now script.now state.old task ended.now }
     ensures goes { IfOk result (λ end. GoesOrEnds graph.now script.now state.new (IsAtExit graph.now script.now state.new task []) end) }
     ensures spends { IfOk result (λ end. SpendsOrEnds state.old state.new end) }
+    ensures tells { IfOk result (λ end. AddsOnly IsOfReturn state.old state.new) }
 {
     let func = called_func(graph, script, state);
     match lifted_result(alloc, &state.store, &func, ended) {

@@ -25,7 +25,7 @@ use Rattle.canonical_machine.specs.Next.{next}
 use Rattle.canonical_machine.specs.Run.{RunsFrom}
 use Rattle.canonical_machine.specs.declared.run_end.RunEnd.TheVariants.{Fuel}
 use Rattle.canonical_machine.proofs.Changed.{changed_there}
-use Rattle.world.specs.Parts.{Leads, Meets, with_room}
+use Rattle.world.specs.Parts.{LeadsTo, Meets, with_room}
 use Rattle.world.specs.Stacks.{RunsStack, StackLeads, StacksLead}
 use Rattle.world.proofs.Leads.{meets_step}
 use Rattle.world.proofs.Moving.{moves_lead, comes_to, waits_at, with_used, run_spends}
@@ -113,9 +113,9 @@ module _ (g : Graph) (s : Script) (w : World) (t : ℕ) (task : Task) (acts : sl
   traps a used k why = refl
 
   stack_steps : (a b : Store) (k l : Stack) (used now spent : ℕ) → here a used k ≡ w → Steps spent a k b l → now ≡ used + spent → now ≤ s.fuel
-      → Leads g s w [] (with_stack t l (with_room w b now Runs))
+      → LeadsTo g s w [] (with_stack t l (with_room w b now Runs))
   stack_steps a b k l used now spent same h e few =
-      subst (λ (v : World). Leads g s v [] (here b now l)) same (moves_lead g s w here does turns goes h.0 spent a b k l used now h.1 e few)
+      subst (λ (v : World). LeadsTo g s v [] (here b now l)) same (moves_lead g s w here does turns goes h.0 spent a b k l used now h.1 e few)
 
   pub stack_leads : (outcome : Outcome) (a b : Store) (k : Stack) (left after used now : ℕ) → here a used k ≡ w → RunGives a k left outcome b after
       → used + left ≡ s.fuel → now + after ≡ s.fuel → StackLeads g s w t task outcome b now
@@ -124,13 +124,13 @@ module _ (g : Graph) (s : Script) (w : World) (t : ℕ) (task : Task) (acts : sl
       (subst (Meets g s (here a used k) []) (ends b now h.last words)
       (comes_to g s w here does turns goes a b k left after used now (core.Ends words) h before behind))
   stack_leads (outcome.Calls address words waiting) a b k left after used now same h before behind =
-      subst (λ (v : World). Leads g s v [] (with_stack t waiting.stack (with_room w b now (Calls address words)))) same
+      subst (λ (v : World). LeadsTo g s v [] (with_stack t waiting.stack (with_room w b now (Calls address words)))) same
       (meets_step g s (here a used k) (with_stack t waiting.stack (with_room w b now (Calls address words))) [] []
       (subst (Meets g s (here a used k) []) (waits b now h.comes.last waiting.stack address words)
       (comes_to g s w here does turns goes a b k left after used now (core.Calls address words waiting.stack) h.comes before behind)))
   stack_leads (outcome.Trapped why) a b k left after used now same h before behind = (
     h.last,
-    subst (λ (v : World). Leads g s v [] (with_stack t h.last (with_room w b now (Doomed t (core_name why))))) same
+    subst (λ (v : World). LeadsTo g s v [] (with_stack t h.last (with_room w b now (Doomed t (core_name why))))) same
         (meets_step g s (here a used k) (with_stack t h.last (with_room w b now (Doomed t (core_name why)))) [] []
         (subst (Meets g s (here a used k) []) (traps b now h.last why)
         (comes_to g s w here does turns goes a b k left after used now (Traps why) h before behind))),
@@ -152,6 +152,6 @@ stacks_lead g s w t task k outcome store left after runs before gives =
 
 -- Steps of the stack lead to where it stands behind them.
 pub steps_lead : (g : Graph) (s : Script) (w : World) (t : ℕ) (task : Task) (k l : Stack) (store : Store) (left after spent : ℕ) → RunsStack w t task k → w.units + left ≡ s.fuel
-    → Steps spent w.store k store l → left ≡ after + spent → Leads g s w [] (with_stack t l (with_room w store (w.units + spent) Runs))
+    → Steps spent w.store k store l → left ≡ after + spent → LeadsTo g s w [] (with_stack t l (with_room w store (w.units + spent) Runs))
 steps_lead g s w t task k l store left after spent runs before steps paid =
     stack_steps g s w t task runs.acts runs.there w.store store k l w.units (w.units + spent) spent (stack_here w t task k runs) steps refl (omega (arith, before, paid))

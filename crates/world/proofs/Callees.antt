@@ -1,8 +1,9 @@
 -- The functions that tasks run.
-use Rattle.std.proofs.Common.{◌≡◌, ◌+◌, ◌-◌, ℕ, zero, suc, List, [], ◌∷◌, length, reverse, sym, ap, ◌∙◌, subst, arith, Option, Some}
+use Rattle.std.proofs.Common.{◌≡◌, ◌<◌, ◌+◌, ◌-◌, ℕ, zero, suc, List, [], ◌∷◌, length, reverse, sym, ap, ◌∙◌, subst, arith, Option, Some}
 use mathlib.Core.List.{reverse_aux}
 use Rattle.std.specs.List.{slice_get}
 use Rattle.std.specs.Option.{option_and_then}
+use Rattle.std.proofs.lemmas.Option.{slice_get_within}
 use Rattle.ca_base.specs.Names.{first_named}
 use Rattle.ca_types.specs.declared.exports.Export.{Export}
 use Rattle.comp_graph.specs.declared.graph.CanonFunc.{CanonFunc}
@@ -59,6 +60,9 @@ exported_is g name number e lift h c whole first there lifts is type passed f na
     is type (passed e there)
 
 -- what the last item taken calls
+pub call_there : (g : Graph) (s : Script) (taken : ℕ) (task : Task) → IsScriptCall g s taken task → (number : ℕ) × (taken ≡ number + 1) × (number < length s.items)
+call_there g s taken task h = (h.number, h.last, slice_get_within s.items h.number (item.Call h.call) h.there)
+
 call_same : (a b : Call) → Some (item.Call a) ≡ Some (item.Call b) → a ≡ b
 call_same a b e = cc
 

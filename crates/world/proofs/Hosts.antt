@@ -9,7 +9,7 @@ use Rattle.script_reader.specs.Script.{Script}
 use Rattle.canonical_machine.specs.World.{Task, first_store, first_world}
 use Rattle.world.specs.declared.state.RunState.{RunState}
 use Rattle.world.specs.declared.state.Waiter.{Waiter}
-use Rattle.world.specs.Parts.{Leads}
+use Rattle.world.specs.Parts.{LeadsTo}
 use Rattle.world.specs.Seen.{AreWaiters, IsAtPlan}
 use Rattle.world.proofs.Leads.{leads_none}
 
@@ -31,7 +31,7 @@ first_at_plan g s run types store are left labels instances tasks taken none = r
   none = none;
   stands = record {
     world = first_world g;
-    leads = subst (λ (ls : _). Leads g s (first_world g) ls (first_world g)) (sym labels) (leads_none g s (first_world g));
+    leads = subst (λ (ls : _). LeadsTo g s (first_world g) ls (first_world g)) (sym labels) (leads_none g s (first_world g));
     sees = record {
       store = sym (store ∙ hosts_are g types are);
       units = omega (arith, left);

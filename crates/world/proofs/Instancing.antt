@@ -37,27 +37,30 @@ use Rattle.canonical_machine.proofs.Changed.{drop_next, changed_length}
 use Rattle.canonical_machine.proofs.Graphs.{hosts_of}
 use Rattle.canonical_machine.proofs.Imports.{ImportsAreThere, imports_match, imported_behind}
 use Rattle.world.specs.declared.state.RunState.{RunState}
-use Rattle.world.specs.Parts.{Leads, IsSafe}
+use Rattle.world.specs.Parts.{LeadsTo, IsSafe}
 use Rattle.world.specs.Seen.{IsAtPlan, IsAtFree, EndsBy}
 use Rattle.world.specs.Starting.{IsStarting}
 use Rattle.world.proofs.Leads.{leads_step, leads_then, leads_safe, first_safe}
 use Rattle.world.proofs.Hosts.{none_wait}
 
 -- A step more, without lines, and an end.
-pub step_more : (g : Graph) (s : Script) (u w v : World) (lines : List Label) → Leads g s u lines w → next g s w ≡ Steps [] v → Leads g s u lines v
-step_more g s u w v lines l e = subst (λ (ls : List Label). Leads g s u ls v) (append-nil lines) (leads_then g s u w v lines [] l (leads_step g s w v [] e))
+pub step_more : (g : Graph) (s : Script) (u w v : World) (lines : List Label) → LeadsTo g s u lines w → next g s w ≡ Steps [] v → LeadsTo g s u lines v
+step_more g s u w v lines l e = subst (λ (ls : List Label). LeadsTo g s u ls v) (append-nil lines) (leads_then g s u w v lines [] l (leads_step g s w v [] e))
 
-pub safe_there : (g : Graph) (s : Script) (lines : List Label) (w : World) → IsSound g s → IsApart g → Leads g s (first_world g) lines w → IsSafe g s w
+pub safe_there : (g : Graph) (s : Script) (lines : List Label) (w : World) → IsSound g s → IsApart g → LeadsTo g s (first_world g) lines w → IsSafe g s w
 safe_there g s lines w sound apart l = leads_safe g s (first_world g) w lines (first_safe g s sound apart) l
 
 -- The run ends in a world in which this end comes next.
-pub ends_there : (g : Graph) (s : Script) (run : RunState) (w : World) (end : RunEnd) → Leads g s (first_world g) run.labels w → next g s w ≡ Ends end → w.store ≡ run.store → w.instances ≡ run.instances
-    → EndsBy g s run end
-ends_there g s run w end l e store instances = record {
+pub ends_there : (g : Graph) (s : Script) (run : RunState) (w : World) (end : RunEnd) → LeadsTo g s (first_world g) run.labels w → next g s w ≡ Ends end → w.store ≡ run.store → w.units + run.left ≡ s.fuel
+    → w.instances ≡ run.instances → length w.tasks ≡ run.tasks → w.taken ≡ run.taken → EndsBy g s run end
+ends_there g s run w end l e store units instances made taken = record {
   last = w;
   runs = (l.0, l.1, e, l.2);
   store = store;
+  units = units;
   instances = instances;
+  made = made;
+  taken = taken;
 }
 
 -- What comes next at an action of the plan.
@@ -209,7 +212,8 @@ segment_ends g s run n number c es t at comes there are is =
     let w : World = at.stands.world in
     let v : World = with_control (Doomed 0 trap.SegmentBounds) (with_store t w) in
     let step = making_turn g s run n number c es (SegmentBounds t) (record { at = at; comes = comes; there = there; are = are; is = is }) ∙ bounds_step n c es t (with_control Free w) in
-    ends_there g s (record run { store = t }) v (Trapped 0 trap.SegmentBounds) (step_more g s (first_world g) w v run.labels at.stands.leads step) refl refl at.stands.sees.instances
+    let sees = at.stands.sees in
+    ends_there g s (record run { store = t }) v (Trapped 0 trap.SegmentBounds) (step_more g s (first_world g) w v run.labels at.stands.leads step) refl refl sees.units sees.instances sees.made sees.taken
 
 -- All segments are written.
 made_step : (n : ℕ) (c : CoreMake) (es : List External) (t : Store) (w : World)

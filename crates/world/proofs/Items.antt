@@ -1,5 +1,5 @@
 -- Items that are taken, where no task runs.
-use Rattle.std.proofs.Common.{◌≡◌, ◌≤◌, ◌<◌, ◌+◌, ℕ, true, List, [], ◌∷◌, ◌++◌, length, map, reverse, refl, sym, ap, ◌∙◌, subst, arith, length-append, Option, Some, None}
+use Rattle.std.proofs.Common.{◌≡◌, ◌≤◌, ◌<◌, ◌+◌, ◌-◌, ℕ, true, List, [], ◌∷◌, ◌++◌, length, map, reverse, refl, sym, ap, ◌∙◌, subst, arith, length-append, Option, Some, None}
 use Rattle.std.specs.List.{slice_get}
 use Rattle.std.proofs.lemmas.Option.{slice_get_within}
 use Rattle.core_machine.proofs.Lists.{all_at}
@@ -32,7 +32,7 @@ use Rattle.canonical_machine.specs.Tasks.{IsChain}
 use Rattle.canonical_machine.proofs.Deadlocks.{no_deadlock}
 use Rattle.world.specs.declared.state.Waiter.{Waiter}
 use Rattle.world.specs.declared.state.RunState.{RunState}
-use Rattle.world.specs.Parts.{Leads, IsSafe}
+use Rattle.world.specs.Parts.{LeadsTo, IsSafe}
 use Rattle.world.specs.Seen.{IsCalled, IsScriptCall, numbers, IsAtFree, IsAtArrival, EndsBy}
 use Rattle.world.proofs.Leads.{leads_then, leads_step}
 use Rattle.world.proofs.Moving.{charged_left, charged_none}
@@ -97,7 +97,7 @@ all_done g s run h e =
     let l = h.stands.leads in
     ends_there g s run w Done l
     (done_by g s l.0 w (unfinished (with_control Free w)) l.1 (free_next g s run None h e ∙ none_next g s (with_control Free w)))
-    h.stands.sees.store h.stands.sees.instances
+    h.stands.sees.store h.stands.sees.units h.stands.sees.instances h.stands.sees.made h.stands.sees.taken
 
 -- A call comes, and costs a unit.
 call_next : (g : Graph) (s : Script) (call : Call) (f : Lifted) (w : World) → func_named g call.name ≡ Some f → w.units + 1 ≤ s.fuel
@@ -111,14 +111,15 @@ call_wants : (g : Graph) (s : Script) (call : Call) (w : World) → s.fuel ≤ w
 unfolding item_turn
 call_wants g s call w none = charged_none s w (λ v. given (func_named g call.name) (λ f. taken call f v)) none
 
-pub item_wants : (g : Graph) (s : Script) (run : RunState) (call : Call) (left : ℕ) → IsAtFree g s run → slice_get s.items run.taken ≡ Some (item.Call call) → run.left ≡ 0
+pub item_wants : (g : Graph) (s : Script) (run : RunState) (call : Call) (left : ℕ) → IsAtFree g s run → slice_get s.items run.taken ≡ Some (item.Call call) → run.left ≡ 0 → left ≡ run.left - 1
     → EndsBy g s (record run { left = left }) Fuel
-item_wants g s run call left h e none =
+item_wants g s run call left h e none same =
     let w : World = h.stands.world in
-    let units = h.stands.sees.units in
+    let sees = h.stands.sees in
+    let units = sees.units in
     let all : s.fuel ≤ w.units = omega (arith, units, none) in
     ends_there g s (record run { left = left }) w Fuel h.stands.leads
-    (free_next g s run (Some (item.Call call)) h e ∙ call_wants g s call (with_control Free w) all) h.stands.sees.store h.stands.sees.instances
+    (free_next g s run (Some (item.Call call)) h e ∙ call_wants g s call (with_control Free w) all) sees.store (omega (arith, units, none, same)) sees.instances sees.made sees.taken
 
 taken_step : (call : Call) (f : Lifted) (w : World)
     → taken call f w ≡ Steps (line.Take (w.taken + 1) (length w.tasks) call.name (arguments_typed f call.values) ∷ []) (begun (Func f) (Host call.values) (item_taken w))
@@ -160,7 +161,7 @@ call_taken g s run call f left tasks labels sound apart h there named paid more 
     record {
       stands = record {
         world = v;
-        leads = subst (λ (ls : List Label). Leads g s (first_world g) ls v) same
+        leads = subst (λ (ls : List Label). LeadsTo g s (first_world g) ls v) same
             (leads_then g s (first_world g) w v run.labels (line.Take (w.taken + 1) (length w.tasks) call.name args ∷ []) h.stands.leads
             (leads_step g s w v (line.Take (w.taken + 1) (length w.tasks) call.name args ∷ []) step));
         sees = record {

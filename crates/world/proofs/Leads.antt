@@ -11,29 +11,29 @@ use Rattle.canonical_machine.specs.Run.{Reaches, lines_of, RunsFrom}
 use Rattle.canonical_machine.proofs.Worlds.{first_kept, stays_kept}
 use Rattle.canonical_machine.proofs.ApartSteps.{first_apart, apart_stays}
 use Rattle.canonical_machine.proofs.Apart.{never_stuck}
-use Rattle.world.specs.Parts.{Leads, Meets, IsSafe}
+use Rattle.world.specs.Parts.{LeadsTo, Meets, IsSafe}
 use Rattle.world.specs.PartLaws.{PartsJoin, MeetsBehind, EndsBehind, StepFollows, EndFollows, FirstSafe, SafeStays, SafeMoves}
 
 -- no step, and one step
-pub leads_none : (g : Graph) (s : Script) (w : World) → Leads g s w [] w
+pub leads_none : (g : Graph) (s : Script) (w : World) → LeadsTo g s w [] w
 leads_none g s w = ([], refl, refl)
 
-pub leads_same : (g : Graph) (s : Script) (w v : World) → v ≡ w → Leads g s w [] v
+pub leads_same : (g : Graph) (s : Script) (w v : World) → v ≡ w → LeadsTo g s w [] v
 leads_same g s w v e = ([], e, refl)
 
-pub leads_step : (g : Graph) (s : Script) (w v : World) (lines : List Label) → next g s w ≡ Steps lines v → Leads g s w lines v
+pub leads_step : (g : Graph) (s : Script) (w v : World) (lines : List Label) → next g s w ≡ Steps lines v → LeadsTo g s w lines v
 leads_step g s w v lines t = (lines ∷ [], (v, t, refl), sym (append-nil lines))
 
 -- parts behind a part
-joined : (g : Graph) (s : Script) (steps : List (List Label)) (w v u : World) (more : List Label) → Reaches g s w steps v → Leads g s v more u
-    → Leads g s w (lines_of steps ++ more) u
-joined g s [] w v u more r l = subst (λ (x : World). Leads g s x more u) r l
+joined : (g : Graph) (s : Script) (steps : List (List Label)) (w v u : World) (more : List Label) → Reaches g s w steps v → LeadsTo g s v more u
+    → LeadsTo g s w (lines_of steps ++ more) u
+joined g s [] w v u more r l = subst (λ (x : World). LeadsTo g s x more u) r l
 joined g s (labels ∷ steps) w v u more r l =
     let behind = joined g s steps r.0 v u more r.2 l in
     (labels ∷ behind.0, (r.0, r.1, behind.1), append_assoc labels (lines_of steps) more ∙ ap (λ (ls : List Label). labels ++ ls) behind.2)
 
 pub leads_then : PartsJoin
-leads_then g s w v u lines more l k = subst (λ (ls : List Label). Leads g s w (ls ++ more) u) (sym l.2) (joined g s l.0 w v u more l.1 k)
+leads_then g s w v u lines more l k = subst (λ (ls : List Label). LeadsTo g s w (ls ++ more) u) (sym l.2) (joined g s l.0 w v u more l.1 k)
 
 pub meets_behind : MeetsBehind
 meets_behind g s w v lines more turn l m = (m.0, leads_then g s w v m.0 lines more l m.1, m.2)

@@ -11,7 +11,7 @@ pub mod Refusals
 mod StartRuns
 mod TypedArguments
 pub mod Items
-pub mod Progress
+mod Progress
 pub mod TaskRuns
 pub mod LiftedArguments
 mod Passers

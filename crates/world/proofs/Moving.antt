@@ -19,7 +19,7 @@ use Rattle.canonical_machine.specs.Turn as turn
 use Rattle.canonical_machine.specs.CoreSteps.{costs}
 use Rattle.canonical_machine.specs.Next.{next}
 use Rattle.canonical_machine.specs.Run.{RunsFrom}
-use Rattle.world.specs.Parts.{Leads, Meets, with_room, WithUsed}
+use Rattle.world.specs.Parts.{LeadsTo, Meets, with_room, WithUsed}
 use Rattle.world.proofs.Leads.{leads_same, leads_step, leads_then, meets_here, meets_behind, ends_here, ends_behind}
 
 -- What a step that costs a unit or none gives where the unit is left, and where none is.
@@ -72,7 +72,7 @@ module _ (g : Graph) (s : Script) (w : World) (here : Store → ℕ → Stack �
       ∙ charged_none s (with_room w a used Free) (does k (core.next a k)) h
 
   pub moves_lead : (count spent : ℕ) (a b : Store) (k l : Stack) (used now : ℕ) → Moves count spent a k b l → now ≡ used + spent → now ≤ s.fuel
-      → Leads g s (here a used k) [] (here b now l)
+      → LeadsTo g s (here a used k) [] (here b now l)
   moves_lead zero spent a b k l used now m e h =
       let none : now ≡ used = (let z = m.0 in omega (arith, e)) in
       leads_same g s (here a used k) (here b now l)

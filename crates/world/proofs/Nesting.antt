@@ -29,7 +29,7 @@ use Rattle.canonical_machine.specs.Next.{next}
 use Rattle.canonical_machine.specs.Run.{RunsFrom}
 use Rattle.canonical_machine.specs.Kept.{IsKeptBy}
 use Rattle.canonical_machine.specs.Owners.{owner_of_canon}
-use Rattle.world.specs.Parts.{Leads, Meets, with_room, IsSafe}
+use Rattle.world.specs.Parts.{LeadsTo, Meets, with_room, IsSafe}
 use Rattle.world.specs.Stacks.{Refused, PostReturnLeads, PostReturnsLead}
 use Rattle.world.proofs.Leads.{leads_step, leads_then, leads_safe, meets_step}
 use Rattle.world.proofs.Moving.{comes_to, waits_at, with_used, run_spends}
@@ -88,7 +88,7 @@ module _ (g : Graph) (s : Script) (w : World) (n : Nested) (b : Behind) where
       comes_to g s w (nested_at w n b) (nested_does n b) turns goes a t k left after used now (Ends words) c before behind
 
   pub nested_traps : (a t : Store) (k : Stack) (left after used now : ℕ) (why : Trap) → Comes a k left t after (Traps why) → used + left ≡ s.fuel → now + after ≡ s.fuel
-      → Leads g s (nested_at w n b a used k) [] (with_room w t now (Doomed n.blame (core_name why)))
+      → LeadsTo g s (nested_at w n b a used k) [] (with_room w t now (Doomed n.blame (core_name why)))
   nested_traps a t k left after used now why c before behind =
       meets_step g s (nested_at w n b a used k) (with_room w t now (Doomed n.blame (core_name why))) [] []
       (comes_to g s w (nested_at w n b) (nested_does n b) turns goes a t k left after used now (Traps why) c before behind)
@@ -111,7 +111,7 @@ module _ (g : Graph) (s : Script) (w : World) (n : Nested) (b : Behind) where
       let m : Nested = record n { state = AtCall number words waits } in
       let start : World = nested_at w n b a used k in
       let at : World = with_room w t now (Quiet m b) in
-      let to : Leads g s start [] at =
+      let to : LeadsTo g s start [] at =
       meets_step g s start at [] [] (comes_to g s w (nested_at w n b) (nested_does n b) turns goes a t k left after used now (Calls number words waits) c before behind) in
       let then_safe : IsSafe g s at = leads_safe g s start at [] safe to in
       let found = acting_hosted g t n b number words waits w then_safe.kept.typed.control in

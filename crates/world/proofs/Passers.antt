@@ -1,5 +1,5 @@
 -- What is passed to a task, by who called it.
-use Rattle.std.proofs.Common.{◌≡◌, ◌-◌, ℕ, List, [], ◌∷◌, length, reverse, refl, sym, ap, ◌∙◌, subst, arith, Option, Some, None, Result, Ok}
+use Rattle.std.proofs.Common.{◌≡◌, ◌<◌, ◌+◌, ◌-◌, ℕ, List, [], ◌∷◌, length, reverse, refl, sym, ap, ◌∙◌, subst, arith, Option, Some, None, Result, Ok}
 use Rattle.std.specs.List.{slice_get}
 use Rattle.std.specs.Option.{option_map}
 use Rattle.ca_base.specs.declared.memory.MemoryOr.{MemoryOr}
@@ -23,6 +23,7 @@ use Rattle.world.specs.declared.state.Waiter.{Waiter}
 use Rattle.world.specs.Passed.{Passes, CanPass, IsPassedBy}
 use Rattle.world.specs.Seen.{IsScriptCall, IsTaskCall, IsCalled}
 use Rattle.ca_types.specs.declared.types.ValType.{ValType}
+use Rattle.world.proofs.Callees.{call_there}
 
 has_last : (us : List Waiter) (u : Waiter) → slice_get (u ∷ us) (length us) ≡ None → ⊥
 has_last [] u h = cc
@@ -34,6 +35,15 @@ none_last (u ∷ us) h = let same : length (u ∷ us) - 1 ≡ length us = omega 
 
 call_same : (a b : Call) → ◌≡◌ {A = Option Item} (Some (item.Call a)) (Some (item.Call b)) → a ≡ b
 call_same a b e = cc
+
+-- It is there, where none waits.
+pub script_called : (g : Graph) (s : Script) (taken : ℕ) (items : List Waiter) → slice_get items (length items - 1) ≡ None → (task : Task) → IsCalled g s taken (reverse items) task
+    → (number : ℕ) × (taken ≡ number + 1) × (number < length s.items)
+script_called g s taken items none task h = call_there g s taken task (subst (λ (us : List Waiter). IsCalled g s taken (reverse us) task) (none_last items none) h)
+
+pub last_item : (s : Script) (taken : ℕ) (call : Call) → (number : ℕ) × (taken ≡ number + 1) × (number < length s.items) → ((number : ℕ) → taken ≡ number + 1 → slice_get s.items number ≡ Some (item.Call call))
+    → slice_get s.items (taken - 1) ≡ Some (item.Call call)
+last_item s taken call at is = let last : taken ≡ at.0 + 1 = at.1 in is (taken - 1) (omega (arith, last))
 
 pub script_passes : (g : Graph) (s : Script) (store : Store) (taken : ℕ) (items : List Waiter) (call : Call) (result : Result Value (MemoryOr LiftTrap)) → slice_get items (length items - 1) ≡ None
     → slice_get s.items (taken - 1) ≡ Some (item.Call call) → MayMake {X = Value} (λ v. v) (Ok (value.Record call.values)) result → (task : Task) → IsCalled g s taken (reverse items) task → IsPassedBy g store task.caller result

@@ -1,5 +1,5 @@
 -- Calls that are refused end the run.
-use Rattle.std.proofs.Common.{◌≡◌, ℕ, List, [], ◌∷◌, ◌++◌, sym, ap, ◌∙◌, subst, Some}
+use Rattle.std.proofs.Common.{◌≡◌, ◌+◌, length, ℕ, List, [], ◌∷◌, ◌++◌, sym, ap, ◌∙◌, subst, Some}
 use Rattle.std.specs.List.{slice_get}
 use Rattle.comp_graph.specs.declared.graph.CanonFunc.{CanonFunc}
 use Rattle.comp_graph.specs.Graph.{Graph}
@@ -15,16 +15,17 @@ use Rattle.canonical_machine.specs.Reading.{builtin_of}
 use Rattle.canonical_machine.specs.Turn.{Ends}
 use Rattle.canonical_machine.specs.Next.{next}
 use Rattle.world.specs.declared.state.RunState.{RunState}
-use Rattle.world.specs.Parts.{Leads}
+use Rattle.world.specs.Parts.{LeadsTo}
 use Rattle.world.specs.Seen.{EndsBy}
 use Rattle.world.specs.Refusing.{IsRefused}
 use Rattle.world.proofs.Instancing.{ends_there}
 
 pub refused_ends : (g : Graph) (s : Script) (run : RunState) (before : List Label) (v : World) (canon : CanonFunc) (number : ℕ) (words : List ℕ) (acts_for blame : ℕ) (end : RunEnd)
-    → slice_get g.canons number ≡ Some canon → Leads g s (first_world g) (before ++ line.Do acts_for (builtin_of canon) words ∷ []) v → next g s v ≡ Ends (Trapped blame trap.CannotLeave)
-    → v.store ≡ run.store → v.instances ≡ run.instances → IsRefused g number words acts_for blame before run.labels end → EndsBy g s run end
-refused_ends g s run before v canon number words acts_for blame end there leads ends store instances r =
+    → slice_get g.canons number ≡ Some canon → LeadsTo g s (first_world g) (before ++ line.Do acts_for (builtin_of canon) words ∷ []) v → next g s v ≡ Ends (Trapped blame trap.CannotLeave)
+    → v.store ≡ run.store → v.units + run.left ≡ s.fuel → v.instances ≡ run.instances → length v.tasks ≡ run.tasks → v.taken ≡ run.taken
+    → IsRefused g number words acts_for blame before run.labels end → EndsBy g s run end
+refused_ends g s run before v canon number words acts_for blame end there leads ends store units instances made taken r =
     let same : before ++ line.Do acts_for (builtin_of canon) words ∷ [] ≡ run.labels =
     ap (λ (b : Builtin). before ++ line.Do acts_for b words ∷ []) (sym (r.named canon there)) ∙ sym r.said in
     subst (λ (end : RunEnd). EndsBy g s run end) (sym r.ends)
-    (ends_there g s run v (Trapped blame trap.CannotLeave) (subst (λ (ls : List Label). Leads g s (first_world g) ls v) same leads) ends store instances)
+    (ends_there g s run v (Trapped blame trap.CannotLeave) (subst (λ (ls : List Label). LeadsTo g s (first_world g) ls v) same leads) ends store units instances made taken)

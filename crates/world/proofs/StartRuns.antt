@@ -1,5 +1,5 @@
 -- Start functions, and their runs.
-use Rattle.std.proofs.Common.{◌≡◌, ◌<◌, ℕ, false, List, [], ◌∷◌, ◌++◌, length, drop, refl, sym, ap, ◌∙◌, subst, arith, append-nil, Bool, if◌then◌else◌, Option, Some, None}
+use Rattle.std.proofs.Common.{◌≡◌, ◌<◌, ◌+◌, ℕ, false, List, [], ◌∷◌, ◌++◌, length, drop, refl, sym, ap, ◌∙◌, subst, arith, append-nil, Bool, if◌then◌else◌, Option, Some, None}
 use Rattle.std.specs.List.{slice_get, AllByRecursion}
 use Rattle.std.specs.Option.{option_and_then, option_map, IfSome}
 use Rattle.std.proofs.lemmas.Option.{slice_get_within}
@@ -44,7 +44,7 @@ use Rattle.canonical_machine.specs.Kept.{IsCalling, IsOfActing, core_results, Ar
 use Rattle.canonical_machine.proofs.Changed.{changed_length}
 use Rattle.canonical_machine.proofs.Ordered.{init_acting, init_changed}
 use Rattle.world.specs.declared.state.RunState.{RunState}
-use Rattle.world.specs.Parts.{Leads, Meets, with_room, WithUsed, IsSafe}
+use Rattle.world.specs.Parts.{LeadsTo, Meets, with_room, WithUsed, IsSafe}
 use Rattle.world.specs.Stacks.{StackLeads}
 use Rattle.world.specs.Seen.{IsAtPlan, EndsBy}
 use Rattle.world.specs.Starting.{IsStarting, IsAtStart}
@@ -260,7 +260,7 @@ start_done g s run n k words store after h gives =
       none = h.none;
       stands = record {
         world = v;
-        leads = subst (λ (ls : List Label). Leads g s (first_world g) ls v) (append-nil run.labels) (leads_then g s (first_world g) w v run.labels [] h.stands.leads (meets_step g s w v [] [] meets));
+        leads = subst (λ (ls : List Label). LeadsTo g s (first_world g) ls v) (append-nil run.labels) (leads_then g s (first_world g) w v run.labels [] h.stands.leads (meets_step g s w v [] [] meets));
         sees = record {
           store = refl;
           units = used;
@@ -283,7 +283,8 @@ start_traps g s run n k why store after name h gives is =
     let v : World = with_stack 0 u.2.0 (with_room w store u.0 (Doomed 0 (core_name why))) in
     subst (λ (name : TrapName). EndsBy g s (record run { store = store; left = after }) (Trapped 0 name)) (sym is)
     (ends_there g s (record run { store = store; left = after }) v (Trapped 0 (core_name why))
-    (subst (λ (ls : List Label). Leads g s (first_world g) ls v) (append-nil run.labels) (leads_then g s (first_world g) w v run.labels [] h.stands.leads u.2.1)) refl refl h.stands.sees.instances)
+    (subst (λ (ls : List Label). LeadsTo g s (first_world g) ls v) (append-nil run.labels) (leads_then g s (first_world g) w v run.labels [] h.stands.leads u.2.1)) refl refl u.1 h.stands.sees.instances
+    (changed_length 0 (λ (task : Task). record task { stacks = u.2.0 ∷ drop 1 task.stacks }) w.tasks ∙ h.stands.sees.made) h.stands.sees.taken)
 
 -- No unit is left.
 pub start_wants : (g : Graph) (s : Script) (run : RunState) (n : ℕ) (k later : Stack) (store : Store) (after : ℕ) → IsAtStart g s run n k
@@ -296,7 +297,10 @@ start_wants g s run n k later store after h gives =
       last = last;
       runs = subst (λ (ls : List Label). RunsFrom g s (first_world g) ls last Fuel) (append-nil run.labels) (ends_behind g s (first_world g) w last run.labels [] Fuel h.stands.leads u.2);
       store = refl;
+      units = u.1;
       instances = h.stands.sees.instances;
+      made = changed_length 0 (λ (task : Task). record task { stacks = later ∷ drop 1 task.stacks }) w.tasks ∙ h.stands.sees.made;
+      taken = h.stands.sees.taken;
     }
 
 -- It calls a core function of the Canonical ABI.
@@ -314,16 +318,19 @@ leave_turn g s v n number words canon S control there a =
     ∙ ap (λ (b : Bool). behind (line.Do 0 (builtin_of canon) words ∷ []) (if b then reply 0 number canon words u else doomed 0 trap.CannotLeave u)) (not_left n v.tasks v.chain S a)
 
 -- where the task waits at the call
-record AtCall (g : Graph) (s : Script) (run : RunState) (n number : ℕ) (words : List ℕ) (left : Store) : Type 0 where
+record AtCall (g : Graph) (s : Script) (run : RunState) (n number : ℕ) (words : List ℕ) (left : Store) (after : ℕ) : Type 0 where
   world : World
-  leads : Leads g s (first_world g) run.labels world
+  leads : LeadsTo g s (first_world g) run.labels world
   control : world.control ≡ Calls number words
   store : world.store ≡ left
+  units : world.units + after ≡ s.fuel
   instances : world.instances ≡ run.instances
+  made : length world.tasks ≡ run.tasks
+  taken : world.taken ≡ run.taken
   init : IsInit (Begins n) (λ ks. (k : Stack) × (ks ≡ k ∷ [])) world.tasks world.chain
 
 start_calls : (g : Graph) (s : Script) (run : RunState) (n : ℕ) (k : Stack) (number : ℕ) (words : List ℕ) (waiting : Waiting) (store : Store) (after : ℕ) → IsAtStart g s run n k
-    → RunGives run.store k run.left (outcome.Calls number words waiting) store after → AtCall g s run n number words store
+    → RunGives run.store k run.left (outcome.Calls number words waiting) store after → AtCall g s run n number words store after
 start_calls g s run n k number words waiting store after h gives =
     let w : World = h.stands.world in
     let a = h.stands.holds.1 in
@@ -332,17 +339,20 @@ start_calls g s run n k number words waiting store after h gives =
     let change : Task → Task = λ task. record task { stacks = waiting.stack ∷ drop 1 task.stacks } in
     record {
       world = v;
-      leads = subst (λ (ls : List Label). Leads g s (first_world g) ls v) (append-nil run.labels) (leads_then g s (first_world g) w v run.labels [] h.stands.leads u.2);
+      leads = subst (λ (ls : List Label). LeadsTo g s (first_world g) ls v) (append-nil run.labels) (leads_then g s (first_world g) w v run.labels [] h.stands.leads u.2);
       control = refl;
       store = refl;
+      units = u.1;
       instances = h.stands.sees.instances;
+      made = changed_length 0 change w.tasks ∙ h.stands.sees.made;
+      taken = h.stands.sees.taken;
       init = init_changed w.tasks w.chain (Begins n) (Begins n) (λ ks. ks ≡ k ∷ []) (λ ks. (k : Stack) × (ks ≡ k ∷ [])) change a a.callee_is a.state_is
           (waiting.stack, ap (λ (ks : List Stack). waiting.stack ∷ drop 1 ks) a.stacks_are);
     }
 
-canon_called : (g : Graph) (s : Script) (run : RunState) (n number : ℕ) (words : List ℕ) (store : Store) → IsSound g s → IsApart g → AtCall g s run n number words store
+canon_called : (g : Graph) (s : Script) (run : RunState) (n number : ℕ) (words : List ℕ) (store : Store) (after : ℕ) → IsSound g s → IsApart g → AtCall g s run n number words store after
     → (canon : CanonFunc) × (slice_get g.canons number ≡ Some canon)
-canon_called g s run n number words store sound apart at =
+canon_called g s run n number words store after sound apart at =
     let v : World = at.world in
     let safe : IsSafe g s v = safe_there g s run.labels v sound apart at.leads in
     let own : IsOfActing g v.store v.tasks v.chain (λ task. AreMadeBy g v.store task.state × IsCalling g v.store number words task) =
@@ -352,7 +362,7 @@ canon_called g s run n number words store sound apart at =
 pub call_within : (g : Graph) (s : Script) (run : RunState) (n : ℕ) (k : Stack) (number : ℕ) (words : List ℕ) (waiting : Waiting) (store : Store) (after : ℕ) → IsSound g s → IsApart g → IsAtStart g s run n k
     → RunGives run.store k run.left (outcome.Calls number words waiting) store after → number < length g.canons
 call_within g s run n k number words waiting store after sound apart h gives =
-    let canon = canon_called g s run n number words store sound apart (start_calls g s run n k number words waiting store after h gives) in
+    let canon = canon_called g s run n number words store after sound apart (start_calls g s run n k number words waiting store after h gives) in
     slice_get_within g.canons number canon.0 canon.1
 
 pub start_cannot_leave : (g : Graph) (s : Script) (run : RunState) (n : ℕ) (k : Stack) (number : ℕ) (words : List ℕ) (waiting : Waiting) (store : Store) (after : ℕ) (labels : List Label) (end : RunEnd)
@@ -360,9 +370,9 @@ pub start_cannot_leave : (g : Graph) (s : Script) (run : RunState) (n : ℕ) (k 
     → EndsBy g s (record run { store = store; left = after; labels = labels }) end
 start_cannot_leave g s run n k number words waiting store after labels end sound apart h gives refused =
     let at = start_calls g s run n k number words waiting store after h gives in
-    let canon = canon_called g s run n number words store sound apart at in
+    let canon = canon_called g s run n number words store after sound apart at in
     let v : World = with_control (Doomed 0 trap.CannotLeave) at.world in
     let step = leave_turn g s at.world n number words canon.0 (λ ks. (k : Stack) × (ks ≡ k ∷ [])) at.control canon.1 at.init in
-    let lead : Leads g s (first_world g) (run.labels ++ line.Do 0 (builtin_of canon.0) words ∷ []) v =
+    let lead : LeadsTo g s (first_world g) (run.labels ++ line.Do 0 (builtin_of canon.0) words ∷ []) v =
     leads_then g s (first_world g) at.world v run.labels (line.Do 0 (builtin_of canon.0) words ∷ []) at.leads (leads_step g s at.world v (line.Do 0 (builtin_of canon.0) words ∷ []) step) in
-    refused_ends g s (record run { store = store; left = after; labels = labels }) run.labels v canon.0 number words 0 0 end canon.1 lead refl at.store at.instances refused
+    refused_ends g s (record run { store = store; left = after; labels = labels }) run.labels v canon.0 number words 0 0 end canon.1 lead refl at.store at.units at.instances at.made at.taken refused

@@ -33,9 +33,9 @@ use Rattle.canonical_machine.proofs.Changed.{changed_length, changed_there, chan
 use Rattle.canonical_machine.proofs.Graphs.{hosts_of}
 use Rattle.world.specs.declared.state.Waiter.{Waiter}
 use Rattle.world.specs.declared.state.RunState.{RunState}
-use Rattle.world.specs.Parts.{Leads, with_room, WithUsed, IsSafe}
+use Rattle.world.specs.Parts.{LeadsTo, with_room, WithUsed, IsSafe}
 use Rattle.world.specs.Stacks.{RunsStack, StackLeads}
-use Rattle.world.specs.Seen.{IsCalled, IsWaiter, AreWaiters, waiters, numbers, Acts, IsAtStack, IsAtReturn, IsAtCall, EndsBy}
+use Rattle.world.specs.Seen.{IsCalled, IsWaiter, AreWaiters, waiters, numbers, IsActing, IsAtStack, IsAtReturn, IsAtCall, EndsBy}
 use Rattle.world.proofs.Leads.{leads_then, ends_behind}
 use Rattle.world.proofs.Acting.{stacks_lead, steps_lead}
 use Rattle.world.proofs.Instancing.{safe_there, ends_there}
@@ -72,7 +72,7 @@ waits_below w t below task f chain there runs (inr b) =
     let at = first_same t below b.number b.below (sym chain ∙ b.chain_is) in
     subst (λ (n : ℕ). AreWaiting w.tasks n below) (sym at.0) (subst (AreWaiting w.tasks b.number) (sym at.1) b.waiting)
 
-waits_by : (g : Graph) (s : Script) (run : RunState) (t : ℕ) (P : Task → Type 0) (w : World) → Acts g s run t P w → IsBegun w.tasks w.chain ⊎ IsRunning w.tasks w.chain → AreWaiting w.tasks t (numbers (waiters run))
+waits_by : (g : Graph) (s : Script) (run : RunState) (t : ℕ) (P : Task → Type 0) (w : World) → IsActing g s run t P w → IsBegun w.tasks w.chain ⊎ IsRunning w.tasks w.chain → AreWaiting w.tasks t (numbers (waiters run))
 waits_by g s run t P w a order =
     let f = called_func g s w.taken (waiters run) a.task a.called in
     waits_below w t (numbers (waiters run)) a.task f.0 a.chain a.there f.1 order
@@ -92,7 +92,7 @@ waiters_still g s taken t m tasks f (u ∷ below) w few h =
     less_self a b c h k e = omega (arith, h, k, e)
 
 -- The stack is typed.
-acting_typed : (g : Graph) (s : Script) (run : RunState) (store : Store) (w : World) (t : ℕ) (k : Stack) → (a : Acts g s run t (λ task. task.stacks ≡ k ∷ []) w)
+acting_typed : (g : Graph) (s : Script) (run : RunState) (store : Store) (w : World) (t : ℕ) (k : Stack) → (a : IsActing g s run t (λ task. task.stacks ≡ k ∷ []) w)
     → IsOfActing g store w.tasks w.chain (λ task. AreMadeBy g store task.state × AreTyped store task) → StackTyped store (core_results a.task.callee) k
 acting_typed g s run store w t k a own =
     let at = first_same t (numbers (waiters run)) own.number own.below (sym a.chain ∙ own.chain_is) in
@@ -125,8 +125,8 @@ run_leads g s run t k outcome store after h gives =
     stacks_lead g s h.stands.world t h.stands.holds.1.task k outcome store run.left after (runs_stack g s run t k h) h.stands.sees.units
     (subst (λ (u : Store). RunGives u k run.left outcome store after) (sym h.stands.sees.store) gives)
 
-behind_all : (g : Graph) (s : Script) (w v : World) (lines : List Label) → Leads g s (first_world g) lines w → Leads g s w [] v → Leads g s (first_world g) lines v
-behind_all g s w v lines l m = subst (λ (ls : List Label). Leads g s (first_world g) ls v) (append-nil lines) (leads_then g s (first_world g) w v lines [] l m)
+behind_all : (g : Graph) (s : Script) (w v : World) (lines : List Label) → LeadsTo g s (first_world g) lines w → LeadsTo g s w [] v → LeadsTo g s (first_world g) lines v
+behind_all g s w v lines l m = subst (λ (ls : List Label). LeadsTo g s (first_world g) ls v) (append-nil lines) (leads_then g s (first_world g) w v lines [] l m)
 
 -- A trap, and want of fuel.
 pub stack_traps : (g : Graph) (s : Script) (run : RunState) (t : ℕ) (k : Stack) (why : Trap) (store : Store) (after : ℕ) (name : TrapName) → IsAtStack g s run t k
@@ -136,7 +136,8 @@ stack_traps g s run t k why store after name h gives is =
     let u = run_leads g s run t k (outcome.Trapped why) store after h gives in
     let v : World = with_stack t u.2.0 (with_room w store u.0 (Doomed t (core_name why))) in
     subst (λ (name : TrapName). EndsBy g s (record run { store = store; left = after }) (Trapped t name)) (sym is)
-    (ends_there g s (record run { store = store; left = after }) v (Trapped t (core_name why)) (behind_all g s w v run.labels h.stands.leads u.2.1) refl refl h.stands.sees.instances)
+    (ends_there g s (record run { store = store; left = after }) v (Trapped t (core_name why)) (behind_all g s w v run.labels h.stands.leads u.2.1) refl refl u.1 h.stands.sees.instances
+    (changed_length t (λ task. record task { stacks = u.2.0 ∷ drop 1 task.stacks }) w.tasks ∙ h.stands.sees.made) h.stands.sees.taken)
 
 pub stack_wants : (g : Graph) (s : Script) (run : RunState) (t : ℕ) (k later : Stack) (store : Store) (after : ℕ) → IsAtStack g s run t k
     → RunGives run.store k run.left (outcome.NoFuel later) store after → EndsBy g s (record run { store = store; left = after }) Fuel
@@ -148,7 +149,10 @@ stack_wants g s run t k later store after h gives =
       last = last;
       runs = subst (λ (ls : List Label). RunsFrom g s (first_world g) ls last Fuel) (append-nil run.labels) (ends_behind g s (first_world g) w last run.labels [] Fuel h.stands.leads u.2);
       store = refl;
+      units = u.1;
       instances = h.stands.sees.instances;
+      made = changed_length t (λ task. record task { stacks = later ∷ drop 1 task.stacks }) w.tasks ∙ h.stands.sees.made;
+      taken = h.stands.sees.taken;
     }
 
 reverse_last : (us : List Waiter) (u : Waiter) → reverse (us ++ u ∷ []) ≡ u ∷ reverse us
@@ -220,7 +224,7 @@ module _ (g : Graph) (s : Script) (run : RunState) (t : ℕ) (k : Stack) (number
   abbrev v : World
   v = with_stack t waiting.stack (with_room h.stands.world store u.0 (Calls number words))
 
-  leads_there : Leads g s (first_world g) run.labels v
+  leads_there : LeadsTo g s (first_world g) run.labels v
   leads_there = behind_all g s h.stands.world v run.labels h.stands.leads u.2
 
   -- The call is of a core function of the Canonical ABI, and waits for its results.
@@ -277,7 +281,7 @@ module _ (g : Graph) (s : Script) (run : RunState) (t : ℕ) (k : Stack) (number
         number = refl;
         stands = record {
           world = v;
-          leads = subst (λ (ls : List Label). Leads g s (first_world g) ls v) (sym labels) leads_there;
+          leads = subst (λ (ls : List Label). LeadsTo g s (first_world g) ls v) (sym labels) leads_there;
           sees = record {
             store = sym stores;
             units = ap (λ (n : ℕ). u.0 + n) left ∙ used;
@@ -302,7 +306,7 @@ reserved g s old new t k store left labels instances tasks taken items h =
     record {
       stands = record {
         world = w;
-        leads = subst (λ (ls : List Label). Leads g s (first_world g) ls w) (sym labels) h.stands.leads;
+        leads = subst (λ (ls : List Label). LeadsTo g s (first_world g) ls w) (sym labels) h.stands.leads;
         sees = record {
           store = sees.store ∙ sym store;
           units = ap (λ (n : ℕ). w.units + n) left ∙ sees.units;

@@ -4,7 +4,7 @@ pub mod Stacks
 pub mod Seen
 pub mod Points
 pub mod Starting
-pub mod Onward
+pub mod Changes
 pub mod Stopping
 pub mod Refusing
 pub mod Called

@@ -10,26 +10,26 @@ use Rattle.canonical_machine.specs.Turn.{Turn, Steps, Ends, Stuck}
 use Rattle.canonical_machine.specs.Run.{RunsFrom}
 use Rattle.canonical_machine.specs.Sound.{IsSound}
 use Rattle.canonical_machine.specs.Owners.{IsApart}
-use Rattle.world.specs.Parts.{Leads, Meets, IsSafe}
+use Rattle.world.specs.Parts.{LeadsTo, Meets, IsSafe}
 
 -- Behind a part there is another part, something that comes next, or the rest of a run.
 abbrev pub PartsJoin : Type 0
 PartsJoin =
-    (g : Graph) (s : Script) (w v u : World) (lines more : List Label) → Leads g s w lines v → Leads g s v more u → Leads g s w (lines ++ more) u
+    (g : Graph) (s : Script) (w v u : World) (lines more : List Label) → LeadsTo g s w lines v → LeadsTo g s v more u → LeadsTo g s w (lines ++ more) u
 
 abbrev pub MeetsBehind : Type 0
 MeetsBehind =
-    (g : Graph) (s : Script) (w v : World) (lines more : List Label) (turn : Turn) → Leads g s w lines v → Meets g s v more turn
+    (g : Graph) (s : Script) (w v : World) (lines more : List Label) (turn : Turn) → LeadsTo g s w lines v → Meets g s v more turn
     → Meets g s w (lines ++ more) turn
 
 abbrev pub EndsBehind : Type 0
 EndsBehind =
-    (g : Graph) (s : Script) (w v last : World) (lines more : List Label) (end : RunEnd) → Leads g s w lines v → RunsFrom g s v more last end
+    (g : Graph) (s : Script) (w v last : World) (lines more : List Label) (end : RunEnd) → LeadsTo g s w lines v → RunsFrom g s v more last end
     → RunsFrom g s w (lines ++ more) last end
 
 -- What comes next is one step more, or ends the run.
 abbrev pub StepFollows : Type 0
-StepFollows = (g : Graph) (s : Script) (w v : World) (lines more : List Label) → Meets g s w lines (Steps more v) → Leads g s w (lines ++ more) v
+StepFollows = (g : Graph) (s : Script) (w v : World) (lines more : List Label) → Meets g s w lines (Steps more v) → LeadsTo g s w (lines ++ more) v
 
 abbrev pub EndFollows : Type 0
 EndFollows =
@@ -40,7 +40,7 @@ abbrev pub FirstSafe : Type 0
 FirstSafe = (g : Graph) (s : Script) → IsSound g s → IsApart g → IsSafe g s (first_world g)
 
 abbrev pub SafeStays : Type 0
-SafeStays = (g : Graph) (s : Script) (w v : World) (lines : List Label) → IsSafe g s w → Leads g s w lines v → IsSafe g s v
+SafeStays = (g : Graph) (s : Script) (w v : World) (lines : List Label) → IsSafe g s w → LeadsTo g s w lines v → IsSafe g s v
 
 abbrev pub SafeMoves : Type 0
 SafeMoves = (g : Graph) (s : Script) (w : World) (lines : List Label) (turn : Turn) → IsSafe g s w → Meets g s w lines turn → turn ≢ Stuck

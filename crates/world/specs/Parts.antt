@@ -14,12 +14,12 @@ use Rattle.canonical_machine.specs.KeptLaws.{IsKept}
 use Rattle.canonical_machine.specs.Owners.{IsApart, IsApartWorld}
 
 -- Steps with these lines lead from the one world to the other.
-abbrev pub Leads : Graph → Script → World → List Label → World → Type 0
-Leads g s w lines v = (steps : List (List Label)) × Reaches g s w steps v × (lines ≡ lines_of steps)
+abbrev pub LeadsTo : Graph → Script → World → List Label → World → Type 0
+LeadsTo g s w lines v = (steps : List (List Label)) × Reaches g s w steps v × (lines ≡ lines_of steps)
 
 -- Steps with these lines lead to a world in which this comes next.
 abbrev pub Meets : Graph → Script → World → List Label → Turn → Type 0
-Meets g s w lines turn = (v : World) × Leads g s w lines v × (next g s v ≡ turn)
+Meets g s w lines turn = (v : World) × LeadsTo g s w lines v × (next g s v ≡ turn)
 
 -- a world as another one but for its store, its units and its control
 abbrev pub with_room : World → Store → ℕ → Control → World
@@ -29,7 +29,7 @@ with_room w store units control = record w { store = store; control = control; u
 abbrev pub WithUsed : Script → ℕ → (ℕ → Type 0) → Type 0
 WithUsed s left P = (used : ℕ) × (used + left ≡ s.fuel) × P used
 
--- A world of a run of a sound script on a graph in which core definitions stay in their component instance.
+-- A world as runs of a sound script have them, on a graph in which core definitions stay in their component instance.
 pub record IsSafe (g : Graph) (s : Script) (w : World) : Type 0 where
   pub apart : IsApart g
   pub kept : IsKept g s w

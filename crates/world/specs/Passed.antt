@@ -20,7 +20,7 @@ use Rattle.canonical_machine.specs.Reading.{lower_at}
 use Rattle.world.specs.declared.state.Waiter.{Waiter}
 use Rattle.world.specs.declared.state.RunState.{RunState}
 use Rattle.world.specs.Addresses.{HasOptions}
-use Rattle.world.specs.Seen.{Stands, Acts}
+use Rattle.world.specs.Seen.{IsAtWorld, IsActing}
 
 -- Arguments of this type are taken from words: of a function of which it is the type of the arguments, as it is lowered.
 pub record TakeWords (type : ValType) (words : List ℕ) : Type 0 where
@@ -47,4 +47,4 @@ IsPassedBy g s caller result = (passed : Result Value LiftTrap) × (arguments_of
 
 -- The acting task has entered: its arguments, which are this value, are to be lowered into the component instance of this function.
 pub record IsAtEntry (g : Graph) (s : Script) (run : RunState) (t : ℕ) (f : Lifted) (v : Value) : Type 0 where
-  pub stands : Stands g s run (λ w. (w.control ≡ Lowers (arguments_lowering w.store t f) (arguments_plan f.func_type v)) × Acts g s run t (λ task. (task.callee ≡ Func f) × (task.stacks ≡ [])) w)
+  pub stands : IsAtWorld g s run (λ w. (w.control ≡ Lowers (arguments_lowering w.store t f) (arguments_plan f.func_type v)) × IsActing g s run t (λ task. (task.callee ≡ Func f) × (task.stacks ≡ [])) w)

@@ -14,11 +14,12 @@ use Rattle.canonical_machine.specs.Tasks.{IsAt}
 use Rattle.world.specs.declared.state.Waiter.{Waiter}
 use Rattle.world.specs.declared.state.RunState.{RunState}
 use Rattle.world.specs.Parts.{Meets}
-use Rattle.world.specs.Seen.{waiters, numbers, Sees, Stands, IsAtFree}
+use Rattle.world.specs.Seen.{waiters, numbers, Sees, IsAtWorld, IsAtFree}
 
--- The words are kept for the innermost of these tasks that wait, with a task that it called by its core function of the Canonical ABI.
+-- The words are kept for the innermost of these tasks that wait, with a task that it called by its core function of the Canonical ABI. Where
+-- none waits, the script called, for which no words are kept.
 abbrev pub Answers : List Waiter → List ℕ → Task → Type 0
-Answers [] words task = Unit {0}
+Answers [] words task = words ≡ []
 Answers (u ∷ below) words task = (subtask : Subtask) × (task.caller ≡ Guest subtask) × (subtask.canon ≡ u.canon) × (subtask.result ≡ words)
 
 -- The acting task, which runs this function, has resolved, and what it resolved to has reached its caller: with the words that are kept
@@ -48,19 +49,19 @@ pub record RunsPostReturn (us : List Waiter) (t : ℕ) (k : Stack) (words : List
   pub answers : IsAt w.tasks t (Answers us words)
 
 abbrev pub IsAtPostReturn : Graph → Script → RunState → ℕ → Stack → List ℕ → Type 0
-IsAtPostReturn g s run t k words = Stands g s run (RunsPostReturn (waiters run) t k words)
+IsAtPostReturn g s run t k words = IsAtWorld g s run (RunsPostReturn (waiters run) t k words)
 
 -- The acting task has resolved, and is to exit. These words are for the task that waits for it, where one does.
 abbrev pub IsAtExit : Graph → Script → RunState → ℕ → List ℕ → Type 0
-IsAtExit g s run t words = Stands g s run (λ w. (w.control ≡ Leaves) × (w.chain ≡ t ∷ numbers (waiters run)) × IsAt w.tasks t (Answers (waiters run) words))
+IsAtExit g s run t words = IsAtWorld g s run (λ w. (w.control ≡ Leaves) × (w.chain ≡ t ∷ numbers (waiters run)) × IsAt w.tasks t (Answers (waiters run) words))
 
 -- Control is back at the innermost task that waits: the task that it called has exited, and these words are for it.
-abbrev pub IsAnswered : List Task → List Waiter → List ℕ → Type 0
-IsAnswered tasks [] words = ⊥
-IsAnswered tasks (u ∷ below) words = (t : ℕ) × IsAt tasks u.task (λ task. task.state ≡ AfterCall t) × IsAt tasks t (Answers (u ∷ below) words)
+abbrev pub AreFor : List Task → List Waiter → List ℕ → Type 0
+AreFor tasks [] words = ⊥
+AreFor tasks (u ∷ below) words = (t : ℕ) × IsAt tasks u.task (λ task. task.state ≡ AfterCall t) × IsAt tasks t (Answers (u ∷ below) words)
 
 abbrev pub IsAtBack : Graph → Script → RunState → List ℕ → Type 0
-IsAtBack g s run words = Stands g s run (λ w. (w.control ≡ Back) × (w.chain ≡ numbers (waiters run)) × IsAnswered w.tasks (waiters run) words)
+IsAtBack g s run words = IsAtWorld g s run (λ w. (w.control ≡ Back) × (w.chain ≡ numbers (waiters run)) × AreFor w.tasks (waiters run) words)
 
 -- A task has exited: a task waits for it, which the words are for, or none does, and no task runs.
 abbrev pub HasExited : Graph → Script → RunState → List ℕ → Bool → Type 0

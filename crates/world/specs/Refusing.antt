@@ -1,4 +1,5 @@
--- Calls that trap because their component may not leave (Component Model, CanonicalABI.md, `canon lift`): what the code tells of one.
+-- Calls that trap because the component instance of the code that makes them may not be left (Component Model, CanonicalABI.md, `canon lift`):
+-- what the code tells of one.
 use Rattle.std.specs.Prelude.{◌≡◌, ℕ, List, [], ◌∷◌, ◌++◌, Some}
 use Rattle.std.specs.List.{slice_get}
 use Rattle.comp_graph.specs.declared.graph.CanonFunc.{CanonFunc}

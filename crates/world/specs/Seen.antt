@@ -21,7 +21,7 @@ use Rattle.canonical_machine.specs.Kept.{params_by, results_by}
 use Rattle.canonical_machine.specs.Run as canonical
 use Rattle.world.specs.declared.state.Waiter.{Waiter}
 use Rattle.world.specs.declared.state.RunState.{RunState}
-use Rattle.world.specs.Parts.{Leads}
+use Rattle.world.specs.Parts.{LeadsTo}
 
 -- Tasks: what one does, and who called it.
 
@@ -78,14 +78,14 @@ pub record Sees (g : Graph) (s : Script) (run : RunState) (w : World) : Type 0 w
   pub waiting : AreWaiters g s w.taken w.tasks (waiters run)
 
 -- The run comes with its lines to a world that the data are, of which something holds.
-pub record Stands (g : Graph) (s : Script) (run : RunState) (P : World → Type 0) : Type 0 where
+pub record IsAtWorld (g : Graph) (s : Script) (run : RunState) (P : World → Type 0) : Type 0 where
   pub world : World
-  pub leads : Leads g s (first_world g) run.labels world
+  pub leads : LeadsTo g s (first_world g) run.labels world
   pub sees : Sees g s run world
   pub holds : P world
 
 -- The acting task is the one of this number. The others on the chain are those that wait, and the innermost called it.
-pub record Acts (g : Graph) (s : Script) (run : RunState) (t : ℕ) (P : Task → Type 0) (w : World) : Type 0 where
+pub record IsActing (g : Graph) (s : Script) (run : RunState) (t : ℕ) (P : Task → Type 0) (w : World) : Type 0 where
   pub chain : w.chain ≡ t ∷ numbers (waiters run)
   pub task : Task
   pub there : slice_get w.tasks t ≡ Some task
@@ -98,20 +98,20 @@ pub record Acts (g : Graph) (s : Script) (run : RunState) (t : ℕ) (P : Task �
 pub record IsAtPlan (g : Graph) (s : Script) (run : RunState) (n : ℕ) : Type 0 where
   pub few : run.instances ≤ n
   pub none : run.waiting.items ≡ []
-  pub stands : Stands g s run (λ w. w.control ≡ Instantiates n)
+  pub stands : IsAtWorld g s run (λ w. w.control ≡ Instantiates n)
 
 -- no task runs
 pub record IsAtFree (g : Graph) (s : Script) (run : RunState) : Type 0 where
   pub none : run.waiting.items ≡ []
-  pub stands : Stands g s run (λ w. w.control ≡ Free)
+  pub stands : IsAtWorld g s run (λ w. w.control ≡ Free)
 
 -- the acting task is new
 pub record IsAtArrival (g : Graph) (s : Script) (run : RunState) (t : ℕ) : Type 0 where
-  pub stands : Stands g s run (λ w. (w.control ≡ Arrives) × Acts g s run t (λ task. Unit {0}) w)
+  pub stands : IsAtWorld g s run (λ w. (w.control ≡ Arrives) × IsActing g s run t (λ task. Unit {0}) w)
 
 -- the acting task's stack makes the next move
 pub record IsAtStack (g : Graph) (s : Script) (run : RunState) (t : ℕ) (k : Stack) : Type 0 where
-  pub stands : Stands g s run (λ w. (w.control ≡ Runs) × Acts g s run t (λ task. task.stacks ≡ k ∷ []) w)
+  pub stands : IsAtWorld g s run (λ w. (w.control ≡ Runs) × IsActing g s run t (λ task. task.stacks ≡ k ∷ []) w)
 
 -- its stack is at its end, with these words
 pub record IsAtReturn (g : Graph) (s : Script) (run : RunState) (t : ℕ) (words : List ℕ) : Type 0 where
@@ -125,11 +125,15 @@ pub record IsAtCall (g : Graph) (s : Script) (run : RunState) (t : ℕ) : Type 0
   pub below : List Waiter
   pub are : waiters run ≡ caller ∷ below
   pub number : caller.task ≡ t
-  pub stands : Stands g s run (λ w. (w.control ≡ Calls caller.canon caller.words) × (w.chain ≡ numbers (waiters run)))
+  pub stands : IsAtWorld g s run (λ w. (w.control ≡ Calls caller.canon caller.words) × (w.chain ≡ numbers (waiters run)))
 
--- The run ends, with its lines, in a world that has its store and its component instances.
+-- The run ends, with its lines, in a world that has its store and its component instances, and in which as many units are used, tasks
+-- made and items taken.
 pub record EndsBy (g : Graph) (s : Script) (run : RunState) (end : RunEnd) : Type 0 where
   pub last : World
   pub runs : canonical.Runs g s run.labels last end
   pub store : last.store ≡ run.store
+  pub units : last.units + run.left ≡ s.fuel
   pub instances : last.instances ≡ run.instances
+  pub made : length last.tasks ≡ run.tasks
+  pub taken : last.taken ≡ run.taken

@@ -21,7 +21,7 @@ use Rattle.canonical_machine.specs.Edits.{with_stack, unstacked}
 use Rattle.canonical_machine.specs.Reading.{builtin_of}
 use Rattle.canonical_machine.specs.CoreSteps.{stack_ended}
 use Rattle.canonical_machine.specs.Run.{RunsFrom}
-use Rattle.world.specs.Parts.{Leads, Meets, with_room, WithUsed, IsSafe}
+use Rattle.world.specs.Parts.{LeadsTo, Meets, with_room, WithUsed, IsSafe}
 
 -- The acting task runs a stack.
 pub record RunsStack (w : World) (t : ℕ) (task : Task) (k : Stack) : Type 0 where
@@ -36,9 +36,9 @@ abbrev pub StackLeads : Graph → Script → World → ℕ → Task → Outcome 
 StackLeads g s w t task (outcome.Done words) store used =
     Meets g s w [] (stack_ended g t task task.state words (unstacked t (with_room w store used Free)))
 StackLeads g s w t task (outcome.Calls address words waiting) store used =
-    Leads g s w [] (with_stack t waiting.stack (with_room w store used (Calls address words)))
+    LeadsTo g s w [] (with_stack t waiting.stack (with_room w store used (Calls address words)))
 StackLeads g s w t task (outcome.Trapped why) store used =
-    (last : Stack) × Leads g s w [] (with_stack t last (with_room w store used (Doomed t (core_name why))))
+    (last : Stack) × LeadsTo g s w [] (with_stack t last (with_room w store used (Doomed t (core_name why))))
 StackLeads g s w t task (outcome.NoFuel later) store used = RunsFrom g s w [] (with_stack t later (with_room w store used Runs)) Fuel
 StackLeads g s w t task outcome.Memory store used = Unit {0}
 
@@ -53,13 +53,13 @@ StacksLead =
 abbrev pub Refused : Graph → Script → World → ℕ → ℕ → ℕ → List ℕ → Store → ℕ → Type 0
 Refused g s w acts_for blame number words store used =
     (canon : CanonFunc) × (slice_get g.canons number ≡ Some canon)
-    × Leads g s w (line.Do acts_for (builtin_of canon) words ∷ []) (with_room w store used (Doomed blame trap.CannotLeave))
+    × LeadsTo g s w (line.Do acts_for (builtin_of canon) words ∷ []) (with_room w store used (Doomed blame trap.CannotLeave))
 
 -- Where a post-return leads.
 abbrev pub PostReturnLeads : Graph → Script → World → Nested → Outcome → Store → ℕ → Type 0
-PostReturnLeads g s w n (outcome.Done words) store used = Leads g s w [] (with_room w store used Leaves)
+PostReturnLeads g s w n (outcome.Done words) store used = LeadsTo g s w [] (with_room w store used Leaves)
 PostReturnLeads g s w n (outcome.Calls address words waiting) store used = Refused g s w n.acts_for n.blame address words store used
-PostReturnLeads g s w n (outcome.Trapped why) store used = Leads g s w [] (with_room w store used (Doomed n.blame (core_name why)))
+PostReturnLeads g s w n (outcome.Trapped why) store used = LeadsTo g s w [] (with_room w store used (Doomed n.blame (core_name why)))
 PostReturnLeads g s w n (outcome.NoFuel later) store used =
     RunsFrom g s w [] (with_room w store used (Quiet (record n { state = Going later }) BeforeLeaving)) Fuel
 PostReturnLeads g s w n outcome.Memory store used = Unit {0}

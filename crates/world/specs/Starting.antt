@@ -17,8 +17,8 @@ use Rattle.canonical_machine.specs.Instantiating.{started_up}
 use Rattle.canonical_machine.specs.Next.{next}
 use Rattle.canonical_machine.specs.Tasks.{IsInit}
 use Rattle.world.specs.declared.state.RunState.{RunState}
-use Rattle.world.specs.Parts.{Leads}
-use Rattle.world.specs.Seen.{Sees, Stands, EndsBy}
+use Rattle.world.specs.Parts.{LeadsTo}
+use Rattle.world.specs.Seen.{Sees, IsAtWorld, EndsBy}
 
 -- The segments of an instance of a module are written. In the same step its start function starts, where the module has one, and
 -- behind it comes the action of this number.
@@ -29,7 +29,7 @@ pub record IsStarting (g : Graph) (s : Script) (run : RunState) (n : ℕ) (m : M
   pub there : slice_get run.store.instances instance ≡ Some made
   pub has : HasContext run.store made (module_context m)
   pub before : World
-  pub leads : Leads g s (first_world g) run.labels before
+  pub leads : LeadsTo g s (first_world g) run.labels before
   pub number : ℕ
   pub control : before.control ≡ Instantiates number
   pub comes : next g s before ≡ started_up n (start_call m made run.store) (with_store run.store (with_control Free before))
@@ -39,7 +39,7 @@ pub record IsStarting (g : Graph) (s : Script) (run : RunState) (n : ℕ) (m : M
 pub record IsAtStart (g : Graph) (s : Script) (run : RunState) (n : ℕ) (k : Stack) : Type 0 where
   pub few : run.instances ≤ n
   pub none : run.waiting.items ≡ []
-  pub stands : Stands g s run (λ w. (w.control ≡ Runs) × IsInit (Begins n) (λ ks. ks ≡ k ∷ []) w.tasks w.chain)
+  pub stands : IsAtWorld g s run (λ w. (w.control ≡ Runs) × IsInit (Begins n) (λ ks. ks ≡ k ∷ []) w.tasks w.chain)
 
 -- The run goes on where something holds, or ends.
 abbrev pub GoesOrEnds : Graph → Script → RunState → Type 0 → Option RunEnd → Type 0

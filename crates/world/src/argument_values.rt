@@ -14,7 +14,8 @@ ghost use Rattle.world.specs.Seen.{IsCalled, waiters};
 ghost use Rattle.world.specs.Passed.{TakeWords, Passes, CanPass, IsPassedBy};
 
 use crate::addresses::{bytes_of, memory_of};
-use crate::called::{call_of, canon_at, item_at, lower_of};
+use crate::called::last_call;
+use crate::canons::{canon_at, lower_of};
 use crate::copying::same_values;
 use crate::named_graph::NamedGraph;
 use crate::state::{RunState, Waiter};
@@ -43,7 +44,7 @@ pub fn arguments(
 {
     match run.waiting.last() {
         Some(waiter) => passed(alloc, graph, &run.store, waiter, of_type),
-        None => given(alloc, call_of(item_at(script, run.taken as usize - 1))),
+        None => given(alloc, last_call(script, run.taken)),
     }
 }
 

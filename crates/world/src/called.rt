@@ -1,19 +1,20 @@
 //! The functions that tasks run.
 
-ghost use Rattle.std.specs.Prelude.{◌≡◌, ◌<◌, length, Some};
+ghost use Rattle.std.specs.Prelude.{◌≡◌, ◌<◌, ◌+◌, ℕ, length, Some};
 ghost use Rattle.std.specs.List.{slice_get};
 ghost use Rattle.ca_types.specs.declared.exports.Export.{Export};
 ghost use Rattle.comp_graph.specs.declared.graph.Lower.{Lower};
 ghost use Rattle.comp_graph.specs.Graph.{Lifted, func_named};
 ghost use Rattle.canonical_machine.specs.World.{Task};
-ghost use Rattle.canonical_machine.specs.Reading.{lower_at, lower_of, lifted_of};
+ghost use Rattle.canonical_machine.specs.Reading.{lower_at, lifted_of};
 ghost use Rattle.world.specs.Seen.{IsCalled, IsScriptCall, waiters};
 ghost use Rattle.world.specs.Called.{IsFunc, IsRunBy};
 
+use crate::canons::{canon_at, lower_of};
 use crate::named_graph::NamedGraph;
 use crate::state::RunState;
 use ca_types::FuncType;
-use comp_graph::{CanonFunc, Graph, Lift, Lower, PassedTypes};
+use comp_graph::{Graph, Lift, PassedTypes};
 use script_reader::{Call, Item, Script};
 
 /// The function that a task runs.
@@ -57,35 +58,25 @@ fn lowered<'g>(graph: &NamedGraph<'g, '_>, canon: usize) -> CalledFunc<'g>
     }
 }
 
-/// The core function of the Canonical ABI of a number.
-pub fn canon_at<'g>(graph: &'g Graph<'_>, number: usize) -> &'g CanonFunc
-    requires { number < length graph.now.canons }
-    ensures { slice_get graph.now.canons number ≡ Some result.now }
-{
-    &graph.canons()[number]
-}
-
-/// The lower that this is, whole: the function that is lowered, with its type and the options (Component Model, CanonicalABI.md,
-/// `canon lower`).
-pub fn lower_of(canon: &CanonFunc) -> &Lower
-    ensures { lower_of canon.now ≡ Some result.now }
-{
-    match canon {
-        CanonFunc::Lower(lower) => lower,
-    }
-}
-
 /// The function that the last of so many items of a script calls.
 fn last_taken<'g>(graph: &NamedGraph<'g, '_>, script: &Script, taken: u32) -> CalledFunc<'g>
     requires { (task : Task) × IsScriptCall graph.now script.now taken task }
     ensures { (task : Task) → IsScriptCall graph.now script.now taken task → IsRunBy result task }
 {
-    let call = call_of(item_at(script, taken as usize - 1));
+    let call = last_call(script, taken);
     exported(graph, call.name.as_str())
 }
 
+/// The call of a script that was taken last, of so many.
+pub fn last_call(script: &Script, taken: u32) -> &Call
+    requires { (number : ℕ) × (taken ≡ number + 1) × (number < length script.now.items) }
+    ensures { (number : ℕ) → taken ≡ number + 1 → slice_get script.now.items number ≡ Some (Item.Call result.now) }
+{
+    call_of(item_at(script, taken as usize - 1))
+}
+
 /// The item of a number.
-pub(crate) fn item_at(script: &Script, number: usize) -> &Item
+fn item_at(script: &Script, number: usize) -> &Item
     requires { number < length script.now.items }
     ensures { slice_get script.now.items number ≡ Some result.now }
 {
@@ -93,7 +84,7 @@ pub(crate) fn item_at(script: &Script, number: usize) -> &Item
 }
 
 /// The call that an item is.
-pub(crate) fn call_of(item: &Item) -> &Call
+fn call_of(item: &Item) -> &Call
     ensures { item.now ≡ Item.Call result.now }
 {
     match item {

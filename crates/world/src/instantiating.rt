@@ -6,7 +6,7 @@ ghost use Rattle.canonical_machine.specs.Sound.{IsSound};
 ghost use Rattle.canonical_machine.specs.Owners.{IsApart};
 ghost use Rattle.world.specs.Seen.{IsAtPlan, IsAtFree};
 ghost use Rattle.world.specs.Starting.{GoesOrEnds};
-ghost use Rattle.world.specs.Onward.{TakesNone};
+ghost use Rattle.world.specs.Changes.{TakesNone};
 
 use crate::externals::externals_of;
 use crate::starting::start_up;

@@ -11,13 +11,12 @@
 //! where it stops, or with the end of the run: so functions are called one behind the other, and no clause speaks of a loop. Want of
 //! memory says nothing of the run, and leaves no stack out of `RunState`, which is then given up.
 //!
-//! - `state`: what a run has so far, and a run before its graph is instantiated; `next_task`: which task is next
-//! - `laws`: what is proved of parts of runs
+//! - `state`: what a run has so far, and a run before its graph is instantiated; `laws`: what is proved of parts of runs
 //! - `instantiating`: the actions of a graph's plan; `starting`: start functions; `externals`: imports, by their addresses
 //! - `taking`: the next item of the script; `copying`: values that are the same; `named_graph`: exports by their names
 //! - `running`: the acting task's stack, up to a call of a core function of the Canonical ABI, its end, a trap or want of fuel
-//! - `called`: the function that a task runs; `canon_types`: core types of canonical functions; `addresses`: those of core definitions
-//! - `argument_values`: a task's arguments as they are lifted; `results`: its result as it is lifted
+//! - `called`: the function that a task runs; `canons`: canonical functions by their numbers; `canon_types`: their core types
+//! - `addresses`: those of core definitions; `argument_values`: a task's arguments as they are lifted; `results`: its result as it is lifted
 //! - `trap_names`: the names of traps; `refusing`: calls of canonical functions that are traps; `dump`: the text of what a run leaves
 #![tactic(auto)]
 
@@ -25,13 +24,13 @@ mod addresses;
 mod argument_values;
 mod called;
 mod canon_types;
+mod canons;
 mod copying;
 mod dump;
 mod externals;
 mod instantiating;
 mod laws;
 mod named_graph;
-mod next_task;
 mod refusing;
 mod results;
 mod running;
@@ -42,14 +41,14 @@ mod trap_names;
 
 pub use addresses::{func_address, memory_of, realloc_of};
 pub use argument_values::arguments;
-pub use called::{CalledFunc, called_func, canon_at, lower_of};
+pub use called::{CalledFunc, called_func, last_call};
 pub use canon_types::canon_func_types;
+pub use canons::{builtin_of, canon_at, lower_of};
 pub use dump::dump_text;
 pub use instantiating::instantiate;
 pub use laws::{parts_join, post_returns_lead, safe_worlds_stay, stacks_lead};
 pub use named_graph::NamedGraph;
-pub use next_task::{Leaving, Onward};
-pub use refusing::{builtin_of, refuse};
+pub use refusing::refuse;
 pub use results::lifted_result;
 pub use running::{Stop, run_stack};
 pub use state::{RunState, Waiter, give_up_all};

@@ -1,15 +1,13 @@
-//! Calls of core functions of the Canonical ABI that trap, because the component of the code that makes them may not leave.
+//! Calls of core functions of the Canonical ABI that trap, because the component instance of the code that makes them may not be left.
 
-ghost use Rattle.std.specs.Prelude.{◌≡◌, ◌<◌, Some, IfOk, length};
-ghost use Rattle.std.specs.List.{slice_get};
-ghost use Rattle.comp_graph.specs.declared.graph.CanonFunc.{CanonFunc};
-ghost use Rattle.canonical_machine.specs.Reading.{builtin_of};
+ghost use Rattle.std.specs.Prelude.{◌<◌, IfOk, length};
 ghost use Rattle.world.specs.Refusing.{IsRefused};
 
+use crate::canons::builtin_of;
 use ca_base::{Memory, Seq};
 use canonical_machine::RunEnd;
-use comp_graph::{CanonFunc, Graph};
-use trace_show::{Builtin, Label, TrapName};
+use comp_graph::Graph;
+use trace_show::{Label, TrapName};
 use wasm_execution::Words;
 
 /// Tells a call of the core function of the Canonical ABI of this number with these words, which is a trap (Component Model,
@@ -36,14 +34,4 @@ pub fn refuse(
         task: blame,
         why: TrapName::CannotLeave,
     })
-}
-
-/// The name of the core function of the Canonical ABI of a number.
-pub fn builtin_of(graph: &Graph, number: usize) -> Builtin
-    requires { number < length graph.now.canons }
-    ensures { (canon : CanonFunc) → slice_get graph.now.canons number ≡ Some canon → result ≡ builtin_of canon }
-{
-    match graph.canons()[number] {
-        CanonFunc::Lower(_) => Builtin::Lower,
-    }
 }

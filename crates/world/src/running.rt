@@ -5,7 +5,7 @@ ghost use Rattle.canonical_machine.specs.Sound.{IsSound};
 ghost use Rattle.canonical_machine.specs.Owners.{IsApart};
 ghost use Rattle.world.specs.Seen.{IsAtStack};
 ghost use Rattle.world.specs.Stopping.{StopsAt};
-ghost use Rattle.world.specs.Onward.{Stopped, TellsNone};
+ghost use Rattle.world.specs.Changes.{Stopped, TellsNone};
 
 use crate::state::{RunState, Waiter};
 use crate::trap_names::core_name;

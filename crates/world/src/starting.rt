@@ -5,7 +5,7 @@ ghost use Rattle.canonical_machine.specs.Sound.{IsSound};
 ghost use Rattle.canonical_machine.specs.Owners.{IsApart};
 ghost use Rattle.world.specs.Seen.{IsAtPlan};
 ghost use Rattle.world.specs.Starting.{IsStarting, IsAtStart, GoesOrEnds};
-ghost use Rattle.world.specs.Onward.{TakesNone};
+ghost use Rattle.world.specs.Changes.{TakesNone};
 
 use crate::refusing::refuse;
 use crate::state::RunState;

@@ -2,12 +2,13 @@
 
 ghost use Rattle.std.specs.Prelude.{◌≡◌, map, Some, IfOk, MatchResult};
 ghost use Rattle.std.specs.List.{slice_get};
-ghost use Rattle.comp_graph.specs.Graph.{Lifted, func_named, func_at};
+ghost use Rattle.ca_base.specs.Names.{first_named};
+ghost use Rattle.comp_graph.specs.Graph.{Lifted, names, func_named, func_at};
 ghost use Rattle.canonical_machine.specs.Calling.{typed};
 ghost use Rattle.canonical_machine.specs.Sound.{IsSound, IsSoundCall};
 ghost use Rattle.canonical_machine.specs.Owners.{IsApart};
 ghost use Rattle.world.specs.Seen.{IsAtFree, IsAtArrival, EndsBy};
-ghost use Rattle.world.specs.Onward.{Takes, TellsNone};
+ghost use Rattle.world.specs.Changes.{TakesItem, TellsNone};
 
 use crate::copying::same_value;
 use crate::named_graph::NamedGraph;
@@ -32,7 +33,7 @@ pub fn take_item(
     requires apart { IsApart graph.now }
     requires free { IsAtFree graph.now script.now run.old }
     ensures taken { IfOk result (λ taken. MatchResult taken (λ t. IsAtArrival graph.now script.now run.new t) (λ end. EndsBy graph.now script.now run.new end)) }
-    ensures pays { IfOk result (λ taken. MatchResult taken (λ t. Takes run.old run.new) (λ end. TellsNone run.old run.new)) }
+    ensures pays { IfOk result (λ taken. MatchResult taken (λ t. TakesItem run.old run.new) (λ end. TellsNone run.old run.new)) }
 {
     match script.items().get(run.taken as usize) {
         Some(Item::Call(call)) => take_call(alloc, graph, script, call, run),
@@ -53,7 +54,7 @@ fn take_call(
     requires free { IsAtFree graph.now script.now run.old }
     requires there { slice_get script.now.items run.old.taken ≡ Some (Item.Call call.now) }
     ensures taken { IfOk result (λ taken. MatchResult taken (λ t. IsAtArrival graph.now script.now run.new t) (λ end. EndsBy graph.now script.now run.new end)) }
-    ensures pays { IfOk result (λ taken. MatchResult taken (λ t. Takes run.old run.new) (λ end. TellsNone run.old run.new)) }
+    ensures pays { IfOk result (λ taken. MatchResult taken (λ t. TakesItem run.old run.new) (λ end. TellsNone run.old run.new)) }
 {
     // Its clause says how much fuel there is at most.
     let _fuel = script.fuel();
@@ -78,10 +79,11 @@ fn take_call(
     Ok(Ok(task))
 }
 
-/// The number of the export that a call names.
+/// The number of the export that a call names: the first of its name.
 pub fn called_export(graph: &NamedGraph, call: &Call) -> usize
     requires { IsSoundCall graph.now call.now }
-    ensures { (f : Lifted) × (func_named graph.now call.now.name ≡ Some f) × (func_at graph.now result ≡ Some f) }
+    ensures first { first_named call.now.name (names graph.now.exports) ≡ Some result }
+    ensures lifts { (f : Lifted) × (func_named graph.now call.now.name ≡ Some f) × (func_at graph.now result ≡ Some f) }
 {
     graph.number(call.name.as_str()).unwrap()
 }

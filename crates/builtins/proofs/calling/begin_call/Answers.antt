@@ -3,6 +3,7 @@ use Rattle.std.specs.List.{slice_get}
 use Rattle.comp_graph.specs.Graph.{Graph}
 use Rattle.canonical_machine.specs.Reading.{lower_at}
 use Rattle.builtins.proofs.Begun.{some_wait_in, caller_in, within_found, told_back, told_makes, another}
+use Rattle.builtins.proofs.Telling.{two_lines}
 use Rattle.builtins.proofs.calling.begin_call.Goals as goal
 
 pub innermost-caller-requires : goal.innermost-caller-requires
@@ -68,3 +69,18 @@ returns-clause-begins c =
           })
           told.1 c.if-back.false;
     }
+
+pub returns-then-back-clause-tells : goal.returns-then-back-clause-tells
+returns-then-back-clause-tells c = (c.builtin_of-builtin.result, c.in_ok-words.words, record { taken = refl; tasks = omega arith; told = c.in_ok-push.ensures.ok })
+
+pub returns-clause-tells : goal.returns-clause-tells
+returns-clause-tells c = (
+  c.builtin_of-builtin.result,
+  c.in_ok-words.words,
+  c.in-Some-line_number.number,
+  record {
+    taken = refl;
+    tasks = search rules;
+    told = two_lines c.args.run.now.labels c.push.new.self c.push-2.new.self _ _ c.in_ok-push.ensures.ok c.in_ok-push-2.ensures.ok;
+  },
+)

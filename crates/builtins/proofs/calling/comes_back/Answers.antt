@@ -13,14 +13,14 @@ pub called_export-requires : goal.called_export-requires
 called_export-requires c = last_is_sound c.args.graph.now c.args.script.now c.args.run.now c.args.task c.last_call-call.result.now c.requires.sound c.requires.at c.last_call-call.ensures
 
 pub lift-first-requires : goal.lift-first-requires
-lift-first-requires c = let f = c.called_export.ensures in export_within c.args.graph.now c.called_export.result f.0 f.2
+lift-first-requires c = let f = c.called_export.ensures.lifts in export_within c.args.graph.now c.called_export.result f.0 f.2
 
 pub others-requires : goal.others-requires
 others-requires c = some_wait_in c.args.graph.now c.args.script.now c.args.run.now c.args.task c.deref.result.now c.requires.at c.deref.ensures.value
 
 pub returns-clause-comes : goal.returns-clause-comes
 returns-clause-comes c at =
-    let f = c.called_export.ensures in
+    let f = c.called_export.ensures.lifts in
     let first = c.lift-first.result.instance in
     let below = others_are c.args.run.now.waiting.items at.caller at.below at.are in
     back_is c.args.graph.now c.args.script.now c.args.run.now c.args.task c.requires.sound c.requires.apart at c.last_call-call.result.now c.called_export.result c.args.instance f.0 c.lift-first.result

@@ -1,4 +1,4 @@
-use Rattle.world.proofs.Progress.{arrives_fewer}
+use Rattle.builtins.proofs.Progress.{arrives_fewer}
 use Rattle.builtins.proofs.looping.descend.Goals as goal
 
 pub loop-called-smaller : goal.loop-called-smaller

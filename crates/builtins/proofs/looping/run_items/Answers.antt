@@ -1,5 +1,5 @@
 use Rattle.std.proofs.Common.{◌≤◌, ◌∙◌, rules, arith}
-use Rattle.world.proofs.Progress.{none_held, taken_is, went_on}
+use Rattle.builtins.proofs.Progress.{none_held, taken_is, went_on}
 use Rattle.builtins.proofs.looping.run_items.Goals as goal
 
 pub run_call-requires-clause-held : goal.run_call-requires-clause-held

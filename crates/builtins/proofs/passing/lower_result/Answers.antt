@@ -1,4 +1,4 @@
-use Rattle.std.proofs.Common.{◌≡◌, ◌<◌, ◌-◌, sym, ap, ◌∙◌, subst, List, length, Option, Some}
+use Rattle.std.proofs.Common.{◌≡◌, ◌<◌, ◌-◌, refl, sym, ap, ◌∙◌, subst, List, length, Option, Some}
 use Rattle.std.specs.List.{slice_get}
 use Rattle.std.specs.Option.{option_and_then}
 use Rattle.comp_graph.specs.Graph.{Graph}
@@ -13,6 +13,7 @@ use Rattle.world.specs.Refusing.{IsRefused}
 use Rattle.builtins.specs.Lowering.{plan_to, LoweredLeads}
 use Rattle.world.proofs.Callees.{last_first}
 use Rattle.builtins.proofs.Resolving.{canon_within, of_result, is_plain, holds_none, words_passed, caller_options, lowering_at, lowering, lowering_world, result_typed, same_val, passes_words, passing_traps, passing_call_there, passing_refused, passing_wants}
+use Rattle.builtins.proofs.Telling.{return_told, told_refused}
 use Rattle.builtins.proofs.passing.lower_result.Goals as goal
 
 pub canon_at-requires : goal.canon_at-requires
@@ -171,3 +172,17 @@ returns-in_ok-end-in-Refused-clause-goes c =
     c.innermost-caller.result.now last.0 last.1 c.lower_of-lowers.result.now lowers c.args.typed c.requires.lifts)))
     (result_typed c.args.graph.now c.args.script.now c.args.run.now c.args.task c.args.ended.now c.args.func.now c.requires.sound c.requires.apart c.requires.at c.requires.runs
     c.innermost-caller.result.now last.0 last.1 c.lower_of-lowers.result.now lowers c.args.typed c.requires.lifts).0 c.lower_options-options.ensures.memory c.lower_options-options.ensures.realloc)))
+
+pub returns-in-Words-clause-tells : goal.returns-in-Words-clause-tells
+returns-in-Words-clause-tells c = return_told _ _ c.args.task _ c.in_ok-push.ensures.ok refl refl
+
+pub returns-in-Trapped-clause-tells : goal.returns-in-Trapped-clause-tells
+returns-in-Trapped-clause-tells c = return_told _ _ c.args.task _ c.in_ok-push.ensures.ok refl refl
+
+pub returns-in-NoFuel-clause-tells : goal.returns-in-NoFuel-clause-tells
+returns-in-NoFuel-clause-tells c = return_told _ _ c.args.task _ c.in_ok-push.ensures.ok refl refl
+
+pub returns-in_ok-end-in-Refused-clause-tells : goal.returns-in_ok-end-in-Refused-clause-tells
+returns-in_ok-end-in-Refused-clause-tells c =
+    told_refused _ _ c.args.task _ c.push.new.self c.graph-in-Refused.result.now c.in-Refused.call.address c.in-Refused.call.words c.innermost-caller.result.now.task c.args.task c.in_ok-end-in-Refused.end
+    c.in_ok-push.ensures.ok c.in_ok-end-in-Refused.ensures refl refl

@@ -2,6 +2,7 @@ use Rattle.std.proofs.Common.{refl}
 use Rattle.wasm_execution.specs.declared.running.Outcome.TheVariants as outcome
 use Rattle.world.proofs.Moving.{run_spends}
 use Rattle.builtins.proofs.PostReturns.{post_return_typed, post_return_done, post_return_traps, post_return_wants, post_return_calls, post_return_cannot_leave}
+use Rattle.builtins.proofs.Telling.{refused_at_return}
 use Rattle.builtins.proofs.post_returning.run_post_return.Goals as goal
 
 pub run-requires : goal.run-requires
@@ -40,3 +41,7 @@ returns-in-Done-clause-spends c = record {
   left = run_spends c.args.state.now.store c.run.new.store c.args.running (outcome.Done c.in-Done._words) c.args.state.now.left c.run.new.fuel c.in-Done.ensures.gives;
   waiting = refl;
 }
+
+pub returns-in_ok-end-in-Calls-clause-tells : goal.returns-in_ok-end-in-Calls-clause-tells
+returns-in_ok-end-in-Calls-clause-tells c =
+    refused_at_return _ _ c.args.graph.now c.in-Calls.number c.in-Calls.words c.args.task c.args.task c.in_ok-end-in-Calls.end c.in_ok-end-in-Calls.ensures refl refl

@@ -1,6 +1,6 @@
 -- The actions so far are done, and no item of the script is taken.
 use Rattle.world.specs.Seen.{IsAtPlan}
-use Rattle.world.specs.Onward.{TakesNone}
+use Rattle.world.specs.Changes.{TakesNone}
 use Rattle.world.proofs.instantiating.instantiate.Given as goal
 
 abbrev pub invariant-loop-number : goal.invariant-loop-number

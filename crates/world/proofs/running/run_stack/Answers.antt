@@ -1,4 +1,6 @@
-use Rattle.std.proofs.Common.{◌∙◌, ◌++◌, ◌∷◌, [], ap, refl}
+use Rattle.std.proofs.Common.{◌∙◌, ◌++◌, ◌∷◌, [], ap, refl, inl, inr}
+use Rattle.trace_show.specs.declared.trap.TrapName.{TrapName}
+use Rattle.canonical_machine.specs.declared.run_end.RunEnd.TheVariants.{Trapped}
 use Rattle.world.specs.declared.state.RunState.{RunState}
 use Rattle.world.proofs.TaskRuns.{stack_typed, stack_traps, stack_wants, stack_ends, stack_calls, reserved}
 use Rattle.world.specs.declared.state.Waiter.{Waiter}
@@ -16,15 +18,21 @@ returns-in-Done-clause-stops c =
 
 pub returns-in-Trapped-clause-stops : goal.returns-in-Trapped-clause-stops
 returns-in-Trapped-clause-stops c =
-    let run : RunState = record c.args.state.now { waiting = c.reserve.new.self } in
-    stack_traps c.args.graph.now c.args.script.now run c.args.task c.args.running c.in-Trapped.why c.run.new.store c.run.new.fuel c.core_name.result
-    (reserved c.args.graph.now c.args.script.now c.args.state.now run c.args.task c.args.running refl refl refl refl refl refl c.reserve.ensures.items c.requires.at) c.in-Trapped.ensures.gives c.core_name.ensures
+    let run : RunState = record c.args.state.now { waiting = c.reserve.new.self } in (
+      stack_traps c.args.graph.now c.args.script.now run c.args.task c.args.running c.in-Trapped.why c.run.new.store c.run.new.fuel c.core_name.result
+          (reserved c.args.graph.now c.args.script.now c.args.state.now run c.args.task c.args.running refl refl refl refl refl refl c.reserve.ensures.items c.requires.at)
+          c.in-Trapped.ensures.gives c.core_name.ensures,
+      inr (c.in-Trapped.why, ap (λ (name : TrapName). Trapped c.args.task name) c.core_name.ensures),
+    )
 
 pub returns-in-NoFuel-clause-stops : goal.returns-in-NoFuel-clause-stops
 returns-in-NoFuel-clause-stops c =
-    let run : RunState = record c.args.state.now { waiting = c.reserve.new.self } in
-    stack_wants c.args.graph.now c.args.script.now run c.args.task c.args.running c.in-NoFuel.running c.run.new.store c.run.new.fuel
-    (reserved c.args.graph.now c.args.script.now c.args.state.now run c.args.task c.args.running refl refl refl refl refl refl c.reserve.ensures.items c.requires.at) c.in-NoFuel.ensures.gives
+    let run : RunState = record c.args.state.now { waiting = c.reserve.new.self } in (
+      stack_wants c.args.graph.now c.args.script.now run c.args.task c.args.running c.in-NoFuel.running c.run.new.store c.run.new.fuel
+          (reserved c.args.graph.now c.args.script.now c.args.state.now run c.args.task c.args.running refl refl refl refl refl refl c.reserve.ensures.items c.requires.at)
+          c.in-NoFuel.ensures.gives,
+      inl refl,
+    )
 
 pub returns-in-Calls-clause-stops : goal.returns-in-Calls-clause-stops
 returns-in-Calls-clause-stops c =

@@ -1,34 +1,26 @@
--- What the parts of a run do with its data (Component Model, CanonicalABI.md, `canon lift` and `canon lower`): the fuel that they spend, the
--- tasks that wait, and where a stack that runs leads.
-use Rattle.std.specs.Prelude.{◌≡◌, ◌≤◌, ◌<◌, ◌+◌, ℕ, Bool, false, ◌||◌, List, [], ◌∷◌, ◌++◌, Option, Some, None, MatchOption}
+-- Where a run goes on, and what has become of its data there, where tasks enter, call, return and exit (Component Model, CanonicalABI.md,
+-- `canon lift` and `canon lower`): the fuel that is spent, and the tasks that wait.
+use Rattle.std.specs.Prelude.{◌≡◌, ◌≤◌, ◌<◌, ℕ, Bool, false, ◌||◌, List, [], ◌∷◌, ◌++◌, Option, Some, None, MatchOption}
 use Rattle.std.specs.List.{AllByRecursion}
 use Rattle.std.specs.Option.{option_map}
-use Rattle.core_machine.specs.Stack.{Stack, Running, AtHost, Given}
+use Rattle.core_machine.specs.Stack.{Stack}
 use Rattle.core_machine.specs.Step.{resume}
 use Rattle.comp_graph.specs.declared.graph.Lower.{Lower}
 use Rattle.comp_graph.specs.Graph.{Graph}
 use Rattle.script_reader.specs.Script.{Script}
-use Rattle.trace_show.specs.declared.label.Label.{Label}
 use Rattle.canonical_machine.specs.declared.run_end.RunEnd.{RunEnd}
 use Rattle.canonical_machine.specs.Reading.{is_in, lower_at, lifted_of}
-use Rattle.world.specs.declared.running.Stop.{Stop}
-use Rattle.world.specs.declared.running.Stop.TheVariants as stop
-use Rattle.world.specs.declared.next_task.Leaving.{Leaving}
-use Rattle.world.specs.declared.next_task.Leaving.TheVariants as leaving
-use Rattle.world.specs.declared.next_task.Onward.{Onward}
-use Rattle.world.specs.declared.next_task.Onward.TheVariants as onward
 use Rattle.world.specs.declared.state.Waiter.{Waiter}
 use Rattle.world.specs.declared.state.RunState.{RunState}
 use Rattle.world.specs.Seen.{waiters, IsAtFree, IsAtArrival, IsAtReturn, EndsBy}
 use Rattle.world.specs.Points.{IsAtBack}
+use Rattle.world.specs.Changes.{IsHeld, Spends}
+use Rattle.builtins.specs.declared.next_task.Leaving.{Leaving}
+use Rattle.builtins.specs.declared.next_task.Leaving.TheVariants as leaving
+use Rattle.builtins.specs.declared.next_task.Onward.{Onward}
+use Rattle.builtins.specs.declared.next_task.Onward.TheVariants as onward
 
--- a stack that is at no call of a core function of the Canonical ABI without a frame
-abbrev pub IsHeld : Stack → Type 0
-IsHeld (Running f fs) = Unit {0}
-IsHeld (AtHost address words) = ⊥
-IsHeld (Given words) = Unit {0}
-
--- so are those of all tasks that wait
+-- The stacks of all tasks that wait are held.
 abbrev pub AreHeld : List Waiter → Type 0
 AreHeld us = AllByRecursion (λ u. IsHeld u.stack.stack) us
 
@@ -37,49 +29,13 @@ abbrev pub is_called : Graph → List Waiter → ℕ → Bool
 is_called g [] inst = false
 is_called g (u ∷ us) inst = is_in inst (option_map lifted_of (lower_at g u.canon)) || is_called g us inst
 
--- A part spends fuel or none, and leaves the tasks that wait as they are.
-pub record Spends (old new : RunState) : Type 0 where
-  pub left : new.left ≤ old.left
-  pub waiting : new.waiting.items ≡ old.waiting.items
-
--- An item was taken, which costs a unit, makes a task and adds a line.
-pub record Takes (old new : RunState) : Type 0 where
-  pub left : new.left < old.left
-  pub waiting : new.waiting.items ≡ old.waiting.items
-  pub taken : new.taken ≡ old.taken + 1
-  pub tasks : new.tasks ≡ old.tasks + 1
-  pub line : Label
-  pub more : new.labels ≡ old.labels ++ line ∷ []
-
--- No item was taken, and no task made.
-abbrev pub TakesNone : RunState → RunState → Type 0
-TakesNone old new = (new.taken ≡ old.taken) × (new.tasks ≡ old.tasks)
-
--- No line was added either.
-abbrev pub TellsNone : RunState → RunState → Type 0
-TellsNone old new = (new.labels ≡ old.labels) × TakesNone old new
-
--- A stack rests at a call: its task is the innermost that waits, on a stack that is held. One that was held has paid for the call.
-pub record Waits (old new : RunState) (k : Stack) : Type 0 where
-  pub left : new.left ≤ old.left
-  pub waiter : Waiter
-  pub more : new.waiting.items ≡ old.waiting.items ++ waiter ∷ []
-  pub held : IsHeld waiter.stack.stack
-  pub pays : IsHeld k → new.left < old.left
-
--- what became of the data where this stack ran
-abbrev pub Stopped : RunState → RunState → Stack → Stop → Type 0
-Stopped old new k stop.AtCall = Waits old new k
-Stopped old new k (stop.Returns words) = Spends old new
-Stopped old new k (stop.Ends end) = Unit {0}
-
 -- The innermost task that waits calls a function of a component instance of which no other one that waits calls one.
 abbrev pub CallsAnother : Graph → List Waiter → Type 0
 CallsAnother g [] = ⊥
 CallsAnother g (u ∷ below) = (lower : Lower) × (lower_at g u.canon ≡ Some lower) × (is_called g below lower.lift.instance ≡ false)
 
 -- what became of the data where its call has begun
-pub record Begins (g : Graph) (old new : RunState) : Type 0 where
+pub record BeginsCall (g : Graph) (old new : RunState) : Type 0 where
   pub spends : Spends old new
   pub another : CallsAnother g (waiters old)
 
@@ -112,10 +68,10 @@ pub record CallsMore (g : Graph) (old new : RunState) : Type 0 where
   pub another : CallsAnother g (waiter ∷ waiters old)
 
 -- What became of the data where a task has exited.
-abbrev pub Left : RunState → RunState → Leaving → Type 0
-Left old new leaving.Free = Spends old new
-Left old new (leaving.Back words) = Spends old new
-Left old new (leaving.Ends end) = Unit {0}
+abbrev pub ExitSpends : RunState → RunState → Leaving → Type 0
+ExitSpends old new leaving.Free = Spends old new
+ExitSpends old new (leaving.Back words) = Spends old new
+ExitSpends old new (leaving.Ends end) = Unit {0}
 
 -- the same where a part goes on or ends the run
 abbrev pub SpendsOrEnds : RunState → RunState → Option RunEnd → Type 0
@@ -144,6 +100,6 @@ pub record IsReturned (g : Graph) (s : Script) (old new : RunState) (t : ℕ) (w
   pub held : AreHeld new.waiting.items
 
 -- Tasks have exited, up to the one that the script called, or up to one that calls another function, for which it has paid.
-abbrev pub IsLeft : Graph → Script → RunState → RunState → Option ℕ → Type 0
-IsLeft g s old new None = IsAtFree g s new × (new.left ≤ old.left)
-IsLeft g s old new (Some t) = IsAtArrival g s new t × (new.left < old.left) × AreHeld new.waiting.items
+abbrev pub HasAscended : Graph → Script → RunState → RunState → Option ℕ → Type 0
+HasAscended g s old new None = IsAtFree g s new × (new.left ≤ old.left)
+HasAscended g s old new (Some t) = IsAtArrival g s new t × (new.left < old.left) × AreHeld new.waiting.items
