@@ -9,7 +9,6 @@ use Rattle.script_reader.specs.declared.fault.ScriptFault.{ScriptFault}
 use Rattle.script_reader.specs.Script.{Script, script}
 use Rattle.wcm.specs.declared.answer.Answer.{Answer}
 use Rattle.comp_graph.specs.Graph.{Graph}
-use Rattle.comp_linking.specs.declared.reach.Reach.TheVariants.{Whole}
 use Rattle.comp_linking.specs.Linked.{IsLinked}
 use Rattle.comp_linking.specs.Laws.{LinkedOrRefused}
 use Rattle.wcm.specs.Laws.{HoldsBytes, ScriptsAreSound, OneOutcome}
@@ -22,25 +21,25 @@ use Rattle.wcm.proofs.Rows.{usage_answer}
 use Rattle.wcm.proofs.Rows as only
 
 module _ (reading : OneReading) (links : LinkedOrRefused) (sound : ScriptsAreSound) (apart : LinkedGraphsAreApart) (ends : EachRunEnds) where
-  by_script : (bytes text : List ℕ) (c : Component) (g : Graph) (dump : Bool) (r : Result Script ScriptFault) → AreBytes bytes → IsComponent bytes c → IsLinked Whole c g → script g.exports text ≡ r → (a : Answer) × ScriptAnswers g text dump a
+  by_script : (bytes text : List ℕ) (c : Component) (g : Graph) (dump : Bool) (r : Result Script ScriptFault) → AreBytes bytes → IsComponent bytes c → IsLinked c g → script g.exports text ≡ r → (a : Answer) × ScriptAnswers g text dump a
   by_script bytes text c g dump (Err fault) b i l h = (script_refused_answer fault, inl (fault, h, refl))
   by_script bytes text c g dump (Ok s) b i l h =
-      let run = ends g s (sound bytes text c g s b i l h) (apart Whole c g l) in
+      let run = ends g s (sound bytes text c g s b i l h) (apart c g l) in
       (run_answer dump run.0 run.1 run.2, inr (s, h, (run.0, run.1, run.2, run.3, refl)))
 
-  by_held_script : (bytes : List ℕ) (c : Component) (g : Graph) (o : Option (List ℕ)) (dump : Bool) → AreBytes bytes → IsComponent bytes c → IsLinked Whole c g → IsSome o → (a : Answer) × HeldScriptAnswers g o dump a
+  by_held_script : (bytes : List ℕ) (c : Component) (g : Graph) (o : Option (List ℕ)) (dump : Bool) → AreBytes bytes → IsComponent bytes c → IsLinked c g → IsSome o → (a : Answer) × HeldScriptAnswers g o dump a
   by_held_script bytes c g None dump b i l told = cc
   by_held_script bytes c g (Some text) dump b i l told = by_script bytes text c g dump (script g.exports text) b i l refl
 
   -- the answer of a command behind a graph
-  by_command : (bytes : List ℕ) (command : Command) (held : List ℕ → Option (List ℕ)) (c : Component) (g : Graph) → AreBytes bytes → IsComponent bytes c → IsLinked Whole c g → IsScriptTold command held → (a : Answer) × GraphAnswers command held g a
+  by_command : (bytes : List ℕ) (command : Command) (held : List ℕ → Option (List ℕ)) (c : Component) (g : Graph) → AreBytes bytes → IsComponent bytes c → IsLinked c g → IsScriptTold command held → (a : Answer) × GraphAnswers command held g a
   by_command bytes (Run f s dump) held c g b i l told = by_held_script bytes c g (held s) dump b i l told
   by_command bytes (Check f) held c g b i l told = (accepted_answer, refl)
   by_command bytes (Show f) held c g b i l told = (shown_answer g, refl)
 
   by_link : (bytes : List ℕ) (command : Command) (held : List ℕ → Option (List ℕ)) (c : Component) → AreBytes bytes → IsComponent bytes c → IsScriptTold command held → (a : Answer) × LinkAnswers c a (λ g. GraphAnswers command held g a)
   by_link bytes command held c b i told =
-      elim (links Whole c) [
+      elim (links c) [
         | inl good ↦
             let a = by_command bytes command held c good.0 b i good.1 told in
             (a.0, inr (good.0, good.1, a.1))

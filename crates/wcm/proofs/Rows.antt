@@ -20,7 +20,6 @@ use Rattle.canonical_machine.specs.World.{World}
 use Rattle.canonical_machine.specs.declared.run_end.RunEnd.{RunEnd}
 use Rattle.canonical_machine.specs.declared.run_end.RunEnd.TheVariants as ends
 use Rattle.comp_graph.specs.Graph.{Graph}
-use Rattle.comp_linking.specs.declared.reach.Reach.TheVariants.{Whole}
 use Rattle.comp_linking.specs.Linked.{IsLinked, IsLinkRefused}
 use Rattle.wcm.specs.Status.{status_of, IsBehindGraph}
 use Rattle.wcm.specs.Laws.{IsSameOutcome}
@@ -119,13 +118,13 @@ one_of_link : (c : Component) (command : Command) (held : List ℕ → Option (L
 one_of_link c command held a b h k =
     elim h [
       | inl bad ↦ elim k [
-        | inl worse ↦ bad.2 ∙ (ap (λ (f : LinkFault). link_refused_answer f) (following.one_refusal Whole c bad.0 worse.0 bad.1 worse.1) ∙ sym worse.2)
-        | inr good ↦ absurd (linked_is_not_refused Whole c good.0 bad.0 good.1 bad.1)
+        | inl worse ↦ bad.2 ∙ (ap (λ (f : LinkFault). link_refused_answer f) (following.one_refusal c bad.0 worse.0 bad.1 worse.1) ∙ sym worse.2)
+        | inr good ↦ absurd (linked_is_not_refused c good.0 bad.0 good.1 bad.1)
       ]
       | inr good ↦ elim k [
-        | inl bad ↦ absurd (linked_is_not_refused Whole c good.0 bad.0 good.1 bad.1)
+        | inl bad ↦ absurd (linked_is_not_refused c good.0 bad.0 good.1 bad.1)
         | inr better ↦
-            let same : better.0 ≡ good.0 = one_graph Whole c better.0 good.0 better.1 good.1 in
+            let same : better.0 ≡ good.0 = one_graph c better.0 good.0 better.1 good.1 in
             one_of_graph command held good.0 a b good.2 (subst (λ (g : Graph). GraphAnswers command held g b) same better.2)
       ]
     ]
@@ -164,13 +163,13 @@ one_answer words held command a b e h k =
     subst (λ (o : Option Command). MatchOption o ((b.status ≡ a.status) × (b.out ≡ a.out)) (λ command. b ≡ a)) e (one_outcome words held a b h k)
 
 -- A file that decides alone is of no component that is linked.
-decided : (bytes : List ℕ) (c : Component) (g : Graph) → IsComponentFile bytes c → IsLinked Whole c g → DecidesAlone bytes → ⊥
+decided : (bytes : List ℕ) (c : Component) (g : Graph) → IsComponentFile bytes c → IsLinked c g → DecidesAlone bytes → ⊥
 decided bytes c g i l d =
     elim d [
       | inl bad ↦ component_or_not bytes c bad.0 i bad.1
       | inr bad ↦
           let same : bad.0 ≡ c = one_component bytes bad.0 c bad.2 i in
-          linked_is_not_refused Whole c g bad.1 l (subst (λ (d : Component). IsLinkRefused Whole d bad.1) same bad.3)
+          linked_is_not_refused c g bad.1 l (subst (λ (d : Component). IsLinkRefused d bad.1) same bad.3)
     ]
 
 -- what is given behind a graph, where what the command asks for is told

@@ -4,7 +4,6 @@ use Rattle.std.specs.Prelude.{IfOk, replicate}
 use Rattle.std.specs.List.{AllByRecursion}
 use Rattle.ca_types.specs.declared.exports.Export.{Export}
 use Rattle.comp_graph.specs.Graph.{Graph}
-use Rattle.comp_linking.specs.declared.reach.Reach.TheVariants.{Whole}
 use Rattle.script_reader.specs.declared.fault.ScriptFault.{ScriptFault}
 use Rattle.script_reader.specs.Script.{Script, CallsExport}
 use Rattle.script_reader.specs.Laws.{ScriptsCallExports}
@@ -30,14 +29,14 @@ use Rattle.wcm.specs.Laws.{ScriptsAreSound}
 
 pub scripts_are_sound : ReadGraphsAreSound → ReadTypesAreCounted → ScriptsCallExports → CallsAreSound → ScriptsAreSound
 scripts_are_sound graphs counted called calls bytes text c g script are read links h =
-    calls g script (graphs Whole bytes c g are read links) (counted Whole bytes c g are read links) (called g.exports text script h)
+    calls g script (graphs bytes c g are read links) (counted bytes c g are read links) (called g.exports text script h)
 
 -- The graph of a component.
 pub apart_of : LinkedGraphsAreApart → (g : Graph) → IsOfComponent g → IsApart g
-apart_of apart g of = apart Whole of.0 g of.2
+apart_of apart g of = apart of.0 g of.2
 
 pub plain_of : ReadTypesAreCounted → CountedGraphsArePlain → (g : Graph) → IsOfComponent g → IsPlain g
-plain_of counted plain g of = plain g (counted Whole of.1.0 of.0 g of.1.1 of.1.2 of.2)
+plain_of counted plain g of = plain g (counted of.1.0 of.0 g of.1.1 of.1.2 of.2)
 
 -- What is read as a script for a graph.
 calls_of : (g : Graph) (exports : List Export) (r : Result Script ScriptFault) (script : Script) → exports ≡ g.exports → r ≡ Ok script → IfOk r (λ s. AllByRecursion (CallsExport exports) s.items) → AllByRecursion (CallsExport g.exports) script.items
@@ -47,7 +46,7 @@ calls_of g exports r script e h calls =
 pub sound_of : ReadGraphsAreSound → ReadTypesAreCounted → CallsAreSound → (g : Graph) (exports : List Export) (r : Result Script ScriptFault) (script : Script) → IsOfComponent g → exports ≡ g.exports → r ≡ Ok script
     → IfOk r (λ s. AllByRecursion (CallsExport exports) s.items) → IsSound g script
 sound_of graphs counted calls g exports r script of e h called =
-    calls g script (graphs Whole of.1.0 of.0 g of.1.1 of.1.2 of.2) (counted Whole of.1.0 of.0 g of.1.1 of.1.2 of.2) (calls_of g exports r script e h called)
+    calls g script (graphs of.1.0 of.0 g of.1.1 of.1.2 of.2) (counted of.1.0 of.0 g of.1.1 of.1.2 of.2) (calls_of g exports r script e h called)
 
 -- The status of a run's end is none of a deadlock.
 given_end : NoDeadlock → (g : Graph) (s : Script) (labels : List Label) (last : World) (end : RunEnd) → Runs g s labels last end → IsBehindGraph (status_of end)

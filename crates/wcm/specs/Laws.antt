@@ -6,7 +6,6 @@ use Rattle.comp_reader.specs.Binary.{IsComponent}
 use Rattle.script_reader.specs.Script.{Script, IsScript}
 use Rattle.wcm.specs.declared.answer.Answer.{Answer}
 use Rattle.comp_graph.specs.Graph.{Graph}
-use Rattle.comp_linking.specs.declared.reach.Reach.TheVariants.{Whole}
 use Rattle.comp_linking.specs.Linked.{IsLinked}
 use Rattle.canonical_machine.specs.Sound.{AreBytes, IsSound}
 use Rattle.wcm.specs.Outcome.{IsTold, Outcome}
@@ -17,7 +16,7 @@ use Rattle.command_words.specs.Words.{command_of}
 abbrev pub ScriptsAreSound : Type 0
 ScriptsAreSound =
     (bytes text : List ℕ) (c : Component) (g : Graph) (script : Script)
-    → AreBytes bytes → IsComponent bytes c → IsLinked Whole c g → IsScript g.exports text script → IsSound g script
+    → AreBytes bytes → IsComponent bytes c → IsLinked c g → IsScript g.exports text script → IsSound g script
 
 -- each file that is held is one of bytes
 abbrev pub HoldsBytes : (List ℕ → Option (List ℕ)) → Type 0

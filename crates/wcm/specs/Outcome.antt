@@ -1,8 +1,7 @@
 -- The outcome of a call of the program, from its words and the files that are held. The words lead to a command, and each
--- command has its own case: for all of them the component file and its linking decide it first, in this order, and each links over
--- all that is read; behind a graph `check` and `show` tell of it, and for `run` the script file and the run decide. The script is
--- asked for behind a linked graph alone. What a run has for the output is the text of its trace, and behind it the text of what its
--- last world leaves, where that is asked for.
+-- command has its own case: for all of them the component file and its linking decide it first, in this order; behind a graph `check`
+-- and `show` tell of it, and for `run` the script file and the run decide. The script is asked for behind a linked graph alone. What
+-- a run has for the output is the text of its trace, and behind it the text of what its last world leaves, where that is asked for.
 use Rattle.std.specs.Prelude.{◌≡◌, ◌<◌, ◌≤◌, ◌⊎◌, ℕ, Bool, true, false, if◌then◌else◌, List, [], ◌++◌, length, Option, Some, IsSome}
 use Rattle.std.specs.Option.{MatchOption}
 use Rattle.ca_base.specs.declared.refusal.Refusal.{Refusal}
@@ -26,7 +25,6 @@ use Rattle.canonical_machine.specs.Sound.{AreBytes}
 use Rattle.trace_show.specs.declared.trap.TrapName.{TrapName}
 use Rattle.wcm.specs.declared.answer.Answer.{Answer}
 use Rattle.wcm.specs.declared.status.Status.TheVariants.{Done, Usage, Refused, ScriptRefused, LinkRefused}
-use Rattle.comp_linking.specs.declared.reach.Reach.TheVariants.{Whole}
 use Rattle.comp_linking.specs.Linked.{IsLinked, IsLinkRefused}
 use Rattle.wcm.specs.Refusals.{refused_line, link_refused_line, script_refused_line}
 use Rattle.wcm.specs.Shown.{accepted_text, graph_text}
@@ -38,7 +36,7 @@ abbrev pub IsRead : Component → Type 0
 IsRead c = (bytes : List ℕ) × AreBytes bytes × IsComponent bytes c
 
 abbrev pub IsOfComponent : Graph → Type 0
-IsOfComponent g = (c : Component) × IsRead c × IsLinked Whole c g
+IsOfComponent g = (c : Component) × IsRead c × IsLinked c g
 
 -- how many bytes a component file may have: 16 MiB
 abbrev pub component_limit : ℕ
@@ -101,8 +99,8 @@ ScriptAnswers g text dump a =
 -- the answer for a component: it is not linked, or the answer is what is said behind its graph
 abbrev pub LinkAnswers : Component → Answer → (Graph → Type 0) → Type 0
 LinkAnswers c a behind =
-    ((fault : LinkFault) × IsLinkRefused Whole c fault × (a ≡ link_refused_answer fault))
-    ⊎ ((g : Graph) × IsLinked Whole c g × behind g)
+    ((fault : LinkFault) × IsLinkRefused c fault × (a ≡ link_refused_answer fault))
+    ⊎ ((g : Graph) × IsLinked c g × behind g)
 
 -- the answer for the bytes of a component file: they are refused, or the answer is that for their component
 abbrev pub FileAnswers : List ℕ → Answer → (Graph → Type 0) → Type 0
@@ -136,7 +134,7 @@ Outcome words held a = MatchOption (command_of words) (IsUsage a) (λ command. C
 abbrev pub DecidesAlone : List ℕ → Type 0
 DecidesAlone bytes =
     ((refusal : Refusal ComponentWhy) × IsRefusedFile bytes refusal)
-    ⊎ ((c : Component) × (fault : LinkFault) × IsComponentFile bytes c × IsLinkRefused Whole c fault)
+    ⊎ ((c : Component) × (fault : LinkFault) × IsComponentFile bytes c × IsLinkRefused c fault)
 
 -- what a command asks for behind a graph is told: `run` asks for the script file, `check` and `show` for nothing
 abbrev pub IsScriptTold : Command → (List ℕ → Option (List ℕ)) → Type 0
@@ -175,7 +173,7 @@ pub record NamesLinkRefused (words : List (List ℕ)) (held : List ℕ → Optio
   pub words_name : command_of words ≡ Some command
   pub holds : held (component_file command) ≡ Some bytes
   pub read : IsComponentFile bytes component
-  pub refused : IsLinkRefused Whole component fault
+  pub refused : IsLinkRefused component fault
 
 -- the words name a component file that is linked to this graph, and this command for it
 pub record NamesLinked (words : List (List ℕ)) (held : List ℕ → Option (List ℕ)) (command : Command) (g : Graph) : Type 0 where
@@ -184,7 +182,7 @@ pub record NamesLinked (words : List (List ℕ)) (held : List ℕ → Option (Li
   pub words_name : command_of words ≡ Some command
   pub holds : held (component_file command) ≡ Some bytes
   pub read : IsComponentFile bytes component
-  pub linked : IsLinked Whole component g
+  pub linked : IsLinked component g
 
 -- the words name a component that is linked, which they ask to check or to show
 abbrev pub asks_of_graph : Command → Bool

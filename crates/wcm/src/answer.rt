@@ -25,7 +25,7 @@ use ca_types::Exports;
 use canonical_machine::tasks_are_over;
 use command_words::Command;
 use comp_graph::Graph;
-use comp_link::{Reach, link};
+use comp_link::link;
 use comp_reader::{Component, ComponentWhy, read_component};
 use linked_graphs::laws::{
     calls_are_sound, counted_graphs_are_plain, files_are_bytes, linked_graphs_are_apart,
@@ -258,7 +258,7 @@ fn graph_answer<F: Files>(
     }
 }
 
-/// The answer of a command for its component, which is linked over all that is read.
+/// The answer of a command for its component, which is linked.
 fn link_answer<F: Files>(
     alloc: Global,
     command: Command,
@@ -271,7 +271,7 @@ fn link_answer<F: Files>(
     ensures same { (other : List ℕ) → F.held files.new other ≡ F.held files.old other }
     ensures cause { StopsFor (F.faults files.old) (F.faults files.new) result }
 {
-    match link(alloc, component, Reach::Whole) {
+    match link(alloc, component) {
         Ok(graph) => graph_answer(alloc, command, &graph, files),
         Err(MemoryOr::Memory) => Err(Stop::Memory),
         Err(MemoryOr::Fault(fault)) => {
