@@ -1,5 +1,5 @@
 -- The actions of a graph's plan, and core instances that are made.
-use Rattle.std.proofs.Common.{◌≡◌, ◌<◌, ◌+◌, ℕ, List, [], ◌∷◌, ◌++◌, length, drop, refl, sym, ap, ◌∙◌, subst, arith, append-nil, Option, Some, None}
+use Rattle.std.proofs.Common.{◌≡◌, ◌<◌, ◌+◌, ℕ, List, [], ◌∷◌, ◌++◌, length, drop, refl, sym, ap, ◌∙◌, subst, arith, append-nil, Option, Some, None, inl, inr}
 use Rattle.std.specs.List.{slice_get}
 use Rattle.std.proofs.lemmas.Option.{slice_get_within}
 use Rattle.wasm_module.specs.declared.module.ModuleTree.{ModuleTree}
@@ -23,7 +23,7 @@ use Rattle.trace_show.specs.declared.trap.TrapName.TheVariants as trap
 use Rattle.canonical_machine.specs.declared.run_end.RunEnd.{RunEnd}
 use Rattle.canonical_machine.specs.declared.run_end.RunEnd.TheVariants.{Trapped}
 use Rattle.canonical_machine.specs.Control.{Control, Free, Instantiates, Doomed}
-use Rattle.canonical_machine.specs.World.{Exited, Task, World, first_world}
+use Rattle.canonical_machine.specs.World.{Acting, Exited, Task, World, first_world}
 use Rattle.canonical_machine.specs.Edits.{with_control, with_store, instance_begun, unchained, in_state}
 use Rattle.canonical_machine.specs.Reading.{externals}
 use Rattle.canonical_machine.specs.Turn.{Steps, Ends, given}
@@ -33,13 +33,14 @@ use Rattle.canonical_machine.specs.Sound.{IsSound}
 use Rattle.canonical_machine.specs.Sound as sounds
 use Rattle.canonical_machine.specs.Owners.{IsApart}
 use Rattle.canonical_machine.specs.Kept.{WereMadeSoFar, IsKeptBy}
+use Rattle.canonical_machine.specs.Tasks.{NoStack, IsInit, IsChain}
 use Rattle.canonical_machine.proofs.Changed.{drop_next, changed_length}
 use Rattle.canonical_machine.proofs.Graphs.{hosts_of}
 use Rattle.canonical_machine.proofs.Imports.{ImportsAreThere, imports_match, imported_behind}
 use Rattle.world.specs.declared.state.RunState.{RunState}
 use Rattle.world.specs.Parts.{LeadsTo, IsSafe}
 use Rattle.world.specs.Seen.{IsAtPlan, IsAtFree, EndsBy}
-use Rattle.world.specs.Starting.{IsStarting}
+use Rattle.world.specs.Starting.{IsStarting, IsInstantiationEnd, EndsInstantiation}
 use Rattle.world.proofs.Leads.{leads_step, leads_then, leads_safe, first_safe}
 use Rattle.world.proofs.Hosts.{none_wait}
 
@@ -61,6 +62,23 @@ ends_there g s run w end l e store units instances made taken = record {
   instances = instances;
   made = made;
   taken = taken;
+}
+
+-- so, while task 0 is on the chain
+pub ends_instantiation : (g : Graph) (s : Script) (run : RunState) (w : World) (end : RunEnd) → LeadsTo g s (first_world g) run.labels w → next g s w ≡ Ends end → w.store ≡ run.store
+    → w.units + run.left ≡ s.fuel → w.instances ≡ run.instances → length w.tasks ≡ run.tasks → w.taken ≡ run.taken → w.chain ≡ 0 ∷ [] → IsInstantiationEnd end → EndsInstantiation g s run end
+ends_instantiation g s run w end l e store units instances made taken acts such = record {
+  ends = record {
+    last = w;
+    runs = (l.0, l.1, e, l.2);
+    store = store;
+    units = units;
+    instances = instances;
+    made = made;
+    taken = taken;
+  };
+  acts = acts;
+  such = such;
 }
 
 -- What comes next at an action of the plan.
@@ -205,15 +223,18 @@ unfolding made
 bounds_step n c es t w = refl
 
 -- A segment does not fit.
-pub segment_ends : (g : Graph) (s : Script) (run : RunState) (n number : ℕ) (c : CoreMake) (es : List External) (t : Store) → IsAtPlan g s run n → slice_get g.plan n ≡ Some (Make number)
+pub segment_ends : (g : Graph) (s : Script) (run : RunState) (n number : ℕ) (c : CoreMake) (es : List External) (t : Store) → IsSound g s → IsApart g → IsAtPlan g s run n → slice_get g.plan n ≡ Some (Make number)
     → slice_get g.cores number ≡ Some c → externals run.store c.imports ≡ Some es → instantiated c.of_module es run.store ≡ SegmentBounds t
-    → EndsBy g s (record run { store = t }) (Trapped 0 trap.SegmentBounds)
-segment_ends g s run n number c es t at comes there are is =
+    → EndsInstantiation g s (record run { store = t }) (Trapped 0 trap.SegmentBounds)
+segment_ends g s run n number c es t sound apart at comes there are is =
     let w : World = at.stands.world in
     let v : World = with_control (Doomed 0 trap.SegmentBounds) (with_store t w) in
     let step = making_turn g s run n number c es (SegmentBounds t) (record { at = at; comes = comes; there = there; are = are; is = is }) ∙ bounds_step n c es t (with_control Free w) in
     let sees = at.stands.sees in
-    ends_there g s (record run { store = t }) v (Trapped 0 trap.SegmentBounds) (step_more g s (first_world g) w v run.labels at.stands.leads step) refl refl sees.units sees.instances sees.made sees.taken
+    let safe : IsSafe g s w = safe_there g s run.labels w sound apart at.stands.leads in
+    let init : IsInit Acting NoStack w.tasks w.chain = subst (λ (c : Control). IsChain c w.tasks w.chain) at.stands.holds safe.kept.ordered.chain in
+    ends_instantiation g s (record run { store = t }) v (Trapped 0 trap.SegmentBounds) (step_more g s (first_world g) w v run.labels at.stands.leads step) refl refl sees.units sees.instances sees.made sees.taken
+    init.chain_is (inr (inl refl))
 
 -- All segments are written.
 made_step : (n : ℕ) (c : CoreMake) (es : List External) (t : Store) (w : World)
@@ -283,11 +304,11 @@ action_within g s run n number sound apart at comes = core_within g run.store nu
 pub bounds_of : (fault_is : AddFault) (r : Instantiation) (s t : Store) → fault_is ≡ fault.SegmentBounds → FailsBy fault_is r s t → r ≡ SegmentBounds t
 bounds_of f r s t e h = subst (λ (f : AddFault). FailsBy f r s t) e h
 
-pub segment_by : (g : Graph) (s : Script) (run : RunState) (n number : ℕ) (c : CoreMake) (m : ModuleTree) (es : List External) (t : Store) → IsAtPlan g s run n → slice_get g.plan n ≡ Some (Make number)
+pub segment_by : (g : Graph) (s : Script) (run : RunState) (n number : ℕ) (c : CoreMake) (m : ModuleTree) (es : List External) (t : Store) → IsSound g s → IsApart g → IsAtPlan g s run n → slice_get g.plan n ≡ Some (Make number)
     → slice_get g.cores number ≡ Some c → m ≡ c.of_module → externals run.store c.imports ≡ Some es → instantiated m es run.store ≡ SegmentBounds t
-    → EndsBy g s (record run { store = t }) (Trapped 0 trap.SegmentBounds)
-segment_by g s run n number c m es t at comes there same are is =
-    segment_ends g s run n number c es t at comes there are (subst (λ (m : ModuleTree). instantiated m es run.store ≡ SegmentBounds t) same is)
+    → EndsInstantiation g s (record run { store = t }) (Trapped 0 trap.SegmentBounds)
+segment_by g s run n number c m es t sound apart at comes there same are is =
+    segment_ends g s run n number c es t sound apart at comes there are (subst (λ (m : ModuleTree). instantiated m es run.store ≡ SegmentBounds t) same is)
 
 -- by the action that the code reads
 pub within_by : (g : Graph) (s : Script) (run : RunState) (n number : ℕ) (action : Action) → IsSound g s → IsApart g → IsAtPlan g s run n → slice_get g.plan n ≡ Some action → action ≡ Make number

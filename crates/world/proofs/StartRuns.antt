@@ -1,5 +1,5 @@
 -- Start functions, and their runs.
-use Rattle.std.proofs.Common.{◌≡◌, ◌<◌, ◌+◌, ℕ, false, List, [], ◌∷◌, ◌++◌, length, drop, refl, sym, ap, ◌∙◌, subst, arith, append-nil, Bool, if◌then◌else◌, Option, Some, None}
+use Rattle.std.proofs.Common.{◌≡◌, ◌<◌, ◌+◌, ℕ, false, List, [], ◌∷◌, ◌++◌, length, drop, refl, sym, ap, ◌∙◌, subst, arith, append-nil, Bool, if◌then◌else◌, Option, Some, None, inl, inr}
 use Rattle.std.specs.List.{slice_get, AllByRecursion}
 use Rattle.std.specs.Option.{option_and_then, option_map, IfSome}
 use Rattle.std.proofs.lemmas.Option.{slice_get_within}
@@ -46,14 +46,14 @@ use Rattle.canonical_machine.proofs.Ordered.{init_acting, init_changed}
 use Rattle.world.specs.declared.state.RunState.{RunState}
 use Rattle.world.specs.Parts.{LeadsTo, Meets, with_room, WithUsed, IsSafe}
 use Rattle.world.specs.Stacks.{StackLeads}
-use Rattle.world.specs.Seen.{IsAtPlan, EndsBy}
-use Rattle.world.specs.Starting.{IsStarting, IsAtStart}
+use Rattle.world.specs.Seen.{IsAtPlan}
+use Rattle.world.specs.Starting.{IsStarting, IsAtStart, EndsInstantiation}
 use Rattle.world.proofs.Leads.{leads_then, leads_step, meets_step, ends_behind}
 use Rattle.world.proofs.Acting.{stacks_lead}
 use Rattle.world.proofs.Hosts.{none_wait}
 use Rattle.world.specs.Refusing.{IsRefused}
-use Rattle.world.proofs.Refusals.{refused_ends}
-use Rattle.world.proofs.Instancing.{step_more, safe_there, ends_there}
+use Rattle.world.proofs.Refusals.{refused_starting}
+use Rattle.world.proofs.Instancing.{step_more, safe_there, ends_instantiation}
 
 -- an instance's function that runs first, by its address
 no_call : (o : Option ℕ) (i : Instance) (s : Store) → option_and_then (λ index. slice_get i.funcs index) o ≡ None → option_and_then (λ index. func_at index i s) o ≡ None
@@ -276,31 +276,36 @@ start_done g s run n k words store after h gives =
 
 -- It traps.
 pub start_traps : (g : Graph) (s : Script) (run : RunState) (n : ℕ) (k : Stack) (why : Trap) (store : Store) (after : ℕ) (name : TrapName) → IsAtStart g s run n k
-    → RunGives run.store k run.left (outcome.Trapped why) store after → name ≡ core_name why → EndsBy g s (record run { store = store; left = after }) (Trapped 0 name)
+    → RunGives run.store k run.left (outcome.Trapped why) store after → name ≡ core_name why → EndsInstantiation g s (record run { store = store; left = after }) (Trapped 0 name)
 start_traps g s run n k why store after name h gives is =
     let w : World = h.stands.world in
     let u = start_leads g s run n k (outcome.Trapped why) store after h gives in
     let v : World = with_stack 0 u.2.0 (with_room w store u.0 (Doomed 0 (core_name why))) in
-    subst (λ (name : TrapName). EndsBy g s (record run { store = store; left = after }) (Trapped 0 name)) (sym is)
-    (ends_there g s (record run { store = store; left = after }) v (Trapped 0 (core_name why))
+    subst (λ (name : TrapName). EndsInstantiation g s (record run { store = store; left = after }) (Trapped 0 name)) (sym is)
+    (ends_instantiation g s (record run { store = store; left = after }) v (Trapped 0 (core_name why))
     (subst (λ (ls : List Label). LeadsTo g s (first_world g) ls v) (append-nil run.labels) (leads_then g s (first_world g) w v run.labels [] h.stands.leads u.2.1)) refl refl u.1 h.stands.sees.instances
-    (changed_length 0 (λ (task : Task). record task { stacks = u.2.0 ∷ drop 1 task.stacks }) w.tasks ∙ h.stands.sees.made) h.stands.sees.taken)
+    (changed_length 0 (λ (task : Task). record task { stacks = u.2.0 ∷ drop 1 task.stacks }) w.tasks ∙ h.stands.sees.made) h.stands.sees.taken
+    h.stands.holds.1.chain_is (inl (inr (why, refl))))
 
 -- No unit is left.
 pub start_wants : (g : Graph) (s : Script) (run : RunState) (n : ℕ) (k later : Stack) (store : Store) (after : ℕ) → IsAtStart g s run n k
-    → RunGives run.store k run.left (outcome.NoFuel later) store after → EndsBy g s (record run { store = store; left = after }) Fuel
+    → RunGives run.store k run.left (outcome.NoFuel later) store after → EndsInstantiation g s (record run { store = store; left = after }) Fuel
 start_wants g s run n k later store after h gives =
     let w : World = h.stands.world in
     let u = start_leads g s run n k (outcome.NoFuel later) store after h gives in
     let last : World = with_stack 0 later (with_room w store u.0 Runs) in
     record {
-      last = last;
-      runs = subst (λ (ls : List Label). RunsFrom g s (first_world g) ls last Fuel) (append-nil run.labels) (ends_behind g s (first_world g) w last run.labels [] Fuel h.stands.leads u.2);
-      store = refl;
-      units = u.1;
-      instances = h.stands.sees.instances;
-      made = changed_length 0 (λ (task : Task). record task { stacks = later ∷ drop 1 task.stacks }) w.tasks ∙ h.stands.sees.made;
-      taken = h.stands.sees.taken;
+      ends = record {
+        last = last;
+        runs = subst (λ (ls : List Label). RunsFrom g s (first_world g) ls last Fuel) (append-nil run.labels) (ends_behind g s (first_world g) w last run.labels [] Fuel h.stands.leads u.2);
+        store = refl;
+        units = u.1;
+        instances = h.stands.sees.instances;
+        made = changed_length 0 (λ (task : Task). record task { stacks = later ∷ drop 1 task.stacks }) w.tasks ∙ h.stands.sees.made;
+        taken = h.stands.sees.taken;
+      };
+      acts = h.stands.holds.1.chain_is;
+      such = inl (inl refl);
     }
 
 -- It calls a core function of the Canonical ABI.
@@ -367,7 +372,7 @@ call_within g s run n k number words waiting store after sound apart h gives =
 
 pub start_cannot_leave : (g : Graph) (s : Script) (run : RunState) (n : ℕ) (k : Stack) (number : ℕ) (words : List ℕ) (waiting : Waiting) (store : Store) (after : ℕ) (labels : List Label) (end : RunEnd)
     → IsSound g s → IsApart g → IsAtStart g s run n k → RunGives run.store k run.left (outcome.Calls number words waiting) store after → IsRefused g number words 0 0 run.labels labels end
-    → EndsBy g s (record run { store = store; left = after; labels = labels }) end
+    → EndsInstantiation g s (record run { store = store; left = after; labels = labels }) end
 start_cannot_leave g s run n k number words waiting store after labels end sound apart h gives refused =
     let at = start_calls g s run n k number words waiting store after h gives in
     let canon = canon_called g s run n number words store after sound apart at in
@@ -375,4 +380,4 @@ start_cannot_leave g s run n k number words waiting store after labels end sound
     let step = leave_turn g s at.world n number words canon.0 (λ ks. (k : Stack) × (ks ≡ k ∷ [])) at.control canon.1 at.init in
     let lead : LeadsTo g s (first_world g) (run.labels ++ line.Do 0 (builtin_of canon.0) words ∷ []) v =
     leads_then g s (first_world g) at.world v run.labels (line.Do 0 (builtin_of canon.0) words ∷ []) at.leads (leads_step g s at.world v (line.Do 0 (builtin_of canon.0) words ∷ []) step) in
-    refused_ends g s (record run { store = store; left = after; labels = labels }) run.labels v canon.0 number words 0 0 end canon.1 lead refl at.store at.units at.instances at.made at.taken refused
+    refused_starting g s (record run { store = store; left = after; labels = labels }) run.labels v canon.0 number words end canon.1 lead refl at.store at.units at.instances at.made at.taken at.init.chain_is refused

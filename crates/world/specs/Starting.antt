@@ -1,6 +1,6 @@
 -- Where a run stands while its graph is instantiated (Component Model, Explainer.md, "Instance Definitions"; Core 2.0, section 4.5.4):
 -- behind the segments of a core instance, and while its start function runs.
-use Rattle.std.specs.Prelude.{◌≡◌, ◌≤◌, ℕ, [], ◌∷◌, Option, MatchOption, Some}
+use Rattle.std.specs.Prelude.{◌≡◌, ◌≤◌, ◌⊎◌, ℕ, [], ◌∷◌, Option, MatchOption, Some}
 use Rattle.std.specs.List.{slice_get}
 use Rattle.wasm_module.specs.declared.module.ModuleTree.{ModuleTree}
 use Rattle.core_machine.specs.Store.{Instance}
@@ -9,7 +9,9 @@ use Rattle.core_machine.specs.Instantiation.{start_call}
 use Rattle.core_machine.specs.Typed.{HasContext, module_context}
 use Rattle.comp_graph.specs.Graph.{Graph}
 use Rattle.script_reader.specs.Script.{Script}
+use Rattle.trace_show.specs.declared.trap.TrapName.TheVariants as trap
 use Rattle.canonical_machine.specs.declared.run_end.RunEnd.{RunEnd}
+use Rattle.canonical_machine.specs.declared.run_end.RunEnd.TheVariants.{Trapped}
 use Rattle.canonical_machine.specs.Control.{Free, Instantiates, Runs}
 use Rattle.canonical_machine.specs.World.{Begins, World, first_world}
 use Rattle.canonical_machine.specs.Edits.{with_control, with_store}
@@ -19,6 +21,7 @@ use Rattle.canonical_machine.specs.Tasks.{IsInit}
 use Rattle.world.specs.declared.state.RunState.{RunState}
 use Rattle.world.specs.Parts.{LeadsTo}
 use Rattle.world.specs.Seen.{Sees, IsAtWorld, EndsBy}
+use Rattle.world.specs.Stopping.{IsCoreEnd}
 
 -- The segments of an instance of a module are written. In the same step its start function starts, where the module has one, and
 -- behind it comes the action of this number.
@@ -44,3 +47,18 @@ pub record IsAtStart (g : Graph) (s : Script) (run : RunState) (n : ℕ) (k : St
 -- The run goes on where something holds, or ends.
 abbrev pub GoesOrEnds : Graph → Script → RunState → Type 0 → Option RunEnd → Type 0
 GoesOrEnds g s run P ended = MatchOption ended P (EndsBy g s run)
+
+-- How an instantiation ends the run: as core code of task 0 does, or by a trap of task 0 at a segment that does not fit or at a call of a
+-- core function of the Canonical ABI.
+abbrev pub IsInstantiationEnd : RunEnd → Type 0
+IsInstantiationEnd end = IsCoreEnd 0 end ⊎ ((end ≡ Trapped 0 trap.SegmentBounds) ⊎ (end ≡ Trapped 0 trap.CannotLeave))
+
+-- The run ends so while its graph is instantiated: task 0 is on the chain in the last world.
+pub record EndsInstantiation (g : Graph) (s : Script) (run : RunState) (end : RunEnd) : Type 0 where
+  pub ends : EndsBy g s run end
+  pub acts : ends.last.chain ≡ 0 ∷ []
+  pub such : IsInstantiationEnd end
+
+-- The run goes on, or ends so.
+abbrev pub MayEndInstantiation : Graph → Script → RunState → Option RunEnd → Type 0
+MayEndInstantiation g s run ended = MatchOption ended (Unit {0}) (λ end. EndsInstantiation g s run end)

@@ -5,7 +5,7 @@ ghost use Rattle.std.specs.List.{slice_get};
 ghost use Rattle.canonical_machine.specs.Sound.{IsSound};
 ghost use Rattle.canonical_machine.specs.Owners.{IsApart};
 ghost use Rattle.world.specs.Seen.{IsAtPlan, IsAtFree};
-ghost use Rattle.world.specs.Starting.{GoesOrEnds};
+ghost use Rattle.world.specs.Starting.{GoesOrEnds, MayEndInstantiation};
 ghost use Rattle.world.specs.Changes.{TakesNone};
 
 use crate::externals::externals_of;
@@ -32,6 +32,7 @@ pub fn instantiate(
     requires apart { IsApart graph.now }
     requires at { IsAtPlan graph.now script.now run.old 0 }
     ensures goes { IfOk result (λ ended. GoesOrEnds graph.now script.now run.new (IsAtFree graph.now script.now run.new) ended) }
+    ensures within { IfOk result (λ ended. MayEndInstantiation graph.now script.now run.new ended) }
     ensures takes_none { IfOk result (λ ended. TakesNone run.old run.new) }
 {
     let plan = graph.plan();
@@ -58,6 +59,7 @@ fn act(
     requires comes { slice_get graph.now.plan number ≡ Some action }
     requires few { number + 1 < 2 ^ 64 }
     ensures goes { IfOk result (λ ended. GoesOrEnds graph.now script.now run.new (IsAtPlan graph.now script.now run.new (number + 1)) ended) }
+    ensures within { IfOk result (λ ended. MayEndInstantiation graph.now script.now run.new ended) }
     ensures takes_none { IfOk result (λ ended. TakesNone run.old run.new) }
 {
     match action {
@@ -96,6 +98,7 @@ fn make_core(
     requires comes { (made : ℕ) × (slice_get graph.now.plan number ≡ Some (Action.Make made)) × (slice_get graph.now.cores made ≡ Some core.now) }
     requires few { number + 1 < 2 ^ 64 }
     ensures goes { IfOk result (λ ended. GoesOrEnds graph.now script.now run.new (IsAtPlan graph.now script.now run.new (number + 1)) ended) }
+    ensures within { IfOk result (λ ended. MayEndInstantiation graph.now script.now run.new ended) }
     ensures takes_none { IfOk result (λ ended. TakesNone run.old run.new) }
 {
     let valid = core.valid();

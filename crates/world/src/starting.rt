@@ -4,7 +4,7 @@ ghost use Rattle.std.specs.Prelude.{◌<◌, IfOk, Some};
 ghost use Rattle.canonical_machine.specs.Sound.{IsSound};
 ghost use Rattle.canonical_machine.specs.Owners.{IsApart};
 ghost use Rattle.world.specs.Seen.{IsAtPlan};
-ghost use Rattle.world.specs.Starting.{IsStarting, IsAtStart, GoesOrEnds};
+ghost use Rattle.world.specs.Starting.{IsStarting, IsAtStart, GoesOrEnds, MayEndInstantiation};
 ghost use Rattle.world.specs.Changes.{TakesNone};
 
 use crate::refusing::refuse;
@@ -33,6 +33,7 @@ pub(crate) fn start_up(
     requires apart { IsApart graph.now }
     requires starts { IsStarting graph.now script.now run.old next valid.now instance }
     ensures goes { IfOk result (λ ended. GoesOrEnds graph.now script.now run.new (IsAtPlan graph.now script.now run.new next) ended) }
+    ensures within { IfOk result (λ ended. MayEndInstantiation graph.now script.now run.new ended) }
     ensures takes_none { IfOk result (λ ended. TakesNone run.old run.new) }
 {
     // Its clause says that the module is typed.
@@ -58,6 +59,7 @@ fn run_start(
     requires apart { IsApart graph.now }
     requires at { IsAtStart graph.now script.now state.old next running }
     ensures goes { IfOk result (λ ended. GoesOrEnds graph.now script.now state.new (IsAtPlan graph.now script.now state.new next) ended) }
+    ensures within { IfOk result (λ ended. MayEndInstantiation graph.now script.now state.new ended) }
     ensures takes_none { IfOk result (λ ended. TakesNone state.old state.new) }
 {
     match run(alloc, running, &mut state.store, &mut state.left) {
