@@ -14,3 +14,4 @@ mod Places
 mod Telling
 mod Unstarted
 mod Progress
+mod Stopping

@@ -9,6 +9,7 @@ use Rattle.comp_graph.specs.declared.graph.Lower.{Lower}
 use Rattle.comp_graph.specs.Graph.{Graph}
 use Rattle.script_reader.specs.Script.{Script}
 use Rattle.canonical_machine.specs.declared.run_end.RunEnd.{RunEnd}
+use Rattle.canonical_machine.specs.declared.run_end.RunEnd.TheVariants.{Trapped, Fuel}
 use Rattle.canonical_machine.specs.Reading.{is_in, lower_at, lifted_of}
 use Rattle.world.specs.declared.state.Waiter.{Waiter}
 use Rattle.world.specs.declared.state.RunState.{RunState}
@@ -76,6 +77,26 @@ ExitSpends old new (leaving.Ends end) = Unit {0}
 -- the same where a part goes on or ends the run
 abbrev pub SpendsOrEnds : RunState → RunState → Option RunEnd → Type 0
 SpendsOrEnds old new ended = MatchOption ended (Spends old new) (λ end. Unit {0})
+
+-- The end of a run in which a task acts: a trap, or want of fuel.
+abbrev pub IsTrapOrFuel : RunEnd → Type 0
+IsTrapOrFuel (Trapped t why) = Unit {0}
+IsTrapOrFuel Fuel = Unit {0}
+IsTrapOrFuel other = ⊥
+
+-- A part goes on, or ends the run so: by itself, where a task has exited, and where another one is next.
+abbrev pub MayStop : Option RunEnd → Type 0
+MayStop ended = MatchOption ended (Unit {0}) (λ end. IsTrapOrFuel end)
+
+abbrev pub ExitMayStop : Leaving → Type 0
+ExitMayStop leaving.Free = Unit {0}
+ExitMayStop (leaving.Back words) = Unit {0}
+ExitMayStop (leaving.Ends end) = IsTrapOrFuel end
+
+abbrev pub NextMayStop : Onward → Type 0
+NextMayStop (onward.Arrives t) = Unit {0}
+NextMayStop (onward.Returns t words) = Unit {0}
+NextMayStop (onward.Ends end) = IsTrapOrFuel end
 
 -- What became of the data where a stack ran on, where a task entered and its stack ran, and where a task exited and control went back.
 abbrev pub WentOn : Graph → RunState → RunState → Stack → Onward → Type 0

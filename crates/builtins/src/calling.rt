@@ -9,7 +9,7 @@ ghost use Rattle.canonical_machine.specs.Reading.{lower_at, is_reentrant};
 ghost use Rattle.canonical_machine.specs.Sound.{IsSound};
 ghost use Rattle.canonical_machine.specs.Owners.{IsApart};
 ghost use Rattle.world.specs.Seen.{IsAtCall, IsAtArrival, EndsBy};
-ghost use Rattle.builtins.specs.NextTask.{BeginsCall};
+ghost use Rattle.builtins.specs.NextTask.{BeginsCall, IsTrapOrFuel};
 ghost use Rattle.builtins.specs.Reentering.{calls_into, reenters};
 ghost use Rattle.builtins.specs.Telling.{AddsCall};
 
@@ -119,6 +119,7 @@ pub(crate) fn begin_call(
     requires apart { IsApart graph.now }
     requires at { IsAtCall graph.now script.now run.old task }
     ensures arrives { IfOk result (λ begun. MatchResult begun (λ t. IsAtArrival graph.now script.now run.new t) (λ end. EndsBy graph.now script.now run.new end)) }
+    ensures stops { IfOk result (λ begun. MatchResult begun (λ t. Unit {0}) (λ end. IsTrapOrFuel end)) }
     ensures begins { IfOk result (λ begun. MatchResult begun (λ t. BeginsCall graph.now run.old run.new) (λ end. Unit {0})) }
     ensures tells { IfOk result (λ begun. AddsCall run.old run.new task begun) }
 {

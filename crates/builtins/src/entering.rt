@@ -18,6 +18,7 @@ ghost use Rattle.world.specs.Passed.{IsAtEntry};
 ghost use Rattle.world.specs.Seen.{IsAtArrival, IsAtStack, EndsBy};
 ghost use Rattle.world.specs.Changes.{Spends};
 ghost use Rattle.builtins.specs.Lowering.{plan_to};
+ghost use Rattle.builtins.specs.NextTask.{IsTrapOrFuel};
 ghost use Rattle.builtins.specs.Telling.{Adds, AddsOnly, IsOfEntry, IsStart, IsTaskStart, EndsBeforeStart};
 
 use crate::lower_options::lower_options;
@@ -49,6 +50,7 @@ pub(crate) fn enter(
     requires plain { IsPlain graph.now }
     requires at { IsAtArrival graph.now script.now run.old task }
     ensures enters { IfOk result (λ entered. MatchResult entered (λ k. IsAtStack graph.now script.now run.new task k) (λ end. EndsBy graph.now script.now run.new end)) }
+    ensures stops { IfOk result (λ entered. MatchResult entered (λ k. Unit {0}) (λ end. IsTrapOrFuel end)) }
     ensures starts { IfOk result (λ entered. MatchResult entered (λ k. IsTaskStart graph.now script.now run.old run.new.store k) (λ end. EndsBeforeStart graph.now script.now run.new task end)) }
     ensures spends { IfOk result (λ entered. Spends run.old run.new) }
     ensures tells { IfOk result (λ entered. MatchResult entered (λ k. Adds run.old run.new 0 (Label.Enter task ∷ [])) (λ end. AddsOnly IsOfEntry run.old run.new)) }
@@ -67,7 +69,7 @@ pub(crate) fn enter(
 
 /// The arguments of the acting task, which has entered, are lowered, and its core function starts with their words. It answers the stack
 /// on which that function starts, or how the run ends before that.
-#[tactic(auto, using(crate::proofs::Telling::entry_none))]
+#[tactic(auto, using(crate::proofs::Telling::entry_none, crate::proofs::Stopping::refused_stops))]
 fn pass(
     alloc: Global,
     graph: &NamedGraph,
@@ -86,6 +88,7 @@ fn pass(
     requires options { HasOptions run.old.store func.now.lift.options }
     requires at { IsAtEntry graph.now script.now run.old task (lifted_by func.now) value.now }
     ensures enters { IfOk result (λ entered. MatchResult entered (λ k. IsAtStack graph.now script.now run.new task k) (λ end. EndsBy graph.now script.now run.new end)) }
+    ensures stops { IfOk result (λ entered. MatchResult entered (λ k. Unit {0}) (λ end. IsTrapOrFuel end)) }
     ensures starts { IfOk result (λ entered. MatchResult entered (λ k. IsStart run.new.store (lifted_by func.now) k) (λ end. EndsBeforeStart graph.now script.now run.new task end)) }
     ensures spends { IfOk result (λ entered. Spends run.old run.new) }
     ensures tells { IfOk result (λ entered. MatchResult entered (λ k. Adds run.old run.new 0 []) (λ end. AddsOnly IsOfEntry run.old run.new)) }

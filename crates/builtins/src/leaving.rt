@@ -7,7 +7,7 @@ ghost use Rattle.canonical_machine.specs.Plain.{IsPlain};
 ghost use Rattle.world.specs.Points.{IsAtExit, IsAtBack, HasExited};
 ghost use Rattle.world.specs.Seen.{IsAtReturn, IsAtStack};
 ghost use Rattle.world.specs.Changes.{Spends};
-ghost use Rattle.builtins.specs.NextTask.{GoesBack, LeavesAt, ExitSpends};
+ghost use Rattle.builtins.specs.NextTask.{GoesBack, LeavesAt, ExitMayStop, ExitSpends};
 ghost use Rattle.builtins.specs.Telling.{Adds, AddsExit};
 
 use crate::next_task::Leaving;
@@ -34,6 +34,7 @@ pub(crate) fn finish(
     requires plain { IsPlain graph.now }
     requires at { IsAtReturn graph.now script.now run.old task ended }
     ensures leaves { IfOk result (λ leaving. LeavesAt graph.now script.now run.new leaving) }
+    ensures stops { IfOk result (λ leaving. ExitMayStop leaving) }
     ensures spends { IfOk result (λ leaving. ExitSpends run.old run.new leaving) }
     ensures tells { IfOk result (λ leaving. AddsExit run.old run.new task leaving) }
 {

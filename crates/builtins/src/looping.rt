@@ -6,7 +6,7 @@ ghost use Rattle.canonical_machine.specs.Owners.{IsApart};
 ghost use Rattle.canonical_machine.specs.Plain.{IsPlain};
 ghost use Rattle.world.specs.Seen.{IsAtFree, IsAtArrival, IsAtStack, IsAtReturn, EndsBy};
 ghost use Rattle.world.specs.Starting.{GoesOrEnds};
-ghost use Rattle.builtins.specs.NextTask.{AreHeld, GoesOnAt, WentOn, Descends, Ascends, IsReturned, HasAscended};
+ghost use Rattle.builtins.specs.NextTask.{AreHeld, GoesOnAt, IsTrapOrFuel, MayStop, NextMayStop, WentOn, Descends, Ascends, IsReturned, HasAscended};
 
 use crate::calling::begin_call;
 use crate::entering::enter;
@@ -59,6 +59,7 @@ fn run_call(
     requires at { IsAtArrival graph.now script.now run.old first }
     requires held { AreHeld run.old.waiting.items }
     ensures goes { IfOk result (λ ended. GoesOrEnds graph.now script.now run.new (IsAtFree graph.now script.now run.new) ended) }
+    ensures stops { IfOk result (λ ended. MayStop ended) }
     ensures spends { IfOk result (λ ended. MatchOption ended (run.new.left ≤ run.old.left) (λ end. Unit {0})) }
     ensures takes_none { IfOk result (λ ended. run.new.taken ≡ run.old.taken) }
 {
@@ -90,6 +91,7 @@ fn descend(
     requires at { IsAtArrival graph.now script.now run.old first }
     requires held { AreHeld run.old.waiting.items }
     ensures goes { IfOk result (λ returned. MatchResult returned (λ r. IsReturned graph.now script.now run.old run.new r.0 r.1) (λ end. EndsBy graph.now script.now run.new end)) }
+    ensures stops { IfOk result (λ returned. MatchResult returned (λ r. Unit {0}) (λ end. IsTrapOrFuel end)) }
     ensures takes_none { IfOk result (λ returned. run.new.taken ≡ run.old.taken) }
 {
     let mut task = first;
@@ -118,6 +120,7 @@ fn ascend(
     requires at { IsAtReturn graph.now script.now run.old first ended }
     requires held { AreHeld run.old.waiting.items }
     ensures goes { IfOk result (λ ascended. MatchResult ascended (λ next. HasAscended graph.now script.now run.old run.new next) (λ end. EndsBy graph.now script.now run.new end)) }
+    ensures stops { IfOk result (λ ascended. MatchResult ascended (λ next. Unit {0}) (λ end. IsTrapOrFuel end)) }
     ensures takes_none { IfOk result (λ ascended. run.new.taken ≡ run.old.taken) }
 {
     let mut task = first;
@@ -150,6 +153,7 @@ fn arrive(
     requires at { IsAtArrival graph.now script.now run.old task }
     requires held { AreHeld run.old.waiting.items }
     ensures goes { IfOk result (λ next. GoesOnAt graph.now script.now run.new next) }
+    ensures stops { IfOk result (λ next. NextMayStop next) }
     ensures descends { IfOk result (λ next. Descends graph.now run.old run.new next) }
     ensures takes_none { IfOk result (λ next. run.new.taken ≡ run.old.taken) }
 {
@@ -175,6 +179,7 @@ fn leave(
     requires at { IsAtReturn graph.now script.now run.old task words }
     requires held { AreHeld run.old.waiting.items }
     ensures goes { IfOk result (λ next. MatchOption next (IsAtFree graph.now script.now run.new) (λ next. GoesOnAt graph.now script.now run.new next)) }
+    ensures stops { IfOk result (λ next. MatchOption next (Unit {0}) (λ next. NextMayStop next)) }
     ensures ascends { IfOk result (λ next. MatchOption next (run.new.left ≤ run.old.left) (λ next. Ascends run.old run.new next)) }
     ensures takes_none { IfOk result (λ next. run.new.taken ≡ run.old.taken) }
 {
@@ -189,7 +194,7 @@ fn leave(
 }
 
 /// Runs the stack of the acting task, and begins the call that it makes, where it makes one. It answers which task is next.
-#[tactic(auto, using(crate::proofs::Telling::call_takes_none))]
+#[tactic(auto, using(crate::proofs::Telling::call_takes_none, crate::proofs::Stopping::stack_stops))]
 fn run_on(
     alloc: Global,
     graph: &NamedGraph,
@@ -203,6 +208,7 @@ fn run_on(
     requires plain { IsPlain graph.now }
     requires at { IsAtStack graph.now script.now run.old task running }
     ensures goes { IfOk result (λ next. GoesOnAt graph.now script.now run.new next) }
+    ensures stops { IfOk result (λ next. NextMayStop next) }
     ensures went { IfOk result (λ next. WentOn graph.now run.old run.new running next) }
     ensures takes_none { IfOk result (λ next. run.new.taken ≡ run.old.taken) }
 {

@@ -15,6 +15,7 @@ ghost use Rattle.canonical_machine.specs.Owners.{IsApart};
 ghost use Rattle.canonical_machine.specs.Plain.{IsPlain};
 ghost use Rattle.world.specs.Called.{lifted_by, IsRunBy};
 ghost use Rattle.builtins.specs.Lowering.{plan_to};
+ghost use Rattle.builtins.specs.NextTask.{IsTrapOrFuel};
 ghost use Rattle.builtins.specs.Telling.{AddsOnly, IsOfReturn};
 ghost use Rattle.world.specs.Changes.{Spends};
 ghost use Rattle.world.specs.Points.{IsAtFinish};
@@ -35,6 +36,7 @@ use world::{CalledFunc, NamedGraph, RunState, canon_at, lower_of, refuse};
 
 /// The acting task resolves to this result by its line, and the result is lowered into the innermost task that waits: as core values,
 /// which are kept for it, or at the place that is the last of its words. It answers the core values, or how the run ends.
+#[tactic(auto, using(crate::proofs::Stopping::refused_stops))]
 pub(crate) fn lower_result(
     alloc: Global,
     graph: &NamedGraph<'_, '_>,
@@ -53,6 +55,7 @@ pub(crate) fn lower_result(
     requires runs { (t : Task) → IsCalled graph.now script.now run.old.taken (waiters run.old) t → IsRunBy func.now t }
     requires lifts { result_of func.now.func_type.now func.now.func_type.now.result (bytes_of run.old.store (memory_of run.old.store func.now.lift.options)) ended.now ≡ Ok (Some typed) }
     ensures goes { IfOk result (λ passed. MatchResult passed (λ words. IsAtFinish graph.now script.now run.new task (lifted_by func.now) ended.now words) (λ end. EndsBy graph.now script.now run.new end)) }
+    ensures stops { IfOk result (λ passed. MatchResult passed (λ words. Unit {0}) (λ end. IsTrapOrFuel end)) }
     ensures spends { IfOk result (λ passed. MatchResult passed (λ words. Spends run.old run.new) (λ end. Unit {0})) }
     ensures tells { IfOk result (λ passed. AddsOnly IsOfReturn run.old run.new) }
 {

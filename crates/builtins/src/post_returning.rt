@@ -6,7 +6,7 @@ ghost use Rattle.canonical_machine.specs.Owners.{IsApart};
 ghost use Rattle.world.specs.Called.{lifted_by};
 ghost use Rattle.world.specs.Points.{IsAtFinish, IsAtPostReturn, IsAtExit};
 ghost use Rattle.world.specs.Starting.{GoesOrEnds};
-ghost use Rattle.builtins.specs.NextTask.{SpendsOrEnds};
+ghost use Rattle.builtins.specs.NextTask.{MayStop, SpendsOrEnds};
 ghost use Rattle.builtins.specs.Telling.{AddsOnly, IsOfReturn};
 
 use ca_base::Memory;
@@ -33,6 +33,7 @@ pub(crate) fn post_return(
     requires apart { IsApart graph.now }
     requires at { (words : List ℕ) × IsAtFinish graph.now script.now state.old task (lifted_by func.now) ended.now words }
     ensures goes { IfOk result (λ end. (words : List ℕ) → IsAtFinish graph.now script.now state.old task (lifted_by func.now) ended.now words → GoesOrEnds graph.now script.now state.new (IsAtExit graph.now script.now state.new task words) end) }
+    ensures stops { IfOk result (λ end. MayStop end) }
     ensures spends { IfOk result (λ end. SpendsOrEnds state.old state.new end) }
     ensures tells { IfOk result (λ end. AddsOnly IsOfReturn state.old state.new) }
 {
@@ -47,7 +48,7 @@ pub(crate) fn post_return(
 
 /// Runs the stack of a post-return, and answers how the run ends, if it does so there. A call of a core function of the Canonical ABI
 /// is written, and is a trap.
-#[tactic(auto, using(crate::proofs::Telling::return_none))]
+#[tactic(auto, using(crate::proofs::Telling::return_none, crate::proofs::Stopping::refused_stops))]
 fn run_post_return(
     alloc: Global,
     graph: &Graph,
@@ -60,6 +61,7 @@ fn run_post_return(
     requires apart { IsApart graph.now }
     requires at { (words : List ℕ) × IsAtPostReturn graph.now script.now state.old task running words }
     ensures goes { IfOk result (λ end. (words : List ℕ) → IsAtPostReturn graph.now script.now state.old task running words → GoesOrEnds graph.now script.now state.new (IsAtExit graph.now script.now state.new task words) end) }
+    ensures stops { IfOk result (λ end. MayStop end) }
     ensures spends { IfOk result (λ end. SpendsOrEnds state.old state.new end) }
     ensures tells { IfOk result (λ end. AddsOnly IsOfReturn state.old state.new) }
 {

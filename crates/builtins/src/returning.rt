@@ -12,7 +12,7 @@ ghost use Rattle.world.specs.Seen.{IsCalled, waiters, IsAtReturn, EndsBy};
 ghost use Rattle.world.specs.Points.{IsAtFinish, IsAtExit};
 ghost use Rattle.world.specs.Starting.{GoesOrEnds};
 ghost use Rattle.world.specs.Changes.{Spends};
-ghost use Rattle.builtins.specs.NextTask.{SpendsOrEnds};
+ghost use Rattle.builtins.specs.NextTask.{IsTrapOrFuel, MayStop, SpendsOrEnds};
 ghost use Rattle.builtins.specs.Telling.{AddsOnly, IsOfReturn};
 
 use crate::passing::lower_result;
@@ -40,6 +40,7 @@ pub(crate) fn resolve(
     requires plain { IsPlain graph.now }
     requires at { IsAtReturn graph.now script.now run.old task ended }
     ensures goes { IfOk result (λ resolved. MatchResult resolved (λ words. IsAtExit graph.now script.now run.new task words) (λ end. EndsBy graph.now script.now run.new end)) }
+    ensures stops { IfOk result (λ resolved. MatchResult resolved (λ words. Unit {0}) (λ end. IsTrapOrFuel end)) }
     ensures spends { IfOk result (λ resolved. MatchResult resolved (λ words. Spends run.old run.new) (λ end. Unit {0})) }
     ensures tells { IfOk result (λ resolved. AddsOnly IsOfReturn run.old run.new) }
 {
@@ -70,6 +71,7 @@ fn finish_for_task(
     requires some { run.old.waiting.items ≡ [] → ⊥ }
     requires at { IsAtReturn graph.now script.now run.old task ended.now }
     ensures goes { IfOk result (λ resolved. MatchResult resolved (λ words. IsAtExit graph.now script.now run.new task words) (λ end. EndsBy graph.now script.now run.new end)) }
+    ensures stops { IfOk result (λ resolved. MatchResult resolved (λ words. Unit {0}) (λ end. IsTrapOrFuel end)) }
     ensures spends { IfOk result (λ resolved. MatchResult resolved (λ words. Spends run.old run.new) (λ end. Unit {0})) }
     ensures tells { IfOk result (λ resolved. AddsOnly IsOfReturn run.old run.new) }
 {
@@ -110,6 +112,7 @@ fn pass_on(
     requires runs { (t : Task) → IsCalled graph.now script.now run.old.taken (waiters run.old) t → IsRunBy func.now t }
     requires lifts { result_of func.now.func_type.now func.now.func_type.now.result (bytes_of run.old.store (memory_of run.old.store func.now.lift.options)) ended.now ≡ Ok value }
     ensures goes { IfOk result (λ passed. MatchResult passed (λ words. IsAtFinish graph.now script.now run.new task (lifted_by func.now) ended.now words) (λ end. EndsBy graph.now script.now run.new end)) }
+    ensures stops { IfOk result (λ passed. MatchResult passed (λ words. Unit {0}) (λ end. IsTrapOrFuel end)) }
     ensures spends { IfOk result (λ passed. MatchResult passed (λ words. Spends run.old run.new) (λ end. Unit {0})) }
     ensures tells { IfOk result (λ passed. AddsOnly IsOfReturn run.old run.new) }
 {
@@ -140,6 +143,7 @@ fn finish_for_script(
     requires alone { state.old.waiting.items ≡ [] }
     requires at { IsAtReturn graph.now script.now state.old task ended.now }
     ensures goes { IfOk result (λ end. GoesOrEnds graph.now script.now state.new (IsAtExit graph.now script.now state.new task []) end) }
+    ensures stops { IfOk result (λ end. MayStop end) }
     ensures spends { IfOk result (λ end. SpendsOrEnds state.old state.new end) }
     ensures tells { IfOk result (λ end. AddsOnly IsOfReturn state.old state.new) }
 {
