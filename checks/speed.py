@@ -1,20 +1,19 @@
 #!/usr/bin/env python3
-"""Times a built wcm on large files.
+"""Times a built wcm on large files, and tells how much memory it holds.
 
     checks/speed.py crates/wcm/out/wcm [FACTOR]
 
 Each file is made at its full number of items, and at twice that number; where that is past a limit of the formats, at
 half of it. The full number is wanted within 3 seconds, and the greater of the two in less than three times the time of the
-smaller. Two files are nearly as long as a component file may be, and made at that length alone: aliases are wanted within
-10 seconds, and types within 20, each of which is one byte (the program takes 8 GB of memory for them). Components that are
-instantiated level by level are wanted within one second. FACTOR, a number such as 0.01, makes all files smaller or larger.
-A line a case is printed. The status is 1 where a case fails.
+smaller. Files of one kind of items that are nearly as long as a component file may be are made at that length alone, and wanted
+within 4 seconds. Components that are instantiated level by level are wanted within one second. Each run is wanted within 2 GiB of
+memory. FACTOR, a number such as 0.01, makes all files smaller or larger. A line a case is printed. The status is 1 where a case
+fails.
 """
 
 import subprocess
 import sys
 import tempfile
-import time
 from pathlib import Path
 from typing import Callable, NamedTuple
 
@@ -26,9 +25,10 @@ import formats
 # Seconds for the full number of items.
 SECONDS = 3.0
 # Seconds for files that are nearly as long as a component file may be, and for components that are instantiated level by level.
-ALIAS_SECONDS = 10.0
-TYPE_SECONDS = 20.0
+FULL_SECONDS = 4.0
 LEVEL_SECONDS = 1.0
+# How many bytes of memory a run may hold.
+MEMORY = 2 << 30
 # How many components may be open at a place.
 LEVELS = 16
 # How much longer twice the number of items may take.
@@ -53,6 +53,11 @@ class Case(NamedTuple):
     within: float = SECONDS
     # Whether no other number is tried.
     alone: bool = False
+
+
+def full(items, number, make):
+    """The case of a file that is nearly as long as a component file may be."""
+    return Case(f"{items} in a file of 16 MiB", number, make, command="check", within=FULL_SECONDS, alone=True)
 
 
 def module_exports(count):
@@ -310,6 +315,9 @@ def instantiating_itself(count):
     return formats.component(inner, formats.instantiated()), b"", 0
 
 
+# Files that are nearly as long as a component file may be.
+
+
 def full_of_aliases(count):
     """So many aliases, by turns of a type and of the export of an instance."""
     aliased = [b"\x03\x02\x00\x00", b"\x03\x00\x00" + formats.name("")]
@@ -320,6 +328,60 @@ def full_of_aliases(count):
 def full_of_types(count):
     """So many types of values, each of one byte."""
     return formats.component(formats.types([b"\x79"] * count)), b"", 1
+
+
+def full_of_tuples(count):
+    """So many tuples of one number."""
+    return formats.component(formats.types([formats.tuple_of([b"\x79"])] * count)), b"", 1
+
+
+def full_of_instance_types(count):
+    """So many types of instances without exports."""
+    return formats.component(formats.types([formats.instance_type([])] * count)), b"", 1
+
+
+def full_of_func_types(count):
+    """So many types of functions from nothing to nothing."""
+    return formats.component(formats.types([b"\x40" + formats.vec([]) + b"\x01\x00"] * count)), b"", 1
+
+
+def full_of_instances(count):
+    """So many instances without exports."""
+    return formats.component(formats.section(5, formats.vec([b"\x01" + formats.vec([])] * count))), b"", 1
+
+
+def full_of_core_instances(count):
+    """So many core instances without exports."""
+    return formats.component(formats.section(2, formats.vec([b"\x01" + formats.vec([])] * count))), b"", 1
+
+
+def full_of_core_modules(count):
+    """So many core modules that have nothing."""
+    return formats.component(formats.section(1, formats.MODULE) * count), b"", 1
+
+
+def full_of_components(count):
+    """So many components that have nothing."""
+    return formats.component(formats.nested() * count), b"", 1
+
+
+def full_of_lifts(count):
+    """So many lifts of one core function."""
+    parts = [formats.section(1, formats.module(["f"])), formats.instance(), formats.aliases(["f"]), formats.func_type([])]
+    return formats.component(*parts, formats.lifts([0] * count)), b"", 1
+
+
+def full_of_exports(count):
+    """So many exports of one type."""
+    names = formats.short_names(count, 4)
+    exports = formats.section(11, formats.vec(formats.ext(text) + b"\x03" + formats.u32(0) + b"\x00" for text in names))
+    return formats.component(formats.types([b"\x79"]), exports), b"", 1
+
+
+def full_of_imports(count):
+    """So many imports of instances without exports."""
+    names = formats.short_names(count, 4)
+    return formats.component(formats.types([formats.instance_type([])]), formats.instance_imports(names, 0)), b"", 1
 
 
 CASES = [
@@ -348,42 +410,52 @@ CASES = [
     Case("parts of a record, an enum and a tuple", 300_000, fields, command="check"),
     Case("lifts to a function of as many parameters", 400_000, lifted_again, command="check"),
     Case("options of a lift", 4_000_000, options_again, command="check", status=10),
-    Case("lowers of a function of 16 parameters", 4_190_000, lowered_again, doubles=False, command="check"),
     Case("imports of a core module that are lowered functions", 370_000, lowered_imports, command="check"),
     Case("imports of 255 core instances that are lowered functions", 6_000, lowered_imports_again, command="check"),
     Case("calls of a script, for a component with 1,000 exports", 60_000, calls, doubles=False),
     Case("types in a component that instantiates itself", 4_000, instantiating_itself, command="check", status=10),
     Case("instances of each of 16 levels of components", 2, level_by_level, command="check", status=10, within=LEVEL_SECONDS),
-    Case("aliases in a file of 16 MiB", 4_194_000, full_of_aliases, command="check", within=ALIAS_SECONDS, alone=True),
-    Case("types in a file of 16 MiB", 16_777_000, full_of_types, command="check", within=TYPE_SECONDS, alone=True),
+    full("aliases", 4_194_000, full_of_aliases),
+    full("types", 16_777_000, full_of_types),
+    full("types of tuples of one", 5_592_000, full_of_tuples),
+    full("types of instances without exports", 8_388_000, full_of_instance_types),
+    full("types of functions of nothing", 4_194_000, full_of_func_types),
+    full("instances without exports", 8_388_000, full_of_instances),
+    full("core instances without exports", 8_388_000, full_of_core_instances),
+    full("core modules", 1_677_000, full_of_core_modules),
+    full("components", 1_677_000, full_of_components),
+    full("lifts", 3_355_000, full_of_lifts),
+    full("lowers of a function of 16 parameters", 4_190_000, lowered_again),
+    full("exports", 1_864_000, full_of_exports),
+    full("imports of instances without exports", 2_097_000, full_of_imports),
 ]
 
 
-def seconds(program, case, size):
-    """The shorter time of two runs that come to what is wanted, or why there is none."""
+class Run(NamedTuple):
+    seconds: float
+    # How many bytes of memory it held.
+    memory: int
+
+
+def run(program, case, size):
+    """The shorter of two runs that come to what is wanted, or why there is none."""
     component, script, lines = case.make(size)
     files = ["file.wasm", "script.txt"] if case.command == "run" else ["file.wasm"]
-    best = None
+    command = [sys.executable, str(Path(__file__).resolve().parent / "measured.py"), str(PATIENCE), program, case.command, *files]
+    runs = []
     with tempfile.TemporaryDirectory() as folder:
         (Path(folder) / "file.wasm").write_bytes(component)
         (Path(folder) / "script.txt").write_bytes(script)
+        del component, script
         for _ in range(2):
-            with open(Path(folder) / "out", "wb") as out:
-                began = time.monotonic()
-                done = subprocess.run(
-                    [program, case.command, *files],
-                    cwd=folder,
-                    stdin=subprocess.DEVNULL,
-                    stdout=out,
-                    stderr=subprocess.PIPE,
-                    timeout=PATIENCE,
-                )
-                took = time.monotonic() - began
+            told = subprocess.run(command, cwd=folder, capture_output=True, text=True, check=True).stdout.split()
+            status, taken = int(told[0]), Run(float(told[1]), int(told[2]))
             written = (Path(folder) / "out").read_bytes().count(b"\n")
-            if done.returncode != case.status or written != lines:
-                raise ValueError(f"status {done.returncode}, {written} lines, {done.stderr!r}")
-            best = took if best is None else min(best, took)
-    return best
+            if status != case.status or written != lines:
+                why = (Path(folder) / "err").read_bytes()
+                raise ValueError(f"status {status} after {taken.seconds:.2f} s, {written} lines, {why!r}")
+            runs.append(taken)
+    return min(runs)
 
 
 def sizes_of(case, number):
@@ -398,17 +470,19 @@ def check(program, case, factor):
     number = max(2, int(case.number * factor))
     sizes = sizes_of(case, number)
     try:
-        times = [seconds(program, case, size) for size in sizes]
-    except (ValueError, subprocess.TimeoutExpired) as why:
+        runs = [run(program, case, size) for size in sizes]
+    except ValueError as why:
         print(f"failed: {number:,} {case.title}: {why}")
         return False
-    small, large = times[0], times[-1]
-    in_time = times[sizes.index(number)] <= case.within
-    in_proportion = large <= START or large < TIMES * max(small, START)
-    word = "ok" if in_time and in_proportion else "failed"
-    told = ", ".join(f"{size:,} in {took:.2f} s" for size, took in zip(sizes, times))
-    print(f"{word}: {number:,} {case.title}: {told}")
-    return in_time and in_proportion
+    small, large = runs[0].seconds, runs[-1].seconds
+    in_time = runs[sizes.index(number)].seconds <= case.within
+    in_proportion = large <= START or case.alone or large < TIMES * max(small, START)
+    in_memory = all(one.memory <= MEMORY for one in runs)
+    passed = in_time and in_proportion and in_memory
+    word = "ok" if passed else "failed"
+    told = ", ".join(f"{size:,} in {one.seconds:.2f} s and {one.memory >> 20:,} MiB" for size, one in zip(sizes, runs))
+    print(f"{word}: {number:,} {case.title}: {told}", flush=True)
+    return passed
 
 
 def main():

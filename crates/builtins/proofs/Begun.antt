@@ -5,14 +5,16 @@ use Rattle.std.specs.Prelude.{◌||◌}
 use Rattle.std.specs.List.{slice_get}
 use Rattle.std.specs.Option.{option_map, option_and_then}
 use Rattle.std.proofs.lemmas.Option.{slice_get_within}
-use Rattle.core_machine.specs.Store.{found_at}
-use Rattle.core_machine.proofs.Zips.{get_behind}
+use Rattle.wasm_store.specs.Store.{found_at}
+use Rattle.wasm_store.proofs.Lists.{all_at}
+use Rattle.wasm_store.proofs.Zips.{get_behind}
 use Rattle.comp_graph.specs.declared.graph.CanonFunc.{CanonFunc}
 use Rattle.comp_graph.specs.declared.graph.CanonFunc.TheVariants as canon_func
 use Rattle.comp_graph.specs.declared.graph.Lower.{Lower}
 use Rattle.comp_graph.specs.declared.graph.Lift.{Lift}
 use Rattle.ca_types.specs.declared.exports.Export.{Export}
 use Rattle.comp_graph.specs.Graph.{Graph, Lifted, func_named, func_at, lifted_as}
+use Rattle.comp_graph.specs.Running.{IsSyncCanon}
 use Rattle.script_reader.specs.declared.script.Call.{Call}
 use Rattle.script_reader.specs.declared.script.Item.{Item}
 use Rattle.script_reader.specs.declared.script.Item.TheVariants as item
@@ -47,6 +49,7 @@ use Rattle.builtins.specs.NextTask.{is_called, CallsAnother}
 use Rattle.builtins.specs.Reentering.{calls_into, reenters}
 use Rattle.world.proofs.Leads.{leads_then, leads_step}
 use Rattle.world.proofs.Instancing.{safe_there, ends_there}
+use Rattle.world.proofs.Callees.{HasLast}
 use Rattle.world.proofs.Items.{sound_call}
 use Rattle.world.proofs.TaskRuns.{called_func, called_as, waits_below}
 
@@ -88,11 +91,11 @@ pub script_call : (g : Graph) (s : Script) (taken : ℕ) (tasks : List Task) (u 
 script_call g s taken tasks u [] wait = (wait.0.0, wait.0.2.called)
 script_call g s taken tasks u (v ∷ below) wait = script_call g s taken tasks v below wait.1
 
-pub taken_call : (g : Graph) (s : Script) (run : RunState) (t : ℕ) → IsAtCall g s run t → (number : ℕ) × (run.taken ≡ number + 1) × (number < length s.items)
+pub taken_call : (g : Graph) (s : Script) (run : RunState) (t : ℕ) → IsAtCall g s run t → HasLast s run.taken
 taken_call g s run t h =
     let w : World = h.stands.world in
     let sc = script_call g s w.taken w.tasks h.caller h.below (subst (AreWaiters g s w.taken w.tasks) h.are h.stands.sees.waiting) in
-    (sc.1.number, sym h.stands.sees.taken ∙ sc.1.last, slice_get_within s.items sc.1.number (item.Call sc.1.call) sc.1.there)
+    (sc.1.number, sc.1.call, sym h.stands.sees.taken ∙ sc.1.last, sc.1.there)
 
 -- by the call that the code finds
 abbrev IsLast : Script → ℕ → Call → Type 0
@@ -101,7 +104,7 @@ IsLast s taken call = (number : ℕ) → taken ≡ number + 1 → slice_get s.it
 pub last_is_sound : (g : Graph) (s : Script) (run : RunState) (t : ℕ) (call : Call) → IsSound g s → IsAtCall g s run t → IsLast s run.taken call → IsSoundCall g call
 last_is_sound g s run t call sound h last =
     let at = taken_call g s run t h in
-    sound_call g s at.0 call sound (last at.0 at.1)
+    sound_call g s at.0 call sound (last at.0 at.2)
 
 same_instance : (g : Graph) (number : ℕ) (f : Lifted) (lift : Lift) → func_at g number ≡ Some f → slice_get g.lifts number ≡ Some lift → f.instance ≡ lift.instance
 same_instance g number f lift h there = by (slice_get g.exports number) (slice_get g.lifts number) there h
@@ -239,6 +242,7 @@ module _ (g : Graph) (s : Script) (run : RunState) (t : ℕ) (sound : IsSound g 
   call_lower = by calling.holds.0.1.canon calling.holds.0.1.there
     where
       by : (canon : CanonFunc) → slice_get g.canons u.canon ≡ Some canon → (l : Lower) × (slice_get g.canons u.canon ≡ Some (canon_func.Lower l))
+      by (canon_func.Builtin b) e = absurd (all_at IsSyncCanon g.canons u.canon (canon_func.Builtin b) sound.graph.sync.canons e)
       by (canon_func.Lower l) e = (l, e)
 
   order : AreWaiting w.tasks u.task (numbers h.below)
@@ -357,6 +361,11 @@ module _ (g : Graph) (s : Script) (run : RunState) (t : ℕ) (sound : IsSound g 
   pub within_found : (x : Waiter) (found : Graph) → x ≡ u → found ≡ g → x.canon < length found.canons
   within_found x found same e =
       subst (λ (n : ℕ). n < length found.canons) (ap (λ (x : Waiter). x.canon) (sym same)) (subst (λ (k : Graph). u.canon < length k.canons) (sym e) canon_within)
+
+  -- The core function of the Canonical ABI by which it calls is one of a function that is lowered.
+  pub lowers_found : (x : Waiter) (found : Graph) → x ≡ u → found ≡ g → (l : Lower) × (lower_at found x.canon ≡ Some l)
+  lowers_found x found same e =
+      (call_lower.0, ap (λ (k : Graph). lower_at k x.canon) e ∙ ap (λ (x : Waiter). lower_at g x.canon) same ∙ ap (option_and_then lower_of) call_lower.1)
 
   -- what the code finds of the call
   pub record Found (x : Waiter) (words : List ℕ) (builtin : Builtin) (inst : ℕ) (back : Bool) : Type 0 where

@@ -3,10 +3,10 @@ use Rattle.std.proofs.Common.{◌≡◌, ◌≤◌, ◌<◌, ℕ, List, [], ◌�
 use Rattle.std.specs.List.{slice_get}
 use Rattle.std.specs.Option.{IsSome, option_map}
 use Rattle.std.proofs.lemmas.Option.{slice_get_within}
-use Rattle.core_machine.specs.Store.{Function, Store, found_at}
-use Rattle.core_machine.specs.Stack.{Stack}
-use Rattle.core_machine.specs.Step.{start}
-use Rattle.core_machine.proofs.Lists.{found_there}
+use Rattle.wasm_store.specs.Store.{Function, Store, found_at}
+use Rattle.wasm_store.specs.Stack.{Stack}
+use Rattle.wasm_store.specs.Step.{start}
+use Rattle.wasm_store.proofs.Lists.{found_there}
 use Rattle.ca_types.specs.declared.value.Value.{Value}
 use Rattle.value_lower.specs.Plan.{Plan}
 use Rattle.copy_engine.specs.declared.nested.HostCall.{HostCall}

@@ -12,7 +12,7 @@ use Rattle.value_lift.specs.declared.trap.LiftTrap.{LiftTrap}
 use Rattle.canonical_machine.specs.Values.{IsOf}
 use Rattle.canonical_machine.proofs.Ranged.{values_of_types_fit}
 use Rattle.wasm_numbers.specs.Types.{AreWords}
-use Rattle.core_machine.specs.Store.{Store, found_at}
+use Rattle.wasm_store.specs.Store.{Store, found_at}
 use Rattle.comp_graph.specs.declared.graph.CanonFunc.{CanonFunc}
 use Rattle.comp_graph.specs.declared.graph.CanonFunc.TheVariants as canon_func
 use Rattle.comp_graph.specs.declared.graph.Lower.{Lower}

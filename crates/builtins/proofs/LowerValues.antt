@@ -1,7 +1,7 @@
 -- Values that are lowered over the store of a run.
 use Rattle.std.proofs.Common.{◌≡◌, ℕ, refl, sym, ap, ◌∙◌, subst, Option, Some, None}
 use Rattle.std.specs.Option.{IsSome}
-use Rattle.core_machine.specs.Store.{Store}
+use Rattle.wasm_store.specs.Store.{Store}
 use Rattle.value_lower.specs.Plan.{Plan}
 use Rattle.copy_engine.specs.declared.nested.HostCall.{HostCall}
 use Rattle.copy_engine.specs.declared.nested.NestedTrap.TheVariants.{Core, CannotLeave, NoRealloc}

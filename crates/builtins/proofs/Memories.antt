@@ -5,8 +5,8 @@ use Rattle.std.proofs.lemmas.Option.{slice_get_past}
 use Rattle.std.specs.List.{slice_get}
 use Rattle.std.specs.Option.{option_map}
 use Rattle.wasm_memory.specs.Memories.{MemoryState, with_bytes}
-use Rattle.core_machine.specs.Store.{Store, found_at}
-use Rattle.core_machine.specs.Effects.{with_memory}
+use Rattle.wasm_store.specs.Store.{Store, found_at}
+use Rattle.wasm_store.specs.Effects.{with_memory}
 use Rattle.copy_engine.specs.Nested.{bytes_of, bytes_in, rewritten_at, with_bytes_in}
 use Rattle.canonical_machine.specs.Edits.{rewritten}
 use Rattle.canonical_machine.specs.Reading as machine

@@ -2,13 +2,14 @@
 use Rattle.std.proofs.Common.{◌≡◌, ℕ, List, refl, sym, subst, Option, Some, None}
 use Rattle.std.specs.List.{slice_get}
 use Rattle.std.specs.Option.{option_and_then, IsSome, IfSome}
-use Rattle.core_machine.specs.Store.{Store, Instance, found_at}
+use Rattle.wasm_store.specs.Store.{Store, Instance, found_at}
 use Rattle.comp_graph.specs.declared.graph.CoreRef.{CoreRef}
 use Rattle.comp_graph.specs.declared.graph.FuncRef.{FuncRef}
 use Rattle.comp_graph.specs.declared.graph.Lower.{Lower}
 use Rattle.comp_graph.specs.CoreItems.{memory_space}
 use Rattle.comp_graph.specs.Needs.{realloc_type}
-use Rattle.comp_graph.specs.Graph.{Graph, Lifted, core_type, IsMemoryThere, IsLowerThere}
+use Rattle.comp_graph.specs.Graph.{Graph, Lifted, IsMemoryThere}
+use Rattle.canonical_machine.proofs.Synchronous.{core_type, IsLowerThere}
 use Rattle.canonical_machine.specs.Kept.{HasHosts, WereMade}
 use Rattle.canonical_machine.specs.Reading.{address_in, func_address}
 use Rattle.canonical_machine.proofs.Graphs.{IsUsed, func_there}

@@ -1,14 +1,15 @@
 -- Functions of a plain graph that are called: what they pass holds values alone.
 use Rattle.std.proofs.Common.{◌≡◌, ℕ, List, [], ◌∷◌, sym, ◌∙◌, subst, Option, Some, None}
 use Rattle.std.specs.Option.{option_and_then}
-use Rattle.core_machine.proofs.Lists.{all_at}
+use Rattle.wasm_store.proofs.Lists.{all_at}
 use Rattle.ca_base.specs.Names.{first_named}
 use Rattle.ca_types.specs.declared.types.FuncType.{FuncType}
 use Rattle.ca_types.specs.declared.exports.Export.{Export}
 use Rattle.comp_graph.specs.declared.graph.Lower.{Lower}
 use Rattle.comp_graph.specs.declared.graph.CanonFunc.{CanonFunc}
 use Rattle.comp_graph.specs.declared.graph.CanonFunc.TheVariants as canon_func
-use Rattle.comp_graph.specs.Graph.{Graph, Lifted, names, func_at, called_type}
+use Rattle.comp_graph.specs.Graph.{Graph, Lifted, names, func_at}
+use Rattle.canonical_machine.specs.Synchronous.{called_type}
 use Rattle.script_reader.specs.Script.{Script}
 use Rattle.canonical_machine.specs.World.{Func, Task}
 use Rattle.canonical_machine.specs.Reading.{lower_at}

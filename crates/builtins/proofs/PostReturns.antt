@@ -4,12 +4,12 @@ use Rattle.std.proofs.lemmas.Option.{slice_get_within}
 use Rattle.std.specs.List.{slice_get}
 use Rattle.std.specs.Option.{IsSome, option_map}
 use Rattle.wasm_module.specs.declared.types.ValType.{ValType}
-use Rattle.core_machine.specs.declared.trap.Trap.{Trap}
-use Rattle.core_machine.specs.Store.{Function, Store, found_at}
-use Rattle.core_machine.specs.Stack.{Stack}
-use Rattle.core_machine.specs.Step.{start}
-use Rattle.core_machine.specs.Typed.{StackTyped}
-use Rattle.core_machine.proofs.Lists.{found_there}
+use Rattle.wasm_store.specs.declared.trap.Trap.{Trap}
+use Rattle.wasm_store.specs.Store.{Function, Store, found_at}
+use Rattle.wasm_store.specs.Stack.{Stack}
+use Rattle.wasm_store.specs.Step.{start}
+use Rattle.wasm_store.specs.Typed.{StackTyped}
+use Rattle.wasm_store.proofs.Lists.{found_there}
 use Rattle.wasm_execution.specs.Run.{RunGives}
 use Rattle.wasm_execution.specs.Waiting.{Waiting}
 use Rattle.wasm_execution.specs.declared.running.Outcome.{Outcome}

@@ -4,9 +4,9 @@ use Rattle.std.proofs.Common.{◌≡◌, ◌≤◌, ◌<◌, ℕ, suc, ◌||◌,
 use Rattle.std.specs.List.{slice_get, AllByRecursion}
 use Rattle.std.specs.Option.{option_and_then, option_map}
 use Rattle.std.proofs.lemmas.List.{reverse-append}
-use Rattle.core_machine.specs.Stack.{Stack, Running, AtHost, Given}
-use Rattle.core_machine.specs.Step.{resume}
-use Rattle.core_machine.proofs.Lists.{all_append}
+use Rattle.wasm_store.specs.Stack.{Stack, Running, AtHost, Given}
+use Rattle.wasm_store.specs.Step.{resume}
+use Rattle.wasm_store.proofs.Lists.{all_append}
 use Rattle.comp_graph.specs.declared.graph.Lower.{Lower}
 use Rattle.comp_graph.specs.declared.graph.CanonFunc.{CanonFunc}
 use Rattle.comp_graph.specs.declared.graph.CanonFunc.TheVariants as canon_func
@@ -35,6 +35,7 @@ lower_there g number l h = by (slice_get g.canons number) h
   where
     by : (o : Option CanonFunc) → option_and_then lower_of o ≡ Some l → o ≡ Some (canon_func.Lower l)
     by None h = cc
+    by (Some (canon_func.Builtin b)) h = cc
     by (Some (canon_func.Lower other)) h = (let same : other ≡ l = cc in ap (λ (l : Lower). Some (canon_func.Lower l)) same)
 
 -- The task that waits at its call is the innermost.

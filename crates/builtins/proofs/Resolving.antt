@@ -21,13 +21,13 @@ use Rattle.builtins.specs.Lowering.{IsAtLowering, LoweredLeads}
 use Rattle.builtins.specs.declared.lower_values.Lowered.TheVariants as came
 use Rattle.builtins.specs.Rooms.{IsMemory}
 use Rattle.wasm_numbers.specs.Types.{AreWords}
-use Rattle.core_machine.specs.Store.{Store, found_at}
-use Rattle.core_machine.specs.Stack.{Stack}
-use Rattle.core_machine.specs.Step.{Move}
-use Rattle.core_machine.specs.Step as core
-use Rattle.core_machine.specs.Laws.{MoveTyped}
-use Rattle.core_machine.specs.Typed.{StackTyped}
-use Rattle.core_machine.proofs.Moving.{moves_typed}
+use Rattle.wasm_store.specs.Store.{Store, found_at}
+use Rattle.wasm_store.specs.Stack.{Stack}
+use Rattle.wasm_store.specs.Step.{Move}
+use Rattle.wasm_store.specs.Step as core
+use Rattle.wasm_store.specs.Laws.{MoveTyped}
+use Rattle.wasm_store.specs.Typed.{StackTyped}
+use Rattle.wasm_store.proofs.Moving.{moves_typed}
 use Rattle.value_lift.specs.declared.trap.LiftTrap.{LiftTrap}
 use Rattle.ca_types.specs.declared.types.ValType.{ValType}
 use Rattle.ca_types.specs.declared.types.FuncType.{FuncType}
@@ -310,6 +310,11 @@ module _ (g : Graph) (s : Script) (run : RunState) (t : ℕ) (words : List ℕ) 
   canon_within u below waits =
       let call : IsTaskCall g u.task u.canon u.words task = subst (λ (us : List Waiter). IsCalled g s run.taken us task) waits called in
       slice_get_within g.canons u.canon (canon_func.Lower call.lower) (lower_there g u.canon call.lower call.there)
+
+  pub canon_lowers : (u : Waiter) (below : List Waiter) → waiters run ≡ u ∷ below → (l : Lower) × (lower_at g u.canon ≡ Some l)
+  canon_lowers u below waits =
+      let call : IsTaskCall g u.task u.canon u.words task = subst (λ (us : List Waiter). IsCalled g s run.taken us task) waits called in
+      (call.lower, call.there)
 
   pub of_result : (of_type : ValType) → c.types.returned ≡ Some of_type → c.func_type.now.result ≡ Some of_type
   of_result of_type e = sym (is task called).passed.returned ∙ e

@@ -1,8 +1,8 @@
 -- What parts add to a run's data, one behind the other.
 use Rattle.std.proofs.Common.{◌≡◌, ◌+◌, ℕ, List, [], ◌∷◌, ◌++◌, refl, sym, ap, ◌∙◌, arith, append_assoc, append-nil, Result, Ok, Err, MatchResult, Option}
 use Rattle.std.specs.Prelude.{IfOk}
-use Rattle.core_machine.specs.Stack.{Stack}
-use Rattle.core_machine.proofs.Lists.{all_append}
+use Rattle.wasm_store.specs.Stack.{Stack}
+use Rattle.wasm_store.proofs.Lists.{all_append}
 use Rattle.comp_graph.specs.Graph.{Graph}
 use Rattle.trace_show.specs.declared.label.Label.{Label}
 use Rattle.trace_show.specs.declared.label.Label.TheVariants as line

@@ -1,7 +1,7 @@
 -- What a lowering over a store is in a run of components (Component Model, CanonicalABI.md, "Lifting and Lowering Context", "Storing",
 -- "Flat Lowering"): where the steps lead that follow its plan, realloc by realloc.
 use Rattle.std.specs.Prelude.{◌≡◌, ◌≤◌, ◌+◌, ℕ, [], length, Option, Some, None}
-use Rattle.core_machine.specs.Store.{Store}
+use Rattle.wasm_store.specs.Store.{Store}
 use Rattle.value_lower.specs.declared.ends.RoomEnd.TheVariants.{Trapped, NoFuel, Memory}
 use Rattle.value_lower.specs.Plan.{Plan}
 use Rattle.value_lower.specs.Following.{Came, Words, Failed, Ended, Follows}

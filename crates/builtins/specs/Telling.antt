@@ -3,9 +3,9 @@
 -- taken there.
 use Rattle.std.specs.Prelude.{◌≡◌, ◌+◌, ℕ, List, [], ◌∷◌, ◌++◌, Some, Result, Ok, Err}
 use Rattle.std.specs.List.{slice_get, AllByRecursion}
-use Rattle.core_machine.specs.Store.{Function, Store}
-use Rattle.core_machine.specs.Stack.{Stack}
-use Rattle.core_machine.specs.Step.{start}
+use Rattle.wasm_store.specs.Store.{Function, Store}
+use Rattle.wasm_store.specs.Stack.{Stack}
+use Rattle.wasm_store.specs.Step.{start}
 use Rattle.comp_graph.specs.Graph.{Graph, Lifted}
 use Rattle.script_reader.specs.Script.{Script}
 use Rattle.trace_show.specs.declared.builtin.Builtin.{Builtin}

@@ -25,26 +25,26 @@ use world::{
 };
 
 /// The component instance of the function that the core function of the Canonical ABI of a number calls.
-fn called_instance(graph: &Graph, canon: usize) -> usize
-    requires { canon < length graph.now.canons }
+fn called_instance(graph: &Graph, canon: usize) -> u32
+    requires { (l : Lower) × (lower_at graph.now canon ≡ Some l) }
     ensures { (l : Lower) → lower_at graph.now canon ≡ Some l → result ≡ l.lift.instance }
 {
     lower_of(canon_at(graph, canon)).lift.instance
 }
 
 /// Whether a task calls into a component instance, by the core function of the Canonical ABI of this number.
-fn calls_into(graph: &Graph, canon: usize, instance: usize) -> bool
+fn calls_into(graph: &Graph, canon: usize, instance: u32) -> bool
     ensures { result ≡ calls_into graph.now canon instance }
 {
     match graph.canons().get(canon) {
-        Some(CanonFunc::Lower(lower)) => lower.lift.instance == instance,
-        None => false,
+        Some(CanonFunc::Lower(lower)) => lower.get().lift.instance == instance,
+        Some(CanonFunc::Builtin(_)) | None => false,
     }
 }
 
 /// Whether a task above these that wait, or one of them, runs a function of a component instance. The script called into the first
 /// instance.
-fn reenters(graph: &Graph, first: usize, callers: &[Waiter], instance: usize) -> bool
+fn reenters(graph: &Graph, first: u32, callers: &[Waiter], instance: u32) -> bool
     ensures { result ≡ reenters graph.now first instance (reverse callers.now) }
 {
     let mut found = first == instance;
@@ -78,23 +78,14 @@ fn same_words(alloc: Global, words: &[u64]) -> Result<Words, Memory>
 }
 
 /// The number of a component instance in a line, where those are counted from 1, if it has 32 bits.
-fn line_number(instance: usize) -> Option<u32>
+fn line_number(instance: u32) -> Option<u32>
     ensures { MatchOption result (2 ^ 32 ≤ instance + 1) (λ number. number ≡ instance + 1) }
 {
-    match u32::try_from(instance) {
-        Ok(number) => number.checked_add(1),
-        Err(_) => None,
-    }
+    instance.checked_add(1)
 }
 
 /// Whether a call into an instance by the innermost of the tasks that wait comes back to one that waits for it.
-fn comes_back(
-    graph: &NamedGraph,
-    script: &Script,
-    task: u32,
-    run: &RunState,
-    instance: usize,
-) -> bool
+fn comes_back(graph: &NamedGraph, script: &Script, task: u32, run: &RunState, instance: u32) -> bool
     requires sound { IsSound graph.now script.now }
     requires apart { IsApart graph.now }
     requires at { IsAtCall graph.now script.now run.now task }

@@ -7,7 +7,7 @@ ghost use Rattle.builtins.specs.Rooms.{IsMemory};
 
 use comp_graph::Options;
 use copy_engine::LowerOptions;
-use core_machine::Store;
+use wasm_store::Store;
 use world::{memory_of, realloc_of};
 
 /// What options say of a lowering over a store.

@@ -16,12 +16,12 @@ ghost use Rattle.builtins.specs.Lowering.{plan_to, IsAtLowering, LoweredLeads, C
 use ca_base::{Fuel, Memory, Seq};
 use ca_types::Value;
 use copy_engine::{HostCall, LowerOptions, NestedTrap, StoreRoom, Taken};
-use core_machine::Store;
 use laid_types::LaidType;
 use std::alloc::Global;
 use trace_show::TrapName;
 use value_lower::{LowerError, LowerWhy, RoomEnd};
 use wasm_execution::Words;
+use wasm_store::Store;
 use world::{core_name, lower_name};
 
 /// Where a value is lowered to.

@@ -11,10 +11,10 @@ use crate::looping::run_items;
 use ca_base::{Memory, Seq};
 use canonical_machine::RunEnd;
 use comp_graph::Graph;
-use core_machine::Store;
 use script_reader::Script;
 use std::alloc::Global;
 use trace_show::Label;
+use wasm_store::Store;
 use world::{NamedGraph, RunState, canon_func_types, give_up_all, instantiate};
 
 /// A run, from its first line to its end (Component Model, Concurrency.md, "Summary").

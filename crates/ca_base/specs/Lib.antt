@@ -5,4 +5,5 @@ pub mod Items
 pub mod Names
 pub mod Numbers
 pub mod Span
+pub mod Tables
 pub mod Texts

@@ -6,15 +6,19 @@ ghost use Rattle.ca_base.specs.declared.cursor.ByteWhy.TheVariants.{Truncated};
 use crate::reason::NumberReason;
 use crate::refusal::Refusal;
 use crate::window::Window;
+use thiserror::Error;
 
 /// Why a read of a cursor is refused.
-#[derive(Clone, Copy, Debug)]
+#[derive(Clone, Copy, Debug, Error)]
 pub enum ByteWhy {
     /// It passes the end of the bytes.
+    #[error("the bytes end too early")]
     Truncated,
     /// A number has too many bytes, or sets bits that it has not (Core 2.0, section 5.2.2).
+    #[error("a number has too many bytes or bits")]
     TooLong,
     /// A name is not UTF-8.
+    #[error("a name is not UTF-8")]
     BadUtf8,
 }
 

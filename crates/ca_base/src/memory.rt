@@ -3,9 +3,12 @@
 ghost use Rattle.std.specs.Prelude.{◌≡◌};
 
 use std::alloc::{AllocError, AllocFailed};
+use std::fmt;
+use thiserror::Error;
 
 /// Want of memory, of a call that has no other refusal.
-#[derive(Clone, Copy, Debug)]
+#[derive(Clone, Copy, Debug, Error)]
+#[error("out of memory")]
 pub struct Memory;
 
 impl From<AllocError> for Memory {
@@ -21,11 +24,14 @@ impl<T: Drop> From<AllocFailed<T>> for Memory {
 }
 
 /// A fault of this kind, or want of memory: why a call ends without its result.
-#[derive(Clone, Copy, Debug, Drop)]
+#[derive(Clone, Copy, Debug, Drop, Error)]
+#[error_bound(F: fmt::Display)]
 pub enum MemoryOr<F> {
     /// Want of memory.
+    #[error("out of memory")]
     Memory,
     /// The fault.
+    #[error("{0}")]
     Fault(F),
 }
 

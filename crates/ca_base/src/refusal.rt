@@ -3,9 +3,13 @@
 ghost use Rattle.std.specs.Prelude.{◌≡◌};
 
 use crate::memory::MemoryOr;
+use std::fmt;
+use thiserror::Error;
 
 /// Why bytes are refused, and where.
-#[derive(Clone, Copy, Debug)]
+#[derive(Clone, Copy, Debug, Error)]
+#[error_bound(W: fmt::Display)]
+#[error("byte {place}: {why}")]
 pub struct Refusal<W> {
     /// The byte place, counted from the file's start.
     pub place: usize,

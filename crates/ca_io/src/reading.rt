@@ -7,15 +7,19 @@ use crate::failed::Failed;
 use crate::files::Files;
 use ca_base::{Bytes, Seq};
 use std::alloc::{AllocError, Global};
+use thiserror::Error;
 
 /// Why a file was not read whole.
-#[derive(Clone, Copy, Debug)]
+#[derive(Clone, Copy, Debug, Error)]
 pub enum FileError {
     /// A read of the source failed.
+    #[error("the file cannot be read")]
     Fault,
     /// The file has more bytes than the limit.
+    #[error("the file has too many bytes")]
     Limit,
     /// Want of memory.
+    #[error("out of memory")]
     Memory,
 }
 

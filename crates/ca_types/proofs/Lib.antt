@@ -5,7 +5,4 @@ pub mod Layouts
 pub mod FlatEquations
 pub mod Joins
 pub mod FitsEquations
-pub mod Letters
-pub mod TextEquations
-pub mod Separated
 pub mod WriterEquations

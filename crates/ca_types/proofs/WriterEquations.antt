@@ -8,15 +8,16 @@ use Rattle.ca_types.specs.declared.types.ValType.TheViews as types
 use Rattle.ca_types.specs.declared.types.ValType.TheVariants as leaves
 use Rattle.ca_types.specs.declared.types.ValType.TheOpen as F
 use Rattle.ca_types.specs.declared.types.ValType.TheFolds.{fold-Case, fold-Field, fold-roll-ValType}
-use Rattle.ca_types.specs.declared.types.ValType.TheVariants.{rolls-Tuple, rolls-Record, rolls-Variant, rolls-Result, rolls-List, rolls-Flags, rolls-Option}
+use Rattle.ca_types.specs.declared.types.ValType.TheVariants.{rolls-Tuple, rolls-Record, rolls-Variant, rolls-Result, rolls-List, rolls-Flags, rolls-Enum, rolls-Option}
 use Rattle.ca_types.proofs.Folds.{held, fold_case, fold_field, fold_result}
 use Rattle.ca_types.proofs.Parts.{map_alike, get_image}
 use Rattle.ca_types.specs.declared.value.Value.{Value, out-Value}
-use Rattle.ca_types.specs.ValueText.{Writer, Labelled, writer, writer_step, writer_case, writer_field, payload_writer, field_writer, case_writer, record_text, tuple_text, variant_text, result_text, chosen_text, rest_text, label_at, list_text, flags_text, option_text, payload_text, by_label, by_each, set_labels}
+use Rattle.ca_types.specs.ValueText.{Writer, Labelled, writer, writer_step, writer_case, writer_field, payload_writer, field_writer, case_writer, record_text, tuple_text, variant_text, result_text, chosen_text, rest_text, label_at, list_text, flags_text, enum_text, option_text, payload_text, by_label, by_each, set_labels}
 use Rattle.ca_types.specs.declared.value.Value.TheViews as values
 use Rattle.ca_types.specs.declared.value.Value.TheVariants as plain
 use Rattle.ca_types.specs.declared.value.Value.TheViews.{the_lemmas}
 use Rattle.std.specs.Prelude.{codes, ◌==◌, if◌then◌else◌}
+use Rattle.ca_types.specs.NameText.{name_text}
 use Rattle.ca_types.specs.TypeText.{Chars, listed}
 use Rattle.std.specs.List.{slice_get}
 use Rattle.std.specs.Option.{option_map}
@@ -42,7 +43,7 @@ writer_of_payload None = refl
 writer_of_case : (c : Case) → fold-Case Writer Rest Named writer_step writer_case writer_field c ≡ case_writer c
 writer_of_case c =
     fold_case Writer Rest Named writer_step writer_case writer_field c
-    ∙ ap (λ (w : Option Writer). let l : Rest = record { label = c.label; rest = w } in l) (writer_of_payload c.payload)
+    ∙ ap (λ (w : Option Writer). let l : Rest = record { label = name_text c.label; rest = w } in l) (writer_of_payload c.payload)
 
 pub writer_of_record : (fields : List Field) (v : Value) → writer (types.Record fields) v ≡ record_text (map field_writer fields) (out-Value v)
 writer_of_record fields v =
@@ -64,17 +65,17 @@ writer_of_result ok err v =
     ∙ ap (λ (w : Option Writer). result_text (payload_writer ok) w (out-Value v)) (writer_of_payload err)
 
 pub writes_case : (cases : List Case) (n : ℕ) (p : Option Value) (c : Case) → slice_get cases n ≡ Some c
-    → chosen_text (slice_get (map case_writer cases) n) p ≡ c.label ++ rest_text (payload_writer c.payload) p
+    → chosen_text (slice_get (map case_writer cases) n) p ≡ name_text c.label ++ rest_text (payload_writer c.payload) p
 writes_case cases n p c h = ap (λ (w : Option Rest). chosen_text w p) (get_image case_writer cases n ∙ ap (option_map case_writer) h)
 
 pub writes_no_case : (cases : List Case) (n : ℕ) (p : Option Value) → slice_get cases n ≡ None → chosen_text (slice_get (map case_writer cases) n) p ≡ []
 writes_no_case cases n p h = ap (λ (w : Option Rest). chosen_text w p) (get_image case_writer cases n ∙ ap (option_map case_writer) h)
 
-pub writes_label : (labels : List Chars) (n : ℕ) (l : Chars) → slice_get labels n ≡ Some l → label_at (slice_get labels n) ≡ l
-writes_label labels n l h = ap label_at h
+pub writes_label : (labels : List Chars) (n : ℕ) (l : Chars) → slice_get labels n ≡ Some l → label_at (slice_get (map name_text labels) n) ≡ name_text l
+writes_label labels n l h = ap label_at (get_image name_text labels n ∙ ap (option_map name_text) h)
 
-pub writes_no_label : (labels : List Chars) (n : ℕ) → slice_get labels n ≡ None → label_at (slice_get labels n) ≡ []
-writes_no_label labels n h = ap label_at h
+pub writes_no_label : (labels : List Chars) (n : ℕ) → slice_get labels n ≡ None → label_at (slice_get (map name_text labels) n) ≡ []
+writes_no_label labels n h = ap label_at (get_image name_text labels n ∙ ap (option_map name_text) h)
 
 -- Values that are opened.
 record_out : (fields : List Named) (vs : List Value) → record_text fields (out-Value (values.Record vs)) ≡ codes "{" ++ listed (by_label vs fields) ++ codes "}"
@@ -88,6 +89,9 @@ list_out element vs = search (rules, the_lemmas)
 
 flags_out : (labels : List Chars) (fs : List Bool) → flags_text labels (out-Value (plain.Flags fs)) ≡ codes "{" ++ listed (set_labels labels fs) ++ codes "}"
 flags_out labels fs = search (rules, the_lemmas)
+
+enum_out : (labels : List Chars) (n : ℕ) (p : Option Value) → enum_text labels (out-Value (values.Variant n p)) ≡ label_at (slice_get labels n)
+enum_out labels n p = search (rules, the_lemmas)
 
 variant_out : (cases : List Rest) (n : ℕ) (p : Option Value) → variant_text cases (out-Value (values.Variant n p)) ≡ chosen_text (slice_get cases n) p
 variant_out cases n p = search (rules, the_lemmas)
@@ -129,11 +133,18 @@ write_list t v element vs e f =
     ∙ ap (λ (v : Value). list_text (writer element) (out-Value v)) f ∙ list_out (writer element) vs
 
 pub write_flags : (t : ValType) (v : Value) (labels : List Chars) (fs : List Bool) → t ≡ leaves.Flags labels → v ≡ plain.Flags fs
-    → writer t v ≡ codes "{" ++ listed (set_labels labels fs) ++ codes "}"
+    → writer t v ≡ codes "{" ++ listed (set_labels (map name_text labels) fs) ++ codes "}"
 write_flags t v labels fs e f =
     ap (λ (t : ValType). writer t v) (e ∙ sym (rolls-Flags labels))
     ∙ ap (λ (w : Writer). w v) (fold-roll-ValType Writer Rest Named writer_step writer_case writer_field (F.Flags labels))
-    ∙ ap (λ (v : Value). flags_text labels (out-Value v)) f ∙ flags_out labels fs
+    ∙ ap (λ (v : Value). flags_text (map name_text labels) (out-Value v)) f ∙ flags_out (map name_text labels) fs
+
+pub write_enum : (t : ValType) (v : Value) (labels : List Chars) (n : ℕ) (p : Option Value) → t ≡ leaves.Enum labels → v ≡ values.Variant n p
+    → writer t v ≡ label_at (slice_get (map name_text labels) n)
+write_enum t v labels n p e f =
+    ap (λ (t : ValType). writer t v) (e ∙ sym (rolls-Enum labels))
+    ∙ ap (λ (w : Writer). w v) (fold-roll-ValType Writer Rest Named writer_step writer_case writer_field (F.Enum labels))
+    ∙ ap (λ (v : Value). enum_text (map name_text labels) (out-Value v)) f ∙ enum_out (map name_text labels) n p
 
 pub write_variant : (t : ValType) (v : Value) (cases : List Case) (n : ℕ) (p : Option Value) → t ≡ types.Variant cases → v ≡ values.Variant n p
     → writer t v ≡ chosen_text (slice_get (map case_writer cases) n) p

@@ -4,7 +4,7 @@ pub mod Limited
 pub mod Flat
 pub mod Fits
 pub mod CharText
+pub mod NameText
 pub mod TypeText
-pub mod LeafText
 pub mod ValueText
 pub mod formers

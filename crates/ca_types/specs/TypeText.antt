@@ -1,7 +1,8 @@
--- The texts of types, after the text format of interfaces (Component Model, WIT.md, "Types").
+-- The texts of types, after the text format of interfaces (Component Model, WIT.md, "Types"). Labels stand as names do.
 use Rattle.std.specs.Prelude.{ℕ, List, [], ◌++◌, Option, Some, None, codes}
 use Rattle.std.specs.Fmt.{decimal}
 use Rattle.ca_base.specs.Texts.{separated}
+use Rattle.ca_types.specs.NameText.{name_text}
 use Rattle.ca_types.specs.declared.types.ValType.{ValType, fold-ValType}
 use Rattle.ca_types.specs.declared.types.Field.{Field}
 use Rattle.ca_types.specs.declared.types.Case.{Case}
@@ -13,6 +14,10 @@ Chars = List ℕ
 -- texts with a comma and a space between them
 abbrev pub listed : List Chars → Chars
 listed texts = separated (codes ", ") (λ (t : Chars). t) texts
+
+-- labels with a comma and a space between them
+abbrev pub listed_labels : List Chars → Chars
+listed_labels labels = separated (codes ", ") name_text labels
 
 -- a type that may be absent
 abbrev pub part_text : Option Chars → Chars
@@ -44,8 +49,8 @@ text_step (ValType-F.Record fields) = codes "record{" ++ listed fields ++ codes 
 text_step (ValType-F.Variant cases) = codes "variant{" ++ listed cases ++ codes "}"
 text_step (ValType-F.List element) = codes "list<" ++ element ++ codes ">"
 text_step (ValType-F.Tuple parts) = codes "tuple<" ++ listed (parts) ++ codes ">"
-text_step (ValType-F.Flags labels) = codes "flags" ++ (codes "{" ++ listed labels ++ codes "}")
-text_step (ValType-F.Enum labels) = codes "enum" ++ (codes "{" ++ listed labels ++ codes "}")
+text_step (ValType-F.Flags labels) = codes "flags" ++ (codes "{" ++ listed_labels labels ++ codes "}")
+text_step (ValType-F.Enum labels) = codes "enum" ++ (codes "{" ++ listed_labels labels ++ codes "}")
 text_step (ValType-F.Option part) = codes "option<" ++ part ++ codes ">"
 text_step (ValType-F.Result ok err) = codes "result<" ++ part_text ok ++ codes ", " ++ part_text err ++ codes ">"
 text_step (ValType-F.Own resource) = codes "own" ++ resource_text resource
@@ -55,14 +60,14 @@ text_step (ValType-F.Future element) = codes "future" ++ ended element
 
 -- a label, and its payload's type in parentheses where it has one
 abbrev pub labelled : Chars → Option Chars → Chars
-labelled label (Some p) = label ++ codes "(" ++ p ++ codes ")"
-labelled label None = label
+labelled label (Some p) = name_text label ++ codes "(" ++ p ++ codes ")"
+labelled label None = name_text label
 
 abbrev pub text_case : Case-F Chars Chars Chars → Chars
 text_case c = labelled c.label c.payload
 
 abbrev pub text_field : Field-F Chars Chars Chars → Chars
-text_field f = f.label ++ codes ": " ++ f.val_type
+text_field f = name_text f.label ++ codes ": " ++ f.val_type
 
 -- the text of a type
 abbrev pub type_text : ValType → Chars
@@ -70,7 +75,7 @@ type_text = fold-ValType Chars Chars Chars text_step text_case text_field
 
 -- a field and a case
 abbrev pub field_text : Field → Chars
-field_text f = f.label ++ codes ": " ++ type_text f.val_type
+field_text f = name_text f.label ++ codes ": " ++ type_text f.val_type
 
 -- a part that may be absent
 abbrev pub held_text : Option ValType → Option Chars

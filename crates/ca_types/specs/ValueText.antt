@@ -1,8 +1,9 @@
--- The texts of values, as scripts write them; handles and ends by their numbers.
+-- The texts of values, as scripts write them; handles and ends by their numbers. Labels stand as names do.
 use Rattle.std.specs.Prelude.{◌==◌, Bool, true, false, if◌then◌else◌, List, [], ◌∷◌, ◌++◌, map, Option, Some, None, codes}
 use Rattle.std.specs.Fmt.{decimal, signed_decimal}
 use Rattle.std.specs.List.{slice_get}
 use Rattle.ca_types.specs.CharText.{quoted, quoted_chars}
+use Rattle.ca_types.specs.NameText.{name_text}
 use Rattle.ca_types.specs.TypeText.{Chars, listed}
 use Rattle.ca_types.specs.declared.types.ValType.{ValType, fold-ValType}
 use Rattle.ca_types.specs.declared.types.Field.{Field}
@@ -16,7 +17,7 @@ use Rattle.ca_types.specs.declared.value.Handle.{Handle}
 abbrev pub Writer : Type 0
 Writer = Value → Chars
 
--- a label with the text of the values behind it
+-- a label as it stands in a text, and what is behind it
 pub record Labelled (A : Type 0) : Type 0 where
   pub label : Chars
   pub rest : A
@@ -122,17 +123,17 @@ writer_step (ValType-F.Record fields) v = record_text fields (out-Value v)
 writer_step (ValType-F.Variant cases) v = variant_text cases (out-Value v)
 writer_step (ValType-F.List element) v = list_text element (out-Value v)
 writer_step (ValType-F.Tuple parts) v = tuple_text parts (out-Value v)
-writer_step (ValType-F.Flags labels) v = flags_text labels (out-Value v)
-writer_step (ValType-F.Enum labels) v = enum_text labels (out-Value v)
+writer_step (ValType-F.Flags labels) v = flags_text (map name_text labels) (out-Value v)
+writer_step (ValType-F.Enum labels) v = enum_text (map name_text labels) (out-Value v)
 writer_step (ValType-F.Option part) v = option_text part (out-Value v)
 writer_step (ValType-F.Result ok err) v = result_text ok err (out-Value v)
 writer_step _ v = plain_text (out-Value v)
 
 abbrev pub writer_case : Case-F Writer (Labelled (Option Writer)) (Labelled Writer) → Labelled (Option Writer)
-writer_case c = record { label = c.label; rest = c.payload }
+writer_case c = record { label = name_text c.label; rest = c.payload }
 
 abbrev pub writer_field : Field-F Writer (Labelled (Option Writer)) (Labelled Writer) → Labelled Writer
-writer_field f = record { label = f.label; rest = f.val_type }
+writer_field f = record { label = name_text f.label; rest = f.val_type }
 
 -- the text of a type's values
 abbrev pub writer : ValType → Writer
@@ -144,10 +145,10 @@ payload_writer (Some p) = Some (writer p)
 payload_writer None = None
 
 abbrev pub field_writer : Field → Labelled Writer
-field_writer f = record { label = f.label; rest = writer f.val_type }
+field_writer f = record { label = name_text f.label; rest = writer f.val_type }
 
 abbrev pub case_writer : Case → Labelled (Option Writer)
-case_writer c = record { label = c.label; rest = payload_writer c.payload }
+case_writer c = record { label = name_text c.label; rest = payload_writer c.payload }
 
 -- the text of a value of a type
 abbrev pub value_text : Value → ValType → Chars

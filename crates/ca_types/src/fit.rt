@@ -4,7 +4,7 @@ ghost use Rattle.std.specs.Prelude.{◌≡◌, map};
 ghost use Rattle.ca_types.specs.Fits.{fits, test_of, payload_test, each_passes, all_pass, payload_passes};
 
 use crate::boxed::Boxed;
-use crate::pieces::item_at;
+use crate::items::item_at;
 use crate::shared::Shared;
 use crate::types::{Field, ValType};
 use crate::value::Value;

@@ -1,6 +1,6 @@
 //! The types of the values that components pass, the values, and what a component exports.
 //!
-//! The layers above read them from components and scripts and print them. A type or a value of another kind is one more
+//! The layers above read them from components and scripts and print them (`value_texts`). A type or a value of another kind is one more
 //! case of `ValType` and `Value`.
 //!
 //! - `types`, `value` and `exports`: types, values, and the functions that a component exports
@@ -9,26 +9,21 @@
 //! - `core_type` and `flattening`: the core types of types and functions
 //! - `ends`: which types hold the end of a stream or a future
 //! - `fit`: which values are of a type
-//! - `pieces`, `char_text` and `plain_text`: pieces of texts, characters between quotes, values without parts
-//! - `type_texts` and `value_texts`: the texts of types and values
+//! - `items`: a case or a label by its number
 #![tactic(auto)]
 
 mod boxed;
-mod char_text;
 mod core_type;
 mod ends;
 mod exports;
 mod fit;
 mod flattening;
+mod items;
 mod laying;
 mod layout;
-mod pieces;
-mod plain_text;
 mod shared;
-mod type_texts;
 mod types;
 mod value;
-mod value_texts;
 
 pub use boxed::Boxed;
 pub use core_type::{CoreFunc, CoreType, CoreTypes, FlatKind};
@@ -36,9 +31,8 @@ pub use ends::has_end;
 pub use exports::{Export, Exports};
 pub use fit::fits;
 pub use flattening::{flat_func, flatten};
+pub use items::item_at;
 pub use layout::{align, size};
 pub use shared::Shared;
-pub use type_texts::type_text;
 pub use types::{Case, Field, FuncType, Param, ValType};
 pub use value::{Handle, Value, Values};
-pub use value_texts::value_text;

@@ -8,7 +8,7 @@ use Rattle.ca_types.specs.declared.types.ValType.TheViews.{roll-Case, roll-Field
 use Rattle.ca_types.specs.declared.types.ValType.TheFolds.{ind-ValType, map-ValType, map-Case}
 use Rattle.ca_types.specs.Layout.{Laid, laid, laid_step, top_align, there, tag_size, bits_size}
 use Rattle.ca_types.proofs.Folds.{held}
-use Rattle.core_machine.proofs.Lists.{if_both}
+use Rattle.wasm_store.proofs.Lists.{if_both}
 use Rattle.value_lift.proofs.Equations.{layouts_in, laid_is}
 use Rattle.value_lift.proofs.TypesFound.{out_of_roll}
 

@@ -1,10 +1,10 @@
 -- Core code calls only what its own component instance made, so that no world that is kept is stuck.
 use Rattle.std.proofs.Common.{◌≡◌, inl, inr, ℕ, List, [], ◌∷◌, sym, ap, ◌∙◌, subst, Some}
 use Rattle.std.specs.Option.{option_map}
-use Rattle.core_machine.specs.Store.{Store}
-use Rattle.core_machine.specs.Stack.{Stack}
-use Rattle.core_machine.specs.Step.{Move, Goes, Calls, Traps, start, next}
-use Rattle.core_machine.specs.Step as core
+use Rattle.wasm_store.specs.Store.{Store}
+use Rattle.wasm_store.specs.Stack.{Stack}
+use Rattle.wasm_store.specs.Step.{Move, Goes, Calls, Traps, start, next}
+use Rattle.wasm_store.specs.Step as core
 use Rattle.comp_graph.specs.Graph.{Graph}
 use Rattle.script_reader.specs.Script.{Script}
 use Rattle.trace_show.specs.declared.label.Label.{Label}

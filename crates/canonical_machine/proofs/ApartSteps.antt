@@ -7,18 +7,18 @@ use Rattle.ca_types.specs.declared.value.Value.{Value}
 use Rattle.ca_types.specs.declared.exports.Export.{Export}
 use Rattle.value_lift.specs.declared.trap.LiftTrap.{LiftTrap}
 use Rattle.value_lower.specs.Plan.{Plan}
-use Rattle.core_machine.specs.Store.{Function, Own, Host as HostFunction, Store, found_at}
+use Rattle.wasm_store.specs.Store.{Function, Own, Host as HostFunction, Store, found_at}
 use Rattle.wasm_memory.specs.Memories.{MemoryState, with_bytes}
-use Rattle.core_machine.specs.Stack.{Frame, Stack, Running, AtHost, Given}
-use Rattle.core_machine.specs.Step.{Move, Goes, Calls, Traps, start, next}
-use Rattle.core_machine.specs.Step as core
-use Rattle.core_machine.specs.Instantiation.{External, Instantiation, Makes, instance_of, instantiated, start_call}
-use Rattle.core_machine.specs.Instantiation as core_instance
+use Rattle.wasm_store.specs.Stack.{Frame, Stack, Running, AtHost, Given}
+use Rattle.wasm_store.specs.Step.{Move, Goes, Calls, Traps, start, next}
+use Rattle.wasm_store.specs.Step as core
+use Rattle.wasm_store.specs.Instantiation.{External, Instantiation, Makes, instance_of, instantiated, start_call}
+use Rattle.wasm_store.specs.Instantiation as core_instance
 use Rattle.wasm_module.specs.declared.types.ValType.{ValType}
-use Rattle.core_machine.specs.Typed.{StoreTyped}
-use Rattle.core_machine.specs.Laws.{MoveTyped}
-use Rattle.core_machine.proofs.Lists.{all_at, found_there}
-use Rattle.core_machine.proofs.Moving.{moves_typed}
+use Rattle.wasm_store.specs.Typed.{StoreTyped}
+use Rattle.wasm_store.specs.Laws.{MoveTyped}
+use Rattle.wasm_store.proofs.Lists.{all_at, found_there}
+use Rattle.wasm_store.proofs.Moving.{moves_typed}
 use Rattle.comp_graph.specs.declared.graph.Action.{Action}
 use Rattle.comp_graph.specs.declared.graph.Action.TheVariants.{Begin, Make}
 use Rattle.comp_graph.specs.declared.graph.CanonFunc.{CanonFunc}
@@ -108,6 +108,7 @@ lower_apart g a number l e =
     by c.0 (all_at (IsCanonApart g) g.canons number c.0 a.lowers c.1) c.2
   where
     by : (canon : CanonFunc) → IsCanonApart g canon → lower_of canon ≡ Some l → IsCanonApart g (canon_func.Lower l)
+    by (canon_func.Builtin b) h e = cc
     by (canon_func.Lower k) h e = subst (λ (l : Lower). IsCanonApart g (canon_func.Lower l)) (some_same k l e) h
 
 abbrev HasOptions : Graph → Lifted → Type 0
@@ -281,6 +282,7 @@ free_parts g s w owned = by (slice_get s.items w.taken)
   where
     by : (o : Option Item) → Parts g (item_turn g s o w)
     by None = tt
+    by (Some (item.Cancel call)) = tt
     by (Some (item.Call call)) =
         charged_parts g true s w (λ v. given (func_named g call.name) (λ f. taken call f v)) (λ units.
         given_parts g (func_named g call.name) (λ f. taken call f (record w { units = units })) (λ f e. apart g _ owned tt))
@@ -292,6 +294,7 @@ calling_parts g number words w owned =
     behind_parts g (line.Do a.0 (builtin_of canon) words ∷ []) _ (either_parts g (may_leave w) _ _ (by a canon) (apart g (with_control (Doomed a.0 trap.CannotLeave) w) owned tt))))
   where
     by : (a : ℕ × Task) (canon : CanonFunc) → Parts g (reply a.0 number canon words w)
+    by a (canon_func.Builtin b) = tt
     by a (canon_func.Lower l) = either_parts g (is_reentrant w l.lift.instance a.0) _ _ (apart g (with_control (Doomed a.0 trap.Reentrant) w) owned tt) (apart g _ owned tt)
 
 with_arguments_parts : (g : Graph) (t : ℕ) (f : Lifted) (r : Result Value LiftTrap) (w : World) → Hosts g.canons w.store → AreOwned g w.store → HasOptions g f → Parts g (with_arguments t f r w)

@@ -7,7 +7,7 @@ use Rattle.wasm_module.specs.declared.instr.StoreOp.TheVariants.{I32Store, I64St
 use Rattle.wasm_memory.specs.Bytes.{is_inside, put, copied, filled}
 use Rattle.wasm_memory.specs.Stores.{stored_bytes}
 use Rattle.wasm_memory.specs.Memories.{MemoryState, page_count, most_pages, grown}
-use Rattle.core_machine.proofs.Lists.{if_both, all_append, all_take, all_drop, all_replicate}
+use Rattle.wasm_store.proofs.Lists.{if_both, all_append, all_take, all_drop, all_replicate}
 use Rattle.canonical_machine.specs.Sound.{AreBytes}
 
 abbrev IsByte : ℕ → Type 0

@@ -1,12 +1,12 @@
 -- No step changes what a task does, or who called it.
 use Rattle.std.proofs.Common.{◌++◌, ◌≡◌, ℕ, zero, suc, ◌+◌, Bool, true, false, nat_eq, nat_lt, List, [], ◌∷◌, length, refl, ◌∙◌, subst, Option, Some, None, Result, Ok, Err, if◌then◌else◌}
 use Rattle.std.specs.List.{slice_get}
-use Rattle.core_machine.specs.Store.{found_at}
-use Rattle.core_machine.specs.Stack.{Stack}
-use Rattle.core_machine.specs.Step.{Move, Goes, Calls, Traps, start}
-use Rattle.core_machine.specs.Step as core
-use Rattle.core_machine.specs.Instantiation.{External, Instantiation, Makes, instance_of, instantiated, start_call}
-use Rattle.core_machine.specs.Instantiation as core_instance
+use Rattle.wasm_store.specs.Store.{found_at}
+use Rattle.wasm_store.specs.Stack.{Stack}
+use Rattle.wasm_store.specs.Step.{Move, Goes, Calls, Traps, start}
+use Rattle.wasm_store.specs.Step as core
+use Rattle.wasm_store.specs.Instantiation.{External, Instantiation, Makes, instance_of, instantiated, start_call}
+use Rattle.wasm_store.specs.Instantiation as core_instance
 use Rattle.ca_types.specs.declared.value.Value.{Value}
 use Rattle.value_lift.specs.declared.trap.LiftTrap.{LiftTrap}
 use Rattle.value_lower.specs.Plan.{Plan}
@@ -165,6 +165,7 @@ module _ (ts : List Task) where
     where
       by : (i : Option Item) → Kept (item_turn g s i w)
       by None = tt
+      by (Some (item.Cancel call)) = tt
       by (Some (item.Call call)) =
           charged_kept true s w (λ v. given (func_named g call.name) (λ f. taken call f v)) (λ units.
           given_kept (func_named g call.name) (λ f. taken call f (record w { units = units })) (λ f e. on_more w.tasks (new_task (Func f) (Host call.values)) o))
@@ -176,6 +177,7 @@ module _ (ts : List Task) where
       behind_kept (line.Do a.0 (builtin_of canon) words ∷ []) _ (either_kept (may_leave w) _ _ (by a e canon) o)))
     where
       by : (a : ℕ × Task) → acting w ≡ Some a → (canon : CanonFunc) → Kept (reply a.0 number canon words w)
+      by a e (canon_func.Builtin b) = tt
       by a e (canon_func.Lower l) =
           let v : World = in_state a.0 (AfterCall (length w.tasks)) w in
           either_kept (is_reentrant w l.lift.instance a.0) _ _ o

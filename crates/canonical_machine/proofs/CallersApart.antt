@@ -7,17 +7,17 @@ use Rattle.std.specs.Option.{option_map, option_and_then}
 use Rattle.ca_types.specs.declared.value.Value.{Value}
 use Rattle.value_lift.specs.declared.trap.LiftTrap.{LiftTrap}
 use Rattle.value_lower.specs.Plan.{Plan}
-use Rattle.core_machine.specs.Store.{Function, Host as HostFunction, Store, found_at}
-use Rattle.core_machine.specs.Stack.{Stack, Running, AtHost, Given}
-use Rattle.core_machine.specs.Step.{Move, Goes, Calls, Traps, start, resume, next}
-use Rattle.core_machine.specs.Step as core
-use Rattle.core_machine.specs.Instantiation.{External, Instantiation, Makes, instantiated}
-use Rattle.core_machine.specs.Instantiation as core_instance
+use Rattle.wasm_store.specs.Store.{Function, Host as HostFunction, Store, found_at}
+use Rattle.wasm_store.specs.Stack.{Stack, Running, AtHost, Given}
+use Rattle.wasm_store.specs.Step.{Move, Goes, Calls, Traps, start, resume, next}
+use Rattle.wasm_store.specs.Step as core
+use Rattle.wasm_store.specs.Instantiation.{External, Instantiation, Makes, instantiated}
+use Rattle.wasm_store.specs.Instantiation as core_instance
 use Rattle.wasm_module.specs.declared.types.ValType.{ValType}
-use Rattle.core_machine.specs.Typed.{StoreTyped, StackTyped}
-use Rattle.core_machine.specs.Laws.{MoveTyped}
-use Rattle.core_machine.proofs.Lists.{all_at, all_append, all_drop, found_there}
-use Rattle.core_machine.proofs.Moving.{moves_typed}
+use Rattle.wasm_store.specs.Typed.{StoreTyped, StackTyped}
+use Rattle.wasm_store.specs.Laws.{MoveTyped}
+use Rattle.wasm_store.proofs.Lists.{all_at, all_append, all_drop, found_there}
+use Rattle.wasm_store.proofs.Moving.{moves_typed}
 use Rattle.comp_graph.specs.declared.graph.Action.{Action}
 use Rattle.comp_graph.specs.declared.graph.Action.TheVariants.{Begin, Make}
 use Rattle.comp_graph.specs.declared.graph.CanonFunc.{CanonFunc}
@@ -288,6 +288,7 @@ free_parts g s w h = by (slice_get s.items w.taken)
   where
     by : (o : Option Item) → OnStep (Parts g) (item_turn g s o w)
     by None = tt
+    by (Some (item.Cancel call)) = tt
     by (Some (item.Call call)) =
         charged_step (Parts g) true s w (λ v. given (func_named g call.name) (λ f. taken call f v)) (λ units.
         given_step (Parts g) (func_named g call.name) (λ f. taken call f (record w { units = units })) (λ f e. apart g _ (new_behind g (Func f) (Host call.values) w.tasks tt h) tt))
@@ -328,6 +329,7 @@ calling_parts g number words w h own chain =
     (if_step (Parts g) (may_leave w) _ _ (λ m. by a e canon i (calls_as w number words a chain e m)) (λ m. apart g (with_control (Doomed a.0 trap.CannotLeave) w) h tt))))
   where
     by : (a : ℕ × Task) → acting w ≡ Some a → (canon : CanonFunc) → slice_get g.canons number ≡ Some canon → (f : Lifted) × (a.1.callee ≡ Func f) → OnStep (Parts g) (reply a.0 number canon words w)
+    by a e (canon_func.Builtin b) i runs = tt
     by a e (canon_func.Lower l) i runs =
         let f : Lifted = runs.0 in
         let owner : owner_of_canon g number ≡ Some f.instance = subst (CallsOwn g number) runs.1 (own a e) in

@@ -4,12 +4,12 @@ use Rattle.std.specs.List.{slice_get, AllByRecursion}
 use Rattle.std.specs.Option.{option_map, IsSome}
 use Rattle.wasm_module.specs.declared.types.ValType as core_val
 use Rattle.wasm_numbers.specs.Types.{AreWords}
-use Rattle.core_machine.specs.Stack.{Stack}
-use Rattle.core_machine.specs.Step.{resume}
-use Rattle.core_machine.specs.Store.{Store}
-use Rattle.core_machine.specs.Typed.{StackTyped}
-use Rattle.core_machine.proofs.Lists.{all_at, all_append}
-use Rattle.core_machine.proofs.Zips.{get_behind}
+use Rattle.wasm_store.specs.Stack.{Stack}
+use Rattle.wasm_store.specs.Step.{resume}
+use Rattle.wasm_store.specs.Store.{Store}
+use Rattle.wasm_store.specs.Typed.{StackTyped}
+use Rattle.wasm_store.proofs.Lists.{all_at, all_append}
+use Rattle.wasm_store.proofs.Zips.{get_behind}
 use Rattle.ca_types.specs.declared.types.FuncType.{FuncType}
 use Rattle.ca_types.specs.declared.value.Value.{Value}
 use Rattle.ca_types.specs.declared.value.Value.TheViews as value
@@ -20,7 +20,10 @@ use Rattle.comp_graph.specs.declared.graph.CanonFunc.{CanonFunc}
 use Rattle.comp_graph.specs.declared.graph.CanonFunc.TheVariants as canon_func
 use Rattle.comp_graph.specs.declared.graph.Lower.{Lower}
 use Rattle.comp_graph.specs.Needs.{lowered_type, lift_needs_realloc}
-use Rattle.comp_graph.specs.Graph.{Graph, Lifted, canon_type, func_named}
+use Rattle.comp_graph.specs.Graph.{Graph, Lifted, func_named}
+use Rattle.comp_graph.specs.Running.{IsSyncCanon}
+use Rattle.canonical_machine.specs.Synchronous.{canon_type}
+use Rattle.canonical_machine.proofs.Synchronous.{AreSync}
 use Rattle.script_reader.specs.declared.script.Call.{Call}
 use Rattle.script_reader.specs.declared.script.Item.{Item}
 use Rattle.script_reader.specs.declared.script.Item.TheVariants as item
@@ -81,6 +84,7 @@ free_keeps g E s w sound ground none made = by (slice_get s.items w.taken) refl
   where
     by : (o : Option Item) → slice_get s.items w.taken ≡ o → Keeps g E (item_turn g s o w)
     by None e = tt
+    by (Some (item.Cancel call)) e = absurd (all_at (IsSoundItem g) s.items w.taken (item.Cancel call) sound.items e)
     by (Some (item.Call call)) e =
         let c : IsSoundCall g call = all_at (IsSoundItem g) s.items w.taken (item.Call call) sound.items e in
         charged_keeps g E true s w (λ v. given (func_named g call.name) (λ f. taken call f v)) (λ units.
@@ -149,10 +153,10 @@ call_keeps g E number l words w ground a made at fits waits wait =
     same_front (x ∷ xs) zero few = refl
     same_front (x ∷ xs) (suc n) few = same_front xs n (omega (arith, few))
 
-pub calling_keeps : (g : Graph) (E : Type 0) (number : ℕ) (words : List ℕ) (w : World) → IsBegun w.tasks w.chain ⊎ IsRunning w.tasks w.chain → Ground g w.store w.tasks
+pub calling_keeps : (g : Graph) (E : Type 0) → AreSync g.canons → (number : ℕ) (words : List ℕ) (w : World) → IsBegun w.tasks w.chain ⊎ IsRunning w.tasks w.chain → Ground g w.store w.tasks
     → IsOfActing g w.store w.tasks w.chain (λ task. AreMadeBy g w.store task.state × IsCalling g w.store number words task) → Keeps g E (calling_turn g number words w)
 unfolding calling_turn allowed reply
-calling_keeps g E number words w (inl a) ground b =
+calling_keeps g E sync number words w (inl a) ground b =
     let h : Spot w.tasks w.chain = spot_init w.tasks w.chain (Begins a.0) OneStack a.1 in
     let own = at_spot g w.store w.tasks w.chain (λ task. AreMadeBy g w.store task.state × IsCalling g w.store number words task) h b in
     let canon : CanonFunc = own.0.1.canon in
@@ -161,7 +165,7 @@ calling_keeps g E number words w (inl a) ground b =
     (behind_keeps g E (line.Do 0 (builtin_of canon) words ∷ []) _
     (subst (λ (b : Bool). Keeps g E (if b then reply 0 number canon words w else doomed 0 trap.CannotLeave w)) (sym (not_instantiated w a.0 a.1))
     (kept g (with_control (Doomed 0 trap.CannotLeave) w) ground tt))))
-calling_keeps g E number words w (inr a) ground b =
+calling_keeps g E sync number words w (inr a) ground b =
     let h : Spot w.tasks w.chain = spot_of w.tasks w.chain (λ t task. IsSoFar IsActing Unresolved OneStack task) a in
     let own = at_spot g w.store w.tasks w.chain (λ task. AreMadeBy g w.store task.state × IsCalling g w.store number words task) h b in
     let made : WereMade w.store g.cores = subst (AreMadeBy g w.store) a.holds.state_is own.0.0 in
@@ -173,6 +177,7 @@ calling_keeps g E number words w (inr a) ground b =
     by : (canon : CanonFunc) → slice_get g.canons number ≡ Some canon → AreWords (canon_type canon).params words
         → AllByRecursion (IsWaiting w.store (canon_type canon).results (core_results a.task.callee)) a.task.stacks → WereMade w.store g.cores → AllWait g w.store w.tasks a.number a.below
         → Keeps g E (reply a.number number canon words w)
+    by (canon_func.Builtin b) at fits waits made wait = absurd (all_at IsSyncCanon g.canons number (canon_func.Builtin b) sync at)
     by (canon_func.Lower l) at fits waits made wait = call_keeps g E number l words w ground a made at fits waits wait
 
 -- Entry.

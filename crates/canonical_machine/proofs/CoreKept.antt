@@ -4,23 +4,24 @@ use Rattle.std.specs.List.{slice_get, AllByRecursion}
 use Rattle.wasm_module.specs.declared.types.ValType.{ValType}
 use Rattle.wasm_module.specs.declared.types.FuncType as core_type
 use Rattle.wasm_numbers.specs.Types.{AreWords}
-use Rattle.wasm_valid.specs.Modules.{Typed}
-use Rattle.core_machine.specs.Store.{Store}
-use Rattle.core_machine.specs.Stack.{Stack}
-use Rattle.core_machine.specs.Step.{Move, Goes, Calls, Traps, units, next}
-use Rattle.core_machine.specs.Step as core
-use Rattle.core_machine.specs.Instantiation.{External, Instantiation, Makes, instance_of, instantiated, start_call, InRange}
-use Rattle.core_machine.specs.Instantiation as core_instance
-use Rattle.core_machine.specs.Typed.{Extends, StoreTyped, StackTyped}
-use Rattle.core_machine.specs.Laws.{MoveTyped, AddedTyped}
-use Rattle.core_machine.proofs.Lists.{all_at}
-use Rattle.core_machine.proofs.Zips.{get_behind}
-use Rattle.core_machine.proofs.Moving.{moves_typed}
-use Rattle.core_machine.proofs.AddedModules.{adds_typed}
-use Rattle.core_machine.proofs.Keeping.{steps_keep}
+use Rattle.wasm_typing.specs.Modules.{Typed}
+use Rattle.wasm_store.specs.Store.{Store}
+use Rattle.wasm_store.specs.Stack.{Stack}
+use Rattle.wasm_store.specs.Step.{Move, Goes, Calls, Traps, units, next}
+use Rattle.wasm_store.specs.Step as core
+use Rattle.wasm_store.specs.Instantiation.{External, Instantiation, Makes, instance_of, instantiated, start_call, InRange}
+use Rattle.wasm_store.specs.Instantiation as core_instance
+use Rattle.wasm_store.specs.Typed.{Extends, StoreTyped, StackTyped}
+use Rattle.wasm_store.specs.Laws.{MoveTyped, AddedTyped}
+use Rattle.wasm_store.proofs.Lists.{all_at}
+use Rattle.wasm_store.proofs.Zips.{get_behind}
+use Rattle.wasm_store.proofs.Moving.{moves_typed}
+use Rattle.wasm_store.proofs.AddedModules.{adds_typed}
+use Rattle.wasm_store.proofs.Keeping.{steps_keep}
 use Rattle.comp_graph.specs.declared.graph.Action.{Action}
 use Rattle.comp_graph.specs.declared.graph.Action.TheVariants.{Begin, Make}
-use Rattle.comp_graph.specs.Graph.{CoreMake, Graph, Lifted, canon_type, AreImported}
+use Rattle.comp_graph.specs.Graph.{CoreMake, Graph, Lifted, AreImported}
+use Rattle.canonical_machine.specs.Synchronous.{canon_type}
 use Rattle.script_reader.specs.Script.{Script}
 use Rattle.trace_show.specs.declared.trap.TrapName.TheVariants as trap
 use Rattle.canonical_machine.specs.Control.{Control, Free, Instantiates, Runs, Doomed}
@@ -203,7 +204,7 @@ making_keeps g E sound n number w ground a so (c ∷ cores) e left =
     let range : InRange c.of_module = all_at (λ (c : CoreMake). InRange c.of_module) g.cores (length so.before) c sound.in_range at in
     let bytes : HasBytes c.of_module = all_at (λ (c : CoreMake). HasBytes c.of_module) g.cores (length so.before) c sound.bytes at in
     let imported = imported_behind g.canons [] so.before cores c (subst (AreImported g.canons []) all sound.imported) in
-    let is : ImportsAreThere w.store c = imports_match w.store g.canons so.before c (hosts_of g w.store ground.hosts) imported so.made in
+    let is : ImportsAreThere w.store c = imports_match w.store g.canons so.before c sound.sync.canons (hosts_of g w.store ground.hosts) imported so.made in
     found_keeps g E (slice_get g.cores number) c _ there
     (found_keeps g E (externals w.store c.imports) is.0 _ is.1
     (made_keeps g E n c is.0 cores (instantiated c.of_module is.0 w.store) w ground a so e left.1 (adds_typed w.store c.of_module is.0 ground.store typed range is.2)

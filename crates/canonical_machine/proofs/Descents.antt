@@ -5,7 +5,7 @@ use Rattle.std.specs.List.{slice_get}
 use Rattle.std.specs.Option.{option_map}
 use Rattle.std.proofs.lemmas.Bool.Decides.{nat_tests}
 use Rattle.std.proofs.lemmas.List.{length-append}
-use Rattle.core_machine.proofs.Zips.{get_behind}
+use Rattle.wasm_store.proofs.Zips.{get_behind}
 use Rattle.comp_graph.specs.declared.graph.CanonFunc.{CanonFunc}
 use Rattle.comp_graph.specs.declared.graph.CanonFunc.TheVariants as canon_func
 use Rattle.comp_graph.specs.Graph.{Lifted}
@@ -16,9 +16,10 @@ use Rattle.canonical_machine.specs.Calling.{begun}
 use Rattle.canonical_machine.specs.Callers.{IsCalledAlike, AreKeptIn}
 use Rattle.canonical_machine.proofs.Changed.{changed_length}
 
--- the component instance whose function is called
+-- the component instance whose function is called; a built-in calls none
 abbrev pub called_instance : CanonFunc → ℕ
 called_instance (canon_func.Lower l) = l.lift.instance
+called_instance (canon_func.Builtin b) = b.instance
 
 -- how many core functions of the Canonical ABI call others than these instances
 abbrev one_unless : Bool → ℕ

@@ -4,12 +4,12 @@
 -- leaves fewer functions that may be called.
 use Rattle.std.proofs.Common.{◌≡◌, ◌≤◌, ◌<◌, ◌⊎◌, inl, inr, ℕ, zero, suc, ◌+◌, Bool, true, false, List, [], ◌∷◌, length, drop, refl, ap, sym, ◌∙◌, subst, arith, Option, Some, None, Result, Ok, Err}
 use Rattle.std.specs.List.{slice_get}
-use Rattle.core_machine.specs.Store.{Store, found_at}
-use Rattle.core_machine.specs.Stack.{Stack, Running, AtHost, Given}
-use Rattle.core_machine.specs.Step.{start}
-use Rattle.core_machine.specs.Instantiation.{External, Instantiation, Makes, instance_of, instantiated, start_call}
-use Rattle.core_machine.specs.Instantiation as core_instance
-use Rattle.core_machine.proofs.Lists.{if_both}
+use Rattle.wasm_store.specs.Store.{Store, found_at}
+use Rattle.wasm_store.specs.Stack.{Stack, Running, AtHost, Given}
+use Rattle.wasm_store.specs.Step.{start}
+use Rattle.wasm_store.specs.Instantiation.{External, Instantiation, Makes, instance_of, instantiated, start_call}
+use Rattle.wasm_store.specs.Instantiation as core_instance
+use Rattle.wasm_store.proofs.Lists.{if_both}
 use Rattle.ca_types.specs.declared.value.Value.{Value}
 use Rattle.value_lift.specs.declared.trap.LiftTrap.{LiftTrap}
 use Rattle.comp_graph.specs.declared.graph.Action.{Action}
@@ -142,6 +142,7 @@ module _ (g : Graph) (s : Script) (apart : IsApart g) where
       not_used a acts inst not false is = refl
 
       by : (a : ℕ × Task) → acting w ≡ Some a → (canon : CanonFunc) → slice_get g.canons number ≡ Some canon → Soon g s w.tasks (reply a.0 number canon words v)
+      by a acts (canon_func.Builtin b) there = tt
       by a acts (canon_func.Lower l) there =
           let inst : ℕ = l.lift.instance in
           let subtask : Subtask = called_by a.0 number words in

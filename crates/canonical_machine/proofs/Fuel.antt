@@ -3,7 +3,7 @@ use Rattle.std.proofs.Common.{◌≡◌, ◌≢◌, ℕ, ◌+◌, Bool, true, fa
 use Rattle.std.proofs.lemmas.Bool.Decides.{nat_tests}
 use Rattle.std.proofs.lemmas.Grind.{flat_map-append}
 use Rattle.std.specs.List.{slice_get}
-use Rattle.core_machine.specs.Step.{next as core_next}
+use Rattle.wasm_store.specs.Step.{next as core_next}
 use Rattle.comp_graph.specs.Graph.{Graph, func_named}
 use Rattle.script_reader.specs.declared.script.Item.{Item}
 use Rattle.script_reader.specs.declared.script.Item.TheVariants as item
@@ -53,6 +53,7 @@ charged_more true s more w f = by (nat_lt w.units s.fuel) refl
 item_more : (g : Graph) (s : Script) (more : ℕ) (o : Option Item) (w : World) → More (item_turn g s o w) (item_turn g (with_more more s) o w)
 unfolding item_turn
 item_more g s more None w = λ none. refl
+item_more g s more (Some (item.Cancel call)) w = tt
 item_more g s more (Some (item.Call call)) w = charged_more true s more w (λ v. given (func_named g call.name) (λ f. taken call f v))
 
 free_more : (g : Graph) (s : Script) (more : ℕ) (w : World) → More (free_turn g s w) (free_turn g (with_more more s) w)

@@ -7,27 +7,32 @@ use Rattle.ca_types.specs.declared.exports.Export.{Export}
 use Rattle.ca_types.specs.declared.types.FuncType.{FuncType}
 use Rattle.wasm_module.specs.declared.types.FuncType as core
 use Rattle.wasm_module.specs.Spaces.{type_of_func}
-use Rattle.core_machine.specs.Store.{Function, Host, type_of, Store, found_at}
-use Rattle.core_machine.specs.Laws.{IsOwn}
-use Rattle.core_machine.proofs.Lists.{all_at, all_map, all_append}
-use Rattle.core_machine.proofs.Zips.{zip_at}
-use Rattle.core_machine.proofs.AddedModules.{found_is}
+use Rattle.wasm_store.specs.Store.{Function, Host, type_of, Store, found_at}
+use Rattle.wasm_store.specs.Laws.{IsOwn}
+use Rattle.wasm_store.proofs.Lists.{all_at, all_map, all_append}
+use Rattle.wasm_store.proofs.Zips.{zip_at}
+use Rattle.wasm_store.proofs.AddedModules.{found_is}
 use Rattle.comp_graph.specs.declared.graph.CoreRef.{CoreRef}
 use Rattle.comp_graph.specs.declared.graph.FuncRef.{FuncRef}
 use Rattle.comp_graph.specs.declared.graph.FuncRef.TheVariants as func_ref
 use Rattle.comp_graph.specs.declared.graph.Options.{Options}
 use Rattle.comp_graph.specs.declared.graph.Lift.{Lift}
 use Rattle.comp_graph.specs.declared.graph.Lower.{Lower}
+use Rattle.comp_graph.specs.declared.graph.Resource.{Resource}
 use Rattle.comp_graph.specs.declared.graph.CanonFunc.{CanonFunc}
 use Rattle.comp_graph.specs.declared.graph.CanonFunc.TheVariants as canon_func
 use Rattle.comp_graph.specs.Needs.{realloc_type, post_return_type}
-use Rattle.comp_graph.specs.Graph.{CoreMake, Graph, Lifted, canon_type, core_type, func_at, func_named, lifted_as, names, IsMemoryThere, IsLiftThere, IsLowerThere, IsCanonThere, AreMade, none_made, instance_made, canon_made}
+use Rattle.comp_graph.specs.Graph.{CoreMake, Graph, Lifted, func_at, func_named, lifted_as, names, IsMemoryThere, AreMade, none_made, instance_made, canon_made, resource_made}
+use Rattle.comp_graph.specs.Graph as graphs
+use Rattle.comp_graph.specs.Running.{IsSyncLift, IsSyncCanon}
+use Rattle.canonical_machine.specs.Synchronous.{canon_type}
 use Rattle.canonical_machine.specs.World.{Callee, Func, Caller, Nobody, Host as HostCaller, Guest}
 use Rattle.canonical_machine.specs.Reading.{func_address, realloc_of, lower_of, lower_at, lifted_of}
 use Rattle.canonical_machine.specs.Sound.{IsSoundGraph}
 use Rattle.canonical_machine.specs.Tasks.{IsCalleeOf}
 use Rattle.canonical_machine.specs.Kept.{HasHosts, WereMade, IsFunction}
 use Rattle.canonical_machine.proofs.Changed.{get_front}
+use Rattle.canonical_machine.proofs.Synchronous.{AreSync, core_type, IsLiftThere, IsLowerThere, IsCanonThere, if_map, lift_there, canon_there}
 use Rattle.canonical_machine.proofs.Imports.{Hosts, map_some, then_some, CoreThere, core_there}
 
 -- The host's functions.
@@ -67,10 +72,6 @@ canon_at g s number type h e =
 
 -- What is there stays there where more is made.
 
-if_map : {A : Type 0} (P Q : A → Type 0) (o : Option A) → ((x : A) → P x → Q x) → IfSome o P → IfSome o Q
-if_map P Q None f h = tt
-if_map P Q (Some x) f h = f x h
-
 type_more : (cores more : List CoreMake) (canons others : List CanonFunc) (f : FuncRef) (type : core.FuncType) → core_type cores canons f ≡ Some type
     → core_type (cores ++ more) (canons ++ others) f ≡ Some type
 type_more cores more canons others (func_ref.Instance f) type h =
@@ -99,6 +100,7 @@ lift_more cores more canons others type lift h = record {
 }
 
 canon_more : (cores more : List CoreMake) (canons others : List CanonFunc) (canon : CanonFunc) → IsCanonThere cores canons canon → IsCanonThere (cores ++ more) (canons ++ others) canon
+canon_more cores more canons others (canon_func.Builtin b) h = h
 canon_more cores more canons others (canon_func.Lower l) h = record {
   lift = lift_more cores more canons others l.func_type l.lift h.lift;
   memory = memory_more cores more l.options.memory h.memory;
@@ -114,13 +116,20 @@ canons_more : (cores more : List CoreMake) (canons others all : List CanonFunc) 
 canons_more cores more canons others all h =
     all_map (IsCanonThere cores canons) (IsCanonThere (cores ++ more) (canons ++ others)) (λ canon i. canon_more cores more canons others canon i) all h
 
-canons_there : {cores : List CoreMake} {canons : List CanonFunc} → AreMade cores canons → AllByRecursion (IsCanonThere cores canons) canons
-canons_there none_made = tt
-canons_there (instance_made cores canons core made h) =
-    subst (λ (cs : List CanonFunc). AllByRecursion (IsCanonThere (cores ++ core ∷ []) cs) canons) (append-nil canons) (canons_more cores (core ∷ []) canons [] canons (canons_there made))
-canons_there (canon_made cores canons f made h) =
+all_split : {A : Type 0} (P : A → Type 0) (xs ys : List A) → AllByRecursion P (xs ++ ys) → AllByRecursion P xs × AllByRecursion P ys
+all_split P [] ys h = (tt, h)
+all_split P (x ∷ xs) ys h = (let others = all_split P xs ys h.1 in ((h.0, others.0), others.1))
+
+canons_there : {cores : List CoreMake} {canons : List CanonFunc} {resources : List Resource} → AreMade cores canons resources → AreSync canons → AllByRecursion (IsCanonThere cores canons) canons
+canons_there none_made sync = tt
+canons_there (instance_made cores canons resources core made h) sync =
+    subst (λ (cs : List CanonFunc). AllByRecursion (IsCanonThere (cores ++ core ∷ []) cs) canons) (append-nil canons) (canons_more cores (core ∷ []) canons [] canons (canons_there made sync))
+canons_there (canon_made cores canons resources f made h) sync =
+    let are = all_split IsSyncCanon canons (f ∷ []) sync in
     subst (λ (cs : List CoreMake). AllByRecursion (IsCanonThere cs (canons ++ f ∷ [])) (canons ++ f ∷ [])) (append-nil cores)
-    (all_append (IsCanonThere (cores ++ []) (canons ++ f ∷ [])) canons (f ∷ []) (canons_more cores [] canons (f ∷ []) canons (canons_there made)) (canon_more cores [] canons (f ∷ []) f h, tt))
+    (all_append (IsCanonThere (cores ++ []) (canons ++ f ∷ [])) canons (f ∷ []) (canons_more cores [] canons (f ∷ []) canons (canons_there made are.0))
+    (canon_more cores [] canons (f ∷ []) f (canon_there cores canons are.0 resources f are.1.0 h), tt))
+canons_there (resource_made cores canons resources r made h) sync = canons_there made sync
 
 -- The call of a function that is lowered.
 
@@ -134,10 +143,11 @@ lower_there g sound number l e =
     by c.0 c.1 c.2
   where
     by : (canon : CanonFunc) → slice_get g.canons number ≡ Some canon → lower_of canon ≡ Some l → LowerThere g number l
+    by (canon_func.Builtin b) e f = cc
     by (canon_func.Lower k) e f =
         let same : k ≡ l = cc in
         let at : slice_get g.canons number ≡ Some (canon_func.Lower l) = subst (λ (k : Lower). slice_get g.canons number ≡ Some (canon_func.Lower k)) same e in
-        record { at = at; uses = all_at (IsCanonThere g.cores g.canons) g.canons number (canon_func.Lower l) (canons_there sound.made) at }
+        record { at = at; uses = all_at (IsCanonThere g.cores g.canons) g.canons number (canon_func.Lower l) (canons_there sound.made sound.sync.canons) at }
 
 -- The function that a task runs.
 
@@ -157,10 +167,11 @@ export_there g sound name f e =
     by n None (Some l) a b h = cc
     by n (Some e) None a b h = cc
     by n (Some e) (Some l) a b h =
-        let z = zip_at (λ (e : Export) (lift : Lift). IsLiftThere g.cores g.canons e.func_type lift) g.exports g.lifts n e sound.lifts a in
+        let z = zip_at (λ (e : Export) (lift : Lift). graphs.IsLiftThere g.cores g.canons e.func_type lift) g.exports g.lifts n e sound.lifts a in
         let same : z.0 ≡ l = cc (z.1, b) in
+        let there = lift_there g.cores g.canons sound.sync.canons e.func_type z.0 (all_at IsSyncLift g.lifts n z.0 sound.sync.lifts z.1) z.2 in
         let whole : (let k : Lifted = record { instance = l.instance; core = l.core; options = l.options; func_type = e.func_type } in k) ≡ f = cc in
-        subst (IsUsed g) whole (subst (λ (lift : Lift). IsLiftThere g.cores g.canons e.func_type lift) same z.2)
+        subst (IsUsed g) whole (subst (λ (lift : Lift). IsLiftThere g.cores g.canons e.func_type lift) same there)
 
 pub same_func : (f h : Lifted) → Func f ≡ Func h → f ≡ h
 same_func f h e = cc

@@ -6,12 +6,12 @@ use Rattle.wasm_module.specs.declared.instr.BlockType.{BlockType}
 use Rattle.wasm_module.specs.declared.instr.Instr.{Instr}
 use Rattle.wasm_module.specs.declared.instr.Instr.TheVariants as instr
 use Rattle.wasm_module.specs.Expr.{Expr, End, Plain, Block, Loop, If, IfElse}
-use Rattle.core_machine.specs.Store.{Function, Own, Host, type_of, Table, Instance, Store, found_at, func_at, table_at}
-use Rattle.core_machine.specs.Stack.{Label, Frame, Stack, Running, AtHost, Given}
-use Rattle.core_machine.specs.Effects.{Effect, Leaves, Fails, NoRule, effect}
-use Rattle.core_machine.specs.Step.{Move, Goes, Calls, Ends, Traps, Stuck, ended, branched_to, branched_if, branched_by, table_label, frame_limit, invoked, called, same_signature, called_as, called_entry, called_through, by_effect, moved, chosen, move_at, move_in, next, resume, Moves}
-use Rattle.core_machine.proofs.Lists.{if_both}
-use Rattle.core_machine.proofs.Settling.{free_moves_end}
+use Rattle.wasm_store.specs.Store.{Function, Own, Host, type_of, Table, Instance, Store, found_at, func_at, table_at}
+use Rattle.wasm_store.specs.Stack.{Label, Frame, Stack, Running, AtHost, Given}
+use Rattle.wasm_store.specs.Effects.{Effect, Leaves, Fails, NoRule, effect}
+use Rattle.wasm_store.specs.Step.{Move, Goes, Calls, Ends, Traps, Stuck, ended, branched_to, branched_if, branched_by, table_label, frame_limit, invoked, called, same_signature, called_as, called_entry, called_through, by_effect, moved, chosen, move_at, move_in, next, resume, Moves}
+use Rattle.wasm_store.proofs.Lists.{if_both}
+use Rattle.wasm_store.proofs.Settling.{free_moves_end}
 
 -- a stack that is at no call of a function of the host without a frame
 abbrev pub IsHeld : Stack → Type 0

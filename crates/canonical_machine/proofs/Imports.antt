@@ -8,18 +8,20 @@ use Rattle.wasm_module.specs.declared.module.ImportDesc.{ImportDesc}
 use Rattle.wasm_module.specs.declared.module.ImportDesc.TheVariants as wanted
 use Rattle.wasm_module.specs.declared.module.ModuleTree.{ModuleTree}
 use Rattle.wasm_module.specs.Spaces.{type_of_func}
-use Rattle.core_machine.specs.Store.{Function, Host, type_of, Instance, Store}
-use Rattle.core_machine.specs.Instantiation.{External, FuncAddress, TableAddress, MemoryAddress, GlobalAddress, ImportMatches, ImportsMatch}
-use Rattle.core_machine.proofs.Lists.{found_there}
+use Rattle.wasm_store.specs.Store.{Function, Host, type_of, Instance, Store}
+use Rattle.wasm_store.specs.Instantiation.{External, FuncAddress, TableAddress, MemoryAddress, GlobalAddress, ImportMatches, ImportsMatch}
+use Rattle.wasm_store.proofs.Lists.{found_there}
 use Rattle.comp_graph.specs.declared.graph.CoreRef.{CoreRef}
 use Rattle.comp_graph.specs.declared.graph.FuncRef.{FuncRef}
 use Rattle.comp_graph.specs.declared.graph.FuncRef.TheVariants as func_ref
 use Rattle.comp_graph.specs.CoreItems.{CoreItem, Func, Table, Memory, Global, extern_of, CoreFits}
-use Rattle.comp_graph.specs.Graph.{CoreMake, canon_type, core_type, IsItem, HasImports, AreImported}
+use Rattle.comp_graph.specs.Graph.{CoreMake, IsItem, HasImports, AreImported}
+use Rattle.canonical_machine.specs.Synchronous.{canon_type}
 use Rattle.comp_graph.specs.declared.graph.CanonFunc.{CanonFunc}
 use Rattle.canonical_machine.specs.Reading.{address_in, external_of, externals, func_address}
 use Rattle.canonical_machine.specs.Kept.{WereMade}
 use Rattle.canonical_machine.proofs.Limits.{limits_pass}
+use Rattle.canonical_machine.proofs.Synchronous.{AreSync, core_type, same_at}
 
 -- What stands in an index space of a core instance has its address.
 in_space : (space : Instance → List ℕ) (s : Store) (f : CoreRef) (i : Instance) (a : ℕ) → slice_get s.instances f.instance ≡ Some i → slice_get (space i) f.index ≡ Some a → address_in space s f ≡ Some a
@@ -34,39 +36,39 @@ map_some f None y h = cc
 map_some f (Some x) y h = (x, refl, cc)
 
 -- An item of core instances that were made is there, and what fits is what is asked for.
-item_there : (s : Store) (cores : List CoreMake) (canons : List CanonFunc) (m : ModuleTree) (item : CoreItem) (d : ImportDesc) → Hosts canons s → WereMade s cores → IsItem cores canons item → CoreFits m item d → (e : External) × (external_of s (extern_of item) ≡ Some e) × ImportMatches s m.types d e
-item_there s cores canons m (Func (func_ref.Canon number) type) (wanted.Func index) hosts made there fits =
-    let c = map_some canon_type (slice_get canons number) type there in
+item_there : (s : Store) (cores : List CoreMake) (canons : List CanonFunc) (m : ModuleTree) (item : CoreItem) (d : ImportDesc) → AreSync canons → Hosts canons s → WereMade s cores → IsItem cores canons item → CoreFits m item d → (e : External) × (external_of s (extern_of item) ≡ Some e) × ImportMatches s m.types d e
+item_there s cores canons m (Func (func_ref.Canon number) type) (wanted.Func index) sync hosts made there fits =
+    let c = map_some canon_type (slice_get canons number) type (sym (same_at canons number sync) ∙ there) in
     (FuncAddress number, refl, (Host (canon_type c.0), hosts number c.0 c.1, fits ∙ ap Some (sym c.2)))
-item_there s cores canons m (Func (func_ref.Instance f) type) (wanted.Func index) hosts made there fits =
+item_there s cores canons m (Func (func_ref.Instance f) type) (wanted.Func index) sync hosts made there fits =
     let i = made.each f.instance there.core there.there in
     let p = i.2.has.funcs f.index type there.holds in
     let found = found_there s.funcs (slice_get i.0.funcs f.index) p.0 p.1 in
     (FuncAddress p.0.0, ap (option_map FuncAddress) (in_space (λ (i : Instance). i.funcs) s f i.0 p.0.0 i.1 found.0), (p.0.1, found.1, fits ∙ ap Some (sym p.2)))
-item_there s cores canons m (Table t limits) (wanted.Table asked) hosts made there fits =
+item_there s cores canons m (Table t limits) (wanted.Table asked) sync hosts made there fits =
     let i = made.each t.instance there.core there.there in
     let p = i.2.tables t.index limits there.holds in
     let found = found_there s.tables (slice_get i.0.tables t.index) p.0 p.1 in
     (TableAddress p.0.0, ap (option_map TableAddress) (in_space (λ (i : Instance). i.tables) s t i.0 p.0.0 i.1 found.0), (p.0.1, found.1, limits_pass _ _ limits asked p.2 fits))
-item_there s cores canons m (Memory memory limits) (wanted.Memory asked) hosts made there fits =
+item_there s cores canons m (Memory memory limits) (wanted.Memory asked) sync hosts made there fits =
     let i = made.each memory.instance there.core there.there in
     let p = i.2.memories memory.index limits there.holds in
     let found = found_there s.memories (slice_get i.0.memories memory.index) p.0 p.1 in
     (MemoryAddress p.0.0, ap (option_map MemoryAddress) (in_space (λ (i : Instance). i.memories) s memory i.0 p.0.0 i.1 found.0), (p.0.1, found.1, limits_pass _ _ limits asked p.2 fits))
-item_there s cores canons m (Global g type) (wanted.Global asked) hosts made there fits =
+item_there s cores canons m (Global g type) (wanted.Global asked) sync hosts made there fits =
     let i = made.each g.instance there.core there.there in
     let p = i.2.has.globals g.index type there.holds in
     let found = found_there s.globals (slice_get i.0.globals g.index) p.0 p.1 in
     (GlobalAddress p.0.0, ap (option_map GlobalAddress) (in_space (λ (i : Instance). i.globals) s g i.0 p.0.0 i.1 found.0), (p.0.1, found.1, p.2 ∙ fits))
-item_there s cores canons m item d hosts made there fits = absurd fits
+item_there s cores canons m item d sync hosts made there fits = absurd fits
 
-all_there : (s : Store) (cores : List CoreMake) (canons : List CanonFunc) (m : ModuleTree) (is : List Import) (items : List CoreItem) → Hosts canons s → WereMade s cores → AllByRecursion (IsItem cores canons) items → AllZip (λ (i : Import) (item : CoreItem). CoreFits m item i.desc) is items → (es : List External) × (externals s (map extern_of items) ≡ Some es) × AllZip (λ (i : Import) (e : External). ImportMatches s m.types i.desc e) is es
-all_there s cores canons m [] [] hosts made there fit = ([], refl, tt)
-all_there s cores canons m [] (item ∷ items) hosts made there fit = absurd fit
-all_there s cores canons m (i ∷ is) [] hosts made there fit = absurd fit
-all_there s cores canons m (i ∷ is) (item ∷ items) hosts made there fit =
-    let first = item_there s cores canons m item i.desc hosts made there.0 fit.0 in
-    let others = all_there s cores canons m is items hosts made there.1 fit.1 in (
+all_there : (s : Store) (cores : List CoreMake) (canons : List CanonFunc) (m : ModuleTree) (is : List Import) (items : List CoreItem) → AreSync canons → Hosts canons s → WereMade s cores → AllByRecursion (IsItem cores canons) items → AllZip (λ (i : Import) (item : CoreItem). CoreFits m item i.desc) is items → (es : List External) × (externals s (map extern_of items) ≡ Some es) × AllZip (λ (i : Import) (e : External). ImportMatches s m.types i.desc e) is es
+all_there s cores canons m [] [] sync hosts made there fit = ([], refl, tt)
+all_there s cores canons m [] (item ∷ items) sync hosts made there fit = absurd fit
+all_there s cores canons m (i ∷ is) [] sync hosts made there fit = absurd fit
+all_there s cores canons m (i ∷ is) (item ∷ items) sync hosts made there fit =
+    let first = item_there s cores canons m item i.desc sync hosts made there.0 fit.0 in
+    let others = all_there s cores canons m is items sync hosts made there.1 fit.1 in (
       first.0 ∷ others.0,
       ap (option_and_then (λ (e : External). option_map (λ (more : List External). e ∷ more) (externals s (map extern_of items)))) first.1
           ∙ ap (option_map (λ (more : List External). first.0 ∷ more)) others.1,
@@ -77,9 +79,9 @@ all_there s cores canons m (i ∷ is) (item ∷ items) hosts made there fit =
 abbrev pub ImportsAreThere : Store → CoreMake → Type 0
 ImportsAreThere s c = (imports : List External) × (externals s c.imports ≡ Some imports) × ImportsMatch s c.of_module imports
 
-pub imports_match : (s : Store) (canons : List CanonFunc) (before : List CoreMake) (c : CoreMake) → Hosts canons s → HasImports before canons c → WereMade s before → ImportsAreThere s c
-imports_match s canons before c hosts has made =
-    let all = all_there s before canons c.of_module c.of_module.imports has.items hosts made has.there has.fit in
+pub imports_match : (s : Store) (canons : List CanonFunc) (before : List CoreMake) (c : CoreMake) → AreSync canons → Hosts canons s → HasImports before canons c → WereMade s before → ImportsAreThere s c
+imports_match s canons before c sync hosts has made =
+    let all = all_there s before canons c.of_module c.of_module.imports has.items sync hosts made has.there has.fit in
     (all.0, ap (externals s) has.are ∙ all.1, all.2)
 
 -- Each core instance behind others has its imports of those before it.

@@ -20,6 +20,7 @@ pub mod OrderSteps
 pub mod Bytes
 pub mod Moved
 pub mod Limits
+pub mod Synchronous
 pub mod Imports
 pub mod Made
 pub mod Aligns

@@ -10,14 +10,14 @@ use Rattle.wasm_module.specs.declared.module.ImportDesc.{ImportDesc}
 use Rattle.wasm_module.specs.declared.module.ImportDesc.TheVariants as import
 use Rattle.wasm_module.specs.declared.module.ModuleTree.{ModuleTree}
 use Rattle.wasm_module.specs.Spaces.{tables_of, memories_of, imported_tables, imported_memories}
-use Rattle.wasm_valid.specs.Modules.{Typed}
+use Rattle.wasm_typing.specs.Modules.{Typed}
 use Rattle.wasm_memory.specs.Memories.{MemoryState, page_count}
-use Rattle.core_machine.specs.Store.{Table, Instance, Store}
-use Rattle.core_machine.specs.Instantiation.{External, FuncAddress, TableAddress, MemoryAddress, GlobalAddress, table_address, memory_address, instance_of, new_table, new_memory, allocated, LimitsMatch, ImportMatches, ImportsMatch}
-use Rattle.core_machine.specs.Typed.{IsLaterTable, IsLaterMemory, Extends, module_context}
-use Rattle.core_machine.proofs.Zips.{zip_at, zip_append, StandsAt, numbered}
-use Rattle.core_machine.proofs.Stores.{found_later, has_later}
-use Rattle.core_machine.proofs.AddedModules.{allocates, found_is, has_context}
+use Rattle.wasm_store.specs.Store.{Table, Instance, Store}
+use Rattle.wasm_store.specs.Instantiation.{External, FuncAddress, TableAddress, MemoryAddress, GlobalAddress, table_address, memory_address, instance_of, new_table, new_memory, allocated, LimitsMatch, ImportMatches, ImportsMatch}
+use Rattle.wasm_store.specs.Typed.{IsLaterTable, IsLaterMemory, Extends, module_context}
+use Rattle.wasm_store.proofs.Zips.{zip_at, zip_append, StandsAt, numbered}
+use Rattle.wasm_store.proofs.Stores.{found_later, has_later}
+use Rattle.wasm_store.proofs.AddedModules.{allocates, found_is, has_context}
 use Rattle.comp_graph.specs.CoreItems.{table_space, memory_space, MaxIsWithin, IsWithin}
 use Rattle.canonical_machine.specs.Kept.{IsMadeOf}
 

@@ -4,15 +4,15 @@ use Rattle.std.specs.List.{slice_get, AllByRecursion}
 use Rattle.std.specs.Option.{IsSome}
 use Rattle.wasm_module.specs.declared.types.ValType.{ValType}
 use Rattle.wasm_numbers.specs.Types.{AreWords}
-use Rattle.core_machine.specs.Store.{Function, Store, found_at}
-use Rattle.core_machine.specs.Stack.{Stack}
-use Rattle.core_machine.specs.Step.{Move, Goes, Traps, start, next}
-use Rattle.core_machine.specs.Step as core
-use Rattle.core_machine.specs.Typed.{StackTyped}
-use Rattle.core_machine.specs.Laws.{MoveTyped}
-use Rattle.core_machine.proofs.AddedModules.{found_is}
-use Rattle.core_machine.proofs.Moving.{moves_typed}
-use Rattle.core_machine.proofs.Stores.{store_same}
+use Rattle.wasm_store.specs.Store.{Function, Store, found_at}
+use Rattle.wasm_store.specs.Stack.{Stack}
+use Rattle.wasm_store.specs.Step.{Move, Goes, Traps, start, next}
+use Rattle.wasm_store.specs.Step as core
+use Rattle.wasm_store.specs.Typed.{StackTyped}
+use Rattle.wasm_store.specs.Laws.{MoveTyped}
+use Rattle.wasm_store.proofs.AddedModules.{found_is}
+use Rattle.wasm_store.proofs.Moving.{moves_typed}
+use Rattle.wasm_store.proofs.Stores.{store_same}
 use Rattle.value_lower.specs.Plan.{Plan}
 use Rattle.comp_graph.specs.declared.graph.CanonFunc.{CanonFunc}
 use Rattle.comp_graph.specs.Needs.{lifted_type, realloc_type}

@@ -1,11 +1,11 @@
 -- Nested code ends, by the moves of its stack, and so do lowerings, by what is left of the plan.
 use Rattle.std.proofs.Common.{◌≡◌, ℕ, true, false, nat_eq, List, [], ◌∷◌, length, refl, ap, sym, subst, Option, Some, None}
 use Rattle.std.specs.List.{slice_get}
-use Rattle.core_machine.specs.Store.{Store, found_at}
-use Rattle.core_machine.specs.Stack.{Stack, Running, AtHost, Given}
-use Rattle.core_machine.specs.Step.{Move, Goes, Traps}
-use Rattle.core_machine.specs.Step as core
-use Rattle.core_machine.proofs.Lists.{if_both}
+use Rattle.wasm_store.specs.Store.{Store, found_at}
+use Rattle.wasm_store.specs.Stack.{Stack, Running, AtHost, Given}
+use Rattle.wasm_store.specs.Step.{Move, Goes, Traps}
+use Rattle.wasm_store.specs.Step as core
+use Rattle.wasm_store.proofs.Lists.{if_both}
 use Rattle.value_lower.specs.Plan.{Plan, Gives, Fails, Asks, Size, Put}
 use Rattle.value_lower.specs.Following.{written}
 use Rattle.comp_graph.specs.Graph.{Graph, func_named}
@@ -41,6 +41,7 @@ module _ (g : Graph) (s : Script) (apart : IsApart g) where
 
       by : (o : Option Item) → Soon g s w.tasks (item_turn g s o v)
       by None = tt
+      by (Some (item.Cancel call)) = tt
       by (Some (item.Call call)) =
           soon_paid g s w.tasks v (λ u. given (func_named g call.name) (λ f. taken call f u)) (λ few.
           soon_given g s w.tasks (func_named g call.name) (λ f. taken call f (unit_spent v)) (λ f e kept stay.

@@ -4,23 +4,23 @@ use Rattle.std.specs.List.{slice_get, AllByRecursion}
 use Rattle.wasm_module.specs.declared.module.ElementSegment.{ElementSegment}
 use Rattle.wasm_module.specs.declared.module.DataSegment.{DataSegment}
 use Rattle.wasm_module.specs.declared.module.ModuleTree.{ModuleTree}
-use Rattle.wasm_valid.specs.Modules.{Typed, ElementTyped}
+use Rattle.wasm_typing.specs.Modules.{Typed, ElementTyped}
 use Rattle.wasm_memory.specs.Bytes.{is_inside, put}
 use Rattle.wasm_memory.specs.Memories.{MemoryState, with_bytes}
 use Rattle.wasm_module.specs.declared.types.Limits.{Limits}
-use Rattle.core_machine.specs.Effects.{with_memory}
+use Rattle.wasm_store.specs.Effects.{with_memory}
 use Rattle.std.specs.Option.{option_map}
-use Rattle.core_machine.proofs.Lists.{all_at, all_set, all_append}
-use Rattle.core_machine.specs.Store.{Table, Instance, Store, found_at, table_at, memory_at}
-use Rattle.core_machine.specs.Instantiation.{External, new_func, new_memory, allocated, into_table, into_memory, element_written, data_written, init_value, Instantiation, Makes, SegmentBounds, written_then, all_written, instance_of, instantiated, ImportsMatch, InRange}
-use Rattle.core_machine.specs.Typed.{StoreTyped, Extends}
-use Rattle.core_machine.proofs.Zips.{get_behind}
-use Rattle.core_machine.proofs.Stores.{store_same, further, still}
-use Rattle.core_machine.proofs.AddedModules.{Behind, allocates, allocated_typed, into_table_typed, into_memory_typed, entries_typed}
+use Rattle.wasm_store.proofs.Lists.{all_at, all_set, all_append}
+use Rattle.wasm_store.specs.Store.{Table, Instance, Store, found_at, table_at, memory_at}
+use Rattle.wasm_store.specs.Instantiation.{External, new_func, new_memory, allocated, into_table, into_memory, element_written, data_written, init_value, Instantiation, Makes, SegmentBounds, written_then, all_written, instance_of, instantiated, ImportsMatch, InRange}
+use Rattle.wasm_store.specs.Typed.{StoreTyped, Extends}
+use Rattle.wasm_store.proofs.Zips.{get_behind}
+use Rattle.wasm_store.proofs.Stores.{store_same, further, still}
+use Rattle.wasm_store.proofs.AddedModules.{Behind, allocates, allocated_typed, into_table_typed, into_memory_typed, entries_typed}
 use Rattle.comp_graph.specs.Graph.{CoreMake, Graph}
 use Rattle.wasm_module.specs.declared.module.Func.{Func}
-use Rattle.core_machine.specs.Store.{Function}
-use Rattle.core_machine.specs.Laws.{IsOwn}
+use Rattle.wasm_store.specs.Store.{Function}
+use Rattle.wasm_store.specs.Laws.{IsOwn}
 use Rattle.canonical_machine.specs.Sound.{AreBytes, HasBytes}
 use Rattle.canonical_machine.specs.Kept.{HasHosts, HasBytesAlone, IsMadeOf, WereMade}
 use Rattle.canonical_machine.proofs.Bytes.{put_bytes, zeros_are_bytes}

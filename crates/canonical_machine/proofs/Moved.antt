@@ -15,11 +15,11 @@ use Rattle.wasm_memory.specs.Bytes.{is_inside, put, copied, filled}
 use Rattle.wasm_memory.specs.Loads.{loaded}
 use Rattle.wasm_memory.specs.Stores.{stored_bytes}
 use Rattle.wasm_memory.specs.Memories.{MemoryState, with_bytes, growth, grown}
-use Rattle.core_machine.specs.Store.{Function, Own, Host, type_of, Table, Global, Instance, Store, found_at, func_at, table_at, memory_at, global_at}
-use Rattle.core_machine.specs.Stack.{Label, Frame, Stack, Running, AtHost, Given}
-use Rattle.core_machine.specs.Effects.{Effect, Leaves, Fails, NoRule, by_number, dropped, selected, local_get, local_set, local_tee, global_get, global_set, by_load, by_bounds, with_memory, by_growth, as_word, load, store, memory_size, memory_grow, memory_fill, memory_copy, effect}
-use Rattle.core_machine.specs.Step.{Move, Goes, Calls, Ends, Traps, Stuck, ended, branched_to, branched_if, branched_by, table_label, frame_limit, invoked, called, same_signature, called_as, called_entry, called_through, by_effect, moved, chosen, move_at, move_in, next}
-use Rattle.core_machine.proofs.Lists.{if_both, all_at, all_set}
+use Rattle.wasm_store.specs.Store.{Function, Own, Host, type_of, Table, Global, Instance, Store, found_at, func_at, table_at, memory_at, global_at}
+use Rattle.wasm_store.specs.Stack.{Label, Frame, Stack, Running, AtHost, Given}
+use Rattle.wasm_store.specs.Effects.{Effect, Leaves, Fails, NoRule, by_number, dropped, selected, local_get, local_set, local_tee, global_get, global_set, by_load, by_bounds, with_memory, by_growth, as_word, load, store, memory_size, memory_grow, memory_fill, memory_copy, effect}
+use Rattle.wasm_store.specs.Step.{Move, Goes, Calls, Ends, Traps, Stuck, ended, branched_to, branched_if, branched_by, table_label, frame_limit, invoked, called, same_signature, called_as, called_entry, called_through, by_effect, moved, chosen, move_at, move_in, next}
+use Rattle.wasm_store.proofs.Lists.{if_both, all_at, all_set}
 use Rattle.canonical_machine.specs.Sound.{AreBytes}
 use Rattle.canonical_machine.specs.Kept.{HasBytesAlone}
 use Rattle.canonical_machine.proofs.Changed.{set_length}

@@ -2,12 +2,12 @@
 use Rattle.std.proofs.Common.{◌≡◌, ◌<◌, ◌⊎◌, inl, inr, ℕ, zero, suc, ◌+◌, Bool, true, false, nat_eq, nat_lt, List, [], ◌∷◌, length, drop, refl, sym, ap, ◌∙◌, subst, arith, Option, Some, None, Result, Ok, Err, if◌then◌else◌}
 use Rattle.std.specs.List.{slice_get}
 use Rattle.std.specs.Option.{option_and_then}
-use Rattle.core_machine.specs.Store.{found_at}
-use Rattle.core_machine.specs.Stack.{Stack}
-use Rattle.core_machine.specs.Step.{Move, Goes, Calls, Traps, start}
-use Rattle.core_machine.specs.Step as core
-use Rattle.core_machine.specs.Instantiation.{External, Instantiation, Makes, instance_of, instantiated, start_call}
-use Rattle.core_machine.specs.Instantiation as core_instance
+use Rattle.wasm_store.specs.Store.{found_at}
+use Rattle.wasm_store.specs.Stack.{Stack}
+use Rattle.wasm_store.specs.Step.{Move, Goes, Calls, Traps, start}
+use Rattle.wasm_store.specs.Step as core
+use Rattle.wasm_store.specs.Instantiation.{External, Instantiation, Makes, instance_of, instantiated, start_call}
+use Rattle.wasm_store.specs.Instantiation as core_instance
 use Rattle.ca_types.specs.declared.value.Value.{Value}
 use Rattle.value_lift.specs.declared.trap.LiftTrap.{LiftTrap}
 use Rattle.value_lower.specs.Plan.{Plan}
@@ -222,6 +222,7 @@ free_leads g s w called h = by (slice_get s.items w.taken)
   where
     by : (o : Option Item) → Leads g (item_turn g s o w)
     by None = tt
+    by (Some (item.Cancel call)) = tt
     by (Some (item.Call call)) =
         charged_leads g true s w (λ v. given (func_named g call.name) (λ f. taken call f v)) (λ units.
         given_leads g (func_named g call.name) (λ f. taken call f (record w { units = units })) (λ f e. taken_leads g call f (record w { units = units }) e called h))
@@ -268,6 +269,7 @@ calling_leads g number words w called (inr h) =
     behind_leads g (line.Do h.number (builtin_of canon) words ∷ []) _ (either_leads g (may_leave w) _ _ (by canon e) (ordered g (with_control (Doomed h.number trap.CannotLeave) w) called (h.below, h.chain_is)))))
   where
     by : (canon : CanonFunc) → slice_get g.canons number ≡ Some canon → Leads g (reply h.number number canon words w)
+    by (canon_func.Builtin b) e = tt
     by (canon_func.Lower l) e = call_leads g number l words w (ap (option_and_then lower_of) e) called h
 
 -- Entry and lowerings.

@@ -2,9 +2,9 @@
 use Rattle.std.proofs.Common.{◌≡◌, ◌<◌, ◌≤◌, ℕ, zero, suc, List, [], ◌∷◌, ◌++◌, length, refl, sym, ap, ◌∙◌, subst, arith, Some, None}
 use Rattle.std.specs.List.{slice_get}
 use Rattle.std.specs.Option.{option_map}
-use Rattle.core_machine.proofs.Zips.{get_behind}
-use Rattle.core_machine.proofs.Lists.{all_at, all_append}
-use Rattle.core_machine.specs.Stack.{Stack}
+use Rattle.wasm_store.proofs.Zips.{get_behind}
+use Rattle.wasm_store.proofs.Lists.{all_at, all_append}
+use Rattle.wasm_store.specs.Stack.{Stack}
 use Rattle.comp_graph.specs.Graph.{Graph, Lifted}
 use Rattle.canonical_machine.specs.World.{Callee, Init, Func, Subtask, Caller, Nobody, Host, Guest, Unresolved, TaskState, AfterCall, Task, World, new_task}
 use Rattle.canonical_machine.specs.Edits.{changed_at, caller_changed}

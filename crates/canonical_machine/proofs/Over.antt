@@ -1,12 +1,12 @@
 -- Each task that does not stand on the chain has exited.
 use Rattle.std.proofs.Common.{◌++◌, ◌≡◌, ◌⊎◌, inl, inr, ℕ, zero, suc, ◌+◌, Bool, true, false, nat_eq, nat_lt, List, [], ◌∷◌, length, drop, refl, sym, ap, ◌∙◌, subst, Option, Some, None, Result, Ok, Err, if◌then◌else◌}
 use Rattle.std.specs.List.{slice_get}
-use Rattle.core_machine.specs.Store.{found_at}
-use Rattle.core_machine.specs.Stack.{Stack}
-use Rattle.core_machine.specs.Step.{Move, Goes, Calls, Traps, start}
-use Rattle.core_machine.specs.Step as core
-use Rattle.core_machine.specs.Instantiation.{External, Instantiation, Makes, instance_of, instantiated, start_call}
-use Rattle.core_machine.specs.Instantiation as core_instance
+use Rattle.wasm_store.specs.Store.{found_at}
+use Rattle.wasm_store.specs.Stack.{Stack}
+use Rattle.wasm_store.specs.Step.{Move, Goes, Calls, Traps, start}
+use Rattle.wasm_store.specs.Step as core
+use Rattle.wasm_store.specs.Instantiation.{External, Instantiation, Makes, instance_of, instantiated, start_call}
+use Rattle.wasm_store.specs.Instantiation as core_instance
 use Rattle.ca_types.specs.declared.value.Value.{Value}
 use Rattle.value_lift.specs.declared.trap.LiftTrap.{LiftTrap}
 use Rattle.value_lower.specs.Plan.{Plan}
@@ -43,7 +43,7 @@ use Rattle.canonical_machine.specs.Nested.{HostedTurn, On, EndsIn, TrapsBy, Call
 use Rattle.canonical_machine.specs.Next.{next_by}
 use Rattle.canonical_machine.specs.Tasks.{NoStack, IsInit, IsChain, IsSoFar, IsResolved}
 use Rattle.canonical_machine.specs.Over.{Stands, IsOver, OthersExited, FirstOver, OverStays}
-use Rattle.core_machine.proofs.Lists.{found_there}
+use Rattle.wasm_store.proofs.Lists.{found_there}
 use Rattle.canonical_machine.proofs.Changed.{changed_there}
 use Rattle.canonical_machine.proofs.Made.{get_last}
 use Rattle.canonical_machine.proofs.Ordered.{acting_is}
@@ -220,6 +220,7 @@ free_over g s w o = by (slice_get s.items w.taken)
   where
     by : (i : Option Item) → Over (item_turn g s i w)
     by None = tt
+    by (Some (item.Cancel call)) = tt
     by (Some (item.Call call)) =
         charged_over true s w (λ v. given (func_named g call.name) (λ f. taken call f v)) (λ units.
         given_over (func_named g call.name) (λ f. taken call f (record w { units = units })) (λ f e. over_more w.tasks w.chain (new_task (Func f) (Host call.values)) o))
@@ -231,6 +232,7 @@ calling_over g number words w o =
     behind_over (line.Do a.0 (builtin_of canon) words ∷ []) _ (either_over (may_leave w) _ _ (by a e canon) o)))
   where
     by : (a : ℕ × Task) → acting w ≡ Some a → (canon : CanonFunc) → Over (reply a.0 number canon words w)
+    by a e (canon_func.Builtin b) = tt
     by a e (canon_func.Lower l) =
         let v : World = in_state a.0 (AfterCall (length w.tasks)) w in
         either_over (is_reentrant w l.lift.instance a.0) _ _ o

@@ -10,18 +10,19 @@ use Rattle.wasm_module.specs.declared.module.DataSegment.{DataSegment}
 use Rattle.wasm_module.specs.declared.module.ModuleTree.{ModuleTree}
 use Rattle.wasm_memory.specs.Bytes.{put}
 use Rattle.wasm_memory.specs.Memories.{MemoryState, with_bytes}
-use Rattle.core_machine.specs.Store.{Function, Host, Table, Instance, Store, found_at, memory_at}
-use Rattle.core_machine.specs.Instantiation.{External, FuncAddress, TableAddress, MemoryAddress, GlobalAddress, func_address, table_address, memory_address, instance_of, new_func, new_table, new_memory, allocated, with_table, overwritten, into_table, into_memory, element_written, data_written, init_value, Instantiation, Makes, all_written, instantiated}
-use Rattle.core_machine.specs.Typed.{Keeps, IsSame}
-use Rattle.core_machine.proofs.Lists.{all_at, all_map, all_append, all_replicate, all_overwritten, found_there, keeps_append}
-use Rattle.core_machine.proofs.Stores.{still, same_later}
-use Rattle.core_machine.proofs.Zips.{StandsAt, numbered, all_true}
+use Rattle.wasm_store.specs.Store.{Function, Host, Table, Instance, Store, found_at, memory_at}
+use Rattle.wasm_store.specs.Instantiation.{External, FuncAddress, TableAddress, MemoryAddress, GlobalAddress, func_address, table_address, memory_address, instance_of, new_func, new_table, new_memory, allocated, with_table, overwritten, into_table, into_memory, element_written, data_written, init_value, Instantiation, Makes, all_written, instantiated}
+use Rattle.wasm_store.specs.Typed.{Keeps, IsSame}
+use Rattle.wasm_store.proofs.Lists.{all_at, all_map, all_append, all_replicate, all_overwritten, found_there, keeps_append}
+use Rattle.wasm_store.proofs.Stores.{still, same_later}
+use Rattle.wasm_store.proofs.Zips.{StandsAt, numbered, all_true}
 use Rattle.comp_graph.specs.declared.graph.CoreRef.{CoreRef}
 use Rattle.comp_graph.specs.declared.graph.FuncRef.{FuncRef}
 use Rattle.comp_graph.specs.declared.graph.FuncRef.TheVariants as func_ref
 use Rattle.comp_graph.specs.declared.graph.CoreExtern.{CoreExtern}
 use Rattle.comp_graph.specs.declared.graph.CoreExtern.TheVariants as extern
-use Rattle.comp_graph.specs.Graph.{CoreMake, Graph, canon_type}
+use Rattle.comp_graph.specs.Graph.{CoreMake, Graph}
+use Rattle.canonical_machine.specs.Synchronous.{canon_type}
 use Rattle.canonical_machine.specs.Reading.{inst_of_canon, address_in, external_of, externals}
 use Rattle.canonical_machine.specs.Reading as reading
 use Rattle.canonical_machine.specs.Owners.{owner_of_core, owner_of_func, owner_of_extern, IsOwned, IsEntryOwned, StoreOwners, AreOwnedBy, AreOwned}

@@ -27,7 +27,8 @@ use Rattle.value_lift.proofs.Equations.{layouts_in, laid_is, flats_in, flat_is, 
 use Rattle.value_lift.proofs.Views.{out_u8, out_u32, out_char, out_string, out_tuple}
 use Rattle.value_lower.specs.Plan.{Plan, Gives, Put}
 use Rattle.value_lower.specs.Lowering.{Lowered, lowered, lower_step, flat_words, words_case, field_words, text_in, store, store_case, fields_from, tested, asked}
-use Rattle.comp_graph.specs.Graph.{canon_type, no_options}
+use Rattle.comp_graph.specs.Graph.{no_options}
+use Rattle.canonical_machine.specs.Synchronous.{canon_type}
 use Rattle.canonical_machine.specs.Passing.{params_type, arguments_lifted, arguments_plan, result_lifted, result_plan}
 use Rattle.canonical_machine.specs.Examples.{pair, to_pair, child_bytes, of_two, of_one, of_text, seventeen, of_many, of_char, to_char, text, words, lowers, lifts, func_at}
 

@@ -40,7 +40,7 @@ use Rattle.canonical_machine.specs.Sound.{AreBytes}
 use Rattle.canonical_machine.specs.Kept.{IsPlanned}
 use Rattle.canonical_machine.proofs.Bytes.{le_bytes}
 use Rattle.canonical_machine.proofs.Aligns.{align_low}
-use Rattle.core_machine.proofs.Lists.{all_append}
+use Rattle.wasm_store.proofs.Lists.{all_append}
 use Rattle.ca_types.specs.declared.types.FuncType.{FuncType}
 use Rattle.ca_types.specs.declared.types.Param.{Param}
 use Rattle.comp_graph.specs.Needs.{hold_list}

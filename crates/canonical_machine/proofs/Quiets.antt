@@ -4,7 +4,7 @@ use Rattle.std.specs.List.{slice_get}
 use Rattle.comp_graph.specs.Graph.{Graph}
 use Rattle.comp_graph.specs.declared.graph.CanonFunc.{CanonFunc}
 use Rattle.script_reader.specs.Script.{Script}
-use Rattle.core_machine.specs.Store.{Store}
+use Rattle.wasm_store.specs.Store.{Store}
 use Rattle.trace_show.specs.declared.label.Label.TheVariants as line
 use Rattle.trace_show.specs.declared.trap.TrapName.TheVariants as trap
 use Rattle.canonical_machine.specs.declared.run_end.RunEnd.TheVariants.{Fuel}

@@ -5,10 +5,10 @@ use Rattle.std.specs.Option.{IfSome, IsSome}
 use Rattle.wasm_module.specs.declared.types.ValType as core_val
 use Rattle.wasm_module.specs.declared.types.FuncType as core
 use Rattle.wasm_numbers.specs.Types.{AreWords}
-use Rattle.core_machine.specs.Store.{Function, type_of, Store, found_at}
-use Rattle.core_machine.specs.Step.{start}
-use Rattle.core_machine.specs.Typed.{StoreTyped, StackTyped}
-use Rattle.core_machine.proofs.Moving.{starts_typed}
+use Rattle.wasm_store.specs.Store.{Function, type_of, Store, found_at}
+use Rattle.wasm_store.specs.Step.{start}
+use Rattle.wasm_store.specs.Typed.{StoreTyped, StackTyped}
+use Rattle.wasm_store.proofs.Moving.{starts_typed}
 use Rattle.ca_types.specs.declared.types.ValType.{ValType}
 use Rattle.ca_types.specs.declared.types.FuncType.{FuncType}
 use Rattle.ca_types.specs.declared.value.Value.{Value}
@@ -19,7 +19,8 @@ use Rattle.comp_graph.specs.declared.graph.CanonFunc.{CanonFunc}
 use Rattle.comp_graph.specs.declared.graph.FuncRef.{FuncRef}
 use Rattle.comp_graph.specs.declared.graph.Lower.{Lower}
 use Rattle.comp_graph.specs.Needs.{lifted_type, lowered_type, post_return_type, lower_needs_realloc}
-use Rattle.comp_graph.specs.Graph.{Graph, Lifted, core_type}
+use Rattle.comp_graph.specs.Graph.{Graph, Lifted}
+use Rattle.canonical_machine.proofs.Synchronous.{core_type}
 use Rattle.script_reader.specs.Script.{Script}
 use Rattle.trace_show.specs.declared.label.Label.{Label}
 use Rattle.trace_show.specs.declared.label.Label.TheVariants as line

@@ -1,11 +1,11 @@
 -- What each kind of step does with fuel.
 use Rattle.std.proofs.Common.{ℕ, zero, suc, nat_eq, true, List, [], ◌∷◌, refl, Option, Some, None, Result, Ok, Err}
 use Rattle.std.specs.List.{slice_get}
-use Rattle.core_machine.specs.Store.{found_at}
-use Rattle.core_machine.specs.Stack.{Stack}
-use Rattle.core_machine.specs.Step.{Move, Goes, Calls, Traps, next}
-use Rattle.core_machine.specs.Step as core
-use Rattle.core_machine.specs.Instantiation.{External, Instantiation, Makes, SegmentBounds, instance_of, instantiated, start_call}
+use Rattle.wasm_store.specs.Store.{found_at}
+use Rattle.wasm_store.specs.Stack.{Stack}
+use Rattle.wasm_store.specs.Step.{Move, Goes, Calls, Traps, next}
+use Rattle.wasm_store.specs.Step as core
+use Rattle.wasm_store.specs.Instantiation.{External, Instantiation, Makes, SegmentBounds, instance_of, instantiated, start_call}
 use Rattle.ca_types.specs.declared.value.Value.{Value}
 use Rattle.value_lift.specs.declared.trap.LiftTrap.{LiftTrap}
 use Rattle.value_lower.specs.Plan.{Plan}
@@ -163,6 +163,7 @@ back_free w = given_costless w (acting w) _ (λ a. back_from_free a.0 a.1.state 
 
 reply_free : (t number : ℕ) (canon : CanonFunc) (words : List ℕ) (w : World) → Costless w (reply t number canon words w)
 unfolding reply
+reply_free t number (canon_func.Builtin b) words w = tt
 reply_free t number (canon_func.Lower l) words w = call_begun_free t number (lifted_of l) words w
 
 allowed_free : (t number : ℕ) (canon : CanonFunc) (words : List ℕ) (w : World) → Costless w (allowed t number canon words w)

@@ -9,8 +9,8 @@ use Rattle.trace_show.specs.declared.label.Label.TheVariants as line
 use Rattle.trace_show.specs.declared.trap.TrapName.TheVariants as trap
 use Rattle.canonical_machine.specs.declared.run_end.RunEnd.TheVariants.{Done, Trapped, Fuel}
 use Rattle.wasm_module.specs.declared.types.FuncType as core
-use Rattle.core_machine.specs.Store as stores
-use Rattle.core_machine.specs.Instantiation.{empty}
+use Rattle.wasm_store.specs.Store as stores
+use Rattle.wasm_store.specs.Instantiation.{empty}
 use Rattle.ca_types.specs.declared.types.ValType.TheVariants as type
 use Rattle.ca_types.specs.declared.value.Value.{Value}
 use Rattle.value_lift.specs.declared.trap.LiftWhy.TheVariants.{BadChar}
@@ -19,7 +19,7 @@ use Rattle.comp_graph.specs.Graph.{Graph}
 use Rattle.script_reader.specs.Script.{Script}
 use Rattle.value_lower.specs.Plan.{Gives}
 use Rattle.value_lower.specs.Lowering.{text_in}
-use Rattle.core_machine.specs.Stack.{Running}
+use Rattle.wasm_store.specs.Stack.{Running}
 use Rattle.canonical_machine.specs.Control.{Runs}
 use Rattle.canonical_machine.specs.World.{Init, Func, Nobody, Host, Guest, Unresolved, Acting, AfterCall, Exited, World, first_world}
 use Rattle.canonical_machine.specs.Reading.{lifted_of}

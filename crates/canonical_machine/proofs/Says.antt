@@ -58,6 +58,7 @@ end_says s w (t ∷ tasks) none e = (refl, ap end_of e)
 item_says : (g : Graph) (s : Script) (w : World) (o : Option Item) → slice_get s.items w.taken ≡ o → TurnSays s w Free (item_turn g s o w)
 unfolding item_turn
 item_says g s w None e = end_says s w (unfinished w) e refl
+item_says g s w (Some (item.Cancel call)) e = tt
 item_says g s w (Some (item.Call call)) e =
     plain_says s w Free _ (charged_plain s w true _ (λ v. given_costless v (func_named g call.name) _ (λ f. taken_free call f v)))
 

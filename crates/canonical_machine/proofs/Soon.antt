@@ -1,7 +1,7 @@
 -- What a turn leads to, where each world that is kept and that it may lead to has a run.
 use Rattle.std.proofs.Common.{◌≡◌, ◌<◌, ℕ, ◌+◌, true, nat_lt, List, [], ◌∷◌, ◌++◌, refl, ap, sym, subst, arith, Option, Some, None}
 use Rattle.std.proofs.lemmas.Bool.Decides.{nat_tests}
-use Rattle.core_machine.proofs.Lists.{if_both}
+use Rattle.wasm_store.proofs.Lists.{if_both}
 use Rattle.comp_graph.specs.Graph.{Graph}
 use Rattle.script_reader.specs.Script.{Script}
 use Rattle.trace_show.specs.declared.label.Label.{Label}

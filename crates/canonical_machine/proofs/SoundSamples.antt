@@ -5,9 +5,9 @@ use Rattle.std.specs.Str.{IsUtf8}
 use lib.Utf8.{encode}
 use Rattle.wasm_module.specs.declared.module.ModuleTree.{ModuleTree}
 use Rattle.wasm_module.specs.Expr.{End}
-use Rattle.wasm_valid.specs.Modules.{Typed}
-use Rattle.wasm_valid.specs.Finding.{first_fault}
-use Rattle.wasm_valid.proofs.Deciding.{fault_free}
+use Rattle.wasm_typing.specs.Modules.{Typed}
+use Rattle.wasm_typing.specs.Finding.{first_fault}
+use Rattle.wasm_typing.proofs.Deciding.{fault_free}
 use Rattle.ca_types.specs.declared.value.Value.TheVariants as value
 use Rattle.ca_types.specs.declared.types.ValType.{ValType}
 use Rattle.ca_types.specs.declared.types.Case.{Case}
@@ -92,19 +92,18 @@ child_imports canons = record { items = []; are = refl; there = tt; fit = tt }
 root_imports : HasImports (child ∷ []) (called ∷ []) root
 root_imports = record { items = Func (func_ref.Canon 0) (lowered_type of_two) ∷ []; are = refl; there = (refl, tt); fit = (ap (λ t. Some t) (sym two_lowered), tt) }
 
-called_there : IsCanonThere (child ∷ []) [] called
+called_there : IsCanonThere (child ∷ []) [] [] called
 called_there = record {
   lift = record {
     core = ap (λ t. Some t) (sym two_lifted);
     memory = tt;
     realloc = tt;
     post_return = tt;
+    callback = tt;
     memory_given = not_so (needs_memory of_two) two_memory;
     realloc_given = not_so (lift_needs_realloc of_two) two_realloc;
   };
-  memory = tt;
-  realloc = tt;
-  post_return = refl;
+  options = record { memory = tt; realloc = tt; post_return = refl; callback = refl };
   memory_given = not_so (needs_memory of_two) two_memory;
   realloc_given = not_so (lower_needs_realloc of_two) u32_lists;
 }
@@ -115,12 +114,13 @@ export_there = record {
   memory = tt;
   realloc = tt;
   post_return = tt;
+  callback = tt;
   memory_given = not_so (needs_memory of_one) one_memory;
   realloc_given = not_so (lift_needs_realloc of_one) one_realloc;
 }
 
-made : AreMade (child ∷ root ∷ []) (called ∷ [])
-made = instance_made (child ∷ []) (called ∷ []) root (canon_made (child ∷ []) [] called (instance_made [] [] child none_made (child_imports [])) called_there) root_imports
+made : AreMade (child ∷ root ∷ []) (called ∷ []) []
+made = instance_made (child ∷ []) (called ∷ []) [] root (canon_made (child ∷ []) [] [] called (instance_made [] [] [] child none_made (child_imports [])) called_there) root_imports
 
 doubling_sound : IsSound doubling (script_of 7 (value.U32 4 ∷ []))
 doubling_sound = record {
@@ -132,6 +132,7 @@ doubling_sound = record {
     lifts = (export_there, tt);
     made = made;
     planned = (refl, (refl, refl));
+    sync = record { canons = ((refl, refl), tt); lifts = (refl, tt); resources = refl };
   };
   items = (
     record {
@@ -162,20 +163,21 @@ memory_imported = record {
   fit = ((omega arith, tt), tt);
 }
 
-text_there : IsLiftThere (sharing 1).cores [] of_text (lifts 0 (func_at 2 0) (record { memory = Some (record { instance = 1; index = 0 }); realloc = Some (func_at 1 0); post_return = None }))
+text_there : IsLiftThere (sharing 1).cores [] of_text (lifts 0 (func_at 2 0) (record { memory = Some (record { instance = 1; index = 0 }); realloc = Some (func_at 1 0); post_return = None; callback = None; is_async = false }))
 text_there = record {
   core = ap (λ t. Some t) (sym text_lifted);
   memory = record { core = allocates 0; there = refl; holds = refl };
   realloc = refl;
   post_return = tt;
+  callback = tt;
   memory_given = λ e. refl;
   realloc_given = λ e. refl;
 }
 
-sharing_made : AreMade (allocates 1 ∷ allocates 0 ∷ imports ∷ []) []
+sharing_made : AreMade (allocates 1 ∷ allocates 0 ∷ imports ∷ []) [] []
 sharing_made =
-    instance_made (allocates 1 ∷ allocates 0 ∷ []) [] imports
-    (instance_made (allocates 1 ∷ []) [] (allocates 0) (instance_made [] [] (allocates 1) none_made (none_imported [] 1)) (none_imported (allocates 1 ∷ []) 0)) memory_imported
+    instance_made (allocates 1 ∷ allocates 0 ∷ []) [] [] imports
+    (instance_made (allocates 1 ∷ []) [] [] (allocates 0) (instance_made [] [] [] (allocates 1) none_made (none_imported [] 1)) (none_imported (allocates 1 ∷ []) 0)) memory_imported
 
 -- the characters of the text
 text_utf8 : IsUtf8 text
@@ -192,13 +194,14 @@ sharing_sound = record {
     lifts = (text_there, tt);
     made = sharing_made;
     planned = (refl, (refl, (refl, refl)));
+    sync = record { canons = tt; lifts = (refl, tt); resources = refl };
   };
   items = (
     record {
       lifted = record {
         instance = 0;
         core = func_at 2 0;
-        options = record { memory = Some (record { instance = 1; index = 0 }); realloc = Some (func_at 1 0); post_return = None };
+        options = record { memory = Some (record { instance = 1; index = 0 }); realloc = Some (func_at 1 0); post_return = None; callback = None; is_async = false };
         func_type = of_text;
       };
       named = refl;

@@ -7,13 +7,13 @@ use Rattle.wasm_module.specs.declared.types.ValType.{ValType}
 use Rattle.wasm_module.specs.declared.types.FuncType as core
 use Rattle.wasm_numbers.specs.Types.{AreWords}
 use Rattle.wasm_memory.specs.Memories.{MemoryState, with_bytes}
-use Rattle.core_machine.specs.Store.{Store, found_at}
-use Rattle.core_machine.specs.Stack.{Stack}
-use Rattle.core_machine.specs.Step.{resume}
-use Rattle.core_machine.specs.Typed.{Extends, StoreTyped, StackTyped, MemoryTyped}
-use Rattle.core_machine.proofs.Lists.{all_at, all_map, all_set}
-use Rattle.core_machine.proofs.Stores.{stays_typed, still, memory_changed, store_same}
-use Rattle.core_machine.proofs.Memories.{memory_rewritten}
+use Rattle.wasm_store.specs.Store.{Store, found_at}
+use Rattle.wasm_store.specs.Stack.{Stack}
+use Rattle.wasm_store.specs.Step.{resume}
+use Rattle.wasm_store.specs.Typed.{Extends, StoreTyped, StackTyped, MemoryTyped}
+use Rattle.wasm_store.proofs.Lists.{all_at, all_map, all_set}
+use Rattle.wasm_store.proofs.Stores.{stays_typed, still, memory_changed, store_same}
+use Rattle.wasm_store.proofs.Memories.{memory_rewritten}
 use Rattle.value_lower.specs.Plan.{Plan, Gives, Fails, Asks, Size, Put}
 use Rattle.value_lower.specs.Following.{written}
 use Rattle.comp_graph.specs.Needs.{realloc_type}

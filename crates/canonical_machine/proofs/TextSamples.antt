@@ -1,7 +1,7 @@
 -- The example of a text that is passed in a run from the first world.
 use Rattle.std.proofs.Common.{List, [], ◌∷◌, refl, sym, subst}
 use Rattle.std.specs.Prelude.{unwrap_or}
-use Rattle.core_machine.specs.Store.{Host as HostFunction, found_at}
+use Rattle.wasm_store.specs.Store.{Host as HostFunction, found_at}
 use Rattle.ca_types.specs.declared.value.Value.{Value}
 use Rattle.ca_types.specs.declared.value.Value.TheVariants as value
 use Rattle.ca_types.specs.declared.value.Value.TheViews as values

@@ -1,8 +1,8 @@
 -- From the end of a lowering of a result to the task that called: the post-return runs, the task exits, and the caller gets its words.
 use Rattle.std.proofs.Common.{◌≡◌, ◌≢◌, ◌⊎◌, inl, inr, ◌∙◌, ◌<◌, ℕ, true, nat_eq, List, [], ◌∷◌, drop, Option, Some, None, Ok, refl, ap, sym, subst, arith}
 use Rattle.std.specs.List.{slice_get}
-use Rattle.core_machine.specs.Store.{Store, found_at}
-use Rattle.core_machine.specs.Stack.{Stack}
+use Rattle.wasm_store.specs.Store.{Store, found_at}
+use Rattle.wasm_store.specs.Stack.{Stack}
 use Rattle.value_lower.specs.Plan.{Plan}
 use Rattle.comp_graph.specs.declared.graph.FuncRef.{FuncRef}
 use Rattle.comp_graph.specs.declared.graph.Lower.{Lower}

@@ -1,7 +1,7 @@
 -- The end of a lowering of a result: its words are kept with the task that was called, which leaves, or whose post-return runs.
 use Rattle.std.proofs.Common.{◌≡◌, ◌⊎◌, inl, inr, ◌∙◌, ℕ, List, [], ◌∷◌, Option, Some, None, refl, ap, sym, subst}
 use Rattle.std.specs.List.{slice_get}
-use Rattle.core_machine.specs.Store.{found_at}
+use Rattle.wasm_store.specs.Store.{found_at}
 use Rattle.value_lower.specs.Plan.{Ask, Plan}
 use Rattle.canonical_machine.specs.Settling.{Answer}
 use Rattle.comp_graph.specs.declared.graph.FuncRef.{FuncRef}

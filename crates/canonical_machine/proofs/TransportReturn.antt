@@ -2,14 +2,14 @@
 use Rattle.std.proofs.Common.{◌≡◌, ◌∙◌, ◌≤◌, ℕ, List, [], ◌∷◌, Option, Some, None, Result, Ok, Err, refl, ap, sym, subst}
 use Rattle.std.specs.List.{slice_get}
 use Rattle.wasm_numbers.specs.Types.{AreWords}
-use Rattle.core_machine.specs.Store.{Store}
-use Rattle.core_machine.specs.Stack.{Stack}
-use Rattle.core_machine.specs.Step.{Move, Goes, Calls, Traps}
-use Rattle.core_machine.specs.Step as core
-use Rattle.core_machine.specs.Typed.{StackTyped}
-use Rattle.core_machine.specs.Laws.{MoveTyped}
-use Rattle.core_machine.proofs.Lists.{all_at}
-use Rattle.core_machine.proofs.Moving.{moves_typed}
+use Rattle.wasm_store.specs.Store.{Store}
+use Rattle.wasm_store.specs.Stack.{Stack}
+use Rattle.wasm_store.specs.Step.{Move, Goes, Calls, Traps}
+use Rattle.wasm_store.specs.Step as core
+use Rattle.wasm_store.specs.Typed.{StackTyped}
+use Rattle.wasm_store.specs.Laws.{MoveTyped}
+use Rattle.wasm_store.proofs.Lists.{all_at}
+use Rattle.wasm_store.proofs.Moving.{moves_typed}
 use Rattle.ca_types.specs.declared.types.ValType.{ValType}
 use Rattle.ca_types.specs.declared.value.Value.{Value}
 use Rattle.value_lift.specs.declared.trap.LiftTrap.{LiftTrap}

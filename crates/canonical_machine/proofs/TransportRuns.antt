@@ -1,7 +1,7 @@
 -- From the start of a lowering to the words that it comes to, in a run that goes on behind it.
 use Rattle.std.proofs.Common.{◌≡◌, ◌⊎◌, inl, inr, ◌∙◌, ℕ, true, nat_eq, List, [], ◌∷◌, refl, ap, sym, subst}
 use Rattle.std.specs.List.{slice_get}
-use Rattle.core_machine.specs.Store.{found_at}
+use Rattle.wasm_store.specs.Store.{found_at}
 use Rattle.value_lower.specs.Plan.{Ask, Plan}
 use Rattle.canonical_machine.specs.Settling.{Answer}
 use Rattle.comp_graph.specs.Graph.{Graph}

@@ -3,8 +3,8 @@ use Rattle.std.proofs.Common.{List, ◌≡◌, ◌≤◌, ◌+◌, ℕ, suc, [],
 use Rattle.std.specs.Prelude.{unwrap_or}
 use Rattle.std.specs.Str.{IsUtf8}
 use lib.Utf8.{encode}
-use Rattle.core_machine.specs.Store.{Host as HostFunction, found_at}
-use Rattle.core_machine.specs.Stack.{Given}
+use Rattle.wasm_store.specs.Store.{Host as HostFunction, found_at}
+use Rattle.wasm_store.specs.Stack.{Given}
 use Rattle.ca_types.specs.declared.types.ValType.TheVariants as type
 use Rattle.ca_types.specs.declared.value.Value.{Value}
 use Rattle.ca_types.specs.declared.value.Value.TheVariants as value

@@ -3,13 +3,13 @@ use Rattle.std.proofs.Common.{◌≡◌, ◌≢◌, ◌∙◌, ℕ, true, nat_eq
 use Rattle.std.specs.List.{slice_get}
 use Rattle.std.specs.Option.{option_map, option_and_then, IfSome}
 use Rattle.wasm_memory.specs.Memories.{MemoryState}
-use Rattle.core_machine.specs.Store.{Instance, Store}
-use Rattle.core_machine.specs.Stack.{Stack, Running, AtHost, Given}
-use Rattle.core_machine.specs.Step.{Move, Goes, Traps}
-use Rattle.core_machine.specs.Step as core
+use Rattle.wasm_store.specs.Store.{Instance, Store}
+use Rattle.wasm_store.specs.Stack.{Stack, Running, AtHost, Given}
+use Rattle.wasm_store.specs.Step.{Move, Goes, Traps}
+use Rattle.wasm_store.specs.Step as core
 use Rattle.value_lower.specs.Plan.{Plan}
 use Rattle.canonical_machine.specs.Settling.{Answer}
-use Rattle.core_machine.proofs.Lists.{all_at}
+use Rattle.wasm_store.proofs.Lists.{all_at}
 use Rattle.comp_graph.specs.declared.graph.CoreRef.{CoreRef}
 use Rattle.comp_graph.specs.declared.graph.Lower.{Lower}
 use Rattle.comp_graph.specs.Graph.{Graph}

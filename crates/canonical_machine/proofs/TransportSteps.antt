@@ -5,14 +5,14 @@ use Rattle.std.specs.Option.{option_map}
 use Rattle.wasm_module.specs.declared.types.ValType.{ValType}
 use Rattle.wasm_numbers.specs.Types.{AreWords}
 use Rattle.wasm_memory.specs.Memories.{MemoryState, with_bytes}
-use Rattle.core_machine.specs.Store.{Store, found_at}
-use Rattle.core_machine.specs.Stack.{Stack}
-use Rattle.core_machine.specs.Step.{Move, Goes, Traps, start, next}
-use Rattle.core_machine.specs.Step as core
-use Rattle.core_machine.specs.Typed.{StoreTyped, Extends}
-use Rattle.core_machine.specs.Laws.{MoveTyped}
-use Rattle.core_machine.proofs.Moving.{moves_typed}
-use Rattle.core_machine.proofs.Stores.{store_same, further}
+use Rattle.wasm_store.specs.Store.{Store, found_at}
+use Rattle.wasm_store.specs.Stack.{Stack}
+use Rattle.wasm_store.specs.Step.{Move, Goes, Traps, start, next}
+use Rattle.wasm_store.specs.Step as core
+use Rattle.wasm_store.specs.Typed.{StoreTyped, Extends}
+use Rattle.wasm_store.specs.Laws.{MoveTyped}
+use Rattle.wasm_store.proofs.Moving.{moves_typed}
+use Rattle.wasm_store.proofs.Stores.{store_same, further}
 use Rattle.value_lower.specs.Plan.{Plan}
 use Rattle.canonical_machine.specs.Settling.{Answer, IsAnswer, Settles}
 use Rattle.comp_graph.specs.declared.graph.CanonFunc.{CanonFunc}

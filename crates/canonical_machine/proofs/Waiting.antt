@@ -2,9 +2,9 @@
 use Rattle.std.proofs.Common.{◌≡◌, ◌++◌, ℕ, zero, suc, List, [], ◌∷◌, drop, refl, ap, sym, ◌∙◌, subst, Some}
 use Rattle.std.specs.List.{slice_get, AllByRecursion}
 use Rattle.std.specs.Option.{option_map}
-use Rattle.core_machine.specs.Store.{found_at}
-use Rattle.core_machine.specs.Stack.{Stack}
-use Rattle.core_machine.proofs.Lists.{found_there, all_append, all_drop}
+use Rattle.wasm_store.specs.Store.{found_at}
+use Rattle.wasm_store.specs.Stack.{Stack}
+use Rattle.wasm_store.proofs.Lists.{found_there, all_append, all_drop}
 use Rattle.canonical_machine.specs.Control.{Control}
 use Rattle.canonical_machine.specs.Control as control
 use Rattle.canonical_machine.specs.World.{Callee, Caller, Acting, AfterCall, Begins, Exited, Task, World, new_task}

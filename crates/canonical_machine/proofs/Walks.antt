@@ -3,8 +3,8 @@ use Rattle.std.proofs.Common.{◌≡◌, ◌∙◌, ℕ, zero, suc, List, [], �
 use Rattle.std.specs.Prelude.{Result, Ok, Err, unwrap_or}
 use Rattle.std.specs.List.{slice_get}
 use Rattle.std.proofs.lemmas.Grind.{flat_map-append}
-use Rattle.core_machine.specs.Stack.{Stack, Given}
-use Rattle.core_machine.specs.Step as core
+use Rattle.wasm_store.specs.Stack.{Stack, Given}
+use Rattle.wasm_store.specs.Step as core
 use Rattle.ca_types.specs.declared.value.Value.{Value}
 use Rattle.value_lift.specs.declared.trap.LiftTrap.{LiftTrap}
 use Rattle.value_lower.specs.Plan.{Plan, Gives}

@@ -32,7 +32,7 @@ use Rattle.value_lower.proofs.Counts.{good}
 use Rattle.canonical_machine.specs.Values.{IsOf}
 use Rattle.canonical_machine.proofs.LiftedValues.{flat_standing, loaded_values_are}
 use Rattle.canonical_machine.proofs.Widths.{flat_gives, placed_gives}
-use Rattle.core_machine.proofs.Lists.{if_both}
+use Rattle.wasm_store.proofs.Lists.{if_both}
 use Rattle.comp_graph.specs.Needs.{core_val, lifted_type, lowered_type, flat_param_limit, hold_list, lift_needs_realloc, lower_needs_realloc}
 use Rattle.canonical_machine.specs.Passing.{params_type, params_in_memory, result_in_memory, arguments_lifted, arguments_plan, result_lifted, result_plan, last_of}
 use Rattle.canonical_machine.specs.Sound.{AreBytes}

@@ -2,10 +2,11 @@
 use Rattle.std.proofs.Common.{◌≡◌, ◌≢◌, ◌⊎◌, inl, inr, ℕ, false, nat_eq, List, [], ◌∷◌, map, refl, sym, ◌∙◌, subst, arith, append-nil, Some}
 use Rattle.std.proofs.lemmas.Bool.Decides.{nat_tests}
 use Rattle.std.specs.List.{slice_get, AllByRecursion}
-use Rattle.core_machine.specs.Store.{Host as HostFunction, Store}
-use Rattle.core_machine.specs.Typed.{FunctionTyped}
+use Rattle.wasm_store.specs.Store.{Host as HostFunction, Store}
+use Rattle.wasm_store.specs.Typed.{FunctionTyped}
 use Rattle.comp_graph.specs.declared.graph.CanonFunc.{CanonFunc}
-use Rattle.comp_graph.specs.Graph.{Graph, canon_type}
+use Rattle.comp_graph.specs.Graph.{Graph}
+use Rattle.canonical_machine.specs.Synchronous.{canon_type}
 use Rattle.script_reader.specs.Script.{Script}
 use Rattle.trace_show.specs.declared.label.Label.{Label}
 use Rattle.canonical_machine.specs.Control.{Control, Free, Instantiates, Runs, Calls, Arrives, Lowers, Quiet, Back, Leaves, Doomed, Nested, Behind}
@@ -55,7 +56,7 @@ keeps_by : (g : Graph) (s : Script) (w : World) (c : Control) → IsSound g s �
 keeps_by g s w Free sound called order ground k = free_keeps g _ s w sound ground order k
 keeps_by g s w (Instantiates n) sound called order ground k = instantiating_keeps g _ sound.graph n w order ground k
 keeps_by g s w Runs sound called order ground k = running_keeps g _ sound.graph s w called order ground k
-keeps_by g s w (Calls number words) sound called order ground k = calling_keeps g _ number words w order ground k
+keeps_by g s w (Calls number words) sound called order ground k = calling_keeps g _ sound.graph.sync.canons number words w order ground k
 keeps_by g s w Arrives sound called order ground k = arriving_keeps g _ sound.graph w called order ground k.0 k.1
 keeps_by g s w (Lowers l plan) sound called order ground k = lowers_keeps g _ sound.graph l plan w called order.1 ground k.0 k.1
 keeps_by g s w (Quiet n b) sound called order ground k =

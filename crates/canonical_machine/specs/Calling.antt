@@ -35,12 +35,13 @@ typed (type ∷ types) (v ∷ values) = record { value = v; val_type = type } �
 abbrev pub arguments_typed : Lifted → List Value → List TypedValue
 arguments_typed f values = typed (map (λ p. p.val_type) f.func_type.params) values
 
--- Calls are counted from 1. Every item is a call so far.
+-- Calls are counted from 1.
 unfoldable pub taken : Call → Lifted → World → Turn
 taken call f w =
     Steps (line.Take (w.taken + 1) (length w.tasks) call.name (arguments_typed f call.values) ∷ []) (begun (Func f) (Host call.values) (item_taken w))
 
--- Where no item is left, all is done if each task has exited. Else no task can go on: a task that runs stands on the chain.
+-- Where no item is left, all is done if each task has exited. Else no task can go on: a task that runs stands on the chain. There is no
+-- rule for a request to cancel a call.
 abbrev pub end_of : List ℕ → RunEnd
 end_of [] = Done
 end_of (t ∷ tasks) = Deadlock (t ∷ tasks)
@@ -48,6 +49,7 @@ end_of (t ∷ tasks) = Deadlock (t ∷ tasks)
 unfoldable pub item_turn : Graph → Script → Option Item → World → Turn
 item_turn g s None w = Ends (end_of (unfinished w))
 item_turn g s (Some (item.Call call)) w = charged true s w (λ v. given (func_named g call.name) (λ f. taken call f v))
+item_turn g s (Some (item.Cancel call)) w = Stuck
 
 unfoldable pub free_turn : Graph → Script → World → Turn
 free_turn g s w = item_turn g s (slice_get s.items w.taken) w

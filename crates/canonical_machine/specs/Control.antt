@@ -1,7 +1,7 @@
 -- What a run does next (Component Model, CanonicalABI.md, `canon lift` and `canon lower`; Concurrency.md): of all that a world has
 -- this alone may hold functions, those of a lowering that is half done.
 use Rattle.std.specs.Prelude.{ℕ, List, Option}
-use Rattle.core_machine.specs.Stack.{Stack}
+use Rattle.wasm_store.specs.Stack.{Stack}
 use Rattle.value_lower.specs.Plan.{Plan}
 use Rattle.trace_show.specs.declared.trap.TrapName.{TrapName}
 

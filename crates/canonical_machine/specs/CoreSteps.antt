@@ -3,9 +3,9 @@
 -- and neither does a function of the host that runs alone.
 use Rattle.std.specs.Prelude.{ℕ, Bool, true, false, List}
 use Rattle.std.specs.List.{slice_get}
-use Rattle.core_machine.specs.Stack.{Stack, Running}
-use Rattle.core_machine.specs.Step.{Move, Goes, Traps, next}
-use Rattle.core_machine.specs.Step as core
+use Rattle.wasm_store.specs.Stack.{Stack, Running}
+use Rattle.wasm_store.specs.Step.{Move, Goes, Traps, next}
+use Rattle.wasm_store.specs.Step as core
 use Rattle.comp_graph.specs.Graph.{Graph}
 use Rattle.script_reader.specs.Script.{Script}
 use Rattle.canonical_machine.specs.Traps.{core_name}

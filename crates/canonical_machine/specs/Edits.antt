@@ -1,10 +1,10 @@
 -- The changes of worlds (Component Model, CanonicalABI.md, "Task State" and "Subtask State"; Concurrency.md): each step makes some of
 -- these, and no other change.
 use Rattle.std.specs.Prelude.{ℕ, zero, suc, ◌+◌, List, [], ◌∷◌, ◌++◌, drop, Option, Some, None}
-use Rattle.core_machine.specs.Store.{Store, found_at}
-use Rattle.core_machine.specs.Stack.{Stack}
-use Rattle.core_machine.specs.Step.{resume}
-use Rattle.core_machine.specs.Effects as core
+use Rattle.wasm_store.specs.Store.{Store, found_at}
+use Rattle.wasm_store.specs.Stack.{Stack}
+use Rattle.wasm_store.specs.Step.{resume}
+use Rattle.wasm_store.specs.Effects as core
 use Rattle.wasm_memory.specs.Memories.{MemoryState, with_bytes}
 use Rattle.canonical_machine.specs.Control.{Control}
 use Rattle.canonical_machine.specs.World.{Callee, Subtask, Caller, Nobody, Host, Guest, Resolution, TaskState, Task, World, new_task}

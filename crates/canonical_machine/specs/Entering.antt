@@ -7,7 +7,7 @@
 -- there is no backpressure.
 use Rattle.std.specs.Prelude.{ℕ, [], ◌∷◌, Option, Some, None, Result, Ok, Err}
 use Rattle.std.specs.Option.{option_map}
-use Rattle.core_machine.specs.Store.{Store}
+use Rattle.wasm_store.specs.Store.{Store}
 use Rattle.ca_types.specs.declared.value.Value.{Value}
 use Rattle.ca_types.specs.declared.value.Value.TheViews as value
 use Rattle.value_lift.specs.declared.trap.LiftTrap.{LiftTrap}

@@ -1,6 +1,6 @@
 -- Small graphs and stores, whose runs the laws `examples` have (Component Model, CanonicalABI.md, `canon lift` and `canon lower`;
 -- Core 2.0, section 4.4).
-use Rattle.std.specs.Prelude.{◌≡◌, ◌+◌, ℕ, pos, codes, List, [], ◌∷◌, ◌++◌, map, replicate, Option, Some, None}
+use Rattle.std.specs.Prelude.{◌≡◌, ◌+◌, ℕ, pos, codes, false, List, [], ◌∷◌, ◌++◌, map, replicate, Option, Some, None}
 use Rattle.wasm_module.specs.declared.types.ValType.TheVariants.{I32}
 use Rattle.wasm_module.specs.declared.types.FuncType as core
 use Rattle.wasm_module.specs.declared.types.Limits.{Limits}
@@ -13,9 +13,9 @@ use Rattle.wasm_module.specs.declared.module.ImportDesc.TheVariants as wanted
 use Rattle.wasm_module.specs.declared.module.Func.{Func}
 use Rattle.wasm_module.specs.declared.module.ModuleTree.{ModuleTree}
 use Rattle.wasm_module.specs.Expr.{Expr, End, Plain}
-use Rattle.wasm_valid.specs.Context.{arrow}
-use Rattle.core_machine.specs.Store.{Function, Own, Store}
-use Rattle.core_machine.specs.Store as stores
+use Rattle.wasm_typing.specs.Context.{arrow}
+use Rattle.wasm_store.specs.Store.{Function, Own, Store}
+use Rattle.wasm_store.specs.Store as stores
 use Rattle.ca_types.specs.declared.types.ValType.{ValType}
 use Rattle.ca_types.specs.declared.types.ValType.TheVariants as type
 use Rattle.ca_types.specs.declared.types.ValType.TheViews as types
@@ -161,8 +161,10 @@ graph_of plan cores canons type lift = record {
   instance_count = 2;
   cores = cores;
   canons = canons;
+  resources = [];
   exports = record { name = run_name; func_type = type } ∷ [];
   lifts = lift ∷ [];
+  end_types = [];
 }
 
 -- A child, whose core instance is made first, and the root, which lowers the child's function and lifts this function of its own.
@@ -185,7 +187,7 @@ doubling = root_and_child of_two adding_child (module_of (words 2 1 ∷ words 1 
 abbrev pub with_post_return : Expr → Graph
 with_post_return body =
     root_and_child of_two adding_child (module_of (words 2 1 ∷ words 0 1 ∷ words 1 0 ∷ []) 1 ((1, gives 5) ∷ (2, body) ∷ []) None) of_none
-    (record { memory = None; realloc = None; post_return = Some (func_at 1 2) })
+    (record { memory = None; realloc = None; post_return = Some (func_at 1 2); callback = None; is_async = false })
 
 abbrev pub calling_behind : Graph
 calling_behind = with_post_return (calls_doubled (Plain Drop End))
@@ -244,7 +246,7 @@ first_memory = record { instance = 0; index = 0 }
 abbrev pub measuring : Graph
 measuring =
     graph_of [] [] (lowers 0 (lifts 0 (func_at 0 1) no_options) of_two ∷ []) of_text
-    (lifts 0 (func_at 0 1) (record { memory = Some first_memory; realloc = Some (func_at 0 2); post_return = None }))
+    (lifts 0 (func_at 0 1) (record { memory = Some first_memory; realloc = Some (func_at 0 2); post_return = None; callback = None; is_async = false }))
 
 abbrev pub own : core.FuncType → Expr → Function
 own type body = Own type 0 [] body
@@ -260,7 +262,7 @@ store_of realloc = record {
 
 -- One component instance with such a memory, a function of a place that gives the place, and a realloc that gives this one.
 abbrev pub placing : Graph
-placing = graph_of [] [] [] of_many (lifts 0 (func_at 0 0) (record { memory = Some first_memory; realloc = Some (func_at 0 1); post_return = None }))
+placing = graph_of [] [] [] of_many (lifts 0 (func_at 0 0) (record { memory = Some first_memory; realloc = Some (func_at 0 1); post_return = None; callback = None; is_async = false }))
 
 abbrev pub placing_store : ℕ → Store
 placing_store place = record {
@@ -278,9 +280,9 @@ pairing =
     graph_of [] []
     (canon_func.Lower (record {
       instance = 0;
-      lift = lifts 1 (func_at 0 0) (record { memory = Some first_memory; realloc = None; post_return = None });
+      lift = lifts 1 (func_at 0 0) (record { memory = Some first_memory; realloc = None; post_return = None; callback = None; is_async = false });
       func_type = to_pair;
-      options = record { memory = Some (record { instance = 1; index = 0 }); realloc = None; post_return = None };
+      options = record { memory = Some (record { instance = 1; index = 0 }); realloc = None; post_return = None; callback = None; is_async = false };
     }) ∷ [])
     to_nothing (lifts 0 (func_at 1 1) no_options)
 
@@ -321,10 +323,10 @@ abbrev pub call_of : List Value → Item
 call_of values = item.Call (record { name = run_name; values = values })
 
 abbrev pub script_of : ℕ → List Value → Script
-script_of fuel values = record { fuel = fuel; items = call_of values ∷ [] }
+script_of fuel values = record { fuel = fuel; items = call_of values ∷ []; picks = [] }
 
 abbrev pub twice : ℕ → Script
-twice fuel = record { fuel = fuel; items = call_of [] ∷ call_of [] ∷ [] }
+twice fuel = record { fuel = fuel; items = call_of [] ∷ call_of [] ∷ []; picks = [] }
 
 -- what such a script comes to on a graph
 abbrev pub RunOf : Graph → ℕ → List Value → List Label → RunEnd → ℕ → Type 0
@@ -408,7 +410,7 @@ sharing instance =
     (makes 1 allocating [] ∷ makes 0 allocating []
     ∷ (record { of_module = importing; imports = extern.Memory (record { instance = 1; index = 0 }) ∷ []; owner = 0 }) ∷ [])
     [] of_text
-    (lifts 0 (func_at 2 0) (record { memory = Some (record { instance = 1; index = 0 }); realloc = Some (func_at instance 0); post_return = None }))
+    (lifts 0 (func_at 2 0) (record { memory = Some (record { instance = 1; index = 0 }); realloc = Some (func_at instance 0); post_return = None; callback = None; is_async = false }))
 
 -- Graphs in which what a core instance imports, the core function of a lift, and what the options of a lift or a lower give, were made by its
 -- own component instance, and whose plan makes each core instance in order.
@@ -434,7 +436,7 @@ HasOtherRealloc = IsApart (sharing 0) → ⊥
 -- in this one with the memory of its child,
 abbrev pub with_other_memory : Graph
 with_other_memory = record (sharing 1) {
-  lifts = lifts 0 (func_at 2 0) (record { memory = Some first_memory; realloc = Some (func_at 1 0); post_return = None }) ∷ [];
+  lifts = lifts 0 (func_at 2 0) (record { memory = Some first_memory; realloc = Some (func_at 1 0); post_return = None; callback = None; is_async = false }) ∷ [];
 }
 
 abbrev pub HasOtherMemory : Type 0
@@ -453,12 +455,12 @@ AreSound = IsSound doubling (script_of 7 (value.U32 4 ∷ [])) × IsSound (shari
 
 -- A script names no export of the graph.
 abbrev pub NamesNothing : Type 0
-NamesNothing = IsSound doubling (record { fuel = 7; items = item.Call (record { name = codes "go"; values = value.U32 4 ∷ [] }) ∷ [] }) → ⊥
+NamesNothing = IsSound doubling (record { fuel = 7; items = item.Call (record { name = codes "go"; values = value.U32 4 ∷ [] }) ∷ []; picks = [] }) → ⊥
 
 -- A graph lifts a function of a text without a realloc.
 abbrev pub without_realloc : Graph
 without_realloc = record (sharing 1) {
-  lifts = lifts 0 (func_at 2 0) (record { memory = Some (record { instance = 1; index = 0 }); realloc = None; post_return = None }) ∷ [];
+  lifts = lifts 0 (func_at 2 0) (record { memory = Some (record { instance = 1; index = 0 }); realloc = None; post_return = None; callback = None; is_async = false }) ∷ [];
 }
 
 abbrev pub HasNoRealloc : Type 0

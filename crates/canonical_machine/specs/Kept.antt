@@ -9,19 +9,20 @@ use Rattle.wasm_module.specs.declared.types.Limits.{Limits}
 use Rattle.wasm_module.specs.declared.module.ModuleTree.{ModuleTree}
 use Rattle.wasm_numbers.specs.Types.{AreWords}
 use Rattle.wasm_memory.specs.Memories.{MemoryState, page_count}
-use Rattle.core_machine.specs.Store.{Function, Host as HostFunction, type_of, Table, Instance, Store, table_at, memory_at}
-use Rattle.core_machine.specs.Stack.{Stack}
-use Rattle.core_machine.specs.Step.{resume}
-use Rattle.core_machine.specs.Instantiation.{LimitsMatch}
-use Rattle.core_machine.specs.Typed.{StoreTyped, HasContext, module_context, StackTyped}
-use Rattle.core_machine.specs.Laws.{IsOwn}
+use Rattle.wasm_store.specs.Store.{Function, Host as HostFunction, type_of, Table, Instance, Store, table_at, memory_at}
+use Rattle.wasm_store.specs.Stack.{Stack}
+use Rattle.wasm_store.specs.Step.{resume}
+use Rattle.wasm_store.specs.Instantiation.{LimitsMatch}
+use Rattle.wasm_store.specs.Typed.{StoreTyped, HasContext, module_context, StackTyped}
+use Rattle.wasm_store.specs.Laws.{IsOwn}
 use Rattle.ca_types.specs.declared.value.Value.TheViews as value
 use Rattle.value_lower.specs.Plan.{Plan, Gives, Fails, Asks, Size, Put}
 use Rattle.canonical_machine.specs.Values.{IsOf}
 use Rattle.comp_graph.specs.declared.graph.CanonFunc.{CanonFunc}
 use Rattle.comp_graph.specs.CoreItems.{table_space, memory_space}
 use Rattle.comp_graph.specs.Needs.{lifted_type, realloc_type}
-use Rattle.comp_graph.specs.Graph.{CoreMake, Graph, canon_type}
+use Rattle.comp_graph.specs.Graph.{CoreMake, Graph}
+use Rattle.canonical_machine.specs.Synchronous.{canon_type}
 use Rattle.canonical_machine.specs.Control.{Control, Free, Instantiates, Runs, Calls, Arrives, Lowers, Quiet, Back, Leaves, Doomed, Then, Starts, Resolves, Lowering, HostedState, Going, AtCall, Nested, Behind, InLowering, BeforeLeaving}
 use Rattle.canonical_machine.specs.World.{Callee, Init, Func, Caller, Nobody, Host, Guest, Unresolved, TaskState, AfterCall, Begins, Task, World}
 use Rattle.canonical_machine.specs.Passing.{params_type}

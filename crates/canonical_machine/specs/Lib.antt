@@ -12,6 +12,7 @@ pub mod Reading
 pub mod Turn
 pub mod Traps
 pub mod Passing
+pub mod Synchronous
 pub mod Plain
 pub mod Instantiating
 pub mod Returning

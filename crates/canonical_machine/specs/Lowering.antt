@@ -1,8 +1,8 @@
 -- How a lowering goes on (Component Model, CanonicalABI.md, "Storing" and "Flat Lowering"): its plan is followed up to the next
 -- realloc, which runs on a stack of its own, or to its end. Up to there all is one step, which costs nothing and has no line.
 use Rattle.std.specs.Prelude.{ℕ, List}
-use Rattle.core_machine.specs.Store.{Function, found_at}
-use Rattle.core_machine.specs.Step.{start}
+use Rattle.wasm_store.specs.Store.{Function, found_at}
+use Rattle.wasm_store.specs.Step.{start}
 use Rattle.value_lower.specs.Plan.{Ask, Plan}
 use Rattle.canonical_machine.specs.Traps.{lower_name}
 use Rattle.canonical_machine.specs.Control.{Then, Starts, Resolves, Lowering, Going, Nested, InLowering, Runs, Quiet}

@@ -3,11 +3,11 @@
 -- call of a function that this instance made is written and then is a trap.
 use Rattle.std.specs.Prelude.{ℕ, nat_eq, Bool, true, if◌then◌else◌, List, [], ◌∷◌}
 use Rattle.std.specs.List.{slice_get}
-use Rattle.core_machine.specs.declared.trap.Trap.{Trap}
-use Rattle.core_machine.specs.Store.{Store}
-use Rattle.core_machine.specs.Stack.{Stack}
-use Rattle.core_machine.specs.Step.{Move, Goes, Traps, next}
-use Rattle.core_machine.specs.Step as core
+use Rattle.wasm_store.specs.declared.trap.Trap.{Trap}
+use Rattle.wasm_store.specs.Store.{Store}
+use Rattle.wasm_store.specs.Stack.{Stack}
+use Rattle.wasm_store.specs.Step.{Move, Goes, Traps, next}
+use Rattle.wasm_store.specs.Step as core
 use Rattle.comp_graph.specs.declared.graph.CanonFunc.{CanonFunc}
 use Rattle.comp_graph.specs.Graph.{Graph}
 use Rattle.script_reader.specs.Script.{Script}

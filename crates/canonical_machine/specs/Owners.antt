@@ -4,8 +4,8 @@
 use Rattle.std.specs.Prelude.{◌≡◌, ◌≢◌, ◌⊎◌, ℕ, List, length, Option, Some, None}
 use Rattle.std.specs.List.{slice_get, AllByRecursion}
 use Rattle.std.specs.Option.{option_map, IfSome}
-use Rattle.core_machine.specs.Store.{Function, Own, Host as HostFunction, Table, Instance, Store}
-use Rattle.core_machine.specs.Stack.{Stack, Running, AtHost, Given}
+use Rattle.wasm_store.specs.Store.{Function, Own, Host as HostFunction, Table, Instance, Store}
+use Rattle.wasm_store.specs.Stack.{Stack, Running, AtHost, Given}
 use Rattle.comp_graph.specs.declared.graph.FuncRef.{FuncRef}
 use Rattle.comp_graph.specs.declared.graph.FuncRef.TheVariants as func_ref
 use Rattle.comp_graph.specs.declared.graph.CoreExtern.{CoreExtern}
@@ -55,6 +55,7 @@ IsLiftApart g lift = (owner_of_func g lift.core ≡ Some lift.instance) × AreOp
 
 abbrev pub IsCanonApart : Graph → CanonFunc → Type 0
 IsCanonApart g (canon_func.Lower l) = AreOptionsOf g l.instance l.options × IsLiftApart g l.lift
+IsCanonApart g (canon_func.Builtin b) = Unit {0}
 
 -- What a core instance imports, the core function of a lift, and what the options of a lift or a lower give, were made by its own component
 -- instance.

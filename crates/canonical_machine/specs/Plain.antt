@@ -8,7 +8,8 @@ use Rattle.ca_types.specs.declared.exports.Export.{Export}
 use Rattle.ca_types.specs.Ends.{has_end}
 use Rattle.laid_types.specs.Handles.{has_handle}
 use Rattle.comp_graph.specs.declared.graph.CanonFunc.{CanonFunc}
-use Rattle.comp_graph.specs.Graph.{Graph, called_type}
+use Rattle.comp_graph.specs.Graph.{Graph}
+use Rattle.canonical_machine.specs.Synchronous.{called_type}
 use Rattle.canonical_machine.specs.Passing.{params_type}
 
 pub record HoldsNone (type : ValType) : Type 0 where

@@ -3,8 +3,8 @@
 use Rattle.std.specs.Prelude.{ℕ, zero, suc, ◌+◌, Bool, true, false, ◌||◌, nat_eq, if◌then◌else◌, List, [], ◌∷◌, length, drop, Option, Some, None}
 use Rattle.std.specs.List.{slice_get}
 use Rattle.std.specs.Option.{option_and_then, option_map}
-use Rattle.core_machine.specs.Store.{Store, Instance, found_at}
-use Rattle.core_machine.specs.Instantiation.{External, FuncAddress, TableAddress, MemoryAddress, GlobalAddress}
+use Rattle.wasm_store.specs.Store.{Store, Instance, found_at}
+use Rattle.wasm_store.specs.Instantiation.{External, FuncAddress, TableAddress, MemoryAddress, GlobalAddress}
 use Rattle.wasm_memory.specs.Memories.{MemoryState}
 use Rattle.comp_graph.specs.declared.graph.CoreRef.{CoreRef}
 use Rattle.comp_graph.specs.declared.graph.FuncRef.{FuncRef}
@@ -55,17 +55,19 @@ bytes_of_memory (Some m) = m.1.bytes
 abbrev pub bytes_of : Store → Option ℕ → List ℕ
 bytes_of s memory = bytes_of_memory (found_at s.memories memory)
 
--- The core functions that the Canonical ABI makes: the name of one, the component instance that made it, and the function that it
--- calls.
+-- The core functions that the Canonical ABI makes, none of which is a built-in: the name of one, the component instance that made it,
+-- and the function that it calls.
 abbrev pub builtin_of : CanonFunc → Builtin
-builtin_of (canon_func.Lower l) = builtin.Lower
+builtin_of canon = builtin.Lower
 
 abbrev pub inst_of_canon : CanonFunc → ℕ
 inst_of_canon (canon_func.Lower l) = l.instance
+inst_of_canon (canon_func.Builtin b) = b.instance
 
 -- the call of a function that is lowered, where it is one; and that of this number
 abbrev pub lower_of : CanonFunc → Option Lower
 lower_of (canon_func.Lower l) = Some l
+lower_of (canon_func.Builtin b) = None
 
 abbrev pub lower_at : Graph → ℕ → Option Lower
 lower_at g number = option_and_then lower_of (slice_get g.canons number)

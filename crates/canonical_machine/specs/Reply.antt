@@ -9,12 +9,13 @@ use Rattle.trace_show.specs.declared.label.Label.TheVariants as line
 use Rattle.trace_show.specs.declared.trap.TrapName.TheVariants as trap
 use Rattle.canonical_machine.specs.World.{World}
 use Rattle.canonical_machine.specs.Reading.{builtin_of, lifted_of, acting, may_leave}
-use Rattle.canonical_machine.specs.Turn.{Turn, doomed, behind, given}
+use Rattle.canonical_machine.specs.Turn.{Turn, Stuck, doomed, behind, given}
 use Rattle.canonical_machine.specs.Calling.{call_begun}
 
--- by which function it is
+-- By which function it is. There is no rule for a built-in.
 unfoldable pub reply : ℕ → ℕ → CanonFunc → List ℕ → World → Turn
 reply t number (canon_func.Lower l) words w = call_begun t number (lifted_of l) words w
+reply t number (canon_func.Builtin b) words w = Stuck
 
 unfoldable pub allowed : ℕ → ℕ → CanonFunc → List ℕ → World → Turn
 allowed t number canon words w = if may_leave w then reply t number canon words w else doomed t trap.CannotLeave w

@@ -2,8 +2,8 @@
 -- lifted, the task resolves, which lowers the result into its caller at once, the post-return runs, and the task exits. No handle
 -- is passed, so no borrow handle can be live.
 use Rattle.std.specs.Prelude.{ℕ, List, [], ◌∷◌, Option, Some, None, Result, Ok, Err}
-use Rattle.core_machine.specs.Store.{Function, found_at}
-use Rattle.core_machine.specs.Step.{start}
+use Rattle.wasm_store.specs.Store.{Function, found_at}
+use Rattle.wasm_store.specs.Step.{start}
 use Rattle.ca_types.specs.declared.types.ValType.{ValType}
 use Rattle.ca_types.specs.declared.types.FuncType.{FuncType}
 use Rattle.ca_types.specs.declared.value.Value.{Value}

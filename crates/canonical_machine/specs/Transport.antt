@@ -3,9 +3,9 @@
 -- and a memory of which its arguments are lifted, and the task that called it goes on with words and a memory of which the result is lifted.
 use Rattle.std.specs.Prelude.{◌≡◌, ◌≢◌, ◌≤◌, ℕ, Bool, true, false, if◌then◌else◌, List, [], ◌∷◌, Some, Result, Ok}
 use Rattle.std.specs.List.{slice_get}
-use Rattle.core_machine.specs.Store.{Function, found_at}
-use Rattle.core_machine.specs.Stack.{Stack}
-use Rattle.core_machine.specs.Step.{start, resume}
+use Rattle.wasm_store.specs.Store.{Function, found_at}
+use Rattle.wasm_store.specs.Stack.{Stack}
+use Rattle.wasm_store.specs.Step.{start, resume}
 use Rattle.ca_types.specs.declared.types.ValType.{ValType}
 use Rattle.ca_types.specs.declared.types.FuncType.{FuncType}
 use Rattle.ca_types.specs.declared.value.Value.{Value}

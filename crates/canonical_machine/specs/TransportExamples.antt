@@ -1,6 +1,6 @@
 -- What a call passes arrives, on four of the graphs of `Examples`: a number as an argument and as a result, a text as an argument, over the
 -- place that a realloc gives for it, and a pair as a result in memory.
-use Rattle.std.specs.Prelude.{◌≡◌, ℕ, length, List, [], ◌∷◌, replicate, Some, None, Ok}
+use Rattle.std.specs.Prelude.{◌≡◌, ℕ, false, length, List, [], ◌∷◌, replicate, Some, None, Ok}
 use Rattle.ca_types.specs.declared.types.ValType.TheVariants as type
 use Rattle.ca_types.specs.declared.value.Value.TheVariants as value
 use Rattle.ca_types.specs.declared.value.Value.TheViews as values
@@ -9,7 +9,7 @@ use Rattle.canonical_machine.specs.ApartPlaces.{Apart}
 use Rattle.comp_graph.specs.declared.graph.Lower.{Lower}
 use Rattle.comp_graph.specs.Graph.{Lifted, no_options}
 use Rattle.wasm_module.specs.Expr.{End}
-use Rattle.core_machine.specs.Stack.{Frame, Running}
+use Rattle.wasm_store.specs.Stack.{Frame, Running}
 use Rattle.script_reader.specs.Script.{Script}
 use Rattle.trace_show.specs.declared.label.Label.{Label}
 use Rattle.trace_show.specs.declared.label.Label.TheVariants as line
@@ -67,7 +67,7 @@ abbrev pub measures : Lifted
 measures = record {
   instance = 0;
   core = func_at 0 1;
-  options = record { memory = Some first_memory; realloc = Some (func_at 0 2); post_return = None };
+  options = record { memory = Some first_memory; realloc = Some (func_at 0 2); post_return = None; callback = None; is_async = false };
   func_type = of_text;
 }
 
@@ -95,7 +95,7 @@ abbrev pub shares : Lifted
 shares = record {
   instance = 0;
   core = func_at 2 0;
-  options = record { memory = Some (record { instance = 1; index = 0 }); realloc = Some (func_at 1 0); post_return = None };
+  options = record { memory = Some (record { instance = 1; index = 0 }); realloc = Some (func_at 1 0); post_return = None; callback = None; is_async = false };
   func_type = of_text;
 }
 
@@ -125,9 +125,9 @@ five_six = record { value = values.Record (value.U32 5 ∷ value.U32 6 ∷ []); 
 abbrev pub pair_lower : Lower
 pair_lower = record {
   instance = 0;
-  lift = record { instance = 1; core = func_at 0 0; options = record { memory = Some first_memory; realloc = None; post_return = None } };
+  lift = record { instance = 1; core = func_at 0 0; options = record { memory = Some first_memory; realloc = None; post_return = None; callback = None; is_async = false } };
   func_type = to_pair;
-  options = record { memory = Some (record { instance = 1; index = 0 }); realloc = None; post_return = None };
+  options = record { memory = Some (record { instance = 1; index = 0 }); realloc = None; post_return = None; callback = None; is_async = false };
 }
 
 -- A core function whose body has ended, with these values, and one that is in its body still.

@@ -1,7 +1,7 @@
 -- The names of traps (Core 2.0, section 4.4; Component Model, CanonicalABI.md, "Loading" and "Storing"): of core functions, of values
 -- that are not lifted, and of values that are not lowered.
-use Rattle.core_machine.specs.declared.trap.Trap.{Trap}
-use Rattle.core_machine.specs.declared.trap.Trap.TheVariants as core_trap
+use Rattle.wasm_store.specs.declared.trap.Trap.{Trap}
+use Rattle.wasm_store.specs.declared.trap.Trap.TheVariants as core_trap
 use Rattle.value_lift.specs.declared.trap.LiftWhy.{LiftWhy}
 use Rattle.value_lift.specs.declared.trap.LiftWhy.TheVariants as lift_why
 use Rattle.value_lower.specs.declared.ends.LowerWhy.{LowerWhy}

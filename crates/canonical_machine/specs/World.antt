@@ -3,12 +3,13 @@
 -- instances from 0 on, though lines count those from 1. Every value may be passed but handles and the ends of streams and futures,
 -- and every lift and lower is without `async`; so nothing is kept of tables, of waiting and of what only they need.
 use Rattle.std.specs.Prelude.{ℕ, List, [], ◌∷◌, map}
-use Rattle.core_machine.specs.Store as stores
-use Rattle.core_machine.specs.Store.{Store}
-use Rattle.core_machine.specs.Stack.{Stack}
-use Rattle.core_machine.specs.Instantiation.{empty}
+use Rattle.wasm_store.specs.Store as stores
+use Rattle.wasm_store.specs.Store.{Store}
+use Rattle.wasm_store.specs.Stack.{Stack}
+use Rattle.wasm_store.specs.Instantiation.{empty}
 use Rattle.ca_types.specs.declared.value.Value.{Value}
-use Rattle.comp_graph.specs.Graph.{Graph, Lifted, canon_type}
+use Rattle.comp_graph.specs.Graph.{Graph, Lifted}
+use Rattle.canonical_machine.specs.Synchronous.{canon_type}
 use Rattle.canonical_machine.specs.Control.{Control, Instantiates}
 
 -- what a task does: it instantiates, or runs a function

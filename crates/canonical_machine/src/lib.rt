@@ -3,9 +3,10 @@
 //!
 //! Values of every type are passed but handles and the ends of streams and futures. `specs/World` says what a world is, and
 //! `specs/Control` what it may do next; `specs/Next` gives the one next step or the end, by cases on that; `specs/Edits` has every
-//! change that a step makes of a world, and `specs/Reading` what it looks up. `specs/Run` says what a run is, with its lines and its
-//! end, and `specs/Dump` what it leaves. Values are lifted and lowered as `value_lift` and `value_lower` say; a lowering is followed
-//! step by step, so that each instruction of a realloc is a step of the run.
+//! change that a step makes of a world, and `specs/Reading` what it looks up. A graph is one of synchronous functions: which types its
+//! core functions have is said by `specs/Synchronous`. `specs/Run` says what a run is, with its lines and its end, and `specs/Dump` what
+//! it leaves. Values are lifted and lowered as `value_lift` and `value_lower` say; a lowering is followed step by step, so that each
+//! instruction of a realloc is a step of the run.
 //!
 //! The laws say that a graph and a script have at most one run, what a step of a realloc or a post-return leaves alone and what comes
 //! behind it, what ends mean, and that a trap names the acting task. `specs/Tasks` says how tasks call and wait for one another, and

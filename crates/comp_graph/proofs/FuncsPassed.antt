@@ -1,5 +1,5 @@
 -- What functions pass, by numbers.
-use Rattle.std.proofs.Common.{◌≡◌, ◌<◌, ◌∙◌, ℕ, zero, suc, List, [], ◌∷◌, length, map, get_or, refl, ap, sym, subst, arith, Option, Some, None}
+use Rattle.std.proofs.Common.{◌≡◌, ◌<◌, ◌∙◌, ℕ, zero, suc, List, [], ◌∷◌, length, map, get_or, refl, ap, sym, subst, arith, Option, Some, None, true}
 use Rattle.std.specs.List.{slice_get, AllZip}
 use Rattle.std.specs.Option.{option_map, option_and_then}
 use Rattle.std.proofs.lemmas.Option.{slice_get_within, slice_get-map, slice_get_read}
@@ -9,9 +9,14 @@ use Rattle.ca_types.specs.declared.types.ValType.{ValType}
 use Rattle.ca_types.specs.declared.types.FuncType.{FuncType}
 use Rattle.comp_graph.specs.declared.func_types.NumberedFunc.{NumberedFunc}
 use Rattle.comp_graph.specs.declared.func_types.PassedTypes.{PassedTypes}
-use Rattle.comp_graph.specs.Passed.{params_type, MayBeValue, IsNumbered, ArePassed, HaveNumbers}
+use Rattle.comp_graph.specs.declared.graph.Builtin.{Builtin}
+use Rattle.comp_graph.specs.declared.graph.CanonFunc.{CanonFunc}
+use Rattle.comp_graph.specs.declared.graph.CanonFunc.TheVariants as canon_func
+use Rattle.comp_graph.specs.declared.graph.Lower.{Lower}
+use Rattle.comp_graph.specs.Graph.{is_lower, passed_value}
+use Rattle.comp_graph.specs.Passed.{TypeTable, params_type, MayBeAt, IsNumbered, ArePassed, HaveNumbers, HasCanonType, AreCanonTypes}
 
-may_be_read : (values : List ValType) (number : Option ℕ) (type : Option ValType) → MayBeValue values number type → option_and_then (λ n. slice_get values n) number ≡ type
+pub may_be_read : {A : Type 0} (values : List A) (number : Option ℕ) (type : Option A) → MayBeAt values number type → option_and_then (λ n. slice_get values n) number ≡ type
 may_be_read values None None h = refl
 may_be_read values (Some number) (Some type) h = h
 may_be_read values None (Some type) h = absurd h
@@ -55,7 +60,50 @@ func_read funcs types number f view within is =
 pub passed_of : (types : List FuncType) (number : ℕ) (made : FuncType) (passed : PassedTypes) → slice_get types number ≡ Some made → ArePassed passed made → (f : FuncType) → slice_get types number ≡ Some f → ArePassed passed f
 passed_of types number made passed there h f is = subst (λ (f : FuncType). ArePassed passed f) (let both : Some made ≡ Some f = sym there ∙ is in cc) h
 
-pub number_within : {A : Type 0} (types : List FuncType) (of : A → FuncType) (numbers : List ℕ) (xs : List A) → AllZip (λ (n : ℕ) (x : A). slice_get types n ≡ Some (of x)) numbers xs → (at : ℕ) → at < length xs → at < length numbers
-number_within {A} types of numbers xs h at within =
-    let long : length xs ≡ length numbers = AllZip-long (λ (n : ℕ) (x : A). slice_get types n ≡ Some (of x)) numbers xs h in
+pub number_within : {A B : Type 0} (R : A → B → Type 0) (numbers : List A) (xs : List B) → AllZip R numbers xs → (at : ℕ) → at < length xs → at < length numbers
+number_within R numbers xs h at within =
+    let long : length xs ≡ length numbers = AllZip-long R numbers xs h in
     omega (arith, long, within)
+
+-- The number of a lower is that of the type of the function which it calls.
+pub record Lowers (types : TypeTable) (numbers : List (Option ℕ)) (canons : List CanonFunc) (at : ℕ) : Type 0 where
+  pub number : ℕ
+  pub lower : Lower
+  pub numbered : slice_get numbers at ≡ Some (Some number)
+  pub there : slice_get canons at ≡ Some (canon_func.Lower lower)
+  pub typed : slice_get types.funcs number ≡ Some lower.func_type
+
+lowers_behind : (types : TypeTable) (number : Option ℕ) (numbers : List (Option ℕ)) (canon : CanonFunc) (canons : List CanonFunc) (at : ℕ) → Lowers types numbers canons at → Lowers types (number ∷ numbers) (canon ∷ canons) (suc at)
+lowers_behind types number numbers canon canons at h = record { number = h.number; lower = h.lower; numbered = h.numbered; there = h.there; typed = h.typed }
+
+pub lowers_at : (types : TypeTable) (numbers : List (Option ℕ)) (canons : List CanonFunc) (at : ℕ) → AreCanonTypes types numbers canons → is_lower (slice_get canons at) ≡ true → Lowers types numbers canons at
+lowers_at types [] [] at h is = cc
+lowers_at types [] (c ∷ canons) at h is = absurd h
+lowers_at types (n ∷ numbers) [] at h is = absurd h
+lowers_at types (Some n ∷ numbers) (canon_func.Lower l ∷ canons) zero h is = record { number = n; lower = l; numbered = refl; there = refl; typed = h.0 }
+lowers_at types (None ∷ numbers) (canon_func.Lower l ∷ canons) zero h is = absurd h.0
+lowers_at types (n ∷ numbers) (canon_func.Builtin b ∷ canons) zero h is = cc
+lowers_at types (n ∷ numbers) (c ∷ canons) (suc at) h is = lowers_behind types n numbers c canons at (lowers_at types numbers canons at h.1 is)
+
+pub lower_number : (types : TypeTable) (numbers seen : List (Option ℕ)) (canons : List CanonFunc) (at : ℕ) (found : Option ℕ) (h : Lowers types numbers canons at) → seen ≡ numbers → slice_get seen at ≡ Some found → found ≡ Some h.number
+lower_number types numbers seen canons at found h same is =
+    let both : ◌≡◌ {A = Option (Option ℕ)} (Some found) (Some (Some h.number)) = sym is ∙ ap (λ (ns : List (Option ℕ)). slice_get ns at) same ∙ h.numbered in
+    cc
+
+pub lower_passed : (types : TypeTable) (numbers : List (Option ℕ)) (canons : List CanonFunc) (at func : ℕ) (passed : PassedTypes) (h : Lowers types numbers canons at) → func ≡ h.number
+    → ((f : FuncType) → slice_get types.funcs func ≡ Some f → ArePassed passed f) → (l : Lower) → slice_get canons at ≡ Some (canon_func.Lower l) → ArePassed passed l.func_type
+lower_passed types numbers canons at func passed h same told l is =
+    let both : ◌≡◌ {A = Option CanonFunc} (Some (canon_func.Lower h.lower)) (Some (canon_func.Lower l)) = sym h.there ∙ is in
+    let one : h.lower ≡ l = cc in
+    told l.func_type (ap (slice_get types.funcs) same ∙ h.typed ∙ ap (λ (l : Lower). Some l.func_type) one)
+
+-- The number of a built-in is that of the type of its result or of its elements, where it has one.
+pub built_at : (types : TypeTable) (numbers : List (Option ℕ)) (canons : List CanonFunc) (at : ℕ) (number : Option ℕ) (b : Builtin) → AreCanonTypes types numbers canons
+    → slice_get numbers at ≡ Some number → slice_get canons at ≡ Some (canon_func.Builtin b) → MayBeAt types.values number (passed_value b.kind)
+built_at types [] [] at number b h is there = cc
+built_at types [] (c ∷ canons) at number b h is there = absurd h
+built_at types (n ∷ numbers) [] at number b h is there = absurd h
+built_at types (n ∷ numbers) (c ∷ canons) zero number b h is there =
+    subst (λ (number : Option ℕ). HasCanonType types number (canon_func.Builtin b)) (let same : n ≡ number = cc in same)
+    (subst (λ (c : CanonFunc). HasCanonType types n c) (let same : c ≡ canon_func.Builtin b = cc in same) h.0)
+built_at types (n ∷ numbers) (c ∷ canons) (suc at) number b h is there = built_at types numbers canons at number b h.1 is there

@@ -3,3 +3,4 @@ pub mod CoreItems
 pub mod Graph
 pub mod Needs
 pub mod Passed
+pub mod Running

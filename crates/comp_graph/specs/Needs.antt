@@ -1,13 +1,16 @@
 -- What a lift and a lower need of core definitions (Component Model, CanonicalABI.md, "Flattening", `canon lift` and `canon
 -- lower`): the types of core functions, and when a memory is used and a function that gives places in it.
-use Rattle.std.specs.Prelude.{ℕ, Bool, ◌||◌, nat_lt, [], ◌∷◌, length, map}
+use Rattle.std.specs.Prelude.{ℕ, Bool, ◌||◌, nat_lt, if◌then◌else◌, List, [], ◌∷◌, length, map, replicate, Option, is_some}
 use Rattle.ca_types.specs.declared.core_type.CoreType.{CoreType}
 use Rattle.ca_types.specs.declared.core_type.CoreType.TheVariants as flat_type
 use Rattle.ca_types.specs.declared.core_type.CoreFunc.{CoreFunc}
-use Rattle.ca_types.specs.declared.core_type.FlatKind.TheVariants.{SyncLift, SyncLower}
+use Rattle.ca_types.specs.declared.core_type.FlatKind.{FlatKind}
+use Rattle.ca_types.specs.declared.core_type.FlatKind.TheVariants.{SyncLift, AsyncLift, CallbackLift, SyncLower, AsyncLower}
 use Rattle.ca_types.specs.declared.types.FuncType.{FuncType}
+use Rattle.ca_types.specs.declared.types.ValType as value
 use Rattle.ca_types.specs.Ends.{some_true}
-use Rattle.ca_types.specs.Flat.{flat_params, flat_payload, flat_func}
+use Rattle.ca_types.specs.Flat.{flat_params, flat_payload, flat_func, at_most}
+use Rattle.comp_graph.specs.declared.graph.Options.{Options}
 use Rattle.laid_types.specs.Lists.{has_list, held_list}
 use Rattle.wasm_module.specs.declared.types.ValType.{ValType}
 use Rattle.wasm_module.specs.declared.types.ValType.TheVariants.{I32, I64}
@@ -21,11 +24,46 @@ core_val flat_type.I64 = I64
 abbrev pub core_func : CoreFunc → core.FuncType
 core_func f = record { params = map core_val f.params; results = map core_val f.results }
 
--- the type of the core function that is lifted to a function of a type
+-- how a function is lifted, by its options: without `async`; with it and a callback; with it alone
+abbrev pub lift_kind : Options → FlatKind
+lift_kind options = if options.is_async then (if is_some options.callback then CallbackLift else AsyncLift) else SyncLift
+
+-- the type of the core function that is lifted with these options to a function of a type
+abbrev pub lift_type : Options → FuncType → core.FuncType
+lift_type options f = core_func (flat_func (lift_kind options) f)
+
+-- how a function is lowered, with `async` or without
+abbrev pub lower_kind : Bool → FlatKind
+lower_kind is_async = if is_async then AsyncLower else SyncLower
+
+-- the type of the core function to which a function of a type is lowered
+abbrev pub lower_type : Bool → FuncType → core.FuncType
+lower_type is_async f = core_func (flat_func (lower_kind is_async) f)
+
+-- Types of core functions that take so many i32; `word` is an i32 that is given back.
+abbrev pub taking : ℕ → List ValType → core.FuncType
+taking count results = record { params = replicate count I32; results = results }
+
+abbrev pub word : List ValType
+word = I32 ∷ []
+
+-- the type of a callback: of a code, an index and a payload, to the next code
+abbrev pub callback_type : core.FuncType
+callback_type = taking 3 word
+
+-- the type of a destructor: of the representation
+abbrev pub destructor_type : core.FuncType
+destructor_type = taking 1 []
+
+-- the type of a function that takes a result: in core values, or as one place where they are more than 16
+abbrev pub task_return_type : Option value.ValType → core.FuncType
+task_return_type result = record { params = map core_val (at_most 16 (flat_payload result)); results = [] }
+
+-- the type of the core function that is lifted without `async` to a function of a type
 abbrev pub lifted_type : FuncType → core.FuncType
 lifted_type f = core_func (flat_func SyncLift f)
 
--- the type of the core function to which a function of a type is lowered
+-- the type of the core function to which a function of a type is lowered without `async`
 abbrev pub lowered_type : FuncType → core.FuncType
 lowered_type f = core_func (flat_func SyncLower f)
 
@@ -48,7 +86,7 @@ flat_result_limit = 1
 abbrev pub hold_list : FuncType → Bool
 hold_list f = some_true (map (λ p. has_list p.val_type) f.params)
 
--- Whether a lift or a lower passes something in memory: the parameters, the result, or what they hold.
+-- Whether a lift or a lower without `async` passes something in memory: the parameters, the result, or what they hold.
 abbrev pub needs_memory : FuncType → Bool
 needs_memory f =
     nat_lt flat_param_limit (length (flat_params f)) || nat_lt flat_result_limit (length (flat_payload f.result))
@@ -61,3 +99,17 @@ lift_needs_realloc f = nat_lt flat_param_limit (length (flat_params f)) || hold_
 -- Whether a lower asks for places in memory: for what the result holds. The place of the result itself is given by the caller.
 abbrev pub lower_needs_realloc : FuncType → Bool
 lower_needs_realloc f = held_list f.result
+
+-- Whether a lift passes something in memory. One with `async` passes no result.
+abbrev pub lift_needs_memory : Bool → FuncType → Bool
+lift_needs_memory is_async f = if is_async then lift_needs_realloc f else needs_memory f
+
+-- Whether a lower passes something in memory. One with `async` passes four core values of parameters, and no result as a core value.
+abbrev pub lower_needs_memory : Bool → FuncType → Bool
+lower_needs_memory is_async f =
+    nat_lt (if is_async then 4 else flat_param_limit) (length (flat_params f)) || nat_lt (if is_async then 0 else flat_result_limit) (length (flat_payload f.result))
+    || hold_list f || held_list f.result
+
+-- Whether `task.return` passes something in memory: the result, or what it holds.
+abbrev pub task_return_needs_memory : Option value.ValType → Bool
+task_return_needs_memory result = nat_lt flat_param_limit (length (flat_payload result)) || held_list result

@@ -17,9 +17,9 @@ pub struct NumberedFunc {
     /// The function type.
     pub func_type: Shared<FuncType>,
     /// The number of the type of the arguments: the tuple type of the parameters' types, in order.
-    pub params: usize,
+    pub params: u32,
     /// The number of the type of the result, if there is one.
-    pub returned: Option<usize>,
+    pub returned: Option<u32>,
 }
 
 /// The types of what a function is passed and gives (Component Model, CanonicalABI.md, "Lifting and Lowering Values"), with what is
@@ -32,8 +32,7 @@ pub struct PassedTypes<'a> {
     pub returned: Option<LaidType<'a>>,
 }
 
-/// Function types, and the table of the types of what is passed, each laid out once. Contracts see the function types; a function
-/// type's number is its place.
+/// Function types, and the table of the types of what is passed, each laid out once. Contracts see both; a type's number is its place.
 #[derive(Drop)]
 pub struct FuncTypes {
     values: LaidTypes,
@@ -41,17 +40,18 @@ pub struct FuncTypes {
 }
 
 impl Model for FuncTypes {
-    ghost use Rattle.std.specs.Prelude.{List, map};
-    ghost use Rattle.std.specs.Coded.{coded_list};
-    ghost use Rattle.ca_types.specs.declared.types.FuncType.{FuncType};
+    ghost use Rattle.std.specs.Prelude.{map};
+    ghost use Rattle.std.specs.Coded.{codes};
     ghost use Rattle.ca_types.specs.contracts.types.FuncType as func_type;
+    ghost use Rattle.ca_types.specs.contracts.types.ValType as val_type;
     ghost use Rattle.comp_graph.specs.Passed.{AreNumbered};
+    ghost use Rattle.comp_graph.specs.Passed as passed;
 
-    ghost Value = { List FuncType };
+    ghost Value = { passed.TypeTable };
 
-    ghost coded = { coded_list func_type.the_row.coded };
+    ghost coded = { Prim.hlevel (codes, func_type.the_row.coded, val_type.the_row.coded) };
 
-    ghost view = { λ t. map (λ f. f.func_type) t.funcs.items };
+    ghost view = { λ t. record { funcs = map (λ f. f.func_type) t.funcs.items; values = t.values } };
 
     ghost invariant = { λ t. AreNumbered t.values t.funcs.items };
 }
@@ -60,24 +60,31 @@ impl FuncTypes {
     /// These function types, each with its numbers in the table of types of values.
     pub fn new(values: LaidTypes, funcs: Vec<NumberedFunc>) -> FuncTypes
         requires { AreNumbered values funcs.items }
-        ensures { result ≡ map (λ f. f.func_type) funcs.items }
+        ensures { result ≡ record { funcs = map (λ f. f.func_type) funcs.items; values = values } }
     {
         FuncTypes { values, funcs }
     }
 
     /// How many function types there are.
     pub fn len(&self) -> usize
-        ensures { result ≡ length self.now }
+        ensures { result ≡ length self.now.funcs }
     {
         self.funcs.len()
     }
 
     /// The types of what functions of the type of this number pass.
     pub fn passed(&self, number: usize) -> PassedTypes<'_>
-        requires { number < length self.now }
-        ensures { (f : FuncType) → slice_get self.now number ≡ Some f → ArePassed result f }
+        requires { number < length self.now.funcs }
+        ensures { (f : FuncType) → slice_get self.now.funcs number ≡ Some f → ArePassed result f }
     {
         passed_types(&self.values, &self.funcs[number])
+    }
+
+    /// The type of values of this number, if there is one.
+    pub fn value(&self, number: Option<u32>) -> Option<LaidType<'_>>
+        ensures { result ≡ option_and_then (λ n. slice_get self.now.values n) number }
+    {
+        value_of(&self.values, number)
     }
 }
 
@@ -93,42 +100,54 @@ fn passed_types<'a>(values: &'a LaidTypes, func: &NumberedFunc) -> PassedTypes<'
 }
 
 /// The type of a number that is there.
-fn value_at(values: &LaidTypes, number: usize) -> LaidType<'_>
+fn value_at(values: &LaidTypes, number: u32) -> LaidType<'_>
     requires { number < length values.now }
     ensures { slice_get values.now number ≡ Some result }
 {
-    match values.get(number) {
+    match values.get(number as usize) {
         Some(val_type) => val_type,
         None => unreachable!(),
     }
 }
 
 /// The type of a number, if there is one.
-fn value_of(values: &LaidTypes, number: Option<usize>) -> Option<LaidType<'_>>
+fn value_of(values: &LaidTypes, number: Option<u32>) -> Option<LaidType<'_>>
     ensures { result ≡ option_and_then (λ n. slice_get values.now n) number }
 {
     match number {
-        Some(number) => values.get(number),
+        Some(number) => values.get(number as usize),
         None => None,
     }
 }
 
 /// The types of what the function passes whose type has the number at this place.
-pub(crate) fn passed_at<'a>(types: &'a FuncTypes, numbers: &[usize], at: usize) -> PassedTypes<'a>
+pub(crate) fn passed_at<'a>(types: &'a FuncTypes, numbers: &[u32], at: usize) -> PassedTypes<'a>
     requires there { at < length numbers.now }
-    requires are { HaveNumbers types.now numbers.now }
-    ensures { (n : ℕ) (f : FuncType) → slice_get numbers.now at ≡ Some n → slice_get types.now n ≡ Some f → ArePassed result f }
+    requires are { HaveNumbers types.now.funcs numbers.now }
+    ensures { (n : ℕ) (f : FuncType) → slice_get numbers.now at ≡ Some n → slice_get types.now.funcs n ≡ Some f → ArePassed result f }
 {
-    types.passed(numbers[at])
+    types.passed(numbers[at] as usize)
 }
 
-/// The types of the functions of a graph: function types, and which of them each function has.
+/// The number at a place that is there.
+pub(crate) fn number_at(numbers: &[Option<u32>], at: usize) -> Option<u32>
+    requires { at < length numbers.now }
+    ensures { slice_get numbers.now at ≡ Some result }
+{
+    numbers[at]
+}
+
+/// The types of what functions and built-ins of a graph pass: a table of types, and which of them each one has.
 #[derive(Drop)]
 pub struct GraphTypes {
-    /// The function types.
+    /// The table.
     pub types: FuncTypes,
-    /// The number of the type of the function that each core function calls which the Canonical ABI makes, in order of making.
-    pub canons: Seq<usize>,
+    /// Of each core function that the Canonical ABI makes, in order of making: the number of the type of the function that it calls,
+    /// among function types; of a built-in the number of the type of its result or of its elements, among types of values, if it has
+    /// one.
+    pub canons: Seq<Option<u32>>,
     /// The number of the type of each function that can be called, in order.
-    pub exports: Seq<usize>,
+    pub exports: Seq<u32>,
+    /// The numbers of the types of streams and futures, in order of linking, among types of values.
+    pub ends: Seq<u32>,
 }

@@ -4,13 +4,13 @@ use Rattle.std.specs.Prelude.{Result, Ok, Err}
 use Rattle.std.specs.List.{slice_get, list_all}
 use Rattle.ca_types.specs.declared.types.FuncType.{FuncType}
 use Rattle.comp_tree.specs.declared.items.CanonOption.{CanonOption}
-use Rattle.comp_linking.specs.declared.fault.LinkWhy.{LinkWhy}
-use Rattle.comp_linking.specs.declared.fault.LinkWhy.TheVariants as why
-use Rattle.comp_linking.specs.Definitions.{Lifted}
-use Rattle.comp_linking.specs.Spaces.{Spaces, Linking}
-use Rattle.comp_linking.specs.Canons.{Given, given_by, stand_once, is_option_there, can_be_lowered}
-use Rattle.comp_linking.specs.Items.{lower_made}
-use Rattle.comp_linking.specs.Computed.{Makes, after, only_if, lowered_from, lower_outcome}
+use Rattle.link_spec.specs.declared.fault.LinkWhy.{LinkWhy}
+use Rattle.link_spec.specs.declared.fault.LinkWhy.TheVariants as why
+use Rattle.link_spec.specs.Definitions.{Lifted}
+use Rattle.link_spec.specs.Spaces.{Spaces, Linking}
+use Rattle.link_spec.specs.Canons.{Given, given_by, stand_once, is_option_there, can_be_lowered}
+use Rattle.link_spec.specs.Items.{lower_made}
+use Rattle.link_spec.specs.Computed.{Makes, after, only_if, lowered_from, lower_outcome}
 
 -- That a function can be lowered, by its tests.
 abbrev lower_tests : Bool → Bool → Given → Result Given LinkWhy

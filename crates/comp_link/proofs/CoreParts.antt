@@ -12,17 +12,17 @@ use Rattle.comp_tree.specs.declared.items.CanonOption.{CanonOption}
 use Rattle.comp_graph.specs.declared.graph.FuncRef.{FuncRef}
 use Rattle.comp_graph.specs.CoreItems.{core_func_of}
 use Rattle.comp_graph.specs.Closed.{Closed, Value, Func, Instance}
-use Rattle.comp_linking.specs.declared.fault.LinkWhy.{LinkWhy}
-use Rattle.comp_linking.specs.declared.fault.LinkWhy.TheVariants as why
-use Rattle.comp_linking.specs.Definitions.{CoreItem, Lifted}
-use Rattle.comp_linking.specs.Spaces.{Spaces, Linking}
-use Rattle.comp_linking.specs.Canons.{Given, given_by, stand_once, is_option_there, can_be_lifted}
-use Rattle.comp_linking.specs.Items.{instance_limit, core_made, lifted_with}
-use Rattle.comp_linking.specs.Computed.{Makes, after, there_or, only_if, imports_outcome, core_instance_outcome, lifted_to, lifted_of}
-use Rattle.type_tables.specs.declared.refs.FuncTypeRef.{FuncTypeRef}
-use Rattle.type_tables.specs.declared.refs.TypeRef.{TypeRef}
-use Rattle.type_tables.specs.declared.refs.TypeRef.TheVariants as type_ref
-use Rattle.type_tables.specs.Table.{Table, IsFunc, IsType}
+use Rattle.link_spec.specs.declared.fault.LinkWhy.{LinkWhy}
+use Rattle.link_spec.specs.declared.fault.LinkWhy.TheVariants as why
+use Rattle.link_spec.specs.Definitions.{CoreItem, Lifted}
+use Rattle.link_spec.specs.Spaces.{Spaces, Linking}
+use Rattle.link_spec.specs.Canons.{Given, given_by, stand_once, is_option_there, can_be_lifted}
+use Rattle.link_spec.specs.Items.{instance_limit, core_made, lifted_with}
+use Rattle.link_spec.specs.Computed.{Makes, after, there_or, only_if, imports_outcome, core_instance_outcome, lifted_to, lifted_of}
+use Rattle.link_types.specs.declared.refs.FuncTypeRef.{FuncTypeRef}
+use Rattle.link_types.specs.declared.refs.TypeRef.{TypeRef}
+use Rattle.link_types.specs.declared.refs.TypeRef.TheVariants as type_ref
+use Rattle.link_types.specs.Table.{Table, IsFunc, IsType}
 use Rattle.comp_link.specs.Told.{IsReason}
 use Rattle.comp_link.proofs.Told.{reason_after}
 

@@ -2,40 +2,50 @@
 use Rattle.std.proofs.Common.{◌≡◌, ℕ, List, [], ◌∷◌, ◌++◌, Option, Some, None}
 use Rattle.std.specs.List.{slice_get}
 use Rattle.wasm_module.specs.declared.module.ModuleTree.{ModuleTree}
-use Rattle.ca_types.specs.declared.types.FuncType.{FuncType}
 use Rattle.comp_graph.specs.declared.graph.CanonFunc.{CanonFunc}
+use Rattle.comp_graph.specs.declared.graph.CanonFunc.TheVariants as canon_func
 use Rattle.comp_graph.specs.Closed.{Closed}
-use Rattle.comp_graph.specs.Graph.{called_type}
-use Rattle.comp_graph.specs.Passed.{AreCanonTypes}
-use Rattle.comp_linking.specs.Definitions.{Lifted, Closure, Exports}
-use Rattle.comp_linking.specs.Spaces.{Spaces}
-use Rattle.type_tables.specs.declared.refs.TypeRef.{TypeRef}
-use Rattle.type_tables.specs.declared.refs.InstanceTypeRef.{InstanceTypeRef}
-use Rattle.type_tables.specs.Table.{Table, Grows, IsType}
-use Rattle.type_tables.proofs.TypesGrow.{func_stays, type_stays}
-use Rattle.instance_tables.specs.declared.references.InstanceRef.{InstanceRef}
-use Rattle.instance_tables.specs.declared.references.LiftedRef.{LiftedRef}
-use Rattle.instance_tables.specs.declared.pairs.Pair.{Pair}
-use Rattle.instance_tables.specs.declared.instances.Instances.{Instances}
-use Rattle.instance_tables.specs.References.{World, IsInstance, IsLifted, WorldStays}
-use Rattle.instance_tables.specs.Instances.{AreInstances}
-use Rattle.instance_tables.proofs.Growing.{instance_stays, listing_stays, bases_stay, known_stays, has_types_stays}
+use Rattle.comp_graph.specs.Graph.{passed_value}
+use Rattle.comp_graph.specs.Passed.{TypeTable, MayBeAt, HasCanonType, AreCanonTypes}
+use Rattle.link_spec.specs.Definitions.{Lifted, Closure, Exports}
+use Rattle.link_spec.specs.Spaces.{Spaces}
+use Rattle.link_types.specs.declared.refs.TypeRef.{TypeRef}
+use Rattle.link_types.specs.declared.refs.InstanceTypeRef.{InstanceTypeRef}
+use Rattle.link_types.specs.Table.{Table, Grows, IsType}
+use Rattle.link_types.proofs.TypesGrow.{func_stays, type_stays}
+use Rattle.link_instances.specs.declared.references.InstanceRef.{InstanceRef}
+use Rattle.link_instances.specs.declared.references.LiftedRef.{LiftedRef}
+use Rattle.link_instances.specs.declared.pairs.Pair.{Pair}
+use Rattle.link_instances.specs.declared.instances.Instances.{Instances}
+use Rattle.link_instances.specs.References.{World, IsInstance, IsLifted, WorldStays}
+use Rattle.link_instances.specs.Instances.{AreInstances}
+use Rattle.link_instances.proofs.Growing.{instance_stays, listing_stays, bases_stay, known_stays, has_types_stays}
 use Rattle.comp_link.specs.declared.scope.Scope.{Scope}
-use Rattle.type_meanings.specs.Levels.{IsClosure}
-use Rattle.comp_link.specs.State.{IsModule, AreGiven, IsScope, IsKept}
+use Rattle.link_meanings.specs.Levels.{IsClosure}
+use Rattle.comp_link.specs.State.{type_table, IsModule, AreGiven, IsScope, IsKept}
 use Rattle.comp_link.proofs.Zips.{zips_weaker, zips_more}
 
 -- what is kept of a component instance that has not ended
 pub kept_whole : (t : Table) (w : World) (scope : Scope) (s : Spaces) → IsScope t w scope s → IsKept t w scope s
 kept_whole t w scope s h = record { types = h.types; components = h.components; whole = λ live. h }
 
--- the numbers of the types of core functions that call functions
-pub canons_stay : (t u : Table) → Grows t u → (numbers : List ℕ) (canons : List CanonFunc) → AreCanonTypes t.funcs numbers canons → AreCanonTypes u.funcs numbers canons
-canons_stay t u g = zips_weaker (λ (n : ℕ) (f : CanonFunc). slice_get t.funcs n ≡ Some (called_type f)) (λ (n : ℕ) (f : CanonFunc). slice_get u.funcs n ≡ Some (called_type f)) (λ n f h. g.funcs n (called_type f) h)
+-- the numbers of the types of what core functions pass
+may_stay : {A : Type 0} (xs ys : List A) → ((k : ℕ) (x : A) → slice_get xs k ≡ Some x → slice_get ys k ≡ Some x) → (n : Option ℕ) (o : Option A) → MayBeAt xs n o → MayBeAt ys n o
+may_stay xs ys stay None None h = tt
+may_stay xs ys stay None (Some x) h = absurd h
+may_stay xs ys stay (Some n) None h = absurd h
+may_stay xs ys stay (Some n) (Some x) h = stay n x h
 
-pub canons_more : (types : List FuncType) (numbers : List ℕ) (canons : List CanonFunc) (n : ℕ) (f : CanonFunc) (more : List ℕ) (made : List CanonFunc) → AreCanonTypes types numbers canons
-    → slice_get types n ≡ Some (called_type f) → more ≡ numbers ++ n ∷ [] → made ≡ canons ++ f ∷ [] → AreCanonTypes types more made
-canons_more types numbers canons n f more made h is put pushed = rw (put, pushed) (zips_more (λ (n : ℕ) (f : CanonFunc). slice_get types n ≡ Some (called_type f)) numbers canons n f h is)
+canon_stays : (t u : Table) → Grows t u → (n : Option ℕ) (f : CanonFunc) → HasCanonType (type_table t) n f → HasCanonType (type_table u) n f
+canon_stays t u g n (canon_func.Lower l) h = may_stay t.funcs u.funcs g.funcs n (Some l.func_type) h
+canon_stays t u g n (canon_func.Builtin b) h = may_stay t.values u.values g.values n (passed_value b.kind) h
+
+pub canons_stay : (t u : Table) → Grows t u → (numbers : List (Option ℕ)) (canons : List CanonFunc) → AreCanonTypes (type_table t) numbers canons → AreCanonTypes (type_table u) numbers canons
+canons_stay t u g = zips_weaker (HasCanonType (type_table t)) (HasCanonType (type_table u)) (canon_stays t u g)
+
+pub canons_more : (types : TypeTable) (numbers : List (Option ℕ)) (canons : List CanonFunc) (n : Option ℕ) (f : CanonFunc) (more : List (Option ℕ)) (made : List CanonFunc) → AreCanonTypes types numbers canons
+    → HasCanonType types n f → more ≡ numbers ++ n ∷ [] → made ≡ canons ++ f ∷ [] → AreCanonTypes types more made
+canons_more types numbers canons n f more made h is put pushed = rw (put, pushed) (zips_more (HasCanonType types) numbers canons n f h is)
 
 module _ (t u : Table) (v w : World) (types : Grows t u) (world : WorldStays v w) where
   lifted_stays : (ref : LiftedRef) (f : Lifted) → IsLifted t ref f → IsLifted u ref f

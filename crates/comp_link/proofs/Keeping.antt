@@ -11,22 +11,22 @@ use Rattle.comp_tree.specs.declared.instances.Instance.TheVariants as made
 use Rattle.comp_tree.specs.declared.instances.Sort.{Sort}
 use Rattle.comp_tree.specs.declared.instances.AliasTarget.{AliasTarget}
 use Rattle.comp_tree.specs.declared.instances.AliasTarget.TheVariants as target
-use Rattle.comp_tree.specs.declared.items.Canon.TheVariants.{Lift, Lower}
+use Rattle.comp_tree.specs.declared.items.Canon.TheVariants.{Lift, Lower, Builtin}
 use Rattle.comp_tree.specs.declared.items.Item.{Item, out-Item}
 use Rattle.comp_tree.specs.declared.items.Item.TheOpen.{Item-F}
 use Rattle.comp_tree.specs.declared.items.Component.{Component}
-use Rattle.comp_linking.specs.declared.fault.LinkWhy.{LinkWhy}
-use Rattle.comp_linking.specs.declared.fault.LinkFault.{LinkFault}
+use Rattle.link_spec.specs.declared.fault.LinkWhy.{LinkWhy}
+use Rattle.link_spec.specs.declared.fault.LinkFault.{LinkFault}
 use Rattle.comp_graph.specs.declared.graph.FuncRef.TheVariants as func_ref
 use Rattle.comp_graph.specs.Needs.{lowered_type}
-use Rattle.comp_linking.specs.Definitions.{Func, Closure, Exports, exports_of}
-use Rattle.comp_linking.specs.Spaces.{Spaces, Linking, new_spaces, with_spaces, with_core_item, with_core_instance}
-use Rattle.comp_linking.specs.Items.{core_instance_makes, instance_makes, alias_makes, makes_case}
-use Rattle.comp_linking.specs.Linked.{begun, with_instance}
-use Rattle.comp_linking.specs.Computed.{after, Outcome, Makes, Starts, item_outcome, Run, behind, placed_at, step, run, run_within}
-use Rattle.comp_linking.specs.Laws.{IsOutcome}
-use Rattle.comp_linking.proofs.Outcomes.{outcome_computed}
-use Rattle.comp_linking.proofs.Lengths.{begun_length, instance_length_same}
+use Rattle.link_spec.specs.Definitions.{Func, Closure, Exports, exports_of}
+use Rattle.link_spec.specs.Spaces.{Spaces, Linking, new_spaces, with_spaces, with_core_item, with_core_instance}
+use Rattle.link_spec.specs.Items.{core_instance_makes, instance_makes, alias_makes, makes_case}
+use Rattle.link_spec.specs.Linked.{begun, with_instance}
+use Rattle.link_spec.specs.Computed.{after, Outcome, Makes, Starts, item_outcome, Run, behind, placed_at, step, run, run_within}
+use Rattle.link_spec.specs.Laws.{IsOutcome}
+use Rattle.link_spec.proofs.Outcomes.{outcome_computed}
+use Rattle.link_spec.proofs.Lengths.{begun_length, instance_length_same}
 use Rattle.comp_link.specs.Running.{inside}
 use Rattle.comp_link.proofs.Zips.{other_kept}
 
@@ -60,6 +60,7 @@ case_sets l n s (Item-F.Alias alias) new h = alias_sets l n s alias.sort alias.t
 case_sets l n s (Item-F.Type type) new (closed, is, e) = set_by l n _ new e
 case_sets l n s (Item-F.Canon (Lift f options t)) new (item, core, type, is, of_core, there, of_type, once, lifts, e) = set_by l n _ new e
 case_sets l n s (Item-F.Canon (Lower f options)) new (func, is, there, once, lowers, e) = (with_core_item s (Func (func_ref.Canon (length l.canons)) (lowered_type func.func_type)), ap (λ (l : Linking). l.scopes) e)
+case_sets l n s (Item-F.Canon (Builtin b)) new h = absurd h
 case_sets l n s (Item-F.Import i) new (extern, d, is, fresh, imported, e) = set_by l n _ new e
 case_sets l n s (Item-F.Export x) new (d, y, is, fresh, exported, e) = set_by l n _ new e
 

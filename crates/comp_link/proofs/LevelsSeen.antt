@@ -3,14 +3,14 @@ use Rattle.std.proofs.Common.{◌≡◌, ℕ, List, [], ◌∷◌, ◌++◌, map
 use Rattle.std.specs.Option.{option_map}
 use Rattle.std.specs.List.{slice_get, AllZip}
 use Rattle.std.proofs.lemmas.List.Concat.{flat_map-append}
-use Rattle.comp_linking.specs.Spaces as spaces
-use Rattle.comp_linking.specs.Spaces.{Spaces, Linking, level_of, listed_level, levels_at}
-use Rattle.type_tables.specs.Table.{Table, IsType}
-use Rattle.instance_tables.specs.References.{World}
-use Rattle.type_meanings.specs.declared.levels.Level.{Level}
-use Rattle.type_meanings.specs.Meant as meant
-use Rattle.type_meanings.specs.Levels.{IsLevel, AreLevels}
-use Rattle.type_meanings.specs.Levels as levels
+use Rattle.link_spec.specs.Spaces as spaces
+use Rattle.link_spec.specs.Spaces.{Spaces, Linking, level_of, listed_level, levels_at}
+use Rattle.link_types.specs.Table.{Table, IsType}
+use Rattle.link_instances.specs.References.{World}
+use Rattle.link_meanings.specs.declared.levels.Level.{Level}
+use Rattle.link_meanings.specs.Meant as meant
+use Rattle.link_meanings.specs.Levels.{IsLevel, AreLevels}
+use Rattle.link_meanings.specs.Levels as levels
 use Rattle.comp_link.specs.declared.scope.Scope.{Scope}
 use Rattle.comp_link.specs.State.{IsKept}
 use Rattle.comp_link.proofs.Zips.{zips_more}

@@ -1,7 +1,6 @@
 mod Calling
 pub mod CanonParts
 pub mod CoreParts
-mod CoresKept
 pub mod Growth
 mod Keeping
 pub mod LevelsSeen
@@ -11,7 +10,6 @@ mod Passing
 mod Reaching
 pub mod Scopes
 pub mod SeenTold
-pub mod SortsTold
 pub mod States
 pub mod Steps
 pub mod Told

@@ -2,7 +2,7 @@
 use Rattle.std.proofs.Common.{◌≡◌, ◌<◌, ◌≤◌, slice_index_or, ℕ, zero, suc, ◌+◌, Bool, true, ◌&&◌, List, [], ◌∷◌, length, drop, refl, sym, ap, ◌∙◌, arith, Some, None}
 use Rattle.std.specs.List.{slice_get, list_all}
 use Rattle.std.proofs.lemmas.Option.{slice_get_past}
-use Rattle.instance_tables.proofs.Places.{drop_at, drop_past}
+use Rattle.link_instances.proofs.Places.{drop_at, drop_past}
 
 -- Tests of all that is left.
 pub all_at : {A : Type 0} (f : A → Bool) (xs : List A) (k : ℕ) (x : A) (b : Bool) → slice_get xs k ≡ Some x → f x ≡ b → list_all f (drop k xs) ≡ (b && list_all f (drop (k + 1) xs))

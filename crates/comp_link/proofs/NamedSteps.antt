@@ -6,18 +6,18 @@ use Rattle.ca_base.specs.Names.{AreDistinct}
 use Rattle.ca_base.specs.declared.memory.MemoryOr.{MemoryOr}
 use Rattle.ca_base.specs.declared.memory.MemoryOr.TheVariants as memory
 use Rattle.comp_tree.specs.declared.instances.NamedDefinition.{NamedDefinition}
-use Rattle.comp_linking.specs.declared.fault.LinkWhy.{LinkWhy}
-use Rattle.comp_linking.specs.declared.fault.LinkWhy.TheVariants as why
+use Rattle.link_spec.specs.declared.fault.LinkWhy.{LinkWhy}
+use Rattle.link_spec.specs.declared.fault.LinkWhy.TheVariants as why
 use Rattle.comp_tree.specs.declared.instances.Instance.TheVariants as made
-use Rattle.comp_linking.specs.Definitions.{Definition, AnInstance, Closure, Exports, EmptyInstance, WithExport}
-use Rattle.comp_linking.specs.Spaces.{Spaces, Linking, size_of, definition_at}
-use Rattle.comp_linking.specs.Items.{instance_limit}
-use Rattle.comp_linking.specs.Tests.{are_distinct}
-use Rattle.comp_linking.specs.Computed.{Outcome, Starts, one_more, after, there_or, only_if, exports_behind, named_exports, instance_outcome}
-use Rattle.comp_linking.proofs.Telling.{distinct_told}
+use Rattle.link_spec.specs.Definitions.{Definition, AnInstance, Closure, Exports, EmptyInstance, WithExport}
+use Rattle.link_spec.specs.Spaces.{Spaces, Linking, size_of, definition_at}
+use Rattle.link_spec.specs.Items.{instance_limit}
+use Rattle.link_spec.specs.Tests.{are_distinct}
+use Rattle.link_spec.specs.Computed.{Outcome, Starts, one_more, after, there_or, only_if, exports_behind, named_exports, instance_outcome}
+use Rattle.link_spec.proofs.Telling.{distinct_told}
 use Rattle.comp_link.specs.declared.linker.Linker.{Linker}
 use Rattle.comp_link.specs.Told.{IsReason}
-use Rattle.instance_tables.proofs.Places.{drop_at, drop_past}
+use Rattle.link_instances.proofs.Places.{drop_at, drop_past}
 
 -- a reason before others
 pub reason_after : (A B : Type 0) (e : MemoryOr LinkWhy) (x : Result A LinkWhy) (f : A → Result B LinkWhy) → IsReason e x → IsReason e (after x f)

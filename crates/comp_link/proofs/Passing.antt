@@ -10,14 +10,14 @@ use Rattle.ca_base.specs.declared.memory.MemoryOr.TheVariants.{Memory, Fault}
 use Rattle.comp_tree.specs.declared.items.Item.{Item, out-Item}
 use Rattle.comp_tree.specs.declared.items.Item.TheOpen.{Item-F}
 use Rattle.comp_tree.specs.declared.items.Component.{Component}
-use Rattle.comp_linking.specs.declared.fault.LinkWhy.{LinkWhy}
-use Rattle.comp_linking.specs.declared.fault.LinkFault.{LinkFault}
-use Rattle.comp_linking.specs.Definitions.{Closure, Exports}
-use Rattle.comp_linking.specs.Spaces.{Spaces, Linking}
-use Rattle.comp_linking.specs.Linked.{begun, with_instance}
-use Rattle.comp_linking.specs.Computed.{after, Outcome, Makes, Starts, outcome_case, item_outcome, Run, behind, placed_at, step, run, run_within}
-use Rattle.instance_tables.specs.References.{IsInstance}
-use Rattle.instance_tables.specs.declared.references.InstanceRef.{InstanceRef}
+use Rattle.link_spec.specs.declared.fault.LinkWhy.{LinkWhy}
+use Rattle.link_spec.specs.declared.fault.LinkFault.{LinkFault}
+use Rattle.link_spec.specs.Definitions.{Closure, Exports}
+use Rattle.link_spec.specs.Spaces.{Spaces, Linking}
+use Rattle.link_spec.specs.Linked.{begun, with_instance}
+use Rattle.link_spec.specs.Computed.{after, Outcome, Makes, Starts, outcome_case, item_outcome, Run, behind, placed_at, step, run, run_within}
+use Rattle.link_instances.specs.References.{IsInstance}
+use Rattle.link_instances.specs.declared.references.InstanceRef.{InstanceRef}
 use Rattle.comp_link.specs.declared.linker.Linker.{Linker}
 use Rattle.comp_link.specs.declared.instances.Next.{Next}
 use Rattle.comp_link.specs.declared.instances.Next.TheVariants as next

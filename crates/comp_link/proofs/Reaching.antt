@@ -6,20 +6,20 @@ use Rattle.std.proofs.lemmas.Option.{slice_get_within}
 use Rattle.ca_base.specs.declared.placed.Placed.{Placed}
 use Rattle.comp_graph.specs.Graph.{IsItem}
 use Rattle.comp_tree.specs.declared.items.Item.{Item, out-Item}
-use Rattle.comp_linking.specs.declared.fault.LinkWhy.{LinkWhy}
-use Rattle.comp_linking.specs.declared.fault.LinkFault.{LinkFault}
-use Rattle.comp_linking.specs.Definitions.{CoreExport, Closure, Exports, AnInstance}
-use Rattle.comp_linking.specs.Spaces.{Spaces, Linking, new_spaces, with_definition}
-use Rattle.comp_linking.specs.Linked.{begun, with_instance, exports_at, no_items, root_begun}
-use Rattle.comp_linking.specs.Computed.{after, Outcome, Makes, Starts, item_outcome, Run, behind, placed_at, step, run, run_within}
-use Rattle.comp_linking.proofs.Holding.{all_push, all_at, holds_at}
-use Rattle.comp_linking.proofs.Modules.{shape_has}
-use Rattle.comp_linking.proofs.Outcomes.{outcome_computed}
-use Rattle.comp_linking.proofs.Soundness.{AreSpacesSound, IsLinkingSound}
-use Rattle.comp_linking.proofs.SoundSpaces.{sound_new, sound_definition}
-use Rattle.comp_linking.proofs.SoundSeen.{are_named_sound}
-use Rattle.comp_linking.proofs.SoundItems.{with_spaces_sound, case_reached}
-use Rattle.comp_linking.proofs.SoundGraphs.{AnyModule, any_sound, exports_sound}
+use Rattle.link_spec.specs.declared.fault.LinkWhy.{LinkWhy}
+use Rattle.link_spec.specs.declared.fault.LinkFault.{LinkFault}
+use Rattle.link_spec.specs.Definitions.{CoreExport, Closure, Exports, AnInstance}
+use Rattle.link_spec.specs.Spaces.{Spaces, Linking, new_spaces, with_definition}
+use Rattle.link_spec.specs.Linked.{begun, with_instance, exports_at, no_items, root_begun}
+use Rattle.link_spec.specs.Computed.{after, Outcome, Makes, Starts, item_outcome, Run, behind, placed_at, step, run, run_within}
+use Rattle.link_spec.proofs.Holding.{all_push, all_at, holds_at}
+use Rattle.link_spec.proofs.Modules.{shape_has}
+use Rattle.link_spec.proofs.Outcomes.{outcome_computed}
+use Rattle.link_spec.proofs.Soundness.{AreSpacesSound, IsLinkingSound}
+use Rattle.link_spec.proofs.SoundSpaces.{sound_new, sound_definition}
+use Rattle.link_spec.proofs.SoundSeen.{are_named_sound}
+use Rattle.link_spec.proofs.SoundItems.{with_spaces_sound, case_reached}
+use Rattle.link_spec.proofs.SoundGraphs.{AnyModule, any_sound, exports_sound}
 use Rattle.comp_link.specs.Reached.{IsReached, root_begins, item_makes, component_begins, instance_ends}
 use Rattle.comp_link.specs.Running.{inside}
 use Rattle.comp_link.proofs.Keeping.{maker_stays}

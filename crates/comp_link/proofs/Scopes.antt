@@ -1,17 +1,17 @@
 -- Index spaces with one index more.
 use Rattle.std.proofs.Common.{◌≡◌, ◌∙◌, ℕ, List, [], ◌∷◌, ◌++◌, sym, ap, subst}
 use Rattle.std.specs.List.{AllZip}
-use Rattle.comp_linking.specs.Definitions.{Definition, AFunc, AType, AComponent, AnInstance, AModule, Exports, WithExport}
-use Rattle.comp_linking.specs.Spaces.{Spaces, with_definition}
-use Rattle.type_tables.specs.declared.refs.TypeRef.{TypeRef}
-use Rattle.type_tables.specs.Table.{Table, IsName, IsType}
-use Rattle.instance_tables.specs.declared.references.InstanceRef.{InstanceRef}
-use Rattle.instance_tables.specs.declared.references.LiftedRef.{LiftedRef}
-use Rattle.instance_tables.specs.declared.references.DefinitionRef.{DefinitionRef}
-use Rattle.instance_tables.specs.declared.references.DefinitionRef.TheVariants as definition_ref
-use Rattle.instance_tables.specs.References.{World, IsInstance, IsLifted, Stands, listed, IsEntry, IsListing}
+use Rattle.link_spec.specs.Definitions.{Definition, AFunc, AType, AComponent, AnInstance, AModule, Exports, WithExport}
+use Rattle.link_spec.specs.Spaces.{Spaces, with_definition}
+use Rattle.link_types.specs.declared.refs.TypeRef.{TypeRef}
+use Rattle.link_types.specs.Table.{Table, IsName, IsType}
+use Rattle.link_instances.specs.declared.references.InstanceRef.{InstanceRef}
+use Rattle.link_instances.specs.declared.references.LiftedRef.{LiftedRef}
+use Rattle.link_instances.specs.declared.references.DefinitionRef.{DefinitionRef}
+use Rattle.link_instances.specs.declared.references.DefinitionRef.TheVariants as definition_ref
+use Rattle.link_instances.specs.References.{World, IsInstance, IsLifted, Stands, listed, IsEntry, IsListing}
 use Rattle.comp_link.specs.declared.scope.Scope.{Scope}
-use Rattle.type_meanings.specs.Levels.{IsClosure}
+use Rattle.link_meanings.specs.Levels.{IsClosure}
 use Rattle.comp_link.specs.State.{IsModule, IsScope}
 use Rattle.comp_link.proofs.Zips.{zips_more}
 

@@ -5,20 +5,20 @@ use Rattle.ca_base.specs.declared.memory.MemoryOr.{MemoryOr}
 use Rattle.ca_base.specs.declared.memory.MemoryOr.TheVariants as memory
 use Rattle.ca_base.specs.Faults.{IfFault}
 use Rattle.comp_graph.specs.Closed.{Extern}
-use Rattle.comp_linking.specs.declared.fault.LinkWhy.{LinkWhy}
-use Rattle.comp_linking.specs.declared.fault.LinkWhy.TheVariants as why
-use Rattle.comp_linking.specs.Definitions.{Definition, Fits, seen_as}
-use Rattle.comp_linking.specs.Items.{lacking}
-use Rattle.comp_linking.specs.Tests.{fits}
-use Rattle.comp_linking.specs.Computed.{none_missing}
-use Rattle.comp_linking.proofs.Fitting.{fits_lacks}
-use Rattle.comp_linking.proofs.Telling.{fits_told}
-use Rattle.type_tables.specs.Table.{Table, IsName}
-use Rattle.instance_tables.specs.declared.references.DefinitionRef.{DefinitionRef}
-use Rattle.instance_tables.specs.declared.fitting.Fit.{Fit}
-use Rattle.instance_tables.specs.declared.fitting.Fit.TheVariants as answer
-use Rattle.instance_tables.specs.References.{World, Stands}
-use Rattle.instance_tables.specs.Fit.{IsFit}
+use Rattle.link_spec.specs.declared.fault.LinkWhy.{LinkWhy}
+use Rattle.link_spec.specs.declared.fault.LinkWhy.TheVariants as why
+use Rattle.link_spec.specs.Definitions.{Definition, Fits, seen_as}
+use Rattle.link_spec.specs.Items.{lacking}
+use Rattle.link_spec.specs.Tests.{fits}
+use Rattle.link_spec.specs.Computed.{none_missing}
+use Rattle.link_spec.proofs.Fitting.{fits_lacks}
+use Rattle.link_spec.proofs.Telling.{fits_told}
+use Rattle.link_types.specs.Table.{Table, IsName}
+use Rattle.link_instances.specs.declared.references.DefinitionRef.{DefinitionRef}
+use Rattle.link_instances.specs.declared.fitting.Fit.{Fit}
+use Rattle.link_instances.specs.declared.fitting.Fit.TheVariants as answer
+use Rattle.link_instances.specs.References.{World, Stands}
+use Rattle.link_instances.specs.Fit.{IsFit}
 use Rattle.comp_link.specs.Told.{IsReason, IsTold}
 use Rattle.comp_link.specs.Ready.{as_wanted, IsSeen}
 use Rattle.comp_link.proofs.Steps.{missing_told}

@@ -8,19 +8,19 @@ use Rattle.std.proofs.lemmas.List.{length-map}
 use Rattle.std.specs.Vec.{with_item}
 use Rattle.wasm_module.specs.declared.module.ModuleTree.{ModuleTree}
 use Rattle.comp_graph.specs.Passed.{AreCanonTypes}
-use Rattle.comp_linking.specs.Definitions.{Closure, Exports}
-use Rattle.comp_linking.specs.Spaces.{Spaces, Linking, with_spaces}
-use Rattle.comp_linking.specs.Linked.{exports_at}
-use Rattle.type_tables.specs.Table.{Grows}
-use Rattle.type_tables.proofs.TypesGrow.{grows_refl}
-use Rattle.instance_tables.specs.declared.references.InstanceRef.{InstanceRef}
-use Rattle.instance_tables.specs.References.{World, Stays, WorldStays, with_base, IsListing}
-use Rattle.instance_tables.specs.Instances.{AreInstances, GivesInstance}
-use Rattle.instance_tables.proofs.Growing.{more_bases, stays_before}
-use Rattle.comp_link.specs.Cores.{CoreLists}
+use Rattle.link_spec.specs.Definitions.{Closure, Exports}
+use Rattle.link_spec.specs.Spaces.{Spaces, Linking, with_spaces}
+use Rattle.link_spec.specs.Linked.{exports_at}
+use Rattle.link_types.specs.Table.{Grows}
+use Rattle.link_types.proofs.TypesGrow.{grows_refl}
+use Rattle.link_instances.specs.declared.references.InstanceRef.{InstanceRef}
+use Rattle.link_instances.specs.References.{World, Stays, WorldStays, with_base, IsListing}
+use Rattle.link_instances.specs.Instances.{AreInstances, GivesInstance}
+use Rattle.link_instances.proofs.Growing.{more_bases, stays_before}
+use Rattle.link_core_exports.specs.Cores.{CoreLists}
 use Rattle.comp_link.specs.declared.scope.Scope.{Scope}
 use Rattle.comp_link.specs.declared.linker.Linker.{Linker}
-use Rattle.comp_link.specs.State.{world_of, IsScope, IsKept, ended, IsLive, IsState, IsAt, IsThere}
+use Rattle.comp_link.specs.State.{world_of, type_table, IsScope, IsKept, ended, IsLive, IsState, IsAt, IsThere}
 use Rattle.comp_link.proofs.Zips.{zips_weaker, zips_set, zips_reset, other_kept, map_set, zips_there, zips_read, last_is}
 use Rattle.comp_link.proofs.Growth.{kept_whole, kept_stays, instances_stay, canons_stay}
 
@@ -37,8 +37,8 @@ state_stays bases more k m l types world instances scopes cores canons canon_typ
       (zips_weaker (IsKept k.types (world_of bases k)) (IsKept m.types (world_of more m)) (kept_stays k.types m.types (world_of bases k) (world_of more m) types world) k.scopes.items l.scopes h.scopes);
   cores = h.cores ∙ sym cores;
   canons = h.canons ∙ ap (λ canons. canons.items) (sym canons);
-  canon_types = subst (λ (v : Linker). AreCanonTypes m.types.funcs v.canon_types.items m.canons.items) (ap (λ canon_types. record k { canon_types = canon_types }) (sym canon_types))
-      (subst (λ (v : Linker). AreCanonTypes m.types.funcs k.canon_types.items v.canons.items) (ap (λ canons. record k { canons = canons }) (sym canons))
+  canon_types = subst (λ (v : Linker). AreCanonTypes (type_table m.types) v.canon_types.items m.canons.items) (ap (λ canon_types. record k { canon_types = canon_types }) (sym canon_types))
+      (subst (λ (v : Linker). AreCanonTypes (type_table m.types) k.canon_types.items v.canons.items) (ap (λ canons. record k { canons = canons }) (sym canons))
       (canons_stay k.types m.types types k.canon_types.items k.canons.items h.canon_types));
   plan = h.plan ∙ ap (λ plan. plan.items) (sym plan);
 }

@@ -6,17 +6,17 @@ use Rattle.ca_base.specs.declared.memory.MemoryOr.{MemoryOr}
 use Rattle.ca_base.specs.declared.memory.MemoryOr.TheVariants.{Memory, Fault}
 use Rattle.ca_base.specs.Faults.{IfFault}
 use Rattle.ca_base.specs.Names.{is_among}
-use Rattle.comp_linking.specs.declared.fault.LinkWhy.{LinkWhy}
-use Rattle.comp_linking.specs.declared.fault.LinkWhy.TheVariants as why
-use Rattle.comp_linking.specs.Definitions.{Definition, Exports}
-use Rattle.comp_linking.specs.Spaces.{Spaces, Linking}
-use Rattle.comp_linking.specs.Computed.{Outcome}
-use Rattle.instance_tables.specs.declared.references.InstanceRef.{InstanceRef}
-use Rattle.instance_tables.specs.declared.references.DefinitionRef.{DefinitionRef}
-use Rattle.type_tables.specs.Table.{Table}
-use Rattle.instance_tables.specs.References.{World, IsInstance, Stands, IsFound}
+use Rattle.link_spec.specs.declared.fault.LinkWhy.{LinkWhy}
+use Rattle.link_spec.specs.declared.fault.LinkWhy.TheVariants as why
+use Rattle.link_spec.specs.Definitions.{Definition, Exports}
+use Rattle.link_spec.specs.Spaces.{Spaces, Linking}
+use Rattle.link_spec.specs.Computed.{Outcome}
+use Rattle.link_instances.specs.declared.references.InstanceRef.{InstanceRef}
+use Rattle.link_instances.specs.declared.references.DefinitionRef.{DefinitionRef}
+use Rattle.link_types.specs.Table.{Table}
+use Rattle.link_instances.specs.References.{World, IsInstance, Stands, IsFound}
 use Rattle.comp_link.specs.declared.linker.Linker.{Linker}
-use Rattle.type_meanings.specs.Meant.{IsFoundAs}
+use Rattle.link_meanings.specs.Meant.{IsFoundAs}
 use Rattle.comp_link.specs.State.{world_of, AreGiven, IsAt, IsLive, IsMade}
 use Rattle.comp_link.specs.Told.{IsReason, IsTold}
 use Rattle.comp_link.specs.Ready.{IsReady}

@@ -4,10 +4,10 @@ use Rattle.std.specs.Prelude.{Result, Ok, Err}
 use Rattle.ca_base.specs.Faults.{IfFault}
 use Rattle.ca_base.specs.declared.memory.MemoryOr.{MemoryOr}
 use Rattle.ca_base.specs.declared.memory.MemoryOr.TheVariants.{Memory, Fault}
-use Rattle.comp_linking.specs.declared.fault.LinkWhy.{LinkWhy}
-use Rattle.comp_linking.specs.Definitions.{Exports}
-use Rattle.comp_linking.specs.Spaces.{Linking}
-use Rattle.comp_linking.specs.Computed.{Outcome, Makes, after}
+use Rattle.link_spec.specs.declared.fault.LinkWhy.{LinkWhy}
+use Rattle.link_spec.specs.Definitions.{Exports}
+use Rattle.link_spec.specs.Spaces.{Linking}
+use Rattle.link_spec.specs.Computed.{Outcome, Makes, after}
 use Rattle.comp_link.specs.declared.linker.Linker.{Linker}
 use Rattle.comp_link.specs.State.{IsState, IsMade}
 use Rattle.comp_link.specs.Told.{IsReason, IsTold}

@@ -10,18 +10,18 @@ use Rattle.comp_tree.specs.declared.externs.ExternDesc.{ExternDesc}
 use Rattle.comp_tree.specs.declared.externs.ExternDesc.TheVariants as desc
 use Rattle.comp_tree.specs.declared.externs.Export as read
 use Rattle.comp_graph.specs.Closed.{Closed, Extern}
-use Rattle.comp_linking.specs.declared.fault.LinkWhy.{LinkWhy}
-use Rattle.comp_linking.specs.declared.fault.LinkWhy.TheVariants as why
-use Rattle.comp_linking.specs.Definitions.{Definition, AType, Exports, export_names, export_named, lacks}
-use Rattle.comp_linking.specs.Types.{Meaning}
-use Rattle.comp_linking.specs.Spaces.{Spaces, Linking, size_of, definition_at}
-use Rattle.comp_linking.specs.Items.{lacking, wanted}
-use Rattle.comp_linking.specs.Tests.{root_may_import, is_of_types}
-use Rattle.comp_linking.specs.Computed.{Outcome, root_given, after, there_or, only_if, none_missing, as_asked, one_more, type_outcome, import_outcome, export_outcome}
-use Rattle.type_tables.specs.Table.{Table}
-use Rattle.type_tables.specs.declared.refs.InstanceTypeRef.{InstanceTypeRef}
-use Rattle.instance_tables.specs.declared.references.DefinitionRef.{DefinitionRef}
-use Rattle.instance_tables.specs.References.{World, Stands}
+use Rattle.link_spec.specs.declared.fault.LinkWhy.{LinkWhy}
+use Rattle.link_spec.specs.declared.fault.LinkWhy.TheVariants as why
+use Rattle.link_spec.specs.Definitions.{Definition, AType, Exports, export_names, export_named, lacks}
+use Rattle.link_spec.specs.Types.{Meaning}
+use Rattle.link_spec.specs.Spaces.{Spaces, Linking, size_of, definition_at}
+use Rattle.link_spec.specs.Items.{lacking, wanted}
+use Rattle.link_spec.specs.Tests.{root_may_import, is_of_types}
+use Rattle.link_spec.specs.Computed.{Outcome, root_given, after, there_or, only_if, none_missing, as_asked, one_more, type_outcome, import_outcome, export_outcome}
+use Rattle.link_types.specs.Table.{Table}
+use Rattle.link_types.specs.declared.refs.InstanceTypeRef.{InstanceTypeRef}
+use Rattle.link_instances.specs.declared.references.DefinitionRef.{DefinitionRef}
+use Rattle.link_instances.specs.References.{World, Stands}
 use Rattle.comp_link.specs.Told.{IsReason, IsTold}
 use Rattle.comp_link.specs.Ready.{as_wanted, IsSeen, IsTypesOf, IsGiven, imported, exported}
 
@@ -168,6 +168,7 @@ pub root_types : (asked : ExternDesc) (meaning : Option Extern) (extern : Extern
 root_types (desc.Instance index) meaning extern is may = subst (λ (m : Option Extern). root_may_import (desc.Instance index) m ≡ true) is may
 root_types (desc.Func index) meaning extern is may = cc
 root_types (desc.TypeEq index) meaning extern is may = cc
+root_types desc.Resource meaning extern is may = cc
 
 module _ (l : Linking) (n : ℕ) (s : Spaces) (name : List ℕ) (meaning : Meaning Extern) (desc : ExternDesc) where
   pub root_refused : root_may_import desc meaning.means ≡ false → import_outcome l n s name meaning desc None ≡ Err why.RootImport

@@ -7,14 +7,14 @@ use Rattle.ca_base.specs.declared.memory.MemoryOr.TheVariants.{Memory, Fault}
 use Rattle.comp_graph.specs.Graph.{Graph, instance_limit, core_instance_limit}
 use Rattle.comp_graph.specs.Passed.{AreCanonTypes}
 use Rattle.comp_tree.specs.declared.items.Component.{Component}
-use Rattle.comp_linking.specs.declared.fault.LinkFault.{LinkFault}
-use Rattle.comp_linking.specs.Spaces.{Linking}
-use Rattle.comp_linking.specs.Linked.{root_begun, graph_of, IsLinked, IsLinkRefused}
-use Rattle.comp_linking.specs.Computed.{run_within, answer_of, linked}
-use Rattle.comp_linking.proofs.Running.{graph_computed, fault_computed}
-use Rattle.comp_linking.proofs.Few.{graphs_are_few}
+use Rattle.link_spec.specs.declared.fault.LinkFault.{LinkFault}
+use Rattle.link_spec.specs.Spaces.{Linking}
+use Rattle.link_spec.specs.Linked.{root_begun, graph_of, IsLinked, IsLinkRefused}
+use Rattle.link_spec.specs.Computed.{run_within, answer_of, linked}
+use Rattle.link_spec.proofs.Running.{graph_computed, fault_computed}
+use Rattle.link_spec.proofs.Few.{graphs_are_few}
 use Rattle.comp_link.specs.declared.linker.Linker.{Linker}
-use Rattle.comp_link.specs.State.{Stands}
+use Rattle.comp_link.specs.State.{type_table, Stands}
 use Rattle.comp_link.specs.Told.{IsReason, IsTold}
 use Rattle.comp_link.proofs.Passing.{done, as_many}
 
@@ -50,7 +50,7 @@ module _ (c : Component) (k : Linker) (told : IsTold (λ _ last. Stands k last) 
       let same = as_many found.1.0 k found.0 found.1.1 in
       omega (arith, few.0, same)
 
-  pub canons_typed : AreCanonTypes k.types.funcs k.canon_types.items k.canons.items
+  pub canons_typed : AreCanonTypes (type_table k.types) k.canon_types.items k.canons.items
   canons_typed = found.1.1.canon_types
 
   pub few_cores : length k.cores.makes ≤ core_instance_limit

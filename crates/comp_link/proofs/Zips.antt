@@ -4,7 +4,7 @@ use Rattle.std.specs.Prelude.{set, get_or}
 use Rattle.std.specs.List.{slice_get, AllZip}
 use Rattle.std.specs.Option.{option_and_then, option_copied}
 use Rattle.std.proofs.lemmas.Option.{slice_get_within}
-use Rattle.type_meanings.specs.Meant.{IsFoundAs}
+use Rattle.link_meanings.specs.Meant.{IsFoundAs}
 use denote.Ref.{Bor}
 
 pub zips_weaker : {A B : Type 0} (R Q : A → B → Type 0) → ((x : A) (y : B) → R x y → Q x y) → (xs : List A) (ys : List B) → AllZip R xs ys → AllZip Q xs ys

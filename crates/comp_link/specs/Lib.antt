@@ -1,10 +1,6 @@
-pub mod Called
-pub mod Cores
 pub mod Next
 pub mod Reached
 pub mod Ready
 pub mod Running
-pub mod Sorts
 pub mod State
 pub mod Told
-pub mod Typed

@@ -1,10 +1,10 @@
 -- What an instance comes to (Component Model, Explainer.md, "Instance Definitions"): it is made, or the items of a component come
 -- next, in an instance of their own.
 use Rattle.std.specs.Prelude.{◌≡◌, List}
-use Rattle.comp_linking.specs.Definitions.{Exports}
-use Rattle.comp_linking.specs.Spaces.{Linking}
-use Rattle.comp_linking.specs.Computed.{Outcome, Makes, Starts}
-use Rattle.instance_tables.specs.References.{IsInstance}
+use Rattle.link_spec.specs.Definitions.{Exports}
+use Rattle.link_spec.specs.Spaces.{Linking}
+use Rattle.link_spec.specs.Computed.{Outcome, Makes, Starts}
+use Rattle.link_instances.specs.References.{IsInstance}
 use Rattle.comp_link.specs.declared.linker.Linker.{Linker}
 use Rattle.comp_link.specs.declared.instances.Next.{Next}
 use Rattle.comp_link.specs.declared.instances.Next.TheVariants as next

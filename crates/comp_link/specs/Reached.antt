@@ -5,10 +5,10 @@
 use Rattle.std.specs.Prelude.{◌≡◌, ℕ, Some, Ok}
 use Rattle.std.specs.List.{slice_get}
 use Rattle.comp_tree.specs.declared.items.Item.{Item}
-use Rattle.comp_linking.specs.Definitions.{Closure, Exports}
-use Rattle.comp_linking.specs.Spaces.{Spaces, Linking}
-use Rattle.comp_linking.specs.Linked.{root_begun, begun, with_instance}
-use Rattle.comp_linking.specs.Computed.{Makes, Starts, item_outcome}
+use Rattle.link_spec.specs.Definitions.{Closure, Exports}
+use Rattle.link_spec.specs.Spaces.{Spaces, Linking}
+use Rattle.link_spec.specs.Linked.{root_begun, begun, with_instance}
+use Rattle.link_spec.specs.Computed.{Makes, Starts, item_outcome}
 
 pub data IsReached : Linking → Type 0 where
   root_begins : IsReached root_begun

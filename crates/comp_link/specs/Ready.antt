@@ -3,19 +3,19 @@
 use Rattle.std.specs.Prelude.{◌≡◌, ℕ, true, List, Option, Some, None, Result, Ok, Err}
 use Rattle.comp_graph.specs.declared.graph.Options.{Options}
 use Rattle.comp_graph.specs.Closed.{Extern, Externs}
-use Rattle.comp_linking.specs.declared.fault.LinkWhy.{LinkWhy}
-use Rattle.comp_linking.specs.declared.fault.LinkWhy.TheVariants as why
-use Rattle.comp_linking.specs.Canons.{Given, options_of}
-use Rattle.comp_linking.specs.Definitions.{Lifted, Definition, AnInstance, Exports, types_of}
-use Rattle.comp_linking.specs.Spaces.{Spaces, Linking, with_spaces}
-use Rattle.comp_linking.specs.Items.{lower_made, with_import, with_export}
-use Rattle.comp_linking.specs.Tests.{are_types}
-use Rattle.comp_linking.specs.Computed.{Outcome, Makes, as_asked}
-use Rattle.type_tables.specs.declared.refs.InstanceTypeRef.{InstanceTypeRef}
-use Rattle.type_tables.specs.Table.{Table, IsInstanceType}
-use Rattle.instance_tables.specs.declared.references.LiftedRef.{LiftedRef}
-use Rattle.instance_tables.specs.declared.references.DefinitionRef.{DefinitionRef}
-use Rattle.instance_tables.specs.References.{World, IsLifted, Stands}
+use Rattle.link_spec.specs.declared.fault.LinkWhy.{LinkWhy}
+use Rattle.link_spec.specs.declared.fault.LinkWhy.TheVariants as why
+use Rattle.link_spec.specs.Canons.{Given, options_of}
+use Rattle.link_spec.specs.Definitions.{Lifted, Definition, AnInstance, Exports, types_of}
+use Rattle.link_spec.specs.Spaces.{Spaces, Linking, with_spaces}
+use Rattle.link_spec.specs.Items.{lower_made, with_import, with_export}
+use Rattle.link_spec.specs.Tests.{are_types}
+use Rattle.link_spec.specs.Computed.{Outcome, Makes, as_asked}
+use Rattle.link_types.specs.declared.refs.InstanceTypeRef.{InstanceTypeRef}
+use Rattle.link_types.specs.Table.{Table, IsInstanceType}
+use Rattle.link_instances.specs.declared.references.LiftedRef.{LiftedRef}
+use Rattle.link_instances.specs.declared.references.DefinitionRef.{DefinitionRef}
+use Rattle.link_instances.specs.References.{World, IsLifted, Stands}
 use Rattle.comp_link.specs.declared.linker.Linker.{Linker}
 use Rattle.comp_link.specs.State.{world_of, IsState}
 

@@ -4,21 +4,25 @@
 use Rattle.std.specs.Prelude.{◌≡◌, ℕ, Bool, false, List, map, Option, Some, None}
 use Rattle.std.specs.List.{slice_get, AllZip}
 use Rattle.wasm_module.specs.declared.module.ModuleTree.{ModuleTree}
-use Rattle.comp_graph.specs.Passed.{AreCanonTypes}
-use Rattle.comp_linking.specs.Definitions.{Exports, export_names}
-use Rattle.comp_linking.specs.Spaces.{Spaces, Linking}
-use Rattle.comp_linking.specs.Computed.{Outcome, Makes, Starts}
-use Rattle.type_tables.specs.Table.{Table, IsType}
-use Rattle.instance_tables.specs.declared.references.InstanceRef.{InstanceRef}
-use Rattle.instance_tables.specs.References.{World, IsInstance, IsLifted, IsListing}
-use Rattle.instance_tables.specs.Instances.{AreInstances}
-use Rattle.type_meanings.specs.Levels.{IsClosure}
+use Rattle.comp_graph.specs.Passed.{TypeTable, AreCanonTypes}
+use Rattle.link_spec.specs.Definitions.{Exports, export_names}
+use Rattle.link_spec.specs.Spaces.{Spaces, Linking}
+use Rattle.link_spec.specs.Computed.{Outcome, Makes, Starts}
+use Rattle.link_types.specs.Table.{Table, IsType}
+use Rattle.link_instances.specs.declared.references.InstanceRef.{InstanceRef}
+use Rattle.link_instances.specs.References.{World, IsInstance, IsLifted, IsListing}
+use Rattle.link_instances.specs.Instances.{AreInstances}
+use Rattle.link_meanings.specs.Levels.{IsClosure}
 use Rattle.comp_link.specs.declared.scope.Scope.{Scope}
 use Rattle.comp_link.specs.declared.linker.Linker.{Linker}
 
 -- what stands behind the numbers of a linker whose instances so far have these exports
 abbrev pub world_of : List Exports → Linker → World
 world_of bases k = record { components = k.components.items; bases = bases; modules = k.cores.modules }
+
+-- the types of functions and of values, by their numbers
+abbrev pub type_table : Table → TypeTable
+type_table t = record { funcs = t.funcs; values = t.values }
 
 -- a core module, by its number
 abbrev pub IsModule : World → ℕ → ModuleTree → Type 0
@@ -72,7 +76,7 @@ pub record IsState (bases : List Exports) (k : Linker) (l : Linking) : Type 0 wh
   pub scopes : AllZip (IsKept k.types (world_of bases k)) k.scopes.items l.scopes
   pub cores : l.cores ≡ k.cores.makes
   pub canons : l.canons ≡ k.canons.items
-  pub canon_types : AreCanonTypes k.types.funcs k.canon_types.items k.canons.items
+  pub canon_types : AreCanonTypes (type_table k.types) k.canon_types.items k.canons.items
   pub plan : l.plan ≡ k.plan.items
 
 -- It does so for some exports.

@@ -3,42 +3,22 @@
 ghost use Rattle.std.specs.Prelude.{◌≡◌, ◌<◌, ◌∷◌, List, length, OnOk};
 ghost use Rattle.std.specs.List.{slice_get};
 ghost use Rattle.comp_tree.specs.declared.instances.AliasTarget.TheVariants as target;
-ghost use Rattle.comp_linking.specs.Definitions.{Definition, Exports};
-ghost use Rattle.comp_linking.specs.Spaces.{Spaces, Linking, outer_at};
-ghost use Rattle.comp_linking.specs.Tests.{is_of_sort};
-ghost use Rattle.comp_linking.specs.Computed.{alias_outcome};
-ghost use Rattle.type_tables.specs.Table.{Table};
-ghost use Rattle.instance_tables.specs.References.{World};
-ghost use Rattle.instance_tables.specs.References as references;
-ghost use Rattle.type_meanings.specs.Meant.{IsFoundAs};
+ghost use Rattle.link_spec.specs.Definitions.{Exports};
+ghost use Rattle.link_spec.specs.Spaces.{Spaces, Linking, outer_at};
+ghost use Rattle.link_spec.specs.Computed.{alias_outcome};
+ghost use Rattle.link_instances.specs.References as references;
+ghost use Rattle.link_meanings.specs.Meant.{IsFoundAs};
 ghost use Rattle.comp_link.specs.State.{world_of, IsAt, IsMade, ended};
 ghost use Rattle.comp_link.specs.Told.{IsTold};
-ghost use Rattle.comp_link.specs.Sorts.{is_of};
 
 use crate::core_aliases::link_core_alias;
 use crate::link_fault::{ItemError, missing};
 use crate::linker::Linker;
 use ca_base::{MemoryOr, Name};
-use comp_linking::LinkWhy;
-use comp_tree::{Alias, AliasTarget, CoreSort, Sort};
-use instance_tables::DefinitionRef;
+use comp_tree::{Alias, AliasTarget, Sort};
+use link_instances::DefinitionRef;
+use link_spec::LinkWhy;
 use std::alloc::Global;
-
-/// Whether a definition is of a sort.
-#[tactic(auto, using(crate::proofs::SortsTold::of_sort))]
-fn is_of(definition: DefinitionRef, sort: Sort) -> bool
-    ensures exact { result ≡ is_of definition sort }
-    ensures stands { (t : Table) (w : World) (d : Definition) → references.Stands t w definition d → result ≡ is_of_sort d sort }
-{
-    match (definition, sort) {
-        (DefinitionRef::Module(_), Sort::Core(CoreSort::Module))
-        | (DefinitionRef::Func(_), Sort::Func)
-        | (DefinitionRef::Type(_), Sort::Type)
-        | (DefinitionRef::Component(_), Sort::Component)
-        | (DefinitionRef::Instance(_), Sort::Instance) => true,
-        (_, _) => false,
-    }
-}
 
 /// Links an alias of an export of an instance.
 fn link_export_alias<'a>(
@@ -64,7 +44,7 @@ fn link_export_alias<'a>(
     else {
         return Err(missing(alloc, name.as_str()));
     };
-    if !is_of(definition, sort) {
+    if !definition.is_of(sort) {
         return Err(MemoryOr::Fault(LinkWhy::Typing));
     }
     linker.add(n, definition)?;

@@ -2,9 +2,9 @@
 
 ghost use Rattle.std.specs.Prelude.{◌≡◌, ◌<◌, List, OnOk, length};
 ghost use Rattle.comp_tree.specs.declared.instances.AliasTarget.TheVariants as target;
-ghost use Rattle.comp_linking.specs.Definitions.{Exports};
-ghost use Rattle.comp_linking.specs.Spaces.{Spaces, Linking};
-ghost use Rattle.comp_linking.specs.Computed.{alias_outcome};
+ghost use Rattle.link_spec.specs.Definitions.{Exports};
+ghost use Rattle.link_spec.specs.Spaces.{Spaces, Linking};
+ghost use Rattle.link_spec.specs.Computed.{alias_outcome};
 ghost use Rattle.comp_link.specs.State.{IsAt, IsMade, ended};
 ghost use Rattle.comp_link.specs.Told.{IsTold};
 
@@ -12,7 +12,7 @@ use crate::link_fault::ItemError;
 use crate::linker::Linker;
 use ca_base::Name;
 use comp_tree::Sort;
-use core_exports::aliased;
+use link_core_exports::aliased;
 use std::alloc::Global;
 
 /// Links an alias of an export of a core instance.

@@ -4,12 +4,12 @@ ghost use Rattle.std.specs.Prelude.{◌≡◌, ◌<◌, List, OnOk, IfOk, nat_lt
 ghost use Rattle.std.specs.List.{list_all};
 ghost use Rattle.comp_tree.specs.declared.core_instances.CoreInlineExport.{CoreInlineExport};
 ghost use Rattle.comp_tree.specs.declared.core_instances.CoreInstance.TheVariants as made_core;
-ghost use Rattle.comp_linking.specs.Definitions.{Exports};
-ghost use Rattle.comp_linking.specs.Spaces.{Spaces, Linking, core_size};
-ghost use Rattle.comp_linking.specs.Computed as computed;
-ghost use Rattle.comp_linking.specs.Computed.{inline_outcome, core_instance_outcome};
-ghost use Rattle.type_tables.specs.Table.{Table};
-ghost use Rattle.instance_tables.specs.References.{World};
+ghost use Rattle.link_spec.specs.Definitions.{Exports};
+ghost use Rattle.link_spec.specs.Spaces.{Spaces, Linking, core_size};
+ghost use Rattle.link_spec.specs.Computed as computed;
+ghost use Rattle.link_spec.specs.Computed.{inline_outcome, core_instance_outcome};
+ghost use Rattle.link_types.specs.Table.{Table};
+ghost use Rattle.link_instances.specs.References.{World};
 ghost use Rattle.comp_link.specs.State.{IsScope, IsAt, IsMade, ended};
 ghost use Rattle.comp_link.specs.Told.{IsTold};
 ghost use Rattle.comp_link.specs.Reached.{IsReached};
@@ -18,9 +18,9 @@ use crate::link_fault::ItemError;
 use crate::linker::{INSTANCE_LIMIT, Linker};
 use crate::scope::Scope;
 use ca_base::MemoryOr;
-use comp_linking::LinkWhy;
 use comp_tree::{CoreArgument, CoreInlineExport, CoreInstance};
-use core_exports::{InlineExport, InlineExports, are_distinct, externs_of};
+use link_core_exports::{InlineExport, InlineExports, are_distinct, externs_of};
+use link_spec::LinkWhy;
 use std::alloc::Global;
 
 /// Links the instantiation of a core module.

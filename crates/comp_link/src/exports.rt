@@ -2,9 +2,9 @@
 
 ghost use Rattle.std.specs.Prelude.{◌≡◌, ◌<◌, List, length, Some, None, OnOk};
 ghost use Rattle.comp_tree.specs.declared.externs.ExternDesc.{ExternDesc};
-ghost use Rattle.comp_linking.specs.Definitions.{Exports};
-ghost use Rattle.comp_linking.specs.Spaces.{Spaces, Linking};
-ghost use Rattle.comp_linking.specs.Computed.{export_outcome};
+ghost use Rattle.link_spec.specs.Definitions.{Exports};
+ghost use Rattle.link_spec.specs.Spaces.{Spaces, Linking};
+ghost use Rattle.link_spec.specs.Computed.{export_outcome};
 ghost use Rattle.comp_link.specs.State.{IsAt, IsMade, ended};
 ghost use Rattle.comp_link.specs.Told.{IsTold};
 ghost use Rattle.comp_link.specs.Ready.{IsReady, exported};
@@ -13,11 +13,11 @@ use crate::link_fault::ItemError;
 use crate::linker::Linker;
 use crate::seen::seen;
 use ca_base::MemoryOr;
-use comp_linking::LinkWhy;
 use comp_tree::{Export, ExternDesc};
-use instance_tables::DefinitionRef;
+use link_instances::DefinitionRef;
+use link_meanings::wanted;
+use link_spec::LinkWhy;
 use std::alloc::Global;
-use type_meanings::wanted;
 
 /// The definition of an export that does not say what it is.
 fn plain_export(linker: &Linker<'_>, n: usize, export: &Export) -> Result<DefinitionRef, ItemError>

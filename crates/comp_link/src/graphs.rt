@@ -1,271 +1,21 @@
-//! The graph of what is linked: the functions that can be called, and what they lift.
+//! The graph of what is linked.
 
-ghost use Rattle.std.specs.Prelude.{◌≡◌, ◌<◌, ◌≤◌, ◌∷◌, ◌++◌, [], ℕ, List, Some, codes, map, length, IfOk, IfSome, OnOk};
-ghost use Rattle.std.specs.List.{slice_get};
-ghost use Rattle.std.specs.Option.{option_to_list};
-ghost use Rattle.ca_types.specs.declared.types.FuncType.{FuncType};
+ghost use Rattle.std.specs.Prelude.{◌≡◌, ◌<◌, ◌≤◌, length, IfOk};
 ghost use Rattle.comp_graph.specs.Graph.{instance_limit, core_instance_limit};
 ghost use Rattle.comp_graph.specs.Passed.{AreCanonTypes, AreExportTypes};
-ghost use Rattle.comp_linking.specs.Definitions.{Lifted, Definition, Exports};
-ghost use Rattle.comp_linking.specs.Spaces.{Linking};
-ghost use Rattle.comp_linking.specs.Linked as linked;
-ghost use Rattle.comp_linking.specs.Linked.{funcs_behind, called, export_of, lift_of};
-ghost use Rattle.instance_tables.specs.References.{World, IsInstance, IsEntry, IsListing};
-ghost use Rattle.instance_tables.specs.Instances.{AreInstances};
+ghost use Rattle.link_spec.specs.Spaces.{Linking};
+ghost use Rattle.link_spec.specs.Linked as linked;
 ghost use Rattle.comp_link.specs.State as state;
-ghost use Rattle.comp_link.specs.State.{IsLive};
-ghost use Rattle.comp_link.specs.Called.{named_behind, IsFuncEntry, AreFuncs, AreLists};
-ghost use Rattle.comp_link.specs.Typed.{AreTyped};
+ghost use Rattle.comp_link.specs.State.{type_table, IsLive};
 
-use crate::canons::lift_of;
-use crate::funcs::FuncLists;
 use crate::linker::{Linker, ROOT};
-use ca_base::{Name, Seq};
-use ca_types::Export;
-use comp_graph::{Graph, GraphTypes, Lift};
-use instance_tables::{DefinitionRef, InstanceRef, Instances, LiftedRef};
+use ca_base::Seq;
+use comp_graph::{Graph, GraphTypes, graph_number};
+use link_instances::{CallableFuncs, callables};
 use std::alloc::{AllocError, Global};
-use std::marker::Model;
-use type_tables::Types;
-
-/// A function that can be called, and what it lifts. Contracts see its name and the function.
-#[derive(Drop)]
-pub struct Callable {
-    export: Export,
-    lift: Lift,
-}
-
-impl Model for Callable {
-    ghost use Rattle.std.specs.Coded.{codes};
-    ghost use Rattle.ca_types.specs.contracts.types.FuncType as type_row;
-    ghost use Rattle.comp_graph.specs.contracts.graph.FuncRef as core_row;
-    ghost use Rattle.comp_graph.specs.contracts.graph.Options as options_row;
-    ghost use Rattle.comp_linking.specs.Linked as linked;
-
-    ghost Value = { linked.Callable };
-
-    ghost coded = { Prim.hlevel (codes, type_row.the_row.coded, core_row.the_row.coded, options_row.the_row.coded) };
-
-    ghost view = { λ c. record { name = c.export.name; func = record { instance = c.lift.instance; core = c.lift.core; options = c.lift.options; func_type = c.export.func_type } } };
-}
-
-impl Callable {
-    /// What it lifts.
-    fn lift(&self) -> Lift
-        ensures { result ≡ lift_of self.now }
-    {
-        self.lift
-    }
-
-    /// Its name and its type.
-    fn export(self) -> Export
-        ensures { result ≡ export_of self }
-    {
-        self.export
-    }
-}
-
-/// Functions that can be called, and of each the number of its type.
-#[derive(Drop)]
-struct TypedCallables {
-    funcs: Vec<Callable>,
-    types: Vec<usize>,
-}
-
-impl TypedCallables {
-    /// No functions. They take no memory.
-    fn new(alloc: Global) -> TypedCallables
-        ensures funcs { result.funcs.items ≡ [] }
-        ensures typed { (types : List FuncType) → AreTyped types result }
-    {
-        TypedCallables {
-            funcs: Vec::new(alloc),
-            types: Vec::new(alloc),
-        }
-    }
-
-    /// Puts a function behind the others.
-    fn push(&mut self, func: Callable, number: usize) -> Result<(), AllocError>
-        ensures funcs { OnOk result (self.new.funcs.items ≡ self.old.funcs.items ++ func ∷ []) }
-        ensures typed { OnOk result ((types : List FuncType) → slice_get types number ≡ Some func.func.func_type → AreTyped types self.old → AreTyped types self.new) }
-    {
-        self.funcs.push(func)?;
-        self.types.push(number)?;
-        Ok(())
-    }
-}
-
-/// The name that is a text behind another one.
-fn joined(alloc: Global, front: &str, text: &str) -> Result<Name, AllocError>
-    ensures { IfOk result (λ name. name ≡ front.now ++ text.now) }
-{
-    let mut both = String::from_str(alloc, front)?;
-    both.push_str(text)?;
-    Ok(Name::new(alloc, both.as_str())?)
-}
-
-/// A function behind a front, as it can be called. It fails for want of memory alone, as do all functions here.
-fn func_named(
-    alloc: Global,
-    types: &Types<'_>,
-    front: &str,
-    entry: (usize, LiftedRef),
-) -> Result<Option<Callable>, AllocError>
-    ensures named { IfOk result (λ o. (e : List ℕ × Lifted) → IsFuncEntry types.now entry e → option_to_list o ≡ named_behind front.now e) }
-    ensures typed { IfOk result (λ o. IfSome o (λ f. slice_get types.now.funcs entry.1.func_type.number ≡ Some f.func.func_type)) }
-{
-    let (number, lifted) = entry;
-    let Some(text) = types.text(number) else {
-        return Ok(None);
-    };
-    let Some(func_type) = types.func_at(lifted.func_type) else {
-        return Ok(None);
-    };
-    let export = Export {
-        name: joined(alloc, front, text)?,
-        func_type: func_type.share()?,
-    };
-    let lift = lift_of(lifted);
-    Ok(Some(Callable { export, lift }))
-}
-
-/// Puts a function behind others, behind a front.
-fn push_func(
-    alloc: Global,
-    types: &Types<'_>,
-    front: &str,
-    entry: (usize, LiftedRef),
-    funcs: &mut TypedCallables,
-) -> Result<(), AllocError>
-    ensures funcs { OnOk result ((e : List ℕ × Lifted) → IsFuncEntry types.now entry e → funcs.new.funcs.items ≡ funcs.old.funcs.items ++ named_behind front.now e) }
-    ensures typed { OnOk result (AreTyped types.now.funcs funcs.old → AreTyped types.now.funcs funcs.new) }
-{
-    if let Some(func) = func_named(alloc, types, front, entry)? {
-        funcs.push(func, entry.1.func_type.number())?;
-    }
-    Ok(())
-}
-
-/// Puts functions behind others, each behind a front.
-fn push_funcs(
-    alloc: Global,
-    types: &Types<'_>,
-    front: &str,
-    entries: &[(usize, LiftedRef)],
-    funcs: &mut TypedCallables,
-) -> Result<(), AllocError>
-    ensures funcs { OnOk result ((given : Exports) → AreFuncs types.now entries.now given → funcs.new.funcs.items ≡ funcs.old.funcs.items ++ funcs_behind front.now given) }
-    ensures typed { OnOk result (AreTyped types.now.funcs funcs.old → AreTyped types.now.funcs funcs.new) }
-{
-    for entry in entries {
-        push_func(alloc, types, front, *entry, funcs)?;
-    }
-    Ok(())
-}
-
-/// Puts the functions of an instance behind others, under its name and a `#`.
-fn push_instance(
-    alloc: Global,
-    types: &Types<'_>,
-    instances: &Instances,
-    name: &str,
-    instance: InstanceRef,
-    lists: &mut FuncLists,
-    funcs: &mut TypedCallables,
-) -> Result<(), AllocError>
-    requires { AreLists types.now instances.now lists.old }
-    ensures funcs { OnOk result ((w : World) (given : Exports) → AreInstances types.now w instances.now → IsInstance types.now w instance given → funcs.new.funcs.items ≡ funcs.old.funcs.items ++ funcs_behind (name.now ++ codes "#") given) }
-    ensures typed { OnOk result (AreTyped types.now.funcs funcs.old → AreTyped types.now.funcs funcs.new) }
-    ensures lists { OnOk result (AreLists types.now instances.now lists.new) }
-{
-    lists.list(alloc, types, instances, instance)?;
-    let Some(listed) = lists.get(instance) else {
-        return Ok(());
-    };
-    let front = joined(alloc, name, "#")?;
-    push_funcs(alloc, types, front.as_str(), listed.as_slice(), funcs)?;
-    Ok(())
-}
-
-/// Puts the functions of an export of the root behind others: itself, or those of an instance.
-fn push_called(
-    alloc: Global,
-    types: &Types<'_>,
-    instances: &Instances,
-    entry: (usize, DefinitionRef),
-    lists: &mut FuncLists,
-    funcs: &mut TypedCallables,
-) -> Result<(), AllocError>
-    requires { AreLists types.now instances.now lists.old }
-    ensures funcs { OnOk result ((w : World) (e : List ℕ × Definition) → AreInstances types.now w instances.now → IsEntry types.now w entry e → funcs.new.funcs.items ≡ funcs.old.funcs.items ++ called e) }
-    ensures typed { OnOk result (AreTyped types.now.funcs funcs.old → AreTyped types.now.funcs funcs.new) }
-    ensures lists { OnOk result (AreLists types.now instances.now lists.new) }
-{
-    let (number, definition) = entry;
-    if let Some(instance) = definition.instance() {
-        let Some(name) = types.text(number) else {
-            return Ok(());
-        };
-        push_instance(alloc, types, instances, name, instance, lists, funcs)?;
-        return Ok(());
-    }
-    let Some(lifted) = definition.func() else {
-        return Ok(());
-    };
-    push_func(alloc, types, "", (number, lifted), funcs)?;
-    Ok(())
-}
-
-/// The functions of the root that can be called, in order.
-fn callables(
-    alloc: Global,
-    types: &Types<'_>,
-    instances: &Instances,
-    entries: &[(usize, DefinitionRef)],
-) -> Result<TypedCallables, AllocError>
-    ensures funcs { IfOk result (λ v. (w : World) (given : Exports) → AreInstances types.now w instances.now → IsListing types.now w entries.now given → v.funcs.items ≡ linked.callables given) }
-    ensures typed { IfOk result (λ v. AreTyped types.now.funcs v) }
-{
-    let mut lists = FuncLists::new(alloc);
-    let mut funcs = TypedCallables::new(alloc);
-    for entry in entries {
-        push_called(alloc, types, instances, *entry, &mut lists, &mut funcs)?;
-    }
-    Ok(funcs)
-}
-
-/// What functions lift, in order.
-fn lifts_of(alloc: Global, funcs: &[Callable]) -> Result<Vec<Lift>, AllocError>
-    ensures { IfOk result (λ v. v.items ≡ map lift_of funcs.now) }
-{
-    let mut lifts = Vec::new(alloc);
-    for func in funcs {
-        lifts.push(func.lift())?;
-    }
-    Ok(lifts)
-}
-
-/// Their names and types, in order.
-fn exports_of(alloc: Global, funcs: Vec<Callable>) -> Result<Vec<Export>, AllocError>
-    ensures { IfOk result (λ v. v.items ≡ map export_of funcs.items) }
-{
-    let mut exports = Vec::new(alloc);
-    for func in funcs {
-        exports.push(func.export())?;
-    }
-    Ok(exports)
-}
-
-/// The functions of a graph that can be called, with what each lifts and the number of its type.
-#[derive(Drop)]
-struct GraphFuncs {
-    exports: Vec<Export>,
-    lifts: Vec<Lift>,
-    types: Vec<usize>,
-}
 
 /// The functions of the graph of what is linked that can be called.
-fn graph_funcs(alloc: Global, linker: &Linker<'_>) -> Result<GraphFuncs, AllocError>
+fn graph_funcs(alloc: Global, linker: &Linker<'_>) -> Result<CallableFuncs, AllocError>
     requires root { 0 < length linker.now.scopes.items }
     requires live { IsLive linker.now 0 }
     ensures exports { IfOk result (λ f. (l : Linking) → state.Stands linker.now l → f.exports.items ≡ (linked.graph_of l).exports) }
@@ -274,14 +24,8 @@ fn graph_funcs(alloc: Global, linker: &Linker<'_>) -> Result<GraphFuncs, AllocEr
     ensures typed { IfOk result (λ f. AreExportTypes linker.now.types.funcs f.types.items f.exports.items) }
 {
     let entries = linker.scope(ROOT).exports.entries();
-    let listed = callables(alloc, &linker.types, &linker.instances, entries)?;
-    let lifts = lifts_of(alloc, &listed.funcs)?;
-    let exports = exports_of(alloc, listed.funcs)?;
-    Ok(GraphFuncs {
-        exports,
-        lifts,
-        types: listed.types,
-    })
+    let funcs = callables(alloc, &linker.types, &linker.instances, entries)?;
+    Ok(funcs)
 }
 
 /// The graph of what is linked.
@@ -290,21 +34,25 @@ pub fn graph_of<'a>(alloc: Global, linker: Linker<'a>) -> Result<Graph<'a>, Allo
     requires live { IsLive linker 0 }
     requires few { length linker.scopes.items ≤ instance_limit }
     requires few_cores { length linker.cores.makes ≤ core_instance_limit }
-    requires typed { AreCanonTypes linker.types.funcs linker.canon_types.items linker.canons.items }
+    requires typed { AreCanonTypes (type_table linker.types) linker.canon_types.items linker.canons.items }
     ensures { IfOk result (λ g. (l : Linking) → state.Stands linker.entry l → g ≡ linked.graph_of l) }
 {
     let funcs = graph_funcs(alloc, &linker)?;
-    let count = linker.scopes.len();
+    let count = graph_number(linker.scopes.len())?;
+    let resources = Seq::new(alloc);
+    let ends = Seq::new(alloc);
     let types = GraphTypes {
         types: linker.types.into_func_types(),
         canons: Seq::from_vec(linker.canon_types),
         exports: Seq::from_vec(funcs.types),
+        ends,
     };
     Ok(Graph::new(
         Seq::from_vec(linker.plan),
         count,
         linker.cores.into_makes(),
         Seq::from_vec(linker.canons),
+        resources,
         Seq::from_vec(funcs.exports),
         Seq::from_vec(funcs.lifts),
         types,

@@ -2,15 +2,15 @@
 
 ghost use Rattle.std.specs.Prelude.{◌≡◌, ◌<◌, List, length, Option, Some, None, OnOk, IsTrue};
 ghost use Rattle.comp_graph.specs.Closed.{Extern};
-ghost use Rattle.comp_linking.specs.Definitions.{Exports};
-ghost use Rattle.comp_linking.specs.Spaces.{Spaces, Linking};
-ghost use Rattle.comp_linking.specs.Items as items;
-ghost use Rattle.comp_linking.specs.Tests as tests;
-ghost use Rattle.comp_linking.specs.Computed.{import_outcome, root_given};
-ghost use Rattle.type_tables.specs.Table.{Table, IsName, IsExtern};
-ghost use Rattle.instance_tables.specs.References.{World, IsInstance};
-ghost use Rattle.instance_tables.specs.Instances.{AreInstances};
-ghost use Rattle.type_meanings.specs.Meant.{IsFoundAs};
+ghost use Rattle.link_spec.specs.Definitions.{Exports};
+ghost use Rattle.link_spec.specs.Spaces.{Spaces, Linking};
+ghost use Rattle.link_spec.specs.Items as items;
+ghost use Rattle.link_spec.specs.Tests as tests;
+ghost use Rattle.link_spec.specs.Computed.{import_outcome, root_given};
+ghost use Rattle.link_types.specs.Table.{Table, IsName, IsExtern};
+ghost use Rattle.link_instances.specs.References.{World, IsInstance};
+ghost use Rattle.link_instances.specs.Instances.{AreInstances};
+ghost use Rattle.link_meanings.specs.Meant.{IsFoundAs};
 ghost use Rattle.comp_link.specs.State.{world_of, IsAt, IsMade, ended};
 ghost use Rattle.comp_link.specs.Told.{IsTold};
 ghost use Rattle.comp_link.specs.Ready.{IsReady, IsGiven, IsTypesOf, imported};
@@ -19,12 +19,12 @@ use crate::link_fault::{ItemError, missing};
 use crate::linker::Linker;
 use crate::seen::seen;
 use ca_base::MemoryOr;
-use comp_linking::LinkWhy;
 use comp_tree::{ExternDesc, Import};
-use instance_tables::{DefinitionRef, InstanceRef, Instances};
+use link_instances::{DefinitionRef, InstanceRef, Instances};
+use link_meanings::wanted;
+use link_spec::LinkWhy;
+use link_types::{ExternRef, InstanceTypeRef, Types};
 use std::alloc::Global;
-use type_meanings::wanted;
-use type_tables::{ExternRef, InstanceTypeRef, Types};
 
 /// Whether an instance whose exports are types is asked for.
 fn is_of_types(instances: &Instances, types: &Types<'_>, asked: ExternRef) -> bool

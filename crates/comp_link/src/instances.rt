@@ -2,9 +2,9 @@
 
 ghost use Rattle.std.specs.Prelude.{◌≡◌, ◌<◌, List, length, OnOk};
 ghost use Rattle.comp_tree.specs.declared.instances.Instance.TheVariants as made;
-ghost use Rattle.comp_linking.specs.Definitions.{Exports};
-ghost use Rattle.comp_linking.specs.Spaces.{Spaces, Linking};
-ghost use Rattle.comp_linking.specs.Computed.{instance_outcome};
+ghost use Rattle.link_spec.specs.Definitions.{Exports};
+ghost use Rattle.link_spec.specs.Spaces.{Spaces, Linking};
+ghost use Rattle.link_spec.specs.Computed.{instance_outcome};
 ghost use Rattle.comp_link.specs.State.{IsAt, ended};
 ghost use Rattle.comp_link.specs.Told.{IsTold};
 ghost use Rattle.comp_link.specs.Next.{IsNext};
@@ -14,9 +14,9 @@ use crate::linker::{INSTANCE_LIMIT, Linker};
 use crate::named::named_exports;
 use ca_base::{MemoryOr, Seq};
 use ca_types::Shared;
-use comp_linking::LinkWhy;
 use comp_tree::{Component, Instance, NamedDefinition};
-use instance_tables::{DefinitionRef, InstanceRef};
+use link_instances::{DefinitionRef, InstanceRef};
+use link_spec::LinkWhy;
 use std::alloc::Global;
 
 /// What an instance comes to.

@@ -2,16 +2,16 @@
 //!
 //! The layer above takes a component's graph: its core instances, in order of making, the core functions that the Canonical ABI
 //! makes, and the functions that it exports, each with its core function and its type. `link` answers the one graph of a component,
-//! as `comp_linking` defines it, or its first item that is refused, with the place and the reason. Only want of memory keeps it from
+//! as `link_spec` defines it, or its first item that is refused, with the place and the reason. Only want of memory keeps it from
 //! either.
 //!
 //! - `linking`: from a component to its graph, item by item
 //! - `core_instances`, `core_aliases`, `lifts`, `lowers`, `aliases`, `types`, `instances`, `imports` and `exports`: what each kind
 //!   of item makes
 //! - `named` and `seen`: definitions under names, and definitions as they are asked for
-//! - `linker`, of `scope` and `cores`: linking as it stands, the index spaces of a component instance, and the core modules with
-//!   the core instances that are made of them
-//! - `graphs`, of `funcs` and `canons`: the graph of what is linked
+//! - `linker`, of `scope` and `canons`: linking as it stands, the index spaces of a component instance, and the core functions that
+//!   functions are lowered to
+//! - `graphs`: the graph of what is linked
 //! - `link_fault`: why a linking ends without a graph
 #![tactic(auto)]
 
@@ -19,9 +19,7 @@ mod aliases;
 mod canons;
 mod core_aliases;
 mod core_instances;
-mod cores;
 mod exports;
-mod funcs;
 mod graphs;
 mod imports;
 mod instances;
@@ -35,6 +33,6 @@ mod scope;
 mod seen;
 mod types;
 
-pub use comp_linking::{LinkFault, LinkWhy};
 pub use link_fault::LinkError;
+pub use link_spec::{LinkFault, LinkWhy};
 pub use linking::link;

@@ -2,22 +2,40 @@
 
 ghost use Rattle.std.specs.Prelude.{◌≡◌, ◌<◌, List, OnOk, length};
 ghost use Rattle.ca_types.specs.declared.types.FuncType.{FuncType};
-ghost use Rattle.comp_linking.specs.Definitions.{Exports};
-ghost use Rattle.comp_linking.specs.Spaces.{Spaces, Linking};
-ghost use Rattle.comp_linking.specs.Computed.{lifted_to, lifted_of, lift_outcome};
-ghost use Rattle.type_tables.specs.Table.{IsFunc};
-ghost use Rattle.instance_tables.specs.References.{IsLifted};
+ghost use Rattle.link_spec.specs.Canons as canons;
+ghost use Rattle.link_spec.specs.Definitions.{Exports};
+ghost use Rattle.link_spec.specs.Spaces.{Spaces, Linking};
+ghost use Rattle.link_spec.specs.Computed.{lifted_to, lifted_of, lift_outcome};
+ghost use Rattle.link_types.specs.Laid.{IsLaid};
+ghost use Rattle.link_types.specs.Table.{IsFunc};
+ghost use Rattle.link_instances.specs.References.{IsLifted};
 ghost use Rattle.comp_link.specs.State.{IsAt, IsMade, ended};
 ghost use Rattle.comp_link.specs.Told.{IsTold};
 
 use crate::link_fault::ItemError;
 use crate::linker::Linker;
 use ca_base::MemoryOr;
-use comp_linking::LinkWhy;
+use canon_types::{
+    lift_needs_realloc, lifted_type, needs_memory, post_return_type, realloc_type, stand_once,
+};
+use comp_graph::graph_number;
 use comp_tree::{CanonOption, CoreSort};
-use core_exports::{CoreItem, Given, are_there, can_be_lifted, stand_once};
-use instance_tables::{DefinitionRef, LiftedRef};
-use type_tables::{FuncTypeRef, TypeRef, Types};
+use link_core_exports::{CoreItem, Given};
+use link_instances::{DefinitionRef, LiftedRef};
+use link_spec::LinkWhy;
+use link_types::{FuncTypeRef, LaidFunc, TypeRef, Types};
+
+/// Whether a core item can be lifted to a function of a type, with what options give (Component Model, CanonicalABI.md, `canon
+/// lift`). It takes no longer for a function of many parameters.
+fn can_be_lifted(laid: &LaidFunc, item: &CoreItem<'_>, given: &Given<'_>) -> bool
+    ensures { (f : FuncType) → IsLaid laid.now f → result ≡ canons.can_be_lifted f item.now given.now }
+{
+    item.is_of_type(&lifted_type(laid))
+        && given.realloc_is(&realloc_type())
+        && given.post_return_is(&post_return_type(laid))
+        && (!needs_memory(laid) || given.has_memory())
+        && (!lift_needs_realloc(laid) || given.has_realloc())
+}
 
 /// The lift of a core item to a function of this type, with what options give, in the component instance of this number.
 fn lifted_to(
@@ -42,8 +60,9 @@ fn lifted_to(
     let Some(core) = item.core_func() else {
         return Err(MemoryOr::Fault(LinkWhy::Canon));
     };
+    let instance = graph_number(n)?;
     Ok(LiftedRef {
-        instance: n,
+        instance,
         core,
         options: given.options(),
         func_type,
@@ -65,7 +84,7 @@ fn lifted(
     let Some(item) = scope.core_item(CoreSort::Func, core_func) else {
         return Err(MemoryOr::Fault(LinkWhy::Index));
     };
-    if !are_there(options, &scope.core_memories, &scope.core_funcs) {
+    if !scope.are_there(options) {
         return Err(MemoryOr::Fault(LinkWhy::Index));
     }
     let Some(of_type) = scope.type_at(func_type) else {
@@ -74,7 +93,7 @@ fn lifted(
     let TypeRef::Func(of_func) = of_type else {
         return Err(MemoryOr::Fault(LinkWhy::Typing));
     };
-    let given = Given::by(options, &scope.core_memories, &scope.core_funcs);
+    let given = scope.given(options);
     lifted_to(&linker.types, n, &item, options, &given, of_func)
 }
 

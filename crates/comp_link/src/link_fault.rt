@@ -1,8 +1,8 @@
 //! Why a linking ends without a graph.
 
 use ca_base::MemoryOr;
-use comp_linking::{LinkFault, LinkWhy};
-pub use core_exports::missing;
+pub use link_core_exports::missing;
+use link_spec::{LinkFault, LinkWhy};
 
 /// Why a linking ends without a graph: an item is refused, or memory ran out.
 pub type LinkError = MemoryOr<LinkFault>;

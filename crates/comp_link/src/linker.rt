@@ -6,34 +6,34 @@ ghost use Rattle.std.specs.Option.{option_and_then, option_copied};
 ghost use Rattle.ca_base.specs.Faults.{IfFault};
 ghost use Rattle.wasm_module.specs.declared.module.ModuleTree.{ModuleTree};
 ghost use Rattle.comp_graph.specs.Closed.{Extern, Externs};
-ghost use Rattle.comp_linking.specs.Definitions.{CoreItem, extern_of, Lifted, Closure, Definition, AComponent, AModule, Exports, types_of};
-ghost use Rattle.comp_linking.specs.Tests.{are_types};
-ghost use Rattle.comp_linking.specs.Spaces.{Spaces, Linking, with_core_item, with_core_instance, with_definition, with_spaces};
-ghost use Rattle.comp_linking.specs.Canons.{Given, options_of};
-ghost use Rattle.comp_linking.specs.Items.{core_made, lower_made, with_import, with_export};
-ghost use Rattle.comp_linking.specs.Linked.{root_begun, begun, with_instance};
-ghost use Rattle.comp_linking.specs.Computed.{imports_outcome};
-ghost use Rattle.type_tables.specs.Table.{IsName, IsExtern, IsInstanceType};
-ghost use Rattle.instance_tables.specs.declared.references.DefinitionRef.{DefinitionRef};
-ghost use Rattle.instance_tables.specs.References.{IsInstance, IsLifted, IsListing};
-ghost use Rattle.instance_tables.specs.References as references;
-ghost use Rattle.instance_tables.specs.Fit.{IsFit};
-ghost use Rattle.type_meanings.specs.Meant.{IsFoundAs};
+ghost use Rattle.link_spec.specs.Definitions.{CoreItem, extern_of, Lifted, Closure, Definition, AComponent, AModule, Exports, types_of};
+ghost use Rattle.link_spec.specs.Tests.{are_types};
+ghost use Rattle.link_spec.specs.Spaces.{Spaces, Linking, with_core_item, with_core_instance, with_definition, with_spaces};
+ghost use Rattle.link_spec.specs.Canons.{Given, options_of};
+ghost use Rattle.link_spec.specs.Items.{core_made, lower_made, with_import, with_export};
+ghost use Rattle.link_spec.specs.Linked.{root_begun, begun, with_instance};
+ghost use Rattle.link_spec.specs.Computed.{imports_outcome};
+ghost use Rattle.link_types.specs.Table.{IsName, IsExtern, IsInstanceType};
+ghost use Rattle.link_instances.specs.declared.references.DefinitionRef.{DefinitionRef};
+ghost use Rattle.link_instances.specs.References.{IsInstance, IsLifted, IsListing};
+ghost use Rattle.link_instances.specs.References as references;
+ghost use Rattle.link_instances.specs.Fit.{IsFit};
+ghost use Rattle.link_meanings.specs.Meant.{IsFoundAs};
 ghost use Rattle.comp_link.specs.Reached.{IsReached};
 ghost use Rattle.comp_link.specs.State.{world_of, IsScope, IsKept, IsState, IsAt, IsThere, IsLive, Stands, ended};
 
 use crate::canons::lowered_to;
-use crate::cores::Cores;
 use crate::link_fault::ItemError;
 use crate::scope::{Scope, Standing};
 use ca_base::{Name, Seq};
 use ca_types::Shared;
-use comp_graph::{Action, CanonFunc, CoreExtern, Options};
+use canon_types::lowered_type;
+use comp_graph::{Action, CanonFunc, CoreExtern, Options, graph_number};
 use comp_tree::{Component, CoreArgument};
-use core_exports::{CoreExports, CoreItem, CoreModule, InlineExports};
-use instance_tables::{DefinitionRef, Fit, InstanceRef, Instances, LiftedRef};
+use link_core_exports::{CoreExports, CoreItem, CoreModule, Cores, InlineExports};
+use link_instances::{DefinitionRef, Fit, InstanceRef, Instances, LiftedRef};
+use link_types::{ExternRef, InstanceTypeRef, Listing, Types};
 use std::alloc::{AllocError, Global};
-use type_tables::{ExternRef, InstanceTypeRef, Listing, Types};
 
 /// The number of the root, which begins first.
 pub const ROOT: usize = 0;
@@ -57,7 +57,7 @@ pub struct Linker<'a> {
     /// The core functions that functions are lowered to, in order of making.
     pub canons: Vec<CanonFunc>,
     /// The number of the type of the function that each of them calls.
-    pub canon_types: Vec<usize>,
+    pub canon_types: Vec<Option<u32>>,
     /// What is made, in file order.
     pub plan: Vec<Action>,
 }
@@ -70,7 +70,7 @@ impl<'a> Linker<'a> {
         ensures live { IfOk result (λ k. IsLive k 0) }
     {
         let mut plan = Vec::new(alloc);
-        plan.push(Action::Begin(ROOT))?;
+        plan.push(Action::Begin(0))?;
         let mut scopes = Vec::new(alloc);
         let around = Shared::new(alloc, Seq::new(alloc))?;
         scopes.push(Scope::new(alloc, None, around))?;
@@ -259,8 +259,9 @@ impl<'a> Linker<'a> {
         ensures scopes { OnOk result (length self.new.scopes.items ≡ length self.old.scopes.items) }
         ensures live { OnOk result (ended self.new ≡ ended self.old) }
     {
-        let instance = self.cores.count();
-        let exports = self.cores.add_instance(number, imports, n)?;
+        let instance = graph_number(self.cores.count())?;
+        let owner = graph_number(n)?;
+        let exports = self.cores.add_instance(number, imports, owner)?;
         self.plan.push(Action::Make(instance))?;
         self.scopes[n].add_core_instance(exports)?;
         Ok(())
@@ -269,6 +270,7 @@ impl<'a> Linker<'a> {
     /// Lowers a function whose type is there, with these options: one core function more.
     pub fn add_lower(
         &mut self,
+        alloc: Global,
         n: usize,
         func: LiftedRef,
         options: Options,
@@ -278,15 +280,17 @@ impl<'a> Linker<'a> {
         ensures scopes { OnOk result (length self.new.scopes.items ≡ length self.old.scopes.items) }
         ensures live { OnOk result (ended self.new ≡ ended self.old) }
     {
-        let Some(made) = lowered_to(&self.types, n, func, options)? else {
+        let instance = graph_number(n)?;
+        let Some(made) = lowered_to(alloc, &self.types, instance, func, options)? else {
             return Ok(());
         };
-        let number = self.canons.len();
+        let number = graph_number(self.canons.len())?;
+        let func_type = graph_number(func.func_type.number())?;
         let Some(laid) = self.types.laid_func(func.func_type) else {
             return Ok(());
         };
-        let item = CoreItem::lowered(number, laid);
-        self.canon_types.push(func.func_type.number())?;
+        let item = CoreItem::made(number, lowered_type(laid));
+        self.canon_types.push(Some(func_type))?;
         self.canons.push(made)?;
         self.scopes[n].add_core_item(item)?;
         Ok(())
@@ -360,7 +364,7 @@ impl<'a> Linker<'a> {
         ensures scopes { OnOk result (length self.new.scopes.items ≡ length self.old.scopes.items + 1) }
         ensures live { OnOk result (ended self.new ≡ ended self.old ++ false ∷ []) }
     {
-        let number = self.scopes.len();
+        let number = graph_number(self.scopes.len())?;
         self.scopes
             .push(Scope::new(alloc, Some(arguments), around))?;
         self.plan.push(Action::Begin(number))?;

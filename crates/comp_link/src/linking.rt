@@ -6,12 +6,12 @@ ghost use Rattle.ca_base.specs.Faults.{IfFault};
 ghost use Rattle.ca_types.specs.declared.exports.Export.{Export};
 ghost use Rattle.comp_graph.specs.Graph.{instance_limit, core_instance_limit};
 ghost use Rattle.comp_tree.specs.declared.items.Item.TheOpen.{Item-F};
-ghost use Rattle.comp_linking.specs.Definitions.{Exports, AComponent, AModule};
-ghost use Rattle.comp_linking.specs.Spaces.{Spaces, Linking};
-ghost use Rattle.comp_linking.specs.Linked.{begun, with_instance, IsLinked, IsLinkRefused};
-ghost use Rattle.comp_linking.specs.Shallow.{HasShallowTypes};
-ghost use Rattle.comp_linking.specs.Computed.{Outcome, after, one_more, outcome_case, item_outcome, run_within, step};
-ghost use Rattle.instance_tables.specs.References.{IsInstance};
+ghost use Rattle.link_spec.specs.Definitions.{Exports, AComponent, AModule};
+ghost use Rattle.link_spec.specs.Spaces.{Spaces, Linking};
+ghost use Rattle.link_spec.specs.Linked.{begun, with_instance, IsLinked, IsLinkRefused};
+ghost use Rattle.link_spec.specs.Shallow.{HasShallowTypes};
+ghost use Rattle.link_spec.specs.Computed.{Outcome, after, one_more, outcome_case, item_outcome, run_within, step};
+ghost use Rattle.link_instances.specs.References.{IsInstance};
 ghost use Rattle.comp_link.specs.State.{world_of, IsState, IsAt, IsMade, IsLive, StayLive, ended};
 ghost use Rattle.comp_link.specs.State as state;
 ghost use Rattle.comp_link.specs.Told.{IsTold};
@@ -33,13 +33,13 @@ use crate::types::link_type;
 use ca_base::{MemoryOr, Placed, Seq};
 use ca_types::Shared;
 use comp_graph::Graph;
-use comp_linking::laws::graphs_are_sound;
-use comp_linking::{LinkFault, LinkWhy};
 use comp_tree::{Canon, Component, Item};
-use core_exports::CoreModule;
-use instance_tables::InstanceRef;
+use link_core_exports::CoreModule;
+use link_instances::InstanceRef;
+use link_spec::laws::graphs_are_sound;
+use link_spec::{LinkFault, LinkWhy};
 use std::alloc::Global;
-use wasm_valid::Valid;
+use wasm_typing::Valid;
 
 /// Adds a core module.
 fn link_core_module<'a>(
@@ -74,8 +74,13 @@ fn link_component<'a>(
     Ok(())
 }
 
-/// Links a canonical function.
-fn link_canon(linker: &mut Linker<'_>, n: usize, canon: &Canon) -> Result<(), ItemError>
+/// Links a canonical function. No built-in is linked.
+fn link_canon(
+    alloc: Global,
+    linker: &mut Linker<'_>,
+    n: usize,
+    canon: &Canon,
+) -> Result<(), ItemError>
     requires { n < length linker.old.scopes.items }
     ensures made { (bases : List Exports) (l : Linking) (s : Spaces) → IsAt bases linker.old n l s → IsTold (λ _ outcome. IsMade linker.new outcome) result (outcome_case l n s (Item-F.Canon canon.now)) }
     ensures scopes { OnOk result (length linker.new.scopes.items ≡ length linker.old.scopes.items) }
@@ -87,7 +92,8 @@ fn link_canon(linker: &mut Linker<'_>, n: usize, canon: &Canon) -> Result<(), It
             options,
             func_type,
         } => link_lift(linker, n, *core_func, options.as_slice(), *func_type),
-        Canon::Lower { func, options } => link_lower(linker, n, *func, options.as_slice()),
+        Canon::Lower { func, options } => link_lower(alloc, linker, n, *func, options.as_slice()),
+        Canon::Builtin(_) => Err(MemoryOr::Fault(LinkWhy::Canon)),
     }
 }
 
@@ -114,13 +120,13 @@ fn link_item<'a>(
     ensures live { OnOk result (ended linker.new ≡ ended linker.old) }
 {
     match item {
-        Item::CoreModule(valid) => next(link_core_module(alloc, linker, n, valid)),
+        Item::CoreModule(valid) => next(link_core_module(alloc, linker, n, valid.get())),
         Item::CoreInstance(made) => next(link_core_instance(alloc, linker, n, made)),
         Item::Component(component) => next(link_component(alloc, linker, n, component)),
         Item::Instance(instance) => link_instance(alloc, linker, n, instance),
         Item::Alias(alias) => next(link_alias(alloc, linker, n, alias)),
         Item::Type(def_type) => next(link_type(alloc, linker, n, def_type)),
-        Item::Canon(canon) => next(link_canon(linker, n, canon)),
+        Item::Canon(canon) => next(link_canon(alloc, linker, n, canon)),
         Item::Import(import) => next(link_import(alloc, linker, n, import)),
         Item::Export(export) => next(link_export(alloc, linker, n, export)),
     }

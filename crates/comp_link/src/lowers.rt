@@ -2,11 +2,13 @@
 
 ghost use Rattle.std.specs.Prelude.{◌≡◌, ◌<◌, List, OnOk, length};
 ghost use Rattle.ca_types.specs.declared.types.FuncType.{FuncType};
-ghost use Rattle.comp_linking.specs.Canons.{options_of};
-ghost use Rattle.comp_linking.specs.Definitions.{Exports};
-ghost use Rattle.comp_linking.specs.Spaces.{Spaces, Linking};
-ghost use Rattle.comp_linking.specs.Computed.{lowered_from, lower_outcome};
-ghost use Rattle.type_tables.specs.Table.{IsFunc};
+ghost use Rattle.link_spec.specs.Canons as canons;
+ghost use Rattle.link_spec.specs.Canons.{options_of};
+ghost use Rattle.link_spec.specs.Definitions.{Exports};
+ghost use Rattle.link_spec.specs.Spaces.{Spaces, Linking};
+ghost use Rattle.link_spec.specs.Computed.{lowered_from, lower_outcome};
+ghost use Rattle.link_types.specs.Laid.{IsLaid};
+ghost use Rattle.link_types.specs.Table.{IsFunc};
 ghost use Rattle.comp_link.specs.State.{IsAt, IsMade, ended};
 ghost use Rattle.comp_link.specs.Told.{IsTold};
 ghost use Rattle.comp_link.specs.Ready.{IsLowering};
@@ -14,12 +16,25 @@ ghost use Rattle.comp_link.specs.Ready.{IsLowering};
 use crate::link_fault::ItemError;
 use crate::linker::Linker;
 use ca_base::MemoryOr;
+use canon_types::{lower_needs_realloc, needs_memory, realloc_type, stand_once};
 use comp_graph::Options;
-use comp_linking::LinkWhy;
 use comp_tree::CanonOption;
-use core_exports::{Given, are_there, can_be_lowered, stand_once};
-use instance_tables::LiftedRef;
-use type_tables::{FuncTypeRef, Types};
+use link_core_exports::Given;
+use link_instances::LiftedRef;
+use link_spec::LinkWhy;
+use link_types::{FuncTypeRef, LaidFunc, Types};
+use std::alloc::Global;
+
+/// Whether a function of a type can be lowered with what options give (Component Model, CanonicalABI.md, `canon lower`). It takes
+/// no longer for a function of many parameters.
+fn can_be_lowered(laid: &LaidFunc, given: &Given<'_>) -> bool
+    ensures { (f : FuncType) → IsLaid laid.now f → result ≡ canons.can_be_lowered f given.now }
+{
+    given.realloc_is(&realloc_type())
+        && !given.has_post_return()
+        && (!needs_memory(laid) || given.has_memory())
+        && (!lower_needs_realloc(laid) || given.has_realloc())
+}
 
 /// What options give the lowering of a function of this type.
 fn lowered_from(
@@ -56,16 +71,17 @@ fn lowered(
     let Some(lifted) = scope.func(func) else {
         return Err(MemoryOr::Fault(LinkWhy::Index));
     };
-    if !are_there(options, &scope.core_memories, &scope.core_funcs) {
+    if !scope.are_there(options) {
         return Err(MemoryOr::Fault(LinkWhy::Index));
     }
-    let given = Given::by(options, &scope.core_memories, &scope.core_funcs);
+    let given = scope.given(options);
     let used = lowered_from(&linker.types, lifted.func_type, options, &given)?;
     Ok((lifted, used))
 }
 
 /// Links a lower.
 pub fn link_lower(
+    alloc: Global,
     linker: &mut Linker<'_>,
     n: usize,
     func: u32,
@@ -77,6 +93,6 @@ pub fn link_lower(
     ensures live { OnOk result (ended linker.new ≡ ended linker.old) }
 {
     let (lifted, used) = lowered(linker, n, func, options)?;
-    linker.add_lower(n, lifted, used)?;
+    linker.add_lower(alloc, n, lifted, used)?;
     Ok(())
 }

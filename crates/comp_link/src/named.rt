@@ -2,14 +2,14 @@
 
 ghost use Rattle.std.specs.Prelude.{◌≡◌, ◌<◌, List, nat_lt, length};
 ghost use Rattle.std.specs.List.{list_all};
-ghost use Rattle.comp_linking.specs.declared.fault.LinkWhy.TheVariants as why;
-ghost use Rattle.comp_linking.specs.Definitions.{Exports, WithExport};
-ghost use Rattle.comp_linking.specs.Spaces.{Spaces, Linking, size_of, definition_at};
-ghost use Rattle.comp_linking.specs.Computed as computed;
-ghost use Rattle.comp_linking.specs.Computed.{exports_behind, there_or};
-ghost use Rattle.comp_linking.specs.Definitions.{EmptyInstance};
-ghost use Rattle.type_tables.specs.Table.{Table};
-ghost use Rattle.instance_tables.specs.References.{World, IsListing};
+ghost use Rattle.link_spec.specs.declared.fault.LinkWhy.TheVariants as why;
+ghost use Rattle.link_spec.specs.Definitions.{Exports, WithExport};
+ghost use Rattle.link_spec.specs.Spaces.{Spaces, Linking, size_of, definition_at};
+ghost use Rattle.link_spec.specs.Computed as computed;
+ghost use Rattle.link_spec.specs.Computed.{exports_behind, there_or};
+ghost use Rattle.link_spec.specs.Definitions.{EmptyInstance};
+ghost use Rattle.link_types.specs.Table.{Table};
+ghost use Rattle.link_instances.specs.References.{World, IsListing};
 ghost use Rattle.comp_link.specs.State.{world_of, IsScope, IsAt};
 ghost use Rattle.comp_link.specs.Told.{IsTold};
 
@@ -17,11 +17,11 @@ use crate::link_fault::ItemError;
 use crate::linker::Linker;
 use crate::scope::Scope;
 use ca_base::{MemoryOr, are_distinct};
-use comp_linking::LinkWhy;
 use comp_tree::NamedDefinition;
-use instance_tables::DefinitionRef;
+use link_instances::DefinitionRef;
+use link_spec::LinkWhy;
+use link_types::Listing;
 use std::alloc::Global;
-use type_tables::Listing;
 
 /// Whether the definition of each index is there.
 fn are_there(scope: &Scope<'_>, read: &[NamedDefinition]) -> bool

@@ -1,30 +1,32 @@
 //! The index spaces of a component instance, as references into tables.
 
 ghost use Rattle.std.specs.Prelude.{◌≡◌, ◌∷◌, ◌++◌, [], true, false, OnOk, OnErr, IfOk, Option, List, ℕ};
-ghost use Rattle.std.specs.List.{slice_get};
+ghost use Rattle.std.specs.List.{slice_get, list_all};
 ghost use Rattle.std.specs.Option.{option_map};
 ghost use Rattle.ca_base.specs.Names.{is_among};
-ghost use Rattle.comp_linking.specs.Definitions.{Closure, Definition, Exports};
-ghost use Rattle.comp_linking.specs.Spaces as spaces;
-ghost use Rattle.comp_linking.specs.Spaces.{Spaces, core_size, size_of, core_item_at, definition_at, new_spaces, with_core_item, with_core_instance, with_definition};
-ghost use Rattle.comp_linking.specs.Items.{with_import, with_export};
-ghost use Rattle.type_tables.specs.Table.{Table, IsName, IsType};
-ghost use Rattle.instance_tables.specs.declared.references.DefinitionRef.TheVariants as definition_ref;
-ghost use Rattle.instance_tables.specs.References.{World, IsInstance, IsLifted, Stands};
-ghost use Rattle.type_meanings.specs.Meant.{IsFoundAs};
-ghost use Rattle.type_meanings.specs.Levels.{IsClosure};
+ghost use Rattle.link_spec.specs.Definitions.{Closure, Definition, Exports};
+ghost use Rattle.link_spec.specs.Canons.{given_by, is_option_there};
+ghost use Rattle.link_spec.specs.Spaces as spaces;
+ghost use Rattle.link_spec.specs.Spaces.{Spaces, core_size, size_of, core_item_at, definition_at, new_spaces, with_core_item, with_core_instance, with_definition};
+ghost use Rattle.link_spec.specs.Items.{with_import, with_export};
+ghost use Rattle.link_types.specs.Table.{Table, IsName, IsType};
+ghost use Rattle.link_instances.specs.declared.references.DefinitionRef.TheVariants as definition_ref;
+ghost use Rattle.link_instances.specs.References.{World, IsInstance, IsLifted, Stands};
+ghost use Rattle.link_meanings.specs.Meant.{IsFoundAs};
+ghost use Rattle.link_meanings.specs.Levels.{IsClosure};
 ghost use Rattle.comp_link.specs.State.{IsModule, IsScope, IsKept, AreGiven};
 
 use ca_base::{Name, Seq, adds};
 use ca_types::Shared;
-use comp_tree::{Component, CoreSort, Sort};
-use core_exports::{CoreExports, CoreItem, item_at};
-use instance_tables::{DefinitionRef, InstanceRef, LiftedRef};
+use canon_types::{are_there, indices_of};
+use comp_tree::{CanonOption, Component, CoreSort, Sort};
+use link_core_exports::{CoreExports, CoreItem, Given, item_at, item_named};
+use link_instances::{DefinitionRef, InstanceRef, LiftedRef};
+use link_types::{Listing, TypeRef};
 use std::alloc::{AllocError, Global};
 use std::collections::BTreeSet;
 use std::marker::Model;
 use std::mem;
-use type_tables::{Listing, TypeRef};
 
 /// A component where it stands: as it is read, and the component instances around it, from the inside out. Contracts see its
 /// items in place of it.
@@ -38,7 +40,7 @@ impl<'a> Model for Standing<'a> {
     ghost use Rattle.std.specs.Coded.{codes};
     ghost use Rattle.comp_tree.specs.contracts.items.Component as component_row;
     ghost use Rattle.comp_tree.specs.contracts.items.Item as item_row;
-    ghost use Rattle.comp_linking.specs.Definitions.{Closure};
+    ghost use Rattle.link_spec.specs.Definitions.{Closure};
 
     ghost Value = { Closure };
 
@@ -253,6 +255,25 @@ impl<'a> Scope<'a> {
             CoreSort::Global => item_at(&self.core_globals, index),
             CoreSort::Module | CoreSort::Instance => None,
         }
+    }
+
+    /// Whether what options name is there (Component Model, Explainer.md, "Canonical Definitions").
+    pub fn are_there(&self, options: &[CanonOption]) -> bool
+        ensures { (t : Table) (w : World) (s : Spaces) → IsScope t w self.now s → result ≡ list_all (is_option_there s) options.now }
+    {
+        are_there(options, self.core_memories.len(), self.core_funcs.len())
+    }
+
+    /// What options give (Component Model, CanonicalABI.md, "Canonical ABI Options").
+    pub fn given(&self, options: &[CanonOption]) -> Given<'a>
+        ensures { (t : Table) (w : World) (s : Spaces) → IsScope t w self.now s → result ≡ given_by s options.now }
+    {
+        let indices = indices_of(options);
+        Given::new(
+            item_named(&self.core_memories, indices.memory),
+            item_named(&self.core_funcs, indices.realloc),
+            item_named(&self.core_funcs, indices.post_return),
+        )
     }
 
     /// The number of the core module of an index.

@@ -3,14 +3,14 @@
 ghost use Rattle.std.specs.Prelude.{◌≡◌, ℕ, List, Option, Some, Ok};
 ghost use Rattle.ca_base.specs.Faults.{IfFault};
 ghost use Rattle.comp_graph.specs.Closed.{Extern};
-ghost use Rattle.comp_linking.specs.declared.fault.LinkWhy.TheVariants as why;
-ghost use Rattle.comp_linking.specs.Definitions.{Definition, Exports};
-ghost use Rattle.comp_linking.specs.Spaces.{Linking};
-ghost use Rattle.comp_linking.specs.Items.{lacking};
-ghost use Rattle.comp_linking.specs.Computed.{none_missing};
-ghost use Rattle.type_tables.specs.Table.{IsName, IsExtern};
-ghost use Rattle.instance_tables.specs.References as references;
-ghost use Rattle.type_meanings.specs.Meant.{IsFoundAs};
+ghost use Rattle.link_spec.specs.declared.fault.LinkWhy.TheVariants as why;
+ghost use Rattle.link_spec.specs.Definitions.{Definition, Exports};
+ghost use Rattle.link_spec.specs.Spaces.{Linking};
+ghost use Rattle.link_spec.specs.Items.{lacking};
+ghost use Rattle.link_spec.specs.Computed.{none_missing};
+ghost use Rattle.link_types.specs.Table.{IsName, IsExtern};
+ghost use Rattle.link_instances.specs.References as references;
+ghost use Rattle.link_meanings.specs.Meant.{IsFoundAs};
 ghost use Rattle.comp_link.specs.State.{world_of, IsState};
 ghost use Rattle.comp_link.specs.Told.{IsTold};
 ghost use Rattle.comp_link.specs.Ready.{as_wanted, IsSeen};
@@ -18,9 +18,9 @@ ghost use Rattle.comp_link.specs.Ready.{as_wanted, IsSeen};
 use crate::link_fault::{ItemError, missing};
 use crate::linker::Linker;
 use ca_base::MemoryOr;
-use instance_tables::{DefinitionRef, Fit, seen_as};
+use link_instances::{DefinitionRef, Fit, seen_as};
+use link_types::{ExternRef, Types};
 use std::alloc::Global;
-use type_tables::{ExternRef, Types};
 
 /// The name of this number is missing.
 fn missing_number(alloc: Global, types: &Types<'_>, number: usize) -> ItemError

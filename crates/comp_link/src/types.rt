@@ -2,14 +2,14 @@
 
 ghost use Rattle.std.specs.Prelude.{◌≡◌, ◌<◌, ◌∷◌, ◌++◌, [], ℕ, List, length, OnOk, IfOk};
 ghost use Rattle.std.specs.List.{AllZip};
-ghost use Rattle.comp_linking.specs.Definitions.{Exports};
-ghost use Rattle.comp_linking.specs.Spaces.{Spaces, Linking, levels_at};
-ghost use Rattle.comp_linking.specs.Types as types_read;
-ghost use Rattle.comp_linking.specs.Computed.{type_outcome, one_more};
-ghost use Rattle.type_tables.specs.Table.{Table, IsType};
-ghost use Rattle.instance_tables.specs.References.{World};
-ghost use Rattle.type_meanings.specs.Meant.{IsMeaning};
-ghost use Rattle.type_meanings.specs.Levels.{AreLevels};
+ghost use Rattle.link_spec.specs.Definitions.{Exports};
+ghost use Rattle.link_spec.specs.Spaces.{Spaces, Linking, levels_at};
+ghost use Rattle.link_spec.specs.Types as types_read;
+ghost use Rattle.link_spec.specs.Computed.{type_outcome, one_more};
+ghost use Rattle.link_types.specs.Table.{Table, IsType};
+ghost use Rattle.link_instances.specs.References.{World};
+ghost use Rattle.link_meanings.specs.Meant.{IsMeaning};
+ghost use Rattle.link_meanings.specs.Levels.{AreLevels};
 ghost use Rattle.comp_link.specs.State.{IsKept, IsAt, IsMade, ended};
 ghost use Rattle.comp_link.specs.Told.{IsTold};
 ghost use Rattle.comp_link.specs.Ready.{IsReady};
@@ -18,12 +18,12 @@ use crate::link_fault::{ItemError, missing};
 use crate::linker::{Linker, item_numbered};
 use crate::scope::Scope;
 use ca_base::MemoryOr;
-use comp_linking::LinkWhy;
 use comp_tree::DefType;
-use instance_tables::DefinitionRef;
+use link_instances::DefinitionRef;
+use link_meanings::{Level, Meant, meaning_of};
+use link_spec::LinkWhy;
+use link_types::TypeRef;
 use std::alloc::{AllocError, Global};
-use type_meanings::{Level, Meant, meaning_of};
-use type_tables::TypeRef;
 
 /// What outer aliases see of a component instance.
 fn level_of<'b>(scope: &'b Scope<'_>) -> Level<'b>

@@ -6,8 +6,8 @@ use Rattle.ca_base.specs.Grammar.{read}
 use Rattle.ca_base.specs.Items.{unsigned, signed}
 use Rattle.ca_base.specs.Numbers.{reach}
 use Rattle.ca_base.proofs.Leb.{unsigned_last, unsigned_ends as read_ends, unsigned_goes as read_goes, signed_low, signed_high, signed_ends_low, signed_ends_high, signed_goes as read_signed_goes}
-use Rattle.wasm_module.specs.declared.fault.ModuleWhy.{ModuleWhy}
-use Rattle.wasm_module.specs.Reasons.{numbers}
+use Rattle.wasm_code_reader.specs.declared.fault.ModuleWhy.{ModuleWhy}
+use Rattle.wasm_code_reader.specs.Reasons.{numbers}
 use Rattle.comp_make.specs.Numbers.{unsigned_in, signed_in, signed_bytes, low_bits}
 use Rattle.comp_make.specs.Laws.{span, IsRead, FitsSign}
 use Rattle.comp_make.proofs.Leb.{unsigned_ends, unsigned_goes, signed_ends, signed_goes}

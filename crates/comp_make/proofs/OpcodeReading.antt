@@ -14,7 +14,7 @@ use Rattle.wasm_module.specs.declared.instr.LoadOp.{LoadOp}
 use Rattle.wasm_module.specs.declared.instr.LoadOp.TheVariants.{I32Load, I64Load, I32Load8S, I32Load8U, I32Load16S, I32Load16U, I64Load8S, I64Load8U, I64Load16S, I64Load16U, I64Load32S, I64Load32U}
 use Rattle.wasm_module.specs.declared.instr.StoreOp.{StoreOp}
 use Rattle.wasm_module.specs.declared.instr.StoreOp.TheVariants.{I32Store, I64Store, I32Store8, I32Store16, I64Store8, I64Store16, I64Store32}
-use Rattle.wasm_module.specs.Opcodes.{numeric, load, store}
+use Rattle.wasm_code_reader.specs.Opcodes.{numeric, load, store}
 use Rattle.comp_make.specs.Opcodes.{numeric_opcode, load_opcode, store_opcode}
 
 relation_read : (w : Width) (op : RelationOp) → numeric (numeric_opcode (Relation w op)) ≡ Some (Relation w op)

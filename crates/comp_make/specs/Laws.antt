@@ -3,12 +3,12 @@ use Rattle.std.specs.Prelude.{◌≡◌, ◌+◌, ◌^◌, ◌<◌, ◌++◌, �
 use Rattle.ca_base.specs.Span.{Span}
 use Rattle.ca_base.specs.Grammar.{Grammar, read}
 use Rattle.ca_base.specs.Items.{u32}
-use Rattle.wasm_module.specs.declared.fault.ModuleWhy.{ModuleWhy}
+use Rattle.wasm_code_reader.specs.declared.fault.ModuleWhy.{ModuleWhy}
 use Rattle.wasm_module.specs.declared.instr.NumericOp.{NumericOp}
 use Rattle.wasm_module.specs.declared.instr.LoadOp.{LoadOp}
 use Rattle.wasm_module.specs.declared.instr.StoreOp.{StoreOp}
-use Rattle.wasm_module.specs.Reasons.{numbers}
-use Rattle.wasm_module.specs.Opcodes.{numeric, load, store}
+use Rattle.wasm_code_reader.specs.Reasons.{numbers}
+use Rattle.wasm_code_reader.specs.Opcodes.{numeric, load, store}
 use Rattle.comp_make.specs.Numbers.{unsigned_bytes, signed_bytes}
 use Rattle.comp_make.specs.Opcodes.{numeric_opcode, load_opcode, store_opcode}
 

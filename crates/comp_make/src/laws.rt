@@ -2,7 +2,7 @@
 
 ghost use Rattle.std.specs.Prelude.{◌^◌};
 ghost use Rattle.ca_base.specs.Items.{s32, s33, s64};
-ghost use Rattle.wasm_module.specs.Reasons.{numbers};
+ghost use Rattle.wasm_code_reader.specs.Reasons.{numbers};
 ghost use Rattle.comp_make.specs.Laws.{UnsignedIsRead, SignedIsRead, NumericIsRead, LoadIsRead, StoreIsRead};
 
 /// In front of any other bytes, the bytes of a number are read as that number.

@@ -6,8 +6,8 @@ use Rattle.ca_base.specs.declared.memory.MemoryOr.{MemoryOr}
 use Rattle.ca_base.specs.Grammar.{read, MayRead}
 use Rattle.comp_tree.specs.declared.types.DefType.{DefType}
 use Rattle.comp_tree.specs.declared.items.Component.{Component}
-use Rattle.comp_reader.specs.declared.fault.ComponentWhy.{ComponentWhy}
-use Rattle.comp_reader.specs.declared.fault.ComponentWhy.TheVariants.{Limit}
+use Rattle.part_reader.specs.declared.fault.ComponentWhy.{ComponentWhy}
+use Rattle.part_reader.specs.declared.fault.ComponentWhy.TheVariants.{Limit}
 use Rattle.comp_reader.specs.Binary.{def_type, declarations, instance_type, component_of, component_within}
 
 -- no instance type may be opened

@@ -6,10 +6,10 @@ use Rattle.ca_base.proofs.Laws.{matches_past, decided}
 use Rattle.ca_base.proofs.Places.{matches_end, at_end_matches, at_its_end}
 use Rattle.ca_base.proofs.Whole.{whole_decided}
 use Rattle.comp_tree.specs.declared.items.Component.{Component}
-use Rattle.comp_reader.specs.declared.fault.ComponentWhy.{ComponentWhy}
-use Rattle.comp_reader.specs.declared.fault.ComponentWhy.TheVariants.{Truncated}
+use Rattle.part_reader.specs.declared.fault.ComponentWhy.{ComponentWhy}
+use Rattle.part_reader.specs.declared.fault.ComponentWhy.TheVariants.{Truncated}
 use Rattle.comp_reader.specs.Binary.{component, component_of, component_within, file, file_end}
-use Rattle.comp_reader.specs.Reasons.{reasons}
+use Rattle.part_reader.specs.Reasons.{reasons}
 use Rattle.comp_reader.specs.Laws.{OneReading}
 
 pub matches_whole : (bytes : List ℕ) (c : Component) (t : Span ComponentWhy) → Matches component (file bytes) c t → t ≡ file_end bytes

@@ -6,14 +6,15 @@ use Rattle.std.specs.Prelude.{ℕ, zero, suc, ◌&&◌, Bool, true, false, List,
 use Rattle.ca_base.specs.Span.{Span}
 use Rattle.ca_base.specs.Grammar.{Grammar, Give, Refuse, Here, Left, Byte, Sized, Choose, ◌>>=◌, Matches, Refuses}
 use Rattle.ca_base.specs.Items.{fixed, marker, u32, name, custom, sized, vec, placed, placed_vec, to_the_end, joined, at_end}
+use Rattle.ca_base.specs.Tables.{by_byte, in_rows, giving}
 use Rattle.ca_base.specs.declared.refusal.Refusal.{Refusal}
 use Rattle.ca_base.specs.declared.placed.Placed.{Placed}
-use Rattle.wasm_module.specs.declared.fault.ModuleWhy.TheVariants as module_why
+use Rattle.wasm_code_reader.specs.declared.fault.ModuleWhy.TheVariants as module_why
 use Rattle.wasm_module.specs.declared.module.ModuleParts.{ModuleParts}
 use Rattle.wasm_module.specs.declared.module.ModuleTree.{ModuleTree}
 use Rattle.wasm_reader.specs.Binary.{the_module}
-use Rattle.wasm_valid.specs.declared.fault.ValidFault.{ValidFault}
-use Rattle.wasm_valid.specs.Finding.{untyped}
+use Rattle.wasm_typing.specs.declared.fault.ValidFault.{ValidFault}
+use Rattle.wasm_typing.specs.Finding.{untyped}
 use Rattle.comp_tree.specs.declared.core_instances.CoreSort.{CoreSort}
 use Rattle.comp_tree.specs.declared.core_instances.CoreSort.TheVariants as core
 use Rattle.comp_tree.specs.declared.core_instances.CoreArgument.{CoreArgument}
@@ -32,17 +33,15 @@ use Rattle.comp_tree.specs.declared.types.DefType.{DefType}
 use Rattle.comp_tree.specs.declared.types.DefType.TheVariants.{Value, Func, Instance}
 use Rattle.comp_tree.specs.declared.types.InstanceDecl.{InstanceDecl}
 use Rattle.comp_tree.specs.declared.types.InstanceDecl.TheVariants as decl
-use Rattle.comp_tree.specs.declared.items.CanonOption.{CanonOption}
-use Rattle.comp_tree.specs.declared.items.CanonOption.TheVariants as option
-use Rattle.comp_tree.specs.declared.items.Canon.{Canon}
-use Rattle.comp_tree.specs.declared.items.Canon.TheVariants.{Lift, Lower}
 use Rattle.comp_tree.specs.declared.items.Item.{Item}
 use Rattle.comp_tree.specs.declared.items.Item.TheVariants as item
 use Rattle.comp_tree.specs.declared.items.Component.{Component}
-use Rattle.comp_reader.specs.declared.fault.ComponentWhy.{ComponentWhy}
-use Rattle.comp_reader.specs.declared.fault.ComponentWhy.TheVariants.{Truncated, Magic, Limit, Module, Invalid}
-use Rattle.comp_reader.specs.Reasons.{numbers, reasons, unsupported}
-use Rattle.comp_reader.specs.Types.{def_val_type, func_type}
+use Rattle.part_reader.specs.declared.fault.ComponentWhy.{ComponentWhy}
+use Rattle.part_reader.specs.declared.fault.ComponentWhy.TheVariants.{Truncated, Magic, Unsupported, Limit, Module, Invalid}
+use Rattle.part_reader.specs.Reasons.{numbers, reasons, unsupported}
+use Rattle.part_reader.specs.Names.{extern_name}
+use Rattle.part_reader.specs.Types.{def_val_type, func_type}
+use Rattle.part_reader.specs.Canons.{canon}
 
 -- a module that has this first fault, or none
 abbrev pub validated : ModuleTree → Option ValidFault → Grammar ComponentWhy ModuleTree
@@ -65,36 +64,25 @@ core_module = do
 -- Sorts: 00 to 03, 11 and 12 for what stands in core modules and what they and their instances are; behind 00 a core sort,
 -- 01, 03, 04 and 05 for functions, types, components and instances.
 unfoldable pub core_sort : Grammar ComponentWhy CoreSort
-core_sort = do
-  place ← Here
-  b ← Byte
-  Choose (b == 0x00) (Give core.Func)
-      (Choose (b == 0x01) (Give core.Table)
-      (Choose (b == 0x02) (Give core.Memory)
-      (Choose (b == 0x03) (Give core.Global)
-      (Choose (b == 0x11) (Give core.Module)
-      (Choose (b == 0x12) (Give core.Instance)
-      (unsupported place b))))))
+core_sort =
+    by_byte Unsupported (
+    (0x00, Give core.Func)
+    ∷ (0x01, Give core.Table)
+    ∷ (0x02, Give core.Memory)
+    ∷ (0x03, Give core.Global)
+    ∷ (0x11, Give core.Module)
+    ∷ (0x12, Give core.Instance)
+    ∷ [])
 
 unfoldable pub any_sort : Grammar ComponentWhy Sort
-any_sort = do
-  place ← Here
-  b ← Byte
-  Choose (b == 0x00) (do
-    inner ← core_sort
-    Give (sorts.Core inner))
-      (Choose (b == 0x01) (Give sorts.Func)
-      (Choose (b == 0x03) (Give sorts.Type)
-      (Choose (b == 0x04) (Give sorts.Component)
-      (Choose (b == 0x05) (Give sorts.Instance)
-      (unsupported place b)))))
-
--- a name of an import or an export: 00 or 01, and the name
-unfoldable pub extern_name : Grammar ComponentWhy (List ℕ)
-extern_name = do
-  place ← Here
-  b ← Byte
-  Choose (b == 0 || b == 1) (name numbers) (unsupported place b)
+any_sort =
+    by_byte Unsupported (
+    (0x00, giving sorts.Core core_sort)
+    ∷ (0x01, Give sorts.Func)
+    ∷ (0x03, Give sorts.Type)
+    ∷ (0x04, Give sorts.Component)
+    ∷ (0x05, Give sorts.Instance)
+    ∷ [])
 
 -- an argument of a core module: its name, the sort 12 of instances, and the index
 unfoldable pub core_argument : Grammar ComponentWhy CoreArgument
@@ -112,19 +100,20 @@ core_inline_export = do
   index ← u32 numbers
   Give (record { name = export; sort = sort; index = index })
 
--- a core instance: 00 a core module and its arguments, 01 inline exports
+-- a core instance of a core module: its index, and its arguments
+abbrev pub core_instantiation : Grammar ComponentWhy Item
+core_instantiation = do
+  index ← u32 numbers
+  arguments ← vec numbers core_argument
+  Give (item.CoreInstance (made_core.Instantiate index arguments))
+
+-- a core instance: 00 of a core module, 01 of inline exports
 unfoldable pub core_instance : Grammar ComponentWhy Item
-core_instance = do
-  place ← Here
-  b ← Byte
-  Choose (b == 0) (do
-    index ← u32 numbers
-    arguments ← vec numbers core_argument
-    Give (item.CoreInstance (made_core.Instantiate index arguments)))
-      (Choose (b == 1) (do
-        exports ← vec numbers core_inline_export
-        Give (item.CoreInstance (made_core.Inline exports)))
-      (unsupported place b))
+core_instance =
+    by_byte Unsupported (
+    (0x00, core_instantiation)
+    ∷ (0x01, giving (λ exports. item.CoreInstance (made_core.Inline exports)) (vec numbers core_inline_export))
+    ∷ [])
 
 -- an argument of a component: its name, a sort and an index
 unfoldable pub argument : Grammar ComponentWhy NamedDefinition
@@ -142,22 +131,22 @@ inline_export = do
   index ← u32 numbers
   Give (record { name = export; sort = sort; index = index })
 
--- an instance: 00 a component and its arguments, 01 inline exports
-unfoldable pub instance : Grammar ComponentWhy Item
-instance = do
-  place ← Here
-  b ← Byte
-  Choose (b == 0) (do
-    index ← u32 numbers
-    arguments ← vec numbers argument
-    Give (item.Instance (made.Instantiate index arguments)))
-      (Choose (b == 1) (do
-        exports ← vec numbers inline_export
-        Give (item.Instance (made.Inline exports)))
-      (unsupported place b))
+-- an instance of a component: its index, and its arguments
+abbrev pub instantiation : Grammar ComponentWhy Item
+instantiation = do
+  index ← u32 numbers
+  arguments ← vec numbers argument
+  Give (item.Instance (made.Instantiate index arguments))
 
--- The target of an alias of this sort: 00 an export of an instance, 01 one of a core instance, 02 an outer definition,
--- which is a type or a component.
+-- an instance: 00 of a component, 01 of inline exports
+unfoldable pub instance : Grammar ComponentWhy Item
+instance =
+    by_byte Unsupported (
+    (0x00, instantiation)
+    ∷ (0x01, giving (λ exports. item.Instance (made.Inline exports)) (vec numbers inline_export))
+    ∷ [])
+
+-- whether a definition of this sort may be an outer one: it is a type or a component
 abbrev pub may_be_outer : Sort → Bool
 may_be_outer (sorts.Core inner) = false
 may_be_outer sorts.Func = false
@@ -165,23 +154,27 @@ may_be_outer sorts.Type = true
 may_be_outer sorts.Component = true
 may_be_outer sorts.Instance = false
 
+-- an export of an instance or of a core instance: its index, and the export's name
+abbrev pub export_of : (ℕ → List ℕ → AliasTarget) → Grammar ComponentWhy AliasTarget
+export_of target = do
+  index ← u32 numbers
+  export ← name numbers
+  Give (target index export)
+
+-- an outer definition: how many levels further out, and its index
+abbrev pub outer : Grammar ComponentWhy AliasTarget
+outer = do
+  up ← u32 numbers
+  index ← u32 numbers
+  Give (Outer up index)
+
+-- the target of an alias of this sort: 00 an export of an instance, 01 one of a core instance, 02 an outer definition
 unfoldable pub alias_target : Sort → Grammar ComponentWhy AliasTarget
 alias_target sort = do
   place ← Here
   b ← Byte
-  Choose (b == 0) (do
-    index ← u32 numbers
-    export ← name numbers
-    Give (InstanceExport index export))
-      (Choose (b == 1) (do
-        index ← u32 numbers
-        export ← name numbers
-        Give (CoreInstanceExport index export))
-      (Choose (b == 2 && may_be_outer sort) (do
-        up ← u32 numbers
-        index ← u32 numbers
-        Give (Outer up index))
-      (unsupported place b)))
+  in_rows ((0x00, export_of InstanceExport) ∷ (0x01, export_of CoreInstanceExport) ∷ []) b
+      (Choose (b == 0x02 && may_be_outer sort) outer (unsupported place b))
 
 -- an alias: its sort, and its target
 unfoldable pub alias : Grammar ComponentWhy Alias
@@ -191,43 +184,39 @@ alias = do
   Give (record { sort = sort; target = target })
 
 unfoldable pub alias_item : Grammar ComponentWhy Item
-alias_item = do
-  read ← alias
-  Give (item.Alias read)
+alias_item = giving item.Alias alias
 
--- what an import or an export is to be: 01 a function of a type, 03 00 an equal type, 05 an instance of a type
+-- an equal type, behind its 03: 00, and the type
+abbrev pub equal_type : Grammar ComponentWhy ExternDesc
+equal_type = do
+  _ ← marker reasons 0
+  type ← u32 numbers
+  Give (descs.TypeEq type)
+
+-- what an import or an export is to be: 01 a function of a type, 03 an equal type, 05 an instance of a type
 unfoldable pub extern_desc : Grammar ComponentWhy ExternDesc
-extern_desc = do
-  place ← Here
-  b ← Byte
-  Choose (b == 1) (do
-    type ← u32 numbers
-    Give (descs.Func type))
-      (Choose (b == 3) (do
-        _ ← marker reasons 0
-        type ← u32 numbers
-        Give (descs.TypeEq type))
-      (Choose (b == 5) (do
-        type ← u32 numbers
-        Give (descs.Instance type))
-      (unsupported place b)))
+extern_desc =
+    by_byte Unsupported (
+    (0x01, giving descs.Func (u32 numbers))
+    ∷ (0x03, equal_type)
+    ∷ (0x05, giving descs.Instance (u32 numbers))
+    ∷ [])
 
--- A declaration of an instance type, in which types are of this grammar: 01 a type, 02 an alias, 04 an export.
+-- an export that an instance type declares: its name, and what it is to be
+abbrev pub declared_export : Grammar ComponentWhy InstanceDecl
+declared_export = do
+  export ← extern_name
+  wanted ← extern_desc
+  Give (decl.Export export wanted)
+
+-- a declaration of an instance type, in which types are of this grammar: 01 a type, 02 an alias, 04 an export
 unfoldable pub instance_decl : Grammar ComponentWhy DefType → Grammar ComponentWhy InstanceDecl
-instance_decl inner = do
-  place ← Here
-  b ← Byte
-  Choose (b == 1) (do
-    type ← inner
-    Give (decl.Type type))
-      (Choose (b == 2) (do
-        read ← alias
-        Give (decl.Alias read))
-      (Choose (b == 4) (do
-        export ← extern_name
-        wanted ← extern_desc
-        Give (decl.Export export wanted))
-      (unsupported place b)))
+instance_decl inner =
+    by_byte Unsupported (
+    (0x01, giving decl.Type inner)
+    ∷ (0x02, giving decl.Alias alias)
+    ∷ (0x04, declared_export)
+    ∷ [])
 
 -- A type, where instance types are of this grammar at the place of their 42: 40 a function, 42 an instance, and else a type
 -- of values.
@@ -235,18 +224,11 @@ unfoldable pub type_of : (ℕ → Grammar ComponentWhy DefType) → Grammar Comp
 type_of inner = do
   place ← Here
   b ← Byte
-  Choose (b == 0x40) (do
-    type ← func_type
-    Give (Func type))
-      (Choose (b == 0x42) (inner place) (do
-        type ← def_val_type place b
-        Give (Value type)))
+  in_rows ((0x40, giving Func func_type) ∷ (0x42, inner place) ∷ []) b (giving Value (def_val_type place b))
 
 -- the declarations of an instance type, in which types are of this grammar
 unfoldable pub declarations : Grammar ComponentWhy DefType → Grammar ComponentWhy DefType
-declarations inner = do
-  decls ← vec numbers (instance_decl inner)
-  Give (Instance decls)
+declarations inner = giving Instance (vec numbers (instance_decl inner))
 
 -- how many components may be open at a place, and how many instance types
 abbrev pub depth_limit : ℕ
@@ -262,57 +244,10 @@ abbrev pub def_type : ℕ → Grammar ComponentWhy DefType
 def_type more = type_of (instance_type more)
 
 unfoldable pub type_item : Grammar ComponentWhy Item
-type_item = do
-  type ← def_type depth_limit
-  Give (item.Type type)
+type_item = giving item.Type (def_type depth_limit)
 
--- an option of a canonical function: 00 texts in UTF-8, 03 a memory, 04 a function that gives places in it, 05 a function that
--- is called when the result was lifted
-unfoldable pub canon_option : Grammar ComponentWhy CanonOption
-canon_option = do
-  place ← Here
-  b ← Byte
-  Choose (b == 0) (Give option.Utf8)
-      (Choose (b == 3) (do
-        index ← u32 numbers
-        Give (option.Memory index))
-      (Choose (b == 4) (do
-        index ← u32 numbers
-        Give (option.Realloc index))
-      (Choose (b == 5) (do
-        index ← u32 numbers
-        Give (option.PostReturn index))
-      (unsupported place b))))
-
--- the lift of a core function, behind its first byte: 00, the core function, options, and a type
-unfoldable pub lift : Grammar ComponentWhy Canon
-lift = do
-  _ ← marker reasons 0
-  index ← u32 numbers
-  options ← vec numbers canon_option
-  type ← u32 numbers
-  Give (Lift index options type)
-
--- the core function that a function is lowered to, likewise: 00, the function, and options
-unfoldable pub lower : Grammar ComponentWhy Canon
-lower = do
-  _ ← marker reasons 0
-  index ← u32 numbers
-  options ← vec numbers canon_option
-  Give (Lower index options)
-
--- a canonical function: 00 a lift, 01 a lowered function
-unfoldable pub canon : Grammar ComponentWhy Item
-canon = do
-  place ← Here
-  b ← Byte
-  Choose (b == 0) (do
-    read ← lift
-    Give (item.Canon read))
-      (Choose (b == 1) (do
-        read ← lower
-        Give (item.Canon read))
-      (unsupported place b))
+unfoldable pub canon_item : Grammar ComponentWhy Item
+canon_item = giving item.Canon canon
 
 -- an import: its name, and what it is to be
 unfoldable pub import : Grammar ComponentWhy Item
@@ -323,14 +258,7 @@ import = do
 
 -- what an export is said to be: 00 nothing, 01 and what it is to be
 unfoldable pub export_desc : Grammar ComponentWhy (Option ExternDesc)
-export_desc = do
-  place ← Here
-  b ← Byte
-  Choose (b == 0) (Give None)
-      (Choose (b == 1) (do
-        wanted ← extern_desc
-        Give (Some wanted))
-      (unsupported place b))
+export_desc = by_byte Unsupported ((0x00, Give None) ∷ (0x01, giving Some extern_desc) ∷ [])
 
 -- an export: its name, a sort, an index, and what it is to be, where it says so
 unfoldable pub export : Grammar ComponentWhy Item
@@ -362,15 +290,16 @@ component_items inner = do
 -- The payload of a section that is not one of a component, by its id.
 unfoldable pub plain_payload : ℕ → Grammar ComponentWhy (List (Placed Item))
 plain_payload id =
-    Choose (id == 0) custom_items
-    (Choose (id == 1) module_items
-    (Choose (id == 2) (placed_vec numbers core_instance)
-    (Choose (id == 5) (placed_vec numbers instance)
-    (Choose (id == 6) (placed_vec numbers alias_item)
-    (Choose (id == 7) (placed_vec numbers type_item)
-    (Choose (id == 8) (placed_vec numbers canon)
-    (Choose (id == 10) (placed_vec numbers import)
-    (placed_vec numbers export))))))))
+    in_rows (
+    (0, custom_items)
+    ∷ (1, module_items)
+    ∷ (2, placed_vec numbers core_instance)
+    ∷ (5, placed_vec numbers instance)
+    ∷ (6, placed_vec numbers alias_item)
+    ∷ (7, placed_vec numbers type_item)
+    ∷ (8, placed_vec numbers canon_item)
+    ∷ (10, placed_vec numbers import)
+    ∷ []) id (placed_vec numbers export)
 
 -- the payload of a section, where components are of this grammar
 unfoldable pub payload : Grammar ComponentWhy Component → ℕ → Grammar ComponentWhy (List (Placed Item))

@@ -2,7 +2,7 @@
 use Rattle.std.specs.Prelude.{◌≡◌, ◌⊎◌, ℕ, List}
 use Rattle.ca_base.specs.declared.refusal.Refusal.{Refusal}
 use Rattle.comp_tree.specs.declared.items.Component.{Component}
-use Rattle.comp_reader.specs.declared.fault.ComponentWhy.{ComponentWhy}
+use Rattle.part_reader.specs.declared.fault.ComponentWhy.{ComponentWhy}
 use Rattle.comp_reader.specs.Binary.{IsComponent, IsRefused}
 
 -- Bytes are exactly one component, or are refused at exactly one place for exactly one reason.

@@ -1,4 +1,2 @@
 pub mod Binary
 pub mod Laws
-pub mod Reasons
-pub mod Types

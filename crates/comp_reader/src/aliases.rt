@@ -4,11 +4,10 @@ ghost use Rattle.std.specs.Prelude.{◌≡◌};
 ghost use Rattle.ca_base.specs.Grammar.{MayRead};
 ghost use Rattle.comp_reader.specs.Binary.{may_be_outer, alias_target, alias};
 
-use crate::fault::{ComponentWhy, unsupported};
-use crate::names::read_name;
 use crate::sorts::read_sort;
 use ca_base::{Kind, ReadError, Window};
 use comp_tree::{Alias, AliasTarget, Item, Sort};
+use part_reader::{ComponentWhy, read_name, unsupported};
 use std::alloc::Global;
 
 /// Whether definitions of this sort have outer aliases.

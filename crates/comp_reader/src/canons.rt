@@ -1,111 +1,28 @@
 //! Canonical functions.
 
-ghost use Rattle.ca_base.specs.Grammar.{MayRead};
-ghost use Rattle.comp_reader.specs.Binary.{lift, lower};
-
-use crate::fault::{ComponentWhy, unsupported};
-use ca_base::{Kind, ReadError, Window, read_vec};
-use comp_tree::{Canon, CanonOption, Item};
+use ca_base::{Kind, ReadError, Window};
+use comp_tree::Item;
+use part_reader::{ComponentWhy, read_canon};
 use std::alloc::Global;
 
-/// Options of canonical functions (Component Model, Binary.md, `canonopt`).
-struct CanonOptions;
-
-impl Kind for CanonOptions {
-    ghost use Rattle.comp_reader.specs.Binary.{canon_option};
-
-    type Why = ComponentWhy;
-
-    type Item = CanonOption;
-
-    ghost grammar = { canon_option };
-
-    #[tactic(auto, unfolding(crate::specs::Binary::canon_option))]
-    fn read(
-        _alloc: Global,
-        window: &mut Window<ComponentWhy>,
-    ) -> Result<CanonOption, ReadError<ComponentWhy>> {
-        let place = window.at();
-        let byte = window.byte()?;
-        if byte == 0 {
-            return Ok(CanonOption::Utf8);
-        }
-        if byte == 3 {
-            let memory = window.u32()?;
-            return Ok(CanonOption::Memory(memory));
-        }
-        if byte == 4 {
-            let realloc = window.u32()?;
-            return Ok(CanonOption::Realloc(realloc));
-        }
-        if byte == 5 {
-            let post_return = window.u32()?;
-            return Ok(CanonOption::PostReturn(post_return));
-        }
-        Err(ReadError::Fault(unsupported(place, byte)))
-    }
-}
-
-/// Reads a lift behind its first byte (Component Model, Binary.md, `canon`).
-#[tactic(auto, unfolding(crate::specs::Binary::lift))]
-fn read_lift(
-    alloc: Global,
-    window: &mut Window<ComponentWhy>,
-) -> Result<Canon, ReadError<ComponentWhy>>
-    ensures { MayRead (λ read. read) lift window.old window.new result }
-{
-    window.marker(0)?;
-    let core_func = window.u32()?;
-    let options = read_vec::<CanonOptions>(alloc, window)?;
-    let func_type = window.u32()?;
-    Ok(Canon::Lift {
-        core_func,
-        options,
-        func_type,
-    })
-}
-
-/// Reads a lower, behind its first byte (Component Model, Binary.md, `canon`).
-#[tactic(auto, unfolding(crate::specs::Binary::lower))]
-fn read_lower(
-    alloc: Global,
-    window: &mut Window<ComponentWhy>,
-) -> Result<Canon, ReadError<ComponentWhy>>
-    ensures { MayRead (λ read. read) lower window.old window.new result }
-{
-    window.marker(0)?;
-    let func = window.u32()?;
-    let options = read_vec::<CanonOptions>(alloc, window)?;
-    Ok(Canon::Lower { func, options })
-}
-
-/// Canonical functions (Component Model, Binary.md, `canon`).
+/// Canonical functions as items of a component.
 pub(crate) struct Canons;
 
 impl Kind for Canons {
-    ghost use Rattle.comp_reader.specs.Binary.{canon};
+    ghost use Rattle.comp_reader.specs.Binary.{canon_item};
 
     type Why = ComponentWhy;
 
     type Item = Item;
 
-    ghost grammar = { canon };
+    ghost grammar = { canon_item };
 
-    #[tactic(auto, unfolding(crate::specs::Binary::canon))]
+    #[tactic(auto, unfolding(crate::specs::Binary::canon_item))]
     fn read(
         alloc: Global,
         window: &mut Window<ComponentWhy>,
     ) -> Result<Item, ReadError<ComponentWhy>> {
-        let place = window.at();
-        let byte = window.byte()?;
-        if byte == 0 {
-            let lift = read_lift(alloc, window)?;
-            return Ok(Item::Canon(lift));
-        }
-        if byte == 1 {
-            let lower = read_lower(alloc, window)?;
-            return Ok(Item::Canon(lower));
-        }
-        Err(ReadError::Fault(unsupported(place, byte)))
+        let read = read_canon(alloc, window)?;
+        Ok(Item::Canon(read))
     }
 }

@@ -1,10 +1,9 @@
 //! Core instances.
 
-use crate::fault::{ComponentWhy, unsupported};
-use crate::names::read_name;
 use crate::sorts::read_core_sort;
 use ca_base::{Kind, ReadError, Window, read_vec};
 use comp_tree::{CoreArgument, CoreInlineExport, CoreInstance, Item};
+use part_reader::{ComponentWhy, read_name, unsupported};
 use std::alloc::Global;
 
 /// Arguments of core modules (Component Model, Binary.md, `core:instantiatearg`).

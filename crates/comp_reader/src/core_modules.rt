@@ -2,14 +2,16 @@
 
 ghost use Rattle.std.specs.Prelude.{◌≡◌};
 ghost use Rattle.ca_base.specs.Grammar.{MayRead, in_words};
-ghost use Rattle.comp_reader.specs.declared.fault.ComponentWhy.TheVariants as why;
+ghost use Rattle.part_reader.specs.declared.fault.ComponentWhy.TheVariants as why;
 ghost use Rattle.comp_reader.specs.Binary.{module_file};
 
-use crate::fault::ComponentWhy;
 use ca_base::{Kind, MemoryOr, ReadError, Refusal, Window};
+use ca_types::Boxed;
 use comp_tree::Item;
+use part_reader::ComponentWhy;
 use std::alloc::Global;
-use wasm_module::{Module, ModuleWhy};
+use wasm_code_reader::ModuleWhy;
+use wasm_module::Module;
 use wasm_reader::read_module;
 use wasm_valid::validate;
 
@@ -59,7 +61,10 @@ impl Kind for CoreModules {
     ) -> Result<Item, ReadError<ComponentWhy>> {
         let read = read_module_file(alloc, window)?;
         match validate(alloc, read) {
-            Ok(valid) => Ok(Item::CoreModule(valid)),
+            Ok(valid) => {
+                let boxed = Boxed::new(alloc, valid)?;
+                Ok(Item::CoreModule(boxed))
+            }
             Err(MemoryOr::Memory) => Err(MemoryOr::Memory),
             Err(MemoryOr::Fault(fault)) => Err(MemoryOr::Fault(Refusal {
                 place: fault.place,

@@ -6,13 +6,10 @@ ghost use Rattle.ca_base.specs.Grammar.{MayRead, times};
 ghost use Rattle.comp_reader.specs.Binary.{def_type, instance_type, declarations, instance_decl};
 
 use crate::aliases::read_alias;
-use crate::def_val_types::read_def_val_type;
 use crate::externs::read_extern_desc;
-use crate::fault::{ComponentWhy, unsupported};
-use crate::func_types::read_func_type;
-use crate::names::read_extern_name;
 use ca_base::{Kind, ReadError, Refusal, Seq, Window};
 use comp_tree::{DefType, InstanceDecl, Item};
+use part_reader::{ComponentWhy, read_def_val_type, read_extern_name, read_func_type, unsupported};
 use std::alloc::Global;
 
 /// How many components may be open at a place, and how many instance types.

@@ -3,11 +3,10 @@
 ghost use Rattle.ca_base.specs.Grammar.{Reads};
 ghost use Rattle.comp_reader.specs.Binary.{extern_desc, export_desc};
 
-use crate::fault::{ComponentWhy, unsupported};
-use crate::names::read_extern_name;
 use crate::sorts::read_sort;
 use ca_base::{Kind, ReadError, Refusal, Window};
 use comp_tree::{Export, ExternDesc, Import, Item};
+use part_reader::{ComponentWhy, read_extern_name, unsupported};
 use std::alloc::Global;
 
 /// Reads what an import or an export is to be (Component Model, Binary.md, `externdesc`).

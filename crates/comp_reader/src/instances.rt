@@ -1,10 +1,9 @@
 //! Instances.
 
-use crate::fault::{ComponentWhy, unsupported};
-use crate::names::{read_extern_name, read_name};
 use crate::sorts::read_sort;
 use ca_base::{Kind, ReadError, Window, read_vec};
 use comp_tree::{Instance, Item, NamedDefinition};
+use part_reader::{ComponentWhy, read_extern_name, read_name, unsupported};
 use std::alloc::Global;
 
 /// Arguments of components (Component Model, Binary.md, `instantiatearg`).

@@ -6,8 +6,8 @@
 //! - `reading`: the reading of a whole component
 //! - `sections`: the sections by their ids, and components that hold others
 //! - `core_modules`, `core_instances`, `instances`, `aliases`, `def_types`, `canons`, `externs`: the items, a kind for each
-//! - `val_types`, `def_val_types`, `func_types`, `sorts`, `names`: what stands in them
-//! - `fault`: why bytes are refused
+//! - `sorts`: the sorts of what stands in them; types of values and of functions, names and canonical functions are read by
+//!   `part_reader`
 //! - `laws`: that bytes are one component, or are refused in one way
 #![tactic(auto)]
 
@@ -16,19 +16,14 @@ mod canons;
 mod core_instances;
 mod core_modules;
 mod def_types;
-mod def_val_types;
 mod externs;
-mod fault;
-mod func_types;
 mod instances;
 mod laws;
-mod names;
 mod reading;
 mod sections;
 mod sorts;
-mod val_types;
 
 pub use comp_tree::Component;
-pub use fault::ComponentWhy;
 pub use laws::one_reading;
+pub use part_reader::ComponentWhy;
 pub use reading::read_component;

@@ -5,14 +5,14 @@ ghost use Rattle.ca_base.specs.Grammar.{MayRead};
 ghost use Rattle.ca_base.specs.declared.refusal.Refusal.{Refusal};
 ghost use Rattle.ca_base.specs.declared.memory.MemoryOr.TheVariants.{Memory, Fault};
 ghost use Rattle.comp_tree.specs.declared.items.Component.{Component};
-ghost use Rattle.comp_reader.specs.declared.fault.ComponentWhy.{ComponentWhy};
+ghost use Rattle.part_reader.specs.declared.fault.ComponentWhy.{ComponentWhy};
 ghost use Rattle.comp_reader.specs.Binary.{component, file, file_end, IsComponent, IsRefused};
 
 use crate::def_types::DEPTH_LIMIT;
-use crate::fault::ComponentWhy;
 use crate::sections::read_component_within;
 use ca_base::{ReadError, Window};
 use comp_tree::Component;
+use part_reader::ComponentWhy;
 use std::alloc::Global;
 
 /// Reads the bytes of a component file.

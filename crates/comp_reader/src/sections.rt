@@ -13,10 +13,10 @@ use crate::core_instances::CoreInstances;
 use crate::core_modules::CoreModules;
 use crate::def_types::Types;
 use crate::externs::{Exports, Imports};
-use crate::fault::{ComponentWhy, unsupported};
 use crate::instances::Instances;
 use ca_base::{Placed, PlacedOf, ReadError, Refusal, Seq, Window, join, read_placed, read_vec};
 use comp_tree::{Component, Item};
+use part_reader::{ComponentWhy, unsupported};
 use std::alloc::Global;
 
 /// The preamble of a component: its magic number, its version and its layer.

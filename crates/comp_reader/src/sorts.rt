@@ -3,9 +3,9 @@
 ghost use Rattle.ca_base.specs.Grammar.{Reads};
 ghost use Rattle.comp_reader.specs.Binary.{core_sort, any_sort};
 
-use crate::fault::{ComponentWhy, unsupported};
 use ca_base::{Refusal, Window};
 use comp_tree::{CoreSort, Sort};
+use part_reader::{ComponentWhy, unsupported};
 
 /// Reads a core sort (Component Model, Binary.md, `core:sort`).
 #[tactic(auto, unfolding(crate::specs::Binary::core_sort))]

@@ -12,6 +12,8 @@ pub enum ExternDesc {
     TypeEq(u32),
     /// An instance of the instance type of this index.
     Instance(u32),
+    /// A resource type, which is different from all others that are not said to be equal to it.
+    Resource,
 }
 
 /// A definition that the component wants as an argument (Component Model, Binary.md, `import`).

@@ -1,11 +1,13 @@
 //! Components and their items (Component Model, Explainer.md and Binary.md).
 
+use crate::builtins::CanonBuiltin;
 use crate::core_instances::CoreInstance;
 use crate::externs::{Export, Import};
 use crate::instances::{Alias, Instance};
 use crate::types::DefType;
 use ca_base::{Placed, Seq};
-use wasm_valid::Valid;
+use ca_types::Boxed;
+use wasm_typing::Valid;
 
 /// An option of a canonical function (Component Model, Binary.md, `canonopt`).
 #[derive(Clone, Copy)]
@@ -18,6 +20,10 @@ pub enum CanonOption {
     Realloc(u32),
     /// The core function of this index is called when the result was lifted.
     PostReturn(u32),
+    /// A task returns by `task.return`, or a caller goes on before what it called has returned.
+    Async,
+    /// The core function of this index is called with each event of a task.
+    Callback(u32),
 }
 
 /// A function that the Canonical ABI makes (Component Model, Binary.md, `canon`).
@@ -39,6 +45,8 @@ pub enum Canon {
         /// The options, in order.
         options: Seq<CanonOption>,
     },
+    /// A built-in, which is a core function.
+    Builtin(CanonBuiltin),
 }
 
 /// An item of a component. Each one adds an index to the space of its sort. Custom sections are no items.
@@ -46,7 +54,7 @@ pub enum Canon {
 #[derive(Drop)]
 pub enum Item {
     /// A core module, which is valid.
-    CoreModule(Valid),
+    CoreModule(Boxed<Valid>),
     /// A core instance.
     CoreInstance(CoreInstance),
     /// A component that stands in this one.

@@ -4,18 +4,21 @@
 //! gives it its meaning. Both stand on this crate, and neither on the other.
 //!
 //! - `items`: components, their items, and canonical functions with their options
+//! - `builtins`: canonical built-ins
 //! - `core_instances`: core instances
 //! - `instances`: instances and aliases
 //! - `types`: types as they are written
 //! - `externs`: imports and exports
 #![tactic(auto)]
 
+mod builtins;
 mod core_instances;
 mod externs;
 mod instances;
 mod items;
 mod types;
 
+pub use builtins::{CanonBuiltin, CanonEndOp};
 pub use core_instances::{CoreArgument, CoreInlineExport, CoreInstance, CoreSort};
 pub use externs::{Export, ExternDesc, Import};
 pub use instances::{Alias, AliasTarget, Instance, NamedDefinition, Sort};

@@ -101,6 +101,14 @@ pub enum DefValType {
         /// The type of what a failure holds.
         err: Option<ValTypeRef>,
     },
+    /// An owning handle of a resource of the type of this index.
+    Own(u32),
+    /// A borrowed handle of a resource of the type of this index.
+    Borrow(u32),
+    /// The readable end of a stream, with the type of its elements, if they hold anything.
+    Stream(Option<ValTypeRef>),
+    /// The readable end of a future, with the type of its value, if it holds anything.
+    Future(Option<ValTypeRef>),
 }
 
 /// A parameter of a function type as it is written (Component Model, Binary.md, `labelvaltype`).
@@ -139,6 +147,8 @@ pub enum DefType {
     Func(FuncType),
     /// The type of an instance: its declarations, in order.
     Instance(Seq<InstanceDecl>),
+    /// A type of resources, with the index of the core function that destroys them, if there is one.
+    Resource(Option<u32>),
 }
 
 /// A declaration of an instance type (Component Model, Binary.md, `instancedecl`). It adds an index to a space of the

@@ -4,11 +4,11 @@ use Rattle.std.specs.List.{slice_get}
 use Rattle.std.proofs.lemmas.List.{take_all, drop_all}
 use Rattle.std.proofs.lemmas.Option.{get_or_from_slice_get, slice_get_past}
 use Rattle.wasm_memory.specs.Memories.{MemoryState, most_pages, made, rewritten, with_bytes}
-use Rattle.core_machine.specs.Store.{Store}
-use Rattle.core_machine.specs.Effects.{with_memory}
-use Rattle.core_machine.specs.Typed.{StoreTyped, MemoryTyped}
-use Rattle.core_machine.proofs.Lists.{all_at}
-use Rattle.core_machine.specs.Lends.{memory_in}
+use Rattle.wasm_store.specs.Store.{Store}
+use Rattle.wasm_store.specs.Effects.{with_memory}
+use Rattle.wasm_store.specs.Typed.{StoreTyped, MemoryTyped}
+use Rattle.wasm_store.proofs.Lists.{all_at}
+use Rattle.wasm_store.specs.Lends.{memory_in}
 use Rattle.value_lower.specs.Following.{written}
 use Rattle.copy_engine.specs.Nested.{bytes_of, bytes_in, rewritten_at, with_bytes_in}
 

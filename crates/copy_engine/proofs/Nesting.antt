@@ -8,12 +8,12 @@ use Rattle.wasm_module.specs.declared.types.ValType.TheVariants.{I32, I64}
 use Rattle.wasm_module.specs.SameTypes.{same_type, same_types}
 use Rattle.wasm_numbers.specs.Types.{AreWords}
 use Rattle.wasm_memory.specs.Memories.{MemoryState}
-use Rattle.core_machine.specs.Store.{Function, type_of, Store}
-use Rattle.core_machine.specs.Stack.{Stack}
-use Rattle.core_machine.specs.Step.{Ends, next, start, Steps}
-use Rattle.core_machine.specs.Typed.{StoreTyped, StackTyped, Extends}
-use Rattle.core_machine.specs.Laws.{MoveTyped}
-use Rattle.core_machine.proofs.Moving.{moves_typed, never_stuck, starts_typed}
+use Rattle.wasm_store.specs.Store.{Function, type_of, Store}
+use Rattle.wasm_store.specs.Stack.{Stack}
+use Rattle.wasm_store.specs.Step.{Ends, next, start, Steps}
+use Rattle.wasm_store.specs.Typed.{StoreTyped, StackTyped, Extends}
+use Rattle.wasm_store.specs.Laws.{MoveTyped}
+use Rattle.wasm_store.proofs.Moving.{moves_typed, never_stuck, starts_typed}
 use Rattle.wasm_execution.specs.Run.{Comes}
 use Rattle.value_lower.specs.declared.ends.RoomEnd.{RoomEnd}
 use Rattle.value_lower.specs.Plan.{Ask}

@@ -5,10 +5,10 @@ use Rattle.std.specs.List.{slice_get}
 use Rattle.wasm_module.specs.declared.types.ValType.TheVariants.{I32}
 use Rattle.wasm_module.specs.SameTypes.{same_types}
 use Rattle.wasm_memory.specs.Memories.{MemoryState, with_bytes}
-use Rattle.core_machine.specs.Store.{Function, type_of, Store, found_at}
-use Rattle.core_machine.specs.Stack.{Stack}
-use Rattle.core_machine.specs.Effects.{with_memory}
-use Rattle.core_machine.specs.Step.{Calls, Ends, Traps, start}
+use Rattle.wasm_store.specs.Store.{Function, type_of, Store, found_at}
+use Rattle.wasm_store.specs.Stack.{Stack}
+use Rattle.wasm_store.specs.Effects.{with_memory}
+use Rattle.wasm_store.specs.Step.{Calls, Ends, Traps, start}
 use Rattle.wasm_execution.specs.Run.{Comes, Waits, GivesUp}
 use Rattle.value_lower.specs.declared.ends.RoomEnd.{RoomEnd}
 use Rattle.value_lower.specs.declared.ends.RoomEnd.TheVariants.{Trapped, NoFuel, Memory}

@@ -1,9 +1,9 @@
 -- Lowering one step at a time (Component Model, CanonicalABI.md, "Storing", "Flat Lowering"; Core 2.0, section 4.4): what is going on,
 -- and the one step that it makes. A realloc makes a step for each move of its stack; all else costs nothing.
 use Rattle.std.specs.Prelude.{◌≡◌, ◌-◌, ℕ, zero, suc, nat_le, if◌then◌else◌, List, [], ◌∷◌, length, Option, Some, None}
-use Rattle.core_machine.specs.Store.{Function}
-use Rattle.core_machine.specs.Stack.{Stack}
-use Rattle.core_machine.specs.Step.{Move, Goes, Calls, Ends, Traps, Stuck, next, cost}
+use Rattle.wasm_store.specs.Store.{Function}
+use Rattle.wasm_store.specs.Stack.{Stack}
+use Rattle.wasm_store.specs.Step.{Move, Goes, Calls, Ends, Traps, Stuck, next, cost}
 use Rattle.value_lower.specs.declared.ends.RoomEnd.TheVariants.{Trapped, NoFuel, Memory}
 use Rattle.value_lower.specs.Plan.{Ask, Plan, Gives, Fails, Asks, Size, Put}
 use Rattle.value_lower.specs.Following.{Came, Words, Failed, Ended, Follows, written}

@@ -4,7 +4,7 @@ ghost use Rattle.std.specs.Prelude.{◌≡◌, ◌≤◌, ◌+◌, ◌^◌, leng
 ghost use Rattle.value_lower.specs.Following.{written};
 ghost use Rattle.copy_engine.specs.Nested.{bytes_in, with_bytes_in};
 
-use core_machine::Store;
+use wasm_store::Store;
 
 /// How many bytes the memory at an address has: none where no memory is there.
 pub(crate) fn size_in(store: &Store, memory: usize) -> u64

@@ -4,17 +4,18 @@ ghost use Rattle.std.specs.Prelude.{◌≡◌, ◌<◌, ◌≤◌, ◌^◌, ◌�
 ghost use Rattle.std.specs.List.{slice_get};
 ghost use Rattle.wasm_module.specs.declared.types.ValType.TheVariants.{I32};
 ghost use Rattle.wasm_numbers.specs.Types.{AreWords};
-ghost use Rattle.core_machine.specs.Store.{Function};
-ghost use Rattle.core_machine.specs.Step.{start};
-ghost use Rattle.core_machine.specs.Views.{function_of};
+ghost use Rattle.wasm_store.specs.Store.{Function};
+ghost use Rattle.wasm_store.specs.Step.{start};
+ghost use Rattle.wasm_store.specs.Views.{function_of};
 ghost use Rattle.copy_engine.specs.Nested.{is_realloc, realloc_in, bytes_in, NestedGives};
 
 use ca_base::Fuel;
-use core_machine::{FunctionInstance, Store, Trap};
 use std::alloc::Global;
+use thiserror::Error;
 use value_lower::RoomEnd;
 use wasm_execution::{Outcome, Words, run, start};
 use wasm_module::{ValType, are_same};
+use wasm_store::{FunctionInstance, Store, Trap};
 
 /// A function of the host that nested code calls.
 #[derive(Drop)]
@@ -26,13 +27,16 @@ pub struct HostCall {
 }
 
 /// Why nested code gives no answer.
-#[derive(Clone, Copy)]
+#[derive(Clone, Copy, Debug, Error)]
 pub enum NestedTrap {
     /// A trap of core code.
+    #[error("core code trapped: {0}")]
     Core(Trap),
     /// A function of the host is called.
+    #[error("a function of the host is called")]
     CannotLeave,
     /// There is no function to call of four i32 that gives one. Linking asks for one where a value of the types may need a place.
+    #[error("there is no function that gives places")]
     NoRealloc,
 }
 

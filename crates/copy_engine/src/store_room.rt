@@ -1,16 +1,16 @@
 //! Rooms over a store.
 
 ghost use Rattle.std.specs.Prelude.{◌≡◌, None};
-ghost use Rattle.core_machine.specs.Instantiation.{empty};
+ghost use Rattle.wasm_store.specs.Instantiation.{empty};
 ghost use Rattle.copy_engine.specs.Rooms.{Same, state_of};
 
 use crate::memories::{put_in, size_in};
 use crate::nested::{HostCall, NestedTrap, realloc_in, run_realloc};
 use ca_base::Fuel;
-use core_machine::Store;
 use std::alloc::Global;
 use std::mem;
 use value_lower::{Room, RoomEnd};
+use wasm_store::Store;
 
 /// What canonical options say of a lowering (Component Model, CanonicalABI.md, "Lifting and Lowering Context").
 #[derive(Clone, Copy)]

@@ -3,6 +3,8 @@
 ghost use Rattle.std.specs.Prelude.{◌≡◌};
 ghost use Rattle.entry_gate.specs.Callbacks.{callback_of};
 
+use thiserror::Error;
+
 /// What a task with a callback does next.
 #[derive(Clone, Copy)]
 pub enum Next {
@@ -17,7 +19,8 @@ pub enum Next {
 }
 
 /// The word of a callback has a code above 3.
-#[derive(Clone, Copy)]
+#[derive(Clone, Copy, Debug, Error)]
+#[error("the code of a callback's word is above 3")]
 pub struct BadCode;
 
 /// Reads the word that a callback or its function answers (Component Model, CanonicalABI.md, `canon lift`): a code in its

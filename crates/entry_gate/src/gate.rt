@@ -8,16 +8,19 @@ ghost use Rattle.entry_gate.specs.Runs.{gate_of};
 
 use crate::kind::Kind;
 use std::marker::Model;
+use thiserror::Error;
 
 /// The greatest backpressure that `Gate::inc` reaches.
 const MAX_PRESSURE: u32 = 65_535;
 
 /// The backpressure of an instance can't grow.
-#[derive(Clone, Copy)]
+#[derive(Clone, Copy, Debug, Error)]
+#[error("the backpressure is at its limit of 65,535")]
 pub struct PressureLimit;
 
 /// The backpressure of an instance is 0 already.
-#[derive(Clone, Copy)]
+#[derive(Clone, Copy, Debug, Error)]
+#[error("the backpressure is 0 already")]
 pub struct PressureZero;
 
 /// Who may enter an instance: its backpressure, the task that holds its exclusive entry, and the number of tasks that wait

@@ -13,13 +13,13 @@ use Rattle.laid_types.specs.Depth.{depth, depth_step, depth_case, depth_field, p
 use Rattle.laid_types.specs.Gathered.{depths, depth_over}
 use Rattle.laid_types.proofs.ByParts.{Layer, map_twice}
 
-max_alone : (d : ℕ) → d ≡ max d 0
+pub max_alone : (d : ℕ) → d ≡ max d 0
 max_alone d = omega arith
 
-max_second : (d : ℕ) → d ≡ max 0 (max d 0)
+pub max_second : (d : ℕ) → d ≡ max 0 (max d 0)
 max_second d = omega arith
 
-max_two : (d e : ℕ) → max d e ≡ max d (max e 0)
+pub max_two : (d e : ℕ) → max d e ≡ max d (max e 0)
 max_two d e = omega arith
 
 depth_of_payload : (p : Option ValType) → part_depth (held depth p) ≡ held_depth p

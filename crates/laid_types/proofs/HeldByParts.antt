@@ -11,9 +11,9 @@ use Rattle.ca_types.specs.Ends.{has_end, end_step, end_case, end_field, held_end
 use Rattle.ca_types.proofs.Folds.{held, fold_case, fold_field, fold_result, fold_stream, fold_future}
 use Rattle.ca_types.proofs.Parts.{map_alike}
 use Rattle.laid_types.specs.Parts.{parts_case, parts_of}
-use Rattle.laid_types.specs.Handles.{has_handle, handle_step, held_handle}
+use Rattle.laid_types.specs.Handles.{has_handle, handle_step, held_handle, has_borrow, borrow_step, held_borrow}
 use Rattle.laid_types.specs.Lists.{has_list, list_step, held_list}
-use Rattle.laid_types.specs.Gathered.{ends, handles, lists, end_over, handle_over, list_over}
+use Rattle.laid_types.specs.Gathered.{ends, handles, borrows, lists, end_over, handle_over, borrow_over, list_over}
 use Rattle.laid_types.proofs.ByParts.{Layer, map_twice}
 
 pub or_false : (b : Bool) → (b || false) ≡ b
@@ -115,6 +115,54 @@ handle_rolled (F.Future e) = fold_future Bool Bool Bool handle_step end_case end
 
 pub handle_by_parts : (t : ValType) → has_handle t ≡ handle_over (out-ValType t) (handles (parts_of t))
 handle_by_parts t = ap has_handle (sym (roll-out-ValType t)) ∙ handle_rolled (out-ValType t)
+
+-- Borrowed borrows.
+borrow_of_payload : (p : Option ValType) → part_true (held has_borrow p) ≡ held_borrow p
+borrow_of_payload (Some p) = refl
+borrow_of_payload None = refl
+
+borrow_of_case : (c : Case) → fold-Case Bool Bool Bool borrow_step end_case end_field c ≡ held_borrow c.payload
+borrow_of_case c = fold_case Bool Bool Bool borrow_step end_case end_field c ∙ borrow_of_payload c.payload
+
+borrow_of_field : (f : Field) → fold-Field Bool Bool Bool borrow_step end_case end_field f ≡ has_borrow f.val_type
+borrow_of_field = fold_field Bool Bool Bool borrow_step end_case end_field
+
+borrow_rolled : (x : Layer) → has_borrow (roll-ValType x) ≡ borrow_over x (borrows (parts_case x))
+borrow_rolled F.Bool = fold-roll-ValType Bool Bool Bool borrow_step end_case end_field F.Bool
+borrow_rolled F.S8 = fold-roll-ValType Bool Bool Bool borrow_step end_case end_field F.S8
+borrow_rolled F.U8 = fold-roll-ValType Bool Bool Bool borrow_step end_case end_field F.U8
+borrow_rolled F.S16 = fold-roll-ValType Bool Bool Bool borrow_step end_case end_field F.S16
+borrow_rolled F.U16 = fold-roll-ValType Bool Bool Bool borrow_step end_case end_field F.U16
+borrow_rolled F.S32 = fold-roll-ValType Bool Bool Bool borrow_step end_case end_field F.S32
+borrow_rolled F.U32 = fold-roll-ValType Bool Bool Bool borrow_step end_case end_field F.U32
+borrow_rolled F.S64 = fold-roll-ValType Bool Bool Bool borrow_step end_case end_field F.S64
+borrow_rolled F.U64 = fold-roll-ValType Bool Bool Bool borrow_step end_case end_field F.U64
+borrow_rolled F.Char = fold-roll-ValType Bool Bool Bool borrow_step end_case end_field F.Char
+borrow_rolled F.String = fold-roll-ValType Bool Bool Bool borrow_step end_case end_field F.String
+borrow_rolled (F.Record fields) =
+    fold-roll-ValType Bool Bool Bool borrow_step end_case end_field (F.Record fields)
+    ∙ ap some_true (map_alike _ _ borrow_of_field fields ∙ sym (map_twice (λ (f : Field). Some f.val_type) held_borrow fields))
+borrow_rolled (F.Variant cases) =
+    fold-roll-ValType Bool Bool Bool borrow_step end_case end_field (F.Variant cases)
+    ∙ ap some_true (map_alike _ _ borrow_of_case cases ∙ sym (map_twice (λ (c : Case). c.payload) held_borrow cases))
+borrow_rolled (F.List e) = fold-roll-ValType Bool Bool Bool borrow_step end_case end_field (F.List e) ∙ sym (or_false (has_borrow e))
+borrow_rolled (F.Tuple parts) =
+    fold-roll-ValType Bool Bool Bool borrow_step end_case end_field (F.Tuple parts)
+    ∙ ap some_true (sym (map_twice {B = Option ValType} Some held_borrow parts))
+borrow_rolled (F.Flags labels) = fold-roll-ValType Bool Bool Bool borrow_step end_case end_field (F.Flags labels)
+borrow_rolled (F.Enum labels) = fold-roll-ValType Bool Bool Bool borrow_step end_case end_field (F.Enum labels)
+borrow_rolled (F.Option p) = fold-roll-ValType Bool Bool Bool borrow_step end_case end_field (F.Option p) ∙ sym (or_false (has_borrow p))
+borrow_rolled (F.Result ok err) =
+    fold_result Bool Bool Bool borrow_step end_case end_field ok err
+    ∙ ap (λ (b : Bool). b || part_true (held has_borrow err)) (borrow_of_payload ok)
+    ∙ ap (λ (b : Bool). held_borrow ok || b) (borrow_of_payload err ∙ sym (or_false (held_borrow err)))
+borrow_rolled (F.Own n) = fold-roll-ValType Bool Bool Bool borrow_step end_case end_field (F.Own n)
+borrow_rolled (F.Borrow n) = fold-roll-ValType Bool Bool Bool borrow_step end_case end_field (F.Borrow n)
+borrow_rolled (F.Stream e) = fold_stream Bool Bool Bool borrow_step end_case end_field e
+borrow_rolled (F.Future e) = fold_future Bool Bool Bool borrow_step end_case end_field e
+
+pub borrow_by_parts : (t : ValType) → has_borrow t ≡ borrow_over (out-ValType t) (borrows (parts_of t))
+borrow_by_parts t = ap has_borrow (sym (roll-out-ValType t)) ∙ borrow_rolled (out-ValType t)
 
 -- Strings and lists.
 list_of_payload : (p : Option ValType) → part_true (held has_list p) ≡ held_list p

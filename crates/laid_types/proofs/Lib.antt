@@ -1,6 +1,7 @@
 pub mod ByParts
 pub mod HeldByParts
 pub mod DepthByParts
+pub mod TopByParts
 pub mod Deepest
 pub mod OfLayers
 pub mod Growing

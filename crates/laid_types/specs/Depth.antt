@@ -9,6 +9,7 @@ abbrev pub greatest : List ℕ → ℕ
 greatest [] = 0
 greatest (d ∷ depths) = max d (greatest depths)
 
+-- that of a part, 0 where there is none
 abbrev pub part_depth : Option ℕ → ℕ
 part_depth (Some part) = part
 part_depth None = 0

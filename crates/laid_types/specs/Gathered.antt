@@ -1,5 +1,5 @@
 -- What is computed of a type from what is computed of its parts (Component Model, CanonicalABI.md, "Alignment", "Element Size" and
--- "Flattening"): layouts, core types, what values hold, and depths.
+-- "Flattening"): layouts, core types, what values hold, depths, and the resources that types name.
 use Rattle.std.specs.Prelude.{ℕ, suc, Bool, true, false, List, [], ◌∷◌, map, length, Option}
 use Rattle.ca_types.specs.declared.types.ValType.{ValType}
 use Rattle.ca_types.specs.declared.types.ValType.TheOpen.{ValType-F}
@@ -9,7 +9,7 @@ use Rattle.ca_types.specs.Layout.{Laid, scalar, bits_size, record_laid, tagged}
 use Rattle.ca_types.specs.Limited.{limited, joined}
 use Rattle.ca_types.specs.Flat.{flat_payload, all_of, joined_all}
 use Rattle.ca_types.specs.Ends.{held_end, some_true}
-use Rattle.laid_types.specs.Handles.{held_handle}
+use Rattle.laid_types.specs.Handles.{held_handle, held_borrow, held_top}
 use Rattle.laid_types.specs.Lists.{held_list}
 use Rattle.laid_types.specs.Depth.{held_depth, greatest}
 use Rattle.laid_types.specs.declared.laying.Laying.{Laying}
@@ -66,17 +66,20 @@ flat_over (ValType-F.Option payload) parts = I32 ∷ joined_all parts
 flat_over (ValType-F.Result ok err) parts = I32 ∷ joined_all parts
 flat_over _ parts = I32 ∷ []
 
--- whether parts hold the end of a stream or a future, a handle, or a string or a list
+-- whether parts hold the end of a stream or a future, a handle, a borrowed one, or a string or a list
 abbrev pub ends : List (Option ValType) → List Bool
 ends parts = map held_end parts
 
 abbrev pub handles : List (Option ValType) → List Bool
 handles parts = map held_handle parts
 
+abbrev pub borrows : List (Option ValType) → List Bool
+borrows parts = map held_borrow parts
+
 abbrev pub lists : List (Option ValType) → List Bool
 lists parts = map held_list parts
 
--- a layer of a type, where it is known of its parts whether they hold an end, a handle, or a string or a list
+-- a layer of a type, where it is known of its parts whether they hold an end, a handle, a borrowed one, or a string or a list
 abbrev pub end_over : {A B C : Type 0} → ValType-F A B C → List Bool → Bool
 end_over (ValType-F.Stream element) parts = true
 end_over (ValType-F.Future element) parts = true
@@ -88,6 +91,12 @@ handle_over (ValType-F.Borrow resource) parts = true
 handle_over (ValType-F.Stream element) parts = false
 handle_over (ValType-F.Future element) parts = false
 handle_over _ parts = some_true parts
+
+abbrev pub borrow_over : {A B C : Type 0} → ValType-F A B C → List Bool → Bool
+borrow_over (ValType-F.Borrow resource) parts = true
+borrow_over (ValType-F.Stream element) parts = false
+borrow_over (ValType-F.Future element) parts = false
+borrow_over _ parts = some_true parts
 
 abbrev pub list_over : {A B C : Type 0} → ValType-F A B C → List Bool → Bool
 list_over ValType-F.String parts = true
@@ -103,3 +112,13 @@ depths parts = map held_depth parts
 -- a type whose parts have these depths
 abbrev pub depth_over : List ℕ → ℕ
 depth_over parts = suc (greatest parts)
+
+-- the greatest numbers of resources that parts name, 0 where no type stands
+abbrev pub tops : List (Option ValType) → List ℕ
+tops parts = map held_top parts
+
+-- a layer of a type whose parts name these
+abbrev pub top_over : {A B C : Type 0} → ValType-F A B C → List ℕ → ℕ
+top_over (ValType-F.Own resource) parts = resource
+top_over (ValType-F.Borrow resource) parts = resource
+top_over _ parts = greatest parts

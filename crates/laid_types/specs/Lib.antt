@@ -6,3 +6,4 @@ pub mod Layers
 pub mod Gathered
 pub mod Known
 pub mod Computed
+pub mod Placing

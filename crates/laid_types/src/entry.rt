@@ -9,7 +9,7 @@ ghost use Rattle.ca_types.specs.Limited.{InReach, limited};
 ghost use Rattle.ca_types.specs.Flat.{flat};
 ghost use Rattle.ca_types.specs.Ends.{has_end};
 ghost use Rattle.laid_types.specs.Parts.{labels_of, payload_place};
-ghost use Rattle.laid_types.specs.Handles.{has_handle};
+ghost use Rattle.laid_types.specs.Handles.{has_handle, has_borrow, top_resource};
 ghost use Rattle.laid_types.specs.Lists.{has_list};
 ghost use Rattle.laid_types.specs.Depth.{depth};
 ghost use Rattle.laid_types.specs.Gathered.{as_laid};
@@ -31,6 +31,8 @@ pub(crate) struct Entry {
     pub(crate) holding: Holding,
     /// How many types stand in one another in it, or 33 where there are more than 32.
     pub(crate) depth: u32,
+    /// The greatest number of a resource that it names, 0 where it names none.
+    pub(crate) top: u32,
     pub(crate) label_places: BTreeMap<String, usize>,
     pub(crate) parts: Vec<Option<usize>>,
 }
@@ -49,7 +51,7 @@ impl Model for Entry {
 
     ghost view = { λ e. record { val_type = e.val_type; parts = e.parts.items } };
 
-    ghost invariant = { λ e. IsComputed e.val_type (as_laid e.laying) e.payload_place e.flat.items e.holding.end e.holding.handle e.holding.list e.depth (get_by_text e.label_places) };
+    ghost invariant = { λ e. IsComputed e.val_type (as_laid e.laying) e.payload_place e.flat.items e.holding.end e.holding.handle e.holding.borrow e.holding.list e.depth e.top (get_by_text e.label_places) };
 }
 
 impl Entry {
@@ -93,6 +95,7 @@ impl Entry {
     pub(crate) fn holding(&self) -> Holding
         ensures end { result.end ≡ has_end self.now.val_type }
         ensures handle { result.handle ≡ has_handle self.now.val_type }
+        ensures borrow { result.borrow ≡ has_borrow self.now.val_type }
         ensures list { result.list ≡ has_list self.now.val_type }
     {
         self.holding
@@ -103,6 +106,13 @@ impl Entry {
         ensures { result ≡ min (depth self.now.val_type) 33 }
     {
         self.depth
+    }
+
+    /// The greatest number of a resource that it names, 0 where it names none.
+    pub(crate) fn top(&self) -> u32
+        ensures { result ≡ top_resource self.now.val_type }
+    {
+        self.top
     }
 
     /// Where a label stands: of equal ones the first.

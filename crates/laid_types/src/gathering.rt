@@ -10,7 +10,7 @@ ghost use Rattle.ca_types.specs.Ends.{some_true};
 ghost use Rattle.laid_types.specs.Parts.{case_count, layouts};
 ghost use Rattle.laid_types.specs.Layers.{AreThere, trees_of};
 ghost use Rattle.laid_types.specs.Depth.{greatest};
-ghost use Rattle.laid_types.specs.Gathered.{as_laid, room_for, laid_over, flats, flat_over, ends, handles, lists, end_over, handle_over, list_over, depths, depth_over};
+ghost use Rattle.laid_types.specs.Gathered.{as_laid, room_for, laid_over, flats, flat_over, ends, handles, borrows, lists, end_over, handle_over, borrow_over, list_over, depths, depth_over, tops, top_over};
 
 use crate::flattening::{alone, joined_lists, push_types, tagged};
 use crate::holding::Holding;
@@ -171,11 +171,13 @@ fn parts_holding(types: &LaidTypes, parts: &[Option<usize>]) -> Holding
     requires { AreThere types.now parts.now }
     ensures end { result.end ≡ some_true (ends (trees_of types.now parts.now)) }
     ensures handle { result.handle ≡ some_true (handles (trees_of types.now parts.now)) }
+    ensures borrow { result.borrow ≡ some_true (borrows (trees_of types.now parts.now)) }
     ensures list { result.list ≡ some_true (lists (trees_of types.now parts.now)) }
 {
     let mut held = Holding {
         end: false,
         handle: false,
+        borrow: false,
         list: false,
     };
     for part in parts {
@@ -191,6 +193,7 @@ pub(crate) fn holding_of(types: &LaidTypes, val_type: &ValType, parts: &[Option<
     requires { AreThere types.now parts.now }
     ensures end { result.end ≡ end_over (out-ValType val_type.now) (ends (trees_of types.now parts.now)) }
     ensures handle { result.handle ≡ handle_over (out-ValType val_type.now) (handles (trees_of types.now parts.now)) }
+    ensures borrow { result.borrow ≡ borrow_over (out-ValType val_type.now) (borrows (trees_of types.now parts.now)) }
     ensures list { result.list ≡ list_over (out-ValType val_type.now) (lists (trees_of types.now parts.now)) }
 {
     let held = parts_holding(types, parts);
@@ -198,10 +201,16 @@ pub(crate) fn holding_of(types: &LaidTypes, val_type: &ValType, parts: &[Option<
         ValType::Stream(_) | ValType::Future(_) => Holding {
             end: true,
             handle: false,
+            borrow: false,
             list: false,
         },
-        ValType::Own(_) | ValType::Borrow(_) => Holding {
+        ValType::Own(_) => Holding {
             handle: true,
+            ..held
+        },
+        ValType::Borrow(_) => Holding {
+            handle: true,
+            borrow: true,
             ..held
         },
         ValType::String | ValType::List(_) => Holding { list: true, ..held },
@@ -229,4 +238,30 @@ pub(crate) fn depth_of(types: &LaidTypes, parts: &[Option<usize>]) -> u32
     ensures { result ≡ min (depth_over (depths (trees_of types.now parts.now))) 33 }
 {
     (deepest(types, parts) + 1).min(33)
+}
+
+/// The greatest number of a resource that parts name, 0 where they name none.
+fn greatest_top(types: &LaidTypes, parts: &[Option<usize>]) -> u32
+    requires { AreThere types.now parts.now }
+    ensures { result ≡ greatest (tops (trees_of types.now parts.now)) }
+{
+    let mut top = 0;
+    for part in parts {
+        if let Some(number) = part {
+            top = types.entry(*number).top().max(top);
+        }
+    }
+    top
+}
+
+/// The greatest number of a resource that a type with these parts names, 0 where it names none.
+pub(crate) fn top_of(types: &LaidTypes, val_type: &ValType, parts: &[Option<usize>]) -> u32
+    requires { AreThere types.now parts.now }
+    ensures { result ≡ top_over (out-ValType val_type.now) (tops (trees_of types.now parts.now)) }
+{
+    match val_type {
+        ValType::Own(resource) => *resource,
+        ValType::Borrow(resource) => *resource,
+        _ => greatest_top(types, parts),
+    }
 }

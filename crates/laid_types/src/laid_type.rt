@@ -6,7 +6,7 @@ ghost use Rattle.ca_types.specs.Layout.{laid, tag_size};
 ghost use Rattle.ca_types.specs.Flat.{flat};
 ghost use Rattle.ca_types.specs.Ends.{has_end};
 ghost use Rattle.laid_types.specs.Parts.{parts_of, part_at, case_count, labels_of, payload_place};
-ghost use Rattle.laid_types.specs.Handles.{has_handle};
+ghost use Rattle.laid_types.specs.Handles.{has_handle, has_borrow, top_resource};
 ghost use Rattle.laid_types.specs.Lists.{has_list};
 ghost use Rattle.laid_types.specs.Depth.{depth};
 ghost use Rattle.laid_types.specs.Known.{Stands};
@@ -160,6 +160,22 @@ impl<'a> LaidType<'a> {
     {
         let entry = self.entry;
         entry.holding().handle
+    }
+
+    /// Whether values hold a borrowed handle.
+    pub fn has_borrow(&self) -> bool
+        ensures { result ≡ has_borrow self.now }
+    {
+        let entry = self.entry;
+        entry.holding().borrow
+    }
+
+    /// The greatest number of a resource that the type names, in the elements of streams and futures too, 0 where it names none.
+    pub fn top_resource(&self) -> u32
+        ensures { result ≡ top_resource self.now }
+    {
+        let entry = self.entry;
+        entry.top()
     }
 
     /// Whether values hold a string or a list, which stand in a memory wherever the value stands (Component Model, CanonicalABI.md,

@@ -8,7 +8,9 @@ ghost use Rattle.laid_types.specs.Layers.{AreThere, trees_of, type_of, part_numb
 ghost use Rattle.laid_types.specs.Known.{Stands};
 
 use crate::entry::Entry;
-use crate::gathering::{case_count, depth_of, flat_of, holding_of, laying_of, payload_laying};
+use crate::gathering::{
+    case_count, depth_of, flat_of, holding_of, laying_of, payload_laying, top_of,
+};
 use crate::labels::first_places;
 use crate::layer::ValTypeLayer;
 use crate::trees::type_of;
@@ -36,6 +38,7 @@ fn entry_with(
     let flat = flat_of(alloc, types, val_type.get(), &parts)?;
     let holding = holding_of(types, val_type.get(), &parts);
     let depth = depth_of(types, &parts);
+    let top = top_of(types, val_type.get(), &parts);
     Ok(Entry {
         val_type,
         laying,
@@ -43,6 +46,7 @@ fn entry_with(
         flat,
         holding,
         depth,
+        top,
         label_places,
         parts,
     })

@@ -137,7 +137,8 @@ fn write_lower(text: &mut String, lower: &Lower) -> Result<(), AllocError> {
 fn write_canons(text: &mut String, canons: &[CanonFunc]) -> Result<(), AllocError> {
     for canon in canons {
         match canon {
-            CanonFunc::Lower(lower) => write_lower(text, lower)?,
+            CanonFunc::Lower(lower) => write_lower(text, lower.get())?,
+            CanonFunc::Builtin(_) => text.push_str("builtin\n")?,
         }
     }
     Ok(())

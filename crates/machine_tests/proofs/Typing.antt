@@ -4,14 +4,14 @@ use Rattle.std.specs.List.{slice_get}
 use Rattle.std.proofs.lemmas.Option.{slice_get_within}
 use Rattle.wasm_module.specs.declared.types.ValType.{ValType}
 use Rattle.wasm_module.specs.declared.module.ModuleTree.{ModuleTree}
-use Rattle.wasm_valid.specs.Modules.{Typed}
+use Rattle.wasm_typing.specs.Modules.{Typed}
 use Rattle.wasm_numbers.specs.Types.{AreWords}
-use Rattle.core_machine.specs.Store.{Function, Host, type_of, Store}
-use Rattle.core_machine.specs.Stack.{Stack}
-use Rattle.core_machine.specs.Step.{Calls, resume, start}
-use Rattle.core_machine.specs.Instantiation.{External, Makes, instantiated, ImportsMatch, InRange}
-use Rattle.core_machine.specs.Typed.{StoreTyped}
-use Rattle.core_machine.specs.Laws.{MoveTyped, MovesTyped, NeverStuck, StartsTyped, AddedTyped, AddsTyped}
+use Rattle.wasm_store.specs.Store.{Function, Host, type_of, Store}
+use Rattle.wasm_store.specs.Stack.{Stack}
+use Rattle.wasm_store.specs.Step.{Calls, resume, start}
+use Rattle.wasm_store.specs.Instantiation.{External, Makes, instantiated, ImportsMatch, InRange}
+use Rattle.wasm_store.specs.Typed.{StoreTyped}
+use Rattle.wasm_store.specs.Laws.{MoveTyped, MovesTyped, NeverStuck, StartsTyped, AddedTyped, AddsTyped}
 use Rattle.wasm_execution.specs.Waiting.{Waiting}
 use Rattle.wasm_execution.specs.Run.{RunGives}
 use Rattle.wasm_execution.specs.declared.running.Outcome.{Outcome}

@@ -5,8 +5,8 @@ use mir.Val.{bits}
 use Rattle.wasm_module.specs.declared.instr.NumericOp.{NumericOp}
 use Rattle.wasm_module.specs.declared.instr.LoadOp.{LoadOp}
 use Rattle.wasm_module.specs.declared.instr.StoreOp.{StoreOp}
-use Rattle.wasm_valid.specs.Context.{arrow}
-use Rattle.wasm_valid.specs.Instrs.{numeric_type, load_gives, load_width, store_width}
+use Rattle.wasm_typing.specs.Context.{arrow}
+use Rattle.wasm_typing.specs.Instrs.{numeric_type, load_gives, load_width, store_width}
 use Rattle.wasm_numbers.specs.Types.{operand_types, result_type, IsWord}
 use Rattle.wasm_memory.specs.Loads.{read_width, result_width}
 use Rattle.wasm_memory.specs.Stores.{stored_bytes}

@@ -15,11 +15,11 @@ use Rattle.wasm_module.specs.declared.module.ImportDesc.TheVariants as import
 use Rattle.wasm_module.specs.declared.module.ElementSegment.{ElementSegment}
 use Rattle.wasm_module.specs.declared.module.ModuleTree.{ModuleTree}
 use Rattle.wasm_module.specs.Expr.{Expr, End, Plain, Block, Loop, If, IfElse}
-use Rattle.wasm_valid.specs.Context.{arrow}
-use Rattle.core_machine.specs.Store.{Function, Own, Host, Table, Store}
-use Rattle.core_machine.specs.Stack.{Stack, Running}
-use Rattle.core_machine.specs.Step.{Move, Goes, Calls, next, resume, start, units, first_frame}
-use Rattle.core_machine.specs.Instantiation.{FuncAddress, Instantiation, Makes, SegmentBounds, instance_of, instantiated, start_call}
+use Rattle.wasm_typing.specs.Context.{arrow}
+use Rattle.wasm_store.specs.Store.{Function, Own, Host, Table, Store}
+use Rattle.wasm_store.specs.Stack.{Stack, Running}
+use Rattle.wasm_store.specs.Step.{Move, Goes, Calls, next, resume, start, units, first_frame}
+use Rattle.wasm_store.specs.Instantiation.{FuncAddress, Instantiation, Makes, SegmentBounds, instance_of, instantiated, start_call}
 
 -- the move that a stack stops at, or that it comes to after so many others, and the units on the way
 abbrev pub behind : ℕ → ℕ → Move → ℕ × Move

@@ -3,10 +3,10 @@ use Rattle.std.specs.Prelude.{◌≡◌, ℕ, List, length, Some}
 use Rattle.std.specs.List.{slice_get}
 use Rattle.wasm_module.specs.declared.types.ValType.{ValType}
 use Rattle.wasm_numbers.specs.Types.{AreWords}
-use Rattle.core_machine.specs.Store.{Function, type_of, Store}
-use Rattle.core_machine.specs.Stack.{Stack}
-use Rattle.core_machine.specs.Step.{resume}
-use Rattle.core_machine.specs.Typed.{StoreTyped, StackTyped}
+use Rattle.wasm_store.specs.Store.{Function, type_of, Store}
+use Rattle.wasm_store.specs.Stack.{Stack}
+use Rattle.wasm_store.specs.Step.{resume}
+use Rattle.wasm_store.specs.Typed.{StoreTyped, StackTyped}
 use Rattle.wasm_execution.specs.Waiting.{Waiting}
 use Rattle.wasm_execution.specs.declared.running.Outcome.{Outcome}
 use Rattle.wasm_execution.specs.declared.running.Outcome.TheVariants as outcome

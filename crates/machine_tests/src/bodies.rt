@@ -9,13 +9,13 @@ use crate::running::{answered, called, given, name_of, run_for, told};
 use crate::words::words_of;
 use ca_base::Fuel;
 use cases::bytes_of;
-use core_machine::Store;
 use module_reading::valid_of;
 use std::alloc::Global;
 use std::test::Fail;
 use wasm_code::External;
 use wasm_execution::{Outcome, Running, Suspended};
-use wasm_valid::Valid;
+use wasm_store::Store;
+use wasm_typing::Valid;
 
 /// The slice of fuel in which each body is run first.
 const SLICE: u64 = 1_000_000;

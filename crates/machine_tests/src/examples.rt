@@ -7,17 +7,17 @@ ghost use Rattle.wasm_module.specs.declared.instr.UnaryOp.TheVariants.{Extend8S}
 ghost use Rattle.wasm_module.specs.declared.instr.RelationOp.TheVariants.{LtS, LtU};
 ghost use Rattle.wasm_module.specs.declared.instr.LoadOp.TheVariants.{I32Load, I32Load8S, I32Load16U, I64Load32S};
 ghost use Rattle.wasm_module.specs.declared.instr.StoreOp.TheVariants.{I64Store16};
-ghost use Rattle.core_machine.specs.declared.trap.Trap.TheVariants.{Unreachable, DivideByZero, DivideOverflow, MemoryBounds, TableBounds, NullElement, OtherSignature, StackLimit};
+ghost use Rattle.wasm_store.specs.declared.trap.Trap.TheVariants.{Unreachable, DivideByZero, DivideOverflow, MemoryBounds, TableBounds, NullElement, OtherSignature, StackLimit};
 ghost use Rattle.wasm_numbers.specs.declared.trap.NumberTrap.TheVariants as number_trap;
 ghost use Rattle.wasm_numbers.specs.Numeric.{binary, extended, unary, relation};
 ghost use Rattle.wasm_memory.specs.Bytes.{is_inside, copied};
 ghost use Rattle.wasm_memory.specs.Loads.{loaded};
 ghost use Rattle.wasm_memory.specs.Stores.{stored_bytes};
-ghost use Rattle.core_machine.specs.Step.{Goes, Calls, Ends, Traps, cost, next, first_frame};
+ghost use Rattle.wasm_store.specs.Step.{Goes, Calls, Ends, Traps, cost, next, first_frame};
 ghost use Rattle.machine_tests.specs.Examples.{sums, leaves, returns, calls, asks, grows, branches, goes_back, divides, keeps, writes, stops, selects, chooses, copies, fills, at_call, host_alone, store, outcome, answered, nested, four, segment, added, written, starts};
-ghost use Rattle.core_machine.specs.Stack.{Given, Running};
+ghost use Rattle.wasm_store.specs.Stack.{Given, Running};
 ghost use Rattle.wasm_module.specs.Expr.{End};
-ghost use Rattle.wasm_valid.specs.Context.{arrow};
+ghost use Rattle.wasm_typing.specs.Context.{arrow};
 
 /// Operations at the edges of their widths.
 pub(crate) fn numbers()

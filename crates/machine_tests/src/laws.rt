@@ -5,14 +5,14 @@ use crate::examples;
 
 /// What holds of the machine, and of numeric instructions.
 fn machine_has_laws() {
-    core_machine::laws::typed_stacks_never_get_stuck();
-    core_machine::laws::stacks_stay_typed();
-    core_machine::laws::added_modules_are_typed();
-    core_machine::laws::changed_stores_are_typed();
-    core_machine::laws::stores_without_hosts();
-    core_machine::laws::free_moves_end();
-    core_machine::laws::frames_stay_few();
-    core_machine::laws::moves_are_determined();
+    wasm_store::laws::typed_stacks_never_get_stuck();
+    wasm_store::laws::stacks_stay_typed();
+    wasm_store::laws::added_modules_are_typed();
+    wasm_store::laws::changed_stores_are_typed();
+    wasm_store::laws::stores_without_hosts();
+    wasm_store::laws::free_moves_end();
+    wasm_store::laws::frames_stay_few();
+    wasm_store::laws::moves_are_determined();
     wasm_numbers::laws::results_have_their_type();
     types_are_those_of_validation();
 }

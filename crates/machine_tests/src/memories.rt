@@ -6,8 +6,8 @@ use cases::{Steps, bytes_of_lines};
 use std::alloc::{AllocError, Global};
 use std::fmt::Write;
 use std::test::Fail;
+use wasm_code_reader::{load, store};
 use wasm_memory::{LinearMemory, MOST_PAGES, OutOfBounds};
-use wasm_module::{load, store};
 
 /// The words behind the name of a line, as numbers. The text from the second one on may be bytes too.
 #[derive(Clone, Copy)]

@@ -5,11 +5,11 @@ ghost use Rattle.machine_tests.specs.Typed.{MayRun, MayGoOn, StaysTyped};
 
 use crate::words::{are_words, write_words};
 use ca_base::Fuel;
-use core_machine::{Store, Trap, laws};
 use std::alloc::Global;
 use std::fmt::Write;
 use std::test::Fail;
 use wasm_execution::{Outcome, Running, Suspended, run, start};
+use wasm_store::{Store, Trap, laws};
 
 /// A call of the function at an address, with words of its parameters' types.
 #[tactic(auto, using(crate::proofs::Typing::started))]

@@ -1,8 +1,8 @@
 //! What the steps of the texts of stores do.
 
 ghost use Rattle.std.specs.Prelude.{◌≡◌, IfOk, map};
-ghost use Rattle.core_machine.specs.Instantiation.{ImportsMatch};
-ghost use Rattle.core_machine.specs.Views.{address_of};
+ghost use Rattle.wasm_store.specs.Instantiation.{ImportsMatch};
+ghost use Rattle.wasm_store.specs.Views.{address_of};
 ghost use Rattle.std.specs.Option.{IfSome};
 ghost use Rattle.machine_tests.specs.Typed.{MayRun, MayGoOn};
 
@@ -12,14 +12,14 @@ use crate::running::{answered, called, given, name_of, run_for, told};
 use crate::words::{words_of, write_words};
 use ca_base::Fuel;
 use cases::{Steps, bytes_of};
-use core_machine::{AddFault, Store, laws};
 use module_reading::valid_of;
 use std::alloc::Global;
 use std::fmt::Write;
 use std::test::Fail;
 use wasm_code::External;
 use wasm_execution::{Outcome, Running, Suspended};
-use wasm_valid::Valid;
+use wasm_store::{AddFault, Store, laws};
+use wasm_typing::Valid;
 
 /// A store, and the function that runs first in the module that was added last.
 #[derive(Drop)]

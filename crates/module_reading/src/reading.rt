@@ -3,9 +3,11 @@
 use ca_base::{MemoryOr, ReadError};
 use std::alloc::Global;
 use std::test::Fail;
-use wasm_module::{Module, ModuleWhy};
+use wasm_code_reader::ModuleWhy;
+use wasm_module::Module;
 use wasm_reader::read_module;
-use wasm_valid::{Valid, ValidFault, validate};
+use wasm_typing::{Valid, ValidFault};
+use wasm_valid::validate;
 
 /// The module of bytes, of which the first one stands at a place.
 pub fn read_at(alloc: Global, bytes: &[u8], base: u16) -> Result<Module, ReadError<ModuleWhy>> {

@@ -4,8 +4,9 @@ use ca_base::{MemoryOr, ReadError, Refusal};
 use module_reading::{checked, read_at};
 use std::alloc::Global;
 use std::test::Fail;
-use wasm_module::{Module, ModuleWhy};
-use wasm_valid::ValidFault;
+use wasm_code_reader::ModuleWhy;
+use wasm_module::Module;
+use wasm_typing::ValidFault;
 
 /// The place and the reason of a refusal.
 fn refusal_text(alloc: Global, refusal: Refusal<ModuleWhy>) -> Result<String, Fail> {

@@ -4,7 +4,7 @@
 pub(crate) fn modules_have_laws() {
     wasm_reader::laws::one_reading();
     wasm_reader::laws::add_is_read();
-    wasm_valid::laws::faults_decide_typing();
+    wasm_typing::laws::faults_decide_typing();
     comp_make::laws::numbers_are_read();
     comp_make::laws::opcodes_are_read();
 }

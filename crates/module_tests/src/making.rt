@@ -6,7 +6,7 @@ use module_reading::{read_at, valid_of};
 use std::alloc::Global;
 use std::test::Fail;
 use wasm_module::Module;
-use wasm_valid::Valid;
+use wasm_typing::Valid;
 
 /// The bytes that are made of a module.
 fn made(alloc: Global, read: Module) -> Result<Bytes, Memory> {

@@ -5,7 +5,7 @@ use module_reading::{checked, read_at};
 use std::alloc::{AllocError, Global};
 use std::test::Fail;
 use wasm_module::Module;
-use wasm_valid::Valid;
+use wasm_typing::Valid;
 
 /// What is shown of a module: its `items`, or its `sizes`.
 fn shown(alloc: Global, kind: &str, read: &Module) -> Result<String, Fail> {

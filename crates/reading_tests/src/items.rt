@@ -8,7 +8,7 @@ use comp_tree::{
 };
 use std::alloc::AllocError;
 use std::fmt::{Debug, Write};
-use wasm_valid::Valid;
+use wasm_typing::Valid;
 
 /// Writes a name behind a space.
 fn write_name(text: &mut String, name: &Name) -> Result<(), AllocError> {
@@ -133,6 +133,8 @@ fn write_option(text: &mut String, option: CanonOption) -> Result<(), AllocError
         CanonOption::Memory(index) => write!(text, ", memory {index}"),
         CanonOption::Realloc(index) => write!(text, ", realloc {index}"),
         CanonOption::PostReturn(index) => write!(text, ", post-return {index}"),
+        CanonOption::Async => text.push_str(", async"),
+        CanonOption::Callback(index) => write!(text, ", callback {index}"),
     }
 }
 
@@ -162,6 +164,7 @@ fn write_canon(text: &mut String, canon: &Canon) -> Result<(), AllocError> {
             write!(text, "lowered function {func}")?;
             write_options(text, options.as_slice())
         }
+        Canon::Builtin(_) => text.push_str("built-in"),
     }
 }
 
@@ -188,7 +191,7 @@ fn write_placed(text: &mut String, placed: &Placed<Item>) -> Result<(), AllocErr
     let place = placed.place;
     write!(text, "\n{place} ")?;
     match &placed.item {
-        Item::CoreModule(valid) => write_module(text, valid),
+        Item::CoreModule(valid) => write_module(text, valid.get()),
         Item::CoreInstance(made) => write_core_instance(text, made),
         Item::Component(inner) => write_component(text, inner),
         Item::Instance(made) => write_instance(text, made),

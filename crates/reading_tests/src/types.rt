@@ -51,6 +51,7 @@ pub(crate) fn write_type(text: &mut String, def_type: &DefType) -> Result<(), Al
         DefType::Value(val_type) => write_def_val_type(text, val_type),
         DefType::Func(func_type) => write_func_type(text, func_type),
         DefType::Instance(decls) => write_decls(text, decls.as_slice()),
+        DefType::Resource(_) => text.push_str("resource type"),
     }
 }
 

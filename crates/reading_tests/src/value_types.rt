@@ -91,6 +91,16 @@ fn write_outcomes(
     write_held(text, err)
 }
 
+/// Writes a type of streams or futures.
+fn write_ends(
+    text: &mut String,
+    front: &str,
+    element: Option<ValTypeRef>,
+) -> Result<(), AllocError> {
+    text.push_str(front)?;
+    write_held(text, element)
+}
+
 /// Writes a type of values.
 pub(crate) fn write_def_val_type(
     text: &mut String,
@@ -106,5 +116,9 @@ pub(crate) fn write_def_val_type(
         DefValType::Enum(labels) => write_labels(text, "enum type of", labels.as_slice()),
         DefValType::Option(payload) => write_over(text, "option type of ", *payload),
         DefValType::Result { ok, err } => write_outcomes(text, *ok, *err),
+        DefValType::Own(resource) => write!(text, "owning handle of type {resource}"),
+        DefValType::Borrow(resource) => write!(text, "borrowed handle of type {resource}"),
+        DefValType::Stream(element) => write_ends(text, "stream type of ", *element),
+        DefValType::Future(element) => write_ends(text, "future type of ", *element),
     }
 }

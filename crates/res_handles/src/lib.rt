@@ -27,8 +27,6 @@ mod lifting;
 mod lowering;
 mod readable_end;
 mod refusal;
-#[cfg(test)]
-mod tests;
 
 pub use ends::{lift_end, lower_end};
 pub use entry::{Entry, EntryView};

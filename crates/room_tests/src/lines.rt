@@ -5,13 +5,13 @@ use crate::modules::{add_all, module_with};
 use ca_base::Fuel;
 use cases::Answers;
 use copy_engine::{HostCall, LowerOptions, StoreRoom};
-use core_machine::Store;
 use laid_types::{LaidType, LaidTypes};
 use std::alloc::Global;
 use std::fmt::Write;
 use std::test::Fail;
 use type_texts::{value_of, values_of};
-use wasm_valid::Valid;
+use wasm_store::Store;
+use wasm_typing::Valid;
 
 /// What is lowered.
 #[derive(Clone, Copy)]

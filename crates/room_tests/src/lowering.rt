@@ -9,12 +9,12 @@ ghost use Rattle.value_lower.specs.Fitting.{AllFit};
 
 use ca_types::{Value, fits};
 use copy_engine::{NestedTrap, StoreRoom};
-use core_machine::Trap;
 use laid_types::{LaidType, LaidTypes, ValTypeLayer};
 use std::alloc::Global;
 use std::fmt::Write;
 use std::test::Fail;
 use value_lower::{LowerError, LowerWhy, RoomEnd, Words};
+use wasm_store::Trap;
 
 /// Adds a type by its name to a table, and answers its number.
 pub(crate) fn add_type(alloc: Global, types: &mut LaidTypes, name: &str) -> Result<usize, Fail> {

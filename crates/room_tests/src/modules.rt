@@ -2,13 +2,13 @@
 
 use ca_base::Seq;
 use cases::bytes_of;
-use core_machine::Store;
 use module_reading::valid_of;
 use std::alloc::Global;
 use std::test::Fail;
 use wasm_code::External;
 use wasm_module::{FuncType, ValType};
-use wasm_valid::Valid;
+use wasm_store::Store;
+use wasm_typing::Valid;
 
 /// The preamble of a core module, and the sections before its code: the types (i32, i32, i32, i32) -> i32 and (i32) -> (), a function of
 /// the host of each, of the second one first, one function of the first type, and a memory of a page.

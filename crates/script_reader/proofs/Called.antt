@@ -14,7 +14,7 @@ use Rattle.script_reader.specs.declared.script.Item.TheVariants as item
 use Rattle.script_reader.specs.declared.fault.ScriptWhy.{ScriptWhy}
 use Rattle.script_reader.specs.declared.fault.ScriptWhy.TheVariants as why
 use Rattle.script_reader.specs.declared.fault.ScriptFault.{ScriptFault}
-use Rattle.script_reader.specs.Laws.{ScriptsCallExports}
+use Rattle.script_reader.specs.Laws.{ScriptsCallExports, ScriptsPickNothing}
 use Rattle.script_reader.specs.Script.{Script, Draft, AreOfTypes, export_named, param_types, arguments_of, call_of_values, call_of_export, call_of_name, call_of, name_of, behind_name, after_mark, after, is_begun, with_fuel, with_call, fuel_of, is_skipped, add_by_word, add_line, add_others, add_lines, line_text, lines, empty_draft, script_or, too_long, not_utf8, CallsExport}
 use Rattle.script_reader.proofs.CallLines.{arguments_told}
 
@@ -93,6 +93,19 @@ of_tests exports bytes false true s h = of_said exports bytes (add_lines exports
 
 pub scripts_call_exports : ScriptsCallExports
 scripts_call_exports exports bytes s h = of_tests exports bytes _ _ s h
+
+-- No script picks an alternative.
+picks_nothing : (r : Result Draft ScriptFault) (s : Script) → script_or r ≡ Ok s → s.picks ≡ []
+picks_nothing (Err fault) s h = absurd (err_not_ok h)
+picks_nothing (Ok said) s h = subst (λ u. u.picks ≡ []) (ok_inj h) refl
+
+none_of_tests : (exports : List Export) (bytes : List ℕ) (long whole : Bool) (s : Script) → (if long then Err too_long else if whole then script_or (add_lines exports empty_draft 1 (lines bytes)) else Err (not_utf8 bytes)) ≡ Ok s → s.picks ≡ []
+none_of_tests exports bytes true whole s h = absurd (err_not_ok h)
+none_of_tests exports bytes false false s h = absurd (err_not_ok h)
+none_of_tests exports bytes false true s h = picks_nothing (add_lines exports empty_draft 1 (lines bytes)) s h
+
+pub scripts_pick_nothing : ScriptsPickNothing
+scripts_pick_nothing exports bytes s h = none_of_tests exports bytes _ _ s h
 
 -- the export that is found has the name
 found_by : {A : Type 0} (b : Bool) (x y : A) (o : Option A) → (if b then Some y else o) ≡ Some x → ((b ≡ true) × (y ≡ x)) ⊎ (o ≡ Some x)

@@ -12,7 +12,7 @@ use Rattle.script_reader.specs.declared.fault.ScriptWhy.{ScriptWhy}
 use Rattle.script_reader.specs.declared.fault.ScriptWhy.TheVariants as why
 use Rattle.script_reader.specs.declared.fault.ScriptFault.{ScriptFault}
 use Rattle.script_reader.specs.Script.{Script, Draft, empty_draft, is_begun, after, call_of, fuel_of, with_fuel, with_call, is_skipped, add_by_word, add_line, add_others, add_lines, line_text, script_of, default_fuel}
-use Rattle.script_reader.specs.Syntax.{IsCallOf, IsFuelOf, SaysNothing, SayItems, SayScript}
+use Rattle.script_reader.specs.Syntax.{IsCallOf, IsFuelOf, SaysNothing, SayItems, SayRun, SayScript}
 use Rattle.script_reader.proofs.Cases.{ok_inj, failed_ok}
 use Rattle.script_reader.proofs.Marks.{after_told}
 use Rattle.script_reader.proofs.Numbers.{fuel_is_a_line}
@@ -163,18 +163,18 @@ items_tell exports s number (line ∷ ls) items (inr more) =
     ∙ ap (λ (l : List Item). ok_said s.fuel l) same)
 
 -- All lines say a script.
-skip_first : (exports : List Export) (text : List ℕ) (texts : List (List ℕ)) (s : Script) → SaysNothing text → SayScript exports texts s → SayScript exports (text ∷ texts) s
+skip_first : (exports : List Export) (text : List ℕ) (texts : List (List ℕ)) (s : Script) → SaysNothing text → SayRun exports texts s → SayRun exports (text ∷ texts) s
 skip_first exports text texts s n (inl items) = inl (items.0, inl (n, items.1))
 skip_first exports text texts s n (inr fuel) =
     inr (text ∷ fuel.0, fuel.1, fuel.2, ap (λ (l : List (List ℕ)). text ∷ l) fuel.3, (n, fuel.4), fuel.5, fuel.6)
 
 call_first : (exports : List Export) (text : List ℕ) (texts : List (List ℕ)) (call : Call) (t : Draft)
-    → SaysCall exports text call → SaidItems exports (more_call empty_draft call) texts t → SayScript exports (text ∷ texts) (script_of t)
+    → SaysCall exports text call → SaidItems exports (more_call empty_draft call) texts t → SayRun exports (text ∷ texts) (script_of t)
 call_first exports text texts call t i found =
     inl (ap (λ (o : Option ℕ). unwrap_or o default_fuel) found.1, inr (i.0, call, found.0, i.1, i.2, found.2, found.3))
 
 fuel_first : (exports : List Export) (text : List ℕ) (texts : List (List ℕ)) (n : ℕ) (t : Draft)
-    → SaysFuel text n → SaidItems exports (more_fuel empty_draft n) texts t → SayScript exports (text ∷ texts) (script_of t)
+    → SaysFuel text n → SaidItems exports (more_fuel empty_draft n) texts t → SayRun exports (text ∷ texts) (script_of t)
 fuel_first exports text texts n t i found =
     let amount : n ≡ unwrap_or t.fuel default_fuel = sym (ap (λ (o : Option ℕ). unwrap_or o default_fuel) found.1) in
     inr (
@@ -187,16 +187,16 @@ fuel_first exports text texts n t i found =
       subst (λ (l : List Item). SayItems exports texts l) (sym found.2) found.3,
     )
 
-pub script_told : (exports : List Export) (number : ℕ) (ls : List (List ℕ)) (t : Draft) → add_lines exports empty_draft number ls ≡ Ok t → SayScript exports (texts_of ls) (script_of t)
-script_told exports number [] t h =
+run_told : (exports : List Export) (number : ℕ) (ls : List (List ℕ)) (t : Draft) → add_lines exports empty_draft number ls ≡ Ok t → SayRun exports (texts_of ls) (script_of t)
+run_told exports number [] t h =
     let same : empty_draft ≡ t = ok_inj h in
-    subst (λ (u : Draft). SayScript exports [] (script_of u)) same (inl (refl, refl))
-script_told exports number (line ∷ ls) t h =
+    subst (λ (u : Draft). SayRun exports [] (script_of u)) same (inl (refl, refl))
+run_told exports number (line ∷ ls) t h =
     let on = on_ok (λ u. add_lines exports u (number + 1) ls) number (add_line exports empty_draft (line_text line)) t h in
     elim (say_told exports empty_draft (line_text line) on.0 on.1) [
       | inl nothing ↦
           let rest : add_lines exports empty_draft (number + 1) ls ≡ Ok t = ap (λ (u : Draft). add_lines exports u (number + 1) ls) nothing.1 ∙ on.2 in
-          skip_first exports (line_text line) (texts_of ls) (script_of t) nothing.0 (script_told exports (number + 1) ls t rest)
+          skip_first exports (line_text line) (texts_of ls) (script_of t) nothing.0 (run_told exports (number + 1) ls t rest)
       | inr says ↦
           elim says [
             | inl call ↦
@@ -207,6 +207,9 @@ script_told exports number (line ∷ ls) t h =
                 fuel_first exports (line_text line) (texts_of ls) fuel.0 t fuel.1 (items_told exports (more_fuel empty_draft fuel.0) (number + 1) ls t refl rest)
           ]
     ]
+
+pub script_told : (exports : List Export) (number : ℕ) (ls : List (List ℕ)) (t : Draft) → add_lines exports empty_draft number ls ≡ Ok t → SayScript exports (texts_of ls) (script_of t)
+script_told exports number ls t h = (refl, run_told exports number ls t h)
 
 pub cons_parts : (x y : List ℕ) (xs ys : List (List ℕ)) → x ∷ xs ≡ y ∷ ys → (x ≡ y) × (xs ≡ ys)
 cons_parts x y xs ys h = (cc, cc)
@@ -228,10 +231,19 @@ fuel_said exports number (line ∷ ls) (first ∷ skipped) written others n item
     ap (λ (r : Result Draft ScriptWhy). add_others (λ u. add_lines exports u (number + 1) ls) number r) (nothing_tells exports empty_draft (line_text line) (subst SaysNothing (sym both.0) a.0))
     ∙ fuel_said exports (number + 1) ls skipped written others n items both.1 a.1 f i
 
+-- the script of this fuel and these picks
+abbrev picking : Script → ℕ → List ℕ → Script
+picking s fuel picks = record { fuel = fuel; picks = picks; items = s.items }
+
+run_tells : (exports : List Export) (number : ℕ) (ls : List (List ℕ)) (s : Script) → s.picks ≡ [] → SayRun exports (texts_of ls) s
+    → (t : Draft) × (add_lines exports empty_draft number ls ≡ Ok t) × (script_of t ≡ s)
+run_tells exports number ls s p (inl items) =
+    let same : picking s default_fuel [] ≡ s = ap (λ (k : ℕ). picking s k []) (sym items.0) ∙ ap (λ (l : List ℕ). picking s s.fuel l) (sym p) in
+    (record { fuel = None; items = s.items }, items_tell exports empty_draft number ls s.items items.1, same)
+run_tells exports number ls s p (inr f) =
+    let same : picking s s.fuel [] ≡ s = ap (λ (l : List ℕ). picking s s.fuel l) (sym p) in
+    (record { fuel = Some s.fuel; items = s.items }, fuel_said exports number ls f.0 f.1 f.2 s.fuel s.items f.3 f.4 f.5 f.6, same)
+
 pub script_tells : (exports : List Export) (number : ℕ) (ls : List (List ℕ)) (s : Script) → SayScript exports (texts_of ls) s
     → (t : Draft) × (add_lines exports empty_draft number ls ≡ Ok t) × (script_of t ≡ s)
-script_tells exports number ls s (inl items) =
-    let same : ◌≡◌ {A = Script} (record { fuel = default_fuel; items = s.items }) s = ap (λ (k : ℕ). (let u : Script = record { fuel = k; items = s.items } in u)) (sym items.0) in
-    (record { fuel = None; items = s.items }, items_tell exports empty_draft number ls s.items items.1, same)
-script_tells exports number ls s (inr f) =
-    (record { fuel = Some s.fuel; items = s.items }, fuel_said exports number ls f.0 f.1 f.2 s.fuel s.items f.3 f.4 f.5 f.6, refl)
+script_tells exports number ls s i = run_tells exports number ls s i.0 i.1

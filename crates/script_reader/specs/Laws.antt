@@ -1,5 +1,5 @@
 -- What holds of the format alone.
-use Rattle.std.specs.Prelude.{◌≡◌, ◌⊎◌, ◌↔◌, IsTrue, ℕ, List, Some, Ok, Err}
+use Rattle.std.specs.Prelude.{◌≡◌, ◌⊎◌, ◌↔◌, IsTrue, ℕ, List, [], Some, Ok, Err}
 use Rattle.std.specs.List.{AllByRecursion}
 use Rattle.ca_types.specs.declared.types.ValType.{ValType}
 use Rattle.ca_types.specs.declared.value.Value.{Value}
@@ -51,6 +51,11 @@ FuelIsALine = (text : List ℕ) (n : ℕ) → (fuel_of text ≡ Ok n) ↔ IsFuel
 abbrev pub OtherFuelIsRefused : Type 0
 OtherFuelIsRefused = (text : List ℕ) (why : ScriptWhy) → (fuel_of text ≡ Err why) ↔ IsNoFuelOf text why
 
--- Each item of a script calls an exported function, with one value for each of its parameters, of its type and in range.
+-- Each item of a script calls an exported function, with one value for each of its parameters, of its type and in range: none
+-- cancels a call.
 abbrev pub ScriptsCallExports : Type 0
 ScriptsCallExports = (exports : List Export) (bytes : List ℕ) (s : Script) → IsScript exports bytes s → AllByRecursion (CallsExport exports) s.items
+
+-- No script picks an alternative.
+abbrev pub ScriptsPickNothing : Type 0
+ScriptsPickNothing = (exports : List Export) (bytes : List ℕ) (s : Script) → IsScript exports bytes s → s.picks ≡ []

@@ -33,9 +33,10 @@ fuel_limit = 1000000000
 abbrev pub default_fuel : ℕ
 default_fuel = 1000000
 
--- what a script says: the units of fuel, and what happens, in order
+-- what a script says: the units of fuel, which alternative is taken at each choice, and what happens, in order
 pub record Script : Type 0 where
   pub fuel : ℕ
+  pub picks : List ℕ
   pub items : List Item
 
 -- Texts: a text without blanks behind it, and without blanks at both ends.
@@ -178,9 +179,9 @@ abbrev pub add_lines : List Export → Draft → ℕ → List (List ℕ) → Res
 add_lines exports s line_number [] = Ok s
 add_lines exports s line_number (line ∷ others) = add_others (λ t. add_lines exports t (line_number + 1) others) line_number (add_line exports s (line_text line))
 
--- the script of what all lines say
+-- the script of what all lines say: no line picks an alternative
 abbrev pub script_of : Draft → Script
-script_of s = record { fuel = unwrap_or s.fuel default_fuel; items = s.items }
+script_of s = record { fuel = unwrap_or s.fuel default_fuel; picks = []; items = s.items }
 
 abbrev pub script_or : Result Draft ScriptFault → Result Script ScriptFault
 script_or (Ok s) = Ok (script_of s)
@@ -208,6 +209,8 @@ IsScript exports bytes s = script exports bytes ≡ Ok s
 abbrev pub IsScriptRefused : List Export → List ℕ → ScriptFault → Type 0
 IsScriptRefused exports bytes fault = script exports bytes ≡ Err fault
 
--- An item calls an exported function, with one value for each of its parameters, which fits its type and is sound.
+-- An item calls an exported function, with one value for each of its parameters, which fits its type and is sound. It cancels no
+-- call.
 abbrev pub CallsExport : List Export → Item → Type 0
 CallsExport exports (item.Call call) = (e : Export) × (export_named exports call.name ≡ Some e) × AreOfTypes (param_types e) call.values
+CallsExport exports (item.Cancel number) = ⊥

@@ -80,13 +80,17 @@ SayItems exports (text ∷ texts) items =
     × (text ≡ codes "call " ++ written) × IsCallOf exports written call
     × (items ≡ item.Call call ∷ others) × SayItems exports texts others)
 
--- texts of lines that say a script: its calls alone, or an amount of fuel before them
-abbrev pub SayScript : List Export → List (List ℕ) → Script → Type 0
-SayScript exports texts s =
+-- texts of lines that say the fuel and the items of a script: its calls alone, or an amount of fuel before them
+abbrev pub SayRun : List Export → List (List ℕ) → Script → Type 0
+SayRun exports texts s =
     ((s.fuel ≡ default_fuel) × SayItems exports texts s.items)
     ⊎ ((skipped : List (List ℕ)) × (written : List ℕ) × (others : List (List ℕ))
     × (texts ≡ skipped ++ (codes "fuel " ++ written) ∷ others)
     × AllByRecursion SaysNothing skipped × IsFuelOf written s.fuel × SayItems exports others s.items)
+
+-- texts of lines that say a script, which picks nothing
+abbrev pub SayScript : List Export → List (List ℕ) → Script → Type 0
+SayScript exports texts s = (s.picks ≡ []) × SayRun exports texts s
 
 -- a whole script: not too long, UTF-8, and its lines have the texts of a script
 abbrev pub IsScriptText : List Export → List ℕ → Script → Type 0

@@ -132,10 +132,11 @@ impl Draft {
         self.add_call(alloc, directory, call)
     }
 
-    /// The script of what all lines say.
-    pub fn into_script(self) -> Script
+    /// The script of what all lines say. It takes no memory.
+    pub fn into_script(self, alloc: Global) -> Script
         ensures { result ≡ scripts.script_of self }
     {
-        Script::new(self.fuel.unwrap_or(DEFAULT_FUEL), self.items)
+        let fuel = self.fuel.unwrap_or(DEFAULT_FUEL);
+        Script::new(fuel, Seq::new(alloc), self.items)
     }
 }

@@ -1,6 +1,6 @@
 //! What holds of the format alone.
 
-ghost use Rattle.script_reader.specs.Laws.{OneScript, ScriptsAreTexts, FirstFaultIsTold, ArgumentsAreTexts, CallsAreLines, OtherCallsAreRefused, OtherLinesAreRefused, FuelIsALine, OtherFuelIsRefused, ScriptsCallExports};
+ghost use Rattle.script_reader.specs.Laws.{OneScript, ScriptsAreTexts, FirstFaultIsTold, ArgumentsAreTexts, CallsAreLines, OtherCallsAreRefused, OtherLinesAreRefused, FuelIsALine, OtherFuelIsRefused, ScriptsCallExports, ScriptsPickNothing};
 
 /// A text is exactly one script, or is refused at exactly one line for exactly one reason.
 pub fn one_script()
@@ -50,4 +50,9 @@ pub fn other_fuel_is_refused()
 /// Each item of a script calls an exported function, with values of its parameters' types.
 pub fn scripts_call_exports()
     ensures { ScriptsCallExports }
+{}
+
+/// No script picks an alternative.
+pub fn scripts_pick_nothing()
+    ensures { ScriptsPickNothing }
 {}

@@ -31,7 +31,7 @@ pub use fault::{ScriptFault, ScriptWhy};
 pub use laws::{
     arguments_are_texts, calls_are_lines, first_fault_is_told, fuel_is_a_line, one_script,
     other_calls_are_refused, other_fuel_is_refused, other_lines_are_refused, scripts_are_texts,
-    scripts_call_exports,
+    scripts_call_exports, scripts_pick_nothing,
 };
 pub use reading::read_script;
 pub use script::{Call, Item, Script};

@@ -1,6 +1,6 @@
 //! The reader of scripts.
 
-ghost use Rattle.std.specs.Prelude.{◌≡◌, IfOk, IfErr};
+ghost use Rattle.std.specs.Prelude.{◌≡◌, [], IfOk, IfErr};
 ghost use Rattle.std.specs.List.{AllByRecursion};
 ghost use Rattle.ca_base.specs.declared.memory.MemoryOr.TheVariants.{Memory};
 ghost use Rattle.ca_base.specs.Faults.{IfFault, MayMake};
@@ -50,7 +50,7 @@ fn read_lines(
 /// It answers what the script says, or the first line that is refused and why: a text of more than 1 MiB (`Size`, at line
 /// 0), one that is not UTF-8 (`Utf8`, at the line of the first byte that is not), and else line by line the first fault
 /// in the order of `ScriptWhy`. `Memory` is want of memory.
-#[tactic(auto, using(crate::proofs::Scripts::is_script, crate::proofs::Scripts::is_refused, crate::proofs::Called::scripts_call_exports))]
+#[tactic(auto, using(crate::proofs::Scripts::is_script, crate::proofs::Scripts::is_refused, crate::proofs::Called::scripts_call_exports, crate::proofs::Called::scripts_pick_nothing))]
 pub fn read_script(
     alloc: Global,
     bytes: &[u8],
@@ -64,6 +64,8 @@ pub fn read_script(
     ensures refused { IfErr result (λ e. IfFault e (λ fault. IsScriptRefused exports.now bytes.now fault)) }
     // Each item calls an export, with values of its parameters' types.
     ensures calls { IfOk result (λ s. AllByRecursion (CallsExport exports.now) s.items) }
+    // No alternative is picked.
+    ensures picks { IfOk result (λ s. s.picks ≡ []) }
 {
     if bytes.len() > SIZE_LIMIT {
         return Err(MemoryOr::Fault(ScriptFault {
@@ -82,5 +84,5 @@ pub fn read_script(
     };
     let directory = Directory::of(alloc, exports.as_slice())?;
     let draft = read_lines(alloc, text, &directory)?;
-    Ok(draft.into_script())
+    Ok(draft.into_script(alloc))
 }

@@ -21,12 +21,15 @@ pub struct Call {
 pub enum Item {
     /// An exported function is called.
     Call(Call),
+    /// The call of this number, in order and counted from 1, is asked to come to an end.
+    Cancel(u32),
 }
 
 /// A script: what decides the free choices of a run.
 #[derive(Drop)]
 pub struct Script {
     fuel: u32,
+    picks: Seq<u32>,
     items: Seq<Item>,
 }
 
@@ -41,18 +44,18 @@ impl Model for Script {
 
     ghost coded = { Prim.hlevel (codes, an_item.the_row.coded) };
 
-    ghost view = { λ s. record { fuel = s.fuel; items = s.items } };
+    ghost view = { λ s. record { fuel = s.fuel; picks = s.picks; items = s.items } };
 
     ghost invariant = { λ s. (1 ≤ s.fuel) × (s.fuel ≤ fuel_limit) };
 }
 
 impl Script {
-    /// The script with so many units of fuel and these items.
-    pub(crate) fn new(fuel: u32, items: Seq<Item>) -> Script
+    /// The script with so many units of fuel, these picks and these items.
+    pub(crate) fn new(fuel: u32, picks: Seq<u32>, items: Seq<Item>) -> Script
         requires { (1 ≤ fuel) × (fuel ≤ fuel_limit) }
-        ensures { result ≡ record { fuel = fuel; items = items } }
+        ensures { result ≡ record { fuel = fuel; picks = picks; items = items } }
     {
-        Script { fuel, items }
+        Script { fuel, picks, items }
     }
 
     /// The units of fuel of the run: from 1 to 1,000,000,000.
@@ -61,6 +64,13 @@ impl Script {
         ensures range { (1 ≤ result) × (result ≤ fuel_limit) }
     {
         self.fuel
+    }
+
+    /// Which alternative is taken at each choice of the run, in order; behind them the first one is.
+    pub fn picks(&self) -> &[u32]
+        ensures { result.now ≡ self.now.picks }
+    {
+        self.picks.as_slice()
     }
 
     /// What happens in the run, in order.

@@ -10,7 +10,8 @@
 //! - `set_tests`, `task_tests`, `subtask_tests`: waitable sets, tasks, subtasks
 //! - `stream_tests`, `future_tests`: the ends of streams and futures; `act`: what may happen at them, and what is answered
 //! - `all_runs`: every short run of a stream's ends, beside the model of `plain`
-//! - `table_cases`, `gate_cases`, `pick_cases`: tables of handles, gates and words of callbacks, picks
+//! - `table_cases`, `handle_cases`, `gate_cases`, `pick_cases`: tables of handles, handles and readable ends in them, gates and words
+//!   of callbacks, picks
 //! - `texts`: numbers and values in texts
 #![tactic(auto)]
 
@@ -18,6 +19,7 @@ mod act;
 mod all_runs;
 mod future_tests;
 mod gate_cases;
+mod handle_cases;
 mod pick_cases;
 mod plain;
 mod set_tests;
@@ -31,6 +33,7 @@ use all_runs::AllRuns;
 use cases::{Tables, lines_told, run_tables, steps_told};
 use future_tests::Futures;
 use gate_cases::{Callbacks, Door, Doors};
+use handle_cases::Handles;
 use pick_cases::Choices;
 use set_tests::{Called, Calls};
 use std::alloc::Global;
@@ -45,6 +48,7 @@ fn told_of_tables(alloc: Global, kind: &str, text: &str) -> Result<String, Fail>
     match kind {
         "table" => lines_told::<Indices>(alloc, text, " ="),
         "tables" => steps_told::<Run>(alloc, text),
+        "handle" => lines_told::<Handles>(alloc, text, " ="),
         "gate" => lines_told::<Doors>(alloc, text, " ="),
         "gates" => steps_told::<Door>(alloc, text),
         "callback" => lines_told::<Callbacks>(alloc, text, " = "),

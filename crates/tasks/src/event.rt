@@ -3,6 +3,8 @@
 ghost use Rattle.std.specs.Prelude.{◌≡◌};
 ghost use Rattle.tasks.specs.Tasks.{is_entry};
 
+use thiserror::Error;
+
 /// Where a task waits.
 #[derive(Clone, Copy, Debug, PartialEq)]
 pub enum BlockedAt {
@@ -48,15 +50,19 @@ pub enum TaskEvent {
 }
 
 /// Why something may not happen to a task.
-#[derive(Clone, Copy)]
+#[derive(Clone, Copy, Debug, Error)]
 pub enum TaskTrap {
     /// The task is lifted without `async`.
+    #[error("the task is lifted without `async`")]
     SyncTask,
     /// It was not told that its cancellation is asked.
+    #[error("the task was not told that its cancellation is asked")]
     NotAsked,
     /// It is resolved already.
+    #[error("the task is resolved already")]
     Resolved,
     /// A borrow handle that was made for it is live.
+    #[error("a borrow handle that was made for the task is live")]
     BorrowLives,
 }
 

@@ -12,6 +12,7 @@ fn scripts_have_laws() {
     script_reader::other_fuel_is_refused();
     script_reader::other_lines_are_refused();
     script_reader::scripts_call_exports();
+    script_reader::scripts_pick_nothing();
 }
 
 /// What holds of the format of values.

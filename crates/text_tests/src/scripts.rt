@@ -59,12 +59,16 @@ fn write_call(text: &mut String, call: &Call) -> Result<(), AllocError> {
 fn write_item(text: &mut String, item: &Item) -> Result<(), AllocError> {
     match item {
         Item::Call(call) => write_call(text, call),
+        Item::Cancel(call) => write!(text, "; cancel {call}"),
     }
 }
 
 /// Writes what a script says.
 fn write_script(text: &mut String, script: &Script) -> Result<(), AllocError> {
     write!(text, "fuel {}", script.fuel())?;
+    for pick in script.picks() {
+        write!(text, "; pick {pick}")?;
+    }
     for item in script.items() {
         write_item(text, item)?;
     }
@@ -84,7 +88,7 @@ fn first_length(call: &Call) -> usize {
 fn write_sizes(text: &mut String, items: &[Item]) -> Result<(), AllocError> {
     let length = match items.first() {
         Some(Item::Call(call)) => first_length(call),
-        None => 0,
+        Some(Item::Cancel(_)) | None => 0,
     };
     write!(text, "{} calls, {length}", items.len())
 }

@@ -1,3 +1,2 @@
-pub mod Escapes
 pub mod Puts
 pub mod Rows

@@ -14,7 +14,7 @@ use Rattle.trace_show.specs.declared.label.Label.{Label}
 use Rattle.trace_show.specs.declared.label.Label.TheVariants.{Take, Cancel, Choose, Call, Enter, Exit, Do, Got, Block, Go, Event, Copy, Lend, Unlend, Return, Cancelled, Done, Trap, Deadlock, Fuel}
 use Rattle.trace_show.specs.declared.typed.TypedValue.{TypedValue}
 use Rattle.trace_show.specs.Names.{builtin_text, trap_text}
-use Rattle.trace_show.specs.NameText.{name_text}
+use Rattle.ca_types.specs.NameText.{name_text}
 use Rattle.trace_show.specs.Typed.{typed_text, each_typed_text, count_of}
 
 abbrev pub instance_text : ℕ → List ℕ

@@ -1,7 +1,6 @@
 pub mod DumpText
 pub mod EntryText
 pub mod LabelText
-pub mod NameText
 pub mod Names
 pub mod Trace
 pub mod Typed

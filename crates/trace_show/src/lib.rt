@@ -4,7 +4,7 @@
 //! no more than a bounded number of bytes.
 //!
 //! - `label`: the lines of a trace; `builtin` and `trap`: the names of built-ins and traps; `typed`: values with types
-//! - `names` and `lines`: the texts of names and labels
+//! - `values` and `lines`: the texts of values with types, and of labels
 //! - `dump` and `dump_lines`: what a run leaves in tables and memories, and its text
 //! - `trace`: a trace over a sink
 #![tactic(auto)]
@@ -14,7 +14,6 @@ mod dump;
 mod dump_lines;
 mod label;
 mod lines;
-mod names;
 mod trace;
 mod trap;
 mod typed;
@@ -25,7 +24,7 @@ pub use dump::{Dump, EndState, Entry, LiveEntry, Side};
 pub use dump_lines::dump_text;
 pub use label::{BlockReason, Channel, Copied, Label};
 pub use lines::label_text;
-pub use names::name_text;
 pub use trace::{ROOM, Trace};
 pub use trap::TrapName;
 pub use typed::{TypedValue, TypedValues};
+pub use value_texts::{name_text, type_text, value_text};

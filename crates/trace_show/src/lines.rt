@@ -5,12 +5,12 @@ ghost use Rattle.trace_show.specs.declared.label.Label.TheVariants.{Take, Choose
 ghost use Rattle.trace_show.specs.LabelText.{label_text, words_text, args_text, result_text, copied_text};
 
 use crate::label::{BlockReason, Copied, Label};
-use crate::names::push_name;
 use crate::trap::TrapName;
 use crate::typed::TypedValue;
 use crate::values::{push_each_typed, push_typed};
 use ca_base::{Bytes, Memory, Name, Seq, Text, push_all, push_separated};
 use std::alloc::Global;
+use value_texts::push_name;
 
 /// Appends a text.
 pub(crate) fn push_str(text: &str, to: &mut Vec<u8>) -> Result<(), Memory>

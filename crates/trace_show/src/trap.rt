@@ -6,7 +6,7 @@ ghost use Rattle.trace_show.specs.Names.{trap_text};
 use std::fmt;
 
 /// Why a task traps.
-#[derive(Clone, Copy)]
+#[derive(Clone, Copy, Debug)]
 pub enum TrapName {
     /// An `unreachable` was run (Core 2.0, section 4.4.8).
     Unreachable,

@@ -6,8 +6,9 @@ ghost use Rattle.trace_show.specs.Typed.{typed_text, each_typed_text};
 
 use crate::typed::{TypedValue, TypedValues};
 use ca_base::Memory;
-use ca_types::{ValType, Value, value_text};
+use ca_types::{ValType, Value};
 use std::alloc::Global;
+use value_texts::value_text;
 
 /// Appends the text of a value of a type.
 fn push_value(

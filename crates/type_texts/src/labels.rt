@@ -8,6 +8,13 @@ use std::alloc::Global;
 /// Types that later words take as their parts.
 pub(crate) type Types = Stack<Shared<ValType>>;
 
+/// The name of a label, in which `%20` stands for a space and `%0a` for a line feed.
+fn name_of(alloc: Global, label: &str) -> Option<Name> {
+    let spaced = label.replace(alloc, "%20", " ").ok()?;
+    let text = spaced.as_str().replace(alloc, "%0a", "\n").ok()?;
+    Name::new(alloc, text.as_str()).ok()
+}
+
 /// Something that has a label, and may hold the last of the types before it.
 pub(crate) trait Labelled {
     /// What a label makes.
@@ -16,13 +23,13 @@ pub(crate) trait Labelled {
 
 impl Labelled for Name {
     fn of_label(alloc: Global, label: &str, _before: &mut Types) -> Option<Name> {
-        Name::new(alloc, label).ok()
+        name_of(alloc, label)
     }
 }
 
 impl Labelled for Field {
     fn of_label(alloc: Global, label: &str, before: &mut Types) -> Option<Field> {
-        let label = Name::new(alloc, label).ok()?;
+        let label = name_of(alloc, label)?;
         let val_type = before.take()?;
         Some(Field { label, val_type })
     }
@@ -32,13 +39,13 @@ impl Labelled for Case {
     /// A case has a payload where a star stands behind its label.
     fn of_label(alloc: Global, label: &str, before: &mut Types) -> Option<Case> {
         let Some(label) = label.strip_suffix('*') else {
-            let label = Name::new(alloc, label).ok()?;
+            let label = name_of(alloc, label)?;
             return Some(Case {
                 label,
                 payload: None,
             });
         };
-        let label = Name::new(alloc, label).ok()?;
+        let label = name_of(alloc, label)?;
         let payload = Some(before.take()?);
         Some(Case { label, payload })
     }

@@ -1,9 +1,10 @@
 //! The texts of types and values.
 
-use ca_types::{ValType, Value, fits, type_text, value_text};
+use ca_types::{ValType, Value, fits};
 use std::alloc::Global;
 use std::str::from_utf8;
 use std::test::Fail;
+use value_texts::{type_text, value_text};
 
 /// Bytes as text. It fails if they are none, or if a line feed is among them.
 pub fn text_of(alloc: Global, bytes: &[u8]) -> Result<String, Fail> {

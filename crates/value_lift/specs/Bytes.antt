@@ -1,7 +1,8 @@
 -- What stands in the bytes of a memory (Component Model, CanonicalABI.md, "Loading"): numbers, the lowest byte first; whether
 -- bytes are all inside, and places multiples of an alignment; which numbers are characters; and flags, which are bits.
-use Rattle.std.specs.Prelude.{ℕ, ◌+◌, ◌/◌, ◌%◌, ◌==◌, nat_lt, nat_le, Bool, ◌&&◌, ◌||◌, if◌then◌else◌, List, [], ◌∷◌, ◌++◌, length, take, drop}
-use Rattle.std.specs.Int.{Width, w8, w16, w32, byte_len, from_le_bytes}
+use Rattle.std.specs.Prelude.{ℕ, ◌+◌, ◌/◌, ◌%◌, ◌==◌, nat_lt, nat_le, Bool, ◌&&◌, ◌||◌, List, [], ◌∷◌, ◌++◌, length, take, drop}
+use Rattle.std.specs.Int.{Width, byte_len, from_le_bytes}
+pub use Rattle.laid_types.specs.Placing.{width_of}
 
 -- so many bytes from a place on
 abbrev pub bytes_at : ℕ → ℕ → List ℕ → List ℕ
@@ -17,10 +18,6 @@ number w place memory = from_le_bytes w (bytes_at place (byte_len w) memory)
 
 abbrev pub is_aligned : ℕ → ℕ → Bool
 is_aligned place align = place % align == 0
-
--- the width of 1, 2 or 4 bytes
-abbrev pub width_of : ℕ → Width
-width_of size = if nat_le size 1 then w8 else (if nat_le size 2 then w16 else w32)
 
 -- a number that is a Unicode scalar value
 abbrev pub is_scalar : ℕ → Bool

@@ -2,15 +2,10 @@
 -- for the type, so those of its parts.
 use Rattle.std.specs.Prelude.{◌≡◌, ◌≤◌, ℕ, ◌+◌, List, [], ◌∷◌, length, Option, Some, None}
 use Rattle.ca_types.specs.declared.types.ValType.{ValType}
-use Rattle.ca_types.specs.Layout.{laid, aligned, tag_size}
+use Rattle.ca_types.specs.Layout.{laid, tag_size}
 use Rattle.ca_types.specs.Flat.{flat}
 use Rattle.laid_types.specs.Parts.{part_at, case_count, payload_place}
-
--- where parts end that are laid one after the other, the first at or behind a place
-abbrev pub end_behind : ℕ → List (Option ValType) → ℕ
-end_behind end [] = end
-end_behind end (None ∷ types) = end_behind end types
-end_behind end (Some t ∷ types) = end_behind (aligned end (laid t).align + (laid t).size) types
+pub use Rattle.laid_types.specs.Placing.{end_behind}
 
 -- the number of the case, and each payload
 pub record HasCaseRoom (type : ValType) (place : ℕ) (memory : List ℕ) : Type 0 where

@@ -3,26 +3,34 @@
 ghost use Rattle.std.specs.Prelude.{◌≡◌};
 
 use ca_base::MemoryOr;
+use thiserror::Error;
 
 /// Why no value of a type stands there.
-#[derive(Clone, Copy, Debug)]
+#[derive(Clone, Copy, Debug, Error)]
 pub enum LiftWhy {
     /// A place is no multiple of the alignment of what is to stand there.
+    #[error("the place is not aligned")]
     Misaligned,
     /// Not all bytes are inside the memory.
+    #[error("the bytes are not inside the memory")]
     Bounds,
     /// The number is no Unicode scalar value.
+    #[error("the number is no Unicode scalar value")]
     BadChar,
     /// The bytes of a text are not UTF-8.
+    #[error("the bytes are not UTF-8")]
     BadUtf8,
     /// No case has this number.
+    #[error("no case has this number")]
     BadCase,
     /// More is lifted at once than may be: 134,217,728 values and bytes of texts.
+    #[error("more is lifted at once than may be")]
     TooLarge,
 }
 
 /// Why and where lifting ends without a value.
-#[derive(Clone, Copy)]
+#[derive(Clone, Copy, Debug, Error)]
+#[error("no value stands at {place}: {why}")]
 pub struct LiftTrap {
     /// The reason.
     pub why: LiftWhy,

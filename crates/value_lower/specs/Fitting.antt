@@ -1,13 +1,14 @@
 -- What has to be there before a value is stored: the bytes of its type's size, so those of its parts; and that its parts are of the
 -- types of their places.
-use Rattle.std.specs.Prelude.{◌≡◌, ◌≢◌, ◌≤◌, ◌<◌, ◌^◌, ◌%◌, ℕ, ◌+◌, true, List, [], ◌∷◌, length, Option, Some, None}
+use Rattle.std.specs.Prelude.{◌≡◌, ◌≢◌, ◌≤◌, ◌<◌, ◌^◌, ◌%◌, ℕ, ◌+◌, true, List, length, Option, Some}
 use Rattle.std.specs.List.{slice_get}
 use Rattle.ca_types.specs.declared.types.ValType.{ValType}
 use Rattle.ca_types.specs.declared.value.Value.{Value}
 use Rattle.ca_types.specs.Fits.{fits}
 use Rattle.ca_types.specs.Flat.{flat}
-use Rattle.ca_types.specs.Layout.{laid, aligned, tag_size}
+use Rattle.ca_types.specs.Layout.{laid, tag_size}
 use Rattle.laid_types.specs.Parts.{part_at, case_count, payload_place}
+pub use Rattle.laid_types.specs.Placing.{end_behind}
 use Rattle.value_lower.specs.declared.ends.LowerWhy.{LowerWhy}
 use Rattle.value_lower.specs.declared.ends.LowerWhy.TheVariants.{Misaligned, Bounds}
 
@@ -15,12 +16,6 @@ use Rattle.value_lower.specs.declared.ends.LowerWhy.TheVariants.{Misaligned, Bou
 pub record HasBytes (place size there : ℕ) : Type 0 where
   pub inside : place + size ≤ there
   pub reach : place + size ≤ 2 ^ 32
-
--- where parts end that are laid one after the other, the first at or behind a place
-abbrev pub end_behind : ℕ → List (Option ValType) → ℕ
-end_behind end [] = end
-end_behind end (None ∷ types) = end_behind end types
-end_behind end (Some t ∷ types) = end_behind (aligned end (laid t).align + (laid t).size) types
 
 -- the number of the case, and each payload
 pub record HasCaseBytes (type : ValType) (place there : ℕ) : Type 0 where

@@ -2,7 +2,7 @@
 -- values, from left to right. It is said by cases on the value, as a plan with what follows it. Values are of their types: what is
 -- said where a value has no type is never asked for. For handles and the ends of streams and futures there is no case yet.
 use Rattle.std.specs.Prelude.{ℕ, ◌+◌, ◌-◌, ◌*◌, ◌^◌, ◌%◌, ◌==◌, nat_lt, nat_le, ◌&&◌, Bool, if◌then◌else◌, List, [], ◌∷◌, ◌++◌, map, length, replicate, Option, Some, None}
-use Rattle.std.specs.Int.{Width, w8, w16, w32, w64, to_le_bytes, cast_unsigned, from_bool}
+use Rattle.std.specs.Int.{w8, w16, w32, w64, to_le_bytes, cast_unsigned, from_bool}
 use mir.Val.{bits}
 use Rattle.ca_types.specs.declared.types.ValType.{ValType}
 use Rattle.ca_types.specs.declared.value.Value.{Value, fold-Value, out-Value}
@@ -11,6 +11,7 @@ use Rattle.ca_types.specs.declared.value.Value.TheFolds.{map-Value}
 use Rattle.ca_types.specs.Layout.{laid, aligned, tag_size, bits_size}
 use Rattle.ca_types.specs.Flat.{flat}
 use Rattle.laid_types.specs.Parts.{parts_of, part_at, case_count, payload_place}
+pub use Rattle.laid_types.specs.Placing.{width_of}
 use Rattle.value_lower.specs.declared.ends.LowerWhy.TheVariants.{Misaligned, Bounds}
 use Rattle.value_lower.specs.Plan.{Plan, Gives, Fails, Asks, Size, Put}
 
@@ -46,10 +47,6 @@ plain_word (Value-F.S64 n) = cast_unsigned w64 n
 plain_word (Value-F.U64 n) = n
 plain_word (Value-F.Char c) = c
 plain_word other = 0
-
--- the width of 1, 2 or 4 bytes
-abbrev pub width_of : ℕ → Width
-width_of size = if nat_le size 1 then w8 else (if nat_le size 2 then w16 else w32)
 
 -- a number in 1, 2 or 4 bytes, the lowest first
 abbrev pub number_bytes : ℕ → ℕ → List ℕ

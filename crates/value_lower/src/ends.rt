@@ -1,33 +1,41 @@
 //! Why values are not lowered.
 
 use std::alloc::AllocError;
+use thiserror::Error;
 
 /// Why a value does not go into a memory.
-#[derive(Clone, Copy, Debug)]
+#[derive(Clone, Copy, Debug, Error)]
 pub enum LowerWhy {
     /// A place is no multiple of the alignment of what is to stand there.
+    #[error("the place is not aligned")]
     Misaligned,
     /// Not all bytes are inside the memory, or 2^32 or more are asked for.
+    #[error("the bytes are not inside the memory")]
     Bounds,
 }
 
 /// Why a realloc gives no answer.
-#[derive(Clone, Copy, Drop)]
+#[derive(Clone, Copy, Debug, Drop, Error)]
 pub enum RoomEnd<T> {
     /// Its code trapped, for this reason.
+    #[error("the code of a realloc trapped")]
     Trapped(T),
     /// There is no unit of fuel left.
+    #[error("no fuel is left for a realloc")]
     NoFuel,
     /// Want of memory of the program, not of the guest.
+    #[error("want of memory")]
     Memory,
 }
 
 /// Why a lowering ends without its result.
-#[derive(Clone, Copy, Drop)]
+#[derive(Clone, Copy, Debug, Drop, Error)]
 pub enum LowerError<T> {
     /// The lowering itself traps.
+    #[error("the value is not lowered: {0}")]
     Failed(LowerWhy),
     /// A realloc gave no answer, or the program is short of memory.
+    #[error("a realloc gave no answer")]
     Ended(RoomEnd<T>),
 }
 

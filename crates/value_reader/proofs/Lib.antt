@@ -24,6 +24,7 @@ pub mod Wholes
 pub mod Words
 pub mod WritingLeaves
 pub mod WrittenBack
+pub mod PlainLabels
 pub mod WritingLabels
 pub mod Writing
 pub mod WritableEquations

@@ -17,6 +17,7 @@ use Rattle.ca_types.specs.declared.value.Value.{Value, roll-Value, out-Value}
 use Rattle.ca_types.specs.declared.value.Value.TheOpen as V
 use Rattle.ca_types.specs.declared.value.Value.TheViews as values
 use Rattle.ca_types.specs.declared.value.Value.TheVariants as plain
+use Rattle.ca_types.specs.NameText.{name_text}
 use Rattle.ca_types.specs.TypeText.{listed}
 use Rattle.ca_types.specs.Fits.{Test, test_of, fits_step, fits_case, fits_field, payload_test, payload_passes, case_passes, is_record, is_list, is_flags, is_enum, is_variant, is_either}
 use Rattle.ca_types.specs.ValueText.{Writer, Labelled, writer, writer_step, writer_case, writer_field, payload_writer, field_writer, case_writer, by_each, by_label, set_labels, payload_text, rest_text, tuple_text, list_text, flags_text, enum_text, chosen_text, variant_text, option_text, result_text, label_at}
@@ -31,6 +32,7 @@ use Rattle.value_reader.proofs.Cases.{some_inj, cases_Option, none_is_no_some, b
 use Rattle.value_reader.proofs.Telling.{all_get}
 use Rattle.value_reader.proofs.WritingLeaves.{by_layer, sound_layer, written_bool, written_s8, written_u8, written_s16, written_u16, written_s32, written_u32, written_s64, written_u64, written_char, written_string}
 use Rattle.ca_base.specs.Names.{is_among}
+use Rattle.value_reader.proofs.PlainLabels.{name_stands, labels_stand}
 use Rattle.value_reader.proofs.WritingLabels.{not_true, label_is_label, set_listed, set_shows, flags_of, place_found, label_at_place}
 use Rattle.value_reader.proofs.Writing.{Writes, WritesRest, listed_texts, fields_written, parts_written, elements_written, payload_written, nothing_written}
 use Rattle.value_reader.proofs.WritableEquations.{rest_writable, writable_of_tuple, writable_of_list, writable_of_option, writable_of_flags, writable_of_enum, writable_of_record, writable_of_variant, writable_of_result}
@@ -110,7 +112,7 @@ pub fits_of_flags : (labels : List (List ℕ)) (v : Value) → test_of (leaves.F
 fits_of_flags labels v =
     ap (λ (t : ValType). test_of t v) (sym (rolls-Flags labels)) ∙ ap (λ (t : Test). t v) (fold-roll-ValType Test (Option Test) Test fits_step fits_case fits_field (F.Flags labels))
 
-writer_of_flags : (labels : List (List ℕ)) (v : Value) → writer (leaves.Flags labels) v ≡ flags_text labels (out-Value v)
+writer_of_flags : (labels : List (List ℕ)) (v : Value) → writer (leaves.Flags labels) v ≡ flags_text (map name_text labels) (out-Value v)
 writer_of_flags labels v =
     ap (λ (t : ValType). writer t v) (sym (rolls-Flags labels)) ∙ ap (λ (w : Writer). w v) (fold-roll-ValType Writer Rest Named writer_step writer_case writer_field (F.Flags labels))
 
@@ -126,13 +128,14 @@ layer_flags labels w n o h s = cc
 pub writes_flags : (labels : List (List ℕ)) → Writes (leaves.Flags labels)
 writes_flags labels v h s w =
     let good = and_parts (are_labels labels) (not (is_among [] labels)) (sym (writable_of_flags labels) ∙ w) in
-    by_layer (leaves.Flags labels) (is_flags (length labels)) (flags_text labels) (fits_of_flags labels) (writer_of_flags labels) (layer_flags labels good.0 (not_true (is_among [] labels) good.1)) v h s
+    by_layer (leaves.Flags labels) (is_flags (length labels)) (flags_text labels) (fits_of_flags labels)
+    (λ (u : Value). writer_of_flags labels u ∙ ap (λ (ls : List (List ℕ)). flags_text ls (out-Value u)) (labels_stand labels good.0)) (layer_flags labels good.0 (not_true (is_among [] labels) good.1)) v h s
 
 pub fits_of_enum : (labels : List (List ℕ)) (v : Value) → test_of (leaves.Enum labels) v ≡ is_enum (length labels) (out-Value v)
 fits_of_enum labels v =
     ap (λ (t : ValType). test_of t v) (sym (rolls-Enum labels)) ∙ ap (λ (t : Test). t v) (fold-roll-ValType Test (Option Test) Test fits_step fits_case fits_field (F.Enum labels))
 
-writer_of_enum : (labels : List (List ℕ)) (v : Value) → writer (leaves.Enum labels) v ≡ enum_text labels (out-Value v)
+writer_of_enum : (labels : List (List ℕ)) (v : Value) → writer (leaves.Enum labels) v ≡ enum_text (map name_text labels) (out-Value v)
 writer_of_enum labels v =
     ap (λ (t : ValType). writer t v) (sym (rolls-Enum labels)) ∙ ap (λ (w : Writer). w v) (fold-roll-ValType Writer Rest Named writer_step writer_case writer_field (F.Enum labels))
 
@@ -148,7 +151,9 @@ layer_enum labels w o h s = cc
 
 pub writes_enum : (labels : List (List ℕ)) → Writes (leaves.Enum labels)
 writes_enum labels v h s w =
-    by_layer (leaves.Enum labels) (is_enum (length labels)) (enum_text labels) (fits_of_enum labels) (writer_of_enum labels) (layer_enum labels (sym (writable_of_enum labels) ∙ w)) v h s
+    let good = sym (writable_of_enum labels) ∙ w in
+    by_layer (leaves.Enum labels) (is_enum (length labels)) (enum_text labels) (fits_of_enum labels)
+    (λ (u : Value). writer_of_enum labels u ∙ ap (λ (ls : List (List ℕ)). enum_text ls (out-Value u)) (labels_stand labels good)) (layer_enum labels good) v h s
 
 -- Variants.
 all_true_get : {A : Type 0} (f : A → Bool) (xs : List A) (n : ℕ) (x : A) → all_true (map f xs) ≡ true → slice_get xs n ≡ Some x → f x ≡ true
@@ -168,9 +173,10 @@ variant_case cases a w n p h s =
           let there : slice_get (case_labels cases) n ≡ Some c.label = get_image (λ (k : Case). k.label) cases n ∙ ap (option_map (λ (k : Case). k.label)) some.1 in
           let passes = sym (passes_case cases n p c some.1) ∙ h in
           let rest = all_get (λ (k : Case). WritesRest k.payload) cases n c a some.1 p passes s (all_true_get rest_writable cases n c good.1 some.1) in
-          let label = label_is_label c.label (label_at_place (case_labels cases) n c.label good.0 there) in
+          let good_label = label_at_place (case_labels cases) n c.label good.0 there in
+          let label = label_is_label c.label good_label in
           let is = written.case_text cases n c p (rest_text (payload_writer c.payload) p) label (place_found (case_labels cases) n c.label good.0 there) some.1 rest in
-          subst (λ (l : List ℕ). IsText (types.Variant cases) (values.Variant n p) l) (sym (writes_case cases n p c some.1)) is
+          subst (λ (l : List ℕ). IsText (types.Variant cases) (values.Variant n p) l) (sym (writes_case cases n p c some.1 ∙ ap (λ (l : List ℕ). l ++ rest_text (payload_writer c.payload) p) (name_stands c.label good_label))) is
     ]
 
 layer_variant : (cases : List Case) → AllByRecursion (λ (c : Case). WritesRest c.payload) cases → (are_labels (case_labels cases) && all_true (map rest_writable cases)) ≡ true

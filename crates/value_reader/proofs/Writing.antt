@@ -1,5 +1,5 @@
 -- What is written for values with parts is a text of them.
-use Rattle.std.proofs.Common.{◌≡◌, ℕ, List, [], ◌∷◌, ◌++◌, map, codes, true, ◌&&◌, Option, Some, None, refl, subst, append_assoc, append-nil}
+use Rattle.std.proofs.Common.{◌≡◌, ℕ, List, [], ◌∷◌, ◌++◌, map, codes, true, ◌&&◌, Option, Some, None, refl, sym, ap, ◌∙◌, subst, append_assoc, append-nil}
 use Rattle.std.specs.List.{AllByRecursion, flat_map}
 use Rattle.std.specs.Option.{option_map}
 use Rattle.std.proofs.lemmas.Bool.{and_parts}
@@ -11,6 +11,7 @@ use Rattle.ca_types.specs.Fits.{test_of, payload_test, each_passes, all_pass, pa
 use Rattle.ca_types.specs.ValueText.{writer, payload_writer, field_writer, by_each, by_label, rest_text}
 use Rattle.value_reader.specs.Writable.{all_true, true_if_some, is_label, is_writable, is_sound}
 use Rattle.value_reader.specs.Written.{Place, bare, place_of_field, IsText, IsPayload, IsPlacedText, IsSpacedText, AreTexts, bare_text, labelled_text, spaced_text, no_texts, one_text, more_texts, no_payload, payload_text as payload_is}
+use Rattle.value_reader.proofs.PlainLabels.{name_stands}
 use Rattle.value_reader.proofs.WritingLabels.{label_is_label}
 
 -- What is written for a value of a type is a text of it.
@@ -76,7 +77,8 @@ fields_written (f ∷ fields) (v ∷ all) a h s w =
     let good = and_parts (is_label f.label && is_writable f.val_type) (all_true (map (λ (f : Field). is_label f.label && is_writable f.val_type) fields)) w in
     let one = and_parts (is_label f.label) (is_writable f.val_type) good.0 in
     let text = writer f.val_type v in (
-      subst (λ (l : List ℕ). IsPlacedText (place_of_field f) v l) (field_parts f.label text)
+      subst (λ (l : List ℕ). IsPlacedText (place_of_field f) v l)
+          (field_parts f.label text ∙ ap (λ (l : List ℕ). l ++ codes ": " ++ text) (sym (name_stands f.label one.0)))
           (labelled_text f.label f.val_type v [] (32 ∷ []) text (label_is_label f.label one.0) tt (refl, tt) (a.0 v passes.0 sound.0 one.1)),
       fields_written fields all a.1 passes.1 sound.1 good.1,
     )

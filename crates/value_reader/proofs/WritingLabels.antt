@@ -6,6 +6,7 @@ use Rattle.std.proofs.lemmas.Bool.{and_parts, cases_Bool}
 use Rattle.std.proofs.lemmas.Option.{slice_get_within}
 use Rattle.std.proofs.lemmas.Slice.Eq.{bytes_eq-Decides}
 use Rattle.ca_base.specs.Names.{is_among}
+use Rattle.ca_types.specs.NameText.{is_plain}
 use Rattle.ca_types.specs.TypeText.{listed}
 use Rattle.ca_types.specs.ValueText.{set_labels}
 use Rattle.value_reader.specs.Tokens.{is_blank, ends_label}
@@ -27,8 +28,8 @@ or_false false b h = (refl, h)
 pub label_is_label : (l : List ℕ) → is_label l ≡ true → IsLabel l
 label_is_label [] h = tt
 label_is_label (b ∷ l) h =
-    let both = and_parts (not (ends_label b || nat_eq b 10)) (is_label l) h in
-    ((or_false (ends_label b) (nat_eq b 10) (not_true (ends_label b || nat_eq b 10) both.0)).0, label_is_label l both.1)
+    let both = and_parts (is_plain b && not (ends_label b)) (is_label l) h in
+    (not_true (ends_label b) (and_parts (is_plain b) (not (ends_label b)) both.0).1, label_is_label l both.1)
 
 -- a label with bytes is not blank, whatever stands behind it
 pub label_shows : (b : ℕ) (l text : List ℕ) → IsLabel (b ∷ l) → AreBlanks ((b ∷ l) ++ text) → ⊥

@@ -70,7 +70,8 @@ TextsAreReadBack = (text rest : List ℕ) → IsUtf8 text → string_at (quoted 
 abbrev pub CharsAreReadBack : Type 0
 CharsAreReadBack = (c : ℕ) (rest : List ℕ) → IsScalar c → char_at (quoted_chars 39 (c ∷ []) ++ rest) ≡ Some (c, rest)
 
--- What is written for a sound value of a type that a script can write is read as that value.
+-- What a trace has for a sound value of a type is read as that value, where a script can write the type's values as a trace
+-- does.
 abbrev pub ValuesAreReadBack : Type 0
 ValuesAreReadBack =
     (type : ValType) (v : Value)

@@ -1,8 +1,8 @@
--- Which types have values that a script can write, each as no other value is written: those without handles and ends of
--- streams and futures, whose labels are such as a script has (Component Model, Explainer.md, "Type Definitions"; the format
--- is the program's own). And which values are sound: each number is within its width, each character is a Unicode scalar
--- value, each text is UTF-8. Every value of the program is sound.
-use Rattle.std.specs.Prelude.{ℕ, ℤ, pos, negsuc, ◌==◌, ◌&&◌, ◌||◌, Bool, true, false, not, nat_le, List, [], ◌∷◌, map, Option, Some, None}
+-- Which types have values that a script can write as a trace does, each as no other value is written: those without handles
+-- and ends of streams and futures, whose labels stand in a trace as they are and are such as a script has (Component Model,
+-- Explainer.md, "Type Definitions"; the format is the program's own). And which values are sound: each number is within its
+-- width, each character is a Unicode scalar value, each text is UTF-8. Every value of the program is sound.
+use Rattle.std.specs.Prelude.{ℕ, ℤ, pos, negsuc, ◌==◌, ◌&&◌, Bool, true, false, not, nat_le, List, [], ◌∷◌, map, Option, Some, None}
 use Rattle.std.specs.Str.{is_utf8, all_scalars}
 use Rattle.ca_base.specs.Names.{is_among}
 use Rattle.ca_types.specs.declared.types.ValType.{ValType, fold-ValType}
@@ -10,6 +10,7 @@ use Rattle.ca_types.specs.declared.types.ValType.TheOpen.{ValType-F, Field-F, Ca
 use Rattle.ca_types.specs.declared.value.Value.{Value, fold-Value}
 use Rattle.ca_types.specs.declared.value.Value.TheOpen.{Value-F}
 use Rattle.ca_types.specs.Ends.{some_true}
+use Rattle.ca_types.specs.NameText.{is_plain}
 use Rattle.ca_types.specs.ValueText.{Labelled}
 use Rattle.value_reader.specs.Tokens.{ends_label}
 
@@ -23,18 +24,18 @@ abbrev pub true_if_some : Option Bool → Bool
 true_if_some (Some b) = b
 true_if_some None = true
 
--- A label has no blanks, brackets, commas, colons and quotes, at which it would end, and no line feed, at which its line
--- would. One without bytes is written as nothing.
+-- A label has characters that stand in a trace as they are, and no brackets, commas, colons and quotes, at which it would
+-- end. One without bytes is written as nothing.
 abbrev pub is_label : List ℕ → Bool
 is_label [] = true
-is_label (b ∷ label) = not (ends_label b || b == 10) && is_label label
+is_label (b ∷ label) = is_plain b && not (ends_label b) && is_label label
 
 -- labels, no two of them equal
 abbrev pub are_labels : List (List ℕ) → Bool
 are_labels [] = true
 are_labels (l ∷ labels) = is_label l && not (is_among l labels) && are_labels labels
 
--- what is told of a type: whether a script can write its values, and whether one of them is written as nothing
+-- what is told of a type: whether a script can write its values as a trace does, and whether one of them is written as nothing
 pub record Told : Type 0 where
   pub writable : Bool
   pub silent : Bool
@@ -82,7 +83,7 @@ told_field f = is_label f.label && f.val_type.writable
 abbrev pub told : ValType → Told
 told = fold-ValType Told (Labelled Told) Bool told_step told_case told_field
 
--- whether a script can write a type's values, and whether one of them is written as nothing
+-- whether a script can write a type's values as a trace does, and whether one of them is written as nothing
 abbrev pub is_writable : ValType → Bool
 is_writable type = (told type).writable
 

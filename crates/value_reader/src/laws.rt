@@ -57,10 +57,10 @@ pub fn chars_are_read_back()
     ensures { CharsAreReadBack }
 {}
 
-/// What `value_text` writes for a value that fits its type is read as that value, where a script can write the type's
-/// values: it holds no handle, stream or future, and its labels have no blanks, brackets, commas, colons, quotes and line
-/// feeds. A label may be empty, but for one of flags, or one that is all that stands for an element of a list: there the
-/// text is that of no flag, or of a list without elements.
+/// What `value_text` of `value_texts` writes for a value that fits its type is read as that value, where a script can write
+/// the type's values as a trace does: it holds no handle, stream or future, and its labels have visible characters of ASCII
+/// alone, and no backslashes, brackets, commas, colons and quotes. A label may be empty, but for one of flags, or one that
+/// is all that stands for an element of a list: there the text is that of no flag, or of a list without elements.
 pub fn values_are_read_back()
     ensures { ValuesAreReadBack }
 {}

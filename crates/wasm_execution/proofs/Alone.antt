@@ -1,9 +1,9 @@
 -- Functions of the host that are called alone.
 use Rattle.std.proofs.Common.{◌≡◌, ℕ, List, [], ap, ap₂, sym, arith, Some, length}
 use Rattle.std.specs.List.{slice_get}
-use Rattle.core_machine.specs.Store.{Function, type_of, Store}
-use Rattle.core_machine.specs.Stack.{Stack, AtHost, Given}
-use Rattle.core_machine.specs.Step.{Move, Calls, Ends}
+use Rattle.wasm_store.specs.Store.{Function, type_of, Store}
+use Rattle.wasm_store.specs.Stack.{Stack, AtHost, Given}
+use Rattle.wasm_store.specs.Step.{Move, Calls, Ends}
 use Rattle.wasm_execution.specs.Waiting.{Waiting}
 use Rattle.wasm_execution.specs.Run.{Comes, Asks, GivesUp}
 use Rattle.wasm_execution.proofs.Ends.{no_steps}

@@ -6,11 +6,11 @@ use Rattle.std.proofs.lemmas.Bool.Decides.{nat_tests}
 use Rattle.wasm_module.specs.declared.types.FuncType.{FuncType}
 use Rattle.wasm_module.specs.declared.types.Locals.{Locals}
 use Rattle.wasm_module.specs.Expr.{Expr}
-use Rattle.core_machine.specs.declared.trap.Trap.TheVariants.{StackLimit}
-use Rattle.core_machine.specs.Store.{Own, Host, Store}
-use Rattle.core_machine.specs.Stack as stack
-use Rattle.core_machine.specs.Step.{Move, Calls, Traps, first_frame, waiting, arguments, onward, invoked}
-use Rattle.core_machine.proofs.Lists.{all_append}
+use Rattle.wasm_store.specs.declared.trap.Trap.TheVariants.{StackLimit}
+use Rattle.wasm_store.specs.Store.{Own, Host, Store}
+use Rattle.wasm_store.specs.Stack as stack
+use Rattle.wasm_store.specs.Step.{Move, Calls, Traps, first_frame, waiting, arguments, onward, invoked}
+use Rattle.wasm_store.proofs.Lists.{all_append}
 use Rattle.wasm_execution.specs.declared.frame.Frame.{Frame}
 use Rattle.wasm_execution.specs.Places.{frame_of, IsPlaced}
 use Rattle.wasm_execution.specs.Stacks.{frames_of}

@@ -10,15 +10,15 @@ use Rattle.wasm_module.specs.declared.types.ValType.TheVariants.{I32}
 use Rattle.wasm_module.specs.declared.types.FuncType.{FuncType}
 use Rattle.wasm_module.specs.declared.instr.Instr.TheVariants as instr
 use Rattle.wasm_module.specs.Expr.{Expr, Plain}
-use Rattle.wasm_valid.specs.Context.{arrow}
-use Rattle.wasm_valid.specs.Instrs.{where_there}
-use Rattle.wasm_valid.specs.Typing.{Takes, Turns}
-use Rattle.core_machine.specs.declared.trap.Trap.TheVariants.{TableBounds, NullElement, OtherSignature}
-use Rattle.core_machine.specs.Store.{Function, Own, Host, type_of, Table, Instance, Store, table_at}
-use Rattle.core_machine.specs.Stack.{Frame, Running}
-use Rattle.core_machine.specs.Step.{Traps, invoked, called, same_type, same_types, same_signature, called_as, called_entry, called_through, next}
-use Rattle.core_machine.specs.Typed.{known, StoreTyped, TableTyped, EntryTyped, FrameTyped}
-use Rattle.core_machine.proofs.Lists.{all_at, both_true, found_there}
+use Rattle.wasm_typing.specs.Context.{arrow}
+use Rattle.wasm_typing.specs.Instrs.{where_there}
+use Rattle.wasm_typing.specs.Typing.{Takes, Turns}
+use Rattle.wasm_store.specs.declared.trap.Trap.TheVariants.{TableBounds, NullElement, OtherSignature}
+use Rattle.wasm_store.specs.Store.{Function, Own, Host, type_of, Table, Instance, Store, table_at}
+use Rattle.wasm_store.specs.Stack.{Frame, Running}
+use Rattle.wasm_store.specs.Step.{Traps, invoked, called, same_type, same_types, same_signature, called_as, called_entry, called_through, next}
+use Rattle.wasm_store.specs.Typed.{known, StoreTyped, TableTyped, EntryTyped, FrameTyped}
+use Rattle.wasm_store.proofs.Lists.{all_at, both_true, found_there}
 use Rattle.wasm_execution.specs.Shape.{rest_behind, HasOver}
 use Rattle.wasm_execution.specs.Stepping.{CallsThere, Fails}
 use Rattle.wasm_execution.proofs.Going.{next_at}

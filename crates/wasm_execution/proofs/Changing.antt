@@ -7,7 +7,7 @@ use Rattle.wasm_module.specs.declared.instr.Op.{Op}
 use Rattle.wasm_module.specs.declared.instr.Instr.{Instr}
 use Rattle.wasm_module.specs.Expr.{Expr, Plain, Piece, tree_of, first_op, behind_op, left_at, flat, op_count}
 use Rattle.wasm_module.proofs.Walking.{op_there}
-use Rattle.core_machine.specs.Stack as stack
+use Rattle.wasm_store.specs.Stack as stack
 use Rattle.wasm_execution.specs.declared.frame.OpenLabel.{OpenLabel}
 use Rattle.wasm_execution.specs.Places.{rest_at, label_of, labels_of, Encloses, Around}
 use Rattle.wasm_execution.specs.Shape.{HasOver, rest_behind}

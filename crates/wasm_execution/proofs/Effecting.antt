@@ -10,20 +10,20 @@ use Rattle.wasm_module.specs.declared.instr.NumericOp.{NumericOp}
 use Rattle.wasm_module.specs.declared.instr.NumericOp.TheVariants.{Eqz, Relation, Unary, Binary, WrapI64, ExtendI32S, ExtendI32U, I64Extend32S}
 use Rattle.wasm_module.specs.declared.instr.Width.TheVariants.{W32, W64}
 use Rattle.wasm_module.specs.Expr.{Expr, Plain}
-use Rattle.wasm_valid.specs.Context.{arrow}
-use Rattle.wasm_valid.specs.Instrs.{numeric_type, where_there, has_memory, unless, is_forbidden, load_gives, store_takes}
-use Rattle.wasm_valid.specs.Typing.{Operands, Takes, Turns, Applies}
+use Rattle.wasm_typing.specs.Context.{arrow}
+use Rattle.wasm_typing.specs.Instrs.{numeric_type, where_there, has_memory, unless, is_forbidden, load_gives, store_takes}
+use Rattle.wasm_typing.specs.Typing.{Operands, Takes, Turns, Applies}
 use Rattle.wasm_numbers.specs.Types.{operand_types}
-use Rattle.core_machine.specs.declared.trap.Trap.{Trap}
-use Rattle.core_machine.specs.Store.{Instance, Store}
-use Rattle.core_machine.specs.Stack as stack
-use Rattle.core_machine.specs.Effects.{Effect, Leaves, Fails as Failing, NoRule, effect}
-use Rattle.core_machine.specs.Step.{onward, by_effect, moved, next}
-use Rattle.core_machine.specs.Typed.{known, StoreTyped, FrameTyped}
-use Rattle.core_machine.specs.Laws.{MoveTyped}
-use Rattle.core_machine.proofs.Framing.{over_takes}
-use Rattle.core_machine.proofs.Moving.{moves_typed}
-use Rattle.core_machine.specs.Fits.{told_types, BeginWith, Keeps, Fits}
+use Rattle.wasm_store.specs.declared.trap.Trap.{Trap}
+use Rattle.wasm_store.specs.Store.{Instance, Store}
+use Rattle.wasm_store.specs.Stack as stack
+use Rattle.wasm_store.specs.Effects.{Effect, Leaves, Fails as Failing, NoRule, effect}
+use Rattle.wasm_store.specs.Step.{onward, by_effect, moved, next}
+use Rattle.wasm_store.specs.Typed.{known, StoreTyped, FrameTyped}
+use Rattle.wasm_store.specs.Laws.{MoveTyped}
+use Rattle.wasm_store.proofs.Framing.{over_takes}
+use Rattle.wasm_store.proofs.Moving.{moves_typed}
+use Rattle.wasm_store.specs.Fits.{told_types, BeginWith, Keeps, Fits}
 use Rattle.wasm_execution.specs.declared.frame.Frame.{Frame}
 use Rattle.wasm_execution.specs.Places.{frame_of, IsPlaced}
 use Rattle.wasm_execution.specs.Stepping.{Onward, Fails, IsEffect}

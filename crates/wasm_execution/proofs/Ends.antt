@@ -2,9 +2,9 @@
 use Rattle.std.proofs.Common.{◌≡◌, ◌+◌, ◌-◌, ◌<◌, ℕ, zero, suc, Bool, true, false, IsTrue, List, [], ◌∷◌, refl, ap, sym, ◌∙◌, subst, arith, Some}
 use Rattle.std.specs.List.{slice_get}
 use Rattle.wasm_module.specs.Expr.{End}
-use Rattle.core_machine.specs.Store.{Instance, Store}
-use Rattle.core_machine.specs.Stack.{Label, Frame, Stack, Running}
-use Rattle.core_machine.specs.Step.{Move, Goes, with_more, returned, ended, next, units, Moves, Steps}
+use Rattle.wasm_store.specs.Store.{Instance, Store}
+use Rattle.wasm_store.specs.Stack.{Label, Frame, Stack, Running}
+use Rattle.wasm_store.specs.Step.{Move, Goes, with_more, returned, ended, next, units, Moves, Steps}
 use Rattle.wasm_execution.specs.Shape.{Leaves}
 use Rattle.wasm_execution.specs.Stepping.{LeavesTo}
 use Rattle.wasm_execution.proofs.Going.{next_at}

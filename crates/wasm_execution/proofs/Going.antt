@@ -4,10 +4,10 @@ use Rattle.std.specs.List.{slice_get}
 use Rattle.wasm_module.specs.declared.instr.BlockType.{BlockType}
 use Rattle.wasm_module.specs.declared.instr.Instr.TheVariants as instr
 use Rattle.wasm_module.specs.Expr.{Expr, End, Plain, Block, Loop, If, IfElse}
-use Rattle.wasm_valid.specs.Context.{params, results}
-use Rattle.core_machine.specs.Store.{Instance, Store}
-use Rattle.core_machine.specs.Stack.{Label, Frame, Running}
-use Rattle.core_machine.specs.Step.{Move, Goes, onward, landed, branched, branched_to, branched_if, branched_by, table_label, returning, chosen, move_at, move_in, next}
+use Rattle.wasm_typing.specs.Context.{params, results}
+use Rattle.wasm_store.specs.Store.{Instance, Store}
+use Rattle.wasm_store.specs.Stack.{Label, Frame, Running}
+use Rattle.wasm_store.specs.Step.{Move, Goes, onward, landed, branched, branched_to, branched_if, branched_by, table_label, returning, chosen, move_at, move_in, next}
 use Rattle.wasm_execution.specs.Shape.{rest_behind, first_part, second_part, label_over, within}
 use Rattle.wasm_execution.specs.Stepping.{Onward, OnwardAlone}
 use Rattle.wasm_execution.proofs.Popping.{Popped}

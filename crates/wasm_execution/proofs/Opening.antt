@@ -4,7 +4,7 @@ use Rattle.std.specs.Option.{option_map, IfSome}
 use Rattle.std.proofs.lemmas.List.{reverse-append}
 use Rattle.wasm_module.specs.Expr.{Expr, Piece, tree_of, behind_op, left_at, op_count}
 use Rattle.wasm_code.specs.Jumps as jumps
-use Rattle.core_machine.specs.Stack as stack
+use Rattle.wasm_store.specs.Stack as stack
 use Rattle.wasm_execution.specs.declared.frame.OpenLabel.{OpenLabel}
 use Rattle.wasm_execution.specs.Places.{rest_at, labels_of, Encloses, Around}
 use Rattle.wasm_execution.specs.Shape.{HasOver, rest_behind, first_part, second_part, BeginsBlock, BeginsIf, BeginsLoop}

@@ -3,8 +3,8 @@ use Rattle.std.proofs.Common.{◌≡◌, ◌≤◌, ◌+◌, ℕ, List, [], ◌�
 use Rattle.std.proofs.lemmas.List.{take-append-le, reverse-append}
 use Rattle.std.proofs.Common.{length-append}
 use Rattle.wasm_module.specs.Expr.{Expr, Piece, left_at}
-use Rattle.core_machine.specs.Stack as stack
-use Rattle.core_machine.specs.Step.{with_more}
+use Rattle.wasm_store.specs.Stack as stack
+use Rattle.wasm_store.specs.Step.{with_more}
 use Rattle.wasm_execution.specs.declared.frame.OpenLabel.{OpenLabel}
 use Rattle.wasm_execution.specs.declared.frame.Frame.{Frame}
 use Rattle.wasm_execution.specs.Places.{Around, frame_of, IsPlaced}

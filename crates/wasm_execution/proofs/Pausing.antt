@@ -1,9 +1,9 @@
 -- What a run makes of each pause of the function that runs.
 use Rattle.std.proofs.Common.{◌≡◌, ◌+◌, ℕ, List, [], ◌∷◌, ◌++◌, length, ap, sym, ◌∙◌, subst, Option, Some}
 use Rattle.std.specs.List.{slice_get, AllByRecursion}
-use Rattle.core_machine.specs.Store.{Function, type_of, Store}
-use Rattle.core_machine.specs.Stack as stack
-use Rattle.core_machine.specs.Step.{Move, Calls, invoked, next}
+use Rattle.wasm_store.specs.Store.{Function, type_of, Store}
+use Rattle.wasm_store.specs.Stack as stack
+use Rattle.wasm_store.specs.Step.{Move, Calls, invoked, next}
 use Rattle.wasm_execution.specs.declared.frame.Frame.{Frame}
 use Rattle.wasm_execution.specs.declared.turn.Pause.{Pause}
 use Rattle.wasm_execution.specs.declared.invoking.Invoked.{Invoked}

@@ -4,7 +4,7 @@ use Rattle.wasm_module.specs.declared.instr.Instr.{Instr}
 use Rattle.wasm_module.specs.declared.instr.Op.{Op}
 use Rattle.wasm_module.specs.declared.instr.Op.TheVariants.{Plain as PlainOp, OpenBlock, OpenLoop, OpenIf, Else, End as EndOp}
 use Rattle.wasm_module.specs.Expr.{Expr, End, Plain, Block, Loop, If, IfElse, Piece, tree_of, first_op, behind_op, left_at, op_count}
-use Rattle.core_machine.specs.Stack as stack
+use Rattle.wasm_store.specs.Stack as stack
 use Rattle.wasm_execution.specs.declared.frame.OpenLabel.{OpenLabel}
 use Rattle.wasm_execution.specs.declared.frame.Frame.{Frame}
 use Rattle.wasm_execution.specs.Places.{rest_at, labels_of, frame_of, Around, IsPlaced}

@@ -2,7 +2,7 @@
 use Rattle.std.proofs.Common.{◌≡◌, ℕ, List, ◌∷◌, ap, sym, ◌∙◌, subst}
 use Rattle.wasm_module.specs.declared.instr.Instr.{Instr}
 use Rattle.wasm_module.specs.Expr.{Expr, Plain}
-use Rattle.core_machine.specs.Stack.{Label, Frame}
+use Rattle.wasm_store.specs.Stack.{Label, Frame}
 use Rattle.wasm_execution.specs.Shape.{rest_behind, HasOver}
 use Rattle.wasm_execution.proofs.Ready.{BranchReady}
 

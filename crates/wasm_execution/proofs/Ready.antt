@@ -7,14 +7,14 @@ use Rattle.wasm_module.specs.declared.types.FuncType.{FuncType}
 use Rattle.wasm_module.specs.declared.instr.BlockType.{BlockType}
 use Rattle.wasm_module.specs.declared.instr.Instr.TheVariants as instr
 use Rattle.wasm_module.specs.Expr.{Expr, Plain, Block}
-use Rattle.wasm_valid.specs.Context.{Context, params}
-use Rattle.wasm_valid.specs.Typing.{Operands, Takes, TypedFrom}
+use Rattle.wasm_typing.specs.Context.{Context, params}
+use Rattle.wasm_typing.specs.Typing.{Operands, Takes, TypedFrom}
 use Rattle.wasm_numbers.specs.Types.{AreWords}
-use Rattle.core_machine.specs.Store.{Instance, Store}
-use Rattle.core_machine.specs.Stack.{Label, Frame}
-use Rattle.core_machine.specs.Typed.{known, LabelsTyped, FrameTyped}
-use Rattle.core_machine.proofs.Words.{as_long}
-use Rattle.core_machine.proofs.Framing.{over_takes}
+use Rattle.wasm_store.specs.Store.{Instance, Store}
+use Rattle.wasm_store.specs.Stack.{Label, Frame}
+use Rattle.wasm_store.specs.Typed.{known, LabelsTyped, FrameTyped}
+use Rattle.wasm_store.proofs.Words.{as_long}
+use Rattle.wasm_store.proofs.Framing.{over_takes}
 use Rattle.wasm_execution.specs.Shape.{HasOver}
 
 over_labels : (c : Context) (labels : List Label) (types : List (List ValType)) (ends : List ValType) (under values front back : List ℕ) → LabelsTyped c labels types ends under → values ≡ front ++ (back ++ under) → HasOver (length front) labels values

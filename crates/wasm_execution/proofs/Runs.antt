@@ -3,12 +3,12 @@ use Rattle.std.proofs.Common.{◌≡◌, ◌≢◌, ◌+◌, ℕ, true, List, []
 use Rattle.std.proofs.lemmas.List.{reverse-reverse, reverse-append}
 use Rattle.wasm_module.specs.declared.types.ValType.{ValType}
 use Rattle.wasm_module.specs.Expr.{End}
-use Rattle.core_machine.specs.declared.trap.Trap.{Trap}
-use Rattle.core_machine.specs.Store.{Store}
-use Rattle.core_machine.specs.Stack as stack
-use Rattle.core_machine.specs.Step.{Move, Goes, Calls, Ends, Traps, Stuck, with_more, next, Steps}
-use Rattle.core_machine.specs.Typed.{StoreTyped, StackTyped}
-use Rattle.core_machine.proofs.Moving.{never_stuck}
+use Rattle.wasm_store.specs.declared.trap.Trap.{Trap}
+use Rattle.wasm_store.specs.Store.{Store}
+use Rattle.wasm_store.specs.Stack as stack
+use Rattle.wasm_store.specs.Step.{Move, Goes, Calls, Ends, Traps, Stuck, with_more, next, Steps}
+use Rattle.wasm_store.specs.Typed.{StoreTyped, StackTyped}
+use Rattle.wasm_store.proofs.Moving.{never_stuck}
 use Rattle.wasm_execution.specs.declared.frame.Frame.{Frame}
 use Rattle.wasm_execution.specs.Places.{frame_of}
 use Rattle.wasm_execution.specs.Stacks.{frames_of}

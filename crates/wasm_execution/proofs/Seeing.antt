@@ -3,11 +3,11 @@ use Rattle.std.proofs.Common.{◌≡◌, ℕ, sym, ◌∙◌, ap, subst, Option,
 use Rattle.wasm_module.specs.declared.instr.Instr.{Instr}
 use Rattle.wasm_module.specs.declared.instr.Op.{Op}
 use Rattle.wasm_module.specs.Expr.{Expr, Plain, first_op, left_at}
-use Rattle.core_machine.specs.declared.trap.Trap.{Trap}
-use Rattle.core_machine.specs.Effects.{Effect, Leaves, Fails}
-use Rattle.core_machine.specs.Store.{Store}
+use Rattle.wasm_store.specs.declared.trap.Trap.{Trap}
+use Rattle.wasm_store.specs.Effects.{Effect, Leaves, Fails}
+use Rattle.wasm_store.specs.Store.{Store}
 use Rattle.std.proofs.Common.{List}
-use Rattle.core_machine.specs.Fits.{Gives}
+use Rattle.wasm_store.specs.Fits.{Gives}
 use Rattle.wasm_execution.specs.Places.{rest_at}
 use Rattle.wasm_execution.specs.Stepping.{IsEffect}
 use Rattle.wasm_execution.proofs.Placing.{RestOf, rest_of}

@@ -1,8 +1,8 @@
 -- What an instruction makes of the frame that runs, by what came of it.
 use Rattle.std.proofs.Common.{◌≡◌, ◌+◌, ℕ, sym, subst, Result, Ok, Err, OnErr}
-use Rattle.core_machine.specs.declared.trap.Trap.{Trap}
-use Rattle.core_machine.specs.Store.{Store}
-use Rattle.core_machine.specs.Stack.{Frame}
+use Rattle.wasm_store.specs.declared.trap.Trap.{Trap}
+use Rattle.wasm_store.specs.Store.{Store}
+use Rattle.wasm_store.specs.Stack.{Frame}
 use Rattle.wasm_execution.specs.declared.frame.Frame.{Frame as Active}
 use Rattle.wasm_execution.specs.declared.stepping.Step.{Step}
 use Rattle.wasm_execution.specs.declared.stepping.Step.TheVariants as step

@@ -10,17 +10,17 @@ use Rattle.wasm_module.specs.declared.types.FuncType.{FuncType}
 use Rattle.wasm_module.specs.declared.instr.BlockType.{BlockType}
 use Rattle.wasm_module.specs.declared.instr.Instr.TheVariants as instr
 use Rattle.wasm_module.specs.Expr.{Expr, Plain, Loop, If, IfElse}
-use Rattle.wasm_valid.specs.Context.{arrow, params}
-use Rattle.wasm_valid.specs.Instrs.{where_there}
-use Rattle.wasm_valid.specs.Typing.{Operands, Takes, Turns, GoesTo}
+use Rattle.wasm_typing.specs.Context.{arrow, params}
+use Rattle.wasm_typing.specs.Instrs.{where_there}
+use Rattle.wasm_typing.specs.Typing.{Operands, Takes, Turns, GoesTo}
 use Rattle.wasm_numbers.specs.Types.{AreWords}
-use Rattle.core_machine.specs.Store.{Function, type_of, Instance, Store, func_at}
-use Rattle.core_machine.specs.Stack.{Label, Frame}
-use Rattle.core_machine.specs.Step.{table_label}
-use Rattle.core_machine.specs.Typed.{known, FrameTyped}
-use Rattle.core_machine.proofs.Lists.{all_at, found_there}
-use Rattle.core_machine.proofs.Operands.{taken_known}
-use Rattle.core_machine.proofs.Framing.{over_taken, over_takes}
+use Rattle.wasm_store.specs.Store.{Function, type_of, Instance, Store, func_at}
+use Rattle.wasm_store.specs.Stack.{Label, Frame}
+use Rattle.wasm_store.specs.Step.{table_label}
+use Rattle.wasm_store.specs.Typed.{known, FrameTyped}
+use Rattle.wasm_store.proofs.Lists.{all_at, found_there}
+use Rattle.wasm_store.proofs.Operands.{taken_known}
+use Rattle.wasm_store.proofs.Framing.{over_taken, over_takes}
 use Rattle.wasm_execution.specs.Shape.{HasOver}
 use Rattle.wasm_execution.proofs.Ready.{BranchReady, branch_ready, has_over, left_typed}
 

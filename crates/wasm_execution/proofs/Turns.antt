@@ -1,11 +1,11 @@
 -- The function that runs, step by step: it stays typed, and each step is paid.
 use Rattle.std.proofs.Common.{◌≡◌, ◌≢◌, ◌≤◌, ◌+◌, ℕ, true, [], refl, sym, subst, arith, Some}
 use Rattle.std.specs.List.{slice_get}
-use Rattle.core_machine.specs.Store.{Instance, Store}
-use Rattle.core_machine.specs.Stack.{Frame, Running}
-use Rattle.core_machine.specs.Step.{Stuck, next, Steps}
-use Rattle.core_machine.specs.Typed.{StoreTyped}
-use Rattle.core_machine.proofs.Moving.{never_stuck}
+use Rattle.wasm_store.specs.Store.{Instance, Store}
+use Rattle.wasm_store.specs.Stack.{Frame, Running}
+use Rattle.wasm_store.specs.Step.{Stuck, next, Steps}
+use Rattle.wasm_store.specs.Typed.{StoreTyped}
+use Rattle.wasm_store.proofs.Moving.{never_stuck}
 use Rattle.wasm_execution.specs.Stepping.{IsTyped, Onward, LeavesTo, Reaches}
 use Rattle.wasm_execution.proofs.Ends.{steps_after, no_steps, one_step}
 

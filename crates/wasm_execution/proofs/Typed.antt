@@ -3,10 +3,10 @@ use Rattle.std.proofs.Common.{◌≡◌, ◌≤◌, ◌+◌, ℕ, List, [], ◌�
 use Rattle.std.proofs.lemmas.List.{take-take, take-append-le, length-take-le, reverse-append, reverse-reverse}
 use Rattle.wasm_module.specs.declared.types.ValType.{ValType}
 use Rattle.wasm_module.specs.Expr.{Expr, Piece, left_at}
-use Rattle.wasm_valid.specs.Context.{Context}
-use Rattle.core_machine.specs.Store.{Store}
-use Rattle.core_machine.specs.Stack as stack
-use Rattle.core_machine.specs.Typed.{LabelsTyped, FrameTyped}
+use Rattle.wasm_typing.specs.Context.{Context}
+use Rattle.wasm_store.specs.Store.{Store}
+use Rattle.wasm_store.specs.Stack as stack
+use Rattle.wasm_store.specs.Typed.{LabelsTyped, FrameTyped}
 use Rattle.wasm_execution.specs.declared.frame.OpenLabel.{OpenLabel}
 use Rattle.wasm_execution.specs.declared.frame.Frame.{Frame}
 use Rattle.wasm_execution.specs.Places.{labels_of, frame_of, Around, IsPlaced}

@@ -1,10 +1,10 @@
 -- What a call of a function makes of the frames (Core 2.0, section 4.4.10).
 use Rattle.std.specs.Prelude.{◌≡◌, ◌≤◌, ◌+◌, ℕ, true, List, length, vec_capacity}
 use Rattle.std.specs.List.{AllByRecursion}
-use Rattle.core_machine.specs.declared.trap.Trap.TheVariants.{StackLimit}
-use Rattle.core_machine.specs.Store.{Function, type_of, Store}
-use Rattle.core_machine.specs.Stack as stack
-use Rattle.core_machine.specs.Step.{Goes, Calls, Traps, invoked}
+use Rattle.wasm_store.specs.declared.trap.Trap.TheVariants.{StackLimit}
+use Rattle.wasm_store.specs.Store.{Function, type_of, Store}
+use Rattle.wasm_store.specs.Stack as stack
+use Rattle.wasm_store.specs.Step.{Goes, Calls, Traps, invoked}
 use Rattle.wasm_execution.specs.declared.frame.Frame.{Frame}
 use Rattle.wasm_execution.specs.declared.invoking.Invoked.{Invoked}
 use Rattle.wasm_execution.specs.declared.invoking.Invoked.TheVariants as call

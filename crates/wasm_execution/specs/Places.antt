@@ -2,7 +2,7 @@
 use Rattle.std.specs.Prelude.{◌≡◌, ◌≤◌, ◌<◌, ◌^◌, ℕ, true, false, List, [], ◌∷◌, map, reverse, take, length}
 use Rattle.std.specs.Option.{option_map, IfSome}
 use Rattle.wasm_module.specs.Expr.{Expr, Piece, tree_of, left_at, op_count}
-use Rattle.core_machine.specs.Stack as stack
+use Rattle.wasm_store.specs.Stack as stack
 use Rattle.wasm_execution.specs.declared.frame.OpenLabel.{OpenLabel}
 use Rattle.wasm_execution.specs.declared.frame.Frame.{Frame}
 

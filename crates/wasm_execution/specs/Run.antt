@@ -1,9 +1,9 @@
 -- What a run of a stack gives (Core 2.0, section 4.5.5).
 use Rattle.std.specs.Prelude.{◌≡◌, ◌≤◌, ◌+◌, ℕ, List, length, Some}
 use Rattle.std.specs.List.{slice_get}
-use Rattle.core_machine.specs.Store.{Function, type_of, Store}
-use Rattle.core_machine.specs.Stack.{Stack}
-use Rattle.core_machine.specs.Step.{Move, Calls, Ends, Traps, next, cost, Steps}
+use Rattle.wasm_store.specs.Store.{Function, type_of, Store}
+use Rattle.wasm_store.specs.Stack.{Stack}
+use Rattle.wasm_store.specs.Step.{Move, Calls, Ends, Traps, next, cost, Steps}
 use Rattle.wasm_execution.specs.Waiting.{Waiting}
 use Rattle.wasm_execution.specs.declared.running.Outcome.{Outcome}
 use Rattle.wasm_execution.specs.declared.running.Outcome.TheVariants as outcome

@@ -1,7 +1,7 @@
--- What the frames and the waiting stacks of a program are seen as (Core 2.0, section 4.2.14): stacks of core_machine.
+-- What the frames and the waiting stacks of a program are seen as (Core 2.0, section 4.2.14): stacks of wasm_store.
 use Rattle.std.specs.Prelude.{◌≡◌, ◌≤◌, ◌+◌, ℕ, List, [], map, reverse, length, vec_capacity}
 use Rattle.std.specs.List.{AllByRecursion}
-use Rattle.core_machine.specs.Stack as stack
+use Rattle.wasm_store.specs.Stack as stack
 use Rattle.wasm_execution.specs.declared.frame.Frame.{Frame}
 use Rattle.wasm_execution.specs.declared.running.State.{State}
 use Rattle.wasm_execution.specs.declared.running.State.TheVariants as state

@@ -5,11 +5,11 @@ use Rattle.wasm_module.specs.declared.types.ValType.{ValType}
 use Rattle.wasm_module.specs.declared.instr.Instr.{Instr}
 use Rattle.wasm_module.specs.declared.instr.Instr.TheVariants as instr
 use Rattle.wasm_module.specs.Expr.{Expr, End, Plain, Block, Loop, If, IfElse}
-use Rattle.core_machine.specs.declared.trap.Trap.{Trap}
-use Rattle.core_machine.specs.Store.{Function, type_of, Instance, Store}
-use Rattle.core_machine.specs.Stack.{Frame, Running}
-use Rattle.core_machine.specs.Step.{Goes, Traps, next, invoked, Steps}
-use Rattle.core_machine.specs.Typed.{FrameTyped}
+use Rattle.wasm_store.specs.declared.trap.Trap.{Trap}
+use Rattle.wasm_store.specs.Store.{Function, type_of, Instance, Store}
+use Rattle.wasm_store.specs.Stack.{Frame, Running}
+use Rattle.wasm_store.specs.Step.{Goes, Traps, next, invoked, Steps}
+use Rattle.wasm_store.specs.Typed.{FrameTyped}
 use Rattle.wasm_execution.specs.declared.control.Control.{Control}
 use Rattle.wasm_execution.specs.declared.control.Control.TheVariants as control
 use Rattle.wasm_execution.specs.declared.stepping.Step.{Step}

@@ -2,8 +2,8 @@
 use Rattle.std.specs.Prelude.{ℕ}
 use Rattle.std.specs.Coded.{Coded, code_by, coded_ℕ, coded×}
 use mathlib.Core.Path.{refl}
-use Rattle.core_machine.specs.Stack.{Stack}
-use Rattle.core_machine.specs.Codes.{stack_code}
+use Rattle.wasm_store.specs.Stack.{Stack}
+use Rattle.wasm_store.specs.Codes.{stack_code}
 
 -- a stack that waits, and for how many words
 pub record Waiting : Type 0 where

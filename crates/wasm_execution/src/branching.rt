@@ -2,8 +2,8 @@
 
 ghost use Rattle.std.specs.Prelude.{◌≡◌, ◌+◌, ◌-◌, ◌≤◌, ◌++◌, take, drop, length, vec_len, IfOk, Some, None};
 ghost use Rattle.std.specs.List.{slice_get};
-ghost use Rattle.core_machine.specs.Stack.{Label};
-ghost use Rattle.core_machine.specs.Step.{landed, returning};
+ghost use Rattle.wasm_store.specs.Stack.{Label};
+ghost use Rattle.wasm_store.specs.Step.{landed, returning};
 ghost use Rattle.wasm_execution.specs.Places.{frame_of, IsPlaced};
 ghost use Rattle.wasm_execution.specs.Shape.{first_part, second_part, BeginsBlock, BeginsIf, BeginsLoop, HasOver, label_over, within};
 

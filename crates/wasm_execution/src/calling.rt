@@ -5,17 +5,17 @@ ghost use Rattle.std.specs.List.{slice_get};
 ghost use Rattle.wasm_module.specs.declared.instr.Instr.TheVariants as instr;
 ghost use Rattle.wasm_module.specs.declared.types.FuncType.{FuncType};
 ghost use Rattle.wasm_module.specs.Expr.{Expr, Plain};
-ghost use Rattle.core_machine.specs.Store.{type_of};
-ghost use Rattle.core_machine.specs.Step.{same_signature};
-ghost use Rattle.core_machine.specs.Typed.{StoreTyped};
-ghost use Rattle.core_machine.specs.Views.{function_of};
+ghost use Rattle.wasm_store.specs.Store.{type_of};
+ghost use Rattle.wasm_store.specs.Step.{same_signature};
+ghost use Rattle.wasm_store.specs.Typed.{StoreTyped};
+ghost use Rattle.wasm_store.specs.Views.{function_of};
 ghost use Rattle.wasm_execution.specs.Places.{frame_of, IsPlaced};
 ghost use Rattle.wasm_execution.specs.Stepping.{IsTyped, StepGives, PlacedAfter};
 
 use crate::frame::Frame;
 use crate::stepping::Step;
-use core_machine::{FunctionInstance, Store, Trap};
 use wasm_module::FuncType;
+use wasm_store::{FunctionInstance, Store, Trap};
 
 /// `call`.
 pub(crate) fn call(frame: &mut Frame, store: &Store, index: usize) -> Step

@@ -8,8 +8,8 @@ ghost use Rattle.wasm_execution.specs.Stepping.{IsTyped, StepGives, PlacedAfter}
 use crate::frame::Frame;
 use crate::stepping::Step;
 use ca_base::Memory;
-use core_machine::Store;
 use wasm_module::BlockType;
+use wasm_store::Store;
 
 /// `block`.
 pub(crate) fn enter_block(

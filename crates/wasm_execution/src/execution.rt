@@ -2,10 +2,10 @@
 
 ghost use Rattle.std.specs.Prelude.{◌≡◌, ℕ, List, Some};
 ghost use Rattle.std.specs.List.{slice_get, AllByRecursion};
-ghost use Rattle.core_machine.specs.Store.{Function};
+ghost use Rattle.wasm_store.specs.Store.{Function};
 ghost use Rattle.wasm_module.specs.declared.types.ValType.{ValType};
-ghost use Rattle.core_machine.specs.Stack as stack;
-ghost use Rattle.core_machine.specs.Typed.{StoreTyped, StackTyped};
+ghost use Rattle.wasm_store.specs.Stack as stack;
+ghost use Rattle.wasm_store.specs.Typed.{StoreTyped, StackTyped};
 ghost use Rattle.wasm_execution.specs.Places.{frame_of, IsPlaced};
 ghost use Rattle.wasm_execution.specs.Stacks.{frames_of};
 ghost use Rattle.wasm_execution.specs.Run.{RunGives};
@@ -15,8 +15,8 @@ use crate::invoking::{Invoked, give_back, invoke};
 use crate::running::{Frames, Outcome, Running, State, Suspended};
 use crate::turn::{Pause, run_function};
 use ca_base::{Fuel, Seq};
-use core_machine::{FunctionInstance, Store, Trap};
 use std::alloc::Global;
+use wasm_store::{FunctionInstance, Store, Trap};
 
 /// Runs a stack until it ends, calls a function of the host, traps, or fuel is wanting (Core 2.0, section 4.4). Each
 /// instruction costs one unit of fuel, also one that traps or calls; ends of blocks and functions cost nothing.

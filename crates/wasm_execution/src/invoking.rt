@@ -2,10 +2,10 @@
 
 ghost use Rattle.std.specs.Prelude.{◌≡◌, IfOk, Some, length, ℕ, List};
 ghost use Rattle.std.specs.List.{slice_get, AllByRecursion};
-ghost use Rattle.core_machine.specs.Store.{Function, Own, Host, type_of, Store};
-ghost use Rattle.wasm_valid.specs.Context.{found_type};
+ghost use Rattle.wasm_store.specs.Store.{Function, Own, Host, type_of, Store};
+ghost use Rattle.wasm_typing.specs.Context.{found_type};
 ghost use Rattle.wasm_execution.specs.declared.frame.Frame.{Frame};
-ghost use Rattle.core_machine.specs.Step.{with_more};
+ghost use Rattle.wasm_store.specs.Step.{with_more};
 ghost use Rattle.wasm_execution.specs.Places.{frame_of, IsPlaced};
 ghost use Rattle.wasm_execution.specs.Shape.{HasOver};
 ghost use Rattle.wasm_execution.specs.Invoking.{InvokeGives};
@@ -13,9 +13,9 @@ ghost use Rattle.wasm_execution.specs.Invoking.{InvokeGives};
 use crate::frame::Frame;
 use crate::starting::begin;
 use ca_base::Memory;
-use core_machine::{FunctionInstance, OwnFunction, Store};
 use std::alloc::{AllocError, Global};
 use wasm_module::FuncType;
+use wasm_store::{FunctionInstance, OwnFunction, Store};
 
 /// How many frames a stack may have.
 const FRAME_LIMIT: usize = 512;

@@ -1,6 +1,6 @@
 //! Execution of core modules (Core 2.0, section 4.4): stacks that run in a store, and that wait.
 //!
-//! Contracts see a stack as the one of core_machine.
+//! Contracts see a stack as the one of wasm_store.
 //!
 //! - `running`: stacks that run or wait, and what comes of a run; `starting`: how they begin, and go on after a call of the host
 //! - `execution`: runs of stacks; `turn`: the function that runs, up to its end, a call, a trap or want of fuel

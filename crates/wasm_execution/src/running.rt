@@ -1,12 +1,12 @@
 //! Stacks that run, that wait for a host function, and what comes of them.
 
 ghost use Rattle.std.specs.Prelude.{◌≡◌, length};
-ghost use Rattle.core_machine.specs.Step.{resume};
+ghost use Rattle.wasm_store.specs.Step.{resume};
 
 use crate::frame::Frame;
 use ca_base::Seq;
-use core_machine::Trap;
 use std::marker::Model;
+use wasm_store::Trap;
 
 /// A list of values.
 pub type Words = Seq<u64>;
@@ -32,14 +32,14 @@ pub(crate) enum State {
 }
 
 /// A stack that runs and has not ended (Core 2.0, section 4.2.14). It is spent by `run` or given up. Contracts see it as the
-/// stack of core_machine.
+/// stack of wasm_store.
 pub struct Running {
     pub(crate) state: State,
 }
 
 impl Model for Running {
-    ghost use Rattle.core_machine.specs.Stack.{Stack};
-    ghost use Rattle.core_machine.specs.Codes.{stack_code};
+    ghost use Rattle.wasm_store.specs.Stack.{Stack};
+    ghost use Rattle.wasm_store.specs.Codes.{stack_code};
     ghost use Rattle.wasm_execution.specs.Stacks.{stack_of, ArePlaced};
 
     ghost Value = { Stack };
@@ -59,7 +59,7 @@ impl Running {
 }
 
 /// A stack that waits for the words of a host function that it called. It is spent by `resume` or given up. Contracts see it as the
-/// stack of core_machine, and for how many words it waits.
+/// stack of wasm_store, and for how many words it waits.
 pub struct Suspended {
     pub(crate) state: State,
     pub(crate) count: usize,

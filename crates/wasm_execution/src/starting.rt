@@ -2,19 +2,19 @@
 
 ghost use Rattle.std.specs.Prelude.{◌≡◌, ◌≤◌, ◌+◌, ◌<◌, ◌++◌, length, replicate, reverse, IfOk, Some, vec_capacity};
 ghost use Rattle.std.specs.List.{slice_get};
-ghost use Rattle.wasm_valid.specs.Context.{found_type};
-ghost use Rattle.core_machine.specs.Store.{Function};
-ghost use Rattle.core_machine.specs.Step.{start, resume, first_frame, with_more};
+ghost use Rattle.wasm_typing.specs.Context.{found_type};
+ghost use Rattle.wasm_store.specs.Store.{Function};
+ghost use Rattle.wasm_store.specs.Step.{start, resume, first_frame, with_more};
 ghost use Rattle.wasm_execution.specs.Places.{frame_of, IsPlaced};
 ghost use Rattle.wasm_execution.specs.Zeros.{zeros};
 
 use crate::frame::Frame;
 use crate::running::{Frames, Running, State, Suspended};
 use ca_base::Memory;
-use core_machine::{FunctionInstance, OwnFunction, Store};
 use std::alloc::{AllocError, Global};
 use std::rc::Rc;
 use wasm_module::Locals;
+use wasm_store::{FunctionInstance, OwnFunction, Store};
 
 /// A call of the function at an address of the store, with these arguments. It fails for want of memory alone.
 pub fn start(alloc: Global, store: &Store, address: usize, args: &[u64]) -> Result<Running, Memory>

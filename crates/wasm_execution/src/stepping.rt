@@ -5,9 +5,9 @@ ghost use Rattle.std.specs.List.{slice_get};
 ghost use Rattle.wasm_module.specs.declared.instr.Instr.{Instr};
 ghost use Rattle.wasm_module.specs.declared.instr.Instr.TheVariants as instr;
 ghost use Rattle.wasm_module.specs.Expr.{Expr, Plain};
-ghost use Rattle.core_machine.specs.Store.{Store};
-ghost use Rattle.core_machine.specs.Step.{table_label};
-ghost use Rattle.core_machine.specs.Typed.{StoreTyped};
+ghost use Rattle.wasm_store.specs.Store.{Store};
+ghost use Rattle.wasm_store.specs.Step.{table_label};
+ghost use Rattle.wasm_store.specs.Typed.{StoreTyped};
 ghost use Rattle.wasm_execution.specs.declared.stepping.Step.TheVariants as step;
 ghost use Rattle.wasm_execution.specs.Places.{frame_of, IsPlaced};
 ghost use Rattle.wasm_execution.specs.Stepping.{IsTyped, HasNext, IsEffect, StepGives, OnwardAlone, PlacedAfter};
@@ -17,8 +17,8 @@ use crate::control::Control;
 use crate::entering::{enter_block, enter_loop, enter_one_of};
 use crate::frame::Frame;
 use ca_base::Memory;
-use core_machine::{Store, Trap};
 use wasm_module::{Instr, Op};
+use wasm_store::{Store, Trap};
 
 /// What came of an instruction.
 #[derive(Clone, Copy)]

@@ -1,7 +1,7 @@
 //! The function that runs, up to a pause: its end, a call, a trap, or want of fuel.
 
 ghost use Rattle.std.specs.Prelude.{◌≡◌, IfOk, OnErr, true, false};
-ghost use Rattle.core_machine.specs.Typed.{StoreTyped};
+ghost use Rattle.wasm_store.specs.Typed.{StoreTyped};
 ghost use Rattle.wasm_module.specs.Expr.{End};
 ghost use Rattle.wasm_execution.specs.Places.{frame_of, IsPlaced};
 ghost use Rattle.wasm_execution.specs.Stepping.{IsTyped, LeavesTo, ComesTo, Pauses, Halts, PlacedAt};
@@ -9,7 +9,7 @@ ghost use Rattle.wasm_execution.specs.Stepping.{IsTyped, LeavesTo, ComesTo, Paus
 use crate::frame::Frame;
 use crate::stepping::{Step, make_step};
 use ca_base::{Fuel, Memory};
-use core_machine::{Store, Trap};
+use wasm_store::{Store, Trap};
 
 /// Why a function pauses.
 #[derive(Clone, Copy)]

@@ -3,8 +3,11 @@
 ghost use Rattle.std.specs.Prelude.{◌≡◌, ◌+◌, length};
 ghost use Rattle.wasm_memory.specs.Bytes.{is_inside};
 
+use thiserror::Error;
+
 /// Bytes that a call asks for are not all inside the memory.
-#[derive(Clone, Copy)]
+#[derive(Clone, Copy, Debug, Error)]
+#[error("bytes outside the memory")]
 pub struct OutOfBounds;
 
 /// Whether so many bytes from a place on are inside.

@@ -3,11 +3,8 @@ pub mod BlockTypes
 pub mod Expr
 pub mod Limited
 pub mod Locals
-pub mod Opcodes
 pub mod Places
-pub mod Reasons
 pub mod Runs
 pub mod SameTypes
 pub mod Spaces
 pub mod Spots
-pub mod Types

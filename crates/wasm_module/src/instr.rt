@@ -4,7 +4,7 @@ use crate::types::ValType;
 use ca_base::Seq;
 
 /// The width of an integer, in bits.
-#[derive(Clone, Copy, Debug)]
+#[derive(Clone, Copy)]
 pub enum Width {
     /// 32 bits, the type `i32`.
     W32,
@@ -13,7 +13,7 @@ pub enum Width {
 }
 
 /// An operation of one integer that gives another one of its width, and that both widths have.
-#[derive(Clone, Copy, Debug)]
+#[derive(Clone, Copy)]
 pub enum UnaryOp {
     Clz,
     Ctz,
@@ -23,7 +23,7 @@ pub enum UnaryOp {
 }
 
 /// An operation of two integers that gives one of their width.
-#[derive(Clone, Copy, Debug)]
+#[derive(Clone, Copy)]
 pub enum BinaryOp {
     Add,
     Sub,
@@ -43,7 +43,7 @@ pub enum BinaryOp {
 }
 
 /// A comparison of two integers, which gives an `i32` that is 1 or 0.
-#[derive(Clone, Copy, Debug)]
+#[derive(Clone, Copy)]
 pub enum RelationOp {
     Eq,
     Ne,
@@ -58,7 +58,7 @@ pub enum RelationOp {
 }
 
 /// A numeric instruction, but for constants (Core 2.0, section 2.4.1).
-#[derive(Clone, Copy, Debug)]
+#[derive(Clone, Copy)]
 pub enum NumericOp {
     /// `eqz`: whether an integer of this width is 0, as an `i32`.
     Eqz(Width),
@@ -79,7 +79,7 @@ pub enum NumericOp {
 }
 
 /// A load from memory (Core 2.0, section 2.4.7): the type, and where fewer bits are read, these and how they are extended.
-#[derive(Clone, Copy, Debug)]
+#[derive(Clone, Copy)]
 pub enum LoadOp {
     I32Load,
     I64Load,
@@ -96,7 +96,7 @@ pub enum LoadOp {
 }
 
 /// A store into memory (Core 2.0, section 2.4.7): the type, and where fewer bits are written, these.
-#[derive(Clone, Copy, Debug)]
+#[derive(Clone, Copy)]
 pub enum StoreOp {
     I32Store,
     I64Store,
@@ -108,7 +108,7 @@ pub enum StoreOp {
 }
 
 /// What a load or a store says of its address (Core 2.0, section 2.4.7).
-#[derive(Clone, Copy, Debug)]
+#[derive(Clone, Copy)]
 pub struct MemArg {
     /// The alignment that is expected, as the exponent of a power of 2.
     pub align: u32,
@@ -117,7 +117,7 @@ pub struct MemArg {
 }
 
 /// An instruction that holds no others (Core 2.0, section 2.4).
-#[derive(Debug, Drop)]
+#[derive(Drop)]
 pub enum Instr {
     /// `unreachable`.
     Unreachable,
@@ -172,7 +172,7 @@ pub enum Instr {
 }
 
 /// The type of a block, a loop or an `if` (Core 2.0, section 2.4.8).
-#[derive(Clone, Copy, Debug)]
+#[derive(Clone, Copy)]
 pub enum BlockType {
     /// No parameters and no result.
     Empty,
@@ -183,7 +183,7 @@ pub enum BlockType {
 }
 
 /// What stands in flat code: an instruction that holds no others, the beginning of one that does, `else` or `end`.
-#[derive(Debug, Drop)]
+#[derive(Drop)]
 pub enum Op {
     /// An instruction that holds no others.
     Plain(Instr),

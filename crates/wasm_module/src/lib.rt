@@ -1,38 +1,32 @@
-//! Core modules as trees, which a reader makes of bytes and a validation goes over; types and opcodes in bytes.
+//! Core modules as trees, which a reader makes of bytes and a validation goes over.
 //!
 //! A module is a tree of its parts, and beside it stand the places of these parts in its file, one for each. The body of a
 //! function is a tree too, which stands there as flat code, so that nothing that a file nests makes a call nest.
 //!
 //! - `types`: types of values, functions and globals, and limits; `limited`: types of memories and tables;
-//!   `type_kinds`: these in bytes; `same_types`: whether types of functions are the same
-//! - `instr`: instructions, and what stands in flat code; `opcodes`: groups of instructions by their opcodes;
-//!   `accesses`: what they are on
+//!   `same_types`: whether types of functions are the same
+//! - `instr`: instructions, and what stands in flat code; `accesses`: what they are on
 //! - `body`: the body of a function
 //! - `block_types`: what blocks take and give
 //! - `locals`: the locals of a function; `local_runs`: their types by their indices
 //! - `module`: modules, and the places of their parts; `space`: their index spaces; `spot`: parts
 //!   by their numbers, and where they stand
-//! - `fault`: why the bytes of a module are refused
 #![tactic(auto)]
 
 mod accesses;
 mod block_types;
 mod body;
-mod fault;
 mod instr;
 mod limited;
 mod local_runs;
 mod locals;
 mod module;
-mod opcodes;
 mod same_types;
 mod space;
 mod spot;
-mod type_kinds;
 mod types;
 
 pub use body::Body;
-pub use fault::{ModuleWhy, refused_byte};
 pub use instr::{
     BinaryOp, BlockType, ConstInstr, Instr, LoadOp, MemArg, NumericOp, Op, RelationOp, StoreOp,
     UnaryOp, Width,
@@ -44,9 +38,7 @@ pub use module::{
     DataPlaces, DataSegment, ElementPlaces, ElementSegment, Export, ExportDesc, Func, FuncPlaces,
     Global, GlobalPlaces, Import, ImportDesc, Module, ModuleParts, ModulePlaces, ModuleTree,
 };
-pub use opcodes::{is_float, load, numeric, store};
 pub use same_types::are_same;
 pub use space::{Space, imported_memories, imported_tables};
 pub use spot::{Spot, place_of};
-pub use type_kinds::{FuncTypes, GlobalTypes, Memories, Tables, ValTypes};
 pub use types::{FuncType, GlobalType, Limits, Locals, Mutability, ValType};

@@ -4,8 +4,8 @@ use Rattle.ca_base.specs.Span.{Span}
 use Rattle.ca_base.specs.declared.refusal.Refusal.{Refusal}
 use Rattle.ca_base.specs.Grammar.{read, first_byte, next_byte}
 use Rattle.ca_base.specs.Items.{sized, custom, is_byte}
-use Rattle.wasm_module.specs.declared.fault.ModuleWhy.{ModuleWhy}
-use Rattle.wasm_module.specs.Reasons.{numbers, reasons}
+use Rattle.wasm_code_reader.specs.declared.fault.ModuleWhy.{ModuleWhy}
+use Rattle.wasm_code_reader.specs.Reasons.{numbers, reasons}
 use Rattle.wasm_reader.specs.Binary.{customs_in}
 
 -- no more are looked for

@@ -8,16 +8,11 @@ use Rattle.ca_base.proofs.Laws.{matches_past, decided}
 use Rattle.ca_base.proofs.Places.{matches_end, at_its_end}
 use Rattle.ca_base.proofs.Whole.{whole_decided}
 use Rattle.wasm_module.specs.declared.module.ModuleParts.{ModuleParts}
-use Rattle.wasm_module.specs.declared.fault.ModuleWhy.{ModuleWhy}
+use Rattle.wasm_code_reader.specs.declared.fault.ModuleWhy.{ModuleWhy}
 use Rattle.wasm_reader.specs.declared.declared.DeclaredFunc.{DeclaredFunc}
 use Rattle.wasm_reader.specs.declared.declared.Contents.{Contents}
 use Rattle.wasm_reader.specs.Binary.{the_module, contents, ends, is_there, module_end, no_section, file, file_end}
 use Rattle.wasm_reader.specs.Laws.{OneReading}
-
--- what follows in both cases of a test
-pub by_test : (b : Bool) (P Q R : Type 0) → (P → R) → (Q → R) → MatchBool b P Q → R
-by_test true P Q R f g m = f m
-by_test false P Q R f g m = g m
 
 none_left : (bytes : List ℕ) → None ≡ next_byte bytes → bytes ≡ []
 none_left [] h = refl

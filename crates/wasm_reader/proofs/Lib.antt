@@ -1,10 +1,5 @@
-pub mod Back
-pub mod BodyReading
-pub mod ConstExprs
 pub mod Customs
 pub mod Ended
 pub mod Fitting
-pub mod Fuel
-pub mod Groups
 pub mod Ranges
 pub mod Rows

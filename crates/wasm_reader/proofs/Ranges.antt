@@ -1,19 +1,19 @@
 -- No memory of a module that is read begins with more pages than any may have.
-use Rattle.std.proofs.Common.{◌≡◌, ◌≤◌, ℕ, zero, suc, Bool, true, false, List, [], ◌∷◌, Option, Some, None, refl, sym, subst, nat_le, nat_lt}
+use Rattle.std.proofs.Common.{◌≡◌, ◌≤◌, ℕ, zero, suc, Bool, true, false, List, [], ◌∷◌, Option, Some, None, refl, sym, subst, nat_lt}
 use Rattle.std.specs.Prelude.{◌==◌, unwrap_or}
 use Rattle.std.specs.List.{AllByRecursion}
 use Rattle.std.proofs.lemmas.Bool.{ltb-false}
 use Rattle.ca_base.specs.Span.{Span, window}
 use Rattle.ca_base.specs.Grammar.{Grammar, Give, Refuse, Choose, Byte, ◌>>=◌, times, Matches}
-use Rattle.ca_base.specs.Items.{NumberReasons, Reasons, u32, placed, vec, sized, section, is_byte}
+use Rattle.ca_base.specs.Items.{NumberReasons, Reasons, u32, placed, vec, sized, is_byte}
 use Rattle.ca_base.specs.declared.placed.Placed.{Placed}
 use Rattle.wasm_module.specs.declared.types.Limits.{Limits}
 use Rattle.wasm_module.specs.declared.module.ModuleParts.{ModuleParts}
-use Rattle.wasm_module.specs.declared.fault.ModuleWhy.{ModuleWhy}
-use Rattle.wasm_module.specs.declared.fault.ModuleWhy.TheVariants.{Unsupported, Limit}
+use Rattle.wasm_code_reader.specs.declared.fault.ModuleWhy.{ModuleWhy}
+use Rattle.wasm_code_reader.specs.declared.fault.ModuleWhy.TheVariants.{Unsupported, Limit}
 use Rattle.wasm_module.specs.Limited.{starting_pages}
-use Rattle.wasm_module.specs.Reasons.{numbers, reasons}
-use Rattle.wasm_module.specs.Types.{limited, bounds, limits, memory_type}
+use Rattle.wasm_code_reader.specs.Reasons.{numbers, reasons}
+use Rattle.wasm_code_reader.specs.Types.{limited, bounds, limits, memory_type}
 use Rattle.wasm_reader.specs.declared.declared.Definitions.{Definitions}
 use Rattle.wasm_reader.specs.Binary.{payload, items, items_of, definitions, the_module}
 
@@ -51,13 +51,15 @@ bounds_give : (most : ℕ) (b : Bool) → Gives (λ (l : Limits). l.min ≤ most
 unfolding bounds
 bounds_give most b s x t m = bounds_choice most m.0 b (u32 numbers) m.1 x t (limited_gives most s m.0 m.1 m.2) m.3
 
-limits_choice : (most : ℕ) (b c : Bool) (place : ℕ) (why : ModuleWhy) (s : Span ModuleWhy) (x : Limits) (t : Span ModuleWhy) → Matches (Choose b (bounds most c) (Refuse place why)) s x t → x.min ≤ most
-limits_choice most true c place why s x t m = bounds_give most c s x t m
-limits_choice most false c place why s x t m = absurd m
+limits_choice : (most : ℕ) (b c : Bool) (place : ℕ) (why : ModuleWhy) (s : Span ModuleWhy) (x : Limits) (t : Span ModuleWhy)
+    → Matches (Choose b (bounds most false) (Choose c (bounds most true) (Refuse place why))) s x t → x.min ≤ most
+limits_choice most true c place why s x t m = bounds_give most false s x t m
+limits_choice most false true place why s x t m = bounds_give most true s x t m
+limits_choice most false false place why s x t m = absurd m
 
 memory_gives : Gives (λ (l : Limits). l.min ≤ starting_pages) memory_type
 unfolding memory_type limits
-memory_gives s x t m = limits_choice starting_pages (nat_le m.3.0 1) (m.3.0 == 1) m.0 (Unsupported m.3.0) m.3.1 x t m.3.3
+memory_gives s x t m = limits_choice starting_pages (m.3.0 == 0) (m.3.0 == 1) m.0 (Unsupported m.3.0) m.3.1 x t m.3.3
 
 -- The items of a section that may be absent.
 section_choice : {A : Type 0} (P : A → Type 0) (n : NumberReasons ModuleWhy) (r : Reasons ModuleWhy) (g : Grammar ModuleWhy (List A)) → Gives (AllByRecursion P) g

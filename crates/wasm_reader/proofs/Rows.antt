@@ -5,11 +5,12 @@ use Rattle.std.specs.Str.Lossy.{utf8_valid_len}
 use Rattle.std.proofs.Math.Utf8.{encode}
 use Rattle.ca_base.specs.Grammar.{read}
 use Rattle.ca_base.specs.Items.{fixed, marker, last_byte, unsigned, name, placed}
-use Rattle.wasm_module.specs.Types.{val_type, func_type}
-use Rattle.wasm_module.specs.Opcodes.{numeric, load, store}
-use Rattle.wasm_reader.specs.Instrs.{numeric_instr, memory_instr, variable_instr, instr}
+use Rattle.wasm_code_reader.specs.Types.{val_type, func_type}
+use Rattle.wasm_code_reader.specs.Opcodes.{numeric, load, store}
+use Rattle.wasm_code_reader.specs.Instrs.{numeric_instr, memory_instr, variable_instr, instr}
+use Rattle.wasm_code_reader.specs.Bodies.{expr, locals, all_locals, body}
 use Rattle.wasm_reader.specs.Items.{declared_func, export_of, export}
-use Rattle.wasm_reader.specs.Bodies.{expr, locals, all_locals, body, func_code, code, code_payload}
+use Rattle.wasm_reader.specs.Code.{func_code, code, code_payload}
 use Rattle.wasm_reader.specs.Binary.{customs_in, customs, payload, items, declarations, definitions, uses, module_end, ends, contents, the_module, file, file_end}
 use Rattle.wasm_reader.specs.Examples.{bytes_with, add_module, no_such_opcode}
 

@@ -7,18 +7,18 @@ use Rattle.ca_base.specs.Items.{fixed, u32, custom, sized, vec, placed, section,
 use Rattle.ca_base.specs.declared.refusal.Refusal.{Refusal}
 use Rattle.ca_base.specs.declared.placed.Placed.{Placed}
 use Rattle.wasm_module.specs.declared.module.ModuleParts.{ModuleParts}
-use Rattle.wasm_module.specs.declared.fault.ModuleWhy.{ModuleWhy}
-use Rattle.wasm_module.specs.declared.fault.ModuleWhy.TheVariants.{Truncated, Magic, SectionOrder, Unsupported, Count}
+use Rattle.wasm_code_reader.specs.declared.fault.ModuleWhy.{ModuleWhy}
+use Rattle.wasm_code_reader.specs.declared.fault.ModuleWhy.TheVariants.{Truncated, Magic, SectionOrder, Unsupported, Count}
 use Rattle.wasm_reader.specs.declared.declared.DeclaredFunc.{DeclaredFunc}
 use Rattle.wasm_reader.specs.declared.declared.Declarations.{Declarations}
 use Rattle.wasm_reader.specs.declared.declared.Definitions.{Definitions}
 use Rattle.wasm_reader.specs.declared.declared.Uses.{Uses}
 use Rattle.wasm_reader.specs.declared.declared.Contents.{Contents}
 use Rattle.wasm_reader.specs.declared.parted.Parted.{Parted}
-use Rattle.wasm_module.specs.Reasons.{numbers, reasons}
-use Rattle.wasm_module.specs.Types.{func_type, table_type, memory_type}
+use Rattle.wasm_code_reader.specs.Reasons.{numbers, reasons}
+use Rattle.wasm_code_reader.specs.Types.{func_type, table_type, memory_type}
 use Rattle.wasm_reader.specs.Items.{import, declared_func, export, global, element_segment, data_payload}
-use Rattle.wasm_reader.specs.Bodies.{code_payload}
+use Rattle.wasm_reader.specs.Code.{code_payload}
 
 -- custom sections (section 5.5.3), in at most so many bytes
 unfoldable pub customs_in : ℕ → Grammar ModuleWhy (Unit {0})

@@ -1,9 +1,8 @@
 -- The items of sections in bytes (Core 2.0, section 5.5), but for types and the code of functions.
-use Rattle.std.specs.Prelude.{ℕ, zero, suc, ◌==◌, not, Bool, false, Option, Some, None, List, [], ◌∷◌, map, unwrap_or, nat_le}
-use Rattle.ca_base.specs.Grammar.{Grammar, Give, Refuse, Here, Left, Next, Byte, Take, Choose, ◌>>=◌, times}
-use Rattle.ca_base.specs.Items.{marker, u32, s32, s64, name, vec, placed, byte_of}
-use Rattle.wasm_module.specs.declared.instr.ConstInstr.{ConstInstr}
-use Rattle.wasm_module.specs.declared.instr.ConstInstr.TheVariants.{I32Const, I64Const, GlobalGet}
+use Rattle.std.specs.Prelude.{ℕ, ◌==◌, not, Bool, false, Option, Some, None, List, [], ◌∷◌, map, unwrap_or}
+use Rattle.ca_base.specs.Grammar.{Grammar, Give, Refuse, Here, Next, Take, Choose, ◌>>=◌, times}
+use Rattle.ca_base.specs.Items.{marker, u32, name, vec, placed, byte_of}
+use Rattle.ca_base.specs.Tables.{by_byte, in_rows, giving}
 use Rattle.wasm_module.specs.declared.module.Import.{Import}
 use Rattle.wasm_module.specs.declared.module.ImportDesc.{ImportDesc}
 use Rattle.wasm_module.specs.declared.module.ImportDesc.TheVariants as import_desc
@@ -16,33 +15,23 @@ use Rattle.wasm_module.specs.declared.module.ElementSegment.{ElementSegment}
 use Rattle.wasm_module.specs.declared.module.ElementPlaces.{ElementPlaces}
 use Rattle.wasm_module.specs.declared.module.DataSegment.{DataSegment}
 use Rattle.wasm_module.specs.declared.module.DataPlaces.{DataPlaces}
-use Rattle.wasm_module.specs.declared.fault.ModuleWhy.{ModuleWhy}
-use Rattle.wasm_module.specs.declared.fault.ModuleWhy.TheVariants.{Unsupported, Count}
+use Rattle.wasm_code_reader.specs.declared.fault.ModuleWhy.{ModuleWhy}
+use Rattle.wasm_code_reader.specs.declared.fault.ModuleWhy.TheVariants.{Unsupported, Count}
 use Rattle.wasm_reader.specs.declared.declared.DeclaredFunc.{DeclaredFunc}
-use Rattle.wasm_reader.specs.declared.declared.PlacedConst.{PlacedConst}
 use Rattle.wasm_reader.specs.declared.parted.Parted.{Parted}
-use Rattle.wasm_module.specs.Reasons.{numbers, reasons, refused_byte}
-use Rattle.wasm_module.specs.Types.{table_type, memory_type, global_type}
-use Rattle.wasm_module.specs.Opcodes.{is_float}
+use Rattle.wasm_code_reader.specs.Reasons.{numbers, reasons}
+use Rattle.wasm_code_reader.specs.Types.{table_type, memory_type, global_type}
+use Rattle.wasm_code_reader.specs.Consts.{const_expr}
 
 -- what an import asks for: 00 and the index of a function type, 01, 02 or 03 and the type of a table, a memory or a global
 unfoldable pub import_of : Grammar ModuleWhy ImportDesc
-import_of = do
-  place ← Here
-  kind ← Byte
-  Choose (kind == 0) (do
-    index ← u32 numbers
-    Give (import_desc.Func index))
-      (Choose (kind == 1) (do
-        type ← table_type
-        Give (import_desc.Table type))
-      (Choose (kind == 2) (do
-        type ← memory_type
-        Give (import_desc.Memory type))
-      (Choose (kind == 3) (do
-        type ← global_type
-        Give (import_desc.Global type))
-      (Refuse place (Unsupported kind)))))
+import_of =
+    by_byte Unsupported (
+    (0x00, giving import_desc.Func (u32 numbers))
+    ∷ (0x01, giving import_desc.Table table_type)
+    ∷ (0x02, giving import_desc.Memory memory_type)
+    ∷ (0x03, giving import_desc.Global global_type)
+    ∷ [])
 
 -- an import (section 5.5.5): the name of a module, a name, and what is asked for
 unfoldable pub import : Grammar ModuleWhy Import
@@ -61,22 +50,13 @@ declared_func = do
 
 -- what an export offers: 00, 01, 02 or 03 for a function, a table, a memory or a global, and its index
 unfoldable pub export_of : Grammar ModuleWhy ExportDesc
-export_of = do
-  place ← Here
-  kind ← Byte
-  Choose (kind == 0) (do
-    index ← u32 numbers
-    Give (export_desc.Func index))
-      (Choose (kind == 1) (do
-        index ← u32 numbers
-        Give (export_desc.Table index))
-      (Choose (kind == 2) (do
-        index ← u32 numbers
-        Give (export_desc.Memory index))
-      (Choose (kind == 3) (do
-        index ← u32 numbers
-        Give (export_desc.Global index))
-      (Refuse place (Unsupported kind)))))
+export_of =
+    by_byte Unsupported (
+    (0x00, giving export_desc.Func (u32 numbers))
+    ∷ (0x01, giving export_desc.Table (u32 numbers))
+    ∷ (0x02, giving export_desc.Memory (u32 numbers))
+    ∷ (0x03, giving export_desc.Global (u32 numbers))
+    ∷ [])
 
 -- an export (section 5.5.10): a name, and what is offered
 unfoldable pub export : Grammar ModuleWhy Export
@@ -84,49 +64,6 @@ export = do
   name ← name numbers
   desc ← export_of
   Give (record { name = name; desc = desc })
-
--- What stands behind FC: a number. None of its instructions is constant, and 0 to 7 are instructions of floats.
-unfoldable pub const_prefixed : Grammar ModuleWhy ConstInstr
-const_prefixed = do
-  place ← Here
-  first ← Next
-  number ← u32 numbers
-  refused_byte (nat_le number 7) place (byte_of first)
-
--- the constant instruction of an opcode that stands at this place (section 3.3.10)
-unfoldable pub const_instr : ℕ → ℕ → Grammar ModuleWhy ConstInstr
-const_instr place opcode =
-    Choose (opcode == 0x23) (do
-      index ← u32 numbers
-      Give (GlobalGet index))
-    (Choose (opcode == 0x41) (do
-      value ← s32 numbers
-      Give (I32Const value))
-    (Choose (opcode == 0x42) (do
-      value ← s64 numbers
-      Give (I64Const value))
-    (Choose (opcode == 0xFC) const_prefixed
-    (refused_byte (is_float opcode) place opcode))))
-
--- constant instructions up to an end, in at most so many bytes, and the place of each and of the end
-unfoldable pub consts : ℕ → Grammar ModuleWhy PlacedConst
-consts zero = do
-  place ← Here
-  b ← Byte
-  Refuse place (Unsupported b)
-consts (suc count) = do
-  place ← Here
-  opcode ← Byte
-  Choose (opcode == 0x0B) (Give (record { instrs = []; places = place ∷ [] })) (do
-    first ← const_instr place opcode
-    rest ← consts count
-    Give (record { instrs = first ∷ rest.instrs; places = place ∷ rest.places }))
-
--- a constant expression (section 5.4.9), as far as the bytes go
-unfoldable pub const_expr : Grammar ModuleWhy PlacedConst
-const_expr = do
-  count ← Left
-  consts count
 
 -- a global (section 5.5.9): its type, and the expression of its first value
 unfoldable pub global : Grammar ModuleWhy (Parted Global GlobalPlaces)
@@ -145,11 +82,7 @@ target = do
   place ← Here
   first ← Next
   kind ← u32 numbers
-  Choose (kind == 0) (Give None)
-      (Choose (kind == 2) (do
-        index ← u32 numbers
-        Give (Some index))
-      (Refuse place (Unsupported (byte_of first))))
+  in_rows ((0, Give None) ∷ (2, giving Some (u32 numbers)) ∷ []) kind (Refuse place (Unsupported (byte_of first)))
 
 -- with the kind 2 a byte tells that the elements are functions
 abbrev pub element_kind : Option ℕ → Grammar ModuleWhy (Unit {0})

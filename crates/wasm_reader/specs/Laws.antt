@@ -1,7 +1,7 @@
 -- What holds of the binary format alone.
 use Rattle.std.specs.Prelude.{◌≡◌, ◌⊎◌, ℕ, List}
 use Rattle.ca_base.specs.declared.refusal.Refusal.{Refusal}
-use Rattle.wasm_module.specs.declared.fault.ModuleWhy.{ModuleWhy}
+use Rattle.wasm_code_reader.specs.declared.fault.ModuleWhy.{ModuleWhy}
 use Rattle.wasm_module.specs.declared.module.ModuleParts.{ModuleParts}
 use Rattle.wasm_reader.specs.Binary.{IsModule, IsRefused}
 

@@ -1,8 +1,6 @@
 pub mod Binary
-pub mod Bodies
+pub mod Code
 pub mod Examples
-pub mod Instrs
 pub mod Items
 pub mod Laws
-pub mod Parts
 pub mod Together

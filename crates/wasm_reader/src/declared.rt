@@ -3,8 +3,8 @@
 use crate::parted::Parted;
 use ca_base::{Placed, Seq};
 use wasm_module::{
-    Body, ConstInstr, DataPlaces, DataSegment, ElementPlaces, ElementSegment, Export, Func,
-    FuncPlaces, FuncType, Global, GlobalPlaces, Import, MemoryType, TableType,
+    DataPlaces, DataSegment, ElementPlaces, ElementSegment, Export, Func, FuncPlaces, FuncType,
+    Global, GlobalPlaces, Import, MemoryType, TableType,
 };
 
 /// A function as the function section declares it.
@@ -14,20 +14,6 @@ pub(crate) struct DeclaredFunc {
     pub type_index: u32,
     /// The place of that index.
     pub place: usize,
-}
-
-/// A body, and the place of each of its operations.
-#[derive(Drop)]
-pub(crate) struct PlacedBody {
-    pub body: Body,
-    pub ops: Seq<usize>,
-}
-
-/// A constant expression without its end, and the place of each instruction and of the end.
-#[derive(Drop)]
-pub(crate) struct PlacedConst {
-    pub instrs: Seq<ConstInstr>,
-    pub places: Seq<usize>,
 }
 
 /// What the sections of types, imports and functions declare.

@@ -6,9 +6,8 @@ ghost use Rattle.wasm_reader.specs.Items.{import_of, export_of};
 use crate::declared::DeclaredFunc;
 use ca_base::{Kind, Name, ReadError, Refusal, Window};
 use std::alloc::Global;
-use wasm_module::{
-    Export, ExportDesc, GlobalTypes, Import, ImportDesc, Memories, ModuleWhy, Tables, refused_byte,
-};
+use wasm_code_reader::{GlobalTypes, Memories, ModuleWhy, Tables, refused_byte};
+use wasm_module::{Export, ExportDesc, Import, ImportDesc};
 
 /// Reads what an import asks for.
 #[tactic(auto, unfolding(crate::specs::Items::import_of))]
@@ -20,23 +19,13 @@ fn read_import_of(
 {
     let place = window.at();
     let kind = window.byte()?;
-    if kind == 0 {
-        let index = window.u32()?;
-        return Ok(ImportDesc::Func(index));
+    match kind {
+        0 => Ok(ImportDesc::Func(window.u32()?)),
+        1 => Ok(ImportDesc::Table(Tables::read(alloc, window)?)),
+        2 => Ok(ImportDesc::Memory(Memories::read(alloc, window)?)),
+        3 => Ok(ImportDesc::Global(GlobalTypes::read(alloc, window)?)),
+        _ => Err(ReadError::Fault(refused_byte(false, place, kind))),
     }
-    if kind == 1 {
-        let table_type = Tables::read(alloc, window)?;
-        return Ok(ImportDesc::Table(table_type));
-    }
-    if kind == 2 {
-        let memory_type = Memories::read(alloc, window)?;
-        return Ok(ImportDesc::Memory(memory_type));
-    }
-    if kind == 3 {
-        let global_type = GlobalTypes::read(alloc, window)?;
-        return Ok(ImportDesc::Global(global_type));
-    }
-    Err(ReadError::Fault(refused_byte(false, place, kind)))
 }
 
 /// Reads what an export offers.
@@ -46,23 +35,13 @@ fn read_export_of(window: &mut Window<ModuleWhy>) -> Result<ExportDesc, Refusal<
 {
     let place = window.at();
     let kind = window.byte()?;
-    if kind == 0 {
-        let index = window.u32()?;
-        return Ok(ExportDesc::Func(index));
+    match kind {
+        0 => Ok(ExportDesc::Func(window.u32()?)),
+        1 => Ok(ExportDesc::Table(window.u32()?)),
+        2 => Ok(ExportDesc::Memory(window.u32()?)),
+        3 => Ok(ExportDesc::Global(window.u32()?)),
+        _ => Err(refused_byte(false, place, kind)),
     }
-    if kind == 1 {
-        let index = window.u32()?;
-        return Ok(ExportDesc::Table(index));
-    }
-    if kind == 2 {
-        let index = window.u32()?;
-        return Ok(ExportDesc::Memory(index));
-    }
-    if kind == 3 {
-        let index = window.u32()?;
-        return Ok(ExportDesc::Global(index));
-    }
-    Err(refused_byte(false, place, kind))
 }
 
 /// Imports (Core 2.0, section 5.5.5).

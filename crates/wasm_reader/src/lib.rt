@@ -4,21 +4,16 @@
 //! first place at which they leave the format, with the reason. Only want of memory keeps it from either.
 //!
 //! - `reading`: the reading of a module
-//! - `instrs`, `consts`, `items`, `segments`, `bodies`, `sections` and `whole`: a function or a kind for
-//!   each item of the format
-//! - `declared`, `parted` and `parts`: what is read of a module before its tree is made, parts with their places, and the
-//!   parts of a body that are open while it is read
+//! - `items`, `segments`, `code`, `sections` and `whole`: a function or a kind for each item of the format
+//! - `declared` and `parted`: what is read of a module before its tree is made, and parts with their places
 //! - `laws`: that bytes are one module, or are refused in one way
 #![tactic(auto)]
 
-mod bodies;
-mod consts;
+mod code;
 mod declared;
-mod instrs;
 mod items;
 pub mod laws;
 mod parted;
-mod parts;
 mod reading;
 mod sections;
 mod segments;

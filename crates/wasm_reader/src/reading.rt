@@ -3,7 +3,7 @@
 ghost use Rattle.std.specs.Prelude.{◌≡◌, ◌<◌, ◌+◌, ◌^◌, length, IfOk, IfErr};
 ghost use Rattle.ca_base.specs.Grammar.{MayRead};
 ghost use Rattle.ca_base.specs.declared.refusal.Refusal.{Refusal};
-ghost use Rattle.wasm_module.specs.declared.fault.ModuleWhy.{ModuleWhy};
+ghost use Rattle.wasm_code_reader.specs.declared.fault.ModuleWhy.{ModuleWhy};
 ghost use Rattle.wasm_module.specs.declared.module.ModuleParts.{ModuleParts};
 ghost use Rattle.ca_base.specs.declared.memory.MemoryOr.TheVariants.{Memory, Fault};
 ghost use Rattle.wasm_reader.specs.Binary.{the_module, file, file_end, IsModule, IsRefused};
@@ -11,7 +11,8 @@ ghost use Rattle.wasm_reader.specs.Binary.{the_module, file, file_end, IsModule,
 use crate::whole::read_the_module;
 use ca_base::{ReadError, Window};
 use std::alloc::Global;
-use wasm_module::{Module, ModuleWhy};
+use wasm_code_reader::ModuleWhy;
+use wasm_module::Module;
 
 /// Reads the bytes of a core module, whose first byte stands at the place `base` of its file.
 ///

@@ -4,21 +4,20 @@ ghost use Rattle.std.specs.Prelude.{◌≡◌, ◌&&◌, length, unwrap_or, IfOk
 ghost use Rattle.std.specs.Option.{option_map};
 ghost use Rattle.ca_base.specs.Grammar.{Reads, MayRead};
 ghost use Rattle.ca_base.specs.Items.{sized, custom, u32 as number};
-ghost use Rattle.wasm_module.specs.Reasons.{numbers, reasons};
+ghost use Rattle.wasm_code_reader.specs.Reasons.{numbers, reasons};
 ghost use Rattle.wasm_reader.specs.Items.{data_payload};
-ghost use Rattle.wasm_reader.specs.Bodies.{code_payload};
+ghost use Rattle.wasm_reader.specs.Code.{code_payload};
 ghost use Rattle.wasm_reader.specs.Binary.{customs, payload, items, declarations, definitions, uses, module_end, is_there, ends, contents};
 
-use crate::bodies::Declared;
+use crate::code::Declared;
 use crate::declared::{Contents, Declarations, DeclaredFunc, Definitions, Uses};
-use crate::instrs::Indices;
 use crate::items::{DeclaredFuncs, Exports, Imports};
 use crate::segments::{DataCount, Elements, Globals};
 use ca_base::{
     Kind, KindOf, PlacedOf, ReadError, Refusal, Seq, VecOf, Window, read_section, read_sized_of,
 };
 use std::alloc::Global;
-use wasm_module::{FuncTypes, Memories, ModuleWhy, Tables, refused_byte};
+use wasm_code_reader::{FuncTypes, Indices, Memories, ModuleWhy, Tables, refused_byte};
 
 /// Skips custom sections.
 #[tactic(auto, unfolding(crate::specs::Binary::customs), using(crate::proofs::Customs::customs_none, crate::proofs::Customs::customs_stop, crate::proofs::Customs::customs_go, crate::proofs::Customs::customs_short, crate::proofs::Customs::customs_refused))]

@@ -4,17 +4,13 @@ ghost use Rattle.std.specs.Prelude.{◌≡◌};
 ghost use Rattle.ca_base.specs.Grammar.{Reads, MayRead};
 ghost use Rattle.wasm_reader.specs.Items.{target, element_kind, byte_vec, differs_from, data_payload};
 
-use crate::consts::read_const_expr;
-use crate::instrs::Indices;
 use crate::parted::Parted;
 use ca_base::{
     Bytes, Kind, KindOf, PlacedOf, ReadError, Refusal, Seq, Window, apart, read_times, read_vec,
 };
 use std::alloc::Global as Heap;
-use wasm_module::{
-    DataPlaces, DataSegment, ElementPlaces, ElementSegment, Global, GlobalPlaces, GlobalTypes,
-    ModuleWhy, refused_byte,
-};
+use wasm_code_reader::{GlobalTypes, Indices, ModuleWhy, read_const_expr, refused_byte};
+use wasm_module::{DataPlaces, DataSegment, ElementPlaces, ElementSegment, Global, GlobalPlaces};
 
 /// Globals (Core 2.0, section 5.5.9).
 pub(crate) struct Globals;
@@ -57,14 +53,11 @@ fn read_target(window: &mut Window<ModuleWhy>) -> Result<Option<u32>, Refusal<Mo
     let place = window.at();
     let first = window.next().unwrap_or(0);
     let kind = window.u32()?;
-    if kind == 0 {
-        return Ok(None);
+    match kind {
+        0 => Ok(None),
+        2 => Ok(Some(window.u32()?)),
+        _ => Err(refused_byte(false, place, first)),
     }
-    if kind == 2 {
-        let index = window.u32()?;
-        return Ok(Some(index));
-    }
-    Err(refused_byte(false, place, first))
 }
 
 /// Reads the byte that tells that elements are functions, where the kind of their segment has one.

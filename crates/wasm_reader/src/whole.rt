@@ -11,10 +11,10 @@ use crate::parted::parts_and_places;
 use crate::sections::{read_contents, read_declarations, read_definitions, read_uses};
 use ca_base::{Placed, ReadError, Seq, Window, apart};
 use std::alloc::{AllocError, Global};
+use wasm_code_reader::ModuleWhy;
 use wasm_module::{
     DataPlaces, DataSegment, ElementPlaces, ElementSegment, Export, Func, FuncPlaces, FuncType,
-    GlobalPlaces, Import, MemoryType, Module, ModuleParts, ModulePlaces, ModuleTree, ModuleWhy,
-    TableType,
+    GlobalPlaces, Import, MemoryType, Module, ModuleParts, ModulePlaces, ModuleTree, TableType,
 };
 
 /// The preamble of a module: its magic number and its version.

@@ -4,10 +4,10 @@ use Rattle.std.specs.Prelude.{is_some}
 use Rattle.std.proofs.lemmas.List.{reverse-append, length-reverse, length-drop}
 use Rattle.wasm_module.specs.declared.types.ValType.{ValType}
 use Rattle.wasm_module.specs.declared.types.ValType.TheVariants.{I32}
-use Rattle.wasm_valid.specs.Context.{arrow}
-use Rattle.wasm_valid.specs.Typing.{Operands, operands_of}
-use Rattle.wasm_valid.specs.Checking.{Known, known, control, if_so, may_be, taken, taken_all, given, turned}
-use Rattle.wasm_valid.specs.declared.block.OpenBlock.{OpenBlock}
+use Rattle.wasm_typing.specs.Context.{arrow}
+use Rattle.wasm_typing.specs.Typing.{Operands, operands_of}
+use Rattle.wasm_typing.specs.Checking.{Known, known, control, if_so, may_be, taken, taken_all, given, turned}
+use Rattle.wasm_valid.specs.declared.open_block.OpenBlock.{OpenBlock}
 use Rattle.wasm_valid.specs.State.{State, Turned, with_top, top_of, seen}
 use Rattle.wasm_valid.proofs.Stacks.{top_kept, under_kept}
 
@@ -98,7 +98,7 @@ taken_off_in b around os new ts left within e f h =
     ap (λ (os : Operands). reverse (drop b.height os)) f ∙ top_kept b.height (length (reverse ts)) left os within n in
     let under : take b.height new ≡ take b.height os = ap (take b.height) f ∙ under_kept b.height left os in
     let both : (top_of b new, seen (reverse around) (take b.height new)) ≡ with_top (known (drop (length (reverse ts)) (reverse (drop b.height os))) b.any) (top_of b os, seen (reverse around) (take b.height os)) =
-    ap₂ (λ (types under : Operands). (let s : State = (control b.part b.block_type (known types b.any), seen (reverse around) under) in s)) kept under in
+    ap₂ (λ (types under : Operands). (let s : State = (control b.kind b.block_type (known types b.any), seen (reverse around) under) in s)) kept under in
     subst (λ (o : Option Known). Turned o true (top_of b os, seen (reverse around) (take b.height os)) (top_of b new, seen (reverse around) (take b.height new)))
     (sym (left_is (reverse ts) (reverse (drop b.height os)) b.any h)) (refl, both)
 

@@ -1,11 +1,11 @@
 -- The check, item by item.
 use Rattle.std.proofs.Common.{◌≡◌, ◌<◌, ◌≤◌, ◌+◌, ℕ, zero, suc, List, [], ◌∷◌, length, get_or, drop, refl, ap, sym, ◌∙◌, Some, None, Option, arith, add-one, drop-cons}
 use Rattle.wasm_module.specs.declared.instr.Op.{Op}
-use Rattle.wasm_valid.specs.declared.why.ValidWhy.{ValidWhy}
-use Rattle.wasm_valid.specs.declared.fault.PartFault.{PartFault}
+use Rattle.wasm_typing.specs.declared.why.ValidWhy.{ValidWhy}
+use Rattle.wasm_typing.specs.declared.fault.PartFault.{PartFault}
 use Rattle.wasm_valid.specs.declared.body.Stepped.TheVariants.{Stops, Goes, Ends}
-use Rattle.wasm_valid.specs.Context.{Context}
-use Rattle.wasm_valid.specs.Checking.{Control, step, part_fault, later, why_of, fault_on, first_fault}
+use Rattle.wasm_typing.specs.Context.{Context}
+use Rattle.wasm_typing.specs.Checking.{Control, step, part_fault, later, why_of, fault_on, first_fault}
 use Rattle.wasm_valid.specs.State.{State, all_of, Closed}
 
 abbrev pub shifted : ℕ → Option PartFault → Option PartFault

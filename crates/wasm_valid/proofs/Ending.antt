@@ -2,12 +2,12 @@
 use Rattle.std.proofs.Common.{◌≡◌, Bool, true, false, List, [], ◌∷◌, ◌++◌, reverse, refl, ap, ap₂, sym, ◌∙◌, subst, Some, None, Option, append-nil}
 use Rattle.wasm_module.specs.declared.types.ValType.{ValType}
 use Rattle.wasm_module.specs.declared.instr.BlockType.{BlockType}
-use Rattle.wasm_valid.specs.declared.block.Part.{Part}
-use Rattle.wasm_valid.specs.declared.block.Part.TheVariants as part
+use Rattle.wasm_typing.specs.declared.block.BlockKind.{BlockKind}
+use Rattle.wasm_typing.specs.declared.block.BlockKind.TheVariants as block
 use Rattle.wasm_valid.specs.declared.body.Stepped.TheVariants.{Stops, Goes, Ends}
-use Rattle.wasm_valid.specs.Context.{Context, params, results}
-use Rattle.wasm_valid.specs.Typing.{Operands, operands_of}
-use Rattle.wasm_valid.specs.Checking.{Known, known, Control, control, knowing, begun, closed_in, if_empty, if_bare, ended, may_end, second_part, if_may, taken_all}
+use Rattle.wasm_typing.specs.Context.{Context, params, results}
+use Rattle.wasm_typing.specs.Typing.{Operands, operands_of}
+use Rattle.wasm_typing.specs.Checking.{Known, known, Control, control, knowing, begun, closed_in, if_empty, if_bare, ended, may_end, second_part, if_may, taken_all}
 use Rattle.wasm_valid.specs.State.{State, Empty, Bare, with_top, GoesOn, Closed, Left, LeftFor}
 
 empty_is : (os : Operands) (s t : State) → Empty os true s t → (os ≡ []) × (t ≡ s)
@@ -50,21 +50,21 @@ none_left o s t h = (all_taken o s t h).none
 abbrev Results : Context → State → Option Known
 Results c s = taken_all (reverse (results c.types s.0.type)) (Some s.0.known)
 
-else_is : (c : Context) (s : State) → s.0.kind ≡ part.If → second_part c s.0.kind s.0 s.1 ≡ if_bare (Results c s) (begun c part.Block s.0.type ∷ s.1)
-else_is c s e = ap (λ (k : Part). second_part c k s.0 s.1) e
+else_is : (c : Context) (s : State) → s.0.kind ≡ block.If → second_part c s.0.kind s.0 s.1 ≡ if_bare (Results c s) (begun c block.Block s.0.type ∷ s.1)
+else_is c s e = ap (λ (k : BlockKind). second_part c k s.0 s.1) e
 
-pub else_stops : (c : Context) (s t u : State) → s.0.kind ≡ part.If → Bare (Results c s) false s t → GoesOn (second_part c s.0.kind s.0 s.1) false u
-else_stops c s t u e h = subst (λ (o : Option (List Control)). GoesOn o false u) (sym (else_is c s e ∙ not_taken (Results c s) s t (begun c part.Block s.0.type ∷ s.1) h)) refl
+pub else_stops : (c : Context) (s t u : State) → s.0.kind ≡ block.If → Bare (Results c s) false s t → GoesOn (second_part c s.0.kind s.0 s.1) false u
+else_stops c s t u e h = subst (λ (o : Option (List Control)). GoesOn o false u) (sym (else_is c s e ∙ not_taken (Results c s) s t (begun c block.Block s.0.type ∷ s.1) h)) refl
 
-pub else_goes : (c : Context) (s t u v : State) (ps : List ValType) → s.0.kind ≡ part.If → Bare (Results c s) true s t → u ≡ (control part.Block t.0.type (known [] false), t.1) → ps ≡ params c.types t.0.type → v ≡ with_top (known (operands_of ps ++ u.0.known.types) u.0.known.any) u → GoesOn (second_part c s.0.kind s.0 s.1) true v
+pub else_goes : (c : Context) (s t u v : State) (ps : List ValType) → s.0.kind ≡ block.If → Bare (Results c s) true s t → u ≡ (control block.Block t.0.type (known [] false), t.1) → ps ≡ params c.types t.0.type → v ≡ with_top (known (operands_of ps ++ u.0.known.types) u.0.known.any) u → GoesOn (second_part c s.0.kind s.0 s.1) true v
 else_goes c s t u v ps e h begins p more =
     let a = all_taken (Results c s) s t h in
-    let made : v ≡ (begun c part.Block s.0.type, s.1) =
+    let made : v ≡ (begun c block.Block s.0.type, s.1) =
     more
     ∙ ap (λ (u : State). with_top (known (operands_of ps ++ u.0.known.types) u.0.known.any) u) begins
-    ∙ ap (λ (os : Operands). (let s : State = (control part.Block t.0.type (known os false), t.1) in s)) (append-nil (operands_of ps) ∙ ap operands_of p)
-    ∙ ap₂ (λ (type : BlockType) (fs : List Control). (let s : State = (begun c part.Block type, fs) in s)) a.type a.around in
-    subst (λ (o : Option (List Control)). GoesOn o true v) (sym (else_is c s e ∙ a.bare (begun c part.Block s.0.type ∷ s.1))) (refl, made)
+    ∙ ap (λ (os : Operands). (let s : State = (control block.Block t.0.type (known os false), t.1) in s)) (append-nil (operands_of ps) ∙ ap operands_of p)
+    ∙ ap₂ (λ (type : BlockType) (fs : List Control). (let s : State = (begun c block.Block type, fs) in s)) a.type a.around in
+    subst (λ (o : Option (List Control)). GoesOn o true v) (sym (else_is c s e ∙ a.bare (begun c block.Block s.0.type ∷ s.1))) (refl, made)
 
 -- the end of a block
 abbrev Closing : Context → State → Option (List Control)

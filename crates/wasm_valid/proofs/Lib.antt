@@ -1,15 +1,4 @@
 pub mod Accepting
-pub mod Deciding
 pub mod Driving
 pub mod Ending
-pub mod Knowing
-pub mod Law
-pub mod Listed
-pub mod Names
-pub mod Options
-pub mod Placing
-pub mod Sections
-pub mod Singles
 pub mod Stacks
-pub mod Steps
-pub mod Trees

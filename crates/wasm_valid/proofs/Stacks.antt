@@ -9,12 +9,12 @@ use Rattle.std.proofs.lemmas.Option.{slice_get-map, slice_get-get_or, slice_get_
 use Rattle.std.proofs.Math.Seq.{drop-append_seam}
 use Rattle.wasm_module.specs.declared.types.ValType.{ValType}
 use Rattle.wasm_module.specs.declared.instr.BlockType.{BlockType}
-use Rattle.wasm_valid.specs.declared.block.Part.{Part}
-use Rattle.wasm_valid.specs.declared.block.OpenBlock.{OpenBlock}
-use Rattle.wasm_valid.specs.Context.{Context}
-use Rattle.wasm_valid.specs.Typing.{Operands, operands_of}
-use Rattle.wasm_valid.specs.Faults.{label_of}
-use Rattle.wasm_valid.specs.Checking.{Control, labels_in}
+use Rattle.wasm_typing.specs.declared.block.BlockKind.{BlockKind}
+use Rattle.wasm_valid.specs.declared.open_block.OpenBlock.{OpenBlock}
+use Rattle.wasm_typing.specs.Context.{Context}
+use Rattle.wasm_typing.specs.Typing.{Operands, operands_of}
+use Rattle.wasm_typing.specs.Faults.{label_of}
+use Rattle.wasm_typing.specs.Checking.{Control, labels_in}
 use Rattle.wasm_valid.specs.State.{State, seen, top_of, all_of, kinds, LeftFor, Left}
 
 length_reverse : (xs : Operands) → reverse xs ≡ [] → length xs ≡ 0
@@ -43,10 +43,10 @@ leaves b top old new os s is none around =
     subst (λ (cs : List Control). LeftFor cs true (top_of top os, seen (reverse new) (take top.height os))) (sym under) (refl, refl)
 
 abbrev Kind : Type 0
-Kind = Part × BlockType
+Kind = BlockKind × BlockType
 
 abbrev kind_of : OpenBlock → Kind
-kind_of b = (b.part, b.block_type)
+kind_of b = (b.kind, b.block_type)
 
 kinds_seen : (bs : List OpenBlock) (os : Operands) → kinds (seen bs os) ≡ map kind_of bs
 kinds_seen [] os = refl
@@ -82,7 +82,7 @@ label_at c fs depth = ap (λ (ls : List (List ValType)). slice_get ls depth) (la
 pub label_none : (c : Context) (fs : List Control) (depth : ℕ) → None ≡ slice_get (kinds fs) depth → None ≡ slice_get (labels_in c fs) depth
 label_none c fs depth e = sym (label_at c fs depth ∙ ap (option_map (λ (k : Kind). label_of c k.0 k.1)) (sym e))
 
-pub label_some : (c : Context) (fs : List Control) (depth : ℕ) (kind : Part) (type : BlockType) → Some (kind, type) ≡ slice_get (kinds fs) depth → Some (label_of c kind type) ≡ slice_get (labels_in c fs) depth
+pub label_some : (c : Context) (fs : List Control) (depth : ℕ) (kind : BlockKind) (type : BlockType) → Some (kind, type) ≡ slice_get (kinds fs) depth → Some (label_of c kind type) ≡ slice_get (labels_in c fs) depth
 label_some c fs depth kind type e = sym (label_at c fs depth ∙ ap (option_map (λ (k : Kind). label_of c k.0 k.1)) (sym e))
 
 take_one : (types : List ValType) (at : ℕ) (t d : ValType) → t ≡ get_or types at d → at < length types → take (at + 1) types ≡ take at types ++ t ∷ []

@@ -1,11 +1,1 @@
-pub mod Checking
-pub mod Context
-pub mod Faults
-pub mod Finding
-pub mod Instrs
-pub mod Items
-pub mod Laws
-pub mod Modules
 pub mod State
-pub mod Typing
-pub mod Untyped

@@ -2,16 +2,16 @@
 use Rattle.std.specs.Prelude.{◌≡◌, ◌≤◌, ℕ, Bool, true, false, List, [], ◌∷◌, reverse, take, drop, Option, Some, None}
 use Rattle.wasm_module.specs.declared.types.ValType.{ValType}
 use Rattle.wasm_module.specs.declared.instr.BlockType.{BlockType}
-use Rattle.wasm_valid.specs.declared.block.Part.{Part}
-use Rattle.wasm_valid.specs.declared.block.OpenBlock.{OpenBlock}
+use Rattle.wasm_typing.specs.declared.block.BlockKind.{BlockKind}
+use Rattle.wasm_valid.specs.declared.open_block.OpenBlock.{OpenBlock}
 use Rattle.wasm_module.specs.declared.types.FuncType.{FuncType}
 use Rattle.wasm_valid.specs.declared.stacking.Access.{Access}
 use Rattle.wasm_valid.specs.declared.stacking.Access.TheVariants.{Get, Set, Tee}
-use Rattle.wasm_valid.specs.Context.{Context, arrow}
-use Rattle.wasm_valid.specs.Typing.{Operands, no_type}
+use Rattle.wasm_typing.specs.Context.{Context, arrow}
+use Rattle.wasm_typing.specs.Typing.{Operands, no_type}
 use Rattle.wasm_valid.specs.declared.body.Stepped.{Stepped}
 use Rattle.wasm_valid.specs.declared.body.Stepped.TheVariants.{Stops, Goes, Ends}
-use Rattle.wasm_valid.specs.Checking.{Known, known, Control, control, knowing, opened_where, begun}
+use Rattle.wasm_typing.specs.Checking.{Known, known, Control, control, knowing, opened_where, begun}
 
 abbrev pub State : Type 0
 State = Control × List Control
@@ -21,7 +21,7 @@ abbrev pub all_of : State → List Control
 all_of s = s.0 ∷ s.1
 
 abbrev pub top_of : OpenBlock → Operands → Control
-top_of b os = control b.part b.block_type (known (reverse (drop b.height os)) b.any)
+top_of b os = control b.kind b.block_type (known (reverse (drop b.height os)) b.any)
 
 -- open blocks, the innermost first, over the operands of all, the last one last
 abbrev pub seen : List OpenBlock → Operands → List Control
@@ -47,7 +47,7 @@ Popped None found s t = found ≡ None
 Popped (Some p) found s t = (found ≡ Some p.0) × (t ≡ with_top p.1 s)
 
 -- what each open block is, and its type
-abbrev pub kinds : List Control → List (Part × BlockType)
+abbrev pub kinds : List Control → List (BlockKind × BlockType)
 kinds [] = []
 kinds (c ∷ cs) = (c.kind, c.type) ∷ kinds cs
 
@@ -73,7 +73,7 @@ GoesOn (Some []) passed t = ⊥
 GoesOn (Some (c ∷ cs)) passed t = (passed ≡ true) × (t ≡ (c, cs))
 
 -- what is known where a block of a type was opened
-abbrev pub opened_in : Context → Part → BlockType → Control → List Control → Option Known → Option (List Control)
+abbrev pub opened_in : Context → BlockKind → BlockType → Control → List Control → Option Known → Option (List Control)
 opened_in c kind type f fs k = opened_where (no_type c type) (begun c kind type) f fs k
 
 -- Some operands are taken and none is left.

@@ -2,15 +2,14 @@
 //! "Validation Algorithm").
 
 ghost use Rattle.std.specs.Prelude.{◌≡◌, ◌∷◌, IfOk, reverse, Some};
-ghost use Rattle.wasm_valid.specs.Checking.{step, taken_all, may_end, second_part};
-ghost use Rattle.wasm_valid.specs.Context.{params, results};
+ghost use Rattle.wasm_typing.specs.Checking.{step, taken_all, may_end, second_part};
+ghost use Rattle.wasm_typing.specs.Context.{params, results};
 ghost use Rattle.wasm_valid.specs.State.{all_of, GoesOn, Closed, Bare, opened_in};
 
-use crate::block::Part;
 use crate::checker::Checker;
-use crate::context::Context;
 use std::alloc::AllocError;
 use wasm_module::{BlockType, Op, ValType, are_same};
+use wasm_typing::{BlockKind, Context};
 
 /// What an item of flat code leads to.
 #[derive(Clone, Copy)]
@@ -28,10 +27,10 @@ impl Checker {
     fn enter(
         &mut self,
         context: &Context,
-        part: Part,
+        kind: BlockKind,
         block_type: BlockType,
     ) -> Result<bool, AllocError>
-        ensures { IfOk result (λ passed. GoesOn (opened_in context.now part block_type self.old.0 self.old.1 (taken_all (reverse (params context.now.types block_type)) (Some self.old.0.known))) passed self.new) }
+        ensures { IfOk result (λ passed. GoesOn (opened_in context.now kind block_type self.old.0 self.old.1 (taken_all (reverse (params context.now.types block_type)) (Some self.old.0.known))) passed self.new) }
     {
         if context.has_no_type(block_type) {
             return Ok(false);
@@ -40,14 +39,14 @@ impl Checker {
         if !self.take_all(params) {
             return Ok(false);
         }
-        self.open(part, block_type)?;
+        self.open(kind, block_type)?;
         self.push_all(params)?;
         Ok(true)
     }
 
     /// Opens an `if` of a type, which takes an `i32` above its parameters.
     fn enter_if(&mut self, context: &Context, block_type: BlockType) -> Result<bool, AllocError>
-        ensures { IfOk result (λ passed. GoesOn (opened_in context.now Part.If block_type self.old.0 self.old.1 (taken_all (ValType.I32 ∷ reverse (params context.now.types block_type)) (Some self.old.0.known))) passed self.new) }
+        ensures { IfOk result (λ passed. GoesOn (opened_in context.now BlockKind.If block_type self.old.0 self.old.1 (taken_all (ValType.I32 ∷ reverse (params context.now.types block_type)) (Some self.old.0.known))) passed self.new) }
     {
         if context.has_no_type(block_type) {
             return Ok(false);
@@ -55,7 +54,7 @@ impl Checker {
         if !self.take(ValType::I32) {
             return Ok(false);
         }
-        Ok(self.enter(context, Part::If, block_type)?)
+        Ok(self.enter(context, BlockKind::If, block_type)?)
     }
 
     /// Takes the results of the innermost block, which are to be all its operands.
@@ -73,7 +72,7 @@ impl Checker {
     fn enter_else(&mut self, context: &Context) -> Result<bool, AllocError>
         ensures { IfOk result (λ passed. GoesOn (second_part context.now self.old.0.kind self.old.0 self.old.1) passed self.new) }
     {
-        let Part::If = self.part() else {
+        let BlockKind::If = self.kind() else {
             return Ok(false);
         };
         if !self.finish(context) {
@@ -90,9 +89,9 @@ impl Checker {
         ensures { result ≡ may_end context.now self.now.0.kind self.now.0.type }
     {
         let block_type = self.block_type();
-        match self.part() {
-            Part::Block | Part::Loop => true,
-            Part::If => are_same(context.params(block_type), context.results(block_type)),
+        match self.kind() {
+            BlockKind::Block | BlockKind::Loop => true,
+            BlockKind::If => are_same(context.params(block_type), context.results(block_type)),
         }
     }
 
@@ -120,8 +119,8 @@ impl Checker {
     {
         let passed = match op {
             Op::Plain(instr) => self.apply(context, instr)?,
-            Op::OpenBlock(block_type) => self.enter(context, Part::Block, *block_type)?,
-            Op::OpenLoop(block_type) => self.enter(context, Part::Loop, *block_type)?,
+            Op::OpenBlock(block_type) => self.enter(context, BlockKind::Block, *block_type)?,
+            Op::OpenLoop(block_type) => self.enter(context, BlockKind::Loop, *block_type)?,
             Op::OpenIf(block_type) => self.enter_if(context, *block_type)?,
             Op::Else => self.enter_else(context)?,
             Op::End => return Ok(self.close(context)?),

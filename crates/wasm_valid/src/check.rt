@@ -2,41 +2,31 @@
 
 ghost use Rattle.std.specs.Prelude.{◌≡◌, IfOk, IfErr, Some};
 ghost use Rattle.ca_base.specs.Faults.{IfFault, MayFind};
-ghost use Rattle.wasm_valid.specs.Finding.{first_fault, untyped};
-ghost use Rattle.wasm_valid.specs.Modules.{Typed};
-ghost use Rattle.wasm_valid.specs.Untyped.{Untyped};
+ghost use Rattle.wasm_typing.specs.Finding.{first_fault, untyped};
+ghost use Rattle.wasm_typing.specs.Modules.{Typed};
+ghost use Rattle.wasm_typing.specs.Untyped.{Untyped};
 
 use crate::codes::CodeRule;
-use crate::fault::{Fault, ValidFault};
-use crate::items::{
-    DataRule, ElementRule, GlobalRule, ImportRule, MemoryRule, TableRule, TypeRule, check_exports,
-    check_start,
-};
-use crate::place::told;
-use crate::valid::Valid;
 use ca_base::{MemoryOr, check_all};
 use std::alloc::Global;
 use wasm_module::{Module, ModuleParts, ModuleTree, Space};
+use wasm_typing::{Fault, Valid, ValidFault, check_each, check_exports, check_start, told};
 
 /// Looks for the first fault of a module, section by section.
 fn check_items(alloc: Global, space: &Space) -> Result<(), MemoryOr<Fault>>
     ensures { MayFind (first_fault space.now) result }
 {
     let tree = space.tree();
-    check_all(alloc, &ImportRule { space }, tree.imports.as_slice())?;
-    check_all(alloc, &TypeRule { space }, tree.funcs.as_slice())?;
-    check_all(alloc, &TableRule { space }, tree.tables.as_slice())?;
-    check_all(alloc, &MemoryRule { space }, tree.memories.as_slice())?;
-    check_all(alloc, &GlobalRule { space }, tree.globals.as_slice())?;
+    check_each(alloc, space, tree.imports.as_slice())?;
+    check_each(alloc, space, tree.funcs.as_slice())?;
+    check_each(alloc, space, tree.tables.as_slice())?;
+    check_each(alloc, space, tree.memories.as_slice())?;
+    check_each(alloc, space, tree.globals.as_slice())?;
     check_exports(alloc, space, tree.exports.as_slice())?;
     check_start(space, tree.start)?;
-    check_all(
-        alloc,
-        &ElementRule { space },
-        tree.element_segments.as_slice(),
-    )?;
+    check_each(alloc, space, tree.element_segments.as_slice())?;
     check_all(alloc, &CodeRule { space }, tree.funcs.as_slice())?;
-    check_all(alloc, &DataRule { space }, tree.data_segments.as_slice())?;
+    check_each(alloc, space, tree.data_segments.as_slice())?;
     Ok(())
 }
 

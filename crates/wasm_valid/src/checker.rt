@@ -3,16 +3,16 @@
 ghost use Rattle.std.specs.Prelude.{◌≡◌, ◌∷◌, [], ◌++◌, true, false, length, reverse, OnOk, IfOk, is_some, Some, None};
 ghost use Rattle.std.specs.List.{slice_get};
 ghost use Rattle.std.specs.Option.{option_map};
-ghost use Rattle.wasm_valid.specs.Typing.{operands_of};
-ghost use Rattle.wasm_valid.specs.Context.{arrow};
-ghost use Rattle.wasm_valid.specs.Checking.{known, control, may_be, taken, taken_all, turned, anything, popped, labels_in, too_short};
+ghost use Rattle.wasm_typing.specs.Typing.{operands_of};
+ghost use Rattle.wasm_typing.specs.Context.{arrow};
+ghost use Rattle.wasm_typing.specs.Checking.{known, control, may_be, taken, taken_all, turned, anything, popped, labels_in, too_short};
 ghost use Rattle.wasm_valid.specs.State.{Turned, Popped, Left, with_top, all_of, kinds};
 
-use crate::block::{OpenBlock, Part};
-use crate::context::Context;
+use crate::open_block::OpenBlock;
 use std::alloc::{AllocError, Global};
 use std::marker::Model;
 use wasm_module::{BlockType, ValType};
+use wasm_typing::{BlockKind, Context};
 
 /// What is known of the operands of open blocks. An operand of which no type is known may have any.
 #[derive(Drop)]
@@ -36,11 +36,11 @@ impl Model for Checker {
 impl Checker {
     /// A checker of a body of this type.
     pub fn new(alloc: Global, block_type: BlockType) -> Self
-        ensures { result ≡ (control Part.Block block_type (known [] false), []) }
+        ensures { result ≡ (control BlockKind.Block block_type (known [] false), []) }
     {
         Checker {
             top: OpenBlock {
-                part: Part::Block,
+                kind: BlockKind::Block,
                 block_type,
                 height: 0,
                 any: false,
@@ -51,10 +51,10 @@ impl Checker {
     }
 
     /// What the innermost block is.
-    pub fn part(&self) -> Part
+    pub fn kind(&self) -> BlockKind
         ensures { result ≡ self.now.0.kind }
     {
-        self.top.part
+        self.top.kind
     }
 
     /// The type of the innermost block.
@@ -190,13 +190,13 @@ impl Checker {
     }
 
     /// Opens a block without operands.
-    pub fn open(&mut self, part: Part, block_type: BlockType) -> Result<(), AllocError>
-        ensures { OnOk result (self.new ≡ (control part block_type (known [] false), self.old.0 ∷ self.old.1)) }
+    pub fn open(&mut self, kind: BlockKind, block_type: BlockType) -> Result<(), AllocError>
+        ensures { OnOk result (self.new ≡ (control kind block_type (known [] false), self.old.0 ∷ self.old.1)) }
     {
         let height = self.operands.len();
         self.around.push(self.top)?;
         self.top = OpenBlock {
-            part,
+            kind,
             block_type,
             height,
             any: false,
@@ -207,9 +207,9 @@ impl Checker {
     /// Begins the second part of an `if`, whose first one has no operands left.
     pub fn begin_second(&mut self)
         requires { self.old.0.known.types ≡ [] }
-        ensures { self.new ≡ (control Part.Block self.old.0.type (known [] false), self.old.1) }
+        ensures { self.new ≡ (control BlockKind.Block self.old.0.type (known [] false), self.old.1) }
     {
-        self.top.part = Part::Block;
+        self.top.kind = BlockKind::Block;
         self.top.any = false;
     }
 
@@ -232,13 +232,13 @@ impl Checker {
     {
         match self.block_at(depth as usize) {
             None => None,
-            Some(block) => Some(context.label(block.part, block.block_type)),
+            Some(block) => Some(context.label(block.kind, block.block_type)),
         }
     }
 
     /// The open block of a number, the innermost first.
     fn block_at(&self, depth: usize) -> Option<OpenBlock>
-        ensures { option_map (λ b. (b.part, b.block_type)) result ≡ slice_get (kinds (all_of self.now)) depth }
+        ensures { option_map (λ b. (b.kind, b.block_type)) result ≡ slice_get (kinds (all_of self.now)) depth }
     {
         if depth == 0 {
             return Some(self.top);

@@ -1,12 +1,10 @@
 //! The bodies of functions, each in the context of its function (Core 2.0, section 3.4.1).
 
-use crate::context::Context;
-use crate::fault::Fault;
-use crate::items::wrong;
 use crate::walk::body_fault;
 use ca_base::{MemoryOr, Rule};
 use std::alloc::Global;
 use wasm_module::{Func, LocalTypes, Space, Spot};
+use wasm_typing::{Context, Fault};
 
 /// Bodies of functions whose types are there.
 #[derive(Drop)]
@@ -16,7 +14,7 @@ pub(crate) struct CodeRule<'a> {
 }
 
 impl<'a> Rule for CodeRule<'a> {
-    ghost use Rattle.wasm_valid.specs.Finding.{code_fault};
+    ghost use Rattle.wasm_typing.specs.Finding.{code_fault};
 
     type Item = Func;
 
@@ -42,7 +40,10 @@ impl<'a> Rule for CodeRule<'a> {
         };
         match body_fault(alloc, &context, func.type_index, &func.body)? {
             None => Ok(()),
-            Some(found) => Err(wrong(Spot::Op(before.len(), found.at), found.why)),
+            Some(found) => {
+                let spot = Spot::Op(before.len(), found.at);
+                Err(MemoryOr::Fault(Fault::at(spot, found.why)))
+            }
         }
     }
 }

@@ -2,16 +2,14 @@
 
 ghost use Rattle.std.specs.Prelude.{◌≡◌, length, [], cond};
 ghost use Rattle.std.specs.List.{list_any};
-ghost use Rattle.wasm_valid.specs.Checking.{why_of, labels_in, ends_in, second_in};
-ghost use Rattle.wasm_valid.specs.Faults.{bad_index, bad_index_in, bad_label, bad_label_in, misaligned, need, need_in, no_label};
-ghost use Rattle.wasm_valid.specs.Instrs.{numeric_type};
+ghost use Rattle.wasm_typing.specs.Checking.{why_of, labels_in, ends_in, second_in};
+ghost use Rattle.wasm_typing.specs.Faults.{bad_index, bad_index_in, bad_label, bad_label_in, misaligned, need, need_in, no_label};
+ghost use Rattle.wasm_typing.specs.Instrs.{numeric_type};
 ghost use Rattle.wasm_valid.specs.State.{all_of};
 
-use crate::block::Part;
 use crate::checker::Checker;
-use crate::context::Context;
-use crate::why::ValidWhy;
 use wasm_module::{Instr, NumericOp, Op};
+use wasm_typing::{BlockKind, Context, ValidWhy};
 
 /// Whether an instruction names something that is not there.
 fn has_bad_index(context: &Context, instr: &Instr) -> bool
@@ -177,7 +175,7 @@ impl Checker {
         let Op::End = op else {
             return false;
         };
-        let Part::If = self.part() else {
+        let BlockKind::If = self.kind() else {
             return false;
         };
         let block_type = self.block_type();

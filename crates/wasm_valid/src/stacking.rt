@@ -3,15 +3,15 @@
 ghost use Rattle.std.specs.Prelude.{◌≡◌, ◌∷◌, [], IfOk, Some};
 ghost use Rattle.std.specs.List.{slice_get};
 ghost use Rattle.std.specs.Option.{option_map};
-ghost use Rattle.wasm_valid.specs.Context.{arrow};
-ghost use Rattle.wasm_valid.specs.Instrs.{numeric_type, instr_type, select_type, unless, where_there, has_memory, func_type};
-ghost use Rattle.wasm_valid.specs.Checking.{branched, tabled, taken, selected, joined, turned, learn, labels_in, may_go, may_go_all};
+ghost use Rattle.wasm_typing.specs.Context.{arrow};
+ghost use Rattle.wasm_typing.specs.Instrs.{numeric_type, instr_type, select_type, unless, where_there, has_memory, func_type};
+ghost use Rattle.wasm_typing.specs.Checking.{branched, tabled, taken, selected, joined, turned, learn, labels_in, may_go, may_go_all};
 ghost use Rattle.wasm_valid.specs.State.{Turned, all_of, access_type};
 
 use crate::checker::Checker;
-use crate::context::Context;
 use std::alloc::AllocError;
 use wasm_module::{Instr, Mutability, NumericOp, ValType};
+use wasm_typing::Context;
 
 /// What an instruction does with a local.
 #[derive(Clone, Copy)]

@@ -9,12 +9,12 @@ use Rattle.script_reader.specs.declared.fault.ScriptFault.{ScriptFault}
 use Rattle.script_reader.specs.Script.{Script, script}
 use Rattle.wcm.specs.declared.answer.Answer.{Answer}
 use Rattle.comp_graph.specs.Graph.{Graph}
-use Rattle.comp_linking.specs.Linked.{IsLinked}
-use Rattle.comp_linking.specs.Laws.{LinkedOrRefused}
+use Rattle.link_spec.specs.Linked.{IsLinked}
+use Rattle.link_spec.specs.Laws.{LinkedOrRefused}
 use Rattle.wcm.specs.Laws.{HoldsBytes, ScriptsAreSound, OneOutcome}
 use Rattle.canonical_machine.specs.Sound.{AreBytes}
 use Rattle.canonical_machine.specs.Ending.{EachRunEnds}
-use Rattle.linked_graphs.specs.Laws.{LinkedGraphsAreApart}
+use Rattle.graph_laws.specs.Laws.{LinkedGraphsAreApart}
 use Rattle.command_words.specs.Words.{Command, Run, Check, Show, command_of, component_file}
 use Rattle.wcm.specs.Outcome.{component_limit, too_long, refused_answer, link_refused_answer, script_refused_answer, accepted_answer, shown_answer, run_answer, IsUsage, ScriptAnswers, LinkAnswers, FileAnswers, HeldScriptAnswers, GraphAnswers, HeldAnswers, CommandAnswers, DecidesAlone, IsScriptTold, IsCommandTold}
 use Rattle.wcm.proofs.Rows.{usage_answer}

@@ -7,11 +7,11 @@ use Rattle.ca_base.specs.Grammar.{Grammar, Matches, Refuses}
 use Rattle.ca_base.proofs.Laws.{matches_reads, refuses_reads}
 use Rattle.ca_types.specs.declared.exports.Export.{Export}
 use Rattle.comp_tree.specs.declared.items.Component.{Component}
-use Rattle.comp_reader.specs.declared.fault.ComponentWhy.{ComponentWhy}
+use Rattle.part_reader.specs.declared.fault.ComponentWhy.{ComponentWhy}
 use Rattle.comp_reader.specs.Binary.{component, file, file_end}
 use Rattle.script_reader.specs.declared.fault.ScriptFault.{ScriptFault}
 use Rattle.script_reader.specs.Script.{Script, IsScript, IsScriptRefused}
-use Rattle.comp_linking.specs.declared.fault.LinkFault.{LinkFault}
+use Rattle.link_spec.specs.declared.fault.LinkFault.{LinkFault}
 use Rattle.wcm.specs.declared.answer.Answer.{Answer}
 use Rattle.wcm.specs.declared.status.Status.{Status}
 use Rattle.wcm.specs.declared.status.Status.TheVariants.{Done, Trap, Usage, Refused, LinkRefused, ScriptRefused, Fuel}
@@ -20,14 +20,14 @@ use Rattle.canonical_machine.specs.World.{World}
 use Rattle.canonical_machine.specs.declared.run_end.RunEnd.{RunEnd}
 use Rattle.canonical_machine.specs.declared.run_end.RunEnd.TheVariants as ends
 use Rattle.comp_graph.specs.Graph.{Graph}
-use Rattle.comp_linking.specs.Linked.{IsLinked, IsLinkRefused}
+use Rattle.link_spec.specs.Linked.{IsLinked, IsLinkRefused}
 use Rattle.wcm.specs.Status.{status_of, IsBehindGraph}
 use Rattle.wcm.specs.Laws.{IsSameOutcome}
 use Rattle.command_words.specs.Words.{Command, Run, Check, Show, command_of, component_file}
 use Rattle.wcm.specs.Gives.{ScriptGives, GraphGives, CommandGives}
 use Rattle.wcm.specs.Outcome.{Outcome, IsUsage, DecidesAlone, IsScriptTold, IsCommandTold, IsTold, IsComponentTold, IsComponentFile, IsRefusedFile, RunAnswers, ScriptAnswers, LinkAnswers, FileAnswers, HeldScriptAnswers, GraphAnswers, HeldAnswers, CommandAnswers, run_answer, refused_answer, link_refused_answer, script_refused_answer, accepted_answer, shown_answer, asks_of_graph, NamesRefused, NamesLinkRefused, NamesLinked, NamesAccepted, NamesGraph, NamesScriptRefused, NamesRun, NamesTrap, NamesDone}
-use Rattle.comp_linking.proofs.Following as following
-use Rattle.comp_linking.proofs.Following.{one_graph, linked_is_not_refused}
+use Rattle.link_spec.proofs.Following as following
+use Rattle.link_spec.proofs.Following.{one_graph, linked_is_not_refused}
 use Rattle.canonical_machine.proofs.Runs.{one_run}
 
 -- what matches is not refused, and matches nothing else

@@ -22,7 +22,7 @@ use Rattle.builtins.specs.declared.script_run.Run.{Run}
 use Rattle.builtins.specs.Ran.{IsRunOf}
 use Rattle.wcm.specs.declared.status.Status.{Status}
 use Rattle.wcm.specs.Status.{status_of, IsBehindGraph}
-use Rattle.linked_graphs.specs.Laws.{LinkedGraphsAreApart, ReadGraphsAreSound, ReadTypesAreCounted, CountedGraphsArePlain, CallsAreSound}
+use Rattle.graph_laws.specs.Laws.{LinkedGraphsAreApart, ReadGraphsAreSound, ReadTypesAreCounted, CountedGraphsArePlain, CallsAreSound}
 use Rattle.wcm.specs.declared.answer.Answer.{Answer}
 use Rattle.wcm.specs.Outcome.{IsOfComponent, RunAnswers}
 use Rattle.wcm.specs.Laws.{ScriptsAreSound}

@@ -6,7 +6,7 @@ use Rattle.comp_reader.specs.Binary.{IsComponent}
 use Rattle.script_reader.specs.Script.{Script, IsScript}
 use Rattle.wcm.specs.declared.answer.Answer.{Answer}
 use Rattle.comp_graph.specs.Graph.{Graph}
-use Rattle.comp_linking.specs.Linked.{IsLinked}
+use Rattle.link_spec.specs.Linked.{IsLinked}
 use Rattle.canonical_machine.specs.Sound.{AreBytes, IsSound}
 use Rattle.wcm.specs.Outcome.{IsTold, Outcome}
 use Rattle.command_words.specs.Words.{command_of}

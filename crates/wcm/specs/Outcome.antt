@@ -6,12 +6,12 @@ use Rattle.std.specs.Prelude.{◌≡◌, ◌<◌, ◌≤◌, ◌⊎◌, ℕ, Boo
 use Rattle.std.specs.Option.{MatchOption}
 use Rattle.ca_base.specs.declared.refusal.Refusal.{Refusal}
 use Rattle.comp_tree.specs.declared.items.Component.{Component}
-use Rattle.comp_reader.specs.declared.fault.ComponentWhy.{ComponentWhy}
-use Rattle.comp_reader.specs.declared.fault.ComponentWhy.TheVariants.{Limit}
+use Rattle.part_reader.specs.declared.fault.ComponentWhy.{ComponentWhy}
+use Rattle.part_reader.specs.declared.fault.ComponentWhy.TheVariants.{Limit}
 use Rattle.comp_reader.specs.Binary.{IsComponent, IsRefused}
 use Rattle.script_reader.specs.declared.fault.ScriptFault.{ScriptFault}
 use Rattle.script_reader.specs.Script.{Script, IsScript, IsScriptRefused}
-use Rattle.comp_linking.specs.declared.fault.LinkFault.{LinkFault}
+use Rattle.link_spec.specs.declared.fault.LinkFault.{LinkFault}
 use Rattle.comp_graph.specs.Graph.{Graph}
 use Rattle.trace_show.specs.declared.label.Label.{Label}
 use Rattle.trace_show.specs.LabelText.{trace_text}
@@ -25,9 +25,9 @@ use Rattle.canonical_machine.specs.Sound.{AreBytes}
 use Rattle.trace_show.specs.declared.trap.TrapName.{TrapName}
 use Rattle.wcm.specs.declared.answer.Answer.{Answer}
 use Rattle.wcm.specs.declared.status.Status.TheVariants.{Done, Usage, Refused, ScriptRefused, LinkRefused}
-use Rattle.comp_linking.specs.Linked.{IsLinked, IsLinkRefused}
-use Rattle.wcm.specs.Refusals.{refused_line, link_refused_line, script_refused_line}
-use Rattle.wcm.specs.Shown.{accepted_text, graph_text}
+use Rattle.link_spec.specs.Linked.{IsLinked, IsLinkRefused}
+use Rattle.answer_texts.specs.Refusals.{refused_line, link_refused_line, script_refused_line}
+use Rattle.answer_texts.specs.Shown.{accepted_text, graph_text}
 use Rattle.wcm.specs.Status.{status_of}
 use Rattle.command_words.specs.Words.{Command, Run, Check, Show, command_of, component_file}
 

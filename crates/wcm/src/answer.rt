@@ -15,9 +15,10 @@ ghost use Rattle.wcm.specs.Stops.{StopsFor};
 ghost use Rattle.wcm.specs.Status.{IsAnswered, IsBehindGraph};
 ghost use Rattle.command_words.specs.Words.{said};
 
-use crate::refusals::{link_refused_line, refused_line, script_refused_line};
-use crate::shown::graph_text;
 use crate::status::{Status, status_of_end};
+use answer_texts::{
+    accepted_text, graph_text, link_refused_line, refused_line, script_refused_line,
+};
 use builtins::{Run, run_script, trace_text};
 use ca_base::{Bytes, Memory, MemoryOr, Refusal, Seq};
 use ca_io::{FileError, Files, read_all};
@@ -27,7 +28,7 @@ use command_words::Command;
 use comp_graph::Graph;
 use comp_link::link;
 use comp_reader::{Component, ComponentWhy, read_component};
-use linked_graphs::laws::{
+use graph_laws::laws::{
     calls_are_sound, counted_graphs_are_plain, files_are_bytes, linked_graphs_are_apart,
     read_graphs_are_sound, read_types_are_counted,
 };
@@ -83,9 +84,6 @@ const TOO_LONG: Refusal<ComponentWhy> = Refusal {
     place: 16 * 1024 * 1024,
     why: ComponentWhy::Limit,
 };
-
-/// The text for a component that is linked.
-const ACCEPTED: &[u8] = b"accepted\n";
 
 /// How many bytes a script file may have.
 const SCRIPT_LIMIT: u64 = 1024 * 1024;
@@ -191,11 +189,9 @@ fn run_answer(alloc: Global, graph: &Graph, script: &Script, dump: bool) -> Resu
 fn accepted_answer(alloc: Global) -> Result<Answer, Memory>
     ensures { IfOk result (λ a. a ≡ accepted_answer) }
 {
-    let mut out = Vec::new(alloc);
-    out.extend_from_slice(ACCEPTED)?;
     Ok(Answer {
         status: Status::Done,
-        out: Seq::from_vec(out),
+        out: accepted_text(alloc)?,
         err: Seq::new(alloc),
     })
 }

@@ -3,11 +3,11 @@
 ghost use Rattle.wcm.specs.Laws.{ScriptsAreSound, OneOutcome};
 
 use canonical_machine::runs_end;
-use comp_linking::laws::graphs_are_computed;
 use comp_reader::one_reading;
-use linked_graphs::laws::{
+use graph_laws::laws::{
     calls_are_sound, linked_graphs_are_apart, read_graphs_are_sound, read_types_are_counted,
 };
+use link_spec::laws::graphs_are_computed;
 use script_reader::scripts_call_exports;
 
 /// A script that is read for a component that is read of bytes and linked is sound.

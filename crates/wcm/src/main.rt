@@ -1,37 +1,20 @@
 //! Runs components.
+//!
+//! - `top`: the call that reads the words and the files, and writes the answer
+//! - `answer`: the answer of a command; `status`: how a call ends
+//! - `adapters`: the files of the system and the standard streams
+//! - `laws`: what holds of the definitions alone
 #![tactic(auto)]
 
 mod adapters;
 mod answer;
-#[cfg(test)]
-mod dump_tests_cases;
-#[cfg(test)]
-mod import_tests_cases;
-#[cfg(test)]
-mod instance_tests_cases;
 mod laws;
-#[cfg(test)]
-mod lower_tests_cases;
-#[cfg(test)]
-mod nested_tests_cases;
-mod refusals;
-#[cfg(test)]
-mod refusals_tests;
-#[cfg(test)]
-mod run_tests_cases;
-mod shown;
 mod status;
-#[cfg(test)]
-mod tests_cases;
 mod top;
 #[cfg(test)]
 mod top_tests;
 #[cfg(test)]
 mod top_tests_cases;
-#[cfg(test)]
-mod value_tests_cases;
-#[cfg(test)]
-mod words_tests_cases;
 
 use adapters::{Stream, SystemFiles};
 use status::{Status, exit_code};

@@ -1,22 +1,13 @@
-//! Calls of the program over files and outputs in memory, by the tables of `top_tests_cases`, `run_tests_cases`,
-//! `import_tests_cases`, `instance_tests_cases`, `nested_tests_cases`, `words_tests_cases`, `lower_tests_cases`,
-//! `value_tests_cases` and `dump_tests_cases`.
+//! Calls of the program over files and outputs in memory, by the tables of `top_tests_cases`.
 
-use crate::dump_tests_cases::{DUMP_CASES, DUMP_COUNT};
-use crate::import_tests_cases::{IMPORT_CASES, IMPORT_COUNT};
-use crate::instance_tests_cases::{INSTANCE_CASES, INSTANCE_COUNT};
 use crate::laws;
-use crate::lower_tests_cases::{LOWER_CASES, LOWER_COUNT};
-use crate::nested_tests_cases::{NESTED_CASES, NESTED_COUNT};
-use crate::run_tests_cases::{RUN_CASES, RUN_COUNT};
 use crate::status::Status;
-use crate::tests_cases::{bytes_of, number_of, push_bytes, push_line};
 use crate::top::run_words;
-use crate::top_tests_cases::{ADD, CASES, COUNT, LONG_CASES, LONG_COUNT, MANY_CASES, MANY_COUNT};
-use crate::value_tests_cases::{VALUE_CASES, VALUE_COUNT};
-use crate::words_tests_cases::{WORDS_CASES, WORDS_COUNT};
+use crate::top_tests_cases::{
+    ADD, CASES, COUNT, LONG_CASES, LONG_COUNT, TRAPPING, WORDS, WORDS_COUNT,
+};
 use ca_io::{MemFiles, MemSink};
-use std::alloc::Global;
+use std::alloc::{AllocError, Global};
 use std::process::Abort;
 use std::test::Fail;
 
@@ -37,12 +28,18 @@ struct Case {
     err: String,
 }
 
+/// Appends a line with its line feed.
+fn push_line(line: &str, text: &mut String) -> Result<(), AllocError> {
+    text.push_str(line)?;
+    text.push('\n')
+}
+
 impl Case {
     /// A call over the component that adds, with nothing that fails.
     fn new(alloc: Global) -> Result<Case, Fail> {
         Ok(Case {
             words: String::from_str(alloc, "wcm run add.wasm add.txt")?,
-            component: bytes_of(alloc, ADD)?,
+            component: Vec::from_slice(alloc, &ADD)?,
             script: String::new(alloc),
             read: 0,
             write: 0,
@@ -64,7 +61,7 @@ impl Case {
     ) -> Result<(), Fail> {
         if !line.is_empty() {
             let (key, rest) = line.split_once(' ').unwrap_or((line, ""));
-            return self.add_line(alloc, key, rest);
+            return self.add_line(key, rest);
         }
         if !self.status.is_empty() {
             *count = count.saturating_add(1);
@@ -75,7 +72,7 @@ impl Case {
     }
 
     /// Takes in a line of a case.
-    fn add_line(&mut self, alloc: Global, key: &str, rest: &str) -> Result<(), Fail> {
+    fn add_line(&mut self, key: &str, rest: &str) -> Result<(), Fail> {
         match key {
             "script" => push_line(rest, &mut self.script)?,
             "last" => self.script.push_str(rest)?,
@@ -84,53 +81,50 @@ impl Case {
             "part" => self.out.push_str(rest)?,
             "err" => push_line(rest, &mut self.err)?,
             "err-part" => self.err.push_str(rest)?,
-            "reads" => self.read = number_of(rest)?,
-            "writes" => self.write = number_of(rest)?,
-            "errors" => self.error = number_of(rest)?,
-            "most" => self.most = number_of(rest)?,
+            "reads" => self.read = rest.parse()?,
+            "writes" => self.write = rest.parse()?,
+            "errors" => self.error = rest.parse()?,
+            "most" => self.most = rest.parse()?,
             "words" => {
                 self.words.clear();
                 self.words.push_str(rest)?;
             }
-            _ => self.add_bytes(alloc, key, rest)?,
+            _ => self.add_bytes(key, rest)?,
         }
         Ok(())
     }
 
     /// Takes in a line of a case that tells of the component file.
-    fn add_bytes(&mut self, alloc: Global, key: &str, rest: &str) -> Result<(), Fail> {
+    fn add_bytes(&mut self, key: &str, rest: &str) -> Result<(), Fail> {
         match key {
             "component" => {
                 self.component.clear();
-                push_bytes(rest, &mut self.component)?;
+                if rest == "trapping" {
+                    self.component.extend_from_slice(&TRAPPING)?;
+                }
             }
-            "bytes" => push_bytes(rest, &mut self.component)?,
-            "front" => self.component.truncate(number_of(rest)? as usize),
-            "times" => self.repeat(alloc, rest)?,
-            "change" => self.change(alloc, rest)?,
+            "front" => self.component.truncate(rest.parse()?),
+            "zeros" => self.add_zeros(rest.parse()?)?,
+            "change" => self.change(rest)?,
             _ => return Err("a line of another kind".into()),
         }
         Ok(())
     }
 
-    /// The component file has these bytes behind so many times.
-    fn repeat(&mut self, alloc: Global, rest: &str) -> Result<(), Fail> {
-        let (count, bytes) = rest.split_once(' ').ok_or("times")?;
-        let bytes = bytes_of(alloc, bytes)?;
-        for _ in 0..number_of(count)? {
-            self.component.extend_from_slice(&bytes)?;
+    /// The component file has so many zeros behind.
+    fn add_zeros(&mut self, count: u32) -> Result<(), AllocError> {
+        for _zero in 0..count {
+            self.component.push(0)?;
         }
         Ok(())
     }
 
     /// The byte at a place of the component file is another one.
-    fn change(&mut self, alloc: Global, rest: &str) -> Result<(), Fail> {
+    fn change(&mut self, rest: &str) -> Result<(), Fail> {
         let (place, byte) = rest.split_once(' ').ok_or("change")?;
-        let place = number_of(place)? as usize;
-        let byte = bytes_of(alloc, byte)?.first().copied().ok_or("byte")?;
-        if place < self.component.len() {
-            self.component[place] = byte;
-        }
+        let place: usize = place.parse()?;
+        let at = self.component.get_mut(place).ok_or("place")?;
+        *at = byte.parse()?;
         Ok(())
     }
 
@@ -203,6 +197,26 @@ fn check_all(rt: &impl Abort, alloc: Global, cases: &str, wanted: u32) -> Result
     Ok(())
 }
 
+/// Checks that words are no command, over files whose first read fails.
+fn check_words(rt: &impl Abort, alloc: Global, words: &str, number: u32) -> Result<(), Fail> {
+    let mut case = Case::new(alloc)?;
+    case.add_line("words", words)?;
+    case.add_line("reads", "1")?;
+    case.add_line("status", "Usage")?;
+    case.check(rt, alloc, number)
+}
+
+#[test]
+fn words_of_no_command(rt: HostRuntime) -> Result<(), Fail> {
+    let mut count: u32 = 0;
+    for words in WORDS.lines() {
+        count = count.saturating_add(1);
+        check_words(&rt, rt.alloc(), words, count)?;
+    }
+    assert_eq!(rt; count, WORDS_COUNT);
+    Ok(())
+}
+
 #[test]
 fn calls(rt: HostRuntime) -> Result<(), Fail> {
     check_all(&rt, rt.alloc(), CASES, COUNT)
@@ -211,35 +225,6 @@ fn calls(rt: HostRuntime) -> Result<(), Fail> {
 #[test]
 fn calls_over_a_long_file(rt: HostRuntime) -> Result<(), Fail> {
     check_all(&rt, rt.alloc(), LONG_CASES, LONG_COUNT)
-}
-
-#[test]
-fn calls_of_many_instructions(rt: HostRuntime) -> Result<(), Fail> {
-    check_all(&rt, rt.alloc(), MANY_CASES, MANY_COUNT)
-}
-
-#[test]
-fn calls_of_whole_modules(rt: HostRuntime) -> Result<(), Fail> {
-    check_all(&rt, rt.alloc(), RUN_CASES, RUN_COUNT)
-}
-
-#[test]
-fn calls_over_instances(rt: HostRuntime) -> Result<(), Fail> {
-    check_all(&rt, rt.alloc(), IMPORT_CASES, IMPORT_COUNT)?;
-    check_all(&rt, rt.alloc(), INSTANCE_CASES, INSTANCE_COUNT)?;
-    check_all(&rt, rt.alloc(), NESTED_CASES, NESTED_COUNT)
-}
-
-#[test]
-fn calls_by_their_words(rt: HostRuntime) -> Result<(), Fail> {
-    check_all(&rt, rt.alloc(), WORDS_CASES, WORDS_COUNT)?;
-    check_all(&rt, rt.alloc(), LOWER_CASES, LOWER_COUNT)
-}
-
-#[test]
-fn calls_over_values(rt: HostRuntime) -> Result<(), Fail> {
-    check_all(&rt, rt.alloc(), VALUE_CASES, VALUE_COUNT)?;
-    check_all(&rt, rt.alloc(), DUMP_CASES, DUMP_COUNT)
 }
 
 #[test]

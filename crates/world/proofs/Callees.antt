@@ -1,17 +1,18 @@
 -- The functions that tasks run.
-use Rattle.std.proofs.Common.{◌≡◌, ◌<◌, ◌+◌, ◌-◌, ℕ, zero, suc, List, [], ◌∷◌, length, reverse, sym, ap, ◌∙◌, subst, arith, Option, Some}
+use Rattle.std.proofs.Common.{◌≡◌, ◌<◌, ◌+◌, ◌-◌, ℕ, zero, suc, true, refl, List, [], ◌∷◌, length, reverse, sym, ap, ◌∙◌, subst, arith, Option, None, Some}
 use mathlib.Core.List.{reverse_aux}
 use Rattle.std.specs.List.{slice_get}
-use Rattle.std.specs.Option.{option_and_then}
+use Rattle.std.specs.Option.{option_and_then, IsSome}
 use Rattle.std.proofs.lemmas.Option.{slice_get_within}
 use Rattle.ca_base.specs.Names.{first_named}
 use Rattle.ca_types.specs.declared.exports.Export.{Export}
 use Rattle.comp_graph.specs.declared.graph.CanonFunc.{CanonFunc}
 use Rattle.comp_graph.specs.declared.graph.Lift.{Lift}
 use Rattle.comp_graph.specs.declared.graph.Lower.{Lower}
-use Rattle.comp_graph.specs.Graph.{Graph, Lifted, names, lifted_as, func_at, func_named, called_type}
+use Rattle.comp_graph.specs.Graph.{Graph, Lifted, names, lifted_as, func_at, func_named, is_lower}
 use Rattle.comp_graph.specs.Passed.{ArePassed}
 use Rattle.script_reader.specs.declared.script.Call.{Call}
+use Rattle.script_reader.specs.declared.script.Item.{Item}
 use Rattle.script_reader.specs.declared.script.Item.TheVariants as item
 use Rattle.script_reader.specs.Script.{Script}
 use Rattle.canonical_machine.specs.World.{Func, Task}
@@ -21,19 +22,34 @@ use Rattle.world.specs.declared.state.Waiter.{Waiter}
 use Rattle.world.specs.Seen.{IsScriptCall, IsTaskCall, IsCalled}
 use Rattle.world.specs.Called.{lifted_by, IsFunc, IsRunBy}
 
-called_by_lower : (f : CanonFunc) (l : Lower) → lower_of f ≡ Some l → called_type f ≡ l.func_type
-called_by_lower (CanonFunc.Lower m) l e = let same : m ≡ l = cc in ap (λ (x : Lower). x.func_type) same
+-- the call of a function that is lowered
+is_as : (f : CanonFunc) (m : Lower) → lower_of f ≡ Some m → f ≡ CanonFunc.Lower m
+is_as (CanonFunc.Builtin b) m e = cc
+is_as (CanonFunc.Lower l) m e = let same : l ≡ m = cc in ap (λ (x : Lower). CanonFunc.Lower x) same
+
+pub has_lower : (g h : Graph) (number : ℕ) (f : CanonFunc) → h ≡ g → slice_get h.canons number ≡ Some f → (l : Lower) × (lower_at g number ≡ Some l) → IsSome (lower_of f)
+has_lower g h number f whole there l =
+    let is : lower_of f ≡ Some l.0 = ap (λ (o : Option CanonFunc). option_and_then lower_of o) (sym there) ∙ ap (λ (x : Graph). lower_at x number) whole ∙ l.1 in
+    subst IsSome (sym is) refl
+
+pub is_lowered : (g h : Graph) (number : ℕ) → h ≡ g → (l : Lower) × (lower_at g number ≡ Some l) → is_lower (slice_get h.canons number) ≡ true
+is_lowered g h number whole l = by (slice_get h.canons number) (ap (λ (x : Graph). lower_at x number) whole ∙ l.1)
+  where
+    by : (o : Option CanonFunc) → option_and_then lower_of o ≡ Some l.0 → is_lower o ≡ true
+    by None e = cc
+    by (Some (CanonFunc.Builtin b)) e = cc
+    by (Some (CanonFunc.Lower m)) e = refl
 
 -- a function that is lowered
 pub lowered_is : (g : Graph) (canon : ℕ) (f : CanonFunc) (m : Lower) (h : Graph) (c : CalledFunc) → h ≡ g → slice_get h.canons canon ≡ Some f → lower_of f ≡ Some m
-    → c.lift ≡ m.lift → c.func_type.now ≡ m.func_type → ((f : CanonFunc) → slice_get h.canons canon ≡ Some f → ArePassed c.types (called_type f))
+    → c.lift ≡ m.lift → c.func_type.now ≡ m.func_type → ((l : Lower) → slice_get h.canons canon ≡ Some (CanonFunc.Lower l) → ArePassed c.types l.func_type)
     → (l : Lower) → lower_at g canon ≡ Some l → IsFunc c (lifted_of l)
 lowered_is g canon f m h c whole there is lift type passed l named =
     let e : lower_at h canon ≡ Some l = ap (λ (g : Graph). lower_at g canon) whole ∙ named in
     let same : m ≡ l = (let both : Some m ≡ Some l = sym is ∙ sym (ap (λ o. option_and_then lower_of o) there) ∙ e in cc) in
     record {
       is = (let lift : c.lift ≡ l.lift = lift ∙ ap (λ (x : Lower). x.lift) same in let type : c.func_type.now ≡ l.func_type = type ∙ ap (λ (x : Lower). x.func_type) same in cc);
-      passed = subst (ArePassed c.types) (called_by_lower f m is ∙ ap (λ (x : Lower). x.func_type) same) (passed f there);
+      passed = subst (λ (x : Lower). ArePassed c.types x.func_type) same (passed m (there ∙ ap Some (is_as f m is)));
     }
 
 -- A task runs the function that it was called as.
@@ -59,9 +75,28 @@ exported_is g name number e lift h c whole first there lifts is type passed f na
     ∙ ap (λ (g : Graph). func_at g number) whole ∙ sym (ap (λ (o : Option ℕ). option_and_then (func_at g) o) first) ∙ named)
     is type (passed e there)
 
+-- The last item taken is a call.
+abbrev pub HasLast : Script → ℕ → Type 0
+HasLast s taken = (number : ℕ) × (call : Call) × (taken ≡ number + 1) × (slice_get s.items number ≡ Some (item.Call call))
+
+last_at : (s : Script) (taken : ℕ) (last : HasLast s taken) → slice_get s.items (taken - 1) ≡ Some (item.Call last.1)
+last_at s taken last =
+    let counted : taken ≡ last.0 + 1 = last.2 in
+    let number : taken - 1 ≡ last.0 = omega (arith, counted) in
+    ap (slice_get s.items) number ∙ last.3
+
+pub within_items : (s : Script) (taken : ℕ) → HasLast s taken → taken - 1 < length s.items
+within_items s taken last = slice_get_within s.items (taken - 1) (item.Call last.1) (last_at s taken last)
+
+pub is_call : (s : Script) (taken : ℕ) (i : Item) → HasLast s taken → slice_get s.items (taken - 1) ≡ Some i → (call : Call) × (i ≡ item.Call call)
+is_call s taken i last there = (last.1, same_item i (item.Call last.1) (sym there ∙ last_at s taken last))
+  where
+    same_item : (a b : Item) → ◌≡◌ {A = Option Item} (Some a) (Some b) → a ≡ b
+    same_item a b e = cc
+
 -- what the last item taken calls
-pub call_there : (g : Graph) (s : Script) (taken : ℕ) (task : Task) → IsScriptCall g s taken task → (number : ℕ) × (taken ≡ number + 1) × (number < length s.items)
-call_there g s taken task h = (h.number, h.last, slice_get_within s.items h.number (item.Call h.call) h.there)
+pub call_there : (g : Graph) (s : Script) (taken : ℕ) (task : Task) → IsScriptCall g s taken task → HasLast s taken
+call_there g s taken task h = (h.number, h.call, h.last, h.there)
 
 call_same : (a b : Call) → Some (item.Call a) ≡ Some (item.Call b) → a ≡ b
 call_same a b e = cc

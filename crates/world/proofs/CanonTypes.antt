@@ -15,9 +15,9 @@ use Rattle.wasm_module.specs.declared.types.FuncType as core
 use Rattle.comp_graph.specs.declared.graph.CanonFunc.{CanonFunc}
 use Rattle.comp_graph.specs.declared.graph.CanonFunc.TheVariants as canon_func
 use Rattle.comp_graph.specs.declared.func_types.PassedTypes.{PassedTypes}
-use Rattle.comp_graph.specs.Graph.{canon_type, called_type}
 use Rattle.comp_graph.specs.Needs.{core_val, lowered_type}
 use Rattle.comp_graph.specs.Passed.{ArePassed, params_type}
+use Rattle.canonical_machine.specs.Synchronous.{canon_type}
 
 -- what the first tell, where more than so many tell nothing
 first_tell : (n m : ℕ) (told : List CoreType → List CoreType) (many : List CoreType) (ts : List CoreType) → n < m
@@ -67,21 +67,17 @@ lowered_results_are types f h =
     ∙ ap (λ t. map core_val (returned (flat_payload t))) h.returned
 
 -- The types of the first so many core functions, and that of the next one.
-is_lowered : (f : CanonFunc) → lowered_type (called_type f) ≡ canon_type f
-is_lowered (canon_func.Lower l) = refl
-
 next_type : (canons : List CanonFunc) (n : ℕ) (t : core.FuncType) → n < length canons → ((f : CanonFunc) → slice_get canons n ≡ Some f → t ≡ canon_type f)
     → map canon_type (take n canons) ++ t ∷ [] ≡ map canon_type (take (suc n) canons)
 next_type [] n t l h = absurd (omega arith)
 next_type (c ∷ canons) zero t l h = ap (λ (t : core.FuncType). t ∷ []) (h c refl)
 next_type (c ∷ canons) (suc n) t l h = ap (λ (ts : List core.FuncType). canon_type c ∷ ts) (next_type canons n t (omega arith) h)
 
-pub one_more_type : (canons : List CanonFunc) (types all : List core.FuncType) (t : core.FuncType) (passed : PassedTypes) (n : ℕ) → n < length canons
-    → types ≡ map canon_type (take n canons) → ((f : CanonFunc) → slice_get canons n ≡ Some f → ArePassed passed (called_type f))
-    → ((f : FuncType) → ArePassed passed f → t ≡ lowered_type f) → all ≡ types ++ t ∷ [] → all ≡ map canon_type (take (n + 1) canons)
-one_more_type canons types all t passed n l h are is more =
+pub one_more_type : (canons : List CanonFunc) (types all : List core.FuncType) (t : core.FuncType) (n : ℕ) → n < length canons → types ≡ map canon_type (take n canons)
+    → ((f : CanonFunc) → slice_get canons n ≡ Some f → t ≡ canon_type f) → all ≡ types ++ t ∷ [] → all ≡ map canon_type (take (n + 1) canons)
+one_more_type canons types all t n l h is more =
     let next : suc n ≡ n + 1 = omega arith in
     more
     ∙ ap (λ (ts : List core.FuncType). ts ++ t ∷ []) h
-    ∙ next_type canons n t l (λ f there. is (called_type f) (are f there) ∙ is_lowered f)
+    ∙ next_type canons n t l is
     ∙ ap (λ (k : ℕ). map canon_type (take k canons)) next

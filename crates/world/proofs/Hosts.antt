@@ -1,10 +1,11 @@
 -- Runs before a graph is instantiated.
 use Rattle.std.proofs.Common.{◌≡◌, ℕ, List, [], ◌∷◌, map, reverse, refl, sym, ap, ◌∙◌, subst, arith}
 use Rattle.wasm_module.specs.declared.types.FuncType.{FuncType}
-use Rattle.core_machine.specs.Store.{Function, Store, Host}
-use Rattle.core_machine.specs.Instantiation.{empty}
+use Rattle.wasm_store.specs.Store.{Function, Store, Host}
+use Rattle.wasm_store.specs.Instantiation.{empty}
 use Rattle.comp_graph.specs.declared.graph.CanonFunc.{CanonFunc}
-use Rattle.comp_graph.specs.Graph.{Graph, canon_type}
+use Rattle.comp_graph.specs.Graph.{Graph}
+use Rattle.canonical_machine.specs.Synchronous.{canon_type}
 use Rattle.script_reader.specs.Script.{Script}
 use Rattle.canonical_machine.specs.World.{Task, first_store, first_world}
 use Rattle.world.specs.declared.state.RunState.{RunState}

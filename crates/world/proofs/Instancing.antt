@@ -3,17 +3,17 @@ use Rattle.std.proofs.Common.{◌≡◌, ◌<◌, ◌+◌, ℕ, List, [], ◌∷
 use Rattle.std.specs.List.{slice_get}
 use Rattle.std.proofs.lemmas.Option.{slice_get_within}
 use Rattle.wasm_module.specs.declared.module.ModuleTree.{ModuleTree}
-use Rattle.wasm_valid.specs.Modules.{Typed}
-use Rattle.core_machine.specs.Store.{Store}
-use Rattle.core_machine.specs.Instantiation.{External, Instantiation, Makes, SegmentBounds, ImportsMatch, InRange, instance_of, instantiated, start_call}
-use Rattle.core_machine.specs.Typed.{StoreTyped}
-use Rattle.core_machine.specs.Laws.{AddedTyped, IsThere}
-use Rattle.core_machine.proofs.AddedModules.{adds_typed}
-use Rattle.core_machine.proofs.Lists.{all_at}
-use Rattle.core_machine.proofs.Zips.{get_behind}
-use Rattle.core_machine.specs.declared.adding.AddFault.{AddFault}
-use Rattle.core_machine.specs.declared.adding.AddFault.TheVariants as fault
-use Rattle.core_machine.specs.Parts.{FailsBy}
+use Rattle.wasm_typing.specs.Modules.{Typed}
+use Rattle.wasm_store.specs.Store.{Store}
+use Rattle.wasm_store.specs.Instantiation.{External, Instantiation, Makes, SegmentBounds, ImportsMatch, InRange, instance_of, instantiated, start_call}
+use Rattle.wasm_store.specs.Typed.{StoreTyped}
+use Rattle.wasm_store.specs.Laws.{AddedTyped, IsThere}
+use Rattle.wasm_store.proofs.AddedModules.{adds_typed}
+use Rattle.wasm_store.proofs.Lists.{all_at}
+use Rattle.wasm_store.proofs.Zips.{get_behind}
+use Rattle.wasm_store.specs.declared.adding.AddFault.{AddFault}
+use Rattle.wasm_store.specs.declared.adding.AddFault.TheVariants as fault
+use Rattle.wasm_store.specs.Parts.{FailsBy}
 use Rattle.comp_graph.specs.declared.graph.Action.{Action}
 use Rattle.comp_graph.specs.declared.graph.Action.TheVariants.{Begin, Make}
 use Rattle.comp_graph.specs.Graph.{CoreMake, Graph, AreImported}
@@ -167,7 +167,7 @@ core_in g s n number w safe so (c ∷ cores) e left =
       there = ap (λ (i : ℕ). slice_get g.cores i) left.0 ∙ at;
       typed = all_at (λ (c : CoreMake). Typed c.of_module) g.cores (length so.before) c sound.valid at;
       range = all_at (λ (c : CoreMake). InRange c.of_module) g.cores (length so.before) c sound.in_range at;
-      imports = imports_match w.store g.canons so.before c (hosts_of g w.store safe.kept.typed.hosts)
+      imports = imports_match w.store g.canons so.before c sound.sync.canons (hosts_of g w.store safe.kept.typed.hosts)
           (imported_behind g.canons [] so.before cores c (subst (AreImported g.canons []) all sound.imported)) so.made;
     }
 

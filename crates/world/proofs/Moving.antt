@@ -1,10 +1,10 @@
 -- How the moves of a stack become steps of a run, wherever the stack stands in its worlds.
 use Rattle.std.proofs.Common.{◌≡◌, ◌≤◌, ◌+◌, ◌-◌, ℕ, zero, suc, Bool, true, false, nat_lt, if◌then◌else◌, [], refl, sym, ap, ◌∙◌, arith}
 use Rattle.std.proofs.lemmas.Bool.Decides.{nat_tests}
-use Rattle.core_machine.specs.Store.{Store}
-use Rattle.core_machine.specs.Stack.{Stack, Running, AtHost, Given}
-use Rattle.core_machine.specs.Step.{Move, Goes, Calls, Ends, Traps, Stuck, units, cost, Moves, Steps}
-use Rattle.core_machine.specs.Step as core
+use Rattle.wasm_store.specs.Store.{Store}
+use Rattle.wasm_store.specs.Stack.{Stack, Running, AtHost, Given}
+use Rattle.wasm_store.specs.Step.{Move, Goes, Calls, Ends, Traps, Stuck, units, cost, Moves, Steps}
+use Rattle.wasm_store.specs.Step as core
 use Rattle.wasm_execution.specs.Run.{Comes, Waits, RunGives}
 use Rattle.wasm_execution.specs.declared.running.Outcome.{Outcome}
 use Rattle.wasm_execution.specs.declared.running.Outcome.TheVariants as outcome

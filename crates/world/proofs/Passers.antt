@@ -7,7 +7,7 @@ use Rattle.ca_base.specs.Faults.{MayMake}
 use Rattle.ca_types.specs.declared.value.Value.{Value}
 use Rattle.ca_types.specs.declared.value.Value.TheViews as value
 use Rattle.value_lift.specs.declared.trap.LiftTrap.{LiftTrap}
-use Rattle.core_machine.specs.Store.{Store}
+use Rattle.wasm_store.specs.Store.{Store}
 use Rattle.comp_graph.specs.declared.graph.Lower.{Lower}
 use Rattle.comp_graph.specs.Graph.{Graph}
 use Rattle.script_reader.specs.declared.script.Call.{Call}
@@ -23,7 +23,7 @@ use Rattle.world.specs.declared.state.Waiter.{Waiter}
 use Rattle.world.specs.Passed.{Passes, CanPass, IsPassedBy}
 use Rattle.world.specs.Seen.{IsScriptCall, IsTaskCall, IsCalled}
 use Rattle.ca_types.specs.declared.types.ValType.{ValType}
-use Rattle.world.proofs.Callees.{call_there}
+use Rattle.world.proofs.Callees.{HasLast, call_there}
 
 has_last : (us : List Waiter) (u : Waiter) → slice_get (u ∷ us) (length us) ≡ None → ⊥
 has_last [] u h = cc
@@ -38,12 +38,12 @@ call_same a b e = cc
 
 -- It is there, where none waits.
 pub script_called : (g : Graph) (s : Script) (taken : ℕ) (items : List Waiter) → slice_get items (length items - 1) ≡ None → (task : Task) → IsCalled g s taken (reverse items) task
-    → (number : ℕ) × (taken ≡ number + 1) × (number < length s.items)
+    → HasLast s taken
 script_called g s taken items none task h = call_there g s taken task (subst (λ (us : List Waiter). IsCalled g s taken (reverse us) task) (none_last items none) h)
 
-pub last_item : (s : Script) (taken : ℕ) (call : Call) → (number : ℕ) × (taken ≡ number + 1) × (number < length s.items) → ((number : ℕ) → taken ≡ number + 1 → slice_get s.items number ≡ Some (item.Call call))
+pub last_item : (s : Script) (taken : ℕ) (call : Call) → HasLast s taken → ((number : ℕ) → taken ≡ number + 1 → slice_get s.items number ≡ Some (item.Call call))
     → slice_get s.items (taken - 1) ≡ Some (item.Call call)
-last_item s taken call at is = let last : taken ≡ at.0 + 1 = at.1 in is (taken - 1) (omega (arith, last))
+last_item s taken call at is = let last : taken ≡ at.0 + 1 = at.2 in is (taken - 1) (omega (arith, last))
 
 pub script_passes : (g : Graph) (s : Script) (store : Store) (taken : ℕ) (items : List Waiter) (call : Call) (result : Result Value (MemoryOr LiftTrap)) → slice_get items (length items - 1) ≡ None
     → slice_get s.items (taken - 1) ≡ Some (item.Call call) → MayMake {X = Value} (λ v. v) (Ok (value.Record call.values)) result → (task : Task) → IsCalled g s taken (reverse items) task → IsPassedBy g store task.caller result

@@ -1,8 +1,8 @@
 -- What has become of a run's data where a stack ran to its end, or to a call: one that waits and is held has paid for its call.
 use Rattle.std.proofs.Common.{◌≡◌, ◌≤◌, ◌<◌, ℕ, zero, suc, ◌+◌, List, [], ◌∷◌, ◌++◌, refl, sym, subst, arith}
-use Rattle.core_machine.specs.Store.{Store}
-use Rattle.core_machine.specs.Stack.{Stack, Running, AtHost, Given}
-use Rattle.core_machine.specs.Step.{Ends, Calls, next, cost, Moves}
+use Rattle.wasm_store.specs.Store.{Store}
+use Rattle.wasm_store.specs.Stack.{Stack, Running, AtHost, Given}
+use Rattle.wasm_store.specs.Step.{Ends, Calls, next, cost, Moves}
 use Rattle.wasm_execution.specs.Run.{Comes, Asks}
 use Rattle.wasm_execution.specs.Waiting.{Waiting}
 use Rattle.canonical_machine.proofs.Holding as holding

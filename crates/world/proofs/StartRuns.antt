@@ -6,13 +6,13 @@ use Rattle.std.proofs.lemmas.Option.{slice_get_within}
 use Rattle.wasm_module.specs.declared.types.ValType.{ValType}
 use Rattle.wasm_module.specs.declared.types.FuncType as core
 use Rattle.wasm_module.specs.declared.module.ModuleTree.{ModuleTree}
-use Rattle.wasm_valid.specs.Modules.{Typed, StartTyped}
-use Rattle.core_machine.specs.declared.trap.Trap.{Trap}
-use Rattle.core_machine.specs.Store.{Store, Instance, Function, type_of, func_at, found_at}
-use Rattle.core_machine.specs.Stack.{Stack}
-use Rattle.core_machine.specs.Step.{start}
-use Rattle.core_machine.specs.Instantiation.{start_call}
-use Rattle.core_machine.specs.Typed.{HasContext, module_context, StackTyped}
+use Rattle.wasm_typing.specs.Modules.{Typed, StartTyped}
+use Rattle.wasm_store.specs.declared.trap.Trap.{Trap}
+use Rattle.wasm_store.specs.Store.{Store, Instance, Function, type_of, func_at, found_at}
+use Rattle.wasm_store.specs.Stack.{Stack}
+use Rattle.wasm_store.specs.Step.{start}
+use Rattle.wasm_store.specs.Instantiation.{start_call}
+use Rattle.wasm_store.specs.Typed.{HasContext, module_context, StackTyped}
 use Rattle.wasm_execution.specs.Waiting.{Waiting}
 use Rattle.wasm_execution.specs.Run.{RunGives}
 use Rattle.wasm_execution.specs.declared.running.Outcome.{Outcome}

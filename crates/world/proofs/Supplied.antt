@@ -3,10 +3,10 @@ use Rattle.std.proofs.Common.{◌≡◌, ◌<◌, ◌+◌, ℕ, zero, suc, List,
 use Rattle.std.proofs.lemmas.List.{map-append}
 use Rattle.std.specs.Option.{option_and_then, option_map}
 use Rattle.wasm_module.specs.declared.module.ModuleTree.{ModuleTree}
-use Rattle.core_machine.specs.Store.{Store}
-use Rattle.core_machine.specs.Instantiation.{External, ImportsMatch}
+use Rattle.wasm_store.specs.Store.{Store}
+use Rattle.wasm_store.specs.Instantiation.{External, ImportsMatch}
 use Rattle.wasm_code.specs.declared.instance.External as ofStore
-use Rattle.core_machine.specs.Views.{address_of}
+use Rattle.wasm_store.specs.Views.{address_of}
 use Rattle.comp_graph.specs.declared.graph.CoreExtern.{CoreExtern}
 use Rattle.comp_graph.specs.Graph.{CoreMake}
 use Rattle.canonical_machine.proofs.Imports.{ImportsAreThere}

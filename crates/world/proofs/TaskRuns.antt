@@ -3,18 +3,19 @@ use Rattle.std.proofs.Common.{◌≡◌, ◌≢◌, ◌≤◌, ◌<◌, ◌+◌,
 use Rattle.std.proofs.lemmas.List.{reverse-append}
 use Rattle.std.specs.List.{slice_get, AllByRecursion}
 use Rattle.wasm_module.specs.declared.types.ValType.{ValType}
-use Rattle.core_machine.specs.declared.trap.Trap.{Trap}
+use Rattle.wasm_store.specs.declared.trap.Trap.{Trap}
 use Rattle.wasm_numbers.specs.Types.{AreWords}
-use Rattle.core_machine.specs.Store.{Function, Host as HostFunction, type_of, Store}
-use Rattle.core_machine.specs.Stack.{Stack}
-use Rattle.core_machine.specs.Step as core
-use Rattle.core_machine.specs.Typed.{StackTyped}
+use Rattle.wasm_store.specs.Store.{Function, Host as HostFunction, type_of, Store}
+use Rattle.wasm_store.specs.Stack.{Stack}
+use Rattle.wasm_store.specs.Step as core
+use Rattle.wasm_store.specs.Typed.{StackTyped}
 use Rattle.wasm_execution.specs.Waiting.{Waiting}
 use Rattle.wasm_execution.specs.Run.{RunGives}
 use Rattle.wasm_execution.specs.declared.running.Outcome.{Outcome}
 use Rattle.wasm_execution.specs.declared.running.Outcome.TheVariants as outcome
 use Rattle.comp_graph.specs.declared.graph.CanonFunc.{CanonFunc}
-use Rattle.comp_graph.specs.Graph.{Graph, Lifted, canon_type}
+use Rattle.comp_graph.specs.Graph.{Graph, Lifted}
+use Rattle.canonical_machine.specs.Synchronous.{canon_type}
 use Rattle.script_reader.specs.Script.{Script}
 use Rattle.trace_show.specs.declared.label.Label.{Label}
 use Rattle.trace_show.specs.declared.trap.TrapName.{TrapName}

@@ -1,6 +1,6 @@
 -- Core definitions that a store has (Core 2.0, section 4.2; Component Model, CanonicalABI.md, "Canonical ABI Options").
 use Rattle.std.specs.Option.{IsSome, IfSome}
-use Rattle.core_machine.specs.Store.{Store}
+use Rattle.wasm_store.specs.Store.{Store}
 use Rattle.comp_graph.specs.declared.graph.Options.{Options}
 use Rattle.canonical_machine.specs.Reading.{address_in, func_address}
 

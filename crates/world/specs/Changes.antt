@@ -1,7 +1,7 @@
 -- What the parts of a run change in its data (Component Model, CanonicalABI.md, `canon lift` and `canon lower`): the fuel that they spend, the
 -- tasks that wait, the items that are taken, the tasks that are made, and the lines.
 use Rattle.std.specs.Prelude.{◌≡◌, ◌≤◌, ◌<◌, ◌+◌, [], ◌∷◌, ◌++◌}
-use Rattle.core_machine.specs.Stack.{Stack, Running, AtHost, Given}
+use Rattle.wasm_store.specs.Stack.{Stack, Running, AtHost, Given}
 use Rattle.trace_show.specs.declared.label.Label.{Label}
 use Rattle.world.specs.declared.running.Stop.{Stop}
 use Rattle.world.specs.declared.running.Stop.TheVariants as stop

@@ -1,7 +1,7 @@
 -- Parts of runs (Component Model, Concurrency.md, "Summary"): steps that lead from one world to another, with their lines, and what
 -- comes behind them.
 use Rattle.std.specs.Prelude.{◌≡◌, ◌+◌, ℕ, List}
-use Rattle.core_machine.specs.Store.{Store}
+use Rattle.wasm_store.specs.Store.{Store}
 use Rattle.comp_graph.specs.Graph.{Graph}
 use Rattle.script_reader.specs.Script.{Script}
 use Rattle.trace_show.specs.declared.label.Label.{Label}

@@ -6,7 +6,7 @@ use Rattle.ca_base.specs.Faults.{MayMake}
 use Rattle.ca_types.specs.declared.types.ValType.{ValType}
 use Rattle.ca_types.specs.declared.value.Value.{Value}
 use Rattle.value_lift.specs.declared.trap.LiftTrap.{LiftTrap}
-use Rattle.core_machine.specs.Store.{Store}
+use Rattle.wasm_store.specs.Store.{Store}
 use Rattle.wasm_numbers.specs.Types.{AreWords}
 use Rattle.comp_graph.specs.declared.graph.Lower.{Lower}
 use Rattle.comp_graph.specs.Graph.{Graph, Lifted}

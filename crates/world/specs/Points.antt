@@ -2,7 +2,7 @@
 -- comes next there: the post-return of its function, its exit, or control that is back at the task that called.
 use Rattle.std.specs.Prelude.{◌≡◌, ℕ, Bool, true, false, List, [], ◌∷◌, ◌++◌, Some}
 use Rattle.std.specs.List.{slice_get}
-use Rattle.core_machine.specs.Stack.{Stack}
+use Rattle.wasm_store.specs.Stack.{Stack}
 use Rattle.comp_graph.specs.Graph.{Graph, Lifted}
 use Rattle.script_reader.specs.Script.{Script}
 use Rattle.trace_show.specs.declared.label.Label.{Label}

@@ -4,8 +4,8 @@
 use Rattle.std.specs.Prelude.{◌≡◌, ◌≤◌, ◌+◌, ℕ, List, [], ◌∷◌, length, map, reverse, Some}
 use Rattle.std.specs.List.{slice_get}
 use Rattle.wasm_numbers.specs.Types.{AreWords}
-use Rattle.core_machine.specs.Stack.{Stack}
-use Rattle.core_machine.specs.Step as core
+use Rattle.wasm_store.specs.Stack.{Stack}
+use Rattle.wasm_store.specs.Step as core
 use Rattle.comp_graph.specs.declared.graph.Lower.{Lower}
 use Rattle.comp_graph.specs.Graph.{Graph, Lifted, func_named}
 use Rattle.script_reader.specs.declared.script.Call.{Call}

@@ -3,10 +3,10 @@
 use Rattle.std.specs.Prelude.{◌≡◌, ◌≤◌, ◌⊎◌, ℕ, [], ◌∷◌, Option, MatchOption, Some}
 use Rattle.std.specs.List.{slice_get}
 use Rattle.wasm_module.specs.declared.module.ModuleTree.{ModuleTree}
-use Rattle.core_machine.specs.Store.{Instance}
-use Rattle.core_machine.specs.Stack.{Stack}
-use Rattle.core_machine.specs.Instantiation.{start_call}
-use Rattle.core_machine.specs.Typed.{HasContext, module_context}
+use Rattle.wasm_store.specs.Store.{Instance}
+use Rattle.wasm_store.specs.Stack.{Stack}
+use Rattle.wasm_store.specs.Instantiation.{start_call}
+use Rattle.wasm_store.specs.Typed.{HasContext, module_context}
 use Rattle.comp_graph.specs.Graph.{Graph}
 use Rattle.script_reader.specs.Script.{Script}
 use Rattle.trace_show.specs.declared.trap.TrapName.TheVariants as trap

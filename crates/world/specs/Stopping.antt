@@ -1,6 +1,6 @@
 -- What the stack of a task comes to (Core 2.0, section 4.5.5; Component Model, CanonicalABI.md, `canon lift` and `canon lower`).
 use Rattle.std.specs.Prelude.{◌≡◌, ◌⊎◌, ℕ}
-use Rattle.core_machine.specs.declared.trap.Trap.{Trap}
+use Rattle.wasm_store.specs.declared.trap.Trap.{Trap}
 use Rattle.comp_graph.specs.Graph.{Graph}
 use Rattle.script_reader.specs.Script.{Script}
 use Rattle.canonical_machine.specs.declared.run_end.RunEnd.{RunEnd}

@@ -6,7 +6,7 @@ ghost use Rattle.canonical_machine.specs.Reading.{address_in, func_address, memo
 ghost use Rattle.world.specs.Addresses.{HasOptions};
 
 use comp_graph::{CoreRef, FuncRef, Options};
-use core_machine::Store;
+use wasm_store::Store;
 
 /// The address of a core function, which is there. The one that the Canonical ABI makes as that of a number has this address.
 pub fn func_address(store: &Store, func: FuncRef) -> usize
@@ -14,8 +14,11 @@ pub fn func_address(store: &Store, func: FuncRef) -> usize
     ensures { func_address store.now func ≡ Some result }
 {
     match func {
-        FuncRef::Instance(at) => store.instance(at.instance).funcs.as_slice()[at.index as usize],
-        FuncRef::Canon(number) => number,
+        FuncRef::Instance(at) => store
+            .instance(at.instance as usize)
+            .funcs
+            .as_slice()[at.index as usize],
+        FuncRef::Canon(number) => number as usize,
     }
 }
 
@@ -24,7 +27,7 @@ fn memory_address(store: &Store, at: CoreRef) -> usize
     requires { IsSome (address_in (λ i. i.memories) store.now at) }
     ensures { address_in (λ i. i.memories) store.now at ≡ Some result }
 {
-    store.instance(at.instance).memories.as_slice()[at.index as usize]
+    store.instance(at.instance as usize).memories.as_slice()[at.index as usize]
 }
 
 /// The address of the memory of options, if they have one.

@@ -20,11 +20,11 @@ use crate::copying::same_values;
 use crate::named_graph::NamedGraph;
 use crate::state::{RunState, Waiter};
 use ca_types::Value;
-use core_machine::Store;
 use laid_types::LaidType;
 use script_reader::{Call, Script};
 use std::alloc::Global;
 use value_lift::{LiftError, LiftOf, lift_flat, load};
+use wasm_store::Store;
 
 /// The arguments of the acting task, which are of this type: what the innermost of the tasks that wait passes, by its words and the
 /// memory of its component instance as they are now; where none waits, those of the script's last item taken. It fails for want of

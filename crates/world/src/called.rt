@@ -4,6 +4,7 @@ ghost use Rattle.std.specs.Prelude.{◌≡◌, ◌<◌, ◌+◌, ℕ, length, So
 ghost use Rattle.std.specs.List.{slice_get};
 ghost use Rattle.ca_types.specs.declared.exports.Export.{Export};
 ghost use Rattle.comp_graph.specs.declared.graph.Lower.{Lower};
+ghost use Rattle.script_reader.specs.declared.script.Call.{Call};
 ghost use Rattle.comp_graph.specs.Graph.{Lifted, func_named};
 ghost use Rattle.canonical_machine.specs.World.{Task};
 ghost use Rattle.canonical_machine.specs.Reading.{lower_at, lifted_of};
@@ -67,9 +68,9 @@ fn last_taken<'g>(graph: &NamedGraph<'g, '_>, script: &Script, taken: u32) -> Ca
     exported(graph, call.name.as_str())
 }
 
-/// The call of a script that was taken last, of so many.
+/// The call of a script that was taken last, of so many items, which is a call.
 pub fn last_call(script: &Script, taken: u32) -> &Call
-    requires { (number : ℕ) × (taken ≡ number + 1) × (number < length script.now.items) }
+    requires { (number : ℕ) × (call : Call) × (taken ≡ number + 1) × (slice_get script.now.items number ≡ Some (Item.Call call)) }
     ensures { (number : ℕ) → taken ≡ number + 1 → slice_get script.now.items number ≡ Some (Item.Call result.now) }
 {
     call_of(item_at(script, taken as usize - 1))
@@ -85,10 +86,12 @@ fn item_at(script: &Script, number: usize) -> &Item
 
 /// The call that an item is.
 fn call_of(item: &Item) -> &Call
+    requires { (call : Call) × (item.now ≡ Item.Call call) }
     ensures { item.now ≡ Item.Call result.now }
 {
     match item {
         Item::Call(call) => call,
+        Item::Cancel(_) => unreachable!(),
     }
 }
 

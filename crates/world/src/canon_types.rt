@@ -1,16 +1,18 @@
 //! The types of the core functions that the Canonical ABI makes (Component Model, CanonicalABI.md, "Flattening"). They are taken from the
 //! first core types that each type keeps, and no type is walked.
 
-ghost use Rattle.std.specs.Prelude.{◌≡◌, ◌++◌, map, take, IfOk};
+ghost use Rattle.std.specs.Prelude.{◌≡◌, ◌<◌, ◌++◌, length, map, take, Some, IfOk};
+ghost use Rattle.std.specs.List.{slice_get};
 ghost use Rattle.ca_types.specs.declared.types.FuncType as func_types;
 ghost use Rattle.ca_types.specs.Flat.{at_most, flat_payload, out_place, returned};
-ghost use Rattle.comp_graph.specs.Graph.{canon_type};
+ghost use Rattle.comp_graph.specs.declared.graph.CanonFunc.{CanonFunc};
 ghost use Rattle.comp_graph.specs.Needs.{core_val, lowered_type};
 ghost use Rattle.comp_graph.specs.Passed.{ArePassed};
+ghost use Rattle.canonical_machine.specs.Synchronous.{canon_type};
 
 use ca_base::{Memory, Seq};
 use ca_types::CoreType;
-use comp_graph::{Graph, PassedTypes};
+use comp_graph::{CanonFunc, Graph, PassedTypes};
 use laid_types::LaidType;
 use std::alloc::Global;
 use wasm_module::{FuncType, ValType};
@@ -21,17 +23,31 @@ const PARAM_LIMIT: usize = 16;
 /// How many core values are given as core results; more are given in memory.
 const RESULT_LIMIT: usize = 1;
 
-/// The types of the core functions of a graph that the Canonical ABI makes, in order (Component Model, CanonicalABI.md, "Flattening").
-/// It fails for want of memory alone.
+/// The types of the core functions of a graph that the Canonical ABI makes, in order (Component Model, CanonicalABI.md, "Flattening"),
+/// where all of them call functions that are lowered without `async`. It fails for want of memory alone.
 pub fn canon_func_types(alloc: Global, graph: &Graph) -> Result<Vec<FuncType>, Memory>
     ensures { IfOk result (λ types. types.items ≡ map canon_type graph.now.canons) }
 {
     let mut types = Vec::new(alloc);
     for number in 0..graph.canons().len() {
-        let lowered = type_of_lower(alloc, &graph.canon_types(number))?;
-        types.push(lowered)?;
+        let of_canon = canon_func_type(alloc, graph, number)?;
+        types.push(of_canon)?;
     }
     Ok(types)
+}
+
+/// The type of the core function of the Canonical ABI of a number.
+fn canon_func_type(alloc: Global, graph: &Graph, number: usize) -> Result<FuncType, Memory>
+    requires { number < length graph.now.canons }
+    ensures { IfOk result (λ t. (c : CanonFunc) → slice_get graph.now.canons number ≡ Some c → t ≡ canon_type c) }
+{
+    match graph.canons()[number] {
+        CanonFunc::Lower(_) => type_of_lower(alloc, &graph.canon_types(number)),
+        CanonFunc::Builtin(_) => Ok(FuncType {
+            params: Seq::new(alloc),
+            results: Seq::new(alloc),
+        }),
+    }
 }
 
 /// The type of the core function to which a function is lowered that passes these types.

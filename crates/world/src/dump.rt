@@ -4,9 +4,9 @@ ghost use Rattle.std.specs.Prelude.{◌≡◌, IfOk, [], map, replicate};
 ghost use Rattle.trace_show.specs.DumpText.{dump_text};
 
 use ca_base::{Bytes, Memory, Seq};
-use core_machine::Store;
 use std::alloc::Global;
 use trace_show::{Dump, LiveEntry};
+use wasm_store::Store;
 
 /// The table of each component instance that has begun, without entries.
 fn tables_of(alloc: Global, instances: usize) -> Result<Seq<Seq<LiveEntry>>, Memory>

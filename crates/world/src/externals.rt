@@ -1,15 +1,15 @@
 //! What the imports of core instances are, by their addresses in the store.
 
 ghost use Rattle.std.specs.Prelude.{◌≡◌, List, Some, IfOk, map};
-ghost use Rattle.core_machine.specs.Instantiation.{External as Address};
-ghost use Rattle.core_machine.specs.Views.{address_of};
+ghost use Rattle.wasm_store.specs.Instantiation.{External as Address};
+ghost use Rattle.wasm_store.specs.Views.{address_of};
 ghost use Rattle.canonical_machine.specs.Reading.{external_of, externals};
 
 use ca_base::{Memory, Seq};
 use comp_graph::{CoreExtern, FuncRef};
-use core_machine::Store;
 use std::alloc::Global;
 use wasm_code::External;
+use wasm_store::Store;
 
 /// What these imports are. All of them are there.
 pub(crate) fn externals_of(
@@ -34,17 +34,23 @@ fn external_of(store: &Store, import: CoreExtern) -> External
 {
     match import {
         CoreExtern::Func(FuncRef::Instance(at)) => {
-            External::Func(store.instance(at.instance).funcs.as_slice()[at.index as usize])
+            External::Func(store.instance(at.instance as usize).funcs.as_slice()[at.index as usize])
         }
-        CoreExtern::Func(FuncRef::Canon(number)) => External::Func(number),
+        CoreExtern::Func(FuncRef::Canon(number)) => External::Func(number as usize),
         CoreExtern::Table(at) => {
-            External::Table(store.instance(at.instance).tables.as_slice()[at.index as usize])
+            External::Table(
+                store.instance(at.instance as usize).tables.as_slice()[at.index as usize],
+            )
         }
         CoreExtern::Memory(at) => {
-            External::Memory(store.instance(at.instance).memories.as_slice()[at.index as usize])
+            External::Memory(
+                store.instance(at.instance as usize).memories.as_slice()[at.index as usize],
+            )
         }
         CoreExtern::Global(at) => {
-            External::Global(store.instance(at.instance).globals.as_slice()[at.index as usize])
+            External::Global(
+                store.instance(at.instance as usize).globals.as_slice()[at.index as usize],
+            )
         }
     }
 }

@@ -14,10 +14,10 @@ use crate::state::RunState;
 use ca_base::Memory;
 use canonical_machine::RunEnd;
 use comp_graph::{Action, CoreMake, Graph};
-use core_machine::AddFault;
 use script_reader::Script;
 use std::alloc::Global;
 use trace_show::TrapName;
+use wasm_store::AddFault;
 
 /// Instantiates a graph, and answers how the run ends, if it does so there (Component Model, Explainer.md, "Instance Definitions"; Core
 /// 2.0, section 4.5.4). Of the steps only the instructions of start functions cost fuel. No item of the script is taken. It fails for
@@ -68,7 +68,7 @@ fn act(
             Ok(None)
         }
         Action::Make(core) => {
-            let core = core_of(graph, core);
+            let core = core_of(graph, core as usize);
             make_core(alloc, graph, script, number, core, run)
         }
     }

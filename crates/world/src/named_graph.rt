@@ -28,13 +28,15 @@ impl<'g, 'a> Model for NamedGraph<'g, 'a> {
     ghost use Rattle.comp_graph.specs.contracts.graph.Action as action;
     ghost use Rattle.comp_graph.specs.contracts.graph.CoreExtern as core_extern;
     ghost use Rattle.comp_graph.specs.contracts.graph.CanonFunc as canon_func;
+    ghost use Rattle.comp_graph.specs.contracts.graph.Resource as a_resource;
+    ghost use Rattle.ca_types.specs.contracts.types.ValType as val_type;
     ghost use Rattle.comp_graph.specs.contracts.graph.Lift as lift;
     ghost use Rattle.comp_graph.specs.Graph as graphs;
     ghost use Rattle.ca_base.specs.Names.{at_name, first_named};
 
     ghost Value = { graphs.Graph };
 
-    ghost coded = { Prim.hlevel (codes, tree.the_row.coded, core_extern.the_row.coded, export.the_row.coded, action.the_row.coded, canon_func.the_row.coded, lift.the_row.coded) };
+    ghost coded = { Prim.hlevel (codes, tree.the_row.coded, core_extern.the_row.coded, export.the_row.coded, action.the_row.coded, canon_func.the_row.coded, a_resource.the_row.coded, val_type.the_row.coded, lift.the_row.coded) };
 
     ghost view = { λ n. n.graph.now };
 

@@ -18,11 +18,11 @@ ghost use Rattle.world.specs.Addresses.{HasOptions};
 use crate::addresses::{bytes_of, memory_of};
 use crate::called::CalledFunc;
 use ca_types::Value;
-use core_machine::Store;
 use laid_types::LaidType;
 use std::alloc::Global;
 use trace_show::TypedValue;
 use value_lift::{LiftError, LiftOf, lift_flat, load};
+use wasm_store::Store;
 
 /// The result of a function, if it has one, of the words with which its core function ended. It fails for want of memory, or where the
 /// words and the memory of the lift's options stand for no value of the type.

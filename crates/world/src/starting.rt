@@ -16,7 +16,7 @@ use comp_graph::Graph;
 use script_reader::Script;
 use std::alloc::Global;
 use wasm_execution::{Outcome, Running, run, start};
-use wasm_valid::Valid;
+use wasm_typing::Valid;
 
 /// Runs the start function of an instance, if its module has one, and answers how the run ends, if it does so there. The next action
 /// of the plan has this number.

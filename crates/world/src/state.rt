@@ -1,18 +1,19 @@
 //! What a run has so far.
 
 ghost use Rattle.std.specs.Prelude.{◌≡◌, map, IfOk};
-ghost use Rattle.core_machine.specs.Instantiation.{empty};
-ghost use Rattle.core_machine.specs.Store.{Host};
-ghost use Rattle.comp_graph.specs.Graph.{Graph, canon_type};
+ghost use Rattle.wasm_store.specs.Instantiation.{empty};
+ghost use Rattle.wasm_store.specs.Store.{Host};
+ghost use Rattle.comp_graph.specs.Graph.{Graph};
+ghost use Rattle.canonical_machine.specs.Synchronous.{canon_type};
 ghost use Rattle.world.specs.Seen.{IsAtPlan};
 
 use ca_base::{Fuel, Memory, Seq};
-use core_machine::Store;
 use script_reader::Script;
 use std::alloc::Global;
 use trace_show::Label;
 use wasm_execution::{Suspended, Words};
 use wasm_module::FuncType;
+use wasm_store::Store;
 
 /// A task that waits for one that it called. Its stack is spent when it goes on, or given up.
 pub struct Waiter {

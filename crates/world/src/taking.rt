@@ -37,6 +37,7 @@ pub fn take_item(
 {
     match script.items().get(run.taken as usize) {
         Some(Item::Call(call)) => take_call(alloc, graph, script, call, run),
+        Some(Item::Cancel(_)) => unreachable!(),
         None => Ok(Err(RunEnd::Done)),
     }
 }

@@ -3,10 +3,10 @@
 ghost use Rattle.std.specs.Prelude.{◌≡◌};
 ghost use Rattle.canonical_machine.specs.Traps.{core_name, lift_name, lower_name};
 
-use core_machine::Trap;
 use trace_show::TrapName;
 use value_lift::LiftWhy;
 use value_lower::LowerWhy;
+use wasm_store::Trap;
 
 /// The name of a trap of an instruction.
 pub fn core_name(why: Trap) -> TrapName

@@ -2,7 +2,7 @@ use Rattle.std.proofs.Common.{◌∙◌, ap, refl, rules, arith}
 use Rattle.std.specs.List.{slice_get}
 use Rattle.comp_graph.specs.Graph.{Graph}
 use Rattle.canonical_machine.specs.Reading.{lower_at}
-use Rattle.builtins.proofs.Begun.{some_wait_in, caller_in, within_found, told_back, told_makes, another}
+use Rattle.builtins.proofs.Begun.{some_wait_in, caller_in, within_found, lowers_found, told_back, told_makes, another}
 use Rattle.builtins.proofs.Telling.{two_lines}
 use Rattle.builtins.proofs.calling.begin_call.Goals as goal
 
@@ -19,7 +19,7 @@ pub called_instance-instance-requires : goal.called_instance-instance-requires
 called_instance-instance-requires c =
     let caller = caller_in c.args.graph.now c.args.script.now c.args.run.now c.args.task c.requires.sound c.requires.apart c.requires.at c.deref.result.now c.innermost-caller.result.now c.deref.ensures.value
     c.innermost-caller.ensures in
-    within_found c.args.graph.now c.args.script.now c.args.run.now c.args.task c.requires.sound c.requires.apart c.requires.at c.innermost-caller.result.now c.graph-2.result.now caller c.graph-2.ensures
+    lowers_found c.args.graph.now c.args.script.now c.args.run.now c.args.task c.requires.sound c.requires.apart c.requires.at c.innermost-caller.result.now c.graph-2.result.now caller c.graph-2.ensures
 
 pub returns-then-back-clause-arrives : goal.returns-then-back-clause-arrives
 returns-then-back-clause-arrives c =

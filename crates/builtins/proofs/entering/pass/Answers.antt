@@ -1,7 +1,7 @@
 use Rattle.std.proofs.Common.{◌≡◌, ◌<◌, List, ℕ, length, refl, sym, subst, arith, append-nil, Some}
 use Rattle.std.specs.List.{slice_get}
-use Rattle.core_machine.specs.Store.{Function}
-use Rattle.core_machine.specs.Step.{start}
+use Rattle.wasm_store.specs.Store.{Function}
+use Rattle.wasm_store.specs.Step.{start}
 use Rattle.comp_graph.specs.Graph.{Graph}
 use Rattle.canonical_machine.specs.Entering.{arguments_lowering}
 use Rattle.builtins.specs.declared.lower_values.Lowered.TheVariants as came

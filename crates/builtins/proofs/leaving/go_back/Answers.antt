@@ -1,5 +1,5 @@
 use Rattle.std.proofs.Common.{refl, arith, ap, ◌∙◌, length}
-use Rattle.core_machine.specs.Step.{resume}
+use Rattle.wasm_store.specs.Step.{resume}
 use Rattle.builtins.proofs.Exits.{counted, went_back}
 use Rattle.builtins.proofs.leaving.go_back.Goals as goal
 

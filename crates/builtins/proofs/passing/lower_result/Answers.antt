@@ -11,8 +11,8 @@ use Rattle.builtins.specs.declared.lower_values.Lowered.{Lowered}
 use Rattle.world.specs.Parts.{WithUsed}
 use Rattle.world.specs.Refusing.{IsRefused}
 use Rattle.builtins.specs.Lowering.{plan_to, LoweredLeads}
-use Rattle.world.proofs.Callees.{last_first}
-use Rattle.builtins.proofs.Resolving.{canon_within, of_result, is_plain, holds_none, words_passed, caller_options, lowering_at, lowering, lowering_world, result_typed, same_val, passes_words, passing_traps, passing_call_there, passing_refused, passing_wants}
+use Rattle.world.proofs.Callees.{has_lower, last_first}
+use Rattle.builtins.proofs.Resolving.{canon_within, canon_lowers, of_result, is_plain, holds_none, words_passed, caller_options, lowering_at, lowering, lowering_world, result_typed, same_val, passes_words, passing_traps, passing_call_there, passing_refused, passing_wants}
 use Rattle.builtins.proofs.Telling.{return_told, told_refused}
 use Rattle.builtins.proofs.passing.lower_result.Goals as goal
 
@@ -20,6 +20,12 @@ pub canon_at-requires : goal.canon_at-requires
 canon_at-requires c =
     let last = last_first c.args.run.now.waiting.items c.innermost-caller.result.now (ap (λ (us : List Waiter). slice_get us (length us - 1)) (sym c.deref.ensures.value) ∙ c.innermost-caller.ensures) in
     subst (λ (g : Graph). c.innermost-caller.result.now.canon < length g.canons) (sym c.graph.ensures) (canon_within c.args.graph.now c.args.script.now c.args.run.now c.args.task c.args.ended.now c.args.func.now c.requires.sound c.requires.apart c.requires.at c.requires.runs c.innermost-caller.result.now last.0 last.1)
+
+pub lower_of-lowers-requires : goal.lower_of-lowers-requires
+lower_of-lowers-requires c =
+    let last = last_first c.args.run.now.waiting.items c.innermost-caller.result.now (ap (λ (us : List Waiter). slice_get us (length us - 1)) (sym c.deref.ensures.value) ∙ c.innermost-caller.ensures) in
+    has_lower c.args.graph.now c.graph.result.now c.innermost-caller.result.now.canon c.canon_at.result.now c.graph.ensures c.canon_at.ensures
+    (canon_lowers c.args.graph.now c.args.script.now c.args.run.now c.args.task c.args.ended.now c.args.func.now c.requires.sound c.requires.apart c.requires.at c.requires.runs c.innermost-caller.result.now last.0 last.1)
 
 pub target_of-to-requires : goal.target_of-to-requires
 target_of-to-requires c =

@@ -1,8 +1,8 @@
 use Rattle.std.proofs.Common.{refl, sym, ◌∙◌}
 use Rattle.std.specs.List.{slice_get}
-use Rattle.comp_linking.specs.Definitions.{export_named}
-use Rattle.comp_linking.specs.Computed.{Outcome}
-use Rattle.instance_tables.specs.References.{IsInstance}
+use Rattle.link_spec.specs.Definitions.{export_named}
+use Rattle.link_spec.specs.Computed.{Outcome}
+use Rattle.link_instances.specs.References.{IsInstance}
 use Rattle.comp_link.specs.State.{world_of}
 use Rattle.comp_link.proofs.Steps.{missing_told, none_found, some_found, none_named, some_named}
 use Rattle.comp_link.proofs.aliases.link_export_alias.Goals as goal

@@ -1,6 +1,6 @@
 use Rattle.std.proofs.Common.{◌∷◌}
-use Rattle.comp_linking.specs.Spaces.{outer_at}
-use Rattle.instance_tables.specs.References.{Stands}
+use Rattle.link_spec.specs.Spaces.{outer_at}
+use Rattle.link_instances.specs.References.{Stands}
 use Rattle.comp_link.specs.State.{world_of}
 use Rattle.comp_link.proofs.Steps.{some_found}
 use Rattle.comp_link.proofs.aliases.link_outer.Goals as goal

@@ -1,6 +1,6 @@
 use Rattle.std.proofs.Common.{◌≡◌, ◌∷◌, ℕ, List, Option, Some, None, refl, sym, subst, ◌∙◌, Bor}
 use Rattle.std.specs.List.{slice_get}
-use Rattle.comp_linking.specs.Spaces.{Spaces}
+use Rattle.link_spec.specs.Spaces.{Spaces}
 use Rattle.comp_link.specs.declared.scope.Scope.{Scope}
 use Rattle.comp_link.specs.State.{world_of, IsKept}
 use Rattle.comp_link.proofs.Steps.{none_found, some_found}

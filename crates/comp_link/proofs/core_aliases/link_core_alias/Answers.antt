@@ -1,8 +1,8 @@
 use Rattle.std.proofs.Common.{◌≡◌, ◌∙◌, sym, List, ap}
 use Rattle.std.proofs.lemmas.Result.{err_from_is_err_and}
-use Rattle.comp_linking.specs.Definitions.{CoreExport}
-use Rattle.comp_linking.specs.Spaces.{with_core_item, with_spaces}
-use Rattle.comp_linking.specs.Computed.{core_aliased}
+use Rattle.link_spec.specs.Definitions.{CoreExport}
+use Rattle.link_spec.specs.Spaces.{with_core_item, with_spaces}
+use Rattle.link_spec.specs.Computed.{core_aliased}
 use Rattle.comp_link.proofs.Told.{reason_after, made_from, reason_of_fault}
 use Rattle.comp_link.proofs.core_aliases.link_core_alias.Goals as goal
 

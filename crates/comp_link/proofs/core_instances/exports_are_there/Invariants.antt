@@ -2,9 +2,9 @@
 use Rattle.std.proofs.Common.{◌≡◌, drop, nat_lt}
 use Rattle.std.specs.List.{list_all}
 use Rattle.comp_tree.specs.declared.core_instances.CoreInlineExport.{CoreInlineExport}
-use Rattle.comp_linking.specs.Spaces.{Spaces, core_size}
-use Rattle.type_tables.specs.Table.{Table}
-use Rattle.instance_tables.specs.References.{World}
+use Rattle.link_spec.specs.Spaces.{Spaces, core_size}
+use Rattle.link_types.specs.Table.{Table}
+use Rattle.link_instances.specs.References.{World}
 use Rattle.comp_link.specs.State.{IsScope}
 use Rattle.comp_link.proofs.core_instances.exports_are_there.Given as goal
 

@@ -1,10 +1,10 @@
 -- What is left of the exports is there behind those that are; these have the names that are read.
 use Rattle.std.proofs.Common.{◌≡◌, drop, take, map}
-use Rattle.comp_linking.specs.Spaces.{Spaces}
-use Rattle.comp_linking.specs.Computed.{inline_exports}
-use Rattle.type_tables.specs.Table.{Table}
-use Rattle.instance_tables.specs.References.{World}
-use Rattle.core_exports.proofs.Behind.{behind}
+use Rattle.link_spec.specs.Spaces.{Spaces}
+use Rattle.link_spec.specs.Computed.{inline_exports}
+use Rattle.link_types.specs.Table.{Table}
+use Rattle.link_instances.specs.References.{World}
+use Rattle.link_core_exports.proofs.Behind.{behind}
 use Rattle.comp_link.specs.State.{IsScope}
 use Rattle.comp_link.proofs.core_instances.inline_exports.Given as goal
 

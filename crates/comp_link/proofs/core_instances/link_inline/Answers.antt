@@ -1,8 +1,8 @@
 use Rattle.std.proofs.Common.{◌≡◌, List, subst}
 use Rattle.std.proofs.lemmas.Result.{err_from_is_err_and}
-use Rattle.comp_linking.specs.Definitions.{CoreExport}
-use Rattle.comp_linking.specs.Spaces.{with_core_instance, with_spaces}
-use Rattle.comp_linking.specs.Computed.{inline_outcome}
+use Rattle.link_spec.specs.Definitions.{CoreExport}
+use Rattle.link_spec.specs.Spaces.{with_core_instance, with_spaces}
+use Rattle.link_spec.specs.Computed.{inline_outcome}
 use Rattle.comp_link.specs.State.{IsState, world_of}
 use Rattle.comp_link.proofs.Told.{reason_after, made_from, value_told}
 use Rattle.comp_link.proofs.core_instances.link_inline.Goals as goal

@@ -1,10 +1,10 @@
 use Rattle.std.proofs.Common.{◌≤◌, ◌<◌, ◌∙◌, List, sym, ap, subst, arith, length, map}
 use Rattle.std.proofs.lemmas.Result.{err_from_is_err_and}
 use Rattle.comp_tree.specs.declared.core_instances.CoreInstance.TheVariants as made_core
-use Rattle.comp_linking.specs.declared.fault.LinkWhy.TheVariants as why
-use Rattle.comp_linking.specs.Definitions.{CoreItem, extern_of}
-use Rattle.comp_linking.specs.Items.{instance_limit, core_made}
-use Rattle.comp_linking.specs.Computed.{core_instance_outcome}
+use Rattle.link_spec.specs.declared.fault.LinkWhy.TheVariants as why
+use Rattle.link_spec.specs.Definitions.{CoreItem, extern_of}
+use Rattle.link_spec.specs.Items.{instance_limit, core_made}
+use Rattle.link_spec.specs.Computed.{core_instance_outcome}
 use Rattle.comp_link.specs.declared.linker.Linker.{Linker}
 use Rattle.comp_link.specs.State.{IsAt}
 use Rattle.comp_link.proofs.Told.{reason_is, made_told, reason_of_fault}

@@ -1,6 +1,6 @@
 use Rattle.std.proofs.Common.{sym, ap, subst, ◌∙◌}
-use Rattle.comp_linking.specs.Computed.{export_outcome}
-use Rattle.type_tables.specs.Table.{IsName}
+use Rattle.link_spec.specs.Computed.{export_outcome}
+use Rattle.link_types.specs.Table.{IsName}
 use Rattle.comp_link.specs.declared.linker.Linker.{Linker}
 use Rattle.comp_link.specs.Ready.{exported}
 use Rattle.comp_link.proofs.Steps.{linked_by}

@@ -1,9 +1,9 @@
 use Rattle.std.proofs.Common.{◌<◌, ◌≤◌, ℕ, refl, subst, true, false}
-use Rattle.comp_linking.specs.Definitions.{export_names}
-use Rattle.comp_linking.specs.Spaces.{definition_at}
-use Rattle.comp_linking.specs.Computed.{export_outcome}
-use Rattle.comp_linking.specs.declared.fault.LinkWhy.TheVariants as why
-use Rattle.instance_tables.specs.References.{Stands}
+use Rattle.link_spec.specs.Definitions.{export_names}
+use Rattle.link_spec.specs.Spaces.{definition_at}
+use Rattle.link_spec.specs.Computed.{export_outcome}
+use Rattle.link_spec.specs.declared.fault.LinkWhy.TheVariants as why
+use Rattle.link_instances.specs.References.{Stands}
 use Rattle.comp_link.specs.State.{world_of}
 use Rattle.comp_link.specs.Ready.{exported}
 use Rattle.comp_link.proofs.Steps.{none_found, some_found, outcome_err, outcome_ready, among_is}

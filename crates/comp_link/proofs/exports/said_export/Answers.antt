@@ -2,14 +2,14 @@ use Rattle.std.proofs.Common.{ap, ◌<◌, ◌≤◌, ℕ, List, refl, sym, ◌�
 use Rattle.std.specs.List.{AllZip}
 use Rattle.std.proofs.lemmas.Result.{err_from_is_err_and}
 use Rattle.ca_base.specs.Names.{is_among}
-use Rattle.comp_linking.specs.Definitions.{export_names}
-use Rattle.comp_linking.specs.Spaces.{definition_at}
-use Rattle.comp_linking.specs.Items.{wanted, lacking}
-use Rattle.comp_linking.specs.Computed.{export_outcome}
-use Rattle.comp_linking.specs.declared.fault.LinkWhy.TheVariants as why
-use Rattle.type_tables.specs.declared.refs.TypeRef.{TypeRef}
-use Rattle.type_tables.specs.Table.{IsType}
-use Rattle.instance_tables.specs.References.{Stands}
+use Rattle.link_spec.specs.Definitions.{export_names}
+use Rattle.link_spec.specs.Spaces.{definition_at}
+use Rattle.link_spec.specs.Items.{wanted, lacking}
+use Rattle.link_spec.specs.Computed.{export_outcome}
+use Rattle.link_spec.specs.declared.fault.LinkWhy.TheVariants as why
+use Rattle.link_types.specs.declared.refs.TypeRef.{TypeRef}
+use Rattle.link_types.specs.Table.{IsType}
+use Rattle.link_instances.specs.References.{Stands}
 use Rattle.comp_link.specs.State.{world_of}
 use Rattle.comp_link.specs.Ready.{as_wanted, exported}
 use Rattle.comp_link.proofs.Steps.{none_found, some_found, outcome_err, outcome_reason, outcome_ready, among_is}

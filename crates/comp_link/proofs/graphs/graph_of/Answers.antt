@@ -1,5 +1,6 @@
-use Rattle.std.proofs.Common.{◌∙◌, rules, ap}
+use Rattle.std.proofs.Common.{◌∙◌, ℕ, List, rules, ap}
 use Rattle.comp_graph.specs.Graph.{Graph}
+use Rattle.comp_graph.specs.Passed.{types_at}
 use Rattle.comp_link.proofs.Calling.{graph_told}
 use Rattle.comp_link.proofs.graphs.graph_of.Goals as goal
 
@@ -13,8 +14,10 @@ pub returns : goal.returns
 returns c = λ l stands.
     graph_told c.args.linker l c.new.result stands
     (search (rules, c.new.ensures, c.from_vec-3.ensures))
-    (search (rules, c.new.ensures, c.len-count.ensures))
+    (search (rules, c.new.ensures, c.in_ok-count.ensures, c.len.ensures))
     (search (rules, c.new.ensures, c.into_makes.ensures))
     (search (rules, c.new.ensures, c.from_vec-4.ensures))
+    (search (rules, c.new.ensures, c.new-resources.ensures))
     (ap (λ (g : Graph). g.exports) c.new.ensures ∙ c.from_vec-5.ensures ∙ c.in_ok-funcs.ensures.exports l stands)
     (ap (λ (g : Graph). g.lifts) c.new.ensures ∙ c.from_vec-6.ensures ∙ c.in_ok-funcs.ensures.lifts l stands)
+    (ap (λ (g : Graph). g.end_types) c.new.ensures ∙ ap (λ (ns : List ℕ). types_at c.into_func_types.result.values ns) c.new-ends.ensures)

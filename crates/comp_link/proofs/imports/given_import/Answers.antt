@@ -2,12 +2,12 @@ use Rattle.std.proofs.Common.{ap, List, refl, sym, ◌∙◌, subst, Some, Err, 
 use Rattle.std.specs.List.{AllZip}
 use Rattle.std.proofs.lemmas.Result.{err_from_is_err_and}
 use Rattle.ca_base.specs.Names.{is_among}
-use Rattle.comp_linking.specs.declared.fault.LinkWhy.TheVariants as why
-use Rattle.comp_linking.specs.Definitions.{export_named}
-use Rattle.comp_linking.specs.Items.{wanted, lacking}
-use Rattle.comp_linking.specs.Computed.{Outcome, import_outcome}
-use Rattle.type_tables.specs.declared.refs.TypeRef.{TypeRef}
-use Rattle.type_tables.specs.Table.{IsType}
+use Rattle.link_spec.specs.declared.fault.LinkWhy.TheVariants as why
+use Rattle.link_spec.specs.Definitions.{export_named}
+use Rattle.link_spec.specs.Items.{wanted, lacking}
+use Rattle.link_spec.specs.Computed.{Outcome, import_outcome}
+use Rattle.link_types.specs.declared.refs.TypeRef.{TypeRef}
+use Rattle.link_types.specs.Table.{IsType}
 use Rattle.comp_link.specs.State.{world_of}
 use Rattle.comp_link.specs.Ready.{as_wanted, imported}
 use Rattle.comp_link.proofs.Steps.{none_named, some_named, missing_told, outcome_err, outcome_reason, outcome_ready, among_is}

@@ -1,7 +1,7 @@
 use Rattle.std.proofs.Common.{sym, subst, Option}
-use Rattle.comp_linking.specs.Definitions.{Exports}
-use Rattle.comp_linking.specs.Items.{wanted}
-use Rattle.comp_linking.specs.Computed.{import_outcome}
+use Rattle.link_spec.specs.Definitions.{Exports}
+use Rattle.link_spec.specs.Items.{wanted}
+use Rattle.link_spec.specs.Computed.{import_outcome}
 use Rattle.comp_link.specs.State.{world_of}
 use Rattle.comp_link.specs.Told.{IsTold}
 use Rattle.comp_link.specs.Ready.{IsReady, imported}

@@ -1,7 +1,7 @@
 use Rattle.std.proofs.Common.{ap, ◌∙◌}
 use Rattle.std.proofs.lemmas.Result.{err_from_is_err_and}
-use Rattle.comp_linking.specs.Items.{wanted}
-use Rattle.comp_linking.specs.Computed.{Outcome, import_outcome}
+use Rattle.link_spec.specs.Items.{wanted}
+use Rattle.link_spec.specs.Computed.{Outcome, import_outcome}
 use Rattle.comp_link.specs.Ready.{IsReady, imported}
 use Rattle.comp_link.specs.State.{IsMade}
 use Rattle.comp_link.proofs.Steps.{told_err, linked_by}

@@ -1,8 +1,8 @@
 use Rattle.std.proofs.Common.{None}
-use Rattle.comp_linking.specs.Definitions.{AnInstance, types_of}
-use Rattle.comp_linking.specs.Items.{wanted}
-use Rattle.comp_linking.specs.Computed.{import_outcome}
-use Rattle.instance_tables.specs.declared.references.DefinitionRef.TheVariants as ref
+use Rattle.link_spec.specs.Definitions.{AnInstance, types_of}
+use Rattle.link_spec.specs.Items.{wanted}
+use Rattle.link_spec.specs.Computed.{import_outcome}
+use Rattle.link_instances.specs.declared.references.DefinitionRef.TheVariants as ref
 use Rattle.comp_link.specs.Ready.{IsGiven, imported}
 use Rattle.comp_link.proofs.Steps.{told_ok, outcome_ready}
 use Rattle.comp_link.proofs.imports.root_import.Goals as goal

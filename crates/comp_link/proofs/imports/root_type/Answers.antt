@@ -1,10 +1,10 @@
 use Rattle.std.proofs.Common.{List, sym, ◌∙◌, subst, None, true, false}
 use Rattle.std.specs.List.{AllZip}
-use Rattle.comp_linking.specs.declared.fault.LinkWhy.TheVariants as why
-use Rattle.comp_linking.specs.Items.{wanted}
-use Rattle.comp_linking.specs.Computed.{import_outcome, root_given}
-use Rattle.type_tables.specs.declared.refs.TypeRef.{TypeRef}
-use Rattle.type_tables.specs.Table.{IsType, IsExtern}
+use Rattle.link_spec.specs.declared.fault.LinkWhy.TheVariants as why
+use Rattle.link_spec.specs.Items.{wanted}
+use Rattle.link_spec.specs.Computed.{import_outcome, root_given}
+use Rattle.link_types.specs.declared.refs.TypeRef.{TypeRef}
+use Rattle.link_types.specs.Table.{IsType, IsExtern}
 use Rattle.comp_link.specs.State.{world_of}
 use Rattle.comp_link.specs.Ready.{imported}
 use Rattle.comp_link.proofs.Steps.{none_found, some_found, outcome_err, among_is}

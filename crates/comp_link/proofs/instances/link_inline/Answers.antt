@@ -1,10 +1,10 @@
 use Rattle.std.proofs.Common.{◌∷◌, ◌++◌, [], ℕ, List, Result, Ok, sym, ap, subst, ◌∙◌}
 use Rattle.std.proofs.lemmas.Result.{err_from_is_err_and}
-use Rattle.comp_linking.specs.declared.fault.LinkWhy.{LinkWhy}
-use Rattle.comp_linking.specs.Definitions.{AnInstance, Exports}
-use Rattle.comp_linking.specs.Computed.{Outcome, one_more, named_exports}
-use Rattle.instance_tables.specs.declared.references.DefinitionRef.{DefinitionRef}
-use Rattle.instance_tables.specs.References.{IsListing}
+use Rattle.link_spec.specs.declared.fault.LinkWhy.{LinkWhy}
+use Rattle.link_spec.specs.Definitions.{AnInstance, Exports}
+use Rattle.link_spec.specs.Computed.{Outcome, one_more, named_exports}
+use Rattle.link_instances.specs.declared.references.DefinitionRef.{DefinitionRef}
+use Rattle.link_instances.specs.References.{IsListing}
 use Rattle.comp_link.specs.declared.instances.Next.TheVariants as next
 use Rattle.comp_link.specs.State.{world_of}
 use Rattle.comp_link.specs.Told.{IsTold}

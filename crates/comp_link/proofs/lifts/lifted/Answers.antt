@@ -1,11 +1,11 @@
 use Rattle.std.proofs.Common.{◌≡◌, true, sym, ◌∙◌, subst}
 use Rattle.std.specs.List.{list_all}
-use Rattle.comp_linking.specs.declared.fault.LinkWhy.TheVariants as why
-use Rattle.comp_linking.specs.Canons.{Given, is_option_there}
-use Rattle.comp_linking.specs.Computed.{lifted_to, lifted_of}
-use Rattle.type_tables.specs.declared.refs.TypeRef.{TypeRef}
-use Rattle.type_tables.specs.Table.{IsType}
-use Rattle.instance_tables.specs.References.{IsLifted}
+use Rattle.link_spec.specs.declared.fault.LinkWhy.TheVariants as why
+use Rattle.link_spec.specs.Canons.{Given, is_option_there}
+use Rattle.link_spec.specs.Computed.{lifted_to, lifted_of}
+use Rattle.link_types.specs.declared.refs.TypeRef.{TypeRef}
+use Rattle.link_types.specs.Table.{IsType}
+use Rattle.link_instances.specs.References.{IsLifted}
 use Rattle.comp_link.specs.State.{world_of}
 use Rattle.comp_link.specs.Told.{IsTold}
 use Rattle.comp_link.proofs.Told.{reason_is}
@@ -25,14 +25,14 @@ returns-then-not-are_there c =
     let scope = c.scope-scope.ensures bases l s at in
     reason_is why.Index (lifted_of c.args.n s c.args.core_func c.args.options.now c.args.func_type)
     (no_option c.args.n s c.args.core_func c.args.options.now c.args.func_type c.in-Some.item (sym (c.in-Some.ensures c.args.linker.now.types (world_of bases c.args.linker.now) s scope))
-    (sym (c.are_there.ensures s (scope.core_memories ∙ sym c.deref.ensures.value) (scope.core_funcs ∙ sym c.deref-2.ensures.value)) ∙ c.if-not-are_there.true))
+    (sym (c.are_there.ensures c.args.linker.now.types (world_of bases c.args.linker.now) s scope) ∙ c.if-not-are_there.true))
 
 pub returns-in_default-type_at : goal.returns-in_default-type_at
 returns-in_default-type_at c =
     λ bases l s at.
     let scope = c.scope-scope.ensures bases l s at in
     let are : list_all (is_option_there s) c.args.options.now ≡ true =
-    sym (c.are_there.ensures s (scope.core_memories ∙ sym c.deref.ensures.value) (scope.core_funcs ∙ sym c.deref-2.ensures.value)) ∙ c.if-not-are_there.false in
+    sym (c.are_there.ensures c.args.linker.now.types (world_of bases c.args.linker.now) s scope) ∙ c.if-not-are_there.false in
     reason_is why.Index (lifted_of c.args.n s c.args.core_func c.args.options.now c.args.func_type)
     (no_type c.args.n s c.args.core_func c.args.options.now c.args.func_type c.in-Some.item (sym (c.in-Some.ensures c.args.linker.now.types (world_of bases c.args.linker.now) s scope)) are
     (c.in_default-type_at.ensures c.args.linker.now.types (world_of bases c.args.linker.now) s (kept_whole c.args.linker.now.types (world_of bases c.args.linker.now) c.scope-scope.result.now s scope)))
@@ -42,7 +42,7 @@ returns-in_default-of_type c =
     λ bases l s at.
     let scope = c.scope-scope.ensures bases l s at in
     let are : list_all (is_option_there s) c.args.options.now ≡ true =
-    sym (c.are_there.ensures s (scope.core_memories ∙ sym c.deref.ensures.value) (scope.core_funcs ∙ sym c.deref-2.ensures.value)) ∙ c.if-not-are_there.false in
+    sym (c.are_there.ensures c.args.linker.now.types (world_of bases c.args.linker.now) s scope) ∙ c.if-not-are_there.false in
     let type = c.in-Some-type_at.ensures c.args.linker.now.types (world_of bases c.args.linker.now) s (kept_whole c.args.linker.now.types (world_of bases c.args.linker.now) c.scope-scope.result.now s scope) in
     reason_is why.Typing (lifted_of c.args.n s c.args.core_func c.args.options.now c.args.func_type)
     (other_type c.args.n s c.args.core_func c.args.options.now c.args.func_type c.in-Some.item (sym (c.in-Some.ensures c.args.linker.now.types (world_of bases c.args.linker.now) s scope)) are
@@ -53,9 +53,9 @@ returns c =
     λ bases l s at.
     let scope = c.scope-scope.ensures bases l s at in
     let are : list_all (is_option_there s) c.args.options.now ≡ true =
-    sym (c.are_there.ensures s (scope.core_memories ∙ sym c.deref.ensures.value) (scope.core_funcs ∙ sym c.deref-2.ensures.value)) ∙ c.if-not-are_there.false in
+    sym (c.are_there.ensures c.args.linker.now.types (world_of bases c.args.linker.now) s scope) ∙ c.if-not-are_there.false in
     let type = c.in-Some-type_at.ensures c.args.linker.now.types (world_of bases c.args.linker.now) s (kept_whole c.args.linker.now.types (world_of bases c.args.linker.now) c.scope-scope.result.now s scope) in
     let f = of_func_type c.args.linker.now.types c.in-Func.of_func type.0 (subst (λ (ref : TypeRef). IsType c.args.linker.now.types ref type.0) c.in-Func.is type.2) in
-    let given = c.by-given.ensures s (scope.core_memories ∙ sym c.deref-3.ensures.value) (scope.core_funcs ∙ sym c.deref-4.ensures.value) in
+    let given = c.given-given.ensures c.args.linker.now.types (world_of bases c.args.linker.now) s scope in
     rw (of_parts c.args.n s c.args.core_func c.args.options.now c.args.func_type c.in-Some.item (sym (c.in-Some.ensures c.args.linker.now.types (world_of bases c.args.linker.now) s scope)) are type.0 f.0 type.1 f.1)
     (subst (λ (given : Given). IsTold (IsLifted c.args.linker.now.types) c.lifted_to.result (lifted_to c.args.n f.0 c.in-Some.item c.args.options.now given)) given (c.lifted_to.ensures f.0 f.2))

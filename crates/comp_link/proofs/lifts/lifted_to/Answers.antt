@@ -1,8 +1,8 @@
 use Rattle.std.proofs.Common.{◌≡◌, ◌∙◌, refl, sym, true}
-use Rattle.comp_linking.specs.declared.fault.LinkWhy.TheVariants as why
-use Rattle.comp_linking.specs.Canons.{stand_once, can_be_lifted}
-use Rattle.comp_linking.specs.Computed.{lifted_to}
-use Rattle.instance_tables.specs.References.{IsLifted}
+use Rattle.link_spec.specs.declared.fault.LinkWhy.TheVariants as why
+use Rattle.link_spec.specs.Canons.{stand_once, can_be_lifted}
+use Rattle.link_spec.specs.Computed.{lifted_to}
+use Rattle.link_instances.specs.References.{IsLifted}
 use Rattle.comp_link.proofs.Told.{told_why, told_value}
 use Rattle.comp_link.proofs.CoreParts.{not_once, not_lifted, no_core, is_lift}
 use Rattle.comp_link.proofs.lifts.lifted_to.Goals as goal
@@ -35,4 +35,4 @@ returns c =
     let lifts : can_be_lifted f c.args.item.now c.args.given.now ≡ true = sym (c.can_be_lifted.ensures f (c.in-Some.ensures f h)) ∙ c.if-not-can_be_lifted.false in
     told_value (IsLifted c.args.types.now) _ _ (lifted_to c.args.n f c.args.item.now c.args.options.now c.args.given.now)
     (is_lift c.args.n f c.args.item.now c.args.options.now c.args.given.now once lifts c.in-Some-core_func.core (sym c.core_func.ensures ∙ c.in-Some-core_func.is))
-    (record { instance = refl; core = refl; options = sym c.options.ensures; func_type = h })
+    (record { instance = sym c.in_ok-instance.ensures; core = refl; options = sym c.options.ensures; func_type = h })

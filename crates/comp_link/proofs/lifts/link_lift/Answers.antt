@@ -1,8 +1,8 @@
 use Rattle.std.proofs.lemmas.Result.{err_from_is_err_and}
-use Rattle.comp_linking.specs.Definitions.{AFunc}
-use Rattle.comp_linking.specs.Spaces.{with_definition, with_spaces}
-use Rattle.comp_linking.specs.Computed.{lifted_of}
-use Rattle.instance_tables.specs.References.{IsLifted}
+use Rattle.link_spec.specs.Definitions.{AFunc}
+use Rattle.link_spec.specs.Spaces.{with_definition, with_spaces}
+use Rattle.link_spec.specs.Computed.{lifted_of}
+use Rattle.link_instances.specs.References.{IsLifted}
 use Rattle.comp_link.proofs.Told.{reason_after, made_from, value_told}
 use Rattle.comp_link.proofs.lifts.link_lift.Goals as goal
 

@@ -6,11 +6,11 @@ use Rattle.std.proofs.lemmas.Option.{slice_get_within}
 use Rattle.ca_base.specs.declared.memory.MemoryOr.{MemoryOr}
 use Rattle.ca_base.specs.declared.placed.Placed.{Placed}
 use Rattle.comp_tree.specs.declared.items.Item.{Item}
-use Rattle.comp_linking.specs.declared.fault.LinkWhy.{LinkWhy}
-use Rattle.comp_linking.specs.Definitions.{Closure}
-use Rattle.comp_linking.specs.Spaces.{Linking}
-use Rattle.comp_linking.specs.Linked.{begun}
-use Rattle.comp_linking.specs.Computed.{item_outcome}
+use Rattle.link_spec.specs.declared.fault.LinkWhy.{LinkWhy}
+use Rattle.link_spec.specs.Definitions.{Closure}
+use Rattle.link_spec.specs.Spaces.{Linking}
+use Rattle.link_spec.specs.Linked.{begun}
+use Rattle.link_spec.specs.Computed.{item_outcome}
 use Rattle.comp_link.specs.declared.instances.Next.{Next}
 use Rattle.comp_link.specs.declared.instances.Next.TheVariants as next
 use Rattle.comp_link.specs.declared.scope.Scope.{Scope}

@@ -1,8 +1,8 @@
 -- Each component that begins leaves fewer that may; its items, each of them, and what it begins hold one another in this order.
 -- What is behind the items is what is behind those that are left.
 use Rattle.std.proofs.Common.{◌<◌, ◌≤◌, ◌+◌, ◌*◌, List, length, drop}
-use Rattle.comp_linking.specs.Definitions.{Exports}
-use Rattle.comp_linking.specs.Spaces.{Linking}
+use Rattle.link_spec.specs.Definitions.{Exports}
+use Rattle.link_spec.specs.Spaces.{Linking}
 use Rattle.comp_link.specs.State.{IsLive, StayLive, IsState}
 use Rattle.comp_link.specs.Reached.{IsReached}
 use Rattle.comp_link.proofs.Passing.{Goes}

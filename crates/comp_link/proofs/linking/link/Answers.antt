@@ -3,9 +3,9 @@ use Rattle.std.proofs.lemmas.Result.{err_from_is_err_and}
 use Rattle.ca_base.specs.declared.placed.Placed.{Placed}
 use Rattle.comp_graph.specs.Graph.{instance_limit}
 use Rattle.comp_tree.specs.declared.items.Item.{Item}
-use Rattle.comp_linking.specs.Spaces.{Linking}
-use Rattle.comp_linking.specs.Linked.{root_begun}
-use Rattle.comp_linking.specs.Computed.{run_within}
+use Rattle.link_spec.specs.Spaces.{Linking}
+use Rattle.link_spec.specs.Linked.{root_begun}
+use Rattle.link_spec.specs.Computed.{run_within}
 use Rattle.comp_link.specs.State.{Stands}
 use Rattle.comp_link.specs.Told.{IsReason, IsTold}
 use Rattle.comp_link.specs.Reached.{root_begins}

@@ -1,7 +1,7 @@
 use Rattle.std.proofs.Common.{◌≡◌, subst, rules}
 use Rattle.wasm_module.specs.declared.module.ModuleTree.{ModuleTree}
-use Rattle.comp_linking.specs.Definitions.{AModule}
-use Rattle.comp_linking.specs.Spaces.{with_definition, with_spaces}
+use Rattle.link_spec.specs.Definitions.{AModule}
+use Rattle.link_spec.specs.Spaces.{with_definition, with_spaces}
 use Rattle.comp_link.specs.State.{IsState}
 use Rattle.comp_link.proofs.linking.link_core_module.Goals as goal
 

@@ -7,8 +7,8 @@ use Rattle.comp_link.proofs.linking.link_item.Goals as goal
 
 pub returns-in-CoreModule-clause-made : goal.returns-in-CoreModule-clause-made
 returns-in-CoreModule-clause-made c = λ bases l s at reached.
-    let is : out-Item c.args.item.now ≡ Item-F.CoreModule c.in-CoreModule.valid = rw c.in-CoreModule.is (simp outs-CoreModule refl) in
-    item_told c.link_core_module.new.linker l c.args.n s c.args.item.now (Item-F.CoreModule c.in-CoreModule.valid) is c.link_core_module.result c.next.result c.next.ensures (c.link_core_module.ensures.made bases l s at)
+    let is : out-Item c.args.item.now ≡ Item-F.CoreModule c.get.result.now = rw c.get.ensures (rw c.in-CoreModule.is (simp outs-CoreModule refl)) in
+    item_told c.link_core_module.new.linker l c.args.n s c.args.item.now (Item-F.CoreModule c.get.result.now) is c.link_core_module.result c.next.result c.next.ensures (c.link_core_module.ensures.made bases l s at)
 
 pub returns-in-CoreInstance-clause-made : goal.returns-in-CoreInstance-clause-made
 returns-in-CoreInstance-clause-made c = λ bases l s at reached.

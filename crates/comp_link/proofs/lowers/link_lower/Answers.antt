@@ -1,9 +1,9 @@
 use Rattle.std.proofs.Common.{◌∙◌, ap}
 use Rattle.std.specs.Prelude.{Result, Ok}
 use Rattle.std.proofs.lemmas.Result.{err_from_is_err_and}
-use Rattle.comp_linking.specs.declared.fault.LinkWhy.{LinkWhy}
-use Rattle.comp_linking.specs.Items.{lower_made}
-use Rattle.comp_linking.specs.Computed.{Outcome, lower_outcome}
+use Rattle.link_spec.specs.declared.fault.LinkWhy.{LinkWhy}
+use Rattle.link_spec.specs.Items.{lower_made}
+use Rattle.link_spec.specs.Computed.{Outcome, lower_outcome}
 use Rattle.comp_link.specs.Ready.{IsLowering}
 use Rattle.comp_link.proofs.Told.{made_told, value_told}
 use Rattle.comp_link.proofs.lowers.link_lower.Goals as goal

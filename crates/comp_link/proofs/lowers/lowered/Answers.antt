@@ -3,11 +3,11 @@ use Rattle.std.specs.Prelude.{Result, Ok}
 use Rattle.std.specs.List.{list_all}
 use Rattle.std.proofs.lemmas.Result.{err_from_is_err_and}
 use Rattle.comp_graph.specs.declared.graph.Options.{Options}
-use Rattle.comp_linking.specs.declared.fault.LinkWhy.{LinkWhy}
-use Rattle.comp_linking.specs.declared.fault.LinkWhy.TheVariants as why
-use Rattle.comp_linking.specs.Canons.{Given, given_by, options_of, is_option_there}
-use Rattle.comp_linking.specs.Items.{lower_made}
-use Rattle.comp_linking.specs.Computed.{Makes, after, lowered_from, lower_outcome}
+use Rattle.link_spec.specs.declared.fault.LinkWhy.{LinkWhy}
+use Rattle.link_spec.specs.declared.fault.LinkWhy.TheVariants as why
+use Rattle.link_spec.specs.Canons.{Given, given_by, options_of, is_option_there}
+use Rattle.link_spec.specs.Items.{lower_made}
+use Rattle.link_spec.specs.Computed.{Makes, after, lowered_from, lower_outcome}
 use Rattle.comp_link.specs.State.{world_of}
 use Rattle.comp_link.specs.Told.{IsReason, IsTold}
 use Rattle.comp_link.specs.Ready.{IsLowering}
@@ -26,15 +26,15 @@ returns-then-not-are_there c = λ bases l s at.
     let func = c.in-Some.ensures c.args.linker.now.types (world_of bases c.args.linker.now) s scope in
     reason_is why.Index (lower_outcome l c.args.n s c.args.func c.args.options.now)
     (no_option l c.args.n s c.args.func c.args.options.now func.0 func.1
-    (sym (c.are_there.ensures s (scope.core_memories ∙ sym c.deref.ensures.value) (scope.core_funcs ∙ sym c.deref-2.ensures.value)) ∙ c.if-not-are_there.true))
+    (sym (c.are_there.ensures c.args.linker.now.types (world_of bases c.args.linker.now) s scope) ∙ c.if-not-are_there.true))
 
 pub returns-in_err-used : goal.returns-in_err-used
 returns-in_err-used c = λ bases l s at.
     let scope = c.scope-scope.ensures bases l s at in
     let func = c.in-Some.ensures c.args.linker.now.types (world_of bases c.args.linker.now) s scope in
     let are : list_all (is_option_there s) c.args.options.now ≡ true =
-    sym (c.are_there.ensures s (scope.core_memories ∙ sym c.deref.ensures.value) (scope.core_funcs ∙ sym c.deref-2.ensures.value)) ∙ c.if-not-are_there.false in
-    let given : c.by-given.result ≡ given_by s c.args.options.now = c.by-given.ensures s (scope.core_memories ∙ sym c.deref-3.ensures.value) (scope.core_funcs ∙ sym c.deref-4.ensures.value) in
+    sym (c.are_there.ensures c.args.linker.now.types (world_of bases c.args.linker.now) s scope) ∙ c.if-not-are_there.false in
+    let given : c.given-given.result ≡ given_by s c.args.options.now = c.given-given.ensures c.args.linker.now.types (world_of bases c.args.linker.now) s scope in
     let told : IsReason c.in_err-used.field-0.0 (lowered_from func.0.func_type c.args.options.now (given_by s c.args.options.now)) =
     subst (λ (given : Given). IsReason c.in_err-used.field-0.0 (lowered_from func.0.func_type c.args.options.now given)) given (c.in_err-used.ensures func.0.func_type func.2.func_type) in
     let p = err_from_is_err_and c.from_residual.result c.from_residual.ensures.1 in
@@ -46,8 +46,8 @@ returns c = λ bases l s at.
     let scope = c.scope-scope.ensures bases l s at in
     let func = c.in-Some.ensures c.args.linker.now.types (world_of bases c.args.linker.now) s scope in
     let are : list_all (is_option_there s) c.args.options.now ≡ true =
-    sym (c.are_there.ensures s (scope.core_memories ∙ sym c.deref.ensures.value) (scope.core_funcs ∙ sym c.deref-2.ensures.value)) ∙ c.if-not-are_there.false in
-    let given : c.by-given.result ≡ given_by s c.args.options.now = c.by-given.ensures s (scope.core_memories ∙ sym c.deref-3.ensures.value) (scope.core_funcs ∙ sym c.deref-4.ensures.value) in
+    sym (c.are_there.ensures c.args.linker.now.types (world_of bases c.args.linker.now) s scope) ∙ c.if-not-are_there.false in
+    let given : c.given-given.result ≡ given_by s c.args.options.now = c.given-given.ensures c.args.linker.now.types (world_of bases c.args.linker.now) s scope in
     let uses = λ (used : Options) (given : Given). used ≡ options_of given in
     let from = value_told uses c.in_ok-used.used (lowered_from func.0.func_type c.args.options.now (given_by s c.args.options.now))
     (subst (λ (given : Given). IsTold {W = LinkWhy} uses (Ok c.in_ok-used.used) (lowered_from func.0.func_type c.args.options.now given)) given (c.in_ok-used.ensures func.0.func_type func.2.func_type)) in

@@ -1,8 +1,8 @@
 use Rattle.std.proofs.Common.{◌≡◌, ◌∙◌, sym, true}
 use Rattle.comp_graph.specs.declared.graph.Options.{Options}
-use Rattle.comp_linking.specs.declared.fault.LinkWhy.TheVariants as why
-use Rattle.comp_linking.specs.Canons.{Given, options_of, stand_once, can_be_lowered}
-use Rattle.comp_linking.specs.Computed.{lowered_from}
+use Rattle.link_spec.specs.declared.fault.LinkWhy.TheVariants as why
+use Rattle.link_spec.specs.Canons.{Given, options_of, stand_once, can_be_lowered}
+use Rattle.link_spec.specs.Computed.{lowered_from}
 use Rattle.comp_link.proofs.Told.{told_why, told_value}
 use Rattle.comp_link.proofs.CanonParts.{not_once, not_lowered, is_lower}
 use Rattle.comp_link.proofs.lowers.lowered_from.Goals as goal

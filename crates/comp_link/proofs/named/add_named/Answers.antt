@@ -1,8 +1,8 @@
 use Rattle.std.proofs.Common.{ℕ, List, refl, sym, subst}
-use Rattle.comp_linking.specs.Definitions.{WithExport}
-use Rattle.comp_linking.specs.Spaces.{definition_at}
-use Rattle.instance_tables.specs.declared.references.DefinitionRef.{DefinitionRef}
-use Rattle.instance_tables.specs.References.{Stands, IsListing}
+use Rattle.link_spec.specs.Definitions.{WithExport}
+use Rattle.link_spec.specs.Spaces.{definition_at}
+use Rattle.link_instances.specs.declared.references.DefinitionRef.{DefinitionRef}
+use Rattle.link_instances.specs.References.{Stands, IsListing}
 use Rattle.comp_link.specs.State.{world_of}
 use Rattle.comp_link.proofs.Scopes.{listing_more}
 use Rattle.comp_link.proofs.Steps.{none_found, some_found}

@@ -1,12 +1,12 @@
 use Rattle.std.proofs.Common.{◌+◌, ℕ, List, Ok, Result, drop, refl, sym, subst, ◌∙◌}
 use Rattle.std.proofs.lemmas.Result.{err_from_is_err_and}
-use Rattle.comp_linking.specs.declared.fault.LinkWhy.{LinkWhy}
-use Rattle.comp_linking.specs.declared.fault.LinkWhy.TheVariants as why
-use Rattle.comp_linking.specs.Definitions.{Definition, Exports, EmptyInstance, WithExport}
-use Rattle.comp_linking.specs.Spaces.{definition_at}
-use Rattle.comp_linking.specs.Computed.{there_or, exports_behind}
-use Rattle.instance_tables.specs.declared.references.DefinitionRef.{DefinitionRef}
-use Rattle.instance_tables.specs.References.{IsListing}
+use Rattle.link_spec.specs.declared.fault.LinkWhy.{LinkWhy}
+use Rattle.link_spec.specs.declared.fault.LinkWhy.TheVariants as why
+use Rattle.link_spec.specs.Definitions.{Definition, Exports, EmptyInstance, WithExport}
+use Rattle.link_spec.specs.Spaces.{definition_at}
+use Rattle.link_spec.specs.Computed.{there_or, exports_behind}
+use Rattle.link_instances.specs.declared.references.DefinitionRef.{DefinitionRef}
+use Rattle.link_instances.specs.References.{IsListing}
 use Rattle.comp_link.specs.State.{world_of}
 use Rattle.comp_link.specs.Told.{IsTold}
 use Rattle.comp_link.proofs.Loops.{item_at, past_at}

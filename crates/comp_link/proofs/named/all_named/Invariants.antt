@@ -1,9 +1,9 @@
 -- The definitions so far, under their names.
 use Rattle.std.proofs.Common.{◌≡◌, List, drop}
-use Rattle.comp_linking.specs.Definitions.{Exports, EmptyInstance}
-use Rattle.comp_linking.specs.Spaces.{Spaces, Linking}
-use Rattle.comp_linking.specs.Computed.{exports_behind}
-use Rattle.instance_tables.specs.References.{IsListing}
+use Rattle.link_spec.specs.Definitions.{Exports, EmptyInstance}
+use Rattle.link_spec.specs.Spaces.{Spaces, Linking}
+use Rattle.link_spec.specs.Computed.{exports_behind}
+use Rattle.link_instances.specs.References.{IsListing}
 use Rattle.comp_link.specs.State.{world_of, IsAt}
 use Rattle.comp_link.proofs.named.all_named.Given as goal
 

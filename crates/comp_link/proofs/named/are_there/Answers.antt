@@ -1,6 +1,6 @@
 use Rattle.std.proofs.Common.{◌<◌, ℕ, nat_lt, refl, sym, subst, ◌∙◌, true}
 use Rattle.comp_tree.specs.declared.instances.NamedDefinition.{NamedDefinition}
-use Rattle.comp_linking.specs.Spaces.{size_of}
+use Rattle.link_spec.specs.Spaces.{size_of}
 use Rattle.comp_link.proofs.Loops.{all_at, all_past, item_at, past_at}
 use Rattle.comp_link.proofs.Wanting.{lt_true}
 use Rattle.comp_link.proofs.named.are_there.Goals as goal

@@ -1,11 +1,11 @@
 use Rattle.std.proofs.Common.{List, ℕ, map, Result, refl, sym, subst, ◌∙◌}
 use Rattle.comp_tree.specs.declared.instances.NamedDefinition.{NamedDefinition}
-use Rattle.comp_linking.specs.declared.fault.LinkWhy.{LinkWhy}
-use Rattle.comp_linking.specs.declared.fault.LinkWhy.TheVariants as why
-use Rattle.comp_linking.specs.Definitions.{Exports}
-use Rattle.comp_linking.specs.Computed.{named_exports}
-use Rattle.instance_tables.specs.declared.references.DefinitionRef.{DefinitionRef}
-use Rattle.instance_tables.specs.References.{IsListing}
+use Rattle.link_spec.specs.declared.fault.LinkWhy.{LinkWhy}
+use Rattle.link_spec.specs.declared.fault.LinkWhy.TheVariants as why
+use Rattle.link_spec.specs.Definitions.{Exports}
+use Rattle.link_spec.specs.Computed.{named_exports}
+use Rattle.link_instances.specs.declared.references.DefinitionRef.{DefinitionRef}
+use Rattle.link_instances.specs.References.{IsListing}
 use Rattle.comp_link.specs.State.{world_of}
 use Rattle.comp_link.specs.Told.{IsTold}
 use Rattle.comp_link.proofs.Steps.{reason_is}

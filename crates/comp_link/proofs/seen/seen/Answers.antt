@@ -1,8 +1,8 @@
 use Rattle.std.proofs.Common.{Ok, Some, None, sym, subst}
-use Rattle.comp_linking.specs.Items.{lacking}
-use Rattle.comp_linking.specs.Computed.{none_missing}
-use Rattle.type_tables.specs.Table.{IsExtern}
-use Rattle.instance_tables.specs.Fit.{IsFit}
+use Rattle.link_spec.specs.Items.{lacking}
+use Rattle.link_spec.specs.Computed.{none_missing}
+use Rattle.link_types.specs.Table.{IsExtern}
+use Rattle.link_instances.specs.Fit.{IsFit}
 use Rattle.comp_link.specs.declared.linker.Linker.{Linker}
 use Rattle.comp_link.specs.State.{world_of}
 use Rattle.comp_link.specs.Told.{IsTold}

@@ -1,8 +1,8 @@
 use Rattle.std.proofs.Common.{◌∷◌, [], ℕ, List, get_or, take, sym, ap, subst}
-use Rattle.comp_linking.specs.Spaces.{levels_at}
-use Rattle.type_meanings.specs.declared.levels.Level.{Level}
-use Rattle.type_meanings.specs.Levels.{AreLevels}
-use Rattle.instance_tables.proofs.Places.{take_at}
+use Rattle.link_spec.specs.Spaces.{levels_at}
+use Rattle.link_meanings.specs.declared.levels.Level.{Level}
+use Rattle.link_meanings.specs.Levels.{AreLevels}
+use Rattle.link_instances.proofs.Places.{take_at}
 use Rattle.comp_link.proofs.Loops.{item_or}
 use Rattle.comp_link.proofs.types.levels_at.Goals as goal
 

@@ -1,10 +1,10 @@
 -- The levels so far.
 use Rattle.std.proofs.Common.{◌∷◌, take}
 use Rattle.std.specs.List.{AllZip}
-use Rattle.comp_linking.specs.Spaces.{Linking, levels_at}
-use Rattle.type_tables.specs.Table.{Table}
-use Rattle.instance_tables.specs.References.{World}
-use Rattle.type_meanings.specs.Levels.{AreLevels}
+use Rattle.link_spec.specs.Spaces.{Linking, levels_at}
+use Rattle.link_types.specs.Table.{Table}
+use Rattle.link_instances.specs.References.{World}
+use Rattle.link_meanings.specs.Levels.{AreLevels}
 use Rattle.comp_link.specs.State.{IsKept}
 use Rattle.comp_link.proofs.types.levels_at.Given as goal
 

@@ -1,7 +1,7 @@
 use Rattle.std.proofs.Common.{◌∷◌}
-use Rattle.comp_linking.specs.Spaces.{levels_at}
-use Rattle.comp_linking.specs.Types.{meaning_of}
-use Rattle.comp_linking.specs.Computed.{type_outcome, one_more}
+use Rattle.link_spec.specs.Spaces.{levels_at}
+use Rattle.link_spec.specs.Types.{meaning_of}
+use Rattle.link_spec.specs.Computed.{type_outcome, one_more}
 use Rattle.comp_link.proofs.Steps.{linked_by}
 use Rattle.comp_link.proofs.States.{live_scopes}
 use Rattle.comp_link.proofs.types.link_type.Goals as goal

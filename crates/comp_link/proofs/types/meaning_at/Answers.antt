@@ -1,16 +1,16 @@
 use Rattle.std.proofs.Common.{◌∷◌, ℕ, List, refl, sym, subst, ◌∙◌}
 use Rattle.std.specs.List.{AllZip}
 use Rattle.std.proofs.lemmas.Result.{IfOk-weaker}
-use Rattle.comp_linking.specs.Definitions.{Closure, Exports}
-use Rattle.comp_linking.specs.Spaces as spaces
-use Rattle.comp_linking.specs.Spaces.{Spaces, Linking, levels_at}
-use Rattle.comp_linking.specs.Types.{meaning_of}
-use Rattle.type_tables.specs.declared.refs.TypeRef.{TypeRef}
-use Rattle.type_tables.specs.Table.{IsType}
-use Rattle.type_meanings.specs.declared.levels.Level.{Level}
-use Rattle.type_meanings.specs.declared.meant.Meant.{Meant}
-use Rattle.type_meanings.specs.Meant.{IsMeaning}
-use Rattle.type_meanings.specs.Levels.{AreLevels}
+use Rattle.link_spec.specs.Definitions.{Closure, Exports}
+use Rattle.link_spec.specs.Spaces as spaces
+use Rattle.link_spec.specs.Spaces.{Spaces, Linking, levels_at}
+use Rattle.link_spec.specs.Types.{meaning_of}
+use Rattle.link_types.specs.declared.refs.TypeRef.{TypeRef}
+use Rattle.link_types.specs.Table.{IsType}
+use Rattle.link_meanings.specs.declared.levels.Level.{Level}
+use Rattle.link_meanings.specs.declared.meant.Meant.{Meant}
+use Rattle.link_meanings.specs.Meant.{IsMeaning}
+use Rattle.link_meanings.specs.Levels.{AreLevels}
 use Rattle.comp_link.specs.declared.scope.Scope.{Scope}
 use Rattle.comp_link.specs.State.{world_of, IsKept, IsAt}
 use Rattle.comp_link.proofs.States.{types_grow, scope_is}

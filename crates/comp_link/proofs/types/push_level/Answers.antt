@@ -1,8 +1,8 @@
 use Rattle.std.proofs.Common.{◌++◌, ◌∷◌, [], List, refl, sym, subst, Bor}
 use Rattle.std.specs.List.{slice_get}
-use Rattle.comp_linking.specs.Spaces.{Spaces, levels_at}
-use Rattle.type_meanings.specs.declared.levels.Level.{Level}
-use Rattle.type_meanings.specs.Levels.{AreLevels}
+use Rattle.link_spec.specs.Spaces.{Spaces, levels_at}
+use Rattle.link_meanings.specs.declared.levels.Level.{Level}
+use Rattle.link_meanings.specs.Levels.{AreLevels}
 use Rattle.comp_link.specs.declared.scope.Scope.{Scope}
 use Rattle.comp_link.specs.State.{IsKept}
 use Rattle.comp_link.proofs.LevelsSeen.{level_none, level_more}

@@ -1,13 +1,13 @@
 use Rattle.std.proofs.Common.{◌≡◌, ◌∷◌, refl, sym, ap, ◌∙◌, None}
 use Rattle.std.specs.Option.{option_map}
-use Rattle.comp_linking.specs.declared.fault.LinkWhy.TheVariants as why
-use Rattle.comp_linking.specs.Definitions.{AType}
-use Rattle.comp_linking.specs.Spaces.{levels_at}
-use Rattle.comp_linking.specs.Types.{meaning_of}
-use Rattle.comp_linking.specs.Computed.{type_outcome, one_more}
-use Rattle.type_tables.specs.Table.{IsType}
-use Rattle.instance_tables.specs.declared.references.DefinitionRef.TheVariants as ref
-use Rattle.type_meanings.specs.Meant.{text_of}
+use Rattle.link_spec.specs.declared.fault.LinkWhy.TheVariants as why
+use Rattle.link_spec.specs.Definitions.{AType}
+use Rattle.link_spec.specs.Spaces.{levels_at}
+use Rattle.link_spec.specs.Types.{meaning_of}
+use Rattle.link_spec.specs.Computed.{type_outcome, one_more}
+use Rattle.link_types.specs.Table.{IsType}
+use Rattle.link_instances.specs.declared.references.DefinitionRef.TheVariants as ref
+use Rattle.link_meanings.specs.Meant.{text_of}
 use Rattle.comp_link.proofs.Told.{reason_is}
 use Rattle.comp_link.proofs.Steps.{some_found, outcome_ready}
 use Rattle.comp_link.proofs.Wanting.{type_made, type_deep}

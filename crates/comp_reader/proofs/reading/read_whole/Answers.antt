@@ -4,7 +4,7 @@ use Rattle.ca_base.specs.Span.{Span}
 use Rattle.ca_base.specs.Grammar.{MayRead}
 use Rattle.ca_base.proofs.Whole.{whole_exact}
 use Rattle.comp_tree.specs.declared.items.Component.{Component}
-use Rattle.comp_reader.specs.declared.fault.ComponentWhy.{ComponentWhy}
+use Rattle.part_reader.specs.declared.fault.ComponentWhy.{ComponentWhy}
 use Rattle.comp_reader.specs.Binary.{component, file, file_end}
 use Rattle.comp_reader.proofs.Whole.{matches_whole}
 use Rattle.comp_reader.proofs.reading.read_whole.Goals as goal

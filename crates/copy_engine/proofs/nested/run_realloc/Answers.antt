@@ -1,8 +1,8 @@
 -- The stack is typed: so it ends with one i32, and the store that is left extends the one before.
 use Rattle.std.proofs.Common.{[], ◌∷◌, refl}
 use Rattle.wasm_module.specs.declared.types.ValType.TheVariants.{I32}
-use Rattle.core_machine.specs.Step.{start}
-use Rattle.core_machine.specs.Typed.{StackTyped}
+use Rattle.wasm_store.specs.Step.{start}
+use Rattle.wasm_store.specs.Typed.{StackTyped}
 use Rattle.wasm_execution.proofs.Alone.{gives_up_at_once}
 use Rattle.copy_engine.proofs.Nesting.{run_typed, ends_with_one, steps_grow}
 use Rattle.copy_engine.proofs.nested.run_realloc.Goals as goal

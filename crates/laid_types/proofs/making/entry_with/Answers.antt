@@ -3,10 +3,11 @@ use Rattle.std.proofs.Common.{◌∙◌, List, Option, take, min, ap, sym, refl}
 use Rattle.ca_types.specs.declared.types.ValType.{ValType, out-ValType}
 use Rattle.ca_types.specs.Limited.{limited, nothing}
 use Rattle.laid_types.specs.Parts.{case_count, layouts, parts_of}
-use Rattle.laid_types.specs.Gathered.{as_laid, room_for, laid_over, flats, flat_over, ends, handles, lists, end_over, handle_over, list_over, depths, depth_over}
+use Rattle.laid_types.specs.Gathered.{as_laid, room_for, laid_over, flats, flat_over, ends, handles, borrows, lists, end_over, handle_over, borrow_over, list_over, depths, depth_over, tops, top_over}
 use Rattle.laid_types.proofs.ByParts.{laid_by_parts, flat_by_parts}
-use Rattle.laid_types.proofs.HeldByParts.{end_by_parts, handle_by_parts, list_by_parts}
+use Rattle.laid_types.proofs.HeldByParts.{end_by_parts, handle_by_parts, borrow_by_parts, list_by_parts}
 use Rattle.laid_types.proofs.DepthByParts.{depth_by_parts}
+use Rattle.laid_types.proofs.TopByParts.{top_by_parts}
 use Rattle.laid_types.proofs.Told.{over_parts, place_told}
 use Rattle.laid_types.proofs.making.entry_with.Goals as goal
 
@@ -35,11 +36,17 @@ invariant_of-result c =
       handle_is =
           over_parts types numbers t parts (λ (u : ValType) (ps : List (Option ValType)). handle_over (out-ValType u) (handles ps)) c.get-4.result.now c.deref-4.result.now _ c.get-4.ensures c.deref-4.ensures.value c.holding_of-holding.ensures.handle
           ∙ sym (handle_by_parts t);
+      borrow_is =
+          over_parts types numbers t parts (λ (u : ValType) (ps : List (Option ValType)). borrow_over (out-ValType u) (borrows ps)) c.get-4.result.now c.deref-4.result.now _ c.get-4.ensures c.deref-4.ensures.value c.holding_of-holding.ensures.borrow
+          ∙ sym (borrow_by_parts t);
       list_is =
           over_parts types numbers t parts (λ (u : ValType) (ps : List (Option ValType)). list_over (out-ValType u) (lists ps)) c.get-4.result.now c.deref-4.result.now _ c.get-4.ensures c.deref-4.ensures.value c.holding_of-holding.ensures.list
           ∙ sym (list_by_parts t);
       depth_is =
           over_parts types numbers t parts (λ (u : ValType) (ps : List (Option ValType)). min (depth_over (depths ps)) 33) t c.deref-5.result.now _ refl c.deref-5.ensures.value c.depth_of-depth.ensures
           ∙ ap (λ d. min d 33) (sym (depth_by_parts t));
+      top_is =
+          over_parts types numbers t parts (λ (u : ValType) (ps : List (Option ValType)). top_over (out-ValType u) (tops ps)) c.get-5.result.now c.deref-6.result.now _ c.get-5.ensures c.deref-6.ensures.value c.top_of-top.ensures
+          ∙ sym (top_by_parts t);
       labels_are = c.requires.labels;
     }

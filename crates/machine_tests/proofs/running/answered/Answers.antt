@@ -2,7 +2,7 @@
 use Rattle.std.proofs.Common.{List, subst}
 use Rattle.wasm_module.specs.declared.types.ValType.{ValType}
 use Rattle.wasm_numbers.specs.Types.{AreWords}
-use Rattle.core_machine.specs.Views.{function_of}
+use Rattle.wasm_store.specs.Views.{function_of}
 use Rattle.machine_tests.proofs.Typing.{as_many}
 use Rattle.machine_tests.proofs.running.answered.Goals as goal
 

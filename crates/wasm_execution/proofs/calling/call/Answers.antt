@@ -1,5 +1,5 @@
 use Rattle.std.proofs.Common.{refl, get_or}
-use Rattle.core_machine.specs.Views.{instance_of}
+use Rattle.wasm_store.specs.Views.{instance_of}
 use Rattle.wasm_execution.specs.Places.{frame_of}
 use Rattle.wasm_execution.proofs.Taking.{call_ready}
 use Rattle.wasm_execution.proofs.Calls.{call_there, listed_as}

@@ -1,6 +1,6 @@
 use Rattle.std.proofs.Common.{refl, ap, ℕ, ◌∙◌, Option, Some, None}
-use Rattle.core_machine.specs.Views.{instance_of, table_of, function_of}
-use Rattle.core_machine.specs.Store.{type_of}
+use Rattle.wasm_store.specs.Views.{instance_of, table_of, function_of}
+use Rattle.wasm_store.specs.Store.{type_of}
 use Rattle.wasm_execution.specs.Places.{frame_of}
 use Rattle.wasm_module.specs.declared.instr.Instr.TheVariants as instr
 use Rattle.wasm_execution.proofs.Popping.{popped_behind}

@@ -1,7 +1,7 @@
 use Rattle.std.proofs.Common.{ap, sym, ◌∙◌, subst, length, ℕ, List}
 use Rattle.wasm_module.specs.declared.types.FuncType.{FuncType}
-use Rattle.wasm_valid.specs.Context.{params}
-use Rattle.core_machine.specs.Views.{instance_of}
+use Rattle.wasm_typing.specs.Context.{params}
+use Rattle.wasm_store.specs.Views.{instance_of}
 use Rattle.wasm_execution.specs.Places.{frame_of}
 use Rattle.wasm_execution.specs.Shape.{HasOver}
 use Rattle.wasm_execution.proofs.Taking.{loop_over}

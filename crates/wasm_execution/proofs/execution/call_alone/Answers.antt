@@ -1,9 +1,9 @@
 use Rattle.std.proofs.Common.{◌≡◌, ◌∙◌, ap, sym, length}
-use Rattle.core_machine.specs.Store.{type_of}
-use Rattle.core_machine.specs.Stack.{Stack, AtHost, Given}
+use Rattle.wasm_store.specs.Store.{type_of}
+use Rattle.wasm_store.specs.Stack.{Stack, AtHost, Given}
 use Rattle.std.proofs.Common.{List, ℕ}
-use Rattle.core_machine.specs.Views.{function_of}
-use Rattle.core_machine.specs.declared.function.FunctionInstance.{FunctionInstance}
+use Rattle.wasm_store.specs.Views.{function_of}
+use Rattle.wasm_store.specs.declared.function.FunctionInstance.{FunctionInstance}
 use Rattle.wasm_execution.proofs.Alone.{alone_asks, gives_up_at_once}
 use Rattle.wasm_execution.proofs.execution.call_alone.Goals as goal
 use Rattle.wasm_execution.proofs.execution.call_alone.Goals.{in-Own, in-Host}

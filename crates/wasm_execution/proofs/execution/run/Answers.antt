@@ -1,6 +1,6 @@
 use Rattle.std.proofs.Common.{ap, sym, ◌∙◌, subst}
-use Rattle.core_machine.specs.Stack.{Stack}
-use Rattle.core_machine.specs.Step.{Ends}
+use Rattle.wasm_store.specs.Stack.{Stack}
+use Rattle.wasm_store.specs.Step.{Ends}
 use Rattle.wasm_execution.specs.Stacks.{stack_of}
 use Rattle.wasm_execution.specs.Run.{Comes}
 use Rattle.wasm_execution.proofs.Alone.{given_done}

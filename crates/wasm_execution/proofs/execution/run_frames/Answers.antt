@@ -1,8 +1,8 @@
 use Rattle.std.proofs.Common.{◌≡◌, ◌+◌, true, List, [], ◌++◌, ap, sym, ◌∙◌, subst, ℕ, ◌-◌, take, reverse}
 use Rattle.std.specs.List.{AllByRecursion}
-use Rattle.core_machine.specs.Stack as stack
-use Rattle.core_machine.specs.Step.{Goes, Calls, Traps}
-use Rattle.core_machine.specs.declared.trap.Trap.TheVariants.{StackLimit}
+use Rattle.wasm_store.specs.Stack as stack
+use Rattle.wasm_store.specs.Step.{Goes, Calls, Traps}
+use Rattle.wasm_store.specs.declared.trap.Trap.TheVariants.{StackLimit}
 use Rattle.wasm_execution.specs.declared.frame.Frame.{Frame}
 use Rattle.wasm_execution.specs.declared.turn.Pause.TheVariants as pause
 use Rattle.wasm_execution.specs.declared.invoking.Invoked.TheVariants as call

@@ -1,7 +1,7 @@
 -- Paid steps have led here, to frames that are placed, and typed as a stack.
 use Rattle.std.proofs.Common.{◌+◌, length}
 use Rattle.std.specs.List.{AllByRecursion}
-use Rattle.core_machine.specs.Stack as stack
+use Rattle.wasm_store.specs.Stack as stack
 use Rattle.wasm_execution.specs.Places.{frame_of, IsPlaced}
 use Rattle.wasm_execution.specs.Stacks.{frames_of}
 use Rattle.wasm_execution.proofs.Runs.{Stands, Sound}

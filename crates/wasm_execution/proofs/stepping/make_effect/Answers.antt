@@ -1,7 +1,7 @@
 use Rattle.std.proofs.Common.{refl, reverse}
 use Rattle.wasm_module.specs.declared.instr.Op.TheVariants as op
 use Rattle.wasm_execution.specs.Places.{frame_of}
-use Rattle.core_machine.specs.Effects.{effect}
+use Rattle.wasm_store.specs.Effects.{effect}
 use Rattle.wasm_execution.specs.declared.frame.Frame.{Frame}
 use Rattle.wasm_execution.proofs.Seeing.{op_rest, effect_there, gave_trap, gave_none}
 use Rattle.wasm_execution.proofs.Effecting.{fits, effect_fails, made}

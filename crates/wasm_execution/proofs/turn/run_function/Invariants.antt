@@ -1,5 +1,5 @@
 -- Paid steps have led here, to a frame that is placed and typed.
-use Rattle.core_machine.specs.Typed.{StoreTyped}
+use Rattle.wasm_store.specs.Typed.{StoreTyped}
 use Rattle.wasm_execution.specs.Places.{frame_of, IsPlaced}
 use Rattle.wasm_execution.specs.Stepping.{IsTyped, Reaches}
 use Rattle.wasm_execution.proofs.turn.run_function.Given as goal

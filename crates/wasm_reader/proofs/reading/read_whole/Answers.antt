@@ -3,7 +3,7 @@ use Rattle.std.proofs.Common.{subst}
 use Rattle.ca_base.specs.Span.{Span}
 use Rattle.ca_base.specs.Grammar.{MayRead}
 use Rattle.ca_base.proofs.Whole.{whole_exact}
-use Rattle.wasm_module.specs.declared.fault.ModuleWhy.{ModuleWhy}
+use Rattle.wasm_code_reader.specs.declared.fault.ModuleWhy.{ModuleWhy}
 use Rattle.wasm_module.specs.declared.module.ModuleParts.{ModuleParts}
 use Rattle.wasm_reader.specs.Binary.{the_module, file, file_end}
 use Rattle.wasm_reader.proofs.Ended.{matches_whole}

@@ -1,5 +1,5 @@
-use Rattle.wasm_valid.proofs.Deciding.{module_typed}
-use Rattle.wasm_valid.proofs.Placing.{fault_placed, error_untyped, error_ill}
+use Rattle.wasm_typing.proofs.Deciding.{module_typed}
+use Rattle.wasm_typing.proofs.Placing.{fault_placed, error_untyped, error_ill}
 use Rattle.wasm_valid.proofs.check.validate.Goals as goal
 
 pub from_typed-requires : goal.from_typed-requires

@@ -1,7 +1,7 @@
 -- So many items passed, and the fault of what is left is that of all.
 use Rattle.wasm_module.specs.declared.instr.BlockType.TheVariants.{TypeIndex}
 use Rattle.wasm_module.specs.Expr.{flat}
-use Rattle.wasm_valid.specs.Checking.{begins}
+use Rattle.wasm_typing.specs.Checking.{begins}
 use Rattle.wasm_valid.specs.State.{all_of}
 use Rattle.wasm_valid.proofs.Driving.{IsChecking}
 use Rattle.wasm_valid.proofs.walk.body_fault.Given as goal

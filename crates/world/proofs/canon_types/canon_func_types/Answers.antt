@@ -6,5 +6,5 @@ use Rattle.world.proofs.canon_types.canon_func_types.Goals as goal
 pub loop-number-preserved : goal.loop-number-preserved
 loop-number-preserved c =
     let within : c.loop-number.number < length c.args.graph.now.canons = search rules in
-    one_more_type c.args.graph.now.canons c.loop-number.types.items c.push.new.self.items c.in_ok-lowered.lowered c.canon_types.result c.loop-number.number
-    within c.loop-number.invariant c.canon_types.ensures c.in_ok-lowered.ensures c.in_ok-push.ensures.items
+    one_more_type c.args.graph.now.canons c.loop-number.types.items c.push.new.self.items c.in_ok-of_canon.of_canon c.loop-number.number
+    within c.loop-number.invariant c.in_ok-of_canon.ensures c.in_ok-push.ensures.items

@@ -1,6 +1,6 @@
 use Rattle.std.proofs.Common.{◌∙◌, sym, ap, map, List, Option, Some}
-use Rattle.core_machine.specs.Instantiation.{External}
-use Rattle.core_machine.specs.Views.{address_of}
+use Rattle.wasm_store.specs.Instantiation.{External}
+use Rattle.wasm_store.specs.Views.{address_of}
 use Rattle.world.proofs.Supplied.{there_of, found_match}
 use Rattle.world.proofs.Instancing.{supplied_at, starts_by, segment_by, bounds_of}
 use Rattle.world.proofs.instantiating.make_core.Goals as goal

@@ -1,6 +1,6 @@
 use Rattle.std.proofs.Common.{◌≡◌, map}
-use Rattle.core_machine.specs.Store.{Host}
-use Rattle.core_machine.specs.Instantiation.{empty}
+use Rattle.wasm_store.specs.Store.{Host}
+use Rattle.wasm_store.specs.Instantiation.{empty}
 use Rattle.world.proofs.state.hosts.Given as goal
 
 abbrev pub invariant-loop-func_type : goal.invariant-loop-func_type

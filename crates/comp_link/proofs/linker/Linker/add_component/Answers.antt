@@ -1,5 +1,5 @@
 use Rattle.std.proofs.Common.{◌≡◌, ◌∙◌, ◌∷◌, ◌++◌, [], refl, sym, ap, ℕ, List}
-use Rattle.comp_linking.specs.Definitions.{Closure, AComponent}
+use Rattle.link_spec.specs.Definitions.{Closure, AComponent}
 use Rattle.comp_link.proofs.Zips.{last_is}
 use Rattle.comp_link.proofs.States.{scope_is, components_more}
 use Rattle.comp_link.proofs.linker.Linker.add_component.Goals as goal

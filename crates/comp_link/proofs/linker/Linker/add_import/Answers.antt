@@ -1,4 +1,4 @@
-use Rattle.comp_linking.specs.Items.{with_import}
+use Rattle.link_spec.specs.Items.{with_import}
 use Rattle.comp_link.specs.State.{world_of}
 use Rattle.comp_link.proofs.States.{scope_set, ended_set}
 use Rattle.comp_link.proofs.linker.Linker.add_import.Goals as goal

@@ -1,6 +1,6 @@
 use Rattle.std.proofs.Common.{List, subst}
-use Rattle.comp_linking.specs.Definitions.{CoreExport}
-use Rattle.comp_linking.specs.Spaces.{with_core_instance}
+use Rattle.link_spec.specs.Definitions.{CoreExport}
+use Rattle.link_spec.specs.Spaces.{with_core_instance}
 use Rattle.comp_link.specs.State.{world_of, IsScope}
 use Rattle.comp_link.proofs.States.{scope_set, ended_set}
 use Rattle.comp_link.proofs.linker.Linker.add_inline.Goals as goal

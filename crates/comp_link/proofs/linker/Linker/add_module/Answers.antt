@@ -1,6 +1,6 @@
 use Rattle.std.proofs.Common.{refl, ap}
-use Rattle.comp_linking.specs.Definitions.{AModule}
-use Rattle.comp_link.specs.Cores.{CoreLists}
+use Rattle.link_spec.specs.Definitions.{AModule}
+use Rattle.link_core_exports.specs.Cores.{CoreLists}
 use Rattle.comp_link.proofs.Zips.{last_is}
 use Rattle.comp_link.proofs.States.{modules_more}
 use Rattle.comp_link.proofs.linker.Linker.add_module.Goals as goal

@@ -1,7 +1,7 @@
 use Rattle.std.proofs.Common.{◌≡◌, ◌∙◌, refl, sym, ap, subst, Bool, ℕ, List, [], ◌∷◌, ◌++◌, length, map, Some}
 use Rattle.std.specs.List.{AllZip}
 use Rattle.std.proofs.lemmas.List.{map-append}
-use Rattle.comp_linking.specs.Spaces.{new_spaces}
+use Rattle.link_spec.specs.Spaces.{new_spaces}
 use Rattle.comp_link.specs.declared.scope.Scope.{Scope}
 use Rattle.comp_link.specs.State.{world_of, IsScope, IsKept, ended}
 use Rattle.comp_link.proofs.Zips.{zips_more, as_long}
@@ -12,7 +12,7 @@ pub returns-clause-ok : goal.returns-clause-ok
 returns-clause-ok c bases l closure given h around is =
     let k = c.args.self.now in
     let w = world_of bases k in
-    let number : c.len-number.result ≡ length l.scopes = c.len-number.ensures ∙ k.scopes.ok.0 ∙ as_long (IsKept k.types w) k.scopes.items l.scopes h.scopes in
+    let number : c.in_ok-number.number ≡ length l.scopes = c.in_ok-number.ensures ∙ c.len.ensures ∙ k.scopes.ok.0 ∙ as_long (IsKept k.types w) k.scopes.items l.scopes h.scopes in
     let begun : IsScope k.types w c.new.result (new_spaces (Some given) closure.around) =
     subst (λ (numbers : List ℕ). IsScope k.types w c.new.result (new_spaces (Some given) numbers)) (sym around) (c.new.ensures.begun k.types w (Some given) is) in
     record {

@@ -1,9 +1,9 @@
 use Rattle.std.proofs.Common.{[], ◌∷◌, ◌++◌, ℕ, List, sym, ap, subst}
 use Rattle.std.specs.Vec.{with_item}
-use Rattle.instance_tables.specs.declared.references.DefinitionRef.{DefinitionRef}
-use Rattle.instance_tables.specs.References.{IsListing}
-use Rattle.comp_linking.specs.Definitions.{AnInstance}
-use Rattle.comp_linking.specs.Linked.{exports_at}
+use Rattle.link_instances.specs.declared.references.DefinitionRef.{DefinitionRef}
+use Rattle.link_instances.specs.References.{IsListing}
+use Rattle.link_spec.specs.Definitions.{AnInstance}
+use Rattle.link_spec.specs.Linked.{exports_at}
 use Rattle.comp_link.specs.declared.linker.Linker.{Linker}
 use Rattle.comp_link.specs.State.{world_of}
 use Rattle.comp_link.proofs.States.{exports_are, scope_ended, others_live, live_same, live_scopes}

@@ -1,5 +1,5 @@
 use Rattle.std.proofs.Common.{refl}
-use Rattle.comp_linking.specs.Definitions.{types_of}
+use Rattle.link_spec.specs.Definitions.{types_of}
 use Rattle.comp_link.specs.State.{world_of}
 use Rattle.comp_link.proofs.States.{instance_given}
 use Rattle.comp_link.proofs.linker.Linker.instance_of_types.Goals as goal

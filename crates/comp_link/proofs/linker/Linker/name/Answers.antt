@@ -1,5 +1,5 @@
 use Rattle.std.proofs.Common.{refl}
-use Rattle.instance_tables.proofs.Growing.{listing_stays}
+use Rattle.link_instances.proofs.Growing.{listing_stays}
 use Rattle.comp_link.specs.State.{world_of}
 use Rattle.comp_link.proofs.States.{same_world, types_grow, at_grows}
 use Rattle.comp_link.proofs.linker.Linker.name.Goals as goal

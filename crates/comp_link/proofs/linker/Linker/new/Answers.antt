@@ -1,8 +1,8 @@
 use Rattle.std.proofs.Common.{◌≡◌, Bool, map, Some, ◌∙◌, ◌∷◌, ◌++◌, [], refl, sym, ap, subst, ℕ, List, None}
 use Rattle.std.specs.List.{slice_get, AllZip}
-use Rattle.comp_linking.specs.Spaces.{new_spaces, Action, Begin}
-use Rattle.instance_tables.specs.References.{World}
-use Rattle.comp_link.specs.Cores.{CoreLists}
+use Rattle.link_spec.specs.Spaces.{new_spaces, Action, Begin}
+use Rattle.link_instances.specs.References.{World}
+use Rattle.link_core_exports.specs.Cores.{CoreLists}
 use Rattle.comp_link.specs.declared.scope.Scope.{Scope}
 use Rattle.comp_link.specs.State.{IsScope, IsKept}
 use Rattle.comp_link.proofs.Growth.{kept_whole}

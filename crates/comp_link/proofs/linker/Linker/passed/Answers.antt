@@ -2,9 +2,9 @@ use Rattle.std.proofs.Common.{◌≡◌, ◌∙◌, List, sym, subst}
 use Rattle.std.specs.Prelude.{Ok, Err, MatchResult}
 use Rattle.ca_base.specs.Faults.{IfFault}
 use Rattle.comp_graph.specs.Graph.{CoreMake}
-use Rattle.comp_linking.specs.Definitions.{CoreExport}
-use Rattle.comp_linking.specs.Computed.{imports_outcome}
-use Rattle.core_exports.specs.Modules.{AreAllThere}
+use Rattle.link_spec.specs.Definitions.{CoreExport}
+use Rattle.link_spec.specs.Computed.{imports_outcome}
+use Rattle.link_core_exports.specs.Modules.{AreAllThere}
 use Rattle.comp_link.proofs.Reaching.{instances_there}
 use Rattle.comp_link.proofs.States.{scope_is}
 use Rattle.comp_link.proofs.linker.Linker.passed.Goals as goal

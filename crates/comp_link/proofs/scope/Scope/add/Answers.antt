@@ -1,6 +1,6 @@
 use Rattle.std.proofs.Common.{refl, subst}
-use Rattle.instance_tables.specs.declared.references.DefinitionRef.{DefinitionRef}
-use Rattle.instance_tables.specs.References.{Stands}
+use Rattle.link_instances.specs.declared.references.DefinitionRef.{DefinitionRef}
+use Rattle.link_instances.specs.References.{Stands}
 use Rattle.comp_link.proofs.Scopes.{func_more, type_more, component_more, instance_more, module_more}
 use Rattle.comp_link.proofs.scope.Scope.add.Goals as goal
 

@@ -1,5 +1,5 @@
 use Rattle.std.proofs.Common.{refl}
-use Rattle.comp_linking.specs.Definitions.{WithExport}
+use Rattle.link_spec.specs.Definitions.{WithExport}
 use Rattle.comp_link.proofs.Scopes.{export_named}
 use Rattle.comp_link.proofs.scope.Scope.add_export.Goals as goal
 

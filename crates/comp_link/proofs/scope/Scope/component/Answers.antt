@@ -1,4 +1,4 @@
-use Rattle.type_meanings.specs.Levels.{IsClosure}
+use Rattle.link_meanings.specs.Levels.{IsClosure}
 use Rattle.comp_link.proofs.Zips.{found_in}
 use Rattle.comp_link.proofs.scope.Scope.component.Goals as goal
 

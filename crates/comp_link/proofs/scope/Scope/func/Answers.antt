@@ -1,4 +1,4 @@
-use Rattle.instance_tables.specs.References.{IsLifted}
+use Rattle.link_instances.specs.References.{IsLifted}
 use Rattle.comp_link.proofs.Zips.{found_in}
 use Rattle.comp_link.proofs.scope.Scope.func.Goals as goal
 

@@ -1,4 +1,4 @@
-use Rattle.instance_tables.specs.References.{IsInstance}
+use Rattle.link_instances.specs.References.{IsInstance}
 use Rattle.comp_link.proofs.Zips.{found_in}
 use Rattle.comp_link.proofs.scope.Scope.instance.Goals as goal
 

@@ -1,4 +1,4 @@
-use Rattle.type_tables.specs.Table.{IsType}
+use Rattle.link_types.specs.Table.{IsType}
 use Rattle.comp_link.proofs.Zips.{found_in}
 use Rattle.comp_link.proofs.scope.Scope.type_at.Goals as goal
 

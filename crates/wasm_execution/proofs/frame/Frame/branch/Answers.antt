@@ -1,8 +1,8 @@
 use Rattle.std.proofs.Common.{◌≡◌, ◌+◌, ◌-◌, ◌≤◌, ℕ, vec_len, arith, length, reverse, refl, ap, sym, ◌∙◌, Option, Some, None, rules}
 use Rattle.std.specs.Option.{option_map}
 use Rattle.wasm_module.specs.Expr.{Expr, left_at}
-use Rattle.core_machine.specs.Stack as stack
-use Rattle.core_machine.specs.Step.{landed}
+use Rattle.wasm_store.specs.Stack as stack
+use Rattle.wasm_store.specs.Step.{landed}
 use Rattle.wasm_execution.specs.declared.frame.OpenLabel.{OpenLabel}
 use Rattle.wasm_execution.specs.Places.{rest_at, label_of, frame_of}
 use Rattle.wasm_execution.proofs.Changing.{same_frames}

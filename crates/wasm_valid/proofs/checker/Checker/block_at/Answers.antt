@@ -1,7 +1,7 @@
 use Rattle.std.proofs.Common.{◌≡◌, ◌<◌, ◌≤◌, ◌-◌, ℕ, length, get_or, sym, ap, ◌∙◌, arith, Some, Option}
 use Rattle.wasm_module.specs.declared.instr.BlockType.{BlockType}
-use Rattle.wasm_valid.specs.declared.block.Part.{Part}
-use Rattle.wasm_valid.specs.declared.block.OpenBlock.{OpenBlock}
+use Rattle.wasm_typing.specs.declared.block.BlockKind.{BlockKind}
+use Rattle.wasm_valid.specs.declared.open_block.OpenBlock.{OpenBlock}
 use Rattle.wasm_valid.proofs.Stacks.{block_there, block_none}
 use Rattle.wasm_valid.proofs.checker.Checker.block_at.Goals as goal
 
@@ -14,6 +14,6 @@ pub returns : goal.returns
 returns c =
     let count : c.len-count.result ≡ length c.self.inside.around.items = omega (arith, c.len-count.ensures) in
     let within : c.args.depth ≤ length c.self.inside.around.items = omega arith in
-    ap (λ (b : OpenBlock). (let o : Option (Part × BlockType) = Some (b.part, b.block_type) in o))
+    ap (λ (b : OpenBlock). (let o : Option (BlockKind × BlockType) = Some (b.kind, b.block_type) in o))
     (c.index.ensures ∙ ap (λ (n : ℕ). get_or c.self.inside.around.items (n - c.args.depth) c.index.result.now) count)
     ∙ sym (block_there c.self.inside.top c.self.inside.around.items c.self.inside.operands.items _ _ c.args.depth c.index.result.now (sym c.self.view_is) c.if-depth-eq0.false within)

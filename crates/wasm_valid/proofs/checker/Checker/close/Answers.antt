@@ -1,5 +1,5 @@
 use Rattle.std.proofs.Common.{sym, ap, ◌∙◌}
-use Rattle.wasm_valid.specs.Context.{results}
+use Rattle.wasm_typing.specs.Context.{results}
 use Rattle.wasm_valid.proofs.Ending.{close_stops, none_left, close_ends, close_goes}
 use Rattle.wasm_valid.proofs.checker.Checker.close.Goals as goal
 

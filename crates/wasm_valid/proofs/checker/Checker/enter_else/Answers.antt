@@ -1,5 +1,5 @@
 use Rattle.std.proofs.Common.{sym, ap, ◌∙◌}
-use Rattle.wasm_valid.specs.Context.{params}
+use Rattle.wasm_typing.specs.Context.{params}
 use Rattle.wasm_valid.proofs.Ending.{else_stops, none_left, else_goes}
 use Rattle.wasm_valid.proofs.checker.Checker.enter_else.Goals as goal
 

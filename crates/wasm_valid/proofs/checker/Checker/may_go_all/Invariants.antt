@@ -1,6 +1,6 @@
 -- They may go to all labels where they may go to those that are left.
 use Rattle.std.proofs.Common.{◌≡◌, drop}
-use Rattle.wasm_valid.specs.Checking.{labels_in, may_go_all}
+use Rattle.wasm_typing.specs.Checking.{labels_in, may_go_all}
 use Rattle.wasm_valid.specs.State.{all_of}
 use Rattle.wasm_valid.proofs.checker.Checker.may_go_all.Given as goal
 

@@ -1,7 +1,7 @@
 -- So many are on top.
 use Rattle.std.proofs.Common.{◌≡◌, ◌++◌, take}
-use Rattle.wasm_valid.specs.Typing.{operands_of}
-use Rattle.wasm_valid.specs.Checking.{known}
+use Rattle.wasm_typing.specs.Typing.{operands_of}
+use Rattle.wasm_typing.specs.Checking.{known}
 use Rattle.wasm_valid.specs.State.{with_top}
 use Rattle.wasm_valid.proofs.checker.Checker.push_all.Given as goal
 

@@ -1,0 +1,17 @@
+//! What canonical functions ask of core definitions (Component Model, Explainer.md, "Canonical Definitions"), by types and numbers.
+//!
+//! The layer above links components: it looks up what options name, and compares what it finds with what is asked for here. What
+//! `link_spec` and `comp_graph` define is what contracts speak of. Nothing here takes longer for a function of many parameters.
+//!
+//! - `options`: the options of canonical functions, by their kinds
+//! - `func_types`: the types of the core functions that lifts and lowers ask for and make
+//! - `needs`: whether lifts and lowers ask for a memory, and for a function that gives places in it
+#![tactic(auto)]
+
+mod func_types;
+mod needs;
+mod options;
+
+pub use func_types::{lifted_type, lowered_type, post_return_type, realloc_type};
+pub use needs::{lift_needs_realloc, lower_needs_realloc, needs_memory};
+pub use options::{OptionIndices, are_there, indices_of, stand_once};

@@ -1,7 +1,0 @@
--- The functions of the exports so far.
-use Rattle.std.proofs.Common.{◌≡◌, take}
-use Rattle.comp_link.specs.Called.{func_entries}
-use Rattle.comp_link.proofs.funcs.func_entries.Given as goal
-
-abbrev pub invariant-loop-entry : goal.invariant-loop-entry
-invariant-loop-entry l = l.funcs ≡ func_entries (take l.entry-index l.entries)

@@ -1,5 +1,0 @@
-use Rattle.comp_linking.proofs.Following.{one_graph, linked_is_not_refused, one_refusal}
-use Rattle.comp_linking.proofs.laws.components_have_one_graph.Goals as goal
-
-pub returns : goal.returns
-returns c = record { graph = one_graph; not_both = linked_is_not_refused; fault = one_refusal }

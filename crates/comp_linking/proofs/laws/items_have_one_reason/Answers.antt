@@ -1,5 +1,0 @@
-use Rattle.comp_linking.proofs.Naming.{one_name, one_first}
-use Rattle.comp_linking.proofs.laws.items_have_one_reason.Goals as goal
-
-pub returns : goal.returns
-returns c = record { name = one_name; first = one_first }

@@ -1,5 +1,0 @@
-use Rattle.comp_linking.proofs.DistinctNames.{root_names_are_distinct, names_are_distinct}
-use Rattle.comp_linking.proofs.laws.names_are_distinct.Goals as goal
-
-pub returns : goal.returns
-returns c = record { root = root_names_are_distinct; all = names_are_distinct }

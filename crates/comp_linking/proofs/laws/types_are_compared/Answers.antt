@@ -1,6 +1,0 @@
-use Rattle.comp_linking.proofs.Sameness.{func_told, closed_told}
-use Rattle.comp_linking.proofs.Telling.{fits_told}
-use Rattle.comp_linking.proofs.laws.types_are_compared.Goals as goal
-
-pub returns : goal.returns
-returns c = record { funcs = func_told; closed = closed_told; fits = fits_told }

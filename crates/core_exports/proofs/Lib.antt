@@ -1,7 +1,0 @@
-pub mod Behind
-pub mod FirstTypes
-pub mod Fit
-pub mod Named
-pub mod Passed
-pub mod Placed
-pub mod There

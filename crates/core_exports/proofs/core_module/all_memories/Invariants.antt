@@ -1,7 +1,0 @@
--- The imported memories, and those of the module so far.
-use Rattle.std.proofs.Common.{◌≡◌, ◌++◌, take}
-use Rattle.wasm_module.specs.Spaces.{imported_memories}
-use Rattle.core_exports.proofs.core_module.all_memories.Given as goal
-
-abbrev pub invariant-loop-memory : goal.invariant-loop-memory
-invariant-loop-memory l = l.memories.items ≡ imported_memories l.tree.imports ++ take l.memory-index l.tree.memories

@@ -1,6 +1,0 @@
-pub mod Held
-pub mod Kinds
-pub mod Module
-pub mod Modules
-pub mod Places
-pub mod Source

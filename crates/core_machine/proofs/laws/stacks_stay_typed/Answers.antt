@@ -1,5 +1,0 @@
-use Rattle.core_machine.proofs.Stores.{further, stays_typed}
-use Rattle.core_machine.proofs.laws.stacks_stay_typed.Goals as goal
-
-pub returns : goal.returns
-returns c = record { stays = stays_typed; further = further }

@@ -1,5 +1,0 @@
-use Rattle.core_machine.proofs.Keeping.{steps_keep, empty_has_none, adds_none, never_calls}
-use Rattle.core_machine.proofs.laws.stores_without_hosts.Goals as goal
-
-pub returns : goal.returns
-returns c = record { steps = steps_keep; empty = empty_has_none; adds = adds_none; never = never_calls }

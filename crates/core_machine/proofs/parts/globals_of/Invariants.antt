@@ -1,8 +1,0 @@
--- The globals so far.
-use Rattle.std.proofs.Common.{◌≡◌, map, take}
-use Rattle.core_machine.specs.Instantiation.{new_global, imported_globals}
-use Rattle.core_machine.specs.Views.{global_of, address_of}
-use Rattle.core_machine.proofs.parts.globals_of.Given as goal
-
-abbrev pub invariant-loop-global : goal.invariant-loop-global
-invariant-loop-global l = map global_of l.instances.items ≡ map (new_global l.store (imported_globals (map address_of l.imports))) (take l.global-index l.globals)

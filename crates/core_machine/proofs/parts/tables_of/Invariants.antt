@@ -1,8 +1,0 @@
--- The tables so far.
-use Rattle.std.proofs.Common.{◌≡◌, map, take}
-use Rattle.core_machine.specs.Instantiation.{new_table}
-use Rattle.core_machine.specs.Views.{table_of}
-use Rattle.core_machine.proofs.parts.tables_of.Given as goal
-
-abbrev pub invariant-loop-table_type : goal.invariant-loop-table_type
-invariant-loop-table_type l = map table_of l.tables.items ≡ map new_table (take l.table_type-index l.types)

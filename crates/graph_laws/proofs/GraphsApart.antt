@@ -1,0 +1,128 @@
+-- Linked graphs are apart, and their plans make each core instance in order; and where the modules of a component are sound, so is its
+-- graph.
+use Rattle.std.proofs.Common.{◌≡◌, ℕ, List, [], ◌++◌, length, map, refl, sym, subst, Option, Some, None}
+use Rattle.std.specs.List.{slice_get, AllByRecursion}
+use Rattle.ca_base.specs.declared.placed.Placed.{Placed}
+use Rattle.wasm_typing.specs.Modules.{Typed}
+use Rattle.wasm_store.specs.Instantiation.{InRange}
+use Rattle.comp_tree.specs.declared.items.Item.{Item, out-Item}
+use Rattle.comp_tree.specs.declared.items.Component.{Component}
+use Rattle.comp_graph.specs.Graph.{CoreMake, Graph}
+use Rattle.link_spec.specs.Definitions.{Closure, AFunc, AnInstance, Exports, EmptyInstance, WithExport}
+use Rattle.link_spec.specs.Spaces.{Spaces, Linking, new_spaces, with_definition}
+use Rattle.link_spec.specs.Standing.{StandsIn}
+use Rattle.link_spec.specs.Linked.{Begins, begun, exports_or, exports_at, with_instance, Links, no_items, item_links, instance_links, root_begun, Callable, funcs_behind, callables, lift_of, graph_of}
+use Rattle.link_spec.specs.Laws.{GraphsAreImported, LiftsAreThere, GraphsAreMade, GraphsAreSync, ModulesStand}
+use Rattle.link_spec.proofs.Holding.{all_push, all_both, all_mapped, all_weaker}
+use Rattle.canonical_machine.specs.Sound.{HasBytes, Makes}
+use Rattle.canonical_machine.specs.Owners.{IsLiftApart, IsApart}
+use Rattle.graph_laws.specs.Laws.{IsSoundModule, HasSoundModules, LinkedGraphsAreSound, PlansMakeInOrder, LinkedGraphsAreApart}
+use Rattle.graph_laws.proofs.Owning.{made_by, KeepsOwners, IsFuncApart, AreDefinedApart, AreSpacesApart, IsLinkingApart, IsReachedApart}
+use Rattle.graph_laws.proofs.Keeping.{kept_canons, kept_lifts, kept_imports, kept_spaces, keeps_itself, keeps_through}
+use Rattle.graph_laws.proofs.Places.{at_push, begins_behind}
+use Rattle.graph_laws.proofs.SpacesApart.{with_defined_apart, new_apart, are_named_apart}
+use Rattle.graph_laws.proofs.ItemsApart.{with_spaces_apart, case_reached}
+
+-- An instance of a component begins
+begun_apart : (l : Linking) (n : ℕ) (s : Spaces) (item : Item) (c : Closure) (arguments : Exports) → IsLinkingApart l → AreSpacesApart (made_by l) n s → Begins l n s item c arguments → IsLinkingApart (begun l c arguments)
+begun_apart l n s item c arguments h k b = record {
+  scopes =
+      at_push (AreSpacesApart (made_by l)) l.scopes (new_spaces (Some arguments) c.around)
+      (new_apart (made_by l) (length l.scopes) (Some arguments) c.around (are_named_apart (made_by l) n s EmptyInstance b.named arguments k tt b.given)) h.scopes;
+  imports = h.imports;
+  lowers = h.lowers;
+  planned = begins_behind (length l.scopes) 0 l.plan l.cores h.planned;
+}
+
+-- and ends.
+exports_or_apart : (g : Graph) (n : ℕ) (o : Option Spaces) → ((s : Spaces) → o ≡ Some s → AreSpacesApart g n s) → AreDefinedApart g (exports_or o)
+exports_or_apart g n None h = tt
+exports_or_apart g n (Some s) h = (h s refl).exported
+
+exports_apart : (l : Linking) (n : ℕ) → IsLinkingApart l → AreDefinedApart (made_by l) (exports_at l n)
+exports_apart l n h = exports_or_apart (made_by l) n (slice_get l.scopes n) (h.scopes n)
+
+instance_reached : (l inner : Linking) (n : ℕ) (s : Spaces) (number : ℕ) → KeepsOwners (made_by l) (made_by inner) → IsLinkingApart inner → AreSpacesApart (made_by l) n s → IsReachedApart l (with_instance inner n s number)
+instance_reached l inner n s number keeps h k = record {
+  apart =
+      with_spaces_apart inner n (with_definition s (AnInstance (exports_at inner number))) h
+      (with_defined_apart (made_by inner) n s (AnInstance (exports_at inner number)) (kept_spaces (made_by l) (made_by inner) keeps n s k) (exports_apart inner number h));
+  keeps = keeps;
+}
+
+through : (l next last : Linking) → IsReachedApart l next → IsReachedApart next last → IsReachedApart l last
+through l next last a b = record { apart = b.apart; keeps = keeps_through (made_by l) (made_by next) (made_by last) a.keeps b.keeps }
+
+links_reached : (l : Linking) (n : ℕ) (items : List (Placed Item)) (last : Linking) → IsLinkingApart l → Links l n items last → IsReachedApart l last
+links_reached l n items last h (no_items m k) = record { apart = h; keeps = keeps_itself (made_by m) }
+links_reached l n items last h (item_links m next end k s placed others there makes behind) =
+    let first = case_reached m k s (out-Item placed.item) next h (h.scopes k s there) makes in
+    through m next end first (links_reached next k others end first.apart behind)
+links_reached l n items last h (instance_links m inner end k s c arguments placed others there begins inside behind) =
+    let spaces = h.scopes k s there in
+    let reached = links_reached (begun m c arguments) (length m.scopes) c.items inner (begun_apart m k s placed.item c arguments h spaces begins) inside in
+    let ended = instance_reached m inner k s (length m.scopes) reached.keeps reached.apart spaces in
+    through m (with_instance inner k s (length m.scopes)) end ended (links_reached (with_instance inner k s (length m.scopes)) k others end ended.apart behind)
+
+root_apart : IsLinkingApart root_begun
+root_apart = record {
+  scopes = at_push (AreSpacesApart (made_by root_begun)) [] (new_spaces None []) (new_apart (made_by root_begun) 0 None [] tt) (λ k s e. cc);
+  imports = tt;
+  lowers = tt;
+  planned = refl;
+}
+
+linked_apart : (c : Component) (l : Linking) → Links root_begun 0 c.items l → IsLinkingApart l
+linked_apart c l links = (links_reached root_begun 0 c.items l root_apart links).apart
+
+-- The functions that can be called.
+funcs_behind_apart : (g : Graph) (front : List ℕ) (exports : Exports) → AreDefinedApart g exports → AllByRecursion (λ (c : Callable). IsFuncApart g c.func) (funcs_behind front exports)
+funcs_behind_apart g front EmptyInstance h = tt
+funcs_behind_apart g front (WithExport others name (AFunc f)) h =
+    all_push (λ (c : Callable). IsFuncApart g c.func) (funcs_behind front others) (record { name = front ++ name; func = f }) (funcs_behind_apart g front others h.0) h.1
+funcs_behind_apart g front (WithExport others name d) h = all_both (λ (c : Callable). IsFuncApart g c.func) (funcs_behind front others) [] (funcs_behind_apart g front others h.0) tt
+
+callables_apart : (g : Graph) (exports : Exports) → AreDefinedApart g exports → AllByRecursion (λ (c : Callable). IsFuncApart g c.func) (callables exports)
+callables_apart g EmptyInstance h = tt
+callables_apart g (WithExport others name (AFunc f)) h =
+    all_push (λ (c : Callable). IsFuncApart g c.func) (callables others) (record { name = name; func = f }) (callables_apart g others h.0) h.1
+callables_apart g (WithExport others name (AnInstance inner)) h =
+    all_both (λ (c : Callable). IsFuncApart g c.func) (callables others) _ (callables_apart g others h.0) (funcs_behind_apart g _ inner h.1)
+callables_apart g (WithExport others name d) h = all_both (λ (c : Callable). IsFuncApart g c.func) (callables others) [] (callables_apart g others h.0) tt
+
+-- the graph owns what its linking made
+keeps_graph : (l : Linking) → KeepsOwners (made_by l) (graph_of l)
+keeps_graph l = record { cores = λ number owner e. e; canons = λ number owner e. e }
+
+graph_apart : (l : Linking) → IsLinkingApart l → IsApart (graph_of l)
+graph_apart l h = record {
+  imports = kept_imports (made_by l) (graph_of l) (keeps_graph l) l.cores h.imports;
+  lifts =
+      kept_lifts (made_by l) (graph_of l) (keeps_graph l) (map lift_of (callables (exports_at l 0)))
+      (all_mapped lift_of (IsLiftApart (made_by l)) (callables (exports_at l 0)) (callables_apart (made_by l) (exports_at l 0) (exports_apart l 0 h)));
+  lowers = kept_canons (made_by l) (graph_of l) (keeps_graph l) l.canons h.lowers;
+}
+
+pub linked_graphs_are_apart : LinkedGraphsAreApart
+linked_graphs_are_apart c g (l, links, is) = subst IsApart (sym is) (graph_apart l (linked_apart c l links))
+
+pub plans_make_in_order : PlansMakeInOrder
+plans_make_in_order c g (l, links, is) = subst (λ (g : Graph). Makes 0 g.plan g.cores) (sym is) (linked_apart c l links).planned
+
+-- Each core instance is of a sound module.
+all_sound : (c : Component) (cores : List CoreMake) → HasSoundModules c → AllByRecursion (λ (core : CoreMake). StandsIn core.of_module c.items) cores → AllByRecursion (λ (core : CoreMake). IsSoundModule core.of_module) cores
+all_sound c cores has stand = all_weaker (λ (core : CoreMake). StandsIn core.of_module c.items) (λ (core : CoreMake). IsSoundModule core.of_module) (λ core s. has core.of_module s) cores stand
+
+pub linked_graphs_are_sound : GraphsAreImported → LiftsAreThere → GraphsAreMade → GraphsAreSync → ModulesStand → LinkedGraphsAreSound
+linked_graphs_are_sound imported there made sync stand c g has linked =
+    let sound = all_sound c g.cores has (stand c g linked) in
+    record {
+      valid = all_weaker (λ (core : CoreMake). IsSoundModule core.of_module) (λ (core : CoreMake). Typed core.of_module) (λ core s. s.typed) g.cores sound;
+      in_range = all_weaker (λ (core : CoreMake). IsSoundModule core.of_module) (λ (core : CoreMake). InRange core.of_module) (λ core s. s.in_range) g.cores sound;
+      bytes = all_weaker (λ (core : CoreMake). IsSoundModule core.of_module) (λ (core : CoreMake). HasBytes core.of_module) (λ core s. s.bytes) g.cores sound;
+      imported = imported c g linked;
+      lifts = there c g linked;
+      made = made c g linked;
+      planned = plans_make_in_order c g linked;
+      sync = sync c g linked;
+    }

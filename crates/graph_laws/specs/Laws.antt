@@ -1,0 +1,70 @@
+-- What the graph of a component has, where it is linked (Component Model, Explainer.md, "Instance Definitions" and "Canonical
+-- Definitions"), and what its modules have, where it was read before (Binary.md, "Core Definitions"; Core 2.0, section 5.5).
+use Rattle.std.specs.Prelude.{ℕ, List}
+use Rattle.std.specs.List.{AllByRecursion}
+use Rattle.wasm_module.specs.declared.module.ModuleTree.{ModuleTree}
+use Rattle.wasm_typing.specs.Modules.{Typed}
+use Rattle.wasm_store.specs.Instantiation.{InRange}
+use Rattle.comp_tree.specs.declared.items.Component.{Component}
+use Rattle.comp_reader.specs.Binary.{IsComponent}
+use Rattle.comp_graph.specs.Graph.{Graph}
+use Rattle.script_reader.specs.Script.{Script, CallsExport}
+use Rattle.link_spec.specs.Standing.{StandsIn}
+use Rattle.link_spec.specs.Linked.{IsLinked}
+use Rattle.canonical_machine.specs.Sound.{AreBytes, HasBytes, Makes, IsSoundGraph, IsSound}
+use Rattle.canonical_machine.specs.Owners.{IsApart}
+use Rattle.canonical_machine.specs.Plain.{IsPlain}
+use Rattle.graph_laws.specs.Counted.{HasCountedFuncs}
+
+-- A module that is valid, no memory of which begins with more pages than any may have, and whose data are bytes.
+pub record IsSoundModule (m : ModuleTree) : Type 0 where
+  pub typed : Typed m
+  pub in_range : InRange m
+  pub bytes : HasBytes m
+
+-- So is each module that stands in a component.
+abbrev pub HasSoundModules : Component → Type 0
+HasSoundModules c = (m : ModuleTree) → StandsIn m c.items → IsSoundModule m
+
+-- Where a component has sound modules, its graph is sound.
+abbrev pub LinkedGraphsAreSound : Type 0
+LinkedGraphsAreSound = (c : Component) (g : Graph) → HasSoundModules c → IsLinked c g → IsSoundGraph g
+
+-- The plan of a graph makes each core instance, in order.
+abbrev pub PlansMakeInOrder : Type 0
+PlansMakeInOrder = (c : Component) (g : Graph) → IsLinked c g → Makes 0 g.plan g.cores
+
+-- Core definitions stay in the component instance that makes them.
+abbrev pub LinkedGraphsAreApart : Type 0
+LinkedGraphsAreApart = (c : Component) (g : Graph) → IsLinked c g → IsApart g
+
+-- Modules that are read are typed and in range.
+abbrev pub ReadModulesAreTyped : Type 0
+ReadModulesAreTyped = (bytes : List ℕ) (c : Component) (m : ModuleTree) → IsComponent bytes c → StandsIn m c.items → Typed m × InRange m
+
+-- The data of a module are bytes of the file.
+abbrev pub ReadDataAreBytes : Type 0
+ReadDataAreBytes = (bytes : List ℕ) (c : Component) (m : ModuleTree) → AreBytes bytes → IsComponent bytes c → StandsIn m c.items → HasBytes m
+
+-- What is read of bytes has sound modules, and so its graph is sound.
+abbrev pub ReadModulesAreSound : Type 0
+ReadModulesAreSound = (bytes : List ℕ) (c : Component) → AreBytes bytes → IsComponent bytes c → HasSoundModules c
+
+abbrev pub ReadGraphsAreSound : Type 0
+ReadGraphsAreSound = (bytes : List ℕ) (c : Component) (g : Graph) → AreBytes bytes → IsComponent bytes c → IsLinked c g → IsSoundGraph g
+
+-- What functions of a graph pass that is read of bytes and linked has types whose labels are counted.
+abbrev pub ReadTypesAreCounted : Type 0
+ReadTypesAreCounted =
+    (bytes : List ℕ) (c : Component) (g : Graph)
+    → AreBytes bytes → IsComponent bytes c → IsLinked c g → HasCountedFuncs g
+
+-- Such a graph passes no handle and no end.
+abbrev pub CountedGraphsArePlain : Type 0
+CountedGraphsArePlain = (g : Graph) → HasCountedFuncs g → IsPlain g
+
+-- A script whose items call exports of such a graph, which is sound, is sound.
+abbrev pub CallsAreSound : Type 0
+CallsAreSound =
+    (g : Graph) (s : Script)
+    → IsSoundGraph g → HasCountedFuncs g → AllByRecursion (CallsExport g.exports) s.items → IsSound g s

@@ -1,5 +1,0 @@
-use Rattle.instance_tables.proofs.PairOrder.{inserted}
-use Rattle.instance_tables.proofs.pairs.add.Goals as goal
-
-pub returns-clause-ok : goal.returns-clause-ok
-returns-clause-ok c = inserted _ _ _ c.in_ok-insert.ensures.updates

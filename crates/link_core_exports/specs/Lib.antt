@@ -1,0 +1,6 @@
+pub mod Cores
+pub mod Held
+pub mod Module
+pub mod Modules
+pub mod Places
+pub mod Source

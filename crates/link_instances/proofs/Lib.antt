@@ -1,0 +1,17 @@
+pub mod Asking
+pub mod Calling
+pub mod Compares
+pub mod Finding
+pub mod Going
+pub mod Growing
+pub mod InOrder
+pub mod Named
+pub mod PairOrder
+pub mod Places
+pub mod SortsTold
+pub mod Standing
+pub mod Turns
+pub mod TypesAsked
+pub mod TypesKept
+pub mod Views
+pub mod Walking

@@ -1,0 +1,13 @@
+pub mod Called
+pub mod Comparing
+pub mod Fit
+pub mod Fitting
+pub mod Instances
+pub mod Laws
+pub mod OfTypes
+pub mod Pairs
+pub mod References
+pub mod Sorts
+pub mod Typed
+pub mod Views
+pub mod Walks

@@ -1,0 +1,45 @@
+-- What references are (Component Model, Explainer.md, "Type Definitions"): values, types and instances among types and exports.
+use Rattle.std.specs.Prelude.{ℕ, Option, Some, None}
+use Rattle.comp_tree.specs.declared.instances.Sort.{Sort}
+use Rattle.comp_tree.specs.declared.instances.Sort.TheVariants as sorts
+use Rattle.comp_tree.specs.declared.externs.ExternDesc.{ExternDesc}
+use Rattle.comp_tree.specs.declared.externs.ExternDesc.TheVariants as desc
+use Rattle.link_types.specs.declared.refs.InstanceTypeRef.{InstanceTypeRef}
+use Rattle.link_types.specs.declared.refs.TypeRef.{TypeRef}
+use Rattle.link_types.specs.declared.refs.TypeRef.TheVariants as type_ref
+use Rattle.link_types.specs.declared.refs.ExternRef.{ExternRef}
+use Rattle.link_types.specs.declared.refs.ExternRef.TheVariants as extern_ref
+
+-- the number of the value type, if it is one
+abbrev pub value_ref : TypeRef → Option ℕ
+value_ref (type_ref.Value number) = Some number
+value_ref ref = None
+
+-- the type that an export is, and the type of the instance
+abbrev pub type_ref_in : Option ExternRef → Option TypeRef
+type_ref_in (Some (extern_ref.Type ref)) = Some ref
+type_ref_in item = None
+
+abbrev pub instance_ref_in : Option ExternRef → Option InstanceTypeRef
+instance_ref_in (Some (extern_ref.Instance ref)) = Some ref
+instance_ref_in item = None
+
+-- an export of a sort
+abbrev pub ref_of_sort : Sort → ExternRef → Option ExternRef
+ref_of_sort sorts.Func (extern_ref.Func ref) = Some (extern_ref.Func ref)
+ref_of_sort sorts.Type (extern_ref.Type ref) = Some (extern_ref.Type ref)
+ref_of_sort sorts.Instance (extern_ref.Instance ref) = Some (extern_ref.Instance ref)
+ref_of_sort sort item = None
+
+-- what an import or an export is to be: the index of its type, if it has one, and what it is, where its type is this one
+abbrev pub desc_index : ExternDesc → Option ℕ
+desc_index (desc.Func index) = Some index
+desc_index (desc.TypeEq index) = Some index
+desc_index (desc.Instance index) = Some index
+desc_index desc.Resource = None
+
+abbrev pub described_ref : ExternDesc → TypeRef → Option ExternRef
+described_ref (desc.Func index) (type_ref.Func ref) = Some (extern_ref.Func ref)
+described_ref (desc.TypeEq index) ref = Some (extern_ref.Type ref)
+described_ref (desc.Instance index) (type_ref.Instance ref) = Some (extern_ref.Instance ref)
+described_ref asked ref = None

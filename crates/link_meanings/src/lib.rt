@@ -1,0 +1,39 @@
+//! What a written type means (Component Model, Explainer.md, "Type Definitions"): the reference into a table of types, or what
+//! keeps the type from a meaning.
+//!
+//! The layer above links components. It asks for the meaning of each type that a component defines, and for what an import or
+//! an export is to be. What `link_spec` defines is what contracts speak of.
+//!
+//! - `meant`: what a part of a type comes to
+//! - `levels`: what outer aliases see
+//! - `values`: the numbers of parts of types
+//! - `numbered`: the numbers of fields, cases and places
+//! - `value_layers`: the types of values that are written, over the numbers of their parts
+//! - `value_meanings`: types of values
+//! - `funcs`: types of functions
+//! - `described`: what imports and exports are to be
+//! - `so_far`: what the declarations of an instance type tell so far
+//! - `declaring`: instance types whose declarations are read
+//! - `outer`: what outer aliases name
+//! - `aliases`: aliases in instance types
+//! - `meanings`: types
+#![tactic(auto)]
+
+mod aliases;
+mod declaring;
+mod described;
+mod funcs;
+mod levels;
+mod meanings;
+mod meant;
+mod numbered;
+mod outer;
+mod so_far;
+mod value_layers;
+mod value_meanings;
+mod values;
+
+pub use described::wanted;
+pub use levels::Level;
+pub use meanings::meaning_of;
+pub use meant::Meant;

@@ -1,0 +1,95 @@
+-- What is lifted is there, and what is lowered: the core function, or the function, and what options give, with the types that the
+-- lift or the lower needs.
+use Rattle.std.proofs.Common.{◌≡◌, ℕ, false, List, [], refl, ap, subst, Option, Some, None}
+use Rattle.std.specs.Prelude.{IfSome, IsSome, is_some}
+use Rattle.std.specs.Option.{option_and_then}
+use Rattle.ca_types.specs.declared.types.FuncType.{FuncType}
+use Rattle.wasm_module.specs.declared.types.Limits.{Limits}
+use Rattle.wasm_module.specs.declared.types.FuncType as core
+use Rattle.comp_graph.specs.declared.graph.FuncRef.{FuncRef}
+use Rattle.comp_graph.specs.declared.graph.CanonFunc.{CanonFunc}
+use Rattle.comp_graph.specs.CoreItems.{CoreItem, Func, Table, Memory, Global, core_func_of, core_memory_of}
+use Rattle.comp_graph.specs.Graph.{CoreMake, core_type, IsIn, IsItem, IsMemoryThere, IsLiftThere, IsCanonThere}
+use Rattle.comp_graph.specs.Needs.{lifted_type, realloc_type, post_return_type}
+use Rattle.link_spec.specs.Definitions.{Lifted}
+use Rattle.link_spec.specs.Canons.{Given, IsOfCoreType, CanBeLifted, CanBeLowered}
+use Rattle.link_spec.specs.Items.{lifted_with, lowered_with}
+use Rattle.link_spec.proofs.Holding.{holds_at, if_weaker, if_then, if_both}
+use Rattle.link_spec.proofs.Kept.{IsMemoryOf, type_there}
+use Rattle.link_spec.proofs.Soundness.{lift_for, IsMemoryItem}
+
+-- a core function that is there, of a type
+item_type : (cores : List CoreMake) (canons : List CanonFunc) (item : CoreItem) (type : core.FuncType) → IsItem cores canons item → IsOfCoreType type item → IfSome (core_func_of item) (λ f. core_type cores canons f ≡ Some type)
+item_type cores canons (Func f other) type h e = let same : other ≡ type = cc in type_there cores canons f type (subst (λ (type : core.FuncType). IsItem cores canons (Func f type)) same h)
+item_type cores canons (Table t limits) type h e = tt
+item_type cores canons (Memory memory limits) type h e = tt
+item_type cores canons (Global g of_core) type h e = tt
+
+memory_there : (cores : List CoreMake) (canons : List CanonFunc) (item : CoreItem) → IsMemoryItem cores canons item → IsMemoryThere cores (core_memory_of item)
+memory_there cores canons (Memory memory limits) h = record { core = h.core; there = h.there; holds = ap (λ (o : Option Limits). is_some o) h.holds }
+memory_there cores canons (Func f type) h = absurd h
+memory_there cores canons (Table t limits) h = absurd h
+memory_there cores canons (Global g type) h = absurd h
+
+-- a core function that an option gives
+given_there : (cores : List CoreMake) (canons : List CanonFunc) (type : core.FuncType) (given : Option CoreItem) → IfSome given (IsItem cores canons) → IfSome given (IsOfCoreType type)
+    → IfSome (option_and_then core_func_of given) (λ f. core_type cores canons f ≡ Some type)
+given_there cores canons type given h k =
+    if_then core_func_of (λ (f : FuncRef). core_type cores canons f ≡ Some type) given
+    (if_both (IsItem cores canons) (IsOfCoreType type) (λ (item : CoreItem). IfSome (core_func_of item) (λ f. core_type cores canons f ≡ Some type)) (λ item h k. item_type cores canons item type h k) given h k)
+
+-- the same, beside what holds of the options
+given_there_and : (cores : List CoreMake) (canons : List CanonFunc) (type : core.FuncType) (P : Type 0) (f : Option FuncRef) → P → IfSome f (λ f. core_type cores canons f ≡ Some type) → IfSome f (λ f. (core_type cores canons f ≡ Some type) × P)
+given_there_and cores canons type P f p h = if_weaker (λ f. core_type cores canons f ≡ Some type) (λ f. (core_type cores canons f ≡ Some type) × P) (λ f k. (k, p)) f h
+
+-- what is given is a function, and a memory
+func_given : (type : core.FuncType) (given : Option CoreItem) → IfSome given (IsOfCoreType type) → IsSome given → IsSome (option_and_then core_func_of given)
+func_given type None h k = k
+func_given type (Some (Func f other)) h k = refl
+func_given type (Some (Table t limits)) h k = cc
+func_given type (Some (Memory memory limits)) h k = cc
+func_given type (Some (Global g of_core)) h k = cc
+
+memory_given : (cores : List CoreMake) (canons : List CanonFunc) (given : Option CoreItem) → IfSome given (IsMemoryItem cores canons) → IsSome given → IsSome (option_and_then core_memory_of given)
+memory_given cores canons None h k = k
+memory_given cores canons (Some (Memory memory limits)) h k = refl
+memory_given cores canons (Some (Func f type)) h k = absurd h
+memory_given cores canons (Some (Table t limits)) h k = absurd h
+memory_given cores canons (Some (Global g type)) h k = absurd h
+
+-- what options give is there
+pub record IsGiven (cores : List CoreMake) (canons : List CanonFunc) (given : Given) : Type 0 where
+  pub memory : IfSome given.memory (IsMemoryItem cores canons)
+  pub realloc : IfSome given.realloc (IsItem cores canons)
+  pub post_return : IfSome given.post_return (IsItem cores canons)
+
+given_memory : (cores : List CoreMake) (canons : List CanonFunc) (given : Option CoreItem) → IfSome given (IsMemoryItem cores canons) → IsMemoryThere cores (option_and_then core_memory_of given)
+given_memory cores canons given h =
+    if_then core_memory_of (λ f. IsIn cores f (IsMemoryOf f)) given
+    (if_weaker (IsMemoryItem cores canons) (λ (item : CoreItem). IsMemoryThere cores (core_memory_of item)) (memory_there cores canons) given h)
+
+pub lift_there : (cores : List CoreMake) (canons : List CanonFunc) (n : ℕ) (type : FuncType) (item : CoreItem) (core : FuncRef) (given : Given) → core_func_of item ≡ Some core → IsItem cores canons item → IsGiven cores canons given → CanBeLifted type item given
+    → IsLiftThere cores canons type (lift_for (lifted_with n type core given))
+lift_there cores canons n type item core given is h k fits = record {
+  core = holds_at (λ f. core_type cores canons f ≡ Some (lifted_type type)) (core_func_of item) core (item_type cores canons item (lifted_type type) h fits.core) is;
+  memory = given_memory cores canons given.memory k.memory;
+  realloc = given_there cores canons realloc_type given.realloc k.realloc fits.realloc;
+  post_return = given_there_and cores canons (post_return_type type) (false ≡ false) (option_and_then core_func_of given.post_return) refl (given_there cores canons (post_return_type type) given.post_return k.post_return fits.post_return);
+  callback = tt;
+  memory_given = λ needs. memory_given cores canons given.memory k.memory (fits.memory_given needs);
+  realloc_given = λ needs. func_given realloc_type given.realloc fits.realloc (fits.realloc_given needs);
+}
+
+pub lower_there : (cores : List CoreMake) (canons : List CanonFunc) (n : ℕ) (func : Lifted) (given : Given) → IsLiftThere cores canons func.func_type (lift_for func) → IsGiven cores canons given → CanBeLowered func.func_type given
+    → IsCanonThere cores canons [] (lowered_with n func given)
+lower_there cores canons n func given h k fits = record {
+  lift = h;
+  options = record {
+    memory = given_memory cores canons given.memory k.memory;
+    realloc = given_there cores canons realloc_type given.realloc k.realloc fits.realloc;
+    post_return = ap (λ o. option_and_then core_func_of o) fits.post_return;
+    callback = refl;
+  };
+  memory_given = λ needs. memory_given cores canons given.memory k.memory (fits.memory_given needs);
+  realloc_given = λ needs. func_given realloc_type given.realloc fits.realloc (fits.realloc_given needs);
+}

@@ -1,0 +1,172 @@
+-- The options of canonical functions (Component Model, Explainer.md, "Canonical Definitions"; CanonicalABI.md, "Canonical ABI
+-- Options"), when a core item can be lifted with them, and when a function can be lowered. An option stands at most once, and those
+-- of asynchronous functions not at all.
+use Rattle.std.specs.Prelude.{◌≡◌, ◌≤◌, ℕ, Bool, true, false, not, ◌&&◌, ◌||◌, nat_lt, nat_le, is_some, List, [], ◌∷◌, length, filter, Option, Some, None, IfSome, IsSome}
+use Rattle.std.specs.Option.{option_and_then, option_map_or}
+use Rattle.std.specs.List.{slice_get, list_all}
+use Rattle.ca_types.specs.declared.types.FuncType.{FuncType}
+use Rattle.wasm_module.specs.declared.types.FuncType as core
+use Rattle.comp_graph.specs.declared.graph.Options.{Options}
+use Rattle.comp_graph.specs.Closed.{first_of}
+use Rattle.comp_graph.specs.CoreItems.{CoreItem, core_func_of, core_memory_of, func_part}
+use Rattle.comp_graph.specs.Needs.{lifted_type, realloc_type, post_return_type, needs_memory, lift_needs_realloc, lower_needs_realloc}
+use Rattle.comp_tree.specs.declared.items.CanonOption.{CanonOption}
+use Rattle.comp_tree.specs.declared.items.CanonOption.TheVariants as option
+use Rattle.link_spec.specs.Spaces.{Spaces}
+use Rattle.link_spec.specs.Tests.{same_core_func}
+
+-- Kinds of options.
+
+abbrev pub is_utf8 : CanonOption → Bool
+is_utf8 option.Utf8 = true
+is_utf8 (option.Memory index) = false
+is_utf8 (option.Realloc index) = false
+is_utf8 (option.PostReturn index) = false
+is_utf8 option.Async = false
+is_utf8 (option.Callback index) = false
+
+-- whether it is one of synchronous functions
+abbrev pub is_sync : CanonOption → Bool
+is_sync option.Utf8 = true
+is_sync (option.Memory index) = true
+is_sync (option.Realloc index) = true
+is_sync (option.PostReturn index) = true
+is_sync option.Async = false
+is_sync (option.Callback index) = false
+
+-- the index that an option of a kind has
+abbrev pub memory_index : CanonOption → Option ℕ
+memory_index option.Utf8 = None
+memory_index (option.Memory index) = Some index
+memory_index (option.Realloc index) = None
+memory_index (option.PostReturn index) = None
+memory_index option.Async = None
+memory_index (option.Callback index) = None
+
+abbrev pub realloc_index : CanonOption → Option ℕ
+realloc_index option.Utf8 = None
+realloc_index (option.Memory index) = None
+realloc_index (option.Realloc index) = Some index
+realloc_index (option.PostReturn index) = None
+realloc_index option.Async = None
+realloc_index (option.Callback index) = None
+
+abbrev pub post_return_index : CanonOption → Option ℕ
+post_return_index option.Utf8 = None
+post_return_index (option.Memory index) = None
+post_return_index (option.Realloc index) = None
+post_return_index (option.PostReturn index) = Some index
+post_return_index option.Async = None
+post_return_index (option.Callback index) = None
+
+-- how many options pass a test
+abbrev pub count_of : (CanonOption → Bool) → List CanonOption → ℕ
+count_of p options = length (filter p options)
+
+-- No option stands twice, and all are of synchronous functions.
+pub record StandOnce (options : List CanonOption) : Type 0 where
+  pub utf8 : count_of is_utf8 options ≤ 1
+  pub memory : count_of (λ o. is_some (memory_index o)) options ≤ 1
+  pub realloc : count_of (λ o. is_some (realloc_index o)) options ≤ 1
+  pub post_return : count_of (λ o. is_some (post_return_index o)) options ≤ 1
+  pub sync : list_all is_sync options ≡ true
+
+-- What options name.
+
+-- the first index that an option has
+abbrev pub first_index : (CanonOption → Option ℕ) → List CanonOption → Option ℕ
+first_index f [] = None
+first_index f (o ∷ options) = first_of (f o) (first_index f options)
+
+-- what an option names is there, or is not
+abbrev pub IsOptionThere : Spaces → CanonOption → Type 0
+IsOptionThere s o =
+    IfSome (memory_index o) (λ index. IsSome (slice_get s.core_memories index))
+    × IfSome (realloc_index o) (λ index. IsSome (slice_get s.core_funcs index))
+    × IfSome (post_return_index o) (λ index. IsSome (slice_get s.core_funcs index))
+
+-- what the options of a canonical function give it
+pub record Given : Type 0 where
+  pub memory : Option CoreItem
+  pub realloc : Option CoreItem
+  pub post_return : Option CoreItem
+
+abbrev pub given_by : Spaces → List CanonOption → Given
+given_by s options = record {
+  memory = option_and_then (slice_get s.core_memories) (first_index memory_index options);
+  realloc = option_and_then (slice_get s.core_funcs) (first_index realloc_index options);
+  post_return = option_and_then (slice_get s.core_funcs) (first_index post_return_index options);
+}
+
+-- the same without types
+abbrev pub options_of : Given → Options
+options_of given = record {
+  memory = option_and_then core_memory_of given.memory;
+  realloc = option_and_then core_func_of given.realloc;
+  post_return = option_and_then core_func_of given.post_return;
+  callback = None;
+  is_async = false;
+}
+
+-- Lifts.
+
+-- a core item is a function of a type
+abbrev pub IsOfCoreType : core.FuncType → CoreItem → Type 0
+IsOfCoreType type item = func_part item ≡ Some type
+
+-- A core item can be lifted to a function of a type, with what is given: the core functions have the types that they need, and
+-- where something is passed in memory, or asks for a place in it, the memory is given, or the function that gives places.
+pub record CanBeLifted (type : FuncType) (item : CoreItem) (given : Given) : Type 0 where
+  pub core : IsOfCoreType (lifted_type type) item
+  pub realloc : IfSome given.realloc (IsOfCoreType realloc_type)
+  pub post_return : IfSome given.post_return (IsOfCoreType (post_return_type type))
+  pub memory_given : needs_memory type ≡ true → IsSome given.memory
+  pub realloc_given : lift_needs_realloc type ≡ true → IsSome given.realloc
+
+-- Lowers.
+
+-- A function of a type can be lowered with what is given: the function that gives places has its type, no function is called when
+-- a result was lifted, and where something is passed in memory, or what the result holds asks for a place in it, the memory is
+-- given, or the function that gives places.
+pub record CanBeLowered (type : FuncType) (given : Given) : Type 0 where
+  pub realloc : IfSome given.realloc (IsOfCoreType realloc_type)
+  pub post_return : given.post_return ≡ None
+  pub memory_given : needs_memory type ≡ true → IsSome given.memory
+  pub realloc_given : lower_needs_realloc type ≡ true → IsSome given.realloc
+
+-- The same as tests.
+
+abbrev pub at_most_once : (CanonOption → Bool) → List CanonOption → Bool
+at_most_once p options = nat_le (count_of p options) 1
+
+abbrev pub stand_once : List CanonOption → Bool
+stand_once options =
+    at_most_once is_utf8 options && at_most_once (λ o. is_some (memory_index o)) options
+    && at_most_once (λ o. is_some (realloc_index o)) options && at_most_once (λ o. is_some (post_return_index o)) options
+    && list_all is_sync options
+
+abbrev pub is_index_there : {A : Type 0} → List A → Option ℕ → Bool
+is_index_there xs index = option_map_or (λ i. nat_lt i (length xs)) index true
+
+abbrev pub is_option_there : Spaces → CanonOption → Bool
+is_option_there s o =
+    is_index_there s.core_memories (memory_index o) && is_index_there s.core_funcs (realloc_index o)
+    && is_index_there s.core_funcs (post_return_index o)
+
+abbrev pub is_of_core_type : core.FuncType → CoreItem → Bool
+is_of_core_type type item = option_map_or (λ other. same_core_func other type) (func_part item) false
+
+abbrev pub can_be_lifted : FuncType → CoreItem → Given → Bool
+can_be_lifted type item given =
+    is_of_core_type (lifted_type type) item
+    && option_map_or (is_of_core_type realloc_type) given.realloc true
+    && option_map_or (is_of_core_type (post_return_type type)) given.post_return true
+    && (not (needs_memory type) || is_some given.memory)
+    && (not (lift_needs_realloc type) || is_some given.realloc)
+
+abbrev pub can_be_lowered : FuncType → Given → Bool
+can_be_lowered type given =
+    option_map_or (is_of_core_type realloc_type) given.realloc true
+    && not (is_some given.post_return)
+    && (not (needs_memory type) || is_some given.memory)
+    && (not (lower_needs_realloc type) || is_some given.realloc)

@@ -1,0 +1,35 @@
+//! Numbers in place of trees: types of functions and of instances, in tables, over types of values, where a type is told by
+//! numbers, and two types are the same exactly where their numbers are. The trees are the closed types of `comp_graph`.
+//!
+//! - `listing`: what stands under names, in order
+//! - `layers`: the layers of types, each once, by number
+//! - `refs`: references into a table of types
+//! - `labels`: labels with the numbers of value types, which function types are made of
+//! - `laid_func`: what lifts and lowers ask of a function type
+//! - `kept_func`: function types, each with what lifts and lowers ask of it
+//! - `types`: the table of types
+//! - `maker`: types of instances, made export by export
+//! - `asked`: what a type of instances asks for
+//! - `laws`: what holds of tables of types
+#![tactic(auto)]
+
+mod asked;
+mod kept_func;
+mod labels;
+mod laid_func;
+pub mod laws;
+mod layers;
+mod listing;
+mod maker;
+mod refs;
+mod types;
+
+pub use asked::{asked_at, asked_count, asked_named};
+pub use labels::LabelledType;
+pub use laid_func::LaidFunc;
+pub use layers::{ExternLayer, Layer, Layers, TypeLayer};
+pub use link_values::Names;
+pub use listing::Listing;
+pub use maker::InstanceTypeMaker;
+pub use refs::{ExternRef, FuncTypeRef, InstanceTypeRef, TypeRef};
+pub use types::Types;

@@ -1,0 +1,12 @@
+pub mod KeyedAdded
+pub mod KeyedMore
+pub mod KeyOfType
+pub mod KeyOrder
+pub mod KeysOfLayers
+pub mod KeysTold
+pub mod LabelsAdded
+pub mod ListOrder
+pub mod NamesAdded
+pub mod Numbered
+pub mod NumbersTold
+pub mod TypesSame

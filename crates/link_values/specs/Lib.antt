@@ -1,0 +1,5 @@
+pub mod Keyed
+pub mod Keys
+pub mod Labels
+pub mod Laws
+pub mod Numbering

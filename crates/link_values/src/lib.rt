@@ -1,0 +1,20 @@
+//! Numbers in place of types of values: each type stands once in a table, over earlier ones, and two types are the same exactly where
+//! their numbers are. A type is looked up by its outer layer, and never by what stands deeper in it.
+//!
+//! - `names`: the texts of names, each once, by number
+//! - `label_lists`: lists of labels, each once, by number
+//! - `keys`: what tells types apart
+//! - `keyed_types`: types found by their keys
+//! - `value_types`: the table of types of values
+//! - `laws`: what holds of such tables
+#![tactic(auto)]
+
+mod keyed_types;
+mod keys;
+mod label_lists;
+pub mod laws;
+mod names;
+mod value_types;
+
+pub use names::Names;
+pub use value_types::ValueTypes;

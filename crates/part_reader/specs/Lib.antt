@@ -1,0 +1,4 @@
+pub mod Canons
+pub mod Names
+pub mod Reasons
+pub mod Types

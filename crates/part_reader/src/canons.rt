@@ -1,0 +1,102 @@
+//! Canonical functions.
+
+ghost use Rattle.ca_base.specs.Grammar.{MayRead};
+ghost use Rattle.part_reader.specs.Canons.{lift, lower, canon};
+
+use crate::fault::{ComponentWhy, unsupported};
+use ca_base::{Kind, ReadError, Window, read_vec};
+use comp_tree::{Canon, CanonOption};
+use std::alloc::Global;
+
+/// Options of canonical functions (Component Model, Binary.md, `canonopt`).
+struct CanonOptions;
+
+impl Kind for CanonOptions {
+    ghost use Rattle.part_reader.specs.Canons.{canon_option};
+
+    type Why = ComponentWhy;
+
+    type Item = CanonOption;
+
+    ghost grammar = { canon_option };
+
+    #[tactic(auto, unfolding(crate::specs::Canons::canon_option))]
+    fn read(
+        _alloc: Global,
+        window: &mut Window<ComponentWhy>,
+    ) -> Result<CanonOption, ReadError<ComponentWhy>> {
+        let place = window.at();
+        let byte = window.byte()?;
+        if byte == 0 {
+            return Ok(CanonOption::Utf8);
+        }
+        if byte == 3 {
+            let memory = window.u32()?;
+            return Ok(CanonOption::Memory(memory));
+        }
+        if byte == 4 {
+            let realloc = window.u32()?;
+            return Ok(CanonOption::Realloc(realloc));
+        }
+        if byte == 5 {
+            let post_return = window.u32()?;
+            return Ok(CanonOption::PostReturn(post_return));
+        }
+        Err(ReadError::Fault(unsupported(place, byte)))
+    }
+}
+
+/// Reads a lift behind its first byte (Component Model, Binary.md, `canon`).
+#[tactic(auto, unfolding(crate::specs::Canons::lift))]
+fn read_lift(
+    alloc: Global,
+    window: &mut Window<ComponentWhy>,
+) -> Result<Canon, ReadError<ComponentWhy>>
+    ensures { MayRead (λ read. read) lift window.old window.new result }
+{
+    window.marker(0)?;
+    let core_func = window.u32()?;
+    let options = read_vec::<CanonOptions>(alloc, window)?;
+    let func_type = window.u32()?;
+    Ok(Canon::Lift {
+        core_func,
+        options,
+        func_type,
+    })
+}
+
+/// Reads a lower, behind its first byte (Component Model, Binary.md, `canon`).
+#[tactic(auto, unfolding(crate::specs::Canons::lower))]
+fn read_lower(
+    alloc: Global,
+    window: &mut Window<ComponentWhy>,
+) -> Result<Canon, ReadError<ComponentWhy>>
+    ensures { MayRead (λ read. read) lower window.old window.new result }
+{
+    window.marker(0)?;
+    let func = window.u32()?;
+    let options = read_vec::<CanonOptions>(alloc, window)?;
+    Ok(Canon::Lower { func, options })
+}
+
+/// Reads a canonical function (Component Model, Binary.md, `canon`).
+///
+/// Its refusals are those of `canon` in `specs/Canons`: a byte that no rule has in its place (`Unsupported`), a number that is too
+/// long (`Leb`), and the window's end. `Memory` is want of memory.
+#[tactic(auto, unfolding(crate::specs::Canons::canon))]
+pub fn read_canon(
+    alloc: Global,
+    window: &mut Window<ComponentWhy>,
+) -> Result<Canon, ReadError<ComponentWhy>>
+    ensures { MayRead (λ read. read) canon window.old window.new result }
+{
+    let place = window.at();
+    let byte = window.byte()?;
+    if byte == 0 {
+        return read_lift(alloc, window);
+    }
+    if byte == 1 {
+        return read_lower(alloc, window);
+    }
+    Err(ReadError::Fault(unsupported(place, byte)))
+}

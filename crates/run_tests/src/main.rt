@@ -1,0 +1,64 @@
+//! Tests of runs of scripts over components, and of what `check` and `show` tell: a program that goes through tables of cases.
+//!
+//! The file `stdin` names the tables, each behind its kind, and the file `stdout` has how many cases are in each. What is wanted
+//! is derived from the definitions by hand.
+//!
+//! In the tables of the kind `case` a case is a paragraph: a line that says what it shows, lines of a component, a line of a
+//! command, lines of a script, a line `is`, and the answer. It is answered over the same readers, the same linking and the same
+//! runs as `wcm` stands on, without a file.
+//!
+//! - A line of a component is bytes in hexadecimal, which stand behind those of the lines before; `add`, the component `ADD`;
+//!   `times N BYTES`, bytes that stand N times; `front N`, by which no more than N bytes are left; or `change N BYTE`, another
+//!   byte at the place N
+//! - A command is `run`, `run --dump`, `check` or `show`
+//! - Each line of a script has a line feed behind it, but a line with a `\` at its end, which is left out with the line feed
+//! - An answer is a line with the number of the status, and the text that belongs to it: the trace, and behind it the dump where
+//!   it is asked for; what `check` and `show` tell; or the line of a refusal
+//!
+//! - `calls`: calls of the component `ADD` and of others, scripts that are refused, and fuel
+//! - `refused`: components that are refused, and items that are not linked, whatever the script is
+//! - `modules`: whole core modules, what they compute, and their traps
+//! - `imports`, `instances`: core instances with imports; core instances that are not linked, and as many as there may be
+//! - `nested`: components that are made of others
+//! - `lowers`: functions that are lowered, and what uses them
+//! - `values`: values of every type, and components that call others
+//! - `labels`: types and values with labels
+//! - `dumps`: what runs leave
+//! - `shown`: what `check` and `show` tell
+//!
+//! In the table `lines` of the kind `line` a paragraph is a line that says what is refused, `component`, `link` or `script`, and
+//! lines of a place and a reason, each with its line of a refusal behind ` = `. Behind a reason stands its argument: a byte as a
+//! number, a name, or the reason of a core module.
+//!
+//! - `case`: what a case asks; `components`: the bytes of its component; `answers`: its answer
+//! - `lines`: lines of refusals; `reasons`: reasons by their names
+#![tactic(auto)]
+
+mod answers;
+mod case;
+mod components;
+mod lines;
+mod reasons;
+
+use answers::Ran;
+use cases::{Tables, paragraphs_told, run_tables, steps_told};
+use lines::Line;
+use std::alloc::Global;
+use std::test::Fail;
+
+/// The tables, of two kinds.
+struct RunTables;
+
+impl Tables for RunTables {
+    fn told(alloc: Global, kind: &str, text: &str) -> Result<String, Fail> {
+        match kind {
+            "case" => paragraphs_told::<Ran>(alloc, text),
+            "line" => steps_told::<Line>(alloc, text),
+            _ => Err(Fail::new("another kind of table")),
+        }
+    }
+}
+
+fn main(rt: HostRuntime) -> Result<(), Fail> {
+    run_tables::<RunTables>(&rt)
+}

@@ -1,6 +1,0 @@
-use Rattle.std.proofs.Common.{sym, ◌∙◌}
-use Rattle.type_tables.proofs.RefsSame.{entry_same, lists_same}
-use Rattle.type_tables.proofs.refs.are_same.Goals as goal
-
-pub returns : goal.returns
-returns c = λ equal. lists_same _ entry_same c.args.given.now c.args.other.now (sym c.eq.ensures ∙ equal)

@@ -1,5 +1,0 @@
-use Rattle.type_tables.proofs.TypesTold.{entry_at}
-use Rattle.type_tables.proofs.types.Types.extern_at.Goals as goal
-
-pub returns : goal.returns
-returns c = entry_at c.args.self.now c.args.instance_type c.listing.result.now c.listing.ensures c.args.at c.get.result c.get.ensures

@@ -1,5 +1,0 @@
-use Rattle.type_tables.proofs.TypesTold.{count_at}
-use Rattle.type_tables.proofs.types.Types.extern_count.Goals as goal
-
-pub returns : goal.returns
-returns c = count_at c.args.self.now c.args.instance_type c.listing.result.now c.listing.ensures c.len.result c.len.ensures

@@ -1,9 +1,0 @@
-pub mod KeyedAdded
-pub mod KeyedMore
-pub mod KeyOrder
-pub mod KeysOfLayers
-pub mod KeysTold
-pub mod NamesAdded
-pub mod Numbered
-pub mod NumbersTold
-pub mod TypesSame

@@ -1,4 +1,0 @@
-pub mod Keyed
-pub mod Keys
-pub mod Laws
-pub mod Numbering

@@ -1,0 +1,3 @@
+mod Letters
+mod TextEquations
+mod Separated

@@ -1,0 +1,14 @@
+-- What is written and what is left: the whole is what the segments that are left make of the store so far.
+use Rattle.std.proofs.Common.{◌≡◌, drop, Some}
+use Rattle.std.specs.List.{slice_get}
+use Rattle.wasm_store.specs.Store.{Instance, Store}
+use Rattle.wasm_store.specs.Instantiation.{Instantiation, element_written, all_written}
+use Rattle.wasm_store.specs.Typed.{Extends}
+use Rattle.wasm_store.proofs.store.Store.write_elements.Given as goal
+
+abbrev pub invariant-loop-segment : goal.invariant-loop-segment
+invariant-loop-segment l = record {
+  instances : l.self.instances ≡ l.fn.self.instances;
+  extends : Extends l.fn.self l.self;
+  written : (i : Instance) → slice_get l.fn.self.instances l.instance ≡ Some i → (more : Store → Instantiation) → all_written (element_written i) l.segments l.fn.self more ≡ all_written (element_written i) (drop l.segment-index l.segments) l.self more;
+}

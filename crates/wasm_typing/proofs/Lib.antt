@@ -1,0 +1,11 @@
+pub mod Deciding
+pub mod Knowing
+pub mod Law
+pub mod Listed
+pub mod Names
+pub mod Options
+pub mod Placing
+pub mod Sections
+pub mod Singles
+pub mod Steps
+pub mod Trees

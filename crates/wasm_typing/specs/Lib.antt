@@ -1,0 +1,10 @@
+pub mod Checking
+pub mod Context
+pub mod Faults
+pub mod Finding
+pub mod Instrs
+pub mod Items
+pub mod Laws
+pub mod Modules
+pub mod Typing
+pub mod Untyped
