@@ -1,0 +1,166 @@
+-- A read is cancelled once something is copied.
+use Rattle.std.proofs.Common.{◌≡◌, ◌∙◌, ◌+◌, ◌*◌, Bool, true, false, [], ◌∷◌, ◌++◌, length, replicate, Some, None, refl, ap}
+use Rattle.wasm_module.specs.declared.instr.Instr.TheVariants.{Drop}
+use Rattle.wasm_module.specs.declared.instr.Instr.TheVariants as instr
+use Rattle.wasm_module.specs.Expr.{End, Plain}
+use Rattle.wasm_store.specs.Stack.{Running}
+use Rattle.builtin_kinds.specs.declared.EndKind.TheVariants.{Stream}
+use Rattle.ca_types.specs.declared.types.ValType.TheOpen as F
+use Rattle.ca_types.specs.declared.types.ValType.TheVariants as leaves
+use Rattle.ca_types.specs.declared.value.Value.TheOpen as V
+use Rattle.ca_types.specs.declared.value.Value.TheVariants as plain
+use Rattle.ca_types.specs.Layout.{Laid}
+use Rattle.handle_table.specs.History.{Add}
+use Rattle.tasks.specs.declared.phase.Resolution.TheVariants.{Returned}
+use Rattle.stream_ends.specs.declared.side.Side.TheVariants.{Reader, Writer}
+use Rattle.stream_ends.specs.declared.open_copy.By.TheVariants as by
+use Rattle.stream_ends.specs.declared.open_copy.CopyEvent.TheVariants as copy_event
+use Rattle.stream_ends.specs.declared.open_copy.CopyResult.TheVariants as copy_result
+use Rattle.comp_graph.specs.Graph.{Graph, no_options}
+use Rattle.script_reader.specs.Script.{Script}
+use Rattle.trace_show.specs.declared.builtin.Builtin.TheVariants as builtin
+use Rattle.trace_show.specs.declared.label.Channel.TheVariants as channel
+use Rattle.trace_show.specs.declared.label.Copied.TheVariants.{Values}
+use Rattle.trace_show.specs.declared.label.Label.TheVariants as line
+use Rattle.abi_machine.specs.declared.run_end.RunEnd.TheVariants.{Done}
+use Rattle.abi_machine.specs.LiftingOver.{part_step}
+use Rattle.abi_machine.specs.LoweringOver.{Plan, Gives, Lowered, lowered, lower_step}
+use Rattle.abi_machine.specs.Control.{Free, Calls, Lowers, Transfers}
+use Rattle.abi_machine.specs.World.{OfEnd, Init, Func, Nobody, Host, Acting, Exited, World, new_task}
+use Rattle.abi_machine.specs.Edits.{with_control}
+use Rattle.abi_machine.specs.Canons.{bytes_of, defines}
+use Rattle.abi_machine.specs.Finding.{typed_end}
+use Rattle.abi_machine.specs.Turn.{Steps, behind}
+use Rattle.abi_machine.specs.Lifting.{by_world}
+use Rattle.abi_machine.specs.Passing.{elements_lifted, elements_plan}
+use Rattle.abi_machine.specs.Pausing.{entries_by}
+use Rattle.abi_machine.specs.replies.Streams.{end_ref}
+use Rattle.abi_machine.specs.Next.{next}
+use Rattle.abi_machine.specs.examples.Parts.{func_type, number, core_at, core_func, one_call, Shows}
+use Rattle.abi_machine.specs.examples.Streams.{cancelled_behind, cancels_behind, streaming, streaming_world}
+use Rattle.abi_machine.proofs.Rules.{the_rules}
+use Rattle.abi_machine.proofs.Walks.{far, walked, stepped, goes_on, shows, leaves, planned}
+use Rattle.abi_machine.proofs.Layers.{u8_laid, u8_integer, u8_same, u8_part, u8_lowered}
+use Rattle.abi_machine.proofs.Passed.{elements_by, elements_planned, sized_from}
+use Rattle.abi_machine.proofs.Copies.{the_channel, the_canon, copies_as, moving, cancels_as}
+
+abbrev g : Graph
+g = streaming
+
+abbrev s : Script
+s = one_call
+
+abbrev w0 : World
+w0 = streaming_world cancels_behind
+
+abbrev w1 : World
+w1 = record w0 {
+  insts = record { table = (Add 2 (OfEnd (end_ref Stream 1 Writer)) ∷ Add 1 (OfEnd (end_ref Stream 1 Reader)) ∷ []); sets = []; backpressure = 0 } ∷ [];
+  tasks = new_task Init Nobody Exited ∷ record (new_task (Func (record { instance = 0; core = core_func 0 0; options = no_options; func_type = func_type [] None })) (Host 1 []) Acting) { stacks = (Running (record { instance = 0; results = 0; locals = []; values = []; rest = (Plain Drop (number 2 (number 16 (number 2 (Plain (instr.Call 2) (Plain Drop (number 1 (Plain (instr.Call 5) (Plain Drop End))))))))); labels = record { arity = 0; under = []; again = None; after = End } ∷ [] }) [] ∷ []) } ∷ [];
+  streams = record { element = Some leaves.U8; written = []; read = []; ends = record { view = record { reader = record { dropped = false; done = false; copy = None }; writer = record { dropped = false; done = false; copy = None } }; reader_closed = []; writer_closed = [] } } ∷ [];
+  control = Calls 1 (1 ∷ 0 ∷ 4 ∷ []);
+  units = 6;
+}
+
+piece1 : far 7 g s w0 ≡ ((line.Do 1 builtin.StreamNew [] ∷ line.Got 1 (8589934593 ∷ []) ∷ []), w1)
+unfolding the_rules
+piece1 = refl
+
+abbrev w2 : World
+w2 = record w0 {
+  insts = record { table = (Add 2 (OfEnd (end_ref Stream 1 Writer)) ∷ Add 1 (OfEnd (end_ref Stream 1 Reader)) ∷ []); sets = []; backpressure = 0 } ∷ [];
+  tasks = new_task Init Nobody Exited ∷ record (new_task (Func (record { instance = 0; core = core_func 0 0; options = no_options; func_type = func_type [] None })) (Host 1 []) Acting) { stacks = (Running (record { instance = 0; results = 0; locals = []; values = (4294967295 ∷ []); rest = (Plain Drop (number 2 (number 16 (number 2 (Plain (instr.Call 2) (Plain Drop (number 1 (Plain (instr.Call 5) (Plain Drop End))))))))); labels = record { arity = 0; under = []; again = None; after = End } ∷ [] }) [] ∷ []) } ∷ [];
+  streams = record { element = Some leaves.U8; written = []; read = []; ends = record { view = record { reader = record { dropped = false; done = false; copy = Some (record { by = by.Task 1; canon = 1; place = 0; length = 4; copied = 0; event = None; standing = true }) }; writer = record { dropped = false; done = false; copy = None } }; reader_closed = []; writer_closed = [] } } ∷ [];
+  units = 6;
+}
+
+piece2 : next g s w1 ≡ Steps (line.Do 1 builtin.StreamRead (1 ∷ 0 ∷ 4 ∷ []) ∷ line.Got 1 (4294967295 ∷ []) ∷ []) w2
+unfolding the_rules
+piece2 =
+    ap (behind (line.Do 1 builtin.StreamRead (1 ∷ 0 ∷ 4 ∷ []) ∷ [])) (copies_as g 1 0 1 Stream Reader leaves.U8 (record no_options { memory = Some (core_at 0 0); is_async = true }) (1 ∷ 0 ∷ 4 ∷ []) 4 (with_control Free w1) (end_ref Stream 1 Reader) (the_channel w1 (end_ref Stream 1 Reader)) (record { size = 1; align = 1 }) true (ap (λ (b : Bool). typed_end b (end_ref Stream 1 Reader)) u8_same) refl refl u8_laid u8_integer)
+
+abbrev w3 : World
+w3 = record w0 {
+  insts = record { table = (Add 2 (OfEnd (end_ref Stream 1 Writer)) ∷ Add 1 (OfEnd (end_ref Stream 1 Reader)) ∷ []); sets = []; backpressure = 0 } ∷ [];
+  tasks = new_task Init Nobody Exited ∷ record (new_task (Func (record { instance = 0; core = core_func 0 0; options = no_options; func_type = func_type [] None })) (Host 1 []) Acting) { stacks = (Running (record { instance = 0; results = 0; locals = []; values = []; rest = (Plain Drop (number 1 (Plain (instr.Call 5) (Plain Drop End)))); labels = record { arity = 0; under = []; again = None; after = End } ∷ [] }) [] ∷ []) } ∷ [];
+  streams = record { element = Some leaves.U8; written = []; read = []; ends = record { view = record { reader = record { dropped = false; done = false; copy = Some (record { by = by.Task 1; canon = 1; place = 0; length = 4; copied = 0; event = None; standing = true }) }; writer = record { dropped = false; done = false; copy = None } }; reader_closed = []; writer_closed = [] } } ∷ [];
+  control = Calls 2 (2 ∷ 16 ∷ 2 ∷ []);
+  units = 11;
+}
+
+piece3 : far 5 g s w2 ≡ ([], w3)
+unfolding the_rules
+piece3 = refl
+
+abbrev w4 : World
+w4 = record w0 {
+  insts = record { table = (Add 2 (OfEnd (end_ref Stream 1 Writer)) ∷ Add 1 (OfEnd (end_ref Stream 1 Reader)) ∷ []); sets = []; backpressure = 0 } ∷ [];
+  tasks = new_task Init Nobody Exited ∷ record (new_task (Func (record { instance = 0; core = core_func 0 0; options = no_options; func_type = func_type [] None })) (Host 1 []) Acting) { stacks = (Running (record { instance = 0; results = 0; locals = []; values = []; rest = (Plain Drop (number 1 (Plain (instr.Call 5) (Plain Drop End)))); labels = record { arity = 0; under = []; again = None; after = End } ∷ [] }) [] ∷ []) } ∷ [];
+  streams = record { element = Some leaves.U8; written = []; read = []; ends = record { view = record { reader = record { dropped = false; done = false; copy = Some (record { by = by.Task 1; canon = 1; place = 0; length = 4; copied = 0; event = None; standing = true }) }; writer = record { dropped = false; done = false; copy = None } }; reader_closed = []; writer_closed = [] } } ∷ [];
+  control = Lowers (record { inst = 0; memory = Some 0; realloc = None; acts_for = 1; blame = 1; next = Transfers (record { end = end_ref Stream 1 Writer; length = 2; values = ((Some (plain.U8 1)) ∷ (Some (plain.U8 2)) ∷ []) }) }) (sized_from 1 leaves.U8 0 ((lower_step (entries_by (defines g 0)) (V.U8 1)) ∷ (lower_step (entries_by (defines g 0)) (V.U8 2)) ∷ []) (Gives []));
+  units = 11;
+}
+
+piece4 : next g s w3 ≡ Steps (line.Do 1 builtin.StreamWrite (2 ∷ 16 ∷ 2 ∷ []) ∷ []) w4
+unfolding the_rules
+piece4 =
+    ap (behind (line.Do 1 builtin.StreamWrite (2 ∷ 16 ∷ 2 ∷ []) ∷ [])) (copies_as g 1 0 2 Stream Writer leaves.U8 (record no_options { memory = Some (core_at 0 0); is_async = true }) (2 ∷ 16 ∷ 2 ∷ []) 2 (with_control Free w3) (end_ref Stream 1 Writer) (the_channel w3 (end_ref Stream 1 Writer)) (record { size = 1; align = 1 }) true (ap (λ (b : Bool). typed_end b (end_ref Stream 1 Writer)) u8_same) refl refl u8_laid u8_integer)
+    ∙ ap (λ (l : Laid). moving g 1 (line.Do 1 builtin.StreamWrite (2 ∷ 16 ∷ 2 ∷ []) ∷ []) (end_ref Stream 1 Writer) 2 (record { by = by.Task 1; canon = 1; place = 0; length = 4; copied = 0; event = None; standing = true }) (the_canon g 1) leaves.U8 (elements_lifted 0 1 leaves.U8 (bytes_of w3.store (Some 0)) (16 + 0 * l.size) 2 (with_control Free w3))) u8_laid
+    ∙ ap (moving g 1 (line.Do 1 builtin.StreamWrite (2 ∷ 16 ∷ 2 ∷ []) ∷ []) (end_ref Stream 1 Writer) 2 (record { by = by.Task 1; canon = 1; place = 0; length = 4; copied = 0; event = None; standing = true }) (the_canon g 1) leaves.U8) (elements_by 0 1 leaves.U8 (bytes_of w3.store (Some 0)) 16 2 (with_control Free w3) (part_step (by_world 0 1) F.U8) (u8_part (by_world 0 1)))
+    ∙ ap (λ (l : Laid). Steps (line.Do 1 builtin.StreamWrite (2 ∷ 16 ∷ 2 ∷ []) ∷ []) (planned (elements_plan (entries_by (defines g 0)) leaves.U8 ((plain.U8 1) ∷ (plain.U8 2) ∷ []) (0 + 0 * l.size)) w4)) u8_laid
+    ∙ ap (λ (p : Plan). Steps (line.Do 1 builtin.StreamWrite (2 ∷ 16 ∷ 2 ∷ []) ∷ []) (planned p w4)) (elements_planned (entries_by (defines g 0)) leaves.U8 ((plain.U8 1) ∷ (plain.U8 2) ∷ []) 0 ((lower_step (entries_by (defines g 0)) (V.U8 1)) ∷ (lower_step (entries_by (defines g 0)) (V.U8 2)) ∷ []) (record { size = 1; align = 1 }) u8_laid (ap (λ (x : Lowered). x ∷ lowered (entries_by (defines g 0)) (plain.U8 2) ∷ []) (u8_lowered (entries_by (defines g 0)) 1) ∙ ap (λ (x : Lowered). (lower_step (entries_by (defines g 0)) (V.U8 1)) ∷ x ∷ []) (u8_lowered (entries_by (defines g 0)) 2)))
+
+abbrev w5 : World
+w5 = record w0 {
+  store = record w0.store { memories = record { bytes = ((1 ∷ 2 ∷ []) ++ replicate 14 0 ++ (1 ∷ 2 ∷ 3 ∷ 4 ∷ 5 ∷ []) ++ replicate 19 0); maximum = None } ∷ [] };
+  insts = record { table = (Add 2 (OfEnd (end_ref Stream 1 Writer)) ∷ Add 1 (OfEnd (end_ref Stream 1 Reader)) ∷ []); sets = []; backpressure = 0 } ∷ [];
+  tasks = new_task Init Nobody Exited ∷ record (new_task (Func (record { instance = 0; core = core_func 0 0; options = no_options; func_type = func_type [] None })) (Host 1 []) Acting) { stacks = (Running (record { instance = 0; results = 0; locals = []; values = []; rest = (Plain Drop End); labels = record { arity = 0; under = []; again = None; after = End } ∷ [] }) [] ∷ []) } ∷ [];
+  streams = record { element = Some leaves.U8; written = ((Some (plain.U8 1)) ∷ (Some (plain.U8 2)) ∷ []); read = ((Some (plain.U8 1)) ∷ (Some (plain.U8 2)) ∷ []); ends = record { view = record { reader = record { dropped = false; done = false; copy = Some (record { by = by.Task 1; canon = 1; place = 0; length = 4; copied = 2; event = Some copy_event.Completed; standing = true }) }; writer = record { dropped = false; done = false; copy = None } }; reader_closed = []; writer_closed = (record { length = 2; result = copy_result.Completed; count = 2 } ∷ []) } } ∷ [];
+  control = Calls 5 (1 ∷ []);
+  units = 14;
+}
+
+piece5 : far 4 g s w4 ≡ ((line.Copy (channel.Stream 1) (Values (record { values = ((plain.U8 1) ∷ (plain.U8 2) ∷ []); val_type = leaves.U8 })) ∷ line.Got 1 (32 ∷ []) ∷ []), w5)
+unfolding the_rules
+piece5 = refl
+
+abbrev w6 : World
+w6 = record w0 {
+  store = record w0.store { memories = record { bytes = ((1 ∷ 2 ∷ []) ++ replicate 14 0 ++ (1 ∷ 2 ∷ 3 ∷ 4 ∷ 5 ∷ []) ++ replicate 19 0); maximum = None } ∷ [] };
+  insts = record { table = (Add 2 (OfEnd (end_ref Stream 1 Writer)) ∷ Add 1 (OfEnd (end_ref Stream 1 Reader)) ∷ []); sets = []; backpressure = 0 } ∷ [];
+  tasks = new_task Init Nobody Exited ∷ record (new_task (Func (record { instance = 0; core = core_func 0 0; options = no_options; func_type = func_type [] None })) (Host 1 []) Acting) { stacks = (Running (record { instance = 0; results = 0; locals = []; values = (32 ∷ []); rest = (Plain Drop End); labels = record { arity = 0; under = []; again = None; after = End } ∷ [] }) [] ∷ []) } ∷ [];
+  streams = record { element = Some leaves.U8; written = ((Some (plain.U8 1)) ∷ (Some (plain.U8 2)) ∷ []); read = ((Some (plain.U8 1)) ∷ (Some (plain.U8 2)) ∷ []); ends = record { view = record { reader = record { dropped = false; done = false; copy = None }; writer = record { dropped = false; done = false; copy = None } }; reader_closed = (record { length = 4; result = copy_result.Completed; count = 2 } ∷ []); writer_closed = (record { length = 2; result = copy_result.Completed; count = 2 } ∷ []) } } ∷ [];
+  units = 14;
+}
+
+piece6 : next g s w5 ≡ Steps (line.Do 1 builtin.StreamCancelRead (1 ∷ []) ∷ line.Got 1 (32 ∷ []) ∷ []) w6
+unfolding the_rules
+piece6 =
+    ap (behind (line.Do 1 builtin.StreamCancelRead (1 ∷ []) ∷ [])) (cancels_as g 1 0 Stream Reader (Some leaves.U8) 1 (with_control Free w5) (end_ref Stream 1 Reader) (ap (λ (b : Bool). typed_end b (end_ref Stream 1 Reader)) u8_same))
+
+abbrev w7 : World
+w7 = record w0 {
+  store = record w0.store { memories = record { bytes = ((1 ∷ 2 ∷ []) ++ replicate 14 0 ++ (1 ∷ 2 ∷ 3 ∷ 4 ∷ 5 ∷ []) ++ replicate 19 0); maximum = None } ∷ [] };
+  insts = record { table = (Add 2 (OfEnd (end_ref Stream 1 Writer)) ∷ Add 1 (OfEnd (end_ref Stream 1 Reader)) ∷ []); sets = []; backpressure = 0 } ∷ [];
+  tasks = new_task Init Nobody Exited ∷ record (new_task (Func (record { instance = 0; core = core_func 0 0; options = no_options; func_type = func_type [] None })) (Host 1 []) Exited) { resolution = Some Returned } ∷ [];
+  streams = record { element = Some leaves.U8; written = ((Some (plain.U8 1)) ∷ (Some (plain.U8 2)) ∷ []); read = ((Some (plain.U8 1)) ∷ (Some (plain.U8 2)) ∷ []); ends = record { view = record { reader = record { dropped = false; done = false; copy = None }; writer = record { dropped = false; done = false; copy = None } }; reader_closed = (record { length = 4; result = copy_result.Completed; count = 2 } ∷ []); writer_closed = (record { length = 2; result = copy_result.Completed; count = 2 } ∷ []) } } ∷ [];
+  chain = [];
+  control = Free;
+  units = 15;
+}
+
+piece7 : far 4 g s w6 ≡ ((line.Return 1 None ∷ line.Exit 1 ∷ []), w7)
+unfolding the_rules
+piece7 = refl
+
+pub cancelled_behind_shown : Shows streaming one_call (streaming_world cancels_behind) cancelled_behind Done 15
+unfolding the_rules
+cancelled_behind_shown =
+    shows g s w0 w7 _ Done 15
+    (goes_on g s w0 w1 w7 _ _ (walked 7 g s w0 w1 _ piece1)
+    (goes_on g s w1 w2 w7 _ _ (stepped g s w1 w2 _ piece2)
+    (goes_on g s w2 w3 w7 _ _ (walked 5 g s w2 w3 _ piece3)
+    (goes_on g s w3 w4 w7 _ _ (stepped g s w3 w4 _ piece4)
+    (goes_on g s w4 w5 w7 _ _ (walked 4 g s w4 w5 _ piece5)
+    (goes_on g s w5 w6 w7 _ _ (stepped g s w5 w6 _ piece6)
+    (walked 4 g s w6 w7 _ piece7))))))) refl refl

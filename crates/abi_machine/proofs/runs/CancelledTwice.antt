@@ -1,0 +1,101 @@
+-- A call is cancelled twice.
+use Rattle.std.proofs.Common.{◌≡◌, ◌∙◌, true, [], ◌∷◌, Some, None, refl, ap}
+use Rattle.wasm_module.specs.declared.instr.Instr.TheVariants.{Drop}
+use Rattle.wasm_module.specs.declared.instr.Instr.TheVariants as instr
+use Rattle.wasm_module.specs.Expr.{End, Plain}
+use Rattle.wasm_store.specs.Stack.{Running}
+use Rattle.handle_table.specs.History.{Add}
+use Rattle.tasks.specs.declared.phase.Resolution.TheVariants.{Cancelled}
+use Rattle.tasks.specs.declared.phase.Cancellation.TheVariants.{Delivered}
+use Rattle.tasks.specs.declared.subtask_state.SubtaskState.TheVariants as told
+use Rattle.comp_graph.specs.Graph.{Graph, no_options}
+use Rattle.script_reader.specs.Script.{Script}
+use Rattle.trace_show.specs.declared.builtin.Builtin.TheVariants as builtin
+use Rattle.trace_show.specs.declared.label.BlockReason.TheVariants as reason
+use Rattle.trace_show.specs.declared.label.Label.TheVariants as line
+use Rattle.trace_show.specs.declared.trap.TrapName.TheVariants as trap
+use Rattle.abi_machine.specs.declared.run_end.RunEnd.TheVariants.{Trapped}
+use Rattle.abi_machine.specs.LoweringOver.{Plan, Gives}
+use Rattle.abi_machine.specs.Control.{Free, Arrives, Lowers, Doomed, Starts}
+use Rattle.abi_machine.specs.World.{OfSubtask, OfSet, Init, Func, Nobody, Host, Guest, New, Acting, AfterCall, AfterCancel, Exited, World, new_inst, new_task}
+use Rattle.abi_machine.specs.Edits.{with_control, in_state}
+use Rattle.abi_machine.specs.Canons.{defines}
+use Rattle.abi_machine.specs.Turn.{Steps}
+use Rattle.abi_machine.specs.Pausing.{entries_by}
+use Rattle.abi_machine.specs.Next.{next}
+use Rattle.abi_machine.specs.examples.Parts.{func_type, number, core_func, one_call, Shows}
+use Rattle.abi_machine.specs.examples.Cancelling.{cancelled_twice, twice, twice_world}
+use Rattle.abi_machine.proofs.Rules.{the_rules}
+use Rattle.abi_machine.proofs.Walks.{far, walked, stepped, goes_on, shows, planned}
+use Rattle.abi_machine.proofs.Passed.{none_passed, none_planned}
+use Rattle.abi_machine.proofs.Copies.{entering}
+
+abbrev g : Graph
+g = twice
+
+abbrev s : Script
+s = one_call
+
+abbrev w0 : World
+w0 = twice_world
+
+abbrev w1 : World
+w1 = record w0 {
+  insts = record { table = (Add 1 (OfSet 0) ∷ []); sets = ([] ∷ []); backpressure = 0 } ∷ new_inst ∷ [];
+  tasks = new_task Init Nobody Exited ∷ record (new_task (Func (record { instance = 0; core = core_func 0 0; options = no_options; func_type = func_type [] None })) (Host 1 []) (AfterCall 2 1 [])) { stacks = (Running (record { instance = 0; results = 0; locals = []; values = []; rest = (Plain Drop (number 2 (Plain (instr.Call 2) (Plain Drop (number 2 (Plain (instr.Call 2) (Plain Drop End))))))); labels = record { arity = 0; under = []; again = None; after = End } ∷ [] }) [] ∷ []) } ∷ new_task (Func (record { instance = 1; core = core_func 1 5; options = (record no_options { callback = Some (core_func 1 6); is_async = true }); func_type = func_type [] None })) (Guest (record { by = 1; canon = 1; words = []; told = told.Starting; lends = []; result = [] })) New ∷ [];
+  chain = 2 ∷ 1 ∷ [];
+  control = Arrives;
+  units = 3;
+}
+
+piece1 : far 5 g s w0 ≡ ((line.Do 1 builtin.WaitableSetNew [] ∷ line.Got 1 (1 ∷ []) ∷ line.Do 1 builtin.Lower [] ∷ line.Call 1 2 2 ∷ []), w1)
+unfolding the_rules
+piece1 = refl
+
+abbrev w2 : World
+w2 = record w0 {
+  insts = record { table = (Add 1 (OfSet 0) ∷ []); sets = ([] ∷ []); backpressure = 0 } ∷ new_inst ∷ [];
+  tasks = new_task Init Nobody Exited ∷ record (new_task (Func (record { instance = 0; core = core_func 0 0; options = no_options; func_type = func_type [] None })) (Host 1 []) (AfterCall 2 1 [])) { stacks = (Running (record { instance = 0; results = 0; locals = []; values = []; rest = (Plain Drop (number 2 (Plain (instr.Call 2) (Plain Drop (number 2 (Plain (instr.Call 2) (Plain Drop End))))))); labels = record { arity = 0; under = []; again = None; after = End } ∷ [] }) [] ∷ []) } ∷ new_task (Func (record { instance = 1; core = core_func 1 5; options = (record no_options { callback = Some (core_func 1 6); is_async = true }); func_type = func_type [] None })) (Guest (record { by = 1; canon = 1; words = []; told = told.Starting; lends = []; result = [] })) Acting ∷ [];
+  chain = 2 ∷ 1 ∷ [];
+  control = Lowers (record { inst = 1; memory = None; realloc = None; acts_for = 2; blame = 2; next = Starts }) (Gives []);
+  units = 3;
+}
+
+piece2 : next g s w1 ≡ Steps (line.Enter 2 ∷ []) w2
+unfolding the_rules
+piece2 =
+    ap (entering g w1) (none_passed 0 2 true None [] [] (in_state 2 Acting (with_control Free w1)) refl)
+    ∙ ap (λ (p : Plan). Steps (line.Enter 2 ∷ []) (planned p w2)) (none_planned (entries_by (defines g 1)) None)
+
+abbrev w3 : World
+w3 = record w0 {
+  insts = record { table = (Add 2 (OfSubtask 2) ∷ Add 1 (OfSet 0) ∷ []); sets = ([] ∷ []); backpressure = 0 } ∷ record { table = (Add 1 (OfSet 0) ∷ []); sets = ([] ∷ []); backpressure = 0 } ∷ [];
+  tasks = new_task Init Nobody Exited ∷ record (new_task (Func (record { instance = 0; core = core_func 0 0; options = no_options; func_type = func_type [] None })) (Host 1 []) (AfterCancel 2 2 (2 ∷ []))) { stacks = (Running (record { instance = 0; results = 0; locals = []; values = []; rest = (Plain Drop (number 2 (Plain (instr.Call 2) (Plain Drop End)))); labels = record { arity = 0; under = []; again = None; after = End } ∷ [] }) [] ∷ []) } ∷ record (new_task (Func (record { instance = 1; core = core_func 1 5; options = (record no_options { callback = Some (core_func 1 6); is_async = true }); func_type = func_type [] None })) (Guest (record { by = 1; canon = 1; words = []; told = told.Started; lends = []; result = [] })) Acting) { stacks = (Running (record { instance = 1; results = 1; locals = (6 ∷ 0 ∷ 0 ∷ []); values = []; rest = (Plain (instr.Call 4) (number 0 End)); labels = record { arity = 1; under = []; again = None; after = End } ∷ [] }) [] ∷ []); cancellation = Delivered } ∷ [];
+  chain = 2 ∷ 1 ∷ [];
+  units = 10;
+}
+
+piece3 : far 14 g s w2 ≡ ((line.Do 2 builtin.WaitableSetNew [] ∷ line.Got 2 (1 ∷ []) ∷ line.Block 2 (reason.Wait 1) ∷ line.Got 1 (33 ∷ []) ∷ line.Do 1 builtin.SubtaskCancel (2 ∷ []) ∷ line.Go 2 ∷ line.Event 2 6 0 0 ∷ []), w3)
+unfolding the_rules
+piece3 = refl
+
+abbrev w4 : World
+w4 = record w0 {
+  insts = record { table = (Add 2 (OfSubtask 2) ∷ Add 1 (OfSet 0) ∷ []); sets = ([] ∷ []); backpressure = 0 } ∷ record { table = (Add 1 (OfSet 0) ∷ []); sets = ([] ∷ []); backpressure = 0 } ∷ [];
+  tasks = new_task Init Nobody Exited ∷ record (new_task (Func (record { instance = 0; core = core_func 0 0; options = no_options; func_type = func_type [] None })) (Host 1 []) Acting) { stacks = (Running (record { instance = 0; results = 0; locals = []; values = []; rest = (Plain Drop End); labels = record { arity = 0; under = []; again = None; after = End } ∷ [] }) [] ∷ []) } ∷ record (new_task (Func (record { instance = 1; core = core_func 1 5; options = (record no_options { callback = Some (core_func 1 6); is_async = true }); func_type = func_type [] None })) (Guest (record { by = 1; canon = 1; words = []; told = told.CancelledBeforeReturned; lends = []; result = [] })) Exited) { resolution = Some Cancelled; cancellation = Delivered } ∷ [];
+  control = Doomed 1 trap.Delivered;
+  units = 15;
+}
+
+piece4 : far 11 g s w3 ≡ ((line.Do 2 builtin.TaskCancel [] ∷ line.Cancelled 2 ∷ line.Got 2 [] ∷ line.Exit 2 ∷ line.Got 1 (4 ∷ []) ∷ line.Do 1 builtin.SubtaskCancel (2 ∷ []) ∷ []), w4)
+unfolding the_rules
+piece4 = refl
+
+pub cancelled_twice_shown : Shows twice one_call twice_world cancelled_twice (Trapped 1 trap.Delivered) 15
+unfolding the_rules
+cancelled_twice_shown =
+    shows g s w0 w4 _ (Trapped 1 trap.Delivered) 15
+    (goes_on g s w0 w1 w4 _ _ (walked 5 g s w0 w1 _ piece1)
+    (goes_on g s w1 w2 w4 _ _ (stepped g s w1 w2 _ piece2)
+    (goes_on g s w2 w3 w4 _ _ (walked 14 g s w2 w3 _ piece3)
+    (walked 11 g s w3 w4 _ piece4)))) refl refl

@@ -1,0 +1,186 @@
+-- A call waits to enter, and has returned when it is told.
+use Rattle.std.proofs.Common.{◌≡◌, ◌∙◌, ◌+◌, true, [], ◌∷◌, ◌++◌, replicate, Some, None, refl, ap}
+use Rattle.wasm_module.specs.declared.instr.Instr.TheVariants.{Drop}
+use Rattle.wasm_module.specs.declared.instr.Instr.TheVariants as instr
+use Rattle.wasm_module.specs.Expr.{End, Plain}
+use Rattle.wasm_store.specs.Stack.{Running}
+use Rattle.ca_types.specs.declared.types.ValType.TheOpen as F
+use Rattle.ca_types.specs.declared.types.ValType.TheVariants as leaves
+use Rattle.ca_types.specs.declared.value.Value.TheOpen as V
+use Rattle.ca_types.specs.declared.value.Value.TheVariants as plain
+use Rattle.handle_table.specs.History.{Add}
+use Rattle.tasks.specs.declared.phase.Resolution.TheVariants.{Returned}
+use Rattle.tasks.specs.declared.subtask_state.SubtaskState.TheVariants as told
+use Rattle.comp_graph.specs.Graph.{Graph, no_options}
+use Rattle.script_reader.specs.Script.{Script}
+use Rattle.trace_show.specs.declared.builtin.Builtin.TheVariants as builtin
+use Rattle.trace_show.specs.declared.label.BlockReason.TheVariants as reason
+use Rattle.trace_show.specs.declared.label.Label.TheVariants as line
+use Rattle.abi_machine.specs.declared.run_end.RunEnd.TheVariants.{Done}
+use Rattle.abi_machine.specs.LoweringOver.{Plan, Gives, lower_step, tested}
+use Rattle.abi_machine.specs.Control.{Free, Runs, Calls, Lowers, Resumes, Starts, Resolves, Replies}
+use Rattle.abi_machine.specs.World.{OfSubtask, OfSet, Init, Func, Nobody, Host, Guest, ForYield, ForSet, Acting, WaitsToEnter, InBuiltin, Exited, World, new_inst, new_task}
+use Rattle.abi_machine.specs.Edits.{with_control, in_state}
+use Rattle.abi_machine.specs.Canons.{bytes_of, defines}
+use Rattle.abi_machine.specs.Turn.{Steps, behind}
+use Rattle.abi_machine.specs.Lifting.{by_world}
+use Rattle.abi_machine.specs.Passing.{last_of}
+use Rattle.abi_machine.specs.Pausing.{entries_by}
+use Rattle.abi_machine.specs.Next.{next}
+use Rattle.abi_machine.specs.examples.Parts.{func_type, number, core_func, asynchronous, run_name, Shows}
+use Rattle.abi_machine.specs.examples.Subtasks.{entered_late, held, held_world, hold_name, hold_then_run}
+use Rattle.abi_machine.proofs.Rules.{the_rules}
+use Rattle.abi_machine.proofs.Walks.{far, walked, stepped, goes_on, shows, leaves, planned, the_task, the_func}
+use Rattle.abi_machine.proofs.Layers.{u32_flat, u32_laid, u32_same, u32_part, u32_lowered}
+use Rattle.abi_machine.proofs.Passed.{none_passed, result_passed_as, none_planned, result_placed}
+use Rattle.abi_machine.proofs.Copies.{entering, returning, returns_as}
+
+abbrev g : Graph
+g = held
+
+abbrev s : Script
+s = hold_then_run
+
+abbrev w0 : World
+w0 = held_world
+
+abbrev w1 : World
+w1 = record w0 {
+  tasks = new_task Init Nobody Exited ∷ new_task (Func (record { instance = 1; core = core_func 1 10; options = asynchronous; func_type = func_type [] None })) (Host 1 []) Acting ∷ [];
+  chain = 1 ∷ [];
+  control = Lowers (record { inst = 1; memory = None; realloc = None; acts_for = 1; blame = 1; next = Starts }) (Gives []);
+  units = 1;
+  taken = 1;
+}
+
+piece1 : far 2 g s w0 ≡ ((line.Take 1 1 hold_name [] ∷ line.Enter 1 ∷ []), w1)
+unfolding the_rules
+piece1 = ap (λ (p : Plan). ((line.Take 1 1 hold_name [] ∷ line.Enter 1 ∷ []), planned p w1)) (none_planned (entries_by (defines g 1)) None)
+
+abbrev w2 : World
+w2 = record w0 {
+  insts = new_inst ∷ record { table = []; sets = []; backpressure = 1 } ∷ [];
+  tasks = new_task Init Nobody Exited ∷ record (new_task (Func (record { instance = 1; core = core_func 1 10; options = asynchronous; func_type = func_type [] None })) (Host 1 []) (InBuiltin 6 [] ForYield)) { stacks = (Running (record { instance = 1; results = 0; locals = []; values = []; rest = (Plain Drop (Plain (instr.Call 7) (Plain (instr.Call 9) End))); labels = record { arity = 0; under = []; again = None; after = End } ∷ [] }) [] ∷ []) } ∷ new_task (Func (record { instance = 0; core = core_func 0 11; options = asynchronous; func_type = func_type [] None })) (Host 2 []) Acting ∷ [];
+  chain = 2 ∷ [];
+  control = Lowers (record { inst = 0; memory = None; realloc = None; acts_for = 2; blame = 2; next = Starts }) (Gives []);
+  units = 4;
+  taken = 2;
+}
+
+piece2 : far 8 g s w1 ≡ ((line.Do 1 builtin.BackpressureInc [] ∷ line.Got 1 [] ∷ line.Do 1 builtin.Yield [] ∷ line.Block 1 reason.Yield ∷ line.Choose 2 0 ∷ line.Take 2 2 run_name [] ∷ line.Enter 2 ∷ []), w2)
+unfolding the_rules
+piece2 = ap (λ (p : Plan). ((line.Do 1 builtin.BackpressureInc [] ∷ line.Got 1 [] ∷ line.Do 1 builtin.Yield [] ∷ line.Block 1 reason.Yield ∷ line.Choose 2 0 ∷ line.Take 2 2 run_name [] ∷ line.Enter 2 ∷ []), planned p w2)) (none_planned (entries_by (defines g 0)) None)
+
+abbrev w3 : World
+w3 = record w0 {
+  insts = record { table = (Add 2 (OfSubtask 3) ∷ Add 1 (OfSet 0) ∷ []); sets = ((2 ∷ []) ∷ []); backpressure = 0 } ∷ record { table = []; sets = []; backpressure = 1 } ∷ [];
+  tasks = new_task Init Nobody Exited ∷ record (new_task (Func (record { instance = 1; core = core_func 1 10; options = asynchronous; func_type = func_type [] None })) (Host 1 []) (InBuiltin 6 [] ForYield)) { stacks = (Running (record { instance = 1; results = 0; locals = []; values = []; rest = (Plain Drop (Plain (instr.Call 7) (Plain (instr.Call 9) End))); labels = record { arity = 0; under = []; again = None; after = End } ∷ [] }) [] ∷ []) } ∷ record (new_task (Func (record { instance = 0; core = core_func 0 11; options = asynchronous; func_type = func_type [] None })) (Host 2 []) Acting) { stacks = (Running (record { instance = 0; results = 0; locals = []; values = []; rest = (number 1 (number 0 (Plain (instr.Call 3) (Plain Drop (Plain (instr.Call 4) End))))); labels = record { arity = 0; under = []; again = None; after = End } ∷ [] }) [] ∷ []) } ∷ new_task (Func (record { instance = 1; core = core_func 1 12; options = (record no_options { callback = Some (core_func 1 13); is_async = true }); func_type = func_type [] (Some leaves.U32) })) (Guest (record { by = 2; canon = 1; words = (64 ∷ []); told = told.Starting; lends = []; result = [] })) WaitsToEnter ∷ [];
+  chain = 2 ∷ [];
+  control = Runs;
+  units = 12;
+  taken = 2;
+}
+
+piece3 : far 14 g s w2 ≡ ((line.Do 2 builtin.WaitableSetNew [] ∷ line.Got 2 (1 ∷ []) ∷ line.Do 2 builtin.Lower (64 ∷ []) ∷ line.Call 2 3 2 ∷ line.Block 3 reason.Entry ∷ line.Got 2 (32 ∷ []) ∷ line.Do 2 builtin.WaitableJoin (2 ∷ 1 ∷ []) ∷ line.Got 2 [] ∷ []), w3)
+unfolding the_rules
+piece3 = refl
+
+abbrev w4 : World
+w4 = record w0 {
+  insts = record { table = (Add 2 (OfSubtask 3) ∷ Add 1 (OfSet 0) ∷ []); sets = ((2 ∷ []) ∷ []); backpressure = 0 } ∷ new_inst ∷ [];
+  tasks = new_task Init Nobody Exited ∷ record (new_task (Func (record { instance = 1; core = core_func 1 10; options = asynchronous; func_type = func_type [] None })) (Host 1 []) Exited) { resolution = Some Returned } ∷ record (new_task (Func (record { instance = 0; core = core_func 0 11; options = asynchronous; func_type = func_type [] None })) (Host 2 []) (InBuiltin 3 (1 ∷ 0 ∷ []) (ForSet 1))) { stacks = (Running (record { instance = 0; results = 0; locals = []; values = []; rest = (Plain Drop (Plain (instr.Call 4) End)); labels = record { arity = 0; under = []; again = None; after = End } ∷ [] }) [] ∷ []) } ∷ new_task (Func (record { instance = 1; core = core_func 1 12; options = (record no_options { callback = Some (core_func 1 13); is_async = true }); func_type = func_type [] (Some leaves.U32) })) (Guest (record { by = 2; canon = 1; words = (64 ∷ []); told = told.Starting; lends = []; result = [] })) WaitsToEnter ∷ [];
+  units = 19;
+  taken = 2;
+}
+
+piece4 : far 14 g s w3 ≡ ((line.Do 2 builtin.WaitableSetWait (1 ∷ 0 ∷ []) ∷ line.Block 2 (reason.Wait 1) ∷ line.Go 1 ∷ line.Got 1 (0 ∷ []) ∷ line.Do 1 builtin.BackpressureDec [] ∷ line.Got 1 [] ∷ line.Do 1 builtin.TaskReturn [] ∷ line.Return 1 None ∷ line.Got 1 [] ∷ line.Exit 1 ∷ []), w4)
+unfolding the_rules
+piece4 = refl
+
+abbrev w5 : World
+w5 = record w0 {
+  insts = record { table = (Add 2 (OfSubtask 3) ∷ Add 1 (OfSet 0) ∷ []); sets = ((2 ∷ []) ∷ []); backpressure = 0 } ∷ new_inst ∷ [];
+  tasks = new_task Init Nobody Exited ∷ record (new_task (Func (record { instance = 1; core = core_func 1 10; options = asynchronous; func_type = func_type [] None })) (Host 1 []) Exited) { resolution = Some Returned } ∷ record (new_task (Func (record { instance = 0; core = core_func 0 11; options = asynchronous; func_type = func_type [] None })) (Host 2 []) (InBuiltin 3 (1 ∷ 0 ∷ []) (ForSet 1))) { stacks = (Running (record { instance = 0; results = 0; locals = []; values = []; rest = (Plain Drop (Plain (instr.Call 4) End)); labels = record { arity = 0; under = []; again = None; after = End } ∷ [] }) [] ∷ []) } ∷ new_task (Func (record { instance = 1; core = core_func 1 12; options = (record no_options { callback = Some (core_func 1 13); is_async = true }); func_type = func_type [] (Some leaves.U32) })) (Guest (record { by = 2; canon = 1; words = (64 ∷ []); told = told.Starting; lends = []; result = [] })) WaitsToEnter ∷ [];
+  chain = 3 ∷ [];
+  control = Resumes;
+  units = 20;
+  taken = 2;
+}
+
+piece5 : far 1 g s w4 ≡ ((line.Go 3 ∷ []), w5)
+unfolding the_rules
+piece5 = refl
+
+abbrev w6 : World
+w6 = record w0 {
+  insts = record { table = (Add 2 (OfSubtask 3) ∷ Add 1 (OfSet 0) ∷ []); sets = ((2 ∷ []) ∷ []); backpressure = 0 } ∷ new_inst ∷ [];
+  tasks = new_task Init Nobody Exited ∷ record (new_task (Func (record { instance = 1; core = core_func 1 10; options = asynchronous; func_type = func_type [] None })) (Host 1 []) Exited) { resolution = Some Returned } ∷ record (new_task (Func (record { instance = 0; core = core_func 0 11; options = asynchronous; func_type = func_type [] None })) (Host 2 []) (InBuiltin 3 (1 ∷ 0 ∷ []) (ForSet 1))) { stacks = (Running (record { instance = 0; results = 0; locals = []; values = []; rest = (Plain Drop (Plain (instr.Call 4) End)); labels = record { arity = 0; under = []; again = None; after = End } ∷ [] }) [] ∷ []) } ∷ new_task (Func (record { instance = 1; core = core_func 1 12; options = (record no_options { callback = Some (core_func 1 13); is_async = true }); func_type = func_type [] (Some leaves.U32) })) (Guest (record { by = 2; canon = 1; words = (64 ∷ []); told = told.Starting; lends = []; result = [] })) Acting ∷ [];
+  chain = 3 ∷ [];
+  control = Lowers (record { inst = 1; memory = None; realloc = None; acts_for = 3; blame = 3; next = Starts }) (Gives []);
+  units = 20;
+  taken = 2;
+}
+
+piece6 : next g s w5 ≡ Steps (line.Enter 3 ∷ []) w6
+unfolding the_rules
+piece6 =
+    ap (entering g w5) (none_passed 0 3 true (Some leaves.U32) (bytes_of w5.store (Some 0)) (64 ∷ []) (in_state 3 Acting (with_control Free w5)) refl)
+    ∙ ap (λ (p : Plan). Steps (line.Enter 3 ∷ []) (planned p w6)) (none_planned (entries_by (defines g 1)) (Some leaves.U32))
+
+abbrev w7 : World
+w7 = record w0 {
+  insts = record { table = (Add 2 (OfSubtask 3) ∷ Add 1 (OfSet 0) ∷ []); sets = ((2 ∷ []) ∷ []); backpressure = 0 } ∷ new_inst ∷ [];
+  tasks = new_task Init Nobody Exited ∷ record (new_task (Func (record { instance = 1; core = core_func 1 10; options = asynchronous; func_type = func_type [] None })) (Host 1 []) Exited) { resolution = Some Returned } ∷ record (new_task (Func (record { instance = 0; core = core_func 0 11; options = asynchronous; func_type = func_type [] None })) (Host 2 []) (InBuiltin 3 (1 ∷ 0 ∷ []) (ForSet 1))) { stacks = (Running (record { instance = 0; results = 0; locals = []; values = []; rest = (Plain Drop (Plain (instr.Call 4) End)); labels = record { arity = 0; under = []; again = None; after = End } ∷ [] }) [] ∷ []) } ∷ record (new_task (Func (record { instance = 1; core = core_func 1 12; options = (record no_options { callback = Some (core_func 1 13); is_async = true }); func_type = func_type [] (Some leaves.U32) })) (Guest (record { by = 2; canon = 1; words = (64 ∷ []); told = told.Starting; lends = []; result = [] })) Acting) { stacks = (Running (record { instance = 1; results = 1; locals = []; values = []; rest = (number 0 End); labels = record { arity = 1; under = []; again = None; after = End } ∷ [] }) [] ∷ []) } ∷ [];
+  chain = 3 ∷ [];
+  control = Calls 8 (7 ∷ []);
+  units = 22;
+  taken = 2;
+}
+
+piece7 : far 3 g s w6 ≡ ([], w7)
+unfolding the_rules
+piece7 = refl
+
+abbrev w8 : World
+w8 = record w0 {
+  insts = record { table = (Add 2 (OfSubtask 3) ∷ Add 1 (OfSet 0) ∷ []); sets = ((2 ∷ []) ∷ []); backpressure = 0 } ∷ new_inst ∷ [];
+  tasks = new_task Init Nobody Exited ∷ record (new_task (Func (record { instance = 1; core = core_func 1 10; options = asynchronous; func_type = func_type [] None })) (Host 1 []) Exited) { resolution = Some Returned } ∷ record (new_task (Func (record { instance = 0; core = core_func 0 11; options = asynchronous; func_type = func_type [] None })) (Host 2 []) (InBuiltin 3 (1 ∷ 0 ∷ []) (ForSet 1))) { stacks = (Running (record { instance = 0; results = 0; locals = []; values = []; rest = (Plain Drop (Plain (instr.Call 4) End)); labels = record { arity = 0; under = []; again = None; after = End } ∷ [] }) [] ∷ []) } ∷ record (new_task (Func (record { instance = 1; core = core_func 1 12; options = (record no_options { callback = Some (core_func 1 13); is_async = true }); func_type = func_type [] (Some leaves.U32) })) (Guest (record { by = 2; canon = 1; words = (64 ∷ []); told = told.Starting; lends = []; result = [] })) Acting) { stacks = (Running (record { instance = 1; results = 1; locals = []; values = []; rest = (number 0 End); labels = record { arity = 1; under = []; again = None; after = End } ∷ [] }) [] ∷ []); resolution = Some Returned } ∷ [];
+  chain = 3 ∷ [];
+  control = Lowers (record { inst = 0; memory = Some 0; realloc = None; acts_for = 2; blame = 3; next = Resolves 3 Replies }) (tested (last_of (64 ∷ [])) 4 4 ((lower_step (entries_by (defines g 0)) (V.U32 7)).store leaves.U32 (last_of (64 ∷ [])) (Gives [])));
+  units = 22;
+  taken = 2;
+}
+
+piece8 : next g s w7 ≡ Steps (line.Do 3 builtin.TaskReturn (7 ∷ []) ∷ line.Return 3 (Some (record { value = (plain.U32 7); val_type = leaves.U32 })) ∷ []) w8
+unfolding the_rules
+piece8 =
+    ap (behind (line.Do 3 builtin.TaskReturn (7 ∷ []) ∷ [])) (returns_as g 3 (the_task w7) 1 leaves.U32 no_options (7 ∷ []) (with_control Free w7) (the_func w7) refl refl u32_same refl)
+    ∙ ap (returning g w7 (line.Do 3 builtin.TaskReturn (7 ∷ []) ∷ []) leaves.U32) (result_passed_as 1 3 16 leaves.U32 F.U32 [] (7 ∷ []) (with_control Free w7) refl u32_flat (u32_part (by_world 1 3)))
+    ∙ ap (λ (p : Plan). Steps (line.Do 3 builtin.TaskReturn (7 ∷ []) ∷ line.Return 3 (Some (record { value = (plain.U32 7); val_type = leaves.U32 })) ∷ []) (planned p w8)) (result_placed (entries_by (defines g 0)) leaves.U32 (plain.U32 7) (64 ∷ []) (record { size = 4; align = 4 }) (lower_step (entries_by (defines g 0)) (V.U32 7)) u32_laid (u32_lowered (entries_by (defines g 0)) 7))
+
+abbrev w9 : World
+w9 = record w0 {
+  store = record w0.store { memories = record { bytes = ((2 ∷ 0 ∷ 0 ∷ 0 ∷ 2 ∷ []) ++ replicate 59 0 ++ (7 ∷ 0 ∷ 0 ∷ 0 ∷ [])); maximum = None } ∷ record { bytes = []; maximum = None } ∷ [] };
+  insts = record { table = (Add 2 (OfSubtask 3) ∷ Add 1 (OfSet 0) ∷ []); sets = ((2 ∷ []) ∷ []); backpressure = 0 } ∷ new_inst ∷ [];
+  tasks = new_task Init Nobody Exited ∷ record (new_task (Func (record { instance = 1; core = core_func 1 10; options = asynchronous; func_type = func_type [] None })) (Host 1 []) Exited) { resolution = Some Returned } ∷ record (new_task (Func (record { instance = 0; core = core_func 0 11; options = asynchronous; func_type = func_type [] None })) (Host 2 []) Exited) { resolution = Some Returned } ∷ record (new_task (Func (record { instance = 1; core = core_func 1 12; options = (record no_options { callback = Some (core_func 1 13); is_async = true }); func_type = func_type [] (Some leaves.U32) })) (Guest (record { by = 2; canon = 1; words = (64 ∷ []); told = told.Returned; lends = []; result = [] })) Exited) { resolution = Some Returned } ∷ [];
+  units = 26;
+  taken = 2;
+}
+
+piece9 : far 14 g s w8 ≡ ((line.Got 3 [] ∷ line.Exit 3 ∷ line.Go 2 ∷ line.Event 2 1 2 2 ∷ line.Got 2 (1 ∷ []) ∷ line.Do 2 builtin.TaskReturn [] ∷ line.Return 2 None ∷ line.Got 2 [] ∷ line.Exit 2 ∷ []), w9)
+unfolding the_rules
+piece9 = refl
+
+pub entered_late_shown : Shows held hold_then_run held_world entered_late Done 26
+unfolding the_rules
+entered_late_shown =
+    shows g s w0 w9 _ Done 26
+    (goes_on g s w0 w1 w9 _ _ (walked 2 g s w0 w1 _ piece1)
+    (goes_on g s w1 w2 w9 _ _ (walked 8 g s w1 w2 _ piece2)
+    (goes_on g s w2 w3 w9 _ _ (walked 14 g s w2 w3 _ piece3)
+    (goes_on g s w3 w4 w9 _ _ (walked 14 g s w3 w4 _ piece4)
+    (goes_on g s w4 w5 w9 _ _ (walked 1 g s w4 w5 _ piece5)
+    (goes_on g s w5 w6 w9 _ _ (stepped g s w5 w6 _ piece6)
+    (goes_on g s w6 w7 w9 _ _ (walked 3 g s w6 w7 _ piece7)
+    (goes_on g s w7 w8 w9 _ _ (stepped g s w7 w8 _ piece8)
+    (walked 14 g s w8 w9 _ piece9))))))))) refl refl

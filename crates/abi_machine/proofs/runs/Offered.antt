@@ -1,0 +1,61 @@
+-- A call that is removed has taken nothing.
+use Rattle.std.proofs.Common.{◌≡◌, [], ◌∷◌, Some, None, refl}
+use Rattle.wasm_module.specs.declared.instr.Instr.TheVariants.{Drop}
+use Rattle.wasm_module.specs.Expr.{End, Plain}
+use Rattle.wasm_store.specs.Stack.{Running}
+use Rattle.ca_types.specs.declared.types.ValType.TheVariants as leaves
+use Rattle.handle_table.specs.History.{Add}
+use Rattle.tasks.specs.declared.phase.Resolution.TheVariants.{Returned, Cancelled}
+use Rattle.tasks.specs.declared.subtask_state.SubtaskState.TheVariants as told
+use Rattle.comp_graph.specs.Graph.{Graph, no_options}
+use Rattle.script_reader.specs.Script.{Script}
+use Rattle.trace_show.specs.declared.builtin.Builtin.TheVariants as builtin
+use Rattle.trace_show.specs.declared.label.BlockReason.TheVariants as reason
+use Rattle.trace_show.specs.declared.label.Label.TheVariants as line
+use Rattle.abi_machine.specs.declared.run_end.RunEnd.TheVariants.{Done}
+use Rattle.abi_machine.specs.Control.{Free}
+use Rattle.abi_machine.specs.World.{OwnHandle, OfSubtask, Init, Func, Nobody, Host, Guest, Acting, Exited, World, new_task}
+use Rattle.abi_machine.specs.examples.Parts.{func_type, core_func, asynchronous, one_call, Leaves}
+use Rattle.abi_machine.specs.examples.Handles.{offered, offering, offering_world, still_owned}
+use Rattle.abi_machine.proofs.Rules.{the_rules}
+use Rattle.abi_machine.proofs.Walks.{far, walked, goes_on, leaves}
+
+abbrev g : Graph
+g = offering
+
+abbrev s : Script
+s = one_call
+
+abbrev w0 : World
+w0 = offering_world
+
+abbrev w1 : World
+w1 = record w0 {
+  insts = record { table = (Add 2 (OfSubtask 2) ∷ Add 1 (OwnHandle 1 7) ∷ []); sets = []; backpressure = 0 } ∷ record { table = []; sets = []; backpressure = 1 } ∷ [];
+  tasks = new_task Init Nobody Exited ∷ record (new_task (Func (record { instance = 0; core = core_func 0 0; options = no_options; func_type = func_type [] None })) (Host 1 []) Acting) { stacks = (Running (record { instance = 0; results = 0; locals = []; values = (3 ∷ []); rest = (Plain Drop End); labels = record { arity = 0; under = []; again = None; after = End } ∷ [] }) [] ∷ []) } ∷ record (new_task (Func (record { instance = 1; core = core_func 1 3; options = asynchronous; func_type = func_type ((leaves.Own 1) ∷ []) None })) (Guest (record { by = 1; canon = 1; words = (1 ∷ []); told = told.CancelledBeforeStarted; lends = []; result = [] })) Exited) { resolution = Some Cancelled } ∷ [];
+  units = 8;
+}
+
+piece1 : far 14 g s w0 ≡ ((line.Do 1 builtin.ResourceNew (7 ∷ []) ∷ line.Got 1 (1 ∷ []) ∷ line.Do 1 builtin.Lower (1 ∷ []) ∷ line.Call 1 2 2 ∷ line.Block 2 reason.Entry ∷ line.Got 1 (32 ∷ []) ∷ line.Do 1 builtin.SubtaskCancel (2 ∷ []) ∷ line.Cancelled 2 ∷ line.Exit 2 ∷ line.Got 1 (3 ∷ []) ∷ []), w1)
+unfolding the_rules
+piece1 = refl
+
+abbrev w2 : World
+w2 = record w0 {
+  insts = record { table = (Add 2 (OfSubtask 2) ∷ Add 1 (OwnHandle 1 7) ∷ []); sets = []; backpressure = 0 } ∷ record { table = []; sets = []; backpressure = 1 } ∷ [];
+  tasks = new_task Init Nobody Exited ∷ record (new_task (Func (record { instance = 0; core = core_func 0 0; options = no_options; func_type = func_type [] None })) (Host 1 []) Exited) { resolution = Some Returned } ∷ record (new_task (Func (record { instance = 1; core = core_func 1 3; options = asynchronous; func_type = func_type ((leaves.Own 1) ∷ []) None })) (Guest (record { by = 1; canon = 1; words = (1 ∷ []); told = told.CancelledBeforeStarted; lends = []; result = [] })) Exited) { resolution = Some Cancelled } ∷ [];
+  chain = [];
+  control = Free;
+  units = 9;
+}
+
+piece2 : far 4 g s w1 ≡ ((line.Return 1 None ∷ line.Exit 1 ∷ []), w2)
+unfolding the_rules
+piece2 = refl
+
+pub offered_shown : Leaves offering one_call offering_world offered Done 9 still_owned ([] ∷ [] ∷ [])
+unfolding the_rules
+offered_shown =
+    leaves g s w0 w2 _ Done 9 _ _
+    (goes_on g s w0 w1 w2 _ _ (walked 14 g s w0 w1 _ piece1)
+    (walked 4 g s w1 w2 _ piece2)) refl refl refl refl

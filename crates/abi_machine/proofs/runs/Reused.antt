@@ -1,0 +1,114 @@
+-- Freed indices are given again.
+use Rattle.std.proofs.Common.{◌≡◌, Bool, true, false, [], ◌∷◌, Some, None, refl, ap}
+use Rattle.wasm_module.specs.declared.instr.Instr.TheVariants.{Drop}
+use Rattle.wasm_module.specs.declared.instr.Instr.TheVariants as instr
+use Rattle.wasm_module.specs.Expr.{End, Plain}
+use Rattle.wasm_store.specs.Stack.{Running}
+use Rattle.builtin_kinds.specs.declared.EndKind.TheVariants.{Stream}
+use Rattle.ca_types.specs.declared.types.ValType.TheVariants as leaves
+use Rattle.handle_table.specs.History.{Add, Remove}
+use Rattle.tasks.specs.declared.phase.Resolution.TheVariants.{Returned}
+use Rattle.stream_ends.specs.declared.side.Side.TheVariants.{Reader, Writer}
+use Rattle.comp_graph.specs.Graph.{Graph, no_options}
+use Rattle.script_reader.specs.Script.{Script}
+use Rattle.trace_show.specs.declared.builtin.Builtin.TheVariants as builtin
+use Rattle.trace_show.specs.declared.label.Label.TheVariants as line
+use Rattle.abi_machine.specs.declared.run_end.RunEnd.TheVariants.{Done}
+use Rattle.abi_machine.specs.Control.{Free, Calls}
+use Rattle.abi_machine.specs.World.{OfSet, OfEnd, Init, Func, Nobody, Host, Acting, Exited, World, new_task}
+use Rattle.abi_machine.specs.Edits.{with_control}
+use Rattle.abi_machine.specs.Finding.{typed_end}
+use Rattle.abi_machine.specs.Turn.{Steps, behind}
+use Rattle.abi_machine.specs.replies.Streams.{end_ref}
+use Rattle.abi_machine.specs.Next.{next}
+use Rattle.abi_machine.specs.examples.Parts.{func_type, number, core_func, one_call, Shows}
+use Rattle.abi_machine.specs.examples.Streams.{reused, reuses, streaming, streaming_world}
+use Rattle.abi_machine.proofs.Rules.{the_rules}
+use Rattle.abi_machine.proofs.Walks.{far, walked, stepped, goes_on, shows, leaves}
+use Rattle.abi_machine.proofs.Layers.{u8_same}
+use Rattle.abi_machine.proofs.Copies.{drops_as}
+
+abbrev g : Graph
+g = streaming
+
+abbrev s : Script
+s = one_call
+
+abbrev w0 : World
+w0 = streaming_world reuses
+
+abbrev w1 : World
+w1 = record w0 {
+  insts = record { table = (Add 2 (OfEnd (end_ref Stream 1 Writer)) ∷ Add 1 (OfEnd (end_ref Stream 1 Reader)) ∷ []); sets = []; backpressure = 0 } ∷ [];
+  tasks = new_task Init Nobody Exited ∷ record (new_task (Func (record { instance = 0; core = core_func 0 0; options = no_options; func_type = func_type [] None })) (Host 1 []) Acting) { stacks = (Running (record { instance = 0; results = 0; locals = []; values = []; rest = (number 2 (Plain (instr.Call 4) (Plain (instr.Call 7) (Plain Drop (Plain (instr.Call 7) (Plain Drop (Plain (instr.Call 7) (Plain Drop End)))))))); labels = record { arity = 0; under = []; again = None; after = End } ∷ [] }) [] ∷ []) } ∷ [];
+  streams = record { element = Some leaves.U8; written = []; read = []; ends = record { view = record { reader = record { dropped = false; done = false; copy = None }; writer = record { dropped = false; done = false; copy = None } }; reader_closed = []; writer_closed = [] } } ∷ [];
+  control = Calls 3 (1 ∷ []);
+  units = 4;
+}
+
+piece1 : far 5 g s w0 ≡ ((line.Do 1 builtin.StreamNew [] ∷ line.Got 1 (8589934593 ∷ []) ∷ []), w1)
+unfolding the_rules
+piece1 = refl
+
+abbrev w2 : World
+w2 = record w0 {
+  insts = record { table = (Remove 1 ∷ Add 2 (OfEnd (end_ref Stream 1 Writer)) ∷ Add 1 (OfEnd (end_ref Stream 1 Reader)) ∷ []); sets = []; backpressure = 0 } ∷ [];
+  tasks = new_task Init Nobody Exited ∷ record (new_task (Func (record { instance = 0; core = core_func 0 0; options = no_options; func_type = func_type [] None })) (Host 1 []) Acting) { stacks = (Running (record { instance = 0; results = 0; locals = []; values = []; rest = (number 2 (Plain (instr.Call 4) (Plain (instr.Call 7) (Plain Drop (Plain (instr.Call 7) (Plain Drop (Plain (instr.Call 7) (Plain Drop End)))))))); labels = record { arity = 0; under = []; again = None; after = End } ∷ [] }) [] ∷ []) } ∷ [];
+  streams = record { element = Some leaves.U8; written = []; read = []; ends = record { view = record { reader = record { dropped = true; done = false; copy = None }; writer = record { dropped = false; done = false; copy = None } }; reader_closed = []; writer_closed = [] } } ∷ [];
+  units = 4;
+}
+
+piece2 : next g s w1 ≡ Steps (line.Do 1 builtin.StreamDropReadable (1 ∷ []) ∷ line.Got 1 [] ∷ []) w2
+unfolding the_rules
+piece2 =
+    ap (behind (line.Do 1 builtin.StreamDropReadable (1 ∷ []) ∷ [])) (drops_as 1 0 Stream Reader (Some leaves.U8) 1 (with_control Free w1) (end_ref Stream 1 Reader) (ap (λ (b : Bool). typed_end b (end_ref Stream 1 Reader)) u8_same))
+
+abbrev w3 : World
+w3 = record w0 {
+  insts = record { table = (Remove 1 ∷ Add 2 (OfEnd (end_ref Stream 1 Writer)) ∷ Add 1 (OfEnd (end_ref Stream 1 Reader)) ∷ []); sets = []; backpressure = 0 } ∷ [];
+  tasks = new_task Init Nobody Exited ∷ record (new_task (Func (record { instance = 0; core = core_func 0 0; options = no_options; func_type = func_type [] None })) (Host 1 []) Acting) { stacks = (Running (record { instance = 0; results = 0; locals = []; values = []; rest = (Plain (instr.Call 7) (Plain Drop (Plain (instr.Call 7) (Plain Drop (Plain (instr.Call 7) (Plain Drop End)))))); labels = record { arity = 0; under = []; again = None; after = End } ∷ [] }) [] ∷ []) } ∷ [];
+  streams = record { element = Some leaves.U8; written = []; read = []; ends = record { view = record { reader = record { dropped = true; done = false; copy = None }; writer = record { dropped = false; done = false; copy = None } }; reader_closed = []; writer_closed = [] } } ∷ [];
+  control = Calls 4 (2 ∷ []);
+  units = 6;
+}
+
+piece3 : far 2 g s w2 ≡ ([], w3)
+unfolding the_rules
+piece3 = refl
+
+abbrev w4 : World
+w4 = record w0 {
+  insts = record { table = (Remove 2 ∷ Remove 1 ∷ Add 2 (OfEnd (end_ref Stream 1 Writer)) ∷ Add 1 (OfEnd (end_ref Stream 1 Reader)) ∷ []); sets = []; backpressure = 0 } ∷ [];
+  tasks = new_task Init Nobody Exited ∷ record (new_task (Func (record { instance = 0; core = core_func 0 0; options = no_options; func_type = func_type [] None })) (Host 1 []) Acting) { stacks = (Running (record { instance = 0; results = 0; locals = []; values = []; rest = (Plain (instr.Call 7) (Plain Drop (Plain (instr.Call 7) (Plain Drop (Plain (instr.Call 7) (Plain Drop End)))))); labels = record { arity = 0; under = []; again = None; after = End } ∷ [] }) [] ∷ []) } ∷ [];
+  streams = record { element = Some leaves.U8; written = []; read = []; ends = record { view = record { reader = record { dropped = true; done = false; copy = None }; writer = record { dropped = true; done = false; copy = None } }; reader_closed = []; writer_closed = [] } } ∷ [];
+  units = 6;
+}
+
+piece4 : next g s w3 ≡ Steps (line.Do 1 builtin.StreamDropWritable (2 ∷ []) ∷ line.Got 1 [] ∷ []) w4
+unfolding the_rules
+piece4 =
+    ap (behind (line.Do 1 builtin.StreamDropWritable (2 ∷ []) ∷ [])) (drops_as 1 0 Stream Writer (Some leaves.U8) 2 (with_control Free w3) (end_ref Stream 1 Writer) (ap (λ (b : Bool). typed_end b (end_ref Stream 1 Writer)) u8_same))
+
+abbrev w5 : World
+w5 = record w0 {
+  insts = record { table = (Add 3 (OfSet 2) ∷ Add 1 (OfSet 1) ∷ Add 2 (OfSet 0) ∷ Remove 2 ∷ Remove 1 ∷ Add 2 (OfEnd (end_ref Stream 1 Writer)) ∷ Add 1 (OfEnd (end_ref Stream 1 Reader)) ∷ []); sets = ([] ∷ [] ∷ [] ∷ []); backpressure = 0 } ∷ [];
+  tasks = new_task Init Nobody Exited ∷ record (new_task (Func (record { instance = 0; core = core_func 0 0; options = no_options; func_type = func_type [] None })) (Host 1 []) Exited) { resolution = Some Returned } ∷ [];
+  streams = record { element = Some leaves.U8; written = []; read = []; ends = record { view = record { reader = record { dropped = true; done = false; copy = None }; writer = record { dropped = true; done = false; copy = None } }; reader_closed = []; writer_closed = [] } } ∷ [];
+  chain = [];
+  control = Free;
+  units = 12;
+}
+
+piece5 : far 12 g s w4 ≡ ((line.Do 1 builtin.WaitableSetNew [] ∷ line.Got 1 (2 ∷ []) ∷ line.Do 1 builtin.WaitableSetNew [] ∷ line.Got 1 (1 ∷ []) ∷ line.Do 1 builtin.WaitableSetNew [] ∷ line.Got 1 (3 ∷ []) ∷ line.Return 1 None ∷ line.Exit 1 ∷ []), w5)
+unfolding the_rules
+piece5 = refl
+
+pub reused_shown : Shows streaming one_call (streaming_world reuses) reused Done 12
+unfolding the_rules
+reused_shown =
+    shows g s w0 w5 _ Done 12
+    (goes_on g s w0 w1 w5 _ _ (walked 5 g s w0 w1 _ piece1)
+    (goes_on g s w1 w2 w5 _ _ (stepped g s w1 w2 _ piece2)
+    (goes_on g s w2 w3 w5 _ _ (walked 2 g s w2 w3 _ piece3)
+    (goes_on g s w3 w4 w5 _ _ (stepped g s w3 w4 _ piece4)
+    (walked 12 g s w4 w5 _ piece5))))) refl refl

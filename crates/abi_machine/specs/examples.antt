@@ -1,0 +1,10 @@
+pub mod Parts
+pub mod Backpressure
+pub mod Cancelling
+pub mod Subtasks
+pub mod Sets
+pub mod Handles
+pub mod Streams
+pub mod Transfers
+pub mod Futures
+pub mod Lowering
