@@ -26,7 +26,7 @@ use Rattle.link_spec.specs.Spaces.{Spaces, Linking, Level, new_spaces, level_of,
 use Rattle.link_spec.specs.Canons.{given_by}
 use Rattle.link_spec.specs.Types.{meaning_of}
 use Rattle.link_spec.specs.Items.{core_instance_makes, instance_makes, alias_makes, lifted_with, lift_makes, lowered_with, lower_makes, wanted, IsImported, import_makes, said, IsExported, export_makes, makes_case}
-use Rattle.link_spec.specs.Linked.{Begins, begun, exports_or, exports_at, with_instance, Links, no_items, item_links, instance_links, root_begun, Callable, funcs_behind, callables, export_of, graph_of}
+use Rattle.link_spec.specs.Linked.{Begins, begun, exports_or, exports_at, with_instance, Links, leads_by_making, leads_by_instance, no_items, item_links, root_begun, Callable, funcs_behind, callables, export_of, graph_of}
 use Rattle.link_spec.proofs.Holding.{all_push, all_set, all_both, all_mapped, all_flat, all_at, holds_at, if_weaker, if_mapped, if_found}
 use Rattle.comp_graph.specs.declared.graph.CanonFunc.{CanonFunc}
 use Rattle.canonical_machine.specs.Synchronous.{called_type}
@@ -166,10 +166,10 @@ spaces_counted l n s h e = holds_at AreSpacesCounted (slice_get l.scopes n) s (a
 
 links_counted : (l : Linking) (n : ℕ) (items : List (Placed Item)) (last : Linking) → TypesHave items → IsLinkingCounted l → Links l n items last → IsLinkingCounted last
 links_counted l n items last has h (no_items m k) = h
-links_counted l n items last has h (item_links m next end k s placed others there makes behind) =
+links_counted l n items last has h (item_links m next end k s placed others there (leads_by_making o onto j t p made) behind) =
     links_counted next k others end (behind_have placed others has)
-    (case_counted m k s (out-Item placed.item) next (shape_has placed others has (out-Item placed.item) refl) h (spaces_counted m k s h there) makes) behind
-links_counted l n items last has h (instance_links m inner end k s c arguments placed others there begins inside behind) =
+    (case_counted m k s (out-Item placed.item) next (shape_has placed others has (out-Item placed.item) refl) h (spaces_counted m k s h there) made) behind
+links_counted l n items last has h (item_links m next end k s placed others there (leads_by_instance o inner j t c arguments p begins inside) behind) =
     let spaces = spaces_counted m k s h there in
     let reached = links_counted (begun m c arguments) (length m.scopes) c.items inner (closure_few m k s placed.item c arguments spaces begins) (begun_counted m k s placed.item c arguments h spaces begins) inside in
     links_counted (with_instance inner k s (length m.scopes)) k others end (behind_have placed others has)

@@ -11,7 +11,7 @@ use Rattle.comp_graph.specs.Graph.{CoreMake, Graph}
 use Rattle.link_spec.specs.Definitions.{Closure, AFunc, AnInstance, Exports, EmptyInstance, WithExport}
 use Rattle.link_spec.specs.Spaces.{Spaces, Linking, new_spaces, with_definition}
 use Rattle.link_spec.specs.Standing.{StandsIn}
-use Rattle.link_spec.specs.Linked.{Begins, begun, exports_or, exports_at, with_instance, Links, no_items, item_links, instance_links, root_begun, Callable, funcs_behind, callables, lift_of, graph_of}
+use Rattle.link_spec.specs.Linked.{Begins, begun, exports_or, exports_at, with_instance, Links, leads_by_making, leads_by_instance, no_items, item_links, root_begun, Callable, funcs_behind, callables, lift_of, graph_of}
 use Rattle.link_spec.specs.Laws.{GraphsAreImported, LiftsAreThere, GraphsAreMade, GraphsAreSync, ModulesStand}
 use Rattle.link_spec.proofs.Holding.{all_push, all_both, all_mapped, all_weaker}
 use Rattle.canonical_machine.specs.Sound.{HasBytes, Makes}
@@ -55,10 +55,10 @@ through l next last a b = record { apart = b.apart; keeps = keeps_through (made_
 
 links_reached : (l : Linking) (n : ℕ) (items : List (Placed Item)) (last : Linking) → IsLinkingApart l → Links l n items last → IsReachedApart l last
 links_reached l n items last h (no_items m k) = record { apart = h; keeps = keeps_itself (made_by m) }
-links_reached l n items last h (item_links m next end k s placed others there makes behind) =
-    let first = case_reached m k s (out-Item placed.item) next h (h.scopes k s there) makes in
+links_reached l n items last h (item_links m next end k s placed others there (leads_by_making o onto j t p made) behind) =
+    let first = case_reached m k s (out-Item placed.item) next h (h.scopes k s there) made in
     through m next end first (links_reached next k others end first.apart behind)
-links_reached l n items last h (instance_links m inner end k s c arguments placed others there begins inside behind) =
+links_reached l n items last h (item_links m next end k s placed others there (leads_by_instance o inner j t c arguments p begins inside) behind) =
     let spaces = h.scopes k s there in
     let reached = links_reached (begun m c arguments) (length m.scopes) c.items inner (begun_apart m k s placed.item c arguments h spaces begins) inside in
     let ended = instance_reached m inner k s (length m.scopes) reached.keeps reached.apart spaces in

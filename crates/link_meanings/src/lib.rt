@@ -4,19 +4,12 @@
 //! The layer above links components. It asks for the meaning of each type that a component defines, and for what an import or
 //! an export is to be. What `link_spec` defines is what contracts speak of.
 //!
-//! - `meant`: what a part of a type comes to
-//! - `levels`: what outer aliases see
-//! - `values`: the numbers of parts of types
-//! - `numbered`: the numbers of fields, cases and places
-//! - `value_layers`: the types of values that are written, over the numbers of their parts
-//! - `value_meanings`: types of values
-//! - `funcs`: types of functions
-//! - `described`: what imports and exports are to be
-//! - `so_far`: what the declarations of an instance type tell so far
-//! - `declaring`: instance types whose declarations are read
-//! - `outer`: what outer aliases name
-//! - `aliases`: aliases in instance types
-//! - `meanings`: types
+//! - `meant`: what a part of a type comes to; `levels`: what outer aliases see, `outer`: what they name
+//! - `values`: the numbers of parts of types; `numbered`: of fields, cases and places
+//! - `value_layers`: written types of values over the numbers of their parts; `value_meanings`: their meanings
+//! - `funcs`: types of functions; `described`: what imports and exports are to be
+//! - `so_far`: what the declarations of an instance type tell so far; `declaring`: all of them; `aliases`: those of aliases
+//! - `meanings`: what any type means
 #![tactic(auto)]
 
 mod aliases;

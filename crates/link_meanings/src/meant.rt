@@ -24,9 +24,7 @@ impl<'a, T> Meant<'a, T> {
     {
         Meant {
             is_there: false,
-            missing: None,
-            deep: false,
-            means: None,
+            ..Meant::there(None)
         }
     }
 
@@ -47,10 +45,8 @@ impl<'a, T> Meant<'a, T> {
         ensures { result ≡ record { is_there = true; missing = None; deep = true; means = Some in_place } }
     {
         Meant {
-            is_there: true,
-            missing: None,
             deep: true,
-            means: Some(in_place),
+            ..Meant::there(Some(in_place))
         }
     }
 }

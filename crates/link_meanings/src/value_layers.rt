@@ -83,8 +83,7 @@ fn list_type(
     let Some(element) = value_of(alloc, types, scope, element)? else {
         return Ok(None);
     };
-    let number = types.value_type(alloc, &ValTypeLayer::List(element))?;
-    Ok(Some(number))
+    Ok(Some(types.value_type(alloc, &ValTypeLayer::List(element))?))
 }
 
 /// The number of the option type of a payload, where that has a type.
@@ -100,8 +99,7 @@ fn option_type(
     let Some(payload) = value_of(alloc, types, scope, payload)? else {
         return Ok(None);
     };
-    let number = types.value_type(alloc, &ValTypeLayer::Option(payload))?;
-    Ok(Some(number))
+    Ok(Some(types.value_type(alloc, &ValTypeLayer::Option(payload))?))
 }
 
 /// The number of the result type of what a success and a failure hold, where what they hold has a type.
@@ -182,9 +180,7 @@ pub(crate) fn over_parts<'a>(
         DefValType::Enum(labels) => Ok(Some(enum_type(alloc, types, labels.as_slice())?)),
         DefValType::Option(payload) => Ok(option_type(alloc, types, scope, *payload)?),
         DefValType::Result { ok, err } => Ok(result_type(alloc, types, scope, *ok, *err)?),
-        DefValType::Own(_) => Ok(None),
-        DefValType::Borrow(_) => Ok(None),
-        DefValType::Stream(_) => Ok(None),
-        DefValType::Future(_) => Ok(None),
+        DefValType::Own(_) | DefValType::Borrow(_) => Ok(None),
+        DefValType::Stream(_) | DefValType::Future(_) => Ok(None),
     }
 }

@@ -50,8 +50,7 @@ pub(crate) fn primitive(
     ensures ok { IfOk result (λ number. IsValue types.new number (types_read.primitive val_type)) }
     ensures grows { Grows types.old types.new }
 {
-    let layer = layer_of(val_type);
-    Ok(types.value_type(alloc, &layer)?)
+    Ok(types.value_type(alloc, &layer_of(val_type))?)
 }
 
 /// The number that an index has, where it is that of a value type.

@@ -16,7 +16,7 @@ use Rattle.comp_tree.specs.declared.items.Component.{Component}
 use Rattle.link_spec.specs.Definitions.{extern_of, Closure, Exports, exports_of}
 use Rattle.link_spec.specs.Spaces.{Spaces, Linking, new_spaces, with_spaces, with_core_instance}
 use Rattle.link_spec.specs.Items.{instance_limit, core_made, core_instance_makes, instance_makes, alias_makes, makes_case}
-use Rattle.link_spec.specs.Linked.{begun, with_instance, no_items, item_links, instance_links, root_begun}
+use Rattle.link_spec.specs.Linked.{begun, with_instance, leads_by_making, leads_by_instance, no_items, item_links, root_begun}
 use Rattle.link_spec.specs.Laws.{IsFew, FewInstances, GraphsAreFew}
 
 few_with : (l : Linking) (n : ℕ) (s : Spaces) → IsFew l → IsFew (with_spaces l n s)
@@ -66,9 +66,9 @@ few_begun l c arguments few h = (few_scopes, h.1)
 
 pub few_instances : FewInstances
 few_instances l n items last h (no_items m k) = h
-few_instances l n items last h (item_links m next end k s placed others there makes behind) =
-    few_instances next k others end (case_few m k s (out-Item placed.item) next makes h) behind
-few_instances l n items last h (instance_links m inner end k s c arguments placed others there begins inside behind) =
+few_instances l n items last h (item_links m next end k s placed others there (leads_by_making o onto j t p made) behind) =
+    few_instances next k others end (case_few m k s (out-Item placed.item) next made h) behind
+few_instances l n items last h (item_links m next end k s placed others there (leads_by_instance o inner j t c arguments p begins inside) behind) =
     few_instances (with_instance inner k s (length m.scopes)) k others end (few_with inner k _ (few_instances (begun m c arguments) (length m.scopes) c.items inner (few_begun m c arguments begins.few h) inside)) behind
 
 pub graphs_are_few : GraphsAreFew

@@ -16,7 +16,7 @@ use Rattle.comp_tree.specs.declared.items.Component.{Component}
 use Rattle.link_spec.specs.Definitions.{Closure, Exports, exports_of}
 use Rattle.link_spec.specs.Spaces.{Spaces, Linking, new_spaces, with_spaces, with_core_instance}
 use Rattle.link_spec.specs.Items.{core_instance_makes, instance_makes, alias_makes, makes_case, item_makes}
-use Rattle.link_spec.specs.Linked.{begun, with_instance, Links, no_items, item_links, instance_links}
+use Rattle.link_spec.specs.Linked.{begun, with_instance, Links, leads_by_making, leads_by_instance, no_items, item_links}
 
 made_length : (l : Linking) (n : ℕ) (s : Spaces) (new : Linking) → new ≡ with_spaces l n s → length new.scopes ≡ length l.scopes
 made_length l n s new e = ap (λ (l : Linking). length l.scopes) e ∙ length-set l.scopes n s
@@ -59,11 +59,11 @@ instance_length_same l n s count = length-set l.scopes n _
 
 pub links_length : (l : Linking) (n : ℕ) (items : List (Placed Item)) (last : Linking) → Links l n items last → length l.scopes ≤ length last.scopes
 links_length l n items last (no_items m k) = omega arith
-links_length l n items last (item_links m next end k s placed others there makes behind) =
-    let same = makes_length m k s placed.item next makes in
+links_length l n items last (item_links m next end k s placed others there (leads_by_making o onto j t p made) behind) =
+    let same = makes_length m k s placed.item next made in
     let rest = links_length next k others end behind in
     omega (arith, same, rest)
-links_length l n items last (instance_links m inner end k s c arguments placed others there begins inside behind) =
+links_length l n items last (item_links m next end k s placed others there (leads_by_instance o inner j t c arguments p begins inside) behind) =
     let more = begun_length m c arguments in
     let first = links_length (begun m c arguments) (length m.scopes) c.items inner inside in
     let same = instance_length_same inner k s (length m.scopes) in

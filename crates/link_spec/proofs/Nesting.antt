@@ -13,7 +13,7 @@ use Rattle.link_spec.specs.declared.fault.LinkFault.{LinkFault}
 use Rattle.link_spec.specs.Definitions.{Closure, AComponent, EmptyInstance}
 use Rattle.link_spec.specs.Spaces.{Spaces, Linking, new_spaces, with_definition, with_spaces}
 use Rattle.link_spec.specs.Items.{instance_limit}
-use Rattle.link_spec.specs.Linked.{begun, IsRefusedAt, refused_here, refused_behind, refused_inside, root_begun}
+use Rattle.link_spec.specs.Linked.{begun, leads_by_making, IsRefusedAt, refused_here, refused_inside, refused_later, root_begun}
 use Rattle.link_spec.specs.Computed.{Makes, Starts, only_if, item_outcome, linked}
 use Rattle.link_spec.specs.Examples.{root, fault, outer, instantiate, nesting}
 use Rattle.link_spec.proofs.Holding.{last_there}
@@ -79,8 +79,9 @@ taken l n = with_spaces l n behind
 -- what the second item comes to behind the first
 behind_first : (l : Linking) (n : ℕ) → slice_get l.scopes 0 ≡ Some of_root → slice_get l.scopes n ≡ Some before → IsRefusedAt (taken l n) n (record { place = 11; item = instantiate } ∷ []) limit → IsRefusedAt l n items limit
 behind_first l n first there h =
-    refused_behind l (taken l n) n before (record { place = 10; item = outer sorts.Component 1 0 }) (record { place = 11; item = instantiate } ∷ []) limit there
-    ((outcome_computed l n before (outer sorts.Component 1 0) (Makes (taken l n))).0 (takes_itself l n first)) h
+    refused_later l (taken l n) n before (record { place = 10; item = outer sorts.Component 1 0 }) (record { place = 11; item = instantiate } ∷ []) limit there
+    (leads_by_making l (taken l n) n before (record { place = 10; item = outer sorts.Component 1 0 })
+    ((outcome_computed l n before (outer sorts.Component 1 0) (Makes (taken l n))).0 (takes_itself l n first))) h
 
 -- so many instances may still begin
 refused : (more : ℕ) (l : Linking) (n : ℕ) → length l.scopes + more ≡ instance_limit → slice_get l.scopes 0 ≡ Some of_root → 0 < n → n < length l.scopes → slice_get l.scopes n ≡ Some before → IsRefusedAt l n items limit
@@ -106,8 +107,9 @@ nests = simp outs-Component refl
 
 root_refused : IsRefusedAt root_begun 0 (root (nesting ∷ instantiate ∷ [])).items limit
 root_refused =
-    refused_behind root_begun root_taken 0 (new_spaces None []) (record { place = 0; item = nesting }) (record { place = 1; item = instantiate } ∷ []) limit refl
-    ((outcome_computed root_begun 0 (new_spaces None []) nesting (Makes root_taken)).0 nests)
+    refused_later root_begun root_taken 0 (new_spaces None []) (record { place = 0; item = nesting }) (record { place = 1; item = instantiate } ∷ []) limit refl
+    (leads_by_making root_begun root_taken 0 (new_spaces None []) (record { place = 0; item = nesting })
+    ((outcome_computed root_begun 0 (new_spaces None []) nesting (Makes root_taken)).0 nests))
     (refused_inside root_taken 0 of_root itself EmptyInstance (record { place = 1; item = instantiate }) [] limit refl
     ((outcome_computed root_taken 0 of_root instantiate (Starts itself EmptyInstance)).0 (begins_next root_taken 0 of_root refl (omega arith)))
     (refused 254 (begun root_taken itself EmptyInstance) 1 refl refl (omega arith) (omega arith) refl))

@@ -11,7 +11,7 @@ use Rattle.link_spec.specs.declared.fault.LinkFault.{LinkFault}
 use Rattle.link_spec.specs.Definitions.{Closure, Exports}
 use Rattle.link_spec.specs.Spaces.{Spaces, Linking}
 use Rattle.link_spec.specs.Items.{instance_limit, item_has}
-use Rattle.link_spec.specs.Linked.{Begins, begun, with_instance, Links, no_items, item_links, instance_links, IsRefusedAt, refused_here, refused_behind, refused_inside, refused_behind_instance, root_begun, IsLinked, IsLinkRefused}
+use Rattle.link_spec.specs.Linked.{Begins, begun, with_instance, Leads, leads_by_making, leads_by_instance, Links, no_items, item_links, IsRefusedAt, refused_here, refused_inside, refused_later, root_begun, IsLinked, IsLinkRefused}
 use Rattle.link_spec.specs.Computed.{after, Outcome, Makes, Starts, item_outcome, Run, behind, placed_at, step, run, run_within, answer_of, linked}
 use Rattle.link_spec.specs.Laws.{IsOutcome, GraphComputed, FaultComputed, LinkedOrRefused}
 use Rattle.link_spec.proofs.Sounding.{Sound}
@@ -41,14 +41,9 @@ abbrev ToldBehind : Run → ℕ → ℕ → List (Placed Item) → Type 0
 ToldBehind inside budget n items =
     (next : Linking) → n < length next.scopes → instance_limit ≤ length next.scopes + budget → Ends next n items (run inside next n items)
 
-behind_item : (l next : Linking) (n : ℕ) (s : Spaces) (placed : Placed Item) (items : List (Placed Item)) → slice_get l.scopes n ≡ Some s → IsOutcome l n s placed.item (Makes next) → (r : Result Linking LinkFault) → Ends next n items r → Ends l n (placed ∷ items) r
-behind_item l next n s placed items there makes (Ok last) h = item_links l next last n s placed items there makes h
-behind_item l next n s placed items there makes (Err fault) h = refused_behind l next n s placed items fault there makes h
-
-behind_instance : (l inner : Linking) (n : ℕ) (s : Spaces) (c : Closure) (arguments : Exports) (placed : Placed Item) (items : List (Placed Item)) → slice_get l.scopes n ≡ Some s → Begins l n s placed.item c arguments
-    → Links (begun l c arguments) (length l.scopes) c.items inner → (r : Result Linking LinkFault) → Ends (with_instance inner n s (length l.scopes)) n items r → Ends l n (placed ∷ items) r
-behind_instance l inner n s c arguments placed items there begins inside (Ok last) h = instance_links l inner last n s c arguments placed items there begins inside h
-behind_instance l inner n s c arguments placed items there begins inside (Err fault) h = refused_behind_instance l inner n s c arguments placed items fault there begins inside h
+behind_item : (l next : Linking) (n : ℕ) (s : Spaces) (placed : Placed Item) (items : List (Placed Item)) → slice_get l.scopes n ≡ Some s → Leads l n s placed next → (r : Result Linking LinkFault) → Ends next n items r → Ends l n (placed ∷ items) r
+behind_item l next n s placed items there leads (Ok last) h = item_links l next last n s placed items there leads h
+behind_item l next n s placed items there leads (Err fault) h = refused_later l next n s placed items fault there leads h
 
 -- the items of a component that begins, and those behind its instance
 through_instance : (inside : Run) (budget : ℕ) (l : Linking) (n : ℕ) (s : Spaces) (c : Closure) (arguments : Exports) (placed : Placed Item) (items : List (Placed Item)) → slice_get l.scopes n ≡ Some s → Begins l n s placed.item c arguments
@@ -60,7 +55,7 @@ through_instance inside budget l n s c arguments placed items there begins here 
     let more = begun_length l c arguments in
     let longer = links_length (begun l c arguments) (length l.scopes) c.items inner h in
     let same = instance_length_same inner n s (length l.scopes) in
-    behind_instance l inner n s c arguments placed items there begins h (run inside (with_instance inner n s (length l.scopes)) n items)
+    behind_item l (with_instance inner n s (length l.scopes)) n s placed items there (leads_by_instance l inner n s c arguments placed begins h) (run inside (with_instance inner n s (length l.scopes)) n items)
     (rest (with_instance inner n s (length l.scopes)) (omega (arith, more, longer, same)) (omega (arith, more, longer, same)))
 
 through_item : (inside : Run) (budget : ℕ) (l : Linking) (n : ℕ) (s : Spaces) (placed : Placed Item) (items : List (Placed Item)) → ToldInside inside budget → slice_get l.scopes n ≡ Some s
@@ -70,7 +65,7 @@ through_item : (inside : Run) (budget : ℕ) (l : Linking) (n : ℕ) (s : Spaces
 through_item inside budget l n s placed items inner there here enough rest (Err w) h = refused_here l n s placed items w there (is_first l n s placed.item w h)
 through_item inside budget l n s placed items inner there here enough rest (Ok (Makes next)) h =
     let same = makes_length l n s placed.item next h in
-    behind_item l next n s placed items there h (run inside next n items) (rest next (omega (arith, same)) (omega (arith, same)))
+    behind_item l next n s placed items there (leads_by_making l next n s placed h) (run inside next n items) (rest next (omega (arith, same)) (omega (arith, same)))
 through_item inside budget l n s placed items inner there here enough rest (Ok (Starts c arguments)) h =
     through_instance inside budget l n s c arguments placed items there h here enough rest (inside (begun l c arguments) (length l.scopes) c.items) (inner l c arguments h.few enough)
 

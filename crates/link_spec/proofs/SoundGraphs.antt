@@ -14,7 +14,7 @@ use Rattle.comp_tree.specs.declared.items.Item.{Item, out-Item}
 use Rattle.comp_tree.specs.declared.items.Component.{Component}
 use Rattle.link_spec.specs.Definitions.{Closure, AFunc, AnInstance, Exports, EmptyInstance, WithExport}
 use Rattle.link_spec.specs.Spaces.{CoreMake, Spaces, Linking, new_spaces, with_definition}
-use Rattle.link_spec.specs.Linked.{Begins, begun, exports_or, exports_at, with_instance, Links, no_items, item_links, instance_links, root_begun, Callable, funcs_behind, callables, export_of, lift_of, graph_of, IsLinked}
+use Rattle.link_spec.specs.Linked.{Begins, begun, exports_or, exports_at, with_instance, Links, leads_by_making, leads_by_instance, no_items, item_links, root_begun, Callable, funcs_behind, callables, export_of, lift_of, graph_of, IsLinked}
 use Rattle.link_spec.specs.Distinct.{HasDistinctLabels}
 use Rattle.link_spec.specs.Shallow.{HasShallowTypes}
 use Rattle.link_spec.specs.Standing.{StandsIn, stands_behind}
@@ -95,10 +95,10 @@ module _ (R : ModuleTree → Type 0) where
 
   pub links_reached : (l : Linking) (n : ℕ) (items : List (Placed Item)) (last : Linking) → ModulesHave R items → IsLinkingSound R l → Links l n items last → IsReached R l last
   links_reached l n items last has h (no_items m k) = reached_self m h
-  links_reached l n items last has h (item_links m next end k s placed others there makes behind) =
-      let first = case_reached R m k s (out-Item placed.item) next (shape_has R placed others has (out-Item placed.item) refl) h (spaces_sound m k s h there) makes in
+  links_reached l n items last has h (item_links m next end k s placed others there (leads_by_making o onto j t p made) behind) =
+      let first = case_reached R m k s (out-Item placed.item) next (shape_has R placed others has (out-Item placed.item) refl) h (spaces_sound m k s h there) made in
       through m next end first (links_reached next k others end (λ x y. has x (stands_behind placed others y)) first.sound behind)
-  links_reached l n items last has h (instance_links m inner end k s c arguments placed others there begins inside behind) =
+  links_reached l n items last has h (item_links m next end k s placed others there (leads_by_instance o inner j t c arguments p begins inside) behind) =
       let spaces = spaces_sound m k s h there in
       let inner_reached = links_reached (begun m c arguments) (length m.scopes) c.items inner (items_have m k s placed.item c arguments spaces begins) (begun_sound m c arguments h (arguments_sound m k s placed.item c arguments spaces begins)) inside in
       let ended = instance_reached m inner k s (length m.scopes) inner_reached.more inner_reached.others inner_reached.longer inner_reached.wider inner_reached.sound spaces in

@@ -65,34 +65,34 @@ exports_at l n = exports_or (slice_get l.scopes n)
 abbrev pub with_instance : Linking → ℕ → Spaces → ℕ → Linking
 with_instance l n s instance = with_spaces l n (with_definition s (AnInstance (exports_at l instance)))
 
--- These items have a meaning in a component instance, one behind the other, and lead from one linking to another.
-pub data Links : Linking → ℕ → List (Placed Item) → Linking → Type 0 where
-  no_items : (l : Linking) (n : ℕ) → Links l n [] l
-  item_links : (l next last : Linking) (n : ℕ) (s : Spaces) (placed : Placed Item) (items : List (Placed Item))
-      → slice_get l.scopes n ≡ Some s → item_makes l n s placed.item next → Links next n items last
-      → Links l n (placed ∷ items) last
-  instance_links : (l inner last : Linking) (n : ℕ) (s : Spaces) (c : Closure) (arguments : Exports) (placed : Placed Item) (items : List (Placed Item))
-      → slice_get l.scopes n ≡ Some s → Begins l n s placed.item c arguments
-      → Links (begun l c arguments) (length l.scopes) c.items inner
-      → Links (with_instance inner n s (length l.scopes)) n items last
-      → Links l n (placed ∷ items) last
+mutual
+  -- What an item of a component instance leads to. It makes something there; or it instantiates a component, whose items lead to all
+  -- that its instance makes, and then the instance stands there.
+  pub data Leads : Linking → ℕ → Spaces → Placed Item → Linking → Type 0 where
+    leads_by_making : (l next : Linking) (n : ℕ) (s : Spaces) (placed : Placed Item) → item_makes l n s placed.item next → Leads l n s placed next
+    leads_by_instance : (l inner : Linking) (n : ℕ) (s : Spaces) (c : Closure) (arguments : Exports) (placed : Placed Item)
+        → Begins l n s placed.item c arguments → Links (begun l c arguments) (length l.scopes) c.items inner
+        → Leads l n s placed (with_instance inner n s (length l.scopes))
 
--- The first of these items that has a reason, those of components that are instantiated among them, and its first reason.
+  -- These items have a meaning in a component instance, one behind the other, and lead from one linking to another.
+  pub data Links : Linking → ℕ → List (Placed Item) → Linking → Type 0 where
+    no_items : (l : Linking) (n : ℕ) → Links l n [] l
+    item_links : (l next last : Linking) (n : ℕ) (s : Spaces) (placed : Placed Item) (items : List (Placed Item))
+        → slice_get l.scopes n ≡ Some s → Leads l n s placed next → Links next n items last
+        → Links l n (placed ∷ items) last
+
+-- The first of these items that has a reason, and its first reason. It is the first of these, or one of the component that the first
+-- one instantiates, or one behind it.
 pub data IsRefusedAt : Linking → ℕ → List (Placed Item) → LinkFault → Type 0 where
   refused_here : (l : Linking) (n : ℕ) (s : Spaces) (placed : Placed Item) (items : List (Placed Item)) (w : LinkWhy)
       → slice_get l.scopes n ≡ Some s → IsFirst l n s placed.item w
       → IsRefusedAt l n (placed ∷ items) (record { place = placed.place; why = w })
-  refused_behind : (l next : Linking) (n : ℕ) (s : Spaces) (placed : Placed Item) (items : List (Placed Item)) (fault : LinkFault)
-      → slice_get l.scopes n ≡ Some s → item_makes l n s placed.item next → IsRefusedAt next n items fault
-      → IsRefusedAt l n (placed ∷ items) fault
   refused_inside : (l : Linking) (n : ℕ) (s : Spaces) (c : Closure) (arguments : Exports) (placed : Placed Item) (items : List (Placed Item)) (fault : LinkFault)
       → slice_get l.scopes n ≡ Some s → Begins l n s placed.item c arguments
       → IsRefusedAt (begun l c arguments) (length l.scopes) c.items fault
       → IsRefusedAt l n (placed ∷ items) fault
-  refused_behind_instance : (l inner : Linking) (n : ℕ) (s : Spaces) (c : Closure) (arguments : Exports) (placed : Placed Item) (items : List (Placed Item)) (fault : LinkFault)
-      → slice_get l.scopes n ≡ Some s → Begins l n s placed.item c arguments
-      → Links (begun l c arguments) (length l.scopes) c.items inner
-      → IsRefusedAt (with_instance inner n s (length l.scopes)) n items fault
+  refused_later : (l next : Linking) (n : ℕ) (s : Spaces) (placed : Placed Item) (items : List (Placed Item)) (fault : LinkFault)
+      → slice_get l.scopes n ≡ Some s → Leads l n s placed next → IsRefusedAt next n items fault
       → IsRefusedAt l n (placed ∷ items) fault
 
 -- the root begins
