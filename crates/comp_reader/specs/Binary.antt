@@ -1,7 +1,7 @@
 -- The binary format of components (Component Model, Binary.md), as far as it is read: sections of core modules, core
--- instances, components, instances, aliases, types of values, functions and instances, lifts, lowered functions, imports and
--- exports of functions, types and instances, and custom sections; any number of them, in any order. Components may hold others,
--- and instance types too; at most 16 of either are open at a place.
+-- instances, components, instances, aliases, types of values, functions, resources and instances, canonical functions, imports
+-- and exports of functions, types and instances, and custom sections; any number of them, in any order. Components may hold
+-- others, and instance types too; at most 16 of either are open at a place.
 use Rattle.std.specs.Prelude.{ℕ, zero, suc, ◌&&◌, Bool, true, false, List, [], ◌∷◌, length, ◌==◌, ◌||◌, Option, Some, None}
 use Rattle.ca_base.specs.Span.{Span}
 use Rattle.ca_base.specs.Grammar.{Grammar, Give, Refuse, Here, Left, Byte, Sized, Choose, ◌>>=◌, Matches, Refuses}
@@ -30,7 +30,7 @@ use Rattle.comp_tree.specs.declared.instances.Alias.{Alias}
 use Rattle.comp_tree.specs.declared.externs.ExternDesc.{ExternDesc}
 use Rattle.comp_tree.specs.declared.externs.ExternDesc.TheVariants as descs
 use Rattle.comp_tree.specs.declared.types.DefType.{DefType}
-use Rattle.comp_tree.specs.declared.types.DefType.TheVariants.{Value, Func, Instance}
+use Rattle.comp_tree.specs.declared.types.DefType.TheVariants.{Value, Func, Instance, Resource}
 use Rattle.comp_tree.specs.declared.types.InstanceDecl.{InstanceDecl}
 use Rattle.comp_tree.specs.declared.types.InstanceDecl.TheVariants as decl
 use Rattle.comp_tree.specs.declared.items.Item.{Item}
@@ -40,7 +40,7 @@ use Rattle.part_reader.specs.declared.fault.ComponentWhy.{ComponentWhy}
 use Rattle.part_reader.specs.declared.fault.ComponentWhy.TheVariants.{Truncated, Magic, Unsupported, Limit, Module, Invalid}
 use Rattle.part_reader.specs.Reasons.{numbers, reasons, unsupported}
 use Rattle.part_reader.specs.Names.{extern_name}
-use Rattle.part_reader.specs.Types.{def_val_type, func_type}
+use Rattle.part_reader.specs.Types.{def_val_type, func_type, resource_type}
 use Rattle.part_reader.specs.Canons.{canon}
 
 -- a module that has this first fault, or none
@@ -186,19 +186,16 @@ alias = do
 unfoldable pub alias_item : Grammar ComponentWhy Item
 alias_item = giving item.Alias alias
 
--- an equal type, behind its 03: 00, and the type
-abbrev pub equal_type : Grammar ComponentWhy ExternDesc
-equal_type = do
-  _ ← marker reasons 0
-  type ← u32 numbers
-  Give (descs.TypeEq type)
+-- what a type is to be, behind its 03: 00 a type that it equals, 01 a type of resources
+unfoldable pub type_bound : Grammar ComponentWhy ExternDesc
+type_bound = by_byte Unsupported ((0x00, giving descs.TypeEq (u32 numbers)) ∷ (0x01, Give descs.Resource) ∷ [])
 
--- what an import or an export is to be: 01 a function of a type, 03 an equal type, 05 an instance of a type
+-- what an import or an export is to be: 01 a function of a type, 03 a type, 05 an instance of a type
 unfoldable pub extern_desc : Grammar ComponentWhy ExternDesc
 extern_desc =
     by_byte Unsupported (
     (0x01, giving descs.Func (u32 numbers))
-    ∷ (0x03, equal_type)
+    ∷ (0x03, type_bound)
     ∷ (0x05, giving descs.Instance (u32 numbers))
     ∷ [])
 
@@ -218,13 +215,13 @@ instance_decl inner =
     ∷ (0x04, declared_export)
     ∷ [])
 
--- A type, where instance types are of this grammar at the place of their 42: 40 a function, 42 an instance, and else a type
--- of values.
+-- A type, where instance types are of this grammar at the place of their 42: 40 a function, 42 an instance, 3F resources, and else
+-- a type of values.
 unfoldable pub type_of : (ℕ → Grammar ComponentWhy DefType) → Grammar ComponentWhy DefType
 type_of inner = do
   place ← Here
   b ← Byte
-  in_rows ((0x40, giving Func func_type) ∷ (0x42, inner place) ∷ []) b (giving Value (def_val_type place b))
+  in_rows ((0x40, giving Func func_type) ∷ (0x42, inner place) ∷ (0x3F, giving Resource resource_type) ∷ []) b (giving Value (def_val_type place b))
 
 -- the declarations of an instance type, in which types are of this grammar
 unfoldable pub declarations : Grammar ComponentWhy DefType → Grammar ComponentWhy DefType

@@ -9,7 +9,10 @@ use crate::aliases::read_alias;
 use crate::externs::read_extern_desc;
 use ca_base::{Kind, ReadError, Refusal, Seq, Window};
 use comp_tree::{DefType, InstanceDecl, Item};
-use part_reader::{ComponentWhy, read_def_val_type, read_extern_name, read_func_type, unsupported};
+use part_reader::{
+    ComponentWhy, read_def_val_type, read_extern_name, read_func_type, read_resource_type,
+    unsupported,
+};
 use std::alloc::Global;
 
 /// How many components may be open at a place, and how many instance types.
@@ -33,6 +36,10 @@ fn read_def_type(
     }
     if byte == 0x42 {
         return read_instance_type(alloc, more, place, window);
+    }
+    if byte == 0x3F {
+        let destructor = read_resource_type(window)?;
+        return Ok(DefType::Resource(destructor));
     }
     let val_type = read_def_val_type(alloc, place, byte, window)?;
     Ok(DefType::Value(val_type))

@@ -1,13 +1,27 @@
 //! Imports and exports.
 
 ghost use Rattle.ca_base.specs.Grammar.{Reads};
-ghost use Rattle.comp_reader.specs.Binary.{extern_desc, export_desc};
+ghost use Rattle.comp_reader.specs.Binary.{type_bound, extern_desc, export_desc};
 
 use crate::sorts::read_sort;
 use ca_base::{Kind, ReadError, Refusal, Window};
 use comp_tree::{Export, ExternDesc, Import, Item};
 use part_reader::{ComponentWhy, read_extern_name, unsupported};
 use std::alloc::Global;
+
+/// Reads what a type is to be (Component Model, Binary.md, `typebound`).
+#[tactic(auto, unfolding(crate::specs::Binary::type_bound))]
+fn read_type_bound(window: &mut Window<ComponentWhy>) -> Result<ExternDesc, Refusal<ComponentWhy>>
+    ensures { Reads (λ desc. desc) type_bound window.old window.new result }
+{
+    let place = window.at();
+    let byte = window.byte()?;
+    match byte {
+        0x00 => Ok(ExternDesc::TypeEq(window.u32()?)),
+        0x01 => Ok(ExternDesc::Resource),
+        _ => Err(unsupported(place, byte)),
+    }
+}
 
 /// Reads what an import or an export is to be (Component Model, Binary.md, `externdesc`).
 #[tactic(auto, unfolding(crate::specs::Binary::extern_desc))]
@@ -23,9 +37,7 @@ pub(crate) fn read_extern_desc(
         return Ok(ExternDesc::Func(func_type));
     }
     if byte == 3 {
-        window.marker(0)?;
-        let equal = window.u32()?;
-        return Ok(ExternDesc::TypeEq(equal));
+        return read_type_bound(window);
     }
     if byte == 5 {
         let instance_type = window.u32()?;

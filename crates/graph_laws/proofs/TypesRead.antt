@@ -13,14 +13,14 @@ use Rattle.comp_tree.specs.declared.types.DefValType.TheVariants as values
 use Rattle.comp_tree.specs.declared.types.DefType.{DefType}
 use Rattle.comp_tree.specs.declared.types.DefType.TheOpen.{DefType-F, InstanceDecl-F}
 use Rattle.comp_tree.specs.declared.types.DefType.TheVariants as plain_type
-use Rattle.comp_tree.specs.declared.types.DefType.TheViews.{rolls-Value, rolls-Func, rolls-Instance, rolls-Type, rolls-Alias, rolls-Export}
+use Rattle.comp_tree.specs.declared.types.DefType.TheViews.{rolls-Value, rolls-Func, rolls-Instance, rolls-Resource, rolls-Type, rolls-Alias, rolls-Export}
 use Rattle.comp_tree.specs.declared.types.DefType.TheFolds.{fold-InstanceDecl, fold-roll-DefType, fold-roll-InstanceDecl}
 use Rattle.comp_tree.specs.declared.types.InstanceDecl.{InstanceDecl}
 use Rattle.comp_tree.specs.declared.types.InstanceDecl.TheVariants as decl
 use Rattle.comp_tree.specs.declared.externs.ExternDesc.{ExternDesc}
 use Rattle.comp_tree.specs.declared.instances.Alias as aliased
 use Rattle.part_reader.specs.declared.fault.ComponentWhy.{ComponentWhy}
-use Rattle.part_reader.specs.Types.{primitive, given_as, val_type, maybe_val_type, field, variant_case, def_val_type, func_type}
+use Rattle.part_reader.specs.Types.{primitive, given_as, val_type, maybe_val_type, field, variant_case, handle_or_primitive, def_val_type, func_type, resource_type}
 use Rattle.part_reader.specs.Names.{extern_name}
 use Rattle.comp_reader.specs.Binary.{alias, extern_desc, instance_decl, type_of, declarations, instance_type, depth_limit}
 use Rattle.part_reader.specs.Reasons.{numbers, unsupported}
@@ -114,11 +114,40 @@ results = do
   err ← maybe_val_type
   Give (values.Result ok err)
 
+abbrev owns : Grammar ComponentWhy DefValType
+owns = do
+  resource ← u32 numbers
+  Give (values.Own resource)
+
+abbrev borrows : Grammar ComponentWhy DefValType
+borrows = do
+  resource ← u32 numbers
+  Give (values.Borrow resource)
+
+abbrev streams : Grammar ComponentWhy DefValType
+streams = do
+  element ← maybe_val_type
+  Give (values.Stream element)
+
+abbrev futures : Grammar ComponentWhy DefValType
+futures = do
+  element ← maybe_val_type
+  Give (values.Future element)
+
 abbrev primitives : ℕ → ℕ → Grammar ComponentWhy DefValType
 primitives place b = given_as values.Primitive place b (primitive b)
 
+abbrev from_futures : ℕ → ℕ → Grammar ComponentWhy DefValType
+from_futures place b = Choose (b == 0x65) futures (primitives place b)
+
+abbrev from_streams : ℕ → ℕ → Grammar ComponentWhy DefValType
+from_streams place b = Choose (b == 0x66) streams (from_futures place b)
+
+abbrev from_borrows : ℕ → ℕ → Grammar ComponentWhy DefValType
+from_borrows place b = Choose (b == 0x68) borrows (from_streams place b)
+
 abbrev from_results : ℕ → ℕ → Grammar ComponentWhy DefValType
-from_results place b = Choose (b == 0x6A) results (primitives place b)
+from_results place b = Choose (b == 0x6A) results (handle_or_primitive place b)
 
 abbrev from_options : ℕ → ℕ → Grammar ComponentWhy DefValType
 from_options place b = Choose (b == 0x6B) options (from_results place b)
@@ -142,6 +171,15 @@ given_few : (place b : ℕ) (o : Option PrimValType) → GivesOn IsByte IsFew (g
 given_few place b None s x t bytes m = absurd m
 given_few place b (Some type) s x t bytes m = subst IsFew (sym m.0) refl
 
+handle_few : (place b : ℕ) → GivesOn IsByte IsFew (handle_or_primitive place b)
+unfolding handle_or_primitive
+handle_few place b =
+    choice_on IsByte IsFew owns (from_borrows place b) (λ s x t bytes m. subst IsFew (sym m.3.0) refl)
+    (choice_on IsByte IsFew borrows (from_streams place b) (λ s x t bytes m. subst IsFew (sym m.3.0) refl)
+    (choice_on IsByte IsFew streams (from_futures place b) (λ s x t bytes m. subst IsFew (sym m.3.0) refl)
+    (choice_on IsByte IsFew futures (primitives place b) (λ s x t bytes m. subst IsFew (sym m.3.0) refl) (given_few place b (primitive b)) (b == 0x65))
+    (b == 0x66)) (b == 0x68)) (b == 0x69)
+
 value_few : (place b : ℕ) → GivesOn IsByte IsFew (def_val_type place b)
 unfolding def_val_type
 value_few place b =
@@ -152,7 +190,7 @@ value_few place b =
     (choice_on IsByte IsFew flags (from_enums place b) (λ s x t bytes m. subst IsFew (sym m.3.0) refl)
     (choice_on IsByte IsFew enums (from_options place b) (λ s x t bytes m. subst IsFew (sym m.3.0) (vec_few (name numbers) s m.0 m.1 bytes m.2))
     (choice_on IsByte IsFew options (from_results place b) (λ s x t bytes m. subst IsFew (sym m.3.0) refl)
-    (choice_on IsByte IsFew results (primitives place b) (λ s x t bytes m. subst IsFew (sym m.3.3.0) refl) (given_few place b (primitive b)) (b == 0x6A))
+    (choice_on IsByte IsFew results (handle_or_primitive place b) (λ s x t bytes m. subst IsFew (sym m.3.3.0) refl) (handle_few place b) (b == 0x6A))
     (b == 0x6B)) (b == 0x6D)) (b == 0x6E)) (b == 0x6F)) (b == 0x70)) (b == 0x71)) (b == 0x72)
 
 -- Types and declarations.
@@ -170,6 +208,9 @@ of_value type h = ap has_few (sym (rolls-Value type)) ∙ fold-roll-DefType Bool
 
 of_func : (type : FuncType) → HasFew (plain_type.Func type)
 of_func type = ap has_few (sym (rolls-Func type)) ∙ fold-roll-DefType Bool Bool few_step few_decl_step (DefType-F.Func type)
+
+of_resource : (destructor : Option ℕ) → HasFew (plain_type.Resource destructor)
+of_resource destructor = ap has_few (sym (rolls-Resource destructor)) ∙ fold-roll-DefType Bool Bool few_step few_decl_step (DefType-F.Resource destructor)
 
 all_few : (decls : List InstanceDecl) → AllByRecursion HasFewDecl decls → all_true (map decl_few decls) ≡ true
 all_few [] h = refl
@@ -219,6 +260,11 @@ funcs = do
   type ← func_type
   Give (plain_type.Func type)
 
+abbrev resources : Grammar ComponentWhy DefType
+resources = do
+  destructor ← resource_type
+  Give (plain_type.Resource destructor)
+
 abbrev value_types : ℕ → ℕ → Grammar ComponentWhy DefType
 value_types place b = do
   type ← def_val_type place b
@@ -229,8 +275,10 @@ unfolding type_of
 type_gives inner h s x t bytes m =
     let b = m.3.0 in
     let at_byte = matches_bytes IsByte Here s m.0 m.1 bytes m.2 in
-    choice_on IsByte HasFew funcs (Choose (b == 0x42) (inner m.0) (value_types m.0 b)) (λ u y v k n. subst HasFew (sym n.3.0) (of_func n.0))
-    (choice_on IsByte HasFew (inner m.0) (value_types m.0 b) (h m.0) (λ u y v k n. subst HasFew (sym n.3.0) (of_value n.0 (value_few m.0 b u n.0 n.1 k n.2))) (b == 0x42)) (b == 0x40)
+    choice_on IsByte HasFew funcs (Choose (b == 0x42) (inner m.0) (Choose (b == 0x3F) resources (value_types m.0 b))) (λ u y v k n. subst HasFew (sym n.3.0) (of_func n.0))
+    (choice_on IsByte HasFew (inner m.0) (Choose (b == 0x3F) resources (value_types m.0 b)) (h m.0)
+    (choice_on IsByte HasFew resources (value_types m.0 b) (λ u y v k n. subst HasFew (sym n.3.0) (of_resource n.0))
+    (λ u y v k n. subst HasFew (sym n.3.0) (of_value n.0 (value_few m.0 b u n.0 n.1 k n.2))) (b == 0x3F)) (b == 0x42)) (b == 0x40)
     m.3.1 x t (matches_bytes IsByte Byte m.1 m.3.0 m.3.1 at_byte m.3.2) m.3.3
 
 declared : (inner : Grammar ComponentWhy DefType) → GivesOn IsByte HasFew inner → GivesOn IsByte HasFew (declarations inner)

@@ -1,4 +1,4 @@
--- Types whose values functions pass, as they are read (Component Model, Explainer.md, "Type Definitions"; Binary.md, `defvaltype`): they hold no handle
+-- Types whose values functions pass, as they are read and linked (Component Model, Explainer.md, "Type Definitions"; Binary.md, `defvaltype`): they hold no handle
 -- and no end of a stream or a future, flags have at most 32 labels, and the cases of a variant and the labels of an enum are counted by
 -- 32 bits.
 use Rattle.std.specs.Prelude.{◌≡◌, ◌^◌, ◌&&◌, nat_lt, nat_le, Bool, true, false, length}

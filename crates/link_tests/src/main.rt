@@ -30,6 +30,7 @@
 //! - `canon`: the options of lifts
 //! - `lower`: functions that are lowered, their types and options, and what uses the core functions
 //! - `index`: indices of each sort that are not there, in exports, imports, arguments and instances of exports
+//! - `unlinked`: what is read and not linked yet
 //!
 //! Answers tell a definition of a core instance as `INSTANCE.INDEX`, and a core function that a function is lowered to as
 //! `lower N`, where N is its number in the order of linking, from 0 on. Behind the lines of core instances there is a line

@@ -1,8 +1,8 @@
--- Types of values and of functions in bytes (Component Model, Binary.md, `primvaltype`, `valtype`, `defvaltype`, `functype`). The
--- parts of a type are primitive types, or indices of types: no type holds another one.
+-- Types of values, of functions and of resources in bytes (Component Model, Binary.md, `primvaltype`, `valtype`, `defvaltype`,
+-- `functype`, `resourcetype`). The parts of a type are primitive types, or indices of types: no type holds another one.
 use Rattle.std.specs.Prelude.{ℕ, ◌^◌, ℤ, pos, nat_abs, int_le, int_lt, ◌&&◌, Bool, ◌==◌, if◌then◌else◌, List, [], ◌∷◌, Option, Some, None}
 use Rattle.ca_base.specs.Grammar.{Grammar, Give, Here, Next, Choose, ◌>>=◌}
-use Rattle.ca_base.specs.Items.{byte_of, marker, s33, name, vec}
+use Rattle.ca_base.specs.Items.{byte_of, marker, u32, s33, name, vec}
 use Rattle.ca_base.specs.Tables.{by_byte, in_rows, giving}
 use Rattle.comp_tree.specs.declared.types.PrimValType.{PrimValType}
 use Rattle.comp_tree.specs.declared.types.PrimValType.TheVariants as prim
@@ -84,6 +84,17 @@ outcomes = do
   err ← maybe_val_type
   Give (values.Result ok err)
 
+-- a type of handles, streams or futures that a byte at this place begins, or a primitive one: 69 own and 68 borrow, with the type of
+-- the resource; 66 a stream and 65 a future, with the type of what it holds if it holds anything
+unfoldable pub handle_or_primitive : ℕ → ℕ → Grammar ComponentWhy DefValType
+handle_or_primitive place b =
+    in_rows (
+    (0x69, giving values.Own (u32 numbers))
+    ∷ (0x68, giving values.Borrow (u32 numbers))
+    ∷ (0x66, giving values.Stream maybe_val_type)
+    ∷ (0x65, giving values.Future maybe_val_type)
+    ∷ []) b (given_as values.Primitive place b (primitive b))
+
 -- the type of values that a byte at this place begins
 unfoldable pub def_val_type : ℕ → ℕ → Grammar ComponentWhy DefValType
 def_val_type place b =
@@ -96,7 +107,7 @@ def_val_type place b =
     ∷ (0x6D, giving values.Enum (vec numbers (name numbers)))
     ∷ (0x6B, giving values.Option val_type)
     ∷ (0x6A, outcomes)
-    ∷ []) b (given_as values.Primitive place b (primitive b))
+    ∷ []) b (handle_or_primitive place b)
 
 -- a parameter: its label, and its type
 unfoldable pub param : Grammar ComponentWhy Param
@@ -115,3 +126,13 @@ func_type = do
   params ← vec numbers param
   returned ← func_result
   Give (record { params = params; result = returned })
+
+-- the destructor of a resource: 00 for none, or 01 and a core function
+unfoldable pub destructor : Grammar ComponentWhy (Option ℕ)
+destructor = by_byte Unsupported ((0x00, Give None) ∷ (0x01, giving Some (u32 numbers)) ∷ [])
+
+-- what stands behind the 3F of a type of resources: 7F, the type i32 of their representations, and the destructor
+unfoldable pub resource_type : Grammar ComponentWhy (Option ℕ)
+resource_type = do
+  _ ← marker reasons 0x7F
+  destructor

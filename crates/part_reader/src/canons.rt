@@ -3,48 +3,12 @@
 ghost use Rattle.ca_base.specs.Grammar.{MayRead};
 ghost use Rattle.part_reader.specs.Canons.{lift, lower, canon};
 
-use crate::fault::{ComponentWhy, unsupported};
-use ca_base::{Kind, ReadError, Window, read_vec};
-use comp_tree::{Canon, CanonOption};
+use crate::builtins::read_builtin;
+use crate::fault::ComponentWhy;
+use crate::options::CanonOptions;
+use ca_base::{ReadError, Window, read_vec};
+use comp_tree::Canon;
 use std::alloc::Global;
-
-/// Options of canonical functions (Component Model, Binary.md, `canonopt`).
-struct CanonOptions;
-
-impl Kind for CanonOptions {
-    ghost use Rattle.part_reader.specs.Canons.{canon_option};
-
-    type Why = ComponentWhy;
-
-    type Item = CanonOption;
-
-    ghost grammar = { canon_option };
-
-    #[tactic(auto, unfolding(crate::specs::Canons::canon_option))]
-    fn read(
-        _alloc: Global,
-        window: &mut Window<ComponentWhy>,
-    ) -> Result<CanonOption, ReadError<ComponentWhy>> {
-        let place = window.at();
-        let byte = window.byte()?;
-        if byte == 0 {
-            return Ok(CanonOption::Utf8);
-        }
-        if byte == 3 {
-            let memory = window.u32()?;
-            return Ok(CanonOption::Memory(memory));
-        }
-        if byte == 4 {
-            let realloc = window.u32()?;
-            return Ok(CanonOption::Realloc(realloc));
-        }
-        if byte == 5 {
-            let post_return = window.u32()?;
-            return Ok(CanonOption::PostReturn(post_return));
-        }
-        Err(ReadError::Fault(unsupported(place, byte)))
-    }
-}
 
 /// Reads a lift behind its first byte (Component Model, Binary.md, `canon`).
 #[tactic(auto, unfolding(crate::specs::Canons::lift))]
@@ -98,5 +62,6 @@ pub fn read_canon(
     if byte == 1 {
         return read_lower(alloc, window);
     }
-    Err(ReadError::Fault(unsupported(place, byte)))
+    let builtin = read_builtin(alloc, place, byte, window)?;
+    Ok(Canon::Builtin(builtin))
 }

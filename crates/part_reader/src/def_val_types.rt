@@ -1,12 +1,12 @@
 //! Types of values that are defined: records, variants, and the others whose parts are types before them.
 
-ghost use Rattle.ca_base.specs.Grammar.{MayRead};
-ghost use Rattle.part_reader.specs.Types.{def_val_type};
+ghost use Rattle.ca_base.specs.Grammar.{Reads, MayRead};
+ghost use Rattle.part_reader.specs.Types.{handle_or_primitive, def_val_type};
 
 use crate::fault::{ComponentWhy, refused_type};
 use crate::names::{Labels, read_name};
 use crate::val_types::{ValTypes, primitive, read_maybe_val_type, read_val_type};
-use ca_base::{Kind, ReadError, Window, read_vec};
+use ca_base::{Kind, ReadError, Refusal, Window, read_vec};
 use comp_tree::{Case, DefValType, Field};
 use std::alloc::Global;
 
@@ -57,6 +57,28 @@ impl Kind for Cases {
     }
 }
 
+/// Reads the type of handles, of streams or of futures that a byte at this place begins, or a primitive one (Component Model,
+/// Binary.md, `defvaltype`).
+#[tactic(auto, unfolding(crate::specs::Types::handle_or_primitive))]
+fn read_handle_or_primitive(
+    place: usize,
+    byte: u8,
+    window: &mut Window<ComponentWhy>,
+) -> Result<DefValType, Refusal<ComponentWhy>>
+    ensures { Reads (λ t. t) (handle_or_primitive place byte) window.old window.new result }
+{
+    match byte {
+        0x69 => Ok(DefValType::Own(window.u32()?)),
+        0x68 => Ok(DefValType::Borrow(window.u32()?)),
+        0x66 => Ok(DefValType::Stream(read_maybe_val_type(window)?)),
+        0x65 => Ok(DefValType::Future(read_maybe_val_type(window)?)),
+        _ => match primitive(byte) {
+            Some(found) => Ok(DefValType::Primitive(found)),
+            None => Err(refused_type(place, byte)),
+        },
+    }
+}
+
 /// Reads the type of values that a byte at this place begins (Component Model, Binary.md, `defvaltype`).
 ///
 /// Its refusals are those of `def_val_type` in `specs/Types`: a byte of a type of floats (`Float`), one that no rule has in its place
@@ -104,8 +126,6 @@ pub fn read_def_val_type(
         let err = read_maybe_val_type(window)?;
         return Ok(DefValType::Result { ok, err });
     }
-    if let Some(found) = primitive(byte) {
-        return Ok(DefValType::Primitive(found));
-    }
-    Err(ReadError::Fault(refused_type(place, byte)))
+    let found = read_handle_or_primitive(place, byte, window)?;
+    Ok(found)
 }

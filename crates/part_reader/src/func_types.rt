@@ -35,7 +35,7 @@ impl Kind for Params {
 
 /// Reads the result of a function (Component Model, Binary.md, `resultlist`).
 #[tactic(auto, unfolding(crate::specs::Types::func_result))]
-fn read_result(
+pub(crate) fn read_result(
     window: &mut Window<ComponentWhy>,
 ) -> Result<Option<ValTypeRef>, Refusal<ComponentWhy>>
     ensures { Reads (λ r. r) func_result window.old window.new result }

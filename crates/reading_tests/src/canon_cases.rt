@@ -54,10 +54,8 @@ end
 const REFUSED: &str = "
 an option of text in UTF-16 | sections | 08 07 01 00 00 00 01 01 00 | 15 Unsupported(1)
 an option of text in Latin-1 or UTF-16 | sections | 08 07 01 00 00 00 01 02 00 | 15 Unsupported(2)
-an option of asynchronous lifts | sections | 08 07 01 00 00 00 01 06 00 | 15 Unsupported(6)
-a callback | sections | 08 08 01 00 00 00 01 07 00 00 | 15 Unsupported(7)
 an option 08 | sections | 08 07 01 00 00 00 01 08 00 | 15 Unsupported(8)
-a third option that is a callback | sections | 08 0B 01 00 00 00 03 00 03 00 07 00 00 | 18 Unsupported(7)
+a third option 08 | sections | 08 0B 01 00 00 00 03 00 03 00 08 00 00 | 18 Unsupported(8)
 an option of a memory without its index | sections | 08 06 01 00 00 00 01 03 | 16 SectionSize
 an option of a realloc without its index | sections | 08 06 01 00 00 00 01 04 | 16 SectionSize
 an option of a post-return without its index | sections | 08 06 01 00 00 00 01 05 | 16 SectionSize
@@ -84,15 +82,15 @@ a number of options of a lowered function that its section cuts off | sections |
 a number of options of a lowered function whose fifth byte is too large | sections | 08 09 01 01 00 00 80 80 80 80 10 | 18 Leb
 2^32 - 1 options of a lowered function | sections | 08 09 01 01 00 00 FF FF FF FF 0F | 19 SectionSize
 one option of two of a lowered function | sections | 08 06 01 01 00 00 02 00 | 16 SectionSize
-an option of asynchronous lowered functions | sections | 08 06 01 01 00 00 01 06 | 15 Unsupported(6)
-a second option of a lowered function that is a callback | sections | 08 09 01 01 00 00 02 03 00 07 00 | 17 Unsupported(7)
+a second option 08 of a lowered function | sections | 08 09 01 01 00 00 02 03 00 08 00 | 17 Unsupported(8)
 an option FF of a lowered function | sections | 08 06 01 01 00 00 01 FF | 15 Unsupported(255)
 an option of a memory of a lowered function without its index | sections | 08 06 01 01 00 00 01 03 | 16 SectionSize
 the index of a realloc of a lowered function whose fifth byte is too large | sections | 08 0B 01 01 00 00 01 04 80 80 80 80 10 | 20 Leb
 a type behind a lowered function, as a lift has one | sections | 08 06 01 01 00 00 00 05 | 15 SectionSize
 one lowered function of two | sections | 08 05 02 01 00 00 00 | 15 SectionSize
 a lowered function with another second byte, behind a lift | sections | 08 0A 02 00 00 00 00 00 01 02 00 00 | 17 Unsupported(2)
-a canonical function without rules behind a lowered function | sections | 08 06 02 01 00 00 00 02 | 15 Unsupported(2)
+a canonical function without rules behind a lowered function | sections | 08 06 02 01 00 00 00 07 | 15 Unsupported(7)
+the making of a handle without its type behind a lowered function | sections | 08 06 02 01 00 00 00 02 | 16 SectionSize
 an option of a lowered function that the file cuts off | sections | 08 07 01 01 00 00 01 03 | 16 Truncated
 a lowered function with another second byte in a component | sections | 04 0D 00 61 73 6D 0D 00 01 00 08 03 01 01 03 | 22 Unsupported(3)
 ";
@@ -104,5 +102,5 @@ fn canonical_functions_are_read(rt: HostRuntime) -> Result<(), Fail> {
 
 #[test]
 fn canonical_functions_are_refused(rt: HostRuntime) -> Result<(), Fail> {
-    check_lines::<InLine>(rt.alloc(), REFUSED, "| ", 43)
+    check_lines::<InLine>(rt.alloc(), REFUSED, "| ", 41)
 }

@@ -18,6 +18,10 @@ instance types | 07 | 02 42 04 01 40 01 01 78 79 00 79 02 03 02 01 00 04 00 01 6
 lifts | 08 | 02 00 00 03 00 04 00 00 80 01 80 00 05
 types of values | 07 | 0D 7F 73 72 02 01 61 79 02 C3 A9 80 01 71 03 01 61 01 7D 00 01 62 00 00 00 01 81 00 00 70 73 6F 03 7F 80 00 74 6E 02 01 61 00 6D 01 01 61 6B FF 00 6A 00 00 6A 01 7E 00 6A 00 01 80 01 6A 01 78 01 74
 types of values in an instance type | 07 | 01 42 05 01 72 01 01 61 79 01 71 01 01 61 01 00 00 01 6A 01 00 00 02 03 02 01 00 04 00 01 74 03 00 00
+types of handles, streams, futures and resources | 07 | 07 69 80 01 68 00 66 00 66 01 FF 00 65 01 79 3F 7F 00 3F 7F 01 81 00
+resources in an instance type | 07 | 01 42 02 01 3F 7F 00 04 00 01 72 03 01
+built-ins | 08 | 0C 02 80 01 03 00 04 00 05 06 01 09 00 79 01 03 00 0A 7F 00 0C 01 20 01 80 01 0E 00 0F 00 01 06 1F
+built-ins of ends | 08 | 0B 10 80 01 02 00 04 00 11 00 00 12 00 01 13 00 14 80 01 16 00 00 17 00 01 07 00 18 00 01 19 00 00 1A 81 00 1B 00
 lifts with options | 08 | 02 00 00 01 06 00 03 00 03 80 01 04 01 05 81 00 00 02 00 00 00 00 80 00
 lowered functions | 08 | 02 01 00 80 01 00 01 00 05 04 00 03 80 01 04 01 05 81 00
 imports | 0A | 03 00 01 61 01 04 01 00 03 00 05 00 01 69 05 80 01
@@ -96,5 +100,5 @@ impl Holds for CutOff {
 
 #[test]
 fn fronts_of_sections_are_refused(rt: HostRuntime) -> Result<(), Fail> {
-    check_all_lines::<CutOff>(rt.alloc(), SECTIONS, 12)
+    check_all_lines::<CutOff>(rt.alloc(), SECTIONS, 16)
 }

@@ -193,6 +193,50 @@ is
 50 list type of type 0
 56 tuple type of type 4294967295, String,
 
+types of handles, streams and futures
+00 61 73 6D 0D 00 01 00 ; 0: the preamble
+07 2B 0A ; 8: ten types
+69 00 69 80 01 ; 11: own handles of types 0 and 128
+68 01 ; 16: borrowed handles of type 1
+66 00 66 01 7D 66 01 05 ; 18: streams of nothing, of u8 and of type 5
+65 00 65 01 73 65 01 FF FF FF FF 0F ; 26: futures of nothing, of string and of type 2^32 - 1
+42 04 01 69 00 01 68 01 01 66 00 01 65 01 79 ; 38: an instance type of four of them
+is
+11 owning handle of type 0
+13 owning handle of type 128
+16 borrowed handle of type 1
+18 stream type of nothing
+20 stream type of U8
+23 stream type of type 5
+26 future type of nothing
+28 future type of String
+31 future type of type 4294967295
+38 instance type of owning handle of type 0; borrowed handle of type 1; stream type of nothing; future type of U32; end
+
+types of resources
+00 61 73 6D 0D 00 01 00 ; 0: the preamble
+07 25 04 ; 8: four types
+3F 7F 00 ; 11: without a destructor
+3F 7F 01 00 ; 14: with core function 0 as its destructor
+3F 7F 01 80 01 ; 18: with core function 128
+42 04 ; 23: an instance type of four declarations
+01 3F 7F 00 01 3F 7F 01 02 ; 25: two of resources
+04 00 01 72 03 01 ; 34: `r`, a resource
+04 00 01 73 03 00 00 ; 40: `s`, which equals type 0
+is
+11 resource type
+14 resource type, destructor 0
+18 resource type, destructor 128
+23 instance type of resource type; resource type, destructor 2; export r: Resource; export s: TypeEq(0); end
+
+an import and an export of resources
+00 61 73 6D 0D 00 01 00 ; 0: the preamble
+0A 06 01 00 01 72 03 01 ; 8: an import
+0B 09 01 00 01 73 03 00 01 03 01 ; 16: an export of type 0, as a resource
+is
+11 import r: Resource
+19 export s of Type 0, Resource
+
 types of values in functions and in instance types
 00 61 73 6D 0D 00 01 00 ; 0: the preamble
 07 28 02 ; 8: two types
@@ -283,7 +327,14 @@ a declaration of a type of floats | sections | 07 05 01 42 01 01 76 | 14 Float
 a parameter of floats in an instance type | sections | 07 0B 01 42 01 01 40 01 01 61 75 01 00 | 18 Float
 a type of floats in an instance type in an instance type | sections | 07 08 01 42 01 01 42 01 01 75 | 17 Float
 a type of components | sections | 07 02 01 41 | 11 Unsupported(65)
-a type of resources | sections | 07 02 01 3F | 11 Unsupported(63)
+a type of resources without what represents them | sections | 07 02 01 3F | 12 SectionSize
+a type of resources that an i64 represents | sections | 07 04 01 3F 7E 00 | 12 Unsupported(126)
+a type of resources that neither has a destructor nor has none | sections | 07 04 01 3F 7F 02 | 13 Unsupported(2)
+a type of resources that is cut off | sections | 07 03 01 3F 7F | 13 SectionSize
+a destructor without its index | sections | 07 04 01 3F 7F 01 | 14 SectionSize
+the index of a destructor whose fifth byte is too large | sections | 07 09 01 3F 7F 01 80 80 80 80 10 | 18 Leb
+a byte behind a type of resources | sections | 07 05 01 3F 7F 00 00 | 14 SectionSize
+a type of resources that an i64 represents in an instance type | sections | 07 07 01 42 01 01 3F 7E 00 | 15 Unsupported(126)
 a declaration of a type of components | sections | 07 05 01 42 01 01 41 | 14 Unsupported(65)
 an alias of a value in an instance type | sections | 07 05 01 42 01 02 02 | 14 Unsupported(2)
 an outer alias of a function in an instance type | sections | 07 08 01 42 01 02 01 02 00 00 | 15 Unsupported(2)
@@ -291,7 +342,8 @@ an export of an instance type whose name begins with 02 | sections | 07 05 01 42
 an export of an instance type whose name has no byte before it | sections | 07 08 01 42 01 04 01 66 01 00 | 18 SectionSize
 an export of an instance type that is a core module | sections | 07 09 01 42 01 04 00 01 66 00 00 | 17 Unsupported(0)
 an export of an instance type that is a component | sections | 07 09 01 42 01 04 00 01 66 04 00 | 17 Unsupported(4)
-an export of an instance type that is a resource | sections | 07 09 01 42 01 04 00 01 66 03 01 | 18 Unsupported(1)
+an export of an instance type that is a type of bound 02 | sections | 07 09 01 42 01 04 00 01 66 03 02 | 18 Unsupported(2)
+a byte behind an export of an instance type that is a resource | sections | 07 0A 01 42 01 04 00 01 66 03 01 00 | 19 SectionSize
 an export of an instance type without the index of its type | sections | 07 08 01 42 01 04 00 01 66 01 | 18 SectionSize
 one declaration of two | sections | 07 05 01 42 02 01 79 | 15 SectionSize
 2^32 - 1 declarations | sections | 07 07 01 42 FF FF FF FF 0F | 17 SectionSize
@@ -303,7 +355,8 @@ an import that is to be nothing | sections | 0A 04 01 00 01 61 | 14 SectionSize
 an import of a core module | sections | 0A 06 01 00 01 61 00 11 | 14 Unsupported(0)
 an import of a value | sections | 0A 06 01 00 01 61 02 00 | 14 Unsupported(2)
 an import of a component | sections | 0A 06 01 00 01 61 04 00 | 14 Unsupported(4)
-an import of a resource | sections | 0A 06 01 00 01 61 03 01 | 15 Unsupported(1)
+an import of a type of bound 02 | sections | 0A 06 01 00 01 61 03 02 | 15 Unsupported(2)
+a byte behind an import of a resource | sections | 0A 07 01 00 01 61 03 01 00 | 16 SectionSize
 an import of a type whose bound is cut off | sections | 0A 05 01 00 01 61 03 | 15 SectionSize
 an import of a type without an index | sections | 0A 06 01 00 01 61 03 00 | 16 SectionSize
 an import of an instance without the index of its type | sections | 0A 05 01 00 01 61 05 | 15 SectionSize
@@ -317,14 +370,24 @@ an export without an index | sections | 0B 05 01 00 01 66 01 | 15 SectionSize
 an export that is to be 02 | sections | 0B 07 01 00 01 66 01 00 02 | 16 Unsupported(2)
 an export that is to be a value | sections | 0B 08 01 00 01 66 01 00 01 02 | 17 Unsupported(2)
 an export that is to be a function without a type | sections | 0B 08 01 00 01 66 01 00 01 01 | 18 SectionSize
-an export that is to be a resource | sections | 0B 09 01 00 01 74 03 00 01 03 01 | 18 Unsupported(1)
+an export that is to be a type of bound 02 | sections | 0B 09 01 00 01 74 03 00 01 03 02 | 18 Unsupported(2)
 a section of values | sections | 0C 01 00 | 8 Unsupported(12)
 an instance that the file cuts off | sections | 05 02 01 | 11 Truncated
 an import that the file cuts off | sections | 0A 06 01 00 01 61 01 | 15 Truncated
-a type of own handles | sections | 07 03 01 69 00 | 11 Unsupported(105)
-a type of borrowed handles | sections | 07 03 01 68 00 | 11 Unsupported(104)
-a type of streams | sections | 07 03 01 66 00 | 11 Unsupported(102)
-a type of futures | sections | 07 03 01 65 00 | 11 Unsupported(101)
+a type of own handles without its resource | sections | 07 02 01 69 | 12 SectionSize
+a type of own handles of a type whose fifth byte is too large | sections | 07 07 01 69 80 80 80 80 10 | 16 Leb
+a type of borrowed handles without its resource | sections | 07 02 01 68 | 12 SectionSize
+a type of borrowed handles of a type whose fifth byte goes on | sections | 07 08 01 68 80 80 80 80 80 00 | 16 Leb
+a type of streams that is cut off | sections | 07 02 01 66 | 12 SectionSize
+a type of streams that neither has an element nor has none | sections | 07 03 01 66 02 | 12 Unsupported(2)
+a type of streams of u32 without a byte before it | sections | 07 03 01 66 79 | 12 Unsupported(121)
+a type of streams without its element | sections | 07 03 01 66 01 | 13 SectionSize
+a type of streams of floats | sections | 07 04 01 66 01 76 | 13 Float
+a type of streams of streams, written in one type | sections | 07 05 01 66 01 66 00 | 13 Unsupported(102)
+a byte behind a type of streams | sections | 07 04 01 66 00 00 | 13 SectionSize
+a type of futures that neither has a value nor has none | sections | 07 03 01 65 02 | 12 Unsupported(2)
+a type of futures of floats | sections | 07 04 01 65 01 75 | 13 Float
+a type of futures of an index whose fifth byte is too large | sections | 07 08 01 65 01 80 80 80 80 10 | 17 Leb
 a type of error contexts | sections | 07 02 01 64 | 11 Unsupported(100)
 a type of lists of a fixed length | sections | 07 04 01 67 79 04 | 11 Unsupported(103)
 a type of maps | sections | 07 04 01 63 79 79 | 11 Unsupported(99)
@@ -332,8 +395,8 @@ a type 6C, between those of options and enums | sections | 07 03 01 6C 79 | 11 U
 an index in the place of a type | sections | 07 03 02 79 00 | 12 Unsupported(0)
 a primitive type in two bytes | sections | 07 03 01 F9 7F | 11 Unsupported(249)
 a list type in two bytes | sections | 07 04 01 F0 7F 79 | 11 Unsupported(240)
-a type of own handles in an instance type | sections | 07 06 01 42 01 01 69 00 | 14 Unsupported(105)
-a type of streams in an instance type | sections | 07 06 01 42 01 01 66 00 | 14 Unsupported(102)
+a type of own handles in an instance type, which is cut off | sections | 07 05 01 42 01 01 69 | 15 SectionSize
+a type of streams with a byte 02 in an instance type | sections | 07 06 01 42 01 01 66 02 | 15 Unsupported(2)
 a list without a type | sections | 07 02 01 70 | 12 SectionSize
 a list of 32-bit floats | sections | 07 03 01 70 76 | 12 Float
 a list of 64-bit floats | sections | 07 03 01 70 75 | 12 Float
@@ -420,10 +483,10 @@ a variant that passes its section in a component | sections | 04 0F 00 61 73 6D 
 
 #[test]
 fn items_are_read(rt: HostRuntime) -> Result<(), Fail> {
-    check_paragraphs::<InLines>(rt.alloc(), READ, 12)
+    check_paragraphs::<InLines>(rt.alloc(), READ, 15)
 }
 
 #[test]
 fn items_are_refused(rt: HostRuntime) -> Result<(), Fail> {
-    check_lines::<InLine>(rt.alloc(), REFUSED, "| ", 195)
+    check_lines::<InLine>(rt.alloc(), REFUSED, "| ", 214)
 }

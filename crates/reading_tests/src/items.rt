@@ -1,10 +1,11 @@
 //! The items of components as text.
 
+use crate::builtins::write_canon;
 use crate::types::{write_alias, write_type};
 use ca_base::{Name, Placed};
 use comp_tree::{
-    Canon, CanonOption, Component, CoreArgument, CoreInlineExport, CoreInstance, Export,
-    ExternDesc, Import, Instance, Item, NamedDefinition,
+    Component, CoreArgument, CoreInlineExport, CoreInstance, Export, ExternDesc, Import, Instance,
+    Item, NamedDefinition,
 };
 use std::alloc::AllocError;
 use std::fmt::{Debug, Write};
@@ -124,48 +125,6 @@ fn write_export(text: &mut String, export: &Export) -> Result<(), AllocError> {
     write_name(text, &export.name)?;
     write!(text, " of {:?} {}", export.sort, export.index)?;
     write_desc(text, export.desc)
-}
-
-/// Writes an option of a canonical function.
-fn write_option(text: &mut String, option: CanonOption) -> Result<(), AllocError> {
-    match option {
-        CanonOption::Utf8 => text.push_str(", utf8"),
-        CanonOption::Memory(index) => write!(text, ", memory {index}"),
-        CanonOption::Realloc(index) => write!(text, ", realloc {index}"),
-        CanonOption::PostReturn(index) => write!(text, ", post-return {index}"),
-        CanonOption::Async => text.push_str(", async"),
-        CanonOption::Callback(index) => write!(text, ", callback {index}"),
-    }
-}
-
-/// Writes the options of a canonical function.
-fn write_options(text: &mut String, options: &[CanonOption]) -> Result<(), AllocError> {
-    for option in options {
-        write_option(text, *option)?;
-    }
-    Ok(())
-}
-
-/// Writes a canonical function.
-fn write_canon(text: &mut String, canon: &Canon) -> Result<(), AllocError> {
-    match canon {
-        Canon::Lift {
-            core_func,
-            options,
-            func_type,
-        } => {
-            write!(
-                text,
-                "lift of core function {core_func} at type {func_type}"
-            )?;
-            write_options(text, options.as_slice())
-        }
-        Canon::Lower { func, options } => {
-            write!(text, "lowered function {func}")?;
-            write_options(text, options.as_slice())
-        }
-        Canon::Builtin(_) => text.push_str("built-in"),
-    }
 }
 
 /// Writes a component that stands in another one.

@@ -6,15 +6,19 @@
 //! - `refusal_cases`: components that are refused, with their places and reasons
 //! - `reading_cases`: components that are read, with all their items and places
 //! - `item_cases`: the items of whole components, read and refused
-//! - `canon_cases`: canonical functions, likewise
+//! - `canon_cases`, `builtin_cases`: canonical functions, likewise
 //! - `cut_cases`: sections that end within their items
 //! - `depth_cases`: components and instance types in others
-//! - `answers`, `items`, `types` and `value_types`: answers as texts
+//! - `answers`, `items`, `builtins`, `types` and `value_types`: answers as texts
 //! - `calls`: the calls that the others do not make, and the law
 #![tactic(auto)]
 
 #[cfg(test)]
 mod answers;
+#[cfg(test)]
+mod builtin_cases;
+#[cfg(test)]
+mod builtins;
 #[cfg(test)]
 mod calls;
 #[cfg(test)]

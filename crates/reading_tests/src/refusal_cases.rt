@@ -86,13 +86,13 @@ a result of 64-bit floats | sections | 07 05 01 40 00 00 75 | 14 Float
 a result of functions | sections | 07 05 01 40 00 00 40 | 14 Unsupported(64)
 one named result | sections | 07 05 01 40 00 01 01 | 14 Unsupported(1)
 a canonical function without rules | sections | 08 02 01 1C | 11 Unsupported(28)
-the making of a handle | sections | 08 03 01 02 00 | 11 Unsupported(2)
+a canonical function 07 | sections | 08 03 01 07 00 | 11 Unsupported(7)
 a lift that is not one of a function | sections | 08 03 01 00 01 | 12 Unsupported(1)
 the index of a core function whose fifth byte is too large | sections | 08 08 01 00 00 80 80 80 80 10 | 17 Leb
 a number of options whose fifth byte is too large | sections | 08 09 01 00 00 00 80 80 80 80 10 | 18 Leb
 2^32 - 1 options | sections | 08 09 01 00 00 00 FF FF FF FF 0F | 19 SectionSize
 an option of text in UTF-16 | sections | 08 07 01 00 00 00 01 01 00 | 15 Unsupported(1)
-two options, of which the second says that the lift is async | sections | 08 09 01 00 00 00 02 03 00 06 00 | 17 Unsupported(6)
+two options, of which the second is 08 | sections | 08 09 01 00 00 00 02 03 00 08 00 | 17 Unsupported(8)
 an option that is cut off | sections | 08 05 01 00 00 00 01 00 | 15 SectionSize
 a lift without a type | sections | 08 05 01 00 00 00 00 00 | 15 SectionSize
 the index of a type whose fifth byte is too large | sections | 08 0A 01 00 00 00 00 80 80 80 80 10 | 19 Leb

@@ -34,6 +34,14 @@ pub(crate) fn write_alias(text: &mut String, alias: &Alias) -> Result<(), AllocE
     write_target(text, &alias.target)
 }
 
+/// Writes a type of resources.
+fn write_resource_type(text: &mut String, destructor: Option<u32>) -> Result<(), AllocError> {
+    match destructor {
+        None => text.push_str("resource type"),
+        Some(index) => write!(text, "resource type, destructor {index}"),
+    }
+}
+
 /// Writes the declarations of an instance type.
 #[cycle(types)]
 fn write_decls(text: &mut String, decls: &[InstanceDecl]) -> Result<(), AllocError> {
@@ -51,7 +59,7 @@ pub(crate) fn write_type(text: &mut String, def_type: &DefType) -> Result<(), Al
         DefType::Value(val_type) => write_def_val_type(text, val_type),
         DefType::Func(func_type) => write_func_type(text, func_type),
         DefType::Instance(decls) => write_decls(text, decls.as_slice()),
-        DefType::Resource(_) => text.push_str("resource type"),
+        DefType::Resource(destructor) => write_resource_type(text, *destructor),
     }
 }
 
