@@ -1,4 +1,5 @@
 pub mod Alike
+pub mod Chains
 pub mod Freed
 pub mod Histories
 pub mod Places

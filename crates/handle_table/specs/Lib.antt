@@ -1,7 +1,9 @@
 pub mod Alike
 pub mod Calls
+pub mod Chains
 pub mod History
 pub mod Laws
 pub mod Lends
+pub mod SlotLends
 pub mod Slots
 pub mod Sound

@@ -25,8 +25,7 @@ module _ {E : Type 0} where
     pub all : length s.entries ≡ count_by is_some s.entries + length s.freed
     pub small : length s.entries ≤ most_live
 
-  -- the fields of a table: so many entries are live, and each slot has room among the freed indices
-  pub record IsTable (s : Slots E) (live capacity : ℕ) : Type 0 where
+  -- the slots of a table: so many entries are live
+  pub record IsTable (s : Slots E) (live : ℕ) : Type 0 where
     pub sound : IsSound s
     pub counted : live ≡ count_by is_some s.entries
-    pub room : length s.entries ≤ capacity

@@ -5,12 +5,14 @@
 //! stands for what a call adds to it.
 //!
 //! - `table`: the table
+//! - `slot`: a slot of it
 //! - `refusal`: why an entry is not added
 //! - `laws`: what holds of every history
 #![tactic(auto)]
 
 pub mod laws;
 mod refusal;
+mod slot;
 mod table;
 
 pub use refusal::{AddError, Full};

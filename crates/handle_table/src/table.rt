@@ -2,13 +2,13 @@
 
 ghost use Rattle.std.specs.Prelude.{◌≡◌, ℕ, ◌+◌, ◌<◌, ◌≤◌, List, [], ◌∷◌, Some, None, IsSome, IsTrue, MatchResult, MatchOption, IfOk, OnOk, OnSome, option_copied, is_some, IsOk};
 ghost use Rattle.std.specs.Option.{option_copied_mut};
-ghost use Rattle.std.specs.Option.Follows.{option_follows_value};
 ghost use Rattle.std.specs.Borrow.{sem};
 ghost use Rattle.handle_table.specs.History.{Event, Add, Remove, live, next_index, live_count, most_live};
 ghost use Rattle.handle_table.specs.Slots.{no_slots, entry_at, count, next_of, removed, StandsFor};
 ghost use Rattle.handle_table.specs.Calls.{Added, NotAdded};
 
 use crate::refusal::{AddError, Full};
+use crate::slot::Slot;
 use std::alloc::{AllocError, Global};
 use std::marker::Model;
 use std::mem;
@@ -19,30 +19,28 @@ const MOST_LIVE: u32 = 65_535;
 /// Entries by their indices, from 1 on. An index that was removed is given again, the one removed last first.
 #[derive(Drop)]
 pub struct Table<T> {
-    // The slot of index 1, of index 2, and so on.
-    slots: Vec<Option<T>>,
-    // The indices of empty slots, the one removed last at the end. It has room for those of all slots.
-    freed: Vec<u32>,
+    // The slot of index 1, of index 2, and so on. Each free one holds the index that was removed before its own.
+    slots: Vec<Slot<T>>,
+    // The index that was removed last and not given again. Where no slot is free it is not read.
+    last_freed: u32,
     // How many slots have an entry.
     live: u32,
 }
 
 impl<T> Model for Table<T> {
-    ghost use Rattle.std.specs.Prelude.{◌-◌, min, reverse, vec_capacity};
+    ghost use Rattle.std.specs.Prelude.{◌-◌, vec_capacity};
     ghost use Rattle.handle_table.specs.Slots.{TableState, table_code};
 
     ghost Value = { TableState T };
 
     ghost coded = { table_code T.code };
 
+    ghost use Rattle.handle_table.specs.Chains.{shown};
     ghost use Rattle.handle_table.specs.Sound.{IsTable};
 
-    ghost view = { λ t. record {
-      slots = record { entries = t.slots.items; freed = reverse t.freed.items };
-      spare = min (vec_capacity t.slots) (vec_capacity t.freed) - t.live;
-    } };
+    ghost view = { λ t. record { slots = shown t.slots.items t.last_freed t.live; spare = vec_capacity t.slots - t.live } };
 
-    ghost invariant = { λ t. IsTable (record { entries = t.slots.items; freed = reverse t.freed.items }) t.live (vec_capacity t.freed) };
+    ghost invariant = { λ t. IsTable (shown t.slots.items t.last_freed t.live) t.live };
 }
 
 impl<T: Drop> Table<T> {
@@ -55,7 +53,7 @@ impl<T: Drop> Table<T> {
     {
         Table {
             slots: Vec::new(alloc),
-            freed: Vec::new(alloc),
+            last_freed: 0,
             live: 0,
         }
     }
@@ -77,9 +75,8 @@ impl<T: Drop> Table<T> {
         ensures succeeds { 1 ≤ self.old.spare → IsOk result }
         ensures stands { (h : List (Event T)) → StandsFor h self.old.slots → StandsFor h self.new.slots }
     {
-        if self.freed.is_empty() {
+        if self.live as usize == self.slots.len() {
             self.slots.reserve(1)?;
-            self.freed.reserve(self.slots.len() + 1)?;
         }
         Ok(())
     }
@@ -119,9 +116,10 @@ impl<T: Drop> Table<T> {
         ensures exact { result ≡ next_of self.now.slots }
         ensures stands { (h : List (Event T)) → StandsFor h self.now.slots → result ≡ next_index h }
     {
-        match self.freed.last() {
-            Some(index) => *index,
-            None => self.slots.len() as u32 + 1,
+        if self.live as usize == self.slots.len() {
+            self.live + 1
+        } else {
+            self.last_freed
         }
     }
 
@@ -131,7 +129,7 @@ impl<T: Drop> Table<T> {
         ensures stands { (h : List (Event T)) → StandsFor h self.now.slots → option_copied result ≡ live h index }
     {
         let place = index.checked_sub(1)?;
-        self.slots.get(place as usize)?.as_ref()
+        self.slots.get(place as usize)?.entry()
     }
 
     /// The live entry at an index for writing, if there is one.
@@ -156,10 +154,13 @@ impl<T: Drop> Table<T> {
         if !self.is_live(index) {
             return None;
         }
-        let entry = mem::replace(&mut self.slots[index as usize - 1], None);
-        self.freed.push_reserved(index);
+        let slot = mem::replace(
+            &mut self.slots[index as usize - 1],
+            Slot::Free(self.last_freed),
+        );
+        self.last_freed = index;
         self.live -= 1;
-        entry
+        slot.into_entry()
     }
 
     /// The entry that is live at an index, for writing.
@@ -168,17 +169,14 @@ impl<T: Drop> Table<T> {
         ensures* writes_back { sem 𝓛 (lends_live_entry T.row self.entry index result) }
         ensures value { entry_at self.old.slots index ≡ Some result.now }
     {
-        held(&mut self.slots[index as usize - 1])
+        self.slots[index as usize - 1].entry_mut()
     }
 
     /// Whether an entry is live at an index.
     fn is_live(&self, index: u32) -> bool
         ensures { result ≡ is_some (entry_at self.now.slots index) }
     {
-        match index.checked_sub(1) {
-            Some(place) => matches!(self.slots.get(place as usize), Some(Some(_))),
-            None => false,
-        }
+        matches!(self.get(index), Some(_))
     }
 
     /// Puts an entry into the slot that was removed last, or a new one.
@@ -188,28 +186,16 @@ impl<T: Drop> Table<T> {
         ensures exact { Added self.old entry result self.new }
         ensures limit { (1 ≤ result) × (result ≤ most_live) }
     {
-        self.live += 1;
-        match self.freed.pop() {
-            Some(index) => {
-                self.slots[index as usize - 1] = Some(entry);
-                index
-            }
-            None => {
-                self.slots.push_reserved(Some(entry));
-                self.slots.len() as u32
-            }
+        if self.live as usize == self.slots.len() {
+            self.live += 1;
+            self.slots.push_reserved(Slot::Live(entry));
+            return self.live;
         }
-    }
-}
-
-/// The entry of a slot that has one, for writing.
-fn held<T>(slot: &mut Option<T>) -> &mut T
-    requires { IsSome slot.old }
-    ensures* writes_back { sem 𝓛 (option_follows_value T.row slot.entry result) }
-    ensures value { slot.old ≡ Some result.now }
-{
-    match slot {
-        Some(entry) => entry,
-        None => unreachable!(),
+        let index = self.last_freed;
+        let before = self.slots[index as usize - 1].freed_before();
+        self.slots[index as usize - 1] = Slot::Live(entry);
+        self.last_freed = before;
+        self.live += 1;
+        index
     }
 }

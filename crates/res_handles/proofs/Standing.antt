@@ -15,7 +15,7 @@ use Rattle.res_handles.specs.declared.refusal.Refusal.{Refusal}
 use Rattle.res_handles.specs.declared.refusal.LowerError.{LowerError}
 use Rattle.res_handles.specs.Refusals.{handle_in, own_in, dropped_in}
 use Rattle.res_handles.specs.Calls.{own_handle, borrow_handle, lends_in, view_at, shown, with_lends, relent_by, lent, given_back, NotLowered}
-use Rattle.res_handles.specs.Ends.{idle_end, end_of, EndAnswer}
+use Rattle.res_handles.specs.Ends.{idle_end, end_of, end_in, is_of_by, TellsApart, EndAnswer}
 use Rattle.res_handles.specs.Runs.{Call, LowersOwn, LowersBorrow, LiftsOwn, LiftsBorrow, Drops, EndsLend, AddsOther, RemovesOther, WritesOther, IsOther, ComesOf}
 use Rattle.res_handles.specs.Laws.{OthersComeAndGo}
 use Rattle.res_handles.proofs.Seen.{shown_at, shown_count, shown_removed, shown_entry, shown_added, shown_lent, shown_given_back, comes}
@@ -85,6 +85,26 @@ pub end_answered : {T : Type 0} (is_of_type : Bool) (end_type : Option T) (wante
     → EndAnswer (Some (seen.ReadableEnd x)) end_type wanted (end_of is_of_type x)
 end_answered true end_type wanted x is = inl (is.0 refl, refl)
 end_answered false end_type wanted x is = inr ((λ e. (let no : IsTrue false = is.1 e in cc)), refl)
+
+some_same : {T : Type 0} (a b : T) → Some a ≡ Some b → a ≡ b
+some_same a b e = cc
+
+told_by : (is_of_type wanted : Bool) (x : ReadableEnd) → (IsTrue is_of_type ↔ IsTrue wanted) → end_of is_of_type x ≡ end_of wanted x
+told_by true true x is = refl
+told_by false false x is = refl
+told_by true false x is = (let no : IsTrue false = is.0 refl in cc)
+told_by false true x is = (let no : IsTrue false = is.1 refl in cc)
+
+is_of_told : {T : Type 0} (same : T → T → Bool) → TellsApart same → (end_type : Option T) (wanted : T) → IsTrue (is_of_by same end_type wanted) ↔ (end_type ≡ Some wanted)
+is_of_told same tells None wanted = ((λ (h : IsTrue false). cc), (λ e. cc))
+is_of_told {T} same tells (Some t) wanted =
+    ((λ h. ap (λ (u : T). Some u) ((tells t wanted).0 h)), (λ e. (tells t wanted).1 (some_same t wanted e)))
+
+pub end_told : {T : Type 0} (is_of_type : Bool) (end_type : Option T) (wanted : T) (x : ReadableEnd) → (IsTrue is_of_type ↔ (end_type ≡ Some wanted))
+    → (same : T → T → Bool) → TellsApart same → end_of is_of_type x ≡ end_in (Some (seen.ReadableEnd x)) (is_of_by same end_type wanted)
+end_told is_of_type end_type wanted x is same tells =
+    let told = is_of_told same tells end_type wanted in
+    told_by is_of_type (is_of_by same end_type wanted) x ((λ h. told.1 (is.0 h)), (λ h. is.1 (told.0 h)))
 
 end_found : {T : Type 0} (entry : Option EntryView) (end_type : Option T) (wanted : T) (number : ℕ) → EndAnswer entry end_type wanted (Ok number) → IsOther entry
 end_found None t w n a = cc

@@ -1,11 +1,11 @@
 //! Readable ends that are lifted and lowered.
 
-ghost use Rattle.std.specs.Prelude.{◌≡◌, ◌+◌, ◌≤◌, List, ◌∷◌, MatchResult, OnOk, IfOk};
+ghost use Rattle.std.specs.Prelude.{◌≡◌, ◌+◌, ◌≤◌, Bool, List, ◌∷◌, MatchResult, OnOk, IfOk};
 ghost use Rattle.handle_table.specs.Calls.{Added};
 ghost use Rattle.handle_table.specs.History.{Event, Add, Remove, next_index, most_live};
 ghost use Rattle.handle_table.specs.Slots.{removed, StandsFor};
 ghost use Rattle.res_handles.specs.Calls.{view_at, shown};
-ghost use Rattle.res_handles.specs.Ends.{idle_end, end_type_at, EndAnswer, EndNotLowered};
+ghost use Rattle.res_handles.specs.Ends.{idle_end, end_type_at, end_in, is_of_by, TellsApart, EndAnswer, EndNotLowered};
 ghost use Rattle.res_handles.specs.Runs.{Call, AddsOther, RemovesOther, ComesOf};
 ghost use Rattle.res_handles.specs.declared.entry.EntryView.TheVariants as seen;
 
@@ -29,6 +29,7 @@ pub fn lift_end<E: Entry + Drop>(
     wanted: &E::EndType,
 ) -> Result<u32, Refusal>
     ensures value { EndAnswer (view_at E.view table.old.slots index) (end_type_at E.end_type table.old.slots index) wanted.now result }
+    ensures told { (same : E.EndType → E.EndType → Bool) → TellsApart same → result ≡ end_in (view_at E.view table.old.slots index) (is_of_by same (end_type_at E.end_type table.old.slots index) wanted.now) }
     ensures exact { MatchResult result (λ _. table.new.slots ≡ removed index table.old.slots) (λ _. table.new ≡ table.old) }
     ensures spare { OnOk result (table.old.spare + 1 ≤ table.new.spare) }
     ensures stands { OnOk result ((h : List (Event E)) → StandsFor h table.old.slots → StandsFor (Remove index ∷ h) table.new.slots) }
@@ -65,9 +66,10 @@ pub fn lower_end<E: Entry + Drop>(
 }
 
 /// The number of the idle readable end of a type at an index.
-#[tactic(auto, using(crate::proofs::Standing::end_answered))]
+#[tactic(auto, using(crate::proofs::Standing::end_answered, crate::proofs::Standing::end_told))]
 fn idle<E: Entry + Drop>(table: &Table<E>, index: u32, wanted: &E::EndType) -> Result<u32, Refusal>
-    ensures { EndAnswer (view_at E.view table.now.slots index) (end_type_at E.end_type table.now.slots index) wanted.now result }
+    ensures value { EndAnswer (view_at E.view table.now.slots index) (end_type_at E.end_type table.now.slots index) wanted.now result }
+    ensures told { (same : E.EndType → E.EndType → Bool) → TellsApart same → result ≡ end_in (view_at E.view table.now.slots index) (is_of_by same (end_type_at E.end_type table.now.slots index) wanted.now) }
 {
     match table.get(index) {
         None => Err(Refusal::Absent),

@@ -1,7 +1,10 @@
 //! Tables of handles.
 //!
 //! What is done to an empty table, then what is answered. The entries that are added are 100, 101, and so on; `put:7` adds 7.
-//! `fill` adds 1 to 65535, each at the index of its number.
+//! `fill` adds 1 to 65535, each at the index of its number. `shuffle` adds 1,000 entries to an empty table, removes them in
+//! another order, and adds 1,000 again.
+
+ghost use Rattle.std.specs.Prelude.{◌<◌};
 
 use crate::texts::{number_of, write_behind, write_value};
 use cases::{Acts, Answers, Steps, acted, write_acts};
@@ -59,6 +62,42 @@ fn fill(table: &mut Table<u32>) -> &'static str {
     "ok"
 }
 
+/// The index that is removed after so many others.
+fn shuffled(k: u32) -> u32
+    requires { k < 1000 }
+{
+    7 * k % 1_000 + 1
+}
+
+/// Adds an entry that is to be given this index.
+fn add_at(table: &mut Table<u32>, wanted: u32) -> bool {
+    match table.add(wanted) {
+        Ok(index) => index == wanted,
+        Err(_) => false,
+    }
+}
+
+/// Adds 1,000 entries, removes them in the order `7 k mod 1000 + 1` for k from 0 to 999, and adds 1,000 again, whose indices
+/// are to be those that were removed, the last one first.
+fn shuffle(table: &mut Table<u32>) -> &'static str {
+    for k in 0..1_000u32 {
+        if !add_at(table, k + 1) {
+            return "another index";
+        }
+    }
+    for k in 0..1_000u32 {
+        if table.remove(shuffled(k)) != Some(shuffled(k)) {
+            return "another entry";
+        }
+    }
+    for k in 0..1_000u32 {
+        if !add_at(table, shuffled(999 - k)) {
+            return "another index again";
+        }
+    }
+    "ok"
+}
+
 /// Writes over the entry at an index.
 fn write_over(table: &mut Table<u32>, index: u32) -> &'static str {
     match table.get_mut(index) {
@@ -107,6 +146,7 @@ impl Run {
             "next" => write_value(text, self.table.next()),
             "len" => write_value(text, self.table.len()),
             "fill" => text.push_str(fill(&mut self.table)),
+            "shuffle" => text.push_str(shuffle(&mut self.table)),
             "add" => self.add(text, false),
             "reserved" => self.add(text, true),
             _ => self.act_at(text, name, number_of(rest)),

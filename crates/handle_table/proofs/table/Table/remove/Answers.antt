@@ -1,46 +1,45 @@
-use Rattle.std.proofs.Common.{◌≡◌, true, ◌≤◌, sym, ◌∙◌, arith, reverse, length, vec_capacity, IsSome, is_some}
-use Rattle.std.specs.List.{count_by}
-use Rattle.std.proofs.lemmas.List.Sums.{count_by-le-length}
+use Rattle.std.proofs.Common.{◌≡◌, true, ◌≤◌, sym, ap, ◌∙◌, length, map, IsSome, is_some}
 use Rattle.handle_table.specs.Slots.{entry_at, slot_at}
-use Rattle.handle_table.proofs.Standing.{pushed, live_within, live_counts, removed_table, read_slot, emptied_is, removed_shows, on_some, more_spare}
+use Rattle.handle_table.specs.Chains.{entry_of}
+use Rattle.handle_table.proofs.Chains.{live_place, entry_read, removed_kept, removed_shown, of_some}
+use Rattle.handle_table.proofs.Standing.{removed_shows}
 use Rattle.handle_table.proofs.table.Table.remove.Goals as goal
-
-pub overflow_sub-self : goal.overflow_sub-self
-overflow_sub-self g c =
-    let live : true ≡ is_some (entry_at c.args.self.now.slots c.args.index) = c.if-not-is_live.ensures {u = tt} in
-    let seen : true ≡ is_some (slot_at c.self.inside.slots.items c.args.index) = rw (← c.self.view_is) at live in
-    let full : IsSome (slot_at c.self.inside.slots.items c.args.index) = sym seen in
-    omega (arith, live_counts c.self.inside.slots.items c.args.index full, c.self.invariant.counted)
 
 pub invariant_of-self : goal.invariant_of-self
 invariant_of-self g c =
     let live : true ≡ is_some (entry_at c.args.self.now.slots c.args.index) = c.if-not-is_live.ensures {u = tt} in
-    let seen : true ≡ is_some (slot_at c.self.inside.slots.items c.args.index) = rw (← c.self.view_is) at live in
-    let full : IsSome (slot_at c.self.inside.slots.items c.args.index) = sym seen in
-    rw c.replace-entry.ensures.after
-    (removed_table c.self.inside.slots.items (reverse c.self.inside.freed.items) (reverse c.push_reserved.new.self.items) c.args.index c.self.inside.live (vec_capacity c.self.inside.freed) (vec_capacity c.push_reserved.new.self)
-    full (pushed c.self.inside.freed.items c.push_reserved.new.self.items c.args.index c.push_reserved.ensures.items) c.push_reserved.ensures.capacity c.self.invariant)
+    let seen : true ≡ is_some (slot_at (map entry_of c.self.inside.slots.items) c.args.index) = rw (← c.self.view_is) at live in
+    rw c.replace-slot.ensures.after (removed_kept c.self.inside.slots.items c.self.inside.last_freed c.self.inside.live c.args.index (sym seen) c.self.invariant)
 
-pub returns-clause-spare : goal.returns-clause-spare
-returns-clause-spare g c =
+pub returns-clause-value : goal.returns-clause-value
+returns-clause-value g c =
     let live : true ≡ is_some (entry_at c.args.self.now.slots c.args.index) = c.if-not-is_live.ensures {u = tt} in
-    let seen : true ≡ is_some (slot_at c.self.inside.slots.items c.args.index) = rw (← c.self.view_is) at live in
-    let full : IsSome (slot_at c.self.inside.slots.items c.args.index) = sym seen in
-    on_some c.replace-entry.result _
-    (rw (← c.self.view_is)
-    (more_spare c.self.inside.live (length c.self.inside.slots.items) (vec_capacity c.self.inside.slots) (vec_capacity c.self.inside.freed) (vec_capacity c.push_reserved.new.self) (count_by is_some c.self.inside.slots.items)
-    (live_counts c.self.inside.slots.items c.args.index full) c.self.invariant.counted (count_by-le-length is_some c.self.inside.slots.items) (omega (arith, c.self.inside.slots.ok)) c.self.invariant.room c.push_reserved.ensures.capacity))
+    let seen : true ≡ is_some (slot_at (map entry_of c.self.inside.slots.items) c.args.index) = rw (← c.self.view_is) at live in
+    let within : (1 ≤ c.args.index) × (c.args.index ≤ length c.self.inside.slots.items) = live_place c.self.inside.slots.items c.args.index (sym seen) in
+    rw (← c.self.view_is)
+    (c.into_entry.ensures
+    ∙ ap entry_of c.replace-slot.ensures.value
+    ∙ entry_read c.self.inside.slots.items c.args.index c.index_mut.result.now within.0 within.1 c.index_mut.ensures.value)
+
+pub returns-clause-exact : goal.returns-clause-exact
+returns-clause-exact g c =
+    let live : true ≡ is_some (entry_at c.args.self.now.slots c.args.index) = c.if-not-is_live.ensures {u = tt} in
+    let seen : true ≡ is_some (slot_at (map entry_of c.self.inside.slots.items) c.args.index) = rw (← c.self.view_is) at live in
+    let within : (1 ≤ c.args.index) × (c.args.index ≤ length c.self.inside.slots.items) = live_place c.self.inside.slots.items c.args.index (sym seen) in
+    let value : c.into_entry.result ≡ slot_at (map entry_of c.self.inside.slots.items) c.args.index =
+    c.into_entry.ensures ∙ ap entry_of c.replace-slot.ensures.value ∙ entry_read c.self.inside.slots.items c.args.index c.index_mut.result.now within.0 within.1 c.index_mut.ensures.value in
+    let some : IsSome c.into_entry.result = ap is_some value ∙ sym seen in
+    of_some c.into_entry.result _ _ some
+    (rw (← c.self.view_is, c.replace-slot.ensures.after) (removed_shown c.self.inside.slots.items c.self.inside.last_freed c.self.inside.live c.args.index (sym seen) c.self.invariant))
 
 pub returns-clause-stands : goal.returns-clause-stands
 returns-clause-stands g c =
     let live : true ≡ is_some (entry_at c.args.self.now.slots c.args.index) = c.if-not-is_live.ensures {u = tt} in
-    let seen : true ≡ is_some (slot_at c.self.inside.slots.items c.args.index) = rw (← c.self.view_is) at live in
-    let full : IsSome (slot_at c.self.inside.slots.items c.args.index) = sym seen in
-    let within : (1 ≤ c.args.index) × (c.args.index ≤ length c.self.inside.slots.items) = live_within c.self.inside.slots.items c.args.index full in
-    let read : c.replace-entry.result ≡ slot_at c.self.inside.slots.items c.args.index =
-    c.replace-entry.ensures.value ∙ read_slot c.self.inside.slots.items c.args.index c.index_mut.result.now within c.index_mut.ensures.value in
-    let value : c.replace-entry.result ≡ entry_at c.args.self.now.slots c.args.index = rw (← c.self.view_is) read in
-    let some : IsSome c.replace-entry.result = rw read full in
-    removed_shows c.args.self.now.slots _ c.args.index c.replace-entry.result value some
-    (rw (← c.self.view_is, c.replace-entry.ensures.after)
-    (emptied_is c.self.inside.slots.items (reverse c.self.inside.freed.items) (reverse c.push_reserved.new.self.items) c.args.index within.0 (pushed c.self.inside.freed.items c.push_reserved.new.self.items c.args.index c.push_reserved.ensures.items)))
+    let seen : true ≡ is_some (slot_at (map entry_of c.self.inside.slots.items) c.args.index) = rw (← c.self.view_is) at live in
+    let within : (1 ≤ c.args.index) × (c.args.index ≤ length c.self.inside.slots.items) = live_place c.self.inside.slots.items c.args.index (sym seen) in
+    let read : c.into_entry.result ≡ slot_at (map entry_of c.self.inside.slots.items) c.args.index =
+    c.into_entry.ensures ∙ ap entry_of c.replace-slot.ensures.value ∙ entry_read c.self.inside.slots.items c.args.index c.index_mut.result.now within.0 within.1 c.index_mut.ensures.value in
+    let value : c.into_entry.result ≡ entry_at c.args.self.now.slots c.args.index = rw (← c.self.view_is) read in
+    let some : IsSome c.into_entry.result = ap is_some read ∙ sym seen in
+    removed_shows c.args.self.now.slots _ c.args.index c.into_entry.result value some
+    (rw (← c.self.view_is, c.replace-slot.ensures.after) (removed_shown c.self.inside.slots.items c.self.inside.last_freed c.self.inside.live c.args.index (sym seen) c.self.invariant))
