@@ -22,11 +22,11 @@ use Rattle.value_lower.specs.Lowering.{Lowered, lowered, lower_step, store, stor
 use Rattle.value_lift.specs.Bytes.{number, bytes_at, width_of, is_scalar}
 use Rattle.value_lift.specs.Pieces.{part_in}
 use Rattle.value_lift.specs.Room.{end_behind}
-use Rattle.value_lift.specs.Standing.{Stands, AreBits, AreElements, AreFields, IsPayload, tag, false_stands, true_stands, s8_stands, u8_stands, s16_stands, u16_stands, s32_stands, u32_stands, s64_stands, u64_stands, char_stands, string_stands, list_stands, flags_stand}
+use Rattle.value_lift.specs.Standing.{Stands, AreBits, AreElements, AreFields, IsPayload, tag, false_stands, true_stands, s8_stands, u8_stands, s16_stands, u16_stands, s32_stands, u32_stands, s64_stands, u64_stands, char_stands, own_stands, borrow_stands, stream_stands, future_stands, string_stands, list_stands, flags_stand}
 use Rattle.value_lift.proofs.Equations.{layouts_in, laid_is}
 use Rattle.value_lift.proofs.Forms.{IsRow, HasCases}
 use Rattle.value_lift.proofs.Rooms.{row_room, tagged_is, case_room, tag_bytes, flag_bytes}
-use Rattle.value_lift.proofs.Views.{out_bool, out_s8, out_u8, out_s16, out_u16, out_s32, out_u32, out_s64, out_u64, out_char, out_string, out_flags, out_list}
+use Rattle.value_lift.proofs.Views.{out_bool, out_s8, out_u8, out_s16, out_u16, out_s32, out_u32, out_s64, out_u64, out_char, out_own, out_borrow, out_stream, out_future, out_string, out_flags, out_list}
 use Rattle.canonical_machine.proofs.Going.{Goes, goes_put, goes_more, goes_on, goes_as}
 use Rattle.canonical_machine.proofs.Asking.{Placed, goes_asked}
 use Rattle.canonical_machine.proofs.Numbers.{IsRead, read_8, read_16, read_32, read_64, case_below, flags_below, are_bits, unsigned_below, signed_back, goes_number, goes_short, goes_pointed}
@@ -101,6 +101,27 @@ pub char_sound : (c : ℕ) → c < 2 ^ 32 → IsTrue (is_scalar c) → Sound lea
 char_sound c low f =
     leaf leaves.Char (plain.Char c) w32 c (λ place k. stored_by (plain.Char c) (V.Char c) leaves.Char place k (plain.rolls-Char c)) (read_32 c low) (size_of leaves.Char F.Char out_char)
     (λ place m h. subst (λ (i : ℕ). Stands m place leaves.Char (plain.Char i)) h (char_stands place (subst (λ (i : ℕ). IsTrue (is_scalar i)) (sym h) f)))
+
+-- Handles and ends, which are told by a number.
+pub own_sound : (resource n : ℕ) → n < 2 ^ 32 → Sound (leaves.Own resource) (plain.Own (record { resource = resource; rep = n }))
+own_sound resource n f =
+    leaf (leaves.Own resource) (plain.Own (record { resource = resource; rep = n })) w32 n (λ place k. stored_by (plain.Own (record { resource = resource; rep = n })) (V.Own (record { resource = resource; rep = n })) (leaves.Own resource) place k (plain.rolls-Own (record { resource = resource; rep = n }))) (read_32 n f) (size_of (leaves.Own resource) (F.Own resource) (out_own resource))
+    (λ place m h. subst (λ (i : ℕ). Stands m place (leaves.Own resource) (plain.Own (record { resource = resource; rep = i }))) h (own_stands place resource))
+
+pub borrow_sound : (resource n : ℕ) → n < 2 ^ 32 → Sound (leaves.Borrow resource) (plain.Borrow (record { resource = resource; rep = n }))
+borrow_sound resource n f =
+    leaf (leaves.Borrow resource) (plain.Borrow (record { resource = resource; rep = n })) w32 n (λ place k. stored_by (plain.Borrow (record { resource = resource; rep = n })) (V.Borrow (record { resource = resource; rep = n })) (leaves.Borrow resource) place k (plain.rolls-Borrow (record { resource = resource; rep = n }))) (read_32 n f) (size_of (leaves.Borrow resource) (F.Borrow resource) (out_borrow resource))
+    (λ place m h. subst (λ (i : ℕ). Stands m place (leaves.Borrow resource) (plain.Borrow (record { resource = resource; rep = i }))) h (borrow_stands place resource))
+
+pub stream_sound : (element : Option ValType) (n : ℕ) → n < 2 ^ 32 → Sound (types.Stream element) (plain.Stream n)
+stream_sound element n f =
+    leaf (types.Stream element) (plain.Stream n) w32 n (λ place k. stored_by (plain.Stream n) (V.Stream n) (types.Stream element) place k (plain.rolls-Stream n)) (read_32 n f) (size_of (types.Stream element) (F.Stream element) (out_stream element))
+    (λ place m h. subst (λ (i : ℕ). Stands m place (types.Stream element) (plain.Stream i)) h (stream_stands place element))
+
+pub future_sound : (element : Option ValType) (n : ℕ) → n < 2 ^ 32 → Sound (types.Future element) (plain.Future n)
+future_sound element n f =
+    leaf (types.Future element) (plain.Future n) w32 n (λ place k. stored_by (plain.Future n) (V.Future n) (types.Future element) place k (plain.rolls-Future n)) (read_32 n f) (size_of (types.Future element) (F.Future element) (out_future element))
+    (λ place m h. subst (λ (i : ℕ). Stands m place (types.Future element) (plain.Future i)) h (future_stands place element))
 
 -- Flags.
 pub flags_sound : (labels : List (List ℕ)) (flags : List Bool) → length flags ≡ length labels → bits_of flags < 2 ^ 32 → Sound (leaves.Flags labels) (plain.Flags flags)

@@ -13,6 +13,7 @@ use Rattle.ca_types.specs.declared.types.ValType.TheViews as types
 use Rattle.ca_types.specs.declared.types.ValType.TheViews.{roll-out-ValType}
 use Rattle.ca_types.specs.declared.types.ValType.TheVariants as leaves
 use Rattle.ca_types.specs.declared.types.ValType.TheFolds.{map-ValType}
+use Rattle.ca_types.specs.declared.value.Handle.{Handle}
 use Rattle.ca_types.specs.declared.value.Value.{Value, out-Value}
 use Rattle.ca_types.specs.declared.value.Value.TheOpen as V
 use Rattle.ca_types.specs.declared.value.Value.TheViews as values
@@ -24,7 +25,7 @@ use Rattle.value_lower.specs.Lowering.{bits_of}
 use Rattle.value_lift.specs.Bytes.{is_scalar}
 use Rattle.value_lift.proofs.Layers.{by_layer}
 use Rattle.canonical_machine.specs.ValueLaws.{FittingValuesAre}
-use Rattle.canonical_machine.specs.Values.{InRange, AllInRange, bool_in, s8_in, u8_in, s16_in, u16_in, s32_in, u32_in, s64_in, u64_in, char_in, string_in, list_in, record_in, flags_in, case_in, payload_in, none_in, more_in, IsOf, AllAre, EachIs, PayloadIs, bool_is, s8_is, u8_is, s16_is, u16_is, s32_is, u32_is, s64_is, u64_is, char_is, string_is, list_is, record_is, tuple_is, flags_are, case_is, enum_is, none_is, some_is, ok_is, err_is, none_are, more_are, no_types, more_types, no_payload_is, payload_is}
+use Rattle.canonical_machine.specs.Values.{InRange, AllInRange, bool_in, s8_in, u8_in, s16_in, u16_in, s32_in, u32_in, s64_in, u64_in, char_in, own_in, borrow_in, stream_in, future_in, string_in, list_in, record_in, flags_in, case_in, payload_in, none_in, more_in, IsOf, AllAre, EachIs, PayloadIs, bool_is, s8_is, u8_is, s16_is, u16_is, s32_is, u32_is, s64_is, u64_is, char_is, own_is, borrow_is, stream_is, future_is, string_is, list_is, record_is, tuple_is, flags_are, case_is, enum_is, none_is, some_is, ok_is, err_is, none_are, more_are, no_types, more_types, no_payload_is, payload_is}
 use Rattle.canonical_machine.proofs.Asking.{both_true}
 
 -- The test of a type by its outer layer and that of the value.
@@ -131,6 +132,18 @@ out_u64 n = search (rules, the_lemmas)
 pub out_char : (n : ℕ) → out-Value (plain.Char n) ≡ V.Char n
 out_char n = search (rules, the_lemmas)
 
+pub out_own : (handle : Handle) → out-Value (plain.Own handle) ≡ V.Own handle
+out_own handle = search (rules, the_lemmas)
+
+pub out_borrow : (handle : Handle) → out-Value (plain.Borrow handle) ≡ V.Borrow handle
+out_borrow handle = search (rules, the_lemmas)
+
+pub out_stream : (n : ℕ) → out-Value (plain.Stream n) ≡ V.Stream n
+out_stream n = search (rules, the_lemmas)
+
+pub out_future : (n : ℕ) → out-Value (plain.Future n) ≡ V.Future n
+out_future n = search (rules, the_lemmas)
+
 pub out_string : (s : List ℕ) → out-Value (plain.String s) ≡ V.String s
 out_string s = search (rules, the_lemmas)
 
@@ -185,6 +198,26 @@ u64_of n f other h = cc
 char_of : (c : ℕ) → IsTrue (is_scalar c) → (y : Layer) → passes (tests_in y) (V.Char c) ≡ true → IsOf (roll-ValType y) (plain.Char c)
 char_of c f F.Char h = at _ leaves.Char _ leaves.rolls-Char (char_is c f)
 char_of c f other h = cc
+
+own_of : (handle : Handle) → handle.rep < 2 ^ 32 → (y : Layer) → passes (tests_in y) (V.Own handle) ≡ true → IsOf (roll-ValType y) (plain.Own handle)
+own_of handle f (F.Own resource) h =
+    at _ (leaves.Own resource) _ (leaves.rolls-Own resource)
+    (subst (λ (r : ℕ). IsOf (leaves.Own r) (plain.Own handle)) (eqb-true handle.resource resource h) (own_is handle.resource handle.rep f))
+own_of handle f other h = cc
+
+borrow_of : (handle : Handle) → handle.rep < 2 ^ 32 → (y : Layer) → passes (tests_in y) (V.Borrow handle) ≡ true → IsOf (roll-ValType y) (plain.Borrow handle)
+borrow_of handle f (F.Borrow resource) h =
+    at _ (leaves.Borrow resource) _ (leaves.rolls-Borrow resource)
+    (subst (λ (r : ℕ). IsOf (leaves.Borrow r) (plain.Borrow handle)) (eqb-true handle.resource resource h) (borrow_is handle.resource handle.rep f))
+borrow_of handle f other h = cc
+
+stream_of : (n : ℕ) → n < 2 ^ 32 → (y : Layer) → passes (tests_in y) (V.Stream n) ≡ true → IsOf (roll-ValType y) (plain.Stream n)
+stream_of n f (F.Stream element) h = at _ (types.Stream element) _ (leaves.rolls-Stream element) (stream_is element n f)
+stream_of n f other h = cc
+
+future_of : (n : ℕ) → n < 2 ^ 32 → (y : Layer) → passes (tests_in y) (V.Future n) ≡ true → IsOf (roll-ValType y) (plain.Future n)
+future_of n f (F.Future element) h = at _ (types.Future element) _ (leaves.rolls-Future element) (future_is element n f)
+future_of n f other h = cc
 
 string_of : (s : List ℕ) → IsUtf8 s → (y : Layer) → passes (tests_in y) (V.String s) ≡ true → IsOf (roll-ValType y) (plain.String s)
 string_of s f F.String h = at _ leaves.String _ leaves.rolls-String (string_is s f)
@@ -312,6 +345,10 @@ mutual
   fitted (s64_in n f) t h = by_layers (plain.S64 n) (V.S64 n) t (out_s64 n) h (s64_of n f)
   fitted (u64_in n f) t h = by_layers (plain.U64 n) (V.U64 n) t (out_u64 n) h (u64_of n f)
   fitted (char_in c f) t h = by_layers (plain.Char c) (V.Char c) t (out_char c) h (char_of c f)
+  fitted (own_in handle f) t h = by_layers (plain.Own handle) (V.Own handle) t (out_own handle) h (own_of handle f)
+  fitted (borrow_in handle f) t h = by_layers (plain.Borrow handle) (V.Borrow handle) t (out_borrow handle) h (borrow_of handle f)
+  fitted (stream_in n f) t h = by_layers (plain.Stream n) (V.Stream n) t (out_stream n) h (stream_of n f)
+  fitted (future_in n f) t h = by_layers (plain.Future n) (V.Future n) t (out_future n) h (future_of n f)
   fitted (string_in s f) t h = by_layers (plain.String s) (V.String s) t (out_string s) h (string_of s f)
   fitted (list_in all are) t h = by_layers (values.List all) (V.List all) t (out_list all) h (list_of all (all_fitted are))
   fitted (record_in all are) t h = by_layers (values.Record all) (V.Record all) t (out_record all) h (record_of all (each_fitted are))

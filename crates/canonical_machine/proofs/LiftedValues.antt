@@ -23,18 +23,18 @@ use Rattle.value_lift.specs.Answers.{Lifted, value_of}
 use Rattle.value_lift.specs.Bytes.{number, bytes_at, width_of}
 use Rattle.value_lift.specs.Lifting.{lift_words, most}
 use Rattle.value_lift.specs.Pieces.{part_in}
-use Rattle.value_lift.specs.Standing.{AreBits, tag, Stands, AreElements, AreFields, IsPayload, false_stands, true_stands, s8_stands, u8_stands, s16_stands, u16_stands, s32_stands, u32_stands, s64_stands, u64_stands, char_stands, string_stands, list_stands, record_stands, tuple_stands, flags_stand, case_stands, enum_stands, none_stands, some_stands, ok_stands, err_stands, no_elements, more_elements, no_fields, more_fields, no_payload, payload_stands}
-use Rattle.value_lift.specs.WordStanding.{AreWords, wrapped, FlatOf, AreFlat, IsFlatPayload, false_flat, true_flat, s8_flat, u8_flat, s16_flat, u16_flat, s32_flat, u32_flat, s64_flat, u64_flat, char_flat, string_flat, list_flat, record_flat, tuple_flat, flags_flat, case_flat, enum_flat, none_flat, some_flat, ok_flat, err_flat, no_flat, more_flat, no_flat_payload, flat_payload_of}
+use Rattle.value_lift.specs.Standing.{AreBits, tag, Stands, AreElements, AreFields, IsPayload, false_stands, true_stands, s8_stands, u8_stands, s16_stands, u16_stands, s32_stands, u32_stands, s64_stands, u64_stands, char_stands, own_stands, borrow_stands, stream_stands, future_stands, string_stands, list_stands, record_stands, tuple_stands, flags_stand, case_stands, enum_stands, none_stands, some_stands, ok_stands, err_stands, no_elements, more_elements, no_fields, more_fields, no_payload, payload_stands}
+use Rattle.value_lift.specs.WordStanding.{AreWords, wrapped, FlatOf, AreFlat, IsFlatPayload, false_flat, true_flat, s8_flat, u8_flat, s16_flat, u16_flat, s32_flat, u32_flat, s64_flat, u64_flat, char_flat, own_flat, borrow_flat, stream_flat, future_flat, string_flat, list_flat, record_flat, tuple_flat, flags_flat, case_flat, enum_flat, none_flat, some_flat, ok_flat, err_flat, no_flat, more_flat, no_flat_payload, flat_payload_of}
 use Rattle.value_lift.proofs.Forms.{HasCases}
 use Rattle.value_lift.proofs.Loaded.{loaded_values_stand, loaded_lists_stand}
 use Rattle.value_lift.proofs.Passing.{ok_same}
 use Rattle.value_lift.proofs.Stood.{case_part}
-use Rattle.value_lift.proofs.Views.{out_s32, out_u32, out_s64, out_u64, out_flags, out_variant, out_enum, out_option, out_result}
-use Rattle.value_lift.proofs.WordStood.{flat_of_record, flat_of_tuple}
+use Rattle.value_lift.proofs.Views.{out_s32, out_u32, out_s64, out_u64, out_own, out_borrow, out_flags, out_variant, out_enum, out_option, out_result}
+use Rattle.value_lift.proofs.WordStood.{flat_of_record, flat_of_tuple, flat_of_stream, flat_of_future}
 use Rattle.value_lift.proofs.WordTypes.{word_told_type}
 use Rattle.value_lift.proofs.Wrapped.{Shares, shares, words_many, below_length}
 use Rattle.canonical_machine.specs.LiftedValues.{StandingValuesAre, StandingListsAre, FlattenedValuesAre, LoadedValuesAre, LoadedListsAre, LiftedValuesAre}
-use Rattle.canonical_machine.specs.Values.{IsOf, AllAre, EachIs, PayloadIs, bool_is, s8_is, u8_is, s16_is, u16_is, s32_is, u32_is, s64_is, u64_is, char_is, string_is, list_is, record_is, tuple_is, flags_are, case_is, enum_is, none_is, some_is, ok_is, err_is, none_are, more_are, no_types, more_types, no_payload_is, payload_is}
+use Rattle.canonical_machine.specs.Values.{IsOf, AllAre, EachIs, PayloadIs, bool_is, s8_is, u8_is, s16_is, u16_is, s32_is, u32_is, s64_is, u64_is, char_is, own_is, borrow_is, stream_is, future_is, string_is, list_is, record_is, tuple_is, flags_are, case_is, enum_is, none_is, some_is, ok_is, err_is, none_are, more_are, no_types, more_types, no_payload_is, payload_is}
 use Rattle.canonical_machine.proofs.Bytes.{each_byte}
 use Rattle.canonical_machine.proofs.Memories.{byte_of}
 use Rattle.canonical_machine.proofs.WordsByKind.{types_of}
@@ -120,6 +120,10 @@ mutual
   standing {memory = m} (s64_stands place) bytes = s64_is (cast_signed w64 (number w64 place m)) (signed w64 (number w64 place m) (number_64 m bytes place))
   standing {memory = m} (u64_stands place) bytes = u64_is (number w64 place m) (number_64 m bytes place)
   standing {memory = m} (char_stands place h) bytes = char_is (number w32 place m) h
+  standing {memory = m} (own_stands place resource) bytes = own_is resource (number w32 place m) (number_32 m bytes place)
+  standing {memory = m} (borrow_stands place resource) bytes = borrow_is resource (number w32 place m) (number_32 m bytes place)
+  standing {memory = m} (stream_stands place element) bytes = stream_is element (number w32 place m) (number_32 m bytes place)
+  standing {memory = m} (future_stands place element) bytes = future_is element (number w32 place m) (number_32 m bytes place)
   standing {memory = m} (string_stands place at count e f inside utf8) bytes = string_is (bytes_at at count m) utf8
   standing (list_stands place at element all e f aligned inside are) bytes = list_is element all (elements_standing are bytes)
   standing (record_stands place fields all are) bytes = record_is fields all (fields_standing are bytes)
@@ -205,6 +209,10 @@ mutual
   flat_standing (s64_flat w) bytes a = s64_is (cast_signed w64 w) (signed w64 w (first_64 (flat leaves.S64) [] w [] (types_of leaves.S64 F.S64 out_s64) a))
   flat_standing (u64_flat w) bytes a = u64_is w (first_64 (flat leaves.U64) [] w [] (types_of leaves.U64 F.U64 out_u64) a)
   flat_standing (char_flat w h) bytes a = char_is w h
+  flat_standing (own_flat resource w) bytes a = own_is resource w (first_32 (flat (leaves.Own resource)) [] w [] (types_of (leaves.Own resource) (F.Own resource) (out_own resource)) a)
+  flat_standing (borrow_flat resource w) bytes a = borrow_is resource w (first_32 (flat (leaves.Borrow resource)) [] w [] (types_of (leaves.Borrow resource) (F.Borrow resource) (out_borrow resource)) a)
+  flat_standing (stream_flat element w) bytes a = stream_is element w (first_32 (flat (types.Stream element)) [] w [] (flat_of_stream element) a)
+  flat_standing (future_flat element w) bytes a = future_is element w (first_32 (flat (types.Future element)) [] w [] (flat_of_future element) a)
   flat_standing {memory = m} (string_flat at count inside utf8) bytes a = string_is (bytes_at at count m) utf8
   flat_standing (list_flat at element all aligned inside are) bytes a = list_is element all (elements_standing are bytes)
   flat_standing (record_flat fields all words are) bytes a = record_is fields all (row_standing are bytes (subst (λ (ts : List CoreType). AreWords ts words) (flat_of_record fields) a))

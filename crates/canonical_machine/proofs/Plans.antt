@@ -32,8 +32,8 @@ use Rattle.value_lift.proofs.Equations.{layouts_in, laid_is}
 use Rattle.value_lift.proofs.Forms.{IsRow, HasCases}
 use Rattle.value_lift.proofs.Rooms.{row_room, end_up, tagged_is, case_room, tag_bytes, flag_bytes}
 use Rattle.value_lift.proofs.Stood.{parts_of_record, parts_of_tuple, case_part}
-use Rattle.value_lift.proofs.Views.{out_bool, out_s8, out_u8, out_s16, out_u16, out_s32, out_u32, out_s64, out_u64, out_char, out_string, out_flags, out_list, out_record, out_tuple, out_variant, out_enum, out_option, out_result}
-use Rattle.canonical_machine.specs.Values.{IsOf, AllAre, EachIs, PayloadIs, bool_is, s8_is, u8_is, s16_is, u16_is, s32_is, u32_is, s64_is, u64_is, char_is, string_is, list_is, record_is, tuple_is, flags_are, case_is, enum_is, none_is, some_is, ok_is, err_is, none_are, more_are, no_types, more_types, no_payload_is, payload_is}
+use Rattle.value_lift.proofs.Views.{out_bool, out_s8, out_u8, out_s16, out_u16, out_s32, out_u32, out_s64, out_u64, out_char, out_own, out_borrow, out_stream, out_future, out_string, out_flags, out_list, out_record, out_tuple, out_variant, out_enum, out_option, out_result}
+use Rattle.canonical_machine.specs.Values.{IsOf, AllAre, EachIs, PayloadIs, bool_is, s8_is, u8_is, s16_is, u16_is, s32_is, u32_is, s64_is, u64_is, char_is, own_is, borrow_is, stream_is, future_is, string_is, list_is, record_is, tuple_is, flags_are, case_is, enum_is, none_is, some_is, ok_is, err_is, none_are, more_are, no_types, more_types, no_payload_is, payload_is}
 use Rattle.canonical_machine.proofs.ByKind.{stored_by, lowered_payload}
 use Rattle.canonical_machine.proofs.WordsByKind.{words_by, list_words, row_words, case_plan}
 use Rattle.canonical_machine.specs.Sound.{AreBytes}
@@ -329,6 +329,10 @@ module _ (A : Type 0) where
     stored_fits (s64_is n f) = leaf leaves.S64 (plain.S64 n) w64 (cast_unsigned w64 n) (λ place k. stored_by (plain.S64 n) (V.S64 n) leaves.S64 place k (plain.rolls-S64 n)) (size_of leaves.S64 F.S64 out_s64)
     stored_fits (u64_is n f) = leaf leaves.U64 (plain.U64 n) w64 n (λ place k. stored_by (plain.U64 n) (V.U64 n) leaves.U64 place k (plain.rolls-U64 n)) (size_of leaves.U64 F.U64 out_u64)
     stored_fits (char_is c f) = leaf leaves.Char (plain.Char c) w32 c (λ place k. stored_by (plain.Char c) (V.Char c) leaves.Char place k (plain.rolls-Char c)) (size_of leaves.Char F.Char out_char)
+    stored_fits (own_is resource n f) = leaf (leaves.Own resource) (plain.Own (record { resource = resource; rep = n })) w32 n (λ place k. stored_by (plain.Own (record { resource = resource; rep = n })) (V.Own (record { resource = resource; rep = n })) (leaves.Own resource) place k (plain.rolls-Own (record { resource = resource; rep = n }))) (size_of (leaves.Own resource) (F.Own resource) (out_own resource))
+    stored_fits (borrow_is resource n f) = leaf (leaves.Borrow resource) (plain.Borrow (record { resource = resource; rep = n })) w32 n (λ place k. stored_by (plain.Borrow (record { resource = resource; rep = n })) (V.Borrow (record { resource = resource; rep = n })) (leaves.Borrow resource) place k (plain.rolls-Borrow (record { resource = resource; rep = n }))) (size_of (leaves.Borrow resource) (F.Borrow resource) (out_borrow resource))
+    stored_fits (stream_is element n f) = leaf (types.Stream element) (plain.Stream n) w32 n (λ place k. stored_by (plain.Stream n) (V.Stream n) (types.Stream element) place k (plain.rolls-Stream n)) (size_of (types.Stream element) (F.Stream element) (out_stream element))
+    stored_fits (future_is element n f) = leaf (types.Future element) (plain.Future n) w32 n (λ place k. stored_by (plain.Future n) (V.Future n) (types.Future element) place k (plain.rolls-Future n)) (size_of (types.Future element) (F.Future element) (out_future element))
     stored_fits (string_is text f) = string_stored text f
     stored_fits (list_is element all are) = list_stored element all (elements_fit are)
     stored_fits (record_is fields all are) = row_stored (types.Record fields) (F.Record fields) (map (λ (f : Field). f.val_type) fields) all (out_record fields) tt (parts_of_record fields) (fields_fit are)
@@ -418,6 +422,10 @@ module _ (A : Type 0) where
     flat_words_fit (s64_is n f) = one leaves.S64 (plain.S64 n) (cast_unsigned w64 n) (λ before K. words_by (plain.S64 n) (V.S64 n) leaves.S64 before K (plain.rolls-S64 n))
     flat_words_fit (u64_is n f) = one leaves.U64 (plain.U64 n) n (λ before K. words_by (plain.U64 n) (V.U64 n) leaves.U64 before K (plain.rolls-U64 n))
     flat_words_fit (char_is c f) = one leaves.Char (plain.Char c) c (λ before K. words_by (plain.Char c) (V.Char c) leaves.Char before K (plain.rolls-Char c))
+    flat_words_fit (own_is resource n f) = one (leaves.Own resource) (plain.Own (record { resource = resource; rep = n })) n (λ before K. words_by (plain.Own (record { resource = resource; rep = n })) (V.Own (record { resource = resource; rep = n })) (leaves.Own resource) before K (plain.rolls-Own (record { resource = resource; rep = n })))
+    flat_words_fit (borrow_is resource n f) = one (leaves.Borrow resource) (plain.Borrow (record { resource = resource; rep = n })) n (λ before K. words_by (plain.Borrow (record { resource = resource; rep = n })) (V.Borrow (record { resource = resource; rep = n })) (leaves.Borrow resource) before K (plain.rolls-Borrow (record { resource = resource; rep = n })))
+    flat_words_fit (stream_is element n f) = one (types.Stream element) (plain.Stream n) n (λ before K. words_by (plain.Stream n) (V.Stream n) (types.Stream element) before K (plain.rolls-Stream n))
+    flat_words_fit (future_is element n f) = one (types.Future element) (plain.Future n) n (λ before K. words_by (plain.Future n) (V.Future n) (types.Future element) before K (plain.rolls-Future n))
     flat_words_fit (string_is text f) = string_flat text f
     flat_words_fit (list_is element all are) = list_flat element all (elements_fit are)
     flat_words_fit (record_is fields all are) = row_flat (types.Record fields) (F.Record fields) (map (λ (f : Field). f.val_type) fields) all (out_record fields) tt (parts_of_record fields) (row_fits are)

@@ -15,8 +15,8 @@ use Rattle.ca_types.specs.Fits.{Test, fits, test_of, each_passes, all_pass, payl
 use Rattle.ca_types.proofs.Folds.{held}
 use Rattle.value_lift.proofs.Views as seen
 use Rattle.canonical_machine.specs.LiftedValues.{ValuesOfTypesFit, ValuesOfTypesAreInRange}
-use Rattle.canonical_machine.specs.Values.{InRange, AllInRange, bool_in, s8_in, u8_in, s16_in, u16_in, s32_in, u32_in, s64_in, u64_in, char_in, string_in, list_in, record_in, flags_in, case_in, payload_in, none_in, more_in, IsOf, AllAre, EachIs, PayloadIs, bool_is, s8_is, u8_is, s16_is, u16_is, s32_is, u32_is, s64_is, u64_is, char_is, string_is, list_is, record_is, tuple_is, flags_are, case_is, enum_is, none_is, some_is, ok_is, err_is, none_are, more_are, no_types, more_types, no_payload_is, payload_is}
-use Rattle.canonical_machine.proofs.Fitted.{Layer, tests_in, passes, fits_is, field_tests, out_bool, out_s8, out_u8, out_s16, out_u16, out_s32, out_u32, out_s64, out_u64, out_char, out_string, out_flags, out_list, out_record, out_variant}
+use Rattle.canonical_machine.specs.Values.{InRange, AllInRange, bool_in, s8_in, u8_in, s16_in, u16_in, s32_in, u32_in, s64_in, u64_in, char_in, own_in, borrow_in, stream_in, future_in, string_in, list_in, record_in, flags_in, case_in, payload_in, none_in, more_in, IsOf, AllAre, EachIs, PayloadIs, bool_is, s8_is, u8_is, s16_is, u16_is, s32_is, u32_is, s64_is, u64_is, char_is, own_is, borrow_is, stream_is, future_is, string_is, list_is, record_is, tuple_is, flags_are, case_is, enum_is, none_is, some_is, ok_is, err_is, none_are, more_are, no_types, more_types, no_payload_is, payload_is}
+use Rattle.canonical_machine.proofs.Fitted.{Layer, tests_in, passes, fits_is, field_tests, out_bool, out_s8, out_u8, out_s16, out_u16, out_s32, out_u32, out_s64, out_u64, out_char, out_own, out_borrow, out_stream, out_future, out_string, out_flags, out_list, out_record, out_variant}
 
 -- in its ranges
 mutual
@@ -31,6 +31,10 @@ mutual
   ranged (s64_is n f) = s64_in n f
   ranged (u64_is n f) = u64_in n f
   ranged (char_is c f) = char_in c f
+  ranged (own_is resource n f) = own_in (record { resource = resource; rep = n }) f
+  ranged (borrow_is resource n f) = borrow_in (record { resource = resource; rep = n }) f
+  ranged (stream_is element n f) = stream_in n f
+  ranged (future_is element n f) = future_in n f
   ranged (string_is text f) = string_in text f
   ranged (list_is element all are) = list_in all (all_ranged are)
   ranged (record_is fields all are) = record_in all (each_ranged are)
@@ -90,6 +94,10 @@ mutual
   fit (s64_is n f) = fit_by leaves.S64 (plain.S64 n) F.S64 (V.S64 n) seen.out_s64 (out_s64 n) refl
   fit (u64_is n f) = fit_by leaves.U64 (plain.U64 n) F.U64 (V.U64 n) seen.out_u64 (out_u64 n) refl
   fit (char_is c f) = fit_by leaves.Char (plain.Char c) F.Char (V.Char c) seen.out_char (out_char c) refl
+  fit (own_is resource n f) = fit_by (leaves.Own resource) (plain.Own (record { resource = resource; rep = n })) (F.Own resource) (V.Own (record { resource = resource; rep = n })) (seen.out_own resource) (out_own (record { resource = resource; rep = n })) (eq-eqb resource resource refl)
+  fit (borrow_is resource n f) = fit_by (leaves.Borrow resource) (plain.Borrow (record { resource = resource; rep = n })) (F.Borrow resource) (V.Borrow (record { resource = resource; rep = n })) (seen.out_borrow resource) (out_borrow (record { resource = resource; rep = n })) (eq-eqb resource resource refl)
+  fit (stream_is element n f) = fit_by (types.Stream element) (plain.Stream n) (F.Stream element) (V.Stream n) (seen.out_stream element) (out_stream n) refl
+  fit (future_is element n f) = fit_by (types.Future element) (plain.Future n) (F.Future element) (V.Future n) (seen.out_future element) (out_future n) refl
   fit (string_is text f) = fit_by leaves.String (plain.String text) F.String (V.String text) seen.out_string (out_string text) refl
   fit (list_is element all are) = fit_by (types.List element) (values.List all) (F.List element) (V.List all) (seen.out_list element) (out_list all) (all_fit are)
   fit (record_is fields all are) =

@@ -14,10 +14,10 @@ use Rattle.value_lift.proofs.Forms.{IsRow}
 use Rattle.value_lift.proofs.Rooms.{end_up}
 use Rattle.value_lift.proofs.Stood.{parts_of_record, parts_of_tuple, case_within, case_part}
 use Rattle.value_lift.proofs.Views.{out_record, out_tuple, out_variant, out_enum, out_option, out_result}
-use Rattle.canonical_machine.specs.Values.{IsOf, AllAre, EachIs, PayloadIs, bool_is, s8_is, u8_is, s16_is, u16_is, s32_is, u32_is, s64_is, u64_is, char_is, string_is, list_is, record_is, tuple_is, flags_are, case_is, enum_is, none_is, some_is, ok_is, err_is, none_are, more_are, no_types, more_types, no_payload_is, payload_is}
+use Rattle.canonical_machine.specs.Values.{IsOf, AllAre, EachIs, PayloadIs, bool_is, s8_is, u8_is, s16_is, u16_is, s32_is, u32_is, s64_is, u64_is, char_is, own_is, borrow_is, stream_is, future_is, string_is, list_is, record_is, tuple_is, flags_are, case_is, enum_is, none_is, some_is, ok_is, err_is, none_are, more_are, no_types, more_types, no_payload_is, payload_is}
 use Rattle.canonical_machine.proofs.Going.{Goes, goes_more, goes_on, goes_nowhere}
 use Rattle.canonical_machine.proofs.Numbers.{scalar_low}
-use Rattle.canonical_machine.proofs.ByKind.{Sound, PayloadGoes, bool_sound, s8_sound, u8_sound, s16_sound, u16_sound, s32_sound, u32_sound, s64_sound, u64_sound, char_sound, string_sound, list_sound, row_sound, flags_sound, case_sound_in}
+use Rattle.canonical_machine.proofs.ByKind.{Sound, PayloadGoes, bool_sound, s8_sound, u8_sound, s16_sound, u16_sound, s32_sound, u32_sound, s64_sound, u64_sound, char_sound, own_sound, borrow_sound, stream_sound, future_sound, string_sound, list_sound, row_sound, flags_sound, case_sound_in}
 
 -- values one after the other
 no_elements_go : (element : ValType) (at : ℕ) → Goes (elements_from element at []) at (0 * (laid element).size) (λ m. AreElements m at element [])
@@ -91,6 +91,10 @@ mutual
   sound (s64_is n f) = s64_sound n f
   sound (u64_is n f) = u64_sound n f
   sound (char_is c f) = char_sound c (scalar_low c f) f
+  sound (own_is resource n f) = own_sound resource n f
+  sound (borrow_is resource n f) = borrow_sound resource n f
+  sound (stream_is element n f) = stream_sound element n f
+  sound (future_is element n f) = future_sound element n f
   sound (string_is text f) = string_sound text f
   sound (list_is element all are) = list_sound element all (elements_go are)
   sound (record_is fields all are) =

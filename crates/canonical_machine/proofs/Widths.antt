@@ -25,11 +25,11 @@ use Rattle.value_lift.specs.Pieces.{part_in}
 use Rattle.value_lift.specs.WordStanding.{AreWords}
 use Rattle.value_lift.proofs.Forms.{HasCases}
 use Rattle.value_lift.proofs.Stood.{parts_of_record, parts_of_tuple, case_part}
-use Rattle.value_lift.proofs.Views.{out_bool, out_s8, out_u8, out_s16, out_u16, out_s32, out_u32, out_s64, out_u64, out_char, out_string, out_flags, out_list, out_variant, out_enum, out_option, out_result}
-use Rattle.value_lift.proofs.WordStood.{flat_of_record, flat_of_tuple}
+use Rattle.value_lift.proofs.Views.{out_bool, out_s8, out_u8, out_s16, out_u16, out_s32, out_u32, out_s64, out_u64, out_char, out_own, out_borrow, out_stream, out_future, out_string, out_flags, out_list, out_variant, out_enum, out_option, out_result}
+use Rattle.value_lift.proofs.WordStood.{flat_of_record, flat_of_tuple, flat_of_stream, flat_of_future}
 use Rattle.canonical_machine.specs.Settling.{Answer, Settles}
 use Rattle.canonical_machine.specs.ValueLaws.{LoweredWordsAreTyped, PlacedWordsAreTyped}
-use Rattle.canonical_machine.specs.Values.{IsOf, EachIs, PayloadIs, bool_is, s8_is, u8_is, s16_is, u16_is, s32_is, u32_is, s64_is, u64_is, char_is, string_is, list_is, record_is, tuple_is, flags_are, case_is, enum_is, none_is, some_is, ok_is, err_is, no_types, more_types, no_payload_is, payload_is}
+use Rattle.canonical_machine.specs.Values.{IsOf, EachIs, PayloadIs, bool_is, s8_is, u8_is, s16_is, u16_is, s32_is, u32_is, s64_is, u64_is, char_is, own_is, borrow_is, stream_is, future_is, string_is, list_is, record_is, tuple_is, flags_are, case_is, enum_is, none_is, some_is, ok_is, err_is, no_types, more_types, no_payload_is, payload_is}
 use Rattle.canonical_machine.proofs.ByKind.{lowered_payload}
 use Rattle.canonical_machine.proofs.Numbers.{scalar_low, unsigned_below}
 use Rattle.canonical_machine.proofs.LoweredWords.{are_append, word_8, word_16}
@@ -129,6 +129,14 @@ module _ (Q : List ℕ → Type 0) where
         one leaves.S64 (plain.S64 n) (cast_unsigned w64 n) (λ before K. words_by (plain.S64 n) (V.S64 n) leaves.S64 before K (plain.rolls-S64 n)) (one_64 leaves.S64 (cast_unsigned w64 n) (types_of leaves.S64 F.S64 out_s64) (unsigned_below w64 n f))
     wide (u64_is n f) = one leaves.U64 (plain.U64 n) n (λ before K. words_by (plain.U64 n) (V.U64 n) leaves.U64 before K (plain.rolls-U64 n)) (one_64 leaves.U64 n (types_of leaves.U64 F.U64 out_u64) f)
     wide (char_is c f) = one leaves.Char (plain.Char c) c (λ before K. words_by (plain.Char c) (V.Char c) leaves.Char before K (plain.rolls-Char c)) (one_32 leaves.Char c (types_of leaves.Char F.Char out_char) (scalar_low c f))
+    wide (own_is resource n f) =
+        one (leaves.Own resource) (plain.Own (record { resource = resource; rep = n })) n (λ before K. words_by (plain.Own (record { resource = resource; rep = n })) (V.Own (record { resource = resource; rep = n })) (leaves.Own resource) before K (plain.rolls-Own (record { resource = resource; rep = n }))) (one_32 (leaves.Own resource) n (types_of (leaves.Own resource) (F.Own resource) (out_own resource)) f)
+    wide (borrow_is resource n f) =
+        one (leaves.Borrow resource) (plain.Borrow (record { resource = resource; rep = n })) n (λ before K. words_by (plain.Borrow (record { resource = resource; rep = n })) (V.Borrow (record { resource = resource; rep = n })) (leaves.Borrow resource) before K (plain.rolls-Borrow (record { resource = resource; rep = n }))) (one_32 (leaves.Borrow resource) n (types_of (leaves.Borrow resource) (F.Borrow resource) (out_borrow resource)) f)
+    wide (stream_is element n f) =
+        one (types.Stream element) (plain.Stream n) n (λ before K. words_by (plain.Stream n) (V.Stream n) (types.Stream element) before K (plain.rolls-Stream n)) (one_32 (types.Stream element) n (flat_of_stream element) f)
+    wide (future_is element n f) =
+        one (types.Future element) (plain.Future n) n (λ before K. words_by (plain.Future n) (V.Future n) (types.Future element) before K (plain.rolls-Future n)) (one_32 (types.Future element) n (flat_of_future element) f)
     wide (string_is text f) = text_wide text
     wide (list_is element all are) = list_wide element all
     wide (record_is fields all are) = row_wide (types.Record fields) (map (λ (f : Field). f.val_type) fields) all (parts_of_record fields) (flat_of_record fields) (fields_wide are)

@@ -25,11 +25,12 @@ use Rattle.value_lower.specs.Lowering.{Lowered, lowered, lower_step, flat_words,
 use Rattle.value_lift.specs.Bytes.{bytes_at, is_scalar}
 use Rattle.value_lift.specs.Pieces.{part_in}
 use Rattle.value_lift.specs.Standing.{AreElements}
-use Rattle.value_lift.specs.WordStanding.{AreWords, FlatOf, AreFlat, IsFlatPayload, false_flat, true_flat, s8_flat, u8_flat, s16_flat, u16_flat, s32_flat, u32_flat, s64_flat, u64_flat, char_flat, string_flat, list_flat, flags_flat}
+use Rattle.value_lift.specs.WordStanding.{AreWords, FlatOf, AreFlat, IsFlatPayload, false_flat, true_flat, s8_flat, u8_flat, s16_flat, u16_flat, s32_flat, u32_flat, s64_flat, u64_flat, char_flat, own_flat, borrow_flat, stream_flat, future_flat, string_flat, list_flat, flags_flat}
 use Rattle.value_lift.specs.Stored.{IsFlattened}
 use Rattle.value_lift.proofs.Equations.{flats_in, flat_is}
 use Rattle.value_lift.proofs.Forms.{HasCases}
-use Rattle.value_lift.proofs.Views.{out_bool, out_s8, out_u8, out_s16, out_u16, out_s32, out_u32, out_s64, out_u64, out_char, out_string, out_flags, out_list}
+use Rattle.value_lift.proofs.Views.{out_bool, out_s8, out_u8, out_s16, out_u16, out_s32, out_u32, out_s64, out_u64, out_char, out_own, out_borrow, out_stream, out_future, out_string, out_flags, out_list}
+use Rattle.value_lift.proofs.WordStood.{flat_of_stream, flat_of_future}
 use Rattle.value_lift.proofs.Wrapped.{Below, Shares, shares, words_many, below_length}
 use Rattle.canonical_machine.specs.Settling.{Settles}
 use Rattle.canonical_machine.proofs.Going.{Goes, Went, went_more, goes_put, region}
@@ -114,6 +115,23 @@ u64_lowered n f =
 pub char_lowered : (c : ℕ) → c < 2 ^ 32 → IsTrue (is_scalar c) → Flat leaves.Char (plain.Char c)
 char_lowered c low f =
     leaf leaves.Char (plain.Char c) c (λ before K. words_by (plain.Char c) (V.Char c) leaves.Char before K (plain.rolls-Char c)) (one_32 leaves.Char c (types_of leaves.Char F.Char out_char) low) (λ m. char_flat c f)
+
+-- Handles and ends, which are told by a number.
+pub own_lowered : (resource n : ℕ) → n < 2 ^ 32 → Flat (leaves.Own resource) (plain.Own (record { resource = resource; rep = n }))
+own_lowered resource n f =
+    leaf (leaves.Own resource) (plain.Own (record { resource = resource; rep = n })) n (λ before K. words_by (plain.Own (record { resource = resource; rep = n })) (V.Own (record { resource = resource; rep = n })) (leaves.Own resource) before K (plain.rolls-Own (record { resource = resource; rep = n }))) (one_32 (leaves.Own resource) n (types_of (leaves.Own resource) (F.Own resource) (out_own resource)) f) (λ m. own_flat resource n)
+
+pub borrow_lowered : (resource n : ℕ) → n < 2 ^ 32 → Flat (leaves.Borrow resource) (plain.Borrow (record { resource = resource; rep = n }))
+borrow_lowered resource n f =
+    leaf (leaves.Borrow resource) (plain.Borrow (record { resource = resource; rep = n })) n (λ before K. words_by (plain.Borrow (record { resource = resource; rep = n })) (V.Borrow (record { resource = resource; rep = n })) (leaves.Borrow resource) before K (plain.rolls-Borrow (record { resource = resource; rep = n }))) (one_32 (leaves.Borrow resource) n (types_of (leaves.Borrow resource) (F.Borrow resource) (out_borrow resource)) f) (λ m. borrow_flat resource n)
+
+pub stream_lowered : (element : Option ValType) (n : ℕ) → n < 2 ^ 32 → Flat (types.Stream element) (plain.Stream n)
+stream_lowered element n f =
+    leaf (types.Stream element) (plain.Stream n) n (λ before K. words_by (plain.Stream n) (V.Stream n) (types.Stream element) before K (plain.rolls-Stream n)) (one_32 (types.Stream element) n (flat_of_stream element) f) (λ m. stream_flat element n)
+
+pub future_lowered : (element : Option ValType) (n : ℕ) → n < 2 ^ 32 → Flat (types.Future element) (plain.Future n)
+future_lowered element n f =
+    leaf (types.Future element) (plain.Future n) n (λ before K. words_by (plain.Future n) (V.Future n) (types.Future element) before K (plain.rolls-Future n)) (one_32 (types.Future element) n (flat_of_future element) f) (λ m. future_flat element n)
 
 -- Flags.
 pub flags_lowered : (labels : List (List ℕ)) (flags : List Bool) → length flags ≡ length labels → bits_of flags < 2 ^ 32 → Flat (leaves.Flags labels) (plain.Flags flags)

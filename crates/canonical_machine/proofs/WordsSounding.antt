@@ -19,11 +19,11 @@ use Rattle.value_lift.proofs.Stood.{parts_of_record, parts_of_tuple, case_part}
 use Rattle.value_lift.proofs.Views.{out_variant, out_enum, out_option, out_result}
 use Rattle.value_lift.proofs.Wrapped.{words_many}
 use Rattle.value_lift.proofs.WordStood.{flat_of_record, flat_of_tuple}
-use Rattle.canonical_machine.specs.Values.{IsOf, EachIs, PayloadIs, bool_is, s8_is, u8_is, s16_is, u16_is, s32_is, u32_is, s64_is, u64_is, char_is, string_is, list_is, record_is, tuple_is, flags_are, case_is, enum_is, none_is, some_is, ok_is, err_is, no_types, more_types, no_payload_is, payload_is}
+use Rattle.canonical_machine.specs.Values.{IsOf, EachIs, PayloadIs, bool_is, s8_is, u8_is, s16_is, u16_is, s32_is, u32_is, s64_is, u64_is, char_is, own_is, borrow_is, stream_is, future_is, string_is, list_is, record_is, tuple_is, flags_are, case_is, enum_is, none_is, some_is, ok_is, err_is, no_types, more_types, no_payload_is, payload_is}
 use Rattle.canonical_machine.proofs.Numbers.{scalar_low}
 use Rattle.canonical_machine.proofs.LoweredWords.{words_now, words_on, are_append, no_words, wrapped_filled}
 use Rattle.canonical_machine.proofs.Sounding.{elements_go}
-use Rattle.canonical_machine.proofs.WordsByKind.{Flat, FieldsFlat, PayloadFlat, bool_flat, s8_lowered, u8_lowered, s16_lowered, u16_lowered, s32_lowered, u32_lowered, s64_lowered, u64_lowered, char_lowered, flags_lowered, string_lowered, list_lowered, row_lowered, case_lowered}
+use Rattle.canonical_machine.proofs.WordsByKind.{Flat, FieldsFlat, PayloadFlat, bool_flat, s8_lowered, u8_lowered, s16_lowered, u16_lowered, s32_lowered, u32_lowered, s64_lowered, u64_lowered, char_lowered, own_lowered, borrow_lowered, stream_lowered, future_lowered, flags_lowered, string_lowered, list_lowered, row_lowered, case_lowered}
 
 abbrev somes : List ValType → List (Option ValType)
 somes types = map (λ (t : ValType). Some t) types
@@ -76,6 +76,10 @@ mutual
   flattened (s64_is n f) = s64_lowered n f
   flattened (u64_is n f) = u64_lowered n f
   flattened (char_is c f) = char_lowered c (scalar_low c f) f
+  flattened (own_is resource n f) = own_lowered resource n f
+  flattened (borrow_is resource n f) = borrow_lowered resource n f
+  flattened (stream_is element n f) = stream_lowered element n f
+  flattened (future_is element n f) = future_lowered element n f
   flattened (string_is text f) = string_lowered text f
   flattened (list_is element all are) = list_lowered element all (elements_go are)
   flattened (record_is fields all are) =

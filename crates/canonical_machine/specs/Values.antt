@@ -1,6 +1,6 @@
 -- Which values are of a type (Component Model, Explainer.md, "Type Definitions"), with what the types of the program say of them:
--- numbers are in their ranges, texts are UTF-8, and of flags none behind the 32nd is set: the standard has no more. For handles and the
--- ends of streams and futures there is no case yet.
+-- numbers are in their ranges, texts are UTF-8, and of flags none behind the 32nd is set: the standard has no more. A handle and the end
+-- of a stream or a future have a number, an index or what it names.
 use Rattle.std.specs.Prelude.{◌≡◌, ◌<◌, ◌^◌, ℕ, ℤ, Bool, IsTrue, List, [], ◌∷◌, map, length, Option, Some, None}
 use Rattle.std.specs.List.{slice_get, AllByRecursion}
 use Rattle.std.specs.Int.{w8, w16, w32, w64}
@@ -11,6 +11,7 @@ use Rattle.ca_types.specs.declared.types.Field.{Field}
 use Rattle.ca_types.specs.declared.types.Case.{Case}
 use Rattle.ca_types.specs.declared.types.ValType.TheViews as types
 use Rattle.ca_types.specs.declared.types.ValType.TheVariants as leaves
+use Rattle.ca_types.specs.declared.value.Handle.{Handle}
 use Rattle.ca_types.specs.declared.value.Value.{Value}
 use Rattle.ca_types.specs.declared.value.Value.TheViews as values
 use Rattle.ca_types.specs.declared.value.Value.TheVariants as plain
@@ -34,6 +35,10 @@ mutual
     s64_in : (n : ℤ) → FitsSigned w64 n → InRange (plain.S64 n)
     u64_in : (n : ℕ) → n < 2 ^ 64 → InRange (plain.U64 n)
     char_in : (c : ℕ) → IsTrue (is_scalar c) → InRange (plain.Char c)
+    own_in : (handle : Handle) → handle.rep < 2 ^ 32 → InRange (plain.Own handle)
+    borrow_in : (handle : Handle) → handle.rep < 2 ^ 32 → InRange (plain.Borrow handle)
+    stream_in : (n : ℕ) → n < 2 ^ 32 → InRange (plain.Stream n)
+    future_in : (n : ℕ) → n < 2 ^ 32 → InRange (plain.Future n)
     string_in : (text : List ℕ) → IsUtf8 text → InRange (plain.String text)
     list_in : (all : List Value) → AllInRange all → InRange (values.List all)
     record_in : (all : List Value) → AllInRange all → InRange (values.Record all)
@@ -58,6 +63,10 @@ mutual
     s64_is : (n : ℤ) → FitsSigned w64 n → IsOf leaves.S64 (plain.S64 n)
     u64_is : (n : ℕ) → n < 2 ^ 64 → IsOf leaves.U64 (plain.U64 n)
     char_is : (c : ℕ) → IsTrue (is_scalar c) → IsOf leaves.Char (plain.Char c)
+    own_is : (resource n : ℕ) → n < 2 ^ 32 → IsOf (leaves.Own resource) (plain.Own (record { resource = resource; rep = n }))
+    borrow_is : (resource n : ℕ) → n < 2 ^ 32 → IsOf (leaves.Borrow resource) (plain.Borrow (record { resource = resource; rep = n }))
+    stream_is : (element : Option ValType) (n : ℕ) → n < 2 ^ 32 → IsOf (types.Stream element) (plain.Stream n)
+    future_is : (element : Option ValType) (n : ℕ) → n < 2 ^ 32 → IsOf (types.Future element) (plain.Future n)
     string_is : (text : List ℕ) → IsUtf8 text → IsOf leaves.String (plain.String text)
     list_is : (element : ValType) (all : List Value) → AllAre element all → IsOf (types.List element) (values.List all)
     record_is : (fields : List Field) (all : List Value) → EachIs (map (λ (f : Field). f.val_type) fields) all → IsOf (types.Record fields) (values.Record all)

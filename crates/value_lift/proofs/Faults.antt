@@ -17,7 +17,7 @@ use Rattle.value_lift.specs.Pieces.{elements_of}
 use Rattle.value_lift.specs.WordStanding.{AreWords}
 use Rattle.value_lift.specs.Failing.{ElementFails, LoadFails, LoadListFails, this_element, later_element, place_misaligned, place_outside, value_fails, all_misaligned, all_outside, one_fails}
 use Rattle.value_lift.specs.WordFailing.{FlatFails, LiftFlatFails}
-use Rattle.value_lift.specs.Laws.{IsBare, IsLoaded, AreLoaded, IsLifted, FailingValuesStop, FailingLoadsStop, FailingListsStop, FailingWordsStop, OneOrFault, OneIsLoaded, OneListIsLoaded, OneIsLifted}
+use Rattle.value_lift.specs.Laws.{IsLoaded, AreLoaded, IsLifted, FailingValuesStop, FailingLoadsStop, FailingListsStop, FailingWordsStop, OneOrFault, OneIsLoaded, OneListIsLoaded, OneIsLifted}
 use Rattle.value_lift.proofs.Failed.{failed, element_failed, elements_astray, elements_past, elements_inside}
 use Rattle.value_lift.proofs.Loaded.{loaded_values_stand, loaded_lists_stand, lifted_words_stand}
 use Rattle.value_lift.proofs.Passing.{ok_same}
@@ -29,7 +29,7 @@ use Rattle.value_lift.proofs.WordStood.{IsThere}
 use Rattle.value_lift.proofs.Wrapped.{wrapped_same, words_many}
 
 pub failing_values_stop : FailingValuesStop
-failing_values_stop type memory place left why spot bare = (λ h. (type_stops type bare).stops memory place left (trap why spot) h, λ f. failed f)
+failing_values_stop type memory place left why spot = (λ h. (type_stops type).stops memory place left (trap why spot) h, λ f. failed f)
 
 -- values
 module _ (what : LiftOf) (type : ValType) (memory : List ℕ) (place : ℕ) where
@@ -39,8 +39,8 @@ module _ (what : LiftOf) (type : ValType) (memory : List ℕ) (place : ℕ) wher
   abbrev bounded : Result Value LiftTrap
   bounded = if is_inside place (laid type).size memory then answer else Err (trap Bounds place)
 
-  load_stops : IsBare type → (e : LiftTrap) → load what type memory place ≡ Err e → LoadFails what type memory place e.why e.place
-  load_stops bare e h =
+  load_stops : (e : LiftTrap) → load what type memory place ≡ Err e → LoadFails what type memory place e.why e.place
+  load_stops e h =
       elim (if_err (is_aligned place (laid type).align) bounded (trap Misaligned place) e h) [
         | inr p ↦ subst (λ (e : LiftTrap). LoadFails what type memory place e.why e.place) p.1 (place_misaligned (eqb-false (place % (laid type).align) 0 p.0))
         | inl p ↦
@@ -51,7 +51,7 @@ module _ (what : LiftOf) (type : ValType) (memory : List ℕ) (place : ℕ) wher
                   (place_outside even (leb-false (place + (laid type).size) (length memory) q.0))
               | inl q ↦
                   value_fails e.why e.place even (leb-true (place + (laid type).size) (length memory) q.0)
-                  ((type_stops type bare).stops memory place (most what) e (value_err (lift type memory place (most what)) e q.1))
+                  ((type_stops type).stops memory place (most what) e (value_err (lift type memory place (most what)) e q.1))
             ]
       ]
 
@@ -68,7 +68,7 @@ module _ (what : LiftOf) (type : ValType) (memory : List ℕ) (place : ℕ) wher
       ∙ ap (λ (l : Lifted Value). value_of l) (failed f)
 
 pub failing_loads_stop : FailingLoadsStop
-failing_loads_stop what type memory place why spot bare = (λ h. load_stops what type memory place bare (trap why spot) h, λ f. load_failed what type memory place f)
+failing_loads_stop what type memory place why spot = (λ h. load_stops what type memory place (trap why spot) h, λ f. load_failed what type memory place f)
 
 -- lists
 some_element : {memory : List ℕ} {at : ℕ} {t : ValType} {count left : ℕ} {why : LiftWhy} {spot : ℕ} → ElementFails memory at t count left why spot → 0 < count
@@ -85,11 +85,11 @@ module _ (type : ValType) (memory : List ℕ) (place count : ℕ) where
   none : count ≤ 0 → load_list type memory place count ≡ Ok []
   none high = cond-true (count == 0) (Ok []) (value_of all_told) (eq-eqb count 0 (omega arith))
 
-  list_stops : IsBare type → (e : LiftTrap) → load_list type memory place count ≡ Err e → LoadListFails type memory place count e.why e.place
-  list_stops bare e h =
+  list_stops : (e : LiftTrap) → load_list type memory place count ≡ Err e → LoadListFails type memory place count e.why e.place
+  list_stops e h =
       elim (cases_lt 0 count) [
         | inl low ↦
-            list_told (LoadListFails type memory place count) type (type_stops type bare).stops place count memory place 134217728 e
+            list_told (LoadListFails type memory place count) type (type_stops type).stops place count memory place 134217728 e
             (record {
               astray = all_misaligned low;
               past = all_outside low;
@@ -107,15 +107,15 @@ module _ (type : ValType) (memory : List ℕ) (place count : ℕ) where
       ∙ ap (λ (l : Lifted (List Value)). value_of l) (elements_inside type place count memory place 134217728 even inside ∙ element_failed f [])
 
 pub failing_lists_stop : FailingListsStop
-failing_lists_stop type memory place count why spot bare = (λ h. list_stops type memory place count bare (trap why spot) h, λ f. list_failed type memory place count f)
+failing_lists_stop type memory place count why spot = (λ h. list_stops type memory place count (trap why spot) h, λ f. list_failed type memory place count f)
 
 -- core values
 module _ (what : LiftOf) (type : ValType) (memory words : List ℕ) (why : LiftWhy) (spot : ℕ) (are : AreWords (flat type) words) where
-  flat_stops : IsBare type → lift_flat what type memory words ≡ Err (trap why spot) → LiftFlatFails what type memory words why spot
-  flat_stops bare h =
+  flat_stops : lift_flat what type memory words ≡ Err (trap why spot) → LiftFlatFails what type memory words why spot
+  flat_stops h =
       let many = words_many (flat type) words are in
       subst (λ (ws : List ℕ). FlatFails memory type ws 0 (most what) why spot) (wrapped_same (flat type) words are)
-      ((type_stops type bare).words memory words 0 (most what) (trap why spot) (omega (arith, many)) (value_err (lift_words type memory words 0 (most what)) (trap why spot) h))
+      ((type_stops type).words memory words 0 (most what) (trap why spot) (omega (arith, many)) (value_err (lift_words type memory words 0 (most what)) (trap why spot) h))
 
   flat_failed : LiftFlatFails what type memory words why spot → lift_flat what type memory words ≡ Err (trap why spot)
   flat_failed f =
@@ -124,7 +124,7 @@ module _ (what : LiftOf) (type : ValType) (memory words : List ℕ) (why : LiftW
       ap (λ (l : Lifted Value). value_of l) (word_failed f words there)
 
 pub failing_words_stop : FailingWordsStop
-failing_words_stop what type memory words why spot bare are = (flat_stops what type memory words why spot are bare, flat_failed what type memory words why spot are)
+failing_words_stop what type memory words why spot are = (flat_stops what type memory words why spot are, flat_failed what type memory words why spot are)
 
 -- One value, or one fault.
 answered : {A : Type 0} (r : Result A LiftTrap) → ((x : A) × (r ≡ Ok x)) ⊎ ((e : LiftTrap) × (r ≡ Err e))
@@ -146,16 +146,16 @@ one_or_fault {A} r Is Faults is faults = record {
 }
 
 pub one_is_loaded : OneIsLoaded
-one_is_loaded what type memory place bare =
+one_is_loaded what type memory place =
     one_or_fault (load what type memory place) (IsLoaded what type memory place) (LoadFails what type memory place) (loaded_values_stand what type memory place)
-    (λ why spot. failing_loads_stop what type memory place why spot bare)
+    (λ why spot. failing_loads_stop what type memory place why spot)
 
 pub one_list_is_loaded : OneListIsLoaded
-one_list_is_loaded type memory place count bare low =
+one_list_is_loaded type memory place count low =
     one_or_fault (load_list type memory place count) (AreLoaded type memory place count) (LoadListFails type memory place count)
-    (λ all. loaded_lists_stand type memory place count all low) (λ why spot. failing_lists_stop type memory place count why spot bare)
+    (λ all. loaded_lists_stand type memory place count all low) (λ why spot. failing_lists_stop type memory place count why spot)
 
 pub one_is_lifted : OneIsLifted
-one_is_lifted what type memory words bare are =
+one_is_lifted what type memory words are =
     one_or_fault (lift_flat what type memory words) (IsLifted what type memory words) (LiftFlatFails what type memory words)
-    (λ v. lifted_words_stand what type memory words v are) (λ why spot. failing_words_stop what type memory words why spot bare are)
+    (λ v. lifted_words_stand what type memory words v are) (λ why spot. failing_words_stop what type memory words why spot are)

@@ -31,7 +31,7 @@ HasCases (F.Option part) = Unit {0}
 HasCases (F.Result ok err) = Unit {0}
 HasCases other = ⊥
 
--- A type without parts, or one that has no values yet.
+-- A type without parts.
 abbrev pub IsPlain : F.ValType-F ValType Case Field → Type 0
 IsPlain F.String = ⊥
 IsPlain (F.List element) = ⊥

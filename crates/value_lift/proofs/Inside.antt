@@ -1,5 +1,5 @@
 -- One part: what lifts it, and where it lies.
-use Rattle.std.proofs.Common.{◌≡◌, ◌∙◌, ◌+◌, ◌<◌, ◌≤◌, ◌^◌, min, ℕ, List, [], ◌∷◌, ◌++◌, length, take, drop, Option, Some, None, Ok, ap, sym, subst, arith}
+use Rattle.std.proofs.Common.{◌≡◌, ◌∙◌, ◌+◌, ◌<◌, ◌≤◌, ◌^◌, min, ℕ, List, [], ◌∷◌, ◌++◌, length, take, drop, Option, Some, None, Ok, Err, ap, sym, subst, arith}
 use Rattle.std.specs.Prelude.{nat_lt}
 use Rattle.std.specs.Option.{option_map}
 use Rattle.std.specs.Int.{w32}
@@ -11,14 +11,17 @@ use Rattle.ca_types.specs.Layout.{laid, aligned, tag_size}
 use Rattle.ca_types.specs.Flat.{flat}
 use Rattle.laid_types.specs.Parts.{parts_of, part_at, case_count, payload_place}
 use Rattle.value_lift.specs.Bytes.{number, width_of}
-use Rattle.value_lift.specs.Answers.{made}
+use Rattle.ca_base.specs.declared.memory.MemoryOr.{MemoryOr}
+use Rattle.ca_base.specs.declared.memory.MemoryOr.TheVariants.{Memory, Fault}
+use Rattle.value_lift.specs.declared.trap.LiftTrap.{LiftTrap}
+use Rattle.value_lift.specs.Answers.{Lifted, MayLift, made}
 use Rattle.value_lift.specs.Pieces.{Part, part_in, list_of, elements_of, chosen}
 use Rattle.value_lift.specs.Lifting.{part, parts, lift, lift_words, low, fields_from, word_fields_from, payload_of, word_payload_of, case_of, case_told, word_case_of, behind_tag}
 use Rattle.value_lift.specs.Room.{end_behind, words_behind}
 use Rattle.value_lift.proofs.Lists.{part_image}
 use Rattle.value_lift.proofs.Rooms.{payload_behind}
 use Rattle.value_lift.proofs.WordRooms.{few_taken}
-use Rattle.value_lift.proofs.Steps.{fields_go, field_room, word_fields_go, word_field_room}
+use Rattle.value_lift.proofs.Steps.{fields_go, fields_stop, field_room, word_fields_go, word_fields_stop, word_field_room}
 
 -- A list of a type with a part.
 pub list_some : (types : List (Option ValType)) (e : ValType) (at count : ℕ) (memory : List ℕ) (place left : ℕ) → part_in types 0 ≡ Some e
@@ -77,7 +80,20 @@ field_next memory place end left rest n types t start size before now v h room f
       subst (λ (k : ℕ). place + k ≤ length memory) (r.0 ∙ ap (λ (k : ℕ). end_behind k (drop (n + 1) types)) here) room,
     )
 
+-- where a part stops
+pub field_stops : (whole : Lifted (List Value)) (memory : List ℕ) (place end left now n : ℕ) (types : List (Option ValType)) (t : ValType) (start : ℕ) (before : List Value) (e : MemoryOr LiftTrap)
+    → whole ≡ fields_from memory place before end (parts (drop n types)) left → part_in types n ≡ Some t → FieldAt memory place end n types t start
+    → MayLift (lift t memory (place + start) left) now (Err e) → MayLift whole now (Err e)
+field_stops whole memory place end left now n types t start before Memory w h f stops = tt
+field_stops whole memory place end left now n types t start before (Fault fault) w h f stops =
+    w ∙ fields_stop memory place end left before types n t fault h (ap (λ (k : ℕ). lift t memory (place + k) left) (sym f.start_is) ∙ stops)
+
 -- the same in core values
+pub word_stops : (whole : Lifted (List Value)) (memory words : List ℕ) (at left now n : ℕ) (types : List (Option ValType)) (t : ValType) (before : List Value) (e : MemoryOr LiftTrap)
+    → whole ≡ word_fields_from memory words before at (parts (drop n types)) left → part_in types n ≡ Some t → MayLift (lift_words t memory words at left) now (Err e) → MayLift whole now (Err e)
+word_stops whole memory words at left now n types t before Memory w h stops = tt
+word_stops whole memory words at left now n types t before (Fault fault) w h stops = w ∙ word_fields_stop memory words at left before types n t fault h stops
+
 pub word_count : (t : ValType) (words : List ℕ) (at n : ℕ) (types : List (Option ValType)) (count : ℕ) → length words ≤ 16 → part_in types n ≡ Some t → words_behind at (drop n types) ≤ length words
     → count ≡ length (take 17 (flat t)) → count ≡ length (flat t)
 word_count t words at n types count few h room e =

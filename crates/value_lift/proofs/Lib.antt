@@ -2,6 +2,8 @@ pub mod Places
 pub mod Layers
 pub mod Depth
 pub mod Lists
+pub mod OverTypes
+pub mod OverSteps
 pub mod Equations
 pub mod Forms
 pub mod Rooms
@@ -19,7 +21,6 @@ pub mod WordFound
 pub mod WordTypes
 pub mod Inside
 pub mod Stopping
-pub mod Bare
 pub mod Failed
 pub mod Stopped
 pub mod WordFailed

@@ -25,12 +25,12 @@ use Rattle.value_lift.specs.declared.trap.LiftWhy.TheVariants.{Bounds}
 use Rattle.value_lift.specs.Answers.{trap, Lifted, after, made, uncounted, counted, counting}
 use Rattle.value_lift.specs.Pieces.{Part, plain_of, part_in, string_of, elements_from, elements_of, list_of, chosen, text_of}
 use Rattle.value_lift.specs.Lifting.{behind_tag, lift, lift_case, layer_of, part, parts, fields_from, payload_of, case_told}
-use Rattle.value_lift.specs.Standing.{AreBits, Stands, AreElements, AreFields, IsPayload, tag, total, counts, false_stands, true_stands, s8_stands, u8_stands, s16_stands, u16_stands, s32_stands, u32_stands, s64_stands, u64_stands, char_stands, string_stands, list_stands, record_stands, tuple_stands, flags_stand, case_stands, enum_stands, none_stands, some_stands, ok_stands, err_stands, no_elements, more_elements, no_fields, more_fields, no_payload, payload_stands}
+use Rattle.value_lift.specs.Standing.{AreBits, Stands, AreElements, AreFields, IsPayload, tag, total, counts, false_stands, true_stands, s8_stands, u8_stands, s16_stands, u16_stands, s32_stands, u32_stands, s64_stands, u64_stands, char_stands, own_stands, borrow_stands, stream_stands, future_stands, string_stands, list_stands, record_stands, tuple_stands, flags_stand, case_stands, enum_stands, none_stands, some_stands, ok_stands, err_stands, no_elements, more_elements, no_fields, more_fields, no_payload, payload_stands}
 use Rattle.value_lift.proofs.Equations.{lift_is, parts_in}
 use Rattle.value_lift.proofs.Forms.{IsPlain, IsRow, HasCases, plain_lift, row_lift, cases_lift}
 use Rattle.value_lift.proofs.Lists.{part_image}
 use Rattle.value_lift.proofs.Rooms.{payload_behind}
-use Rattle.value_lift.proofs.Views.{out_bool, out_s8, out_u8, out_s16, out_u16, out_s32, out_u32, out_s64, out_u64, out_char, out_string, out_flags, out_enum, out_record, out_tuple, out_list, out_variant, out_option, out_result, count_bool, count_s8, count_u8, count_s16, count_u16, count_s32, count_u32, count_s64, count_u64, count_char, count_string, count_flags, count_list, count_record, count_variant, payload_counts}
+use Rattle.value_lift.proofs.Views.{out_bool, out_s8, out_u8, out_s16, out_u16, out_s32, out_u32, out_s64, out_u64, out_char, out_own, out_borrow, out_stream, out_future, out_string, out_flags, out_enum, out_record, out_tuple, out_list, out_variant, out_option, out_result, count_bool, count_s8, count_u8, count_s16, count_u16, count_s32, count_u32, count_s64, count_u64, count_char, count_own, count_borrow, count_stream, count_future, count_string, count_flags, count_list, count_record, count_variant, payload_counts}
 
 -- A value is lifted, and as much counted as it counts.
 abbrev IsLifted : List ℕ → ℕ → ValType → Value → ℕ → Type 0
@@ -215,6 +215,10 @@ mutual
   stood {memory = m} (u64_stands place) left h = plain_stood m place left leaves.U64 F.U64 _ out_u64 tt refl (count_u64 _) h
   stood {memory = m} (char_stands place e) left h =
       plain_stood m place left leaves.Char F.Char (plain.Char (number w32 place m)) out_char tt (cond-true (is_scalar (number w32 place m)) _ _ e) (count_char (number w32 place m)) h
+  stood {memory = m} (own_stands place resource) left h = plain_stood m place left (leaves.Own resource) (F.Own resource) _ (out_own resource) tt refl (count_own _) h
+  stood {memory = m} (borrow_stands place resource) left h = plain_stood m place left (leaves.Borrow resource) (F.Borrow resource) _ (out_borrow resource) tt refl (count_borrow _) h
+  stood {memory = m} (stream_stands place element) left h = plain_stood m place left (types.Stream element) (F.Stream element) _ (out_stream element) tt refl (count_stream _) h
+  stood {memory = m} (future_stands place element) left h = plain_stood m place left (types.Future element) (F.Future element) _ (out_future element) tt refl (count_future _) h
   stood {memory = m} (string_stands place at count e f inside utf8) left h = string_stood m place at count left e f inside utf8 h
   stood {memory = m} (list_stands place at element all e f aligned inside a) left h =
       list_stood m place at left element all e f aligned inside h (elements_stood a [] (left - 1) (omega (arith, count_list all, h)))

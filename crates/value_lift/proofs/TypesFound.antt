@@ -8,7 +8,7 @@ use Rattle.ca_types.specs.declared.types.Field.{Field}
 use Rattle.ca_types.specs.declared.types.ValType.TheViews as types
 use Rattle.ca_types.specs.declared.types.ValType.TheViews.{roll-Case, roll-Field}
 use Rattle.ca_types.specs.declared.types.ValType.TheVariants as leaves
-use Rattle.ca_types.specs.declared.types.ValType.TheVariants.{rolls-Bool, rolls-S8, rolls-U8, rolls-S16, rolls-U16, rolls-S32, rolls-U32, rolls-S64, rolls-U64, rolls-Char, rolls-String, rolls-Record, rolls-Variant, rolls-List, rolls-Tuple, rolls-Flags, rolls-Enum, rolls-Option, rolls-Result}
+use Rattle.ca_types.specs.declared.types.ValType.TheVariants.{rolls-Bool, rolls-S8, rolls-U8, rolls-S16, rolls-U16, rolls-S32, rolls-U32, rolls-S64, rolls-U64, rolls-Char, rolls-String, rolls-Record, rolls-Variant, rolls-List, rolls-Tuple, rolls-Flags, rolls-Enum, rolls-Option, rolls-Result, rolls-Own, rolls-Borrow, rolls-Stream, rolls-Future}
 use Rattle.ca_types.specs.declared.types.ValType.TheViews.{the_lemmas}
 use Rattle.ca_types.specs.declared.types.ValType.TheOpen as F
 use Rattle.ca_types.specs.declared.types.ValType.TheFolds.{ind-ValType, map-ValType, map-Case, map-Field}
@@ -17,15 +17,12 @@ use Rattle.ca_types.specs.declared.value.Value.TheViews as values
 use Rattle.ca_types.specs.declared.value.Value.TheVariants as plain
 use Rattle.laid_types.specs.Parts.{payload_place}
 use Rattle.value_lift.specs.Bytes.{number}
-use Rattle.value_lift.specs.declared.trap.LiftTrap.{LiftTrap}
-use Rattle.value_lift.specs.declared.trap.LiftWhy.TheVariants.{BadCase}
-use Rattle.value_lift.specs.Answers.{trap}
-use Rattle.value_lift.specs.Pieces.{part_in, plain_of}
-use Rattle.value_lift.specs.Standing.{Stands, tag, IsPayload, s8_stands, u8_stands, s16_stands, u16_stands, s32_stands, u32_stands, s64_stands, u64_stands, record_stands, tuple_stands, case_stands, enum_stands, none_stands, some_stands, ok_stands, err_stands, no_payload}
-use Rattle.value_lift.proofs.Forms.{IsRow, IsPlain}
+use Rattle.value_lift.specs.Pieces.{part_in}
+use Rattle.value_lift.specs.Standing.{Stands, tag, IsPayload, s8_stands, u8_stands, s16_stands, u16_stands, s32_stands, u32_stands, s64_stands, u64_stands, own_stands, borrow_stands, stream_stands, future_stands, record_stands, tuple_stands, case_stands, enum_stands, none_stands, some_stands, ok_stands, err_stands, no_payload}
+use Rattle.value_lift.proofs.Forms.{IsRow}
 use Rattle.value_lift.proofs.Stood.{parts_of_record, parts_of_tuple, case_part}
-use Rattle.value_lift.proofs.Views.{out_s8, out_u8, out_s16, out_u16, out_s32, out_u32, out_s64, out_u64, out_record, out_tuple, out_variant, out_enum, out_option, out_result, count_s8, count_u8, count_s16, count_u16, count_s32, count_u32, count_s64, count_u64}
-use Rattle.value_lift.proofs.Found.{Told, ToldRest, told_nothing, told_payload, plain_found, number_found, bool_found, char_found, string_found, flags_found, list_found, row_found, case_found_in}
+use Rattle.value_lift.proofs.Views.{out_s8, out_u8, out_s16, out_u16, out_s32, out_u32, out_s64, out_u64, out_own, out_borrow, out_stream, out_future, out_record, out_tuple, out_variant, out_enum, out_option, out_result, count_s8, count_u8, count_s16, count_u16, count_s32, count_u32, count_s64, count_u64, count_own, count_borrow, count_stream, count_future}
+use Rattle.value_lift.proofs.Found.{Told, ToldRest, told_nothing, told_payload, number_found, bool_found, char_found, string_found, flags_found, list_found, row_found, case_found_in}
 
 abbrev ToldCase : Case → Type 0
 ToldCase c = ToldRest c.payload
@@ -65,6 +62,23 @@ told_s32 m p l r v h = number_found m p l r v leaves.S32 F.S32 (plain.S32 (cast_
 told_u32 : Told leaves.U32
 told_u32 m p l r v h = number_found m p l r v leaves.U32 F.U32 (plain.U32 (number w32 p m)) out_u32 tt refl (u32_stands p) (count_u32 _) h
 
+told_own : (resource : ℕ) → Told (leaves.Own resource)
+told_own resource m p l r v h =
+    number_found m p l r v (leaves.Own resource) (F.Own resource) (plain.Own (record { resource = resource; rep = number w32 p m })) (out_own resource) tt refl (own_stands p resource) (count_own _) h
+
+told_borrow : (resource : ℕ) → Told (leaves.Borrow resource)
+told_borrow resource m p l r v h =
+    number_found m p l r v (leaves.Borrow resource) (F.Borrow resource) (plain.Borrow (record { resource = resource; rep = number w32 p m })) (out_borrow resource) tt refl (borrow_stands p resource)
+    (count_borrow _) h
+
+told_stream : (element : Option ValType) → Told (types.Stream element)
+told_stream element m p l r v h =
+    number_found m p l r v (types.Stream element) (F.Stream element) (plain.Stream (number w32 p m)) (out_stream element) tt refl (stream_stands p element) (count_stream _) h
+
+told_future : (element : Option ValType) → Told (types.Future element)
+told_future element m p l r v h =
+    number_found m p l r v (types.Future element) (F.Future element) (plain.Future (number w32 p m)) (out_future element) tt refl (future_stands p element) (count_future _) h
+
 told_s64 : Told leaves.S64
 told_s64 m p l r v h = number_found m p l r v leaves.S64 F.S64 (plain.S64 (cast_signed w64 (number w64 p m))) out_s64 tt refl (s64_stands p) (count_s64 _) h
 
@@ -79,10 +93,6 @@ told_char m p l r v h = char_found m p l r v h
 
 told_string : Told leaves.String
 told_string m p l r v h = string_found m p l r v h
-
--- types that have no values yet
-silent : (t : ValType) (y : F.ValType-F ValType Case Field) → out-ValType t ≡ y → IsPlain y → ((m : List ℕ) (p : ℕ) (v : Value) → plain_of y w8 (λ w. number w p m) p ≡ Ok v → ⊥) → Told t
-silent t y e kind none m p l r v h = absurd (none m p v (plain_found m p l r v t y e kind h).0)
 
 -- records and tuples
 types_told : (fields : List Field) → AllByRecursion ToldField fields → AllByRecursion Told (map (λ (f : Field). f.val_type) fields)
@@ -165,9 +175,6 @@ layer y = map-ValType OfType OfCase OfField ValType Case Field (λ e. e.0) (λ e
 pub out_of_roll : (x : F.ValType-F ValType Case Field) → out-ValType (roll-ValType x) ≡ x
 out_of_roll x = search (rules, the_lemmas)
 
-pub no_value : (v : Value) (e : LiftTrap) → (let r : Result Value LiftTrap = Err e in r) ≡ Ok v → ⊥
-no_value v e h = cc
-
 told_step : (y : F.ValType-F OfType OfCase OfField) → Told (roll-ValType (layer y))
 told_step F.Bool = told_at _ leaves.Bool rolls-Bool told_bool
 told_step F.S8 = told_at _ leaves.S8 rolls-S8 told_s8
@@ -201,10 +208,12 @@ told_step (F.Result (Some o) None) =
 told_step (F.Result (Some o) (Some e)) =
     told_at (roll-ValType (F.Result (Some o.0) (Some e.0))) (types.Result (Some o.0) (Some e.0)) (rolls-Result (Some o.0) (Some e.0))
     (told_result (Some o.0) (Some e.0) (told_payload o.0 o.1) (told_payload e.0 e.1))
-told_step (F.Own n) = silent (roll-ValType (F.Own n)) (F.Own n) (out_of_roll (F.Own n)) tt (λ m p v h. no_value v (trap BadCase p) h)
-told_step (F.Borrow n) = silent (roll-ValType (F.Borrow n)) (F.Borrow n) (out_of_roll (F.Borrow n)) tt (λ m p v h. no_value v (trap BadCase p) h)
-told_step (F.Stream e) = silent (roll-ValType (layer (F.Stream e))) (layer (F.Stream e)) (out_of_roll (layer (F.Stream e))) tt (λ m p v h. no_value v (trap BadCase p) h)
-told_step (F.Future e) = silent (roll-ValType (layer (F.Future e))) (layer (F.Future e)) (out_of_roll (layer (F.Future e))) tt (λ m p v h. no_value v (trap BadCase p) h)
+told_step (F.Own n) = told_at (roll-ValType (F.Own n)) (leaves.Own n) (rolls-Own n) (told_own n)
+told_step (F.Borrow n) = told_at (roll-ValType (F.Borrow n)) (leaves.Borrow n) (rolls-Borrow n) (told_borrow n)
+told_step (F.Stream None) = told_at (roll-ValType (F.Stream None)) (types.Stream None) (rolls-Stream None) (told_stream None)
+told_step (F.Stream (Some e)) = told_at (roll-ValType (F.Stream (Some e.0))) (types.Stream (Some e.0)) (rolls-Stream (Some e.0)) (told_stream (Some e.0))
+told_step (F.Future None) = told_at (roll-ValType (F.Future None)) (types.Future None) (rolls-Future None) (told_future None)
+told_step (F.Future (Some e)) = told_at (roll-ValType (F.Future (Some e.0))) (types.Future (Some e.0)) (rolls-Future (Some e.0)) (told_future (Some e.0))
 
 told_case_step : (y : F.Case-F OfType OfCase OfField) → ToldCase (roll-Case (map-Case OfType OfCase OfField ValType Case Field (λ e. e.0) (λ e. e.0) (λ e. e.0) y))
 told_case_step y =

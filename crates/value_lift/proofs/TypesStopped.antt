@@ -1,4 +1,4 @@
--- Where lifting stops, the value fails, for every type that holds no handle and no end of a stream or a future.
+-- Where lifting stops, the value fails, for every type.
 use Rattle.std.proofs.Common.{◌≡◌, ◌∙◌, ◌≤◌, ◌<◌, ◌+◌, ℕ, zero, suc, List, [], ◌∷◌, map, Option, Some, None, Err, ap, sym, subst}
 use Rattle.std.specs.List.{AllByRecursion}
 use Rattle.ca_types.specs.declared.types.ValType.{ValType, out-ValType, roll-ValType}
@@ -21,14 +21,12 @@ use Rattle.value_lift.specs.Standing.{tag}
 use Rattle.value_lift.specs.WordStanding.{wrapped}
 use Rattle.value_lift.specs.Failing.{Fails, CountedFails, record_fails, tuple_fails, bad_case, bad_enum, bad_option, bad_result, case_fails, some_fails, ok_fails, err_fails}
 use Rattle.value_lift.specs.WordFailing.{FlatFails, CountedFlatFails, flat_record_fails, flat_tuple_fails, flat_bad_case, flat_bad_enum, flat_bad_option, flat_bad_result, flat_case_fails, flat_some_fails, flat_ok_fails, flat_err_fails}
-use Rattle.value_lift.specs.Laws.{IsBare}
-use Rattle.value_lift.proofs.Bare.{IsBarePart, IsHeld, held_absurd, bare_parts, bare_part}
 use Rattle.value_lift.proofs.Equations.{parts_in}
 use Rattle.value_lift.proofs.Forms.{IsRow, HasCases}
 use Rattle.value_lift.proofs.Stood.{parts_of_record, parts_of_tuple, case_part}
 use Rattle.value_lift.proofs.Stopped.{Stops, counted_stops, char_stops, string_stops, list_stops, row_stops, case_stops}
 use Rattle.value_lift.proofs.TypesFound.{all_of_entries, out_of_roll, case_there}
-use Rattle.value_lift.proofs.Views.{out_record, out_tuple, out_variant, out_enum, out_list, out_option, out_result}
+use Rattle.value_lift.proofs.Views.{out_record, out_tuple, out_variant, out_enum, out_option, out_result}
 use Rattle.value_lift.proofs.WordStood.{flat_of_record, flat_of_tuple}
 use Rattle.value_lift.proofs.WordStopped.{WordStops, counted_word_stops, word_char_stops, word_string_stops, word_list_stops, word_row_stops, word_case_stops}
 use Rattle.value_lift.proofs.Wrapped.{shares, enum_shares}
@@ -39,7 +37,7 @@ pub record BothStop (t : ValType) : Type 0 where
   pub words : WordStops t
 
 abbrev Told : ValType → Type 0
-Told t = IsBare t → BothStop t
+Told t = BothStop t
 
 abbrev ToldRest : Option ValType → Type 0
 ToldRest p = (t : ValType) → p ≡ Some t → Told t
@@ -79,6 +77,10 @@ NeverFails F.U32 = Unit {0}
 NeverFails F.S64 = Unit {0}
 NeverFails F.U64 = Unit {0}
 NeverFails (F.Flags labels) = Unit {0}
+NeverFails (F.Own resource) = Unit {0}
+NeverFails (F.Borrow resource) = Unit {0}
+NeverFails (F.Stream element) = Unit {0}
+NeverFails (F.Future element) = Unit {0}
 NeverFails other = ⊥
 
 module _ (memory : List ℕ) (place left : ℕ) (e : LiftTrap) where
@@ -93,6 +95,12 @@ module _ (memory : List ℕ) (place left : ℕ) (e : LiftTrap) where
   never_layer F.S64 k h = cc
   never_layer F.U64 k h = cc
   never_layer (F.Flags labels) k h = cc
+  never_layer (F.Own resource) k h = cc
+  never_layer (F.Borrow resource) k h = cc
+  never_layer (F.Stream None) k h = cc
+  never_layer (F.Stream (Some e)) k h = cc
+  never_layer (F.Future None) k h = cc
+  never_layer (F.Future (Some e)) k h = cc
   never_layer other k h = absurd k
 
 module _ (memory words : List ℕ) (at left : ℕ) (e : LiftTrap) where
@@ -107,10 +115,16 @@ module _ (memory words : List ℕ) (at left : ℕ) (e : LiftTrap) where
   never_words F.S64 k h = cc
   never_words F.U64 k h = cc
   never_words (F.Flags labels) k h = cc
+  never_words (F.Own resource) k h = cc
+  never_words (F.Borrow resource) k h = cc
+  never_words (F.Stream None) k h = cc
+  never_words (F.Stream (Some e)) k h = cc
+  never_words (F.Future None) k h = cc
+  never_words (F.Future (Some e)) k h = cc
   never_words other k h = absurd k
 
 never : (t : ValType) (y : F.ValType-F ValType Case Field) → out-ValType t ≡ y → NeverFails y → Told t
-never t y o k bare = record {
+never t y o k = record {
   stops = counted_stops t
       (λ memory place left e h.
       absurd (never_layer memory place left e y k (sym (ap (λ (y : F.ValType-F ValType Case Field). lift_case (parts_in y) memory place left) o) ∙ h)));
@@ -119,54 +133,45 @@ never t y o k bare = record {
       absurd (never_words memory words at left e y k (sym (ap (λ (y : F.ValType-F ValType Case Field). lift_word_case (parts_in y) memory words at left) o) ∙ h)));
 }
 
--- handles and ends
-held : (t : ValType) (y : F.ValType-F ValType Case Field) → out-ValType t ≡ y → IsHeld y → Told t
-held t y o k bare = absurd (held_absurd t y o k bare)
-
 told_char : Told leaves.Char
-told_char bare = record { stops = char_stops; words = word_char_stops }
+told_char = record { stops = char_stops; words = word_char_stops }
 
 told_string : Told leaves.String
-told_string bare = record { stops = string_stops; words = word_string_stops }
+told_string = record { stops = string_stops; words = word_string_stops }
 
 told_list : (t : ValType) → Told t → Told (types.List t)
-told_list t told bare =
-    let parts = subst (λ (y : F.ValType-F ValType Case Field). AllByRecursion IsBarePart (parts_case y)) (out_list t) (bare_parts (types.List t) bare) in
-    let element = told parts.0 in
-    record { stops = list_stops t element.stops; words = word_list_stops t element.stops }
+told_list t told = record { stops = list_stops t told.stops; words = word_list_stops t told.stops }
 
 -- Records and tuples.
-all_stop : (types : List ValType) → AllByRecursion Told types → AllByRecursion IsBarePart (map (λ (t : ValType). Some t) types) → AllByRecursion Stops types
-all_stop [] told bare = tt
-all_stop (t ∷ types) told bare = ((told.0 bare.0).stops, all_stop types told.1 bare.1)
+all_stop : (types : List ValType) → AllByRecursion Told types → AllByRecursion Stops types
+all_stop [] told = tt
+all_stop (t ∷ types) told = (told.0.stops, all_stop types told.1)
 
-all_words_stop : (types : List ValType) → AllByRecursion Told types → AllByRecursion IsBarePart (map (λ (t : ValType). Some t) types) → AllByRecursion WordStops types
-all_words_stop [] told bare = tt
-all_words_stop (t ∷ types) told bare = ((told.0 bare.0).words, all_words_stop types told.1 bare.1)
+all_words_stop : (types : List ValType) → AllByRecursion Told types → AllByRecursion WordStops types
+all_words_stop [] told = tt
+all_words_stop (t ∷ types) told = (told.0.words, all_words_stop types told.1)
 
 types_told : (fields : List Field) → AllByRecursion ToldField fields → AllByRecursion Told (map (λ (f : Field). f.val_type) fields)
 types_told [] a = tt
 types_told (f ∷ fields) a = (a.0, types_told fields a.1)
 
 told_record : (fields : List Field) → AllByRecursion ToldField fields → Told (types.Record fields)
-told_record fields a bare =
+told_record fields a =
     let row : IsRow (out-ValType (types.Record fields)) = subst IsRow (sym (out_record fields)) tt in
     let all : List ValType = map (λ (f : Field). f.val_type) fields in
     let told = types_told fields a in
-    let each = subst (λ (ps : List (Option ValType)). AllByRecursion IsBarePart ps) (parts_of_record fields) (bare_parts (types.Record fields) bare) in
     record {
-      stops = row_stops (types.Record fields) all (all_stop all told each) row (parts_of_record fields) (λ memory place left why spot f. record_fails place left fields why spot f);
-      words = word_row_stops (types.Record fields) all (all_words_stop all told each) row (parts_of_record fields) (flat_of_record fields)
+      stops = row_stops (types.Record fields) all (all_stop all told) row (parts_of_record fields) (λ memory place left why spot f. record_fails place left fields why spot f);
+      words = word_row_stops (types.Record fields) all (all_words_stop all told) row (parts_of_record fields) (flat_of_record fields)
           (λ memory ws at left why spot f. flat_record_fails fields ws at left why spot f);
     }
 
 told_tuple : (parts : List ValType) → AllByRecursion Told parts → Told (types.Tuple parts)
-told_tuple parts a bare =
+told_tuple parts a =
     let row : IsRow (out-ValType (types.Tuple parts)) = subst IsRow (sym (out_tuple parts)) tt in
-    let each = subst (λ (ps : List (Option ValType)). AllByRecursion IsBarePart ps) (parts_of_tuple parts) (bare_parts (types.Tuple parts) bare) in
     record {
-      stops = row_stops (types.Tuple parts) parts (all_stop parts a each) row (parts_of_tuple parts) (λ memory place left why spot f. tuple_fails place left parts why spot f);
-      words = word_row_stops (types.Tuple parts) parts (all_words_stop parts a each) row (parts_of_tuple parts) (flat_of_tuple parts)
+      stops = row_stops (types.Tuple parts) parts (all_stop parts a) row (parts_of_tuple parts) (λ memory place left why spot f. tuple_fails place left parts why spot f);
+      words = word_row_stops (types.Tuple parts) parts (all_words_stop parts a) row (parts_of_tuple parts) (flat_of_tuple parts)
           (λ memory ws at left why spot f. flat_tuple_fails parts ws at left why spot f);
     }
 
@@ -182,13 +187,10 @@ record CasesFail (t : ValType) (y : F.ValType-F ValType Case Field) (kind : HasC
 
 told_cases : (t : ValType) (y : F.ValType-F ValType Case Field) → out-ValType t ≡ y → (kind : HasCases y) → ((n : ℕ) → ToldRest (part_in (parts_case y) n))
     → CasesFail t y kind → Told t
-told_cases t y o kind told fail bare =
-    let parts = subst (λ (y : F.ValType-F ValType Case Field). AllByRecursion IsBarePart (parts_case y)) o (bare_parts t bare) in
-    let each : (n : ℕ) (u : ValType) → part_in (parts_case y) n ≡ Some u → BothStop u = λ n u e. told n u e (bare_part (parts_case y) parts n u e) in
-    record {
-      stops = case_stops t y o kind (λ n u e. (each n u e).stops) fail.bad fail.payload;
-      words = word_case_stops t y o kind (λ n u e. (each n u e).words) fail.word_bad fail.word_payload;
-    }
+told_cases t y o kind told fail = record {
+  stops = case_stops t y o kind (λ n u e. (told n u e).stops) fail.bad fail.payload;
+  words = word_case_stops t y o kind (λ n u e. (told n u e).words) fail.word_bad fail.word_payload;
+}
 
 payloads_told : (cases : List Case) → AllByRecursion ToldCase cases → (n : ℕ) → ToldRest (part_in (map (λ (c : Case). c.payload) cases) n)
 payloads_told [] a n = told_nothing
@@ -293,9 +295,6 @@ layer y = map-ValType OfType OfCase OfField ValType Case Field (λ e. e.0) (λ e
 rolled : (y : F.ValType-F ValType Case Field) → NeverFails y → Told (roll-ValType y)
 rolled y k = never (roll-ValType y) y (out_of_roll y) k
 
-held_rolled : (y : F.ValType-F ValType Case Field) → IsHeld y → Told (roll-ValType y)
-held_rolled y k = held (roll-ValType y) y (out_of_roll y) k
-
 told_step : (y : F.ValType-F OfType OfCase OfField) → Told (roll-ValType (layer y))
 told_step F.Bool = rolled F.Bool tt
 told_step F.S8 = rolled F.S8 tt
@@ -329,10 +328,12 @@ told_step (F.Result (Some o) None) =
 told_step (F.Result (Some o) (Some e)) =
     told_at (roll-ValType (F.Result (Some o.0) (Some e.0))) (types.Result (Some o.0) (Some e.0)) (rolls-Result (Some o.0) (Some e.0))
     (told_result (Some o.0) (Some e.0) (told_payload o.0 o.1) (told_payload e.0 e.1))
-told_step (F.Own n) = held_rolled (F.Own n) tt
-told_step (F.Borrow n) = held_rolled (F.Borrow n) tt
-told_step (F.Stream e) = held_rolled (layer (F.Stream e)) tt
-told_step (F.Future e) = held_rolled (layer (F.Future e)) tt
+told_step (F.Own n) = rolled (F.Own n) tt
+told_step (F.Borrow n) = rolled (F.Borrow n) tt
+told_step (F.Stream None) = rolled (F.Stream None) tt
+told_step (F.Stream (Some e)) = rolled (F.Stream (Some e.0)) tt
+told_step (F.Future None) = rolled (F.Future None) tt
+told_step (F.Future (Some e)) = rolled (F.Future (Some e.0)) tt
 
 told_case_step : (y : F.Case-F OfType OfCase OfField) → ToldCase (roll-Case (map-Case OfType OfCase OfField ValType Case Field (λ e. e.0) (λ e. e.0) (λ e. e.0) y))
 told_case_step y =
@@ -344,7 +345,7 @@ told_case_step y =
 told_field_step : (y : F.Field-F OfType OfCase OfField) → ToldField (roll-Field (map-Field OfType OfCase OfField ValType Case Field (λ e. e.0) (λ e. e.0) (λ e. e.0) y))
 told_field_step y = y.val_type.1
 
-pub type_stops : (t : ValType) → IsBare t → BothStop t
+pub type_stops : (t : ValType) → BothStop t
 type_stops =
     ind-ValType Told ToldCase ToldField
     (λ x y e. subst (λ (z : F.ValType-F ValType Case Field). Told (roll-ValType z)) e (told_step y))

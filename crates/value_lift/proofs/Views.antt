@@ -8,6 +8,7 @@ use Rattle.ca_types.specs.declared.types.ValType.TheViews as types
 use Rattle.ca_types.specs.declared.types.ValType.TheViews.{the_lemmas}
 use Rattle.ca_types.specs.declared.types.ValType.TheVariants as leaves
 use Rattle.ca_types.specs.declared.value.Value.{Value}
+use Rattle.ca_types.specs.declared.value.Handle.{Handle}
 use Rattle.ca_types.specs.declared.value.Value.TheOpen as V
 use Rattle.ca_types.specs.declared.value.Value.TheViews as values
 use Rattle.ca_types.specs.declared.value.Value.TheVariants as plain
@@ -52,6 +53,18 @@ out_flags labels = search (rules, the_lemmas)
 
 pub out_enum : (labels : List (List ℕ)) → out-ValType (leaves.Enum labels) ≡ F.Enum labels
 out_enum labels = search (rules, the_lemmas)
+
+pub out_own : (resource : ℕ) → out-ValType (leaves.Own resource) ≡ F.Own resource
+out_own resource = search (rules, the_lemmas)
+
+pub out_borrow : (resource : ℕ) → out-ValType (leaves.Borrow resource) ≡ F.Borrow resource
+out_borrow resource = search (rules, the_lemmas)
+
+pub out_stream : (element : Option ValType) → out-ValType (types.Stream element) ≡ F.Stream element
+out_stream element = search (rules, the_lemmas)
+
+pub out_future : (element : Option ValType) → out-ValType (types.Future element) ≡ F.Future element
+out_future element = search (rules, the_lemmas)
 
 pub out_record : (fields : List Field) → out-ValType (types.Record fields) ≡ F.Record fields
 out_record fields = search (rules, the_lemmas)
@@ -107,6 +120,18 @@ count_string s = ap counts (sym (plain.rolls-String s)) ∙ fold-roll-Value ℕ 
 
 pub count_flags : (flags : List Bool) → counts (plain.Flags flags) ≡ 1
 count_flags flags = ap counts (sym (plain.rolls-Flags flags)) ∙ fold-roll-Value ℕ count_step (V.Flags flags)
+
+pub count_own : (handle : Handle) → counts (plain.Own handle) ≡ 1
+count_own handle = ap counts (sym (plain.rolls-Own handle)) ∙ fold-roll-Value ℕ count_step (V.Own handle)
+
+pub count_borrow : (handle : Handle) → counts (plain.Borrow handle) ≡ 1
+count_borrow handle = ap counts (sym (plain.rolls-Borrow handle)) ∙ fold-roll-Value ℕ count_step (V.Borrow handle)
+
+pub count_stream : (n : ℕ) → counts (plain.Stream n) ≡ 1
+count_stream n = ap counts (sym (plain.rolls-Stream n)) ∙ fold-roll-Value ℕ count_step (V.Stream n)
+
+pub count_future : (n : ℕ) → counts (plain.Future n) ≡ 1
+count_future n = ap counts (sym (plain.rolls-Future n)) ∙ fold-roll-Value ℕ count_step (V.Future n)
 
 pub count_list : (all : List Value) → counts (values.List all) ≡ suc (total (map counts all))
 count_list all = ap counts (sym (plain.rolls-List all)) ∙ fold-roll-Value ℕ count_step (V.List all)

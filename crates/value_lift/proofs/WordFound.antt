@@ -27,12 +27,12 @@ use Rattle.value_lift.specs.Answers.{Lifted, trap, made, uncounted, counted, cou
 use Rattle.value_lift.specs.Pieces.{Part, plain_of, part_in, string_of, text_of, elements_from, elements_of}
 use Rattle.value_lift.specs.Lifting.{lift_words, lift_word_case, layer_of, part, parts, low, word_fields_from, word_payload_of, word_case_of}
 use Rattle.value_lift.specs.Standing.{total, counts}
-use Rattle.value_lift.specs.WordStanding.{wrapped, FlatOf, AreFlat, IsFlatPayload, false_flat, true_flat, s8_flat, u8_flat, s16_flat, u16_flat, s32_flat, u32_flat, s64_flat, u64_flat, char_flat, string_flat, list_flat, flags_flat, no_flat, more_flat, no_flat_payload, flat_payload_of}
+use Rattle.value_lift.specs.WordStanding.{wrapped, FlatOf, AreFlat, IsFlatPayload, false_flat, true_flat, s8_flat, u8_flat, s16_flat, u16_flat, s32_flat, u32_flat, s64_flat, u64_flat, char_flat, own_flat, borrow_flat, stream_flat, future_flat, string_flat, list_flat, flags_flat, no_flat, more_flat, no_flat_payload, flat_payload_of}
 use Rattle.value_lift.proofs.Equations.{lift_words_is, parts_in, flats_in}
 use Rattle.value_lift.proofs.Forms.{IsPlain, IsRow, HasCases, plain_words, row_words, cases_words}
 use Rattle.value_lift.proofs.Lists.{part_image}
 use Rattle.value_lift.proofs.Passing.{ok_same, if_ok, counting_ok, after_ok, made_ok, uncounted_ok}
-use Rattle.value_lift.proofs.Views.{out_bool, out_s8, out_u8, out_s16, out_u16, out_s32, out_u32, out_s64, out_u64, out_char, out_string, out_flags, out_list, count_bool, count_s8, count_u8, count_s16, count_u16, count_s32, count_u32, count_s64, count_u64, count_char, count_string, count_flags, count_list, count_record, count_variant, payload_counts}
+use Rattle.value_lift.proofs.Views.{out_bool, out_s8, out_u8, out_s16, out_u16, out_s32, out_u32, out_own, out_borrow, out_stream, out_future, out_s64, out_u64, out_char, out_string, out_flags, out_list, count_bool, count_s8, count_u8, count_s16, count_u16, count_s32, count_u32, count_own, count_borrow, count_stream, count_future, count_s64, count_u64, count_char, count_string, count_flags, count_list, count_record, count_variant, payload_counts}
 use Rattle.value_lift.proofs.Stood.{bytes_length}
 use Rattle.value_lift.proofs.Found.{bits_are, elements_found}
 use Rattle.value_lift.proofs.TypesFound.{told_type}
@@ -179,6 +179,39 @@ pub word_u32 : WordTold leaves.U32
 word_u32 m ws at l r v room h =
     word_number_found leaves.U32 m ws at l r v F.U32 (plain.U32 (low w32 at ws)) (plain.U32 (low w32 at ws)) out_u32 tt refl room refl refl (u32_flat (low w32 at ws)) (count_u32 _) h
 
+pub word_own : (resource : ℕ) → WordTold (leaves.Own resource)
+word_own resource m ws at l r v room h =
+    word_number_found (leaves.Own resource) m ws at l r v (F.Own resource) (plain.Own (record { resource = resource; rep = low w32 at ws })) (plain.Own (record { resource = resource; rep = low w32 at ws }))
+    (out_own resource) tt refl room refl refl (own_flat resource (low w32 at ws)) (count_own _) h
+
+pub word_borrow : (resource : ℕ) → WordTold (leaves.Borrow resource)
+word_borrow resource m ws at l r v room h =
+    word_number_found (leaves.Borrow resource) m ws at l r v (F.Borrow resource) (plain.Borrow (record { resource = resource; rep = low w32 at ws })) (plain.Borrow (record { resource = resource; rep = low w32 at ws }))
+    (out_borrow resource) tt refl room refl refl (borrow_flat resource (low w32 at ws)) (count_borrow _) h
+
+-- the end of a stream or a future
+abbrev IsEnd : F.ValType-F ValType Case Field → Type 0
+IsEnd (F.Stream element) = Unit {0}
+IsEnd (F.Future element) = Unit {0}
+IsEnd other = ⊥
+
+ends_flat : (y : F.ValType-F ValType Case Field) → IsEnd y → flat_step (flats_in y) ≡ I32 ∷ []
+ends_flat (F.Stream None) h = refl
+ends_flat (F.Stream (Some t)) h = refl
+ends_flat (F.Future None) h = refl
+ends_flat (F.Future (Some t)) h = refl
+ends_flat other h = absurd h
+
+pub word_stream : (element : Option ValType) → WordTold (types.Stream element)
+word_stream element m ws at l r v room h =
+    word_number_found (types.Stream element) m ws at l r v (F.Stream element) (plain.Stream (low w32 at ws)) (plain.Stream (low w32 at ws)) (out_stream element) tt (ends_flat (F.Stream element) tt) room refl
+    refl (stream_flat element (low w32 at ws)) (count_stream _) h
+
+pub word_future : (element : Option ValType) → WordTold (types.Future element)
+word_future element m ws at l r v room h =
+    word_number_found (types.Future element) m ws at l r v (F.Future element) (plain.Future (low w32 at ws)) (plain.Future (low w32 at ws)) (out_future element) tt (ends_flat (F.Future element) tt) room refl
+    refl (future_flat element (low w32 at ws)) (count_future _) h
+
 pub word_s64 : WordTold leaves.S64
 word_s64 m ws at l r v room h =
     word_long_found leaves.S64 m ws at l r v F.S64 (plain.S64 (cast_signed w64 (low w64 at ws))) out_s64 tt refl room refl (s64_flat (low w64 at ws)) (count_s64 _) h
@@ -194,10 +227,6 @@ word_char m ws at l r v room h =
     let q = if_ok (is_scalar n) (Ok (plain.Char n)) (trap BadChar at) v p.0 in
     leaf_found leaves.Char m ws at l r v (plain.Char n) (n ∷ []) (ok_same (plain.Char n) v q.1) (first_32 leaves.Char ws at [] (flat_at leaves.Char F.Char out_char) room)
     (char_flat n q.0) (count_char n) p.1
-
--- types that have no values yet
-pub word_silent : (t : ValType) (y : F.ValType-F ValType Case Field) → out-ValType t ≡ y → IsPlain y → ((ws : List ℕ) (at : ℕ) (v : Value) → plain_of y w32 (λ w. low w at ws) at ≡ Ok v → ⊥) → WordTold t
-word_silent t y e kind none m ws at l r v room h = absurd (none ws at v (plain_found t m ws at l r v y e kind h).0)
 
 pub word_string : WordTold leaves.String
 word_string memory words at left rest v room h =

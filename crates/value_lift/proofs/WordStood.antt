@@ -26,11 +26,11 @@ use Rattle.value_lift.specs.Answers.{Lifted, trap, after, made, uncounted, count
 use Rattle.value_lift.specs.Pieces.{Part, plain_of, part_in, string_of, elements_from, elements_of, list_of, chosen, char_of}
 use Rattle.value_lift.specs.Lifting.{lift_words, lift_word_case, layer_of, part, parts, low, word_fields_from, word_payload_of, word_case_of}
 use Rattle.value_lift.specs.Standing.{AreBits, total, counts}
-use Rattle.value_lift.specs.WordStanding.{wrapped, FlatOf, AreFlat, IsFlatPayload, false_flat, true_flat, s8_flat, u8_flat, s16_flat, u16_flat, s32_flat, u32_flat, s64_flat, u64_flat, char_flat, string_flat, list_flat, record_flat, tuple_flat, flags_flat, case_flat, enum_flat, none_flat, some_flat, ok_flat, err_flat, no_flat, more_flat, no_flat_payload, flat_payload_of}
+use Rattle.value_lift.specs.WordStanding.{wrapped, FlatOf, AreFlat, IsFlatPayload, false_flat, true_flat, s8_flat, u8_flat, s16_flat, u16_flat, s32_flat, u32_flat, s64_flat, u64_flat, char_flat, own_flat, borrow_flat, stream_flat, future_flat, string_flat, list_flat, record_flat, tuple_flat, flags_flat, case_flat, enum_flat, none_flat, some_flat, ok_flat, err_flat, no_flat, more_flat, no_flat_payload, flat_payload_of}
 use Rattle.value_lift.proofs.Equations.{lift_words_is, parts_in, flats_in, flat_is}
 use Rattle.value_lift.proofs.Forms.{IsPlain, IsRow, HasCases, plain_words, row_words, cases_words}
 use Rattle.value_lift.proofs.Lists.{part_image}
-use Rattle.value_lift.proofs.Views.{out_bool, out_s8, out_u8, out_s16, out_u16, out_s32, out_u32, out_s64, out_u64, out_char, out_string, out_flags, out_enum, out_record, out_tuple, out_list, out_variant, out_option, out_result, count_bool, count_s8, count_u8, count_s16, count_u16, count_s32, count_u32, count_s64, count_u64, count_char, count_string, count_flags, count_list, count_record, count_variant, payload_counts}
+use Rattle.value_lift.proofs.Views.{out_bool, out_s8, out_u8, out_s16, out_u16, out_s32, out_u32, out_own, out_borrow, out_stream, out_future, out_s64, out_u64, out_char, out_string, out_flags, out_enum, out_record, out_tuple, out_list, out_variant, out_option, out_result, count_bool, count_s8, count_u8, count_s16, count_u16, count_s32, count_u32, count_own, count_borrow, count_stream, count_future, count_s64, count_u64, count_char, count_string, count_flags, count_list, count_record, count_variant, payload_counts}
 use Rattle.value_lift.proofs.Stood.{done, same_done, counts_one, string_told, bytes_length, elements_stood, bits_told, case_within, case_part, parts_of_record, parts_of_tuple, told_bool}
 use Rattle.value_lift.proofs.Wrapped.{wrapped_32, wrapped_64, wrapped_parts, wrapped_many, same_parts, low_8, low_16, wrapped_below, below_length, shares}
 
@@ -174,6 +174,15 @@ flat_of_record fields = flat_at (types.Record fields) (F.Record fields) (out_rec
 pub flat_of_tuple : (parts : List ValType) → flat (types.Tuple parts) ≡ all_of (map flat parts)
 flat_of_tuple parts = flat_at (types.Tuple parts) (F.Tuple parts) (out_tuple parts)
 
+-- The core type of an end.
+pub flat_of_stream : (element : Option ValType) → flat (types.Stream element) ≡ I32 ∷ []
+flat_of_stream None = flat_at (types.Stream None) (F.Stream None) (out_stream None)
+flat_of_stream (Some t) = flat_at (types.Stream (Some t)) (F.Stream (Some t)) (out_stream (Some t))
+
+pub flat_of_future : (element : Option ValType) → flat (types.Future element) ≡ I32 ∷ []
+flat_of_future None = flat_at (types.Future None) (F.Future None) (out_future None)
+flat_of_future (Some t) = flat_at (types.Future (Some t)) (F.Future (Some t)) (out_future (Some t))
+
 -- core values of several types that are there
 pub record AreThere (types : List CoreType) (words : List ℕ) (at : ℕ) (ws : List ℕ) : Type 0 where
   pub are : ws ≡ wrapped types (drop at words)
@@ -233,6 +242,18 @@ told_u16 n = Ok (plain.U16 n)
 abbrev told_s32 : ℕ → Result Value LiftTrap
 told_s32 n = Ok (plain.S32 (cast_signed w32 n))
 
+abbrev told_own : ℕ → ℕ → Result Value LiftTrap
+told_own resource n = Ok (plain.Own (record { resource = resource; rep = n }))
+
+abbrev told_borrow : ℕ → ℕ → Result Value LiftTrap
+told_borrow resource n = Ok (plain.Borrow (record { resource = resource; rep = n }))
+
+abbrev told_stream : ℕ → Result Value LiftTrap
+told_stream n = Ok (plain.Stream n)
+
+abbrev told_future : ℕ → Result Value LiftTrap
+told_future n = Ok (plain.Future n)
+
 abbrev told_u32 : ℕ → Result Value LiftTrap
 told_u32 n = Ok (plain.U32 n)
 
@@ -269,6 +290,18 @@ mutual
   word_stood {memory = m} (u32_flat w) words at left is h =
       let e = one_32 leaves.U32 m words at w [] [] (flat_at leaves.U32 F.U32 out_u32) is in
       plain_stood leaves.U32 m words at F.U32 _ left out_u32 tt (ap told_u32 (sym e.0)) (count_u32 _) h
+  word_stood {memory = m} (own_flat resource w) words at left is h =
+      let e = one_32 (leaves.Own resource) m words at w [] [] (flat_at (leaves.Own resource) (F.Own resource) (out_own resource)) is in
+      plain_stood (leaves.Own resource) m words at (F.Own resource) _ left (out_own resource) tt (ap (told_own resource) (sym e.0)) (count_own _) h
+  word_stood {memory = m} (borrow_flat resource w) words at left is h =
+      let e = one_32 (leaves.Borrow resource) m words at w [] [] (flat_at (leaves.Borrow resource) (F.Borrow resource) (out_borrow resource)) is in
+      plain_stood (leaves.Borrow resource) m words at (F.Borrow resource) _ left (out_borrow resource) tt (ap (told_borrow resource) (sym e.0)) (count_borrow _) h
+  word_stood {memory = m} (stream_flat element w) words at left is h =
+      let e = one_32 (types.Stream element) m words at w [] [] (flat_of_stream element) is in
+      plain_stood (types.Stream element) m words at (F.Stream element) _ left (out_stream element) tt (ap told_stream (sym e.0)) (count_stream _) h
+  word_stood {memory = m} (future_flat element w) words at left is h =
+      let e = one_32 (types.Future element) m words at w [] [] (flat_of_future element) is in
+      plain_stood (types.Future element) m words at (F.Future element) _ left (out_future element) tt (ap told_future (sym e.0)) (count_future _) h
   word_stood {memory = m} (s64_flat w) words at left is h =
       let e = one_64 leaves.S64 m words at w [] [] (flat_at leaves.S64 F.S64 out_s64) is in
       plain_stood leaves.S64 m words at F.S64 _ left out_s64 tt (ap told_s64 (sym e)) (count_s64 _) h

@@ -7,21 +7,19 @@ use Rattle.ca_types.specs.declared.types.Field.{Field}
 use Rattle.ca_types.specs.declared.types.ValType.TheViews as types
 use Rattle.ca_types.specs.declared.types.ValType.TheViews.{roll-Case, roll-Field}
 use Rattle.ca_types.specs.declared.types.ValType.TheVariants as leaves
-use Rattle.ca_types.specs.declared.types.ValType.TheVariants.{rolls-Bool, rolls-S8, rolls-U8, rolls-S16, rolls-U16, rolls-S32, rolls-U32, rolls-S64, rolls-U64, rolls-Char, rolls-String, rolls-Record, rolls-Variant, rolls-List, rolls-Tuple, rolls-Flags, rolls-Enum, rolls-Option, rolls-Result}
+use Rattle.ca_types.specs.declared.types.ValType.TheVariants.{rolls-Bool, rolls-S8, rolls-U8, rolls-S16, rolls-U16, rolls-S32, rolls-U32, rolls-S64, rolls-U64, rolls-Char, rolls-String, rolls-Record, rolls-Variant, rolls-List, rolls-Tuple, rolls-Flags, rolls-Enum, rolls-Option, rolls-Result, rolls-Own, rolls-Borrow, rolls-Stream, rolls-Future}
 use Rattle.ca_types.specs.declared.types.ValType.TheOpen as F
 use Rattle.ca_types.specs.declared.types.ValType.TheFolds.{ind-ValType, map-ValType, map-Case, map-Field}
 use Rattle.ca_types.specs.declared.value.Value.{Value}
 use Rattle.ca_types.specs.declared.value.Value.TheViews as values
-use Rattle.value_lift.specs.declared.trap.LiftWhy.TheVariants.{BadCase}
-use Rattle.value_lift.specs.Answers.{trap}
 use Rattle.value_lift.specs.Pieces.{part_in}
 use Rattle.value_lift.specs.WordStanding.{wrapped, FlatOf, IsFlatPayload, record_flat, tuple_flat, case_flat, enum_flat, none_flat, some_flat, ok_flat, err_flat, no_flat_payload}
 use Rattle.value_lift.proofs.Forms.{IsRow}
 use Rattle.value_lift.proofs.Stood.{parts_of_record, parts_of_tuple, case_part}
-use Rattle.value_lift.proofs.TypesFound.{all_of_entries, out_of_roll, no_value, case_there}
+use Rattle.value_lift.proofs.TypesFound.{all_of_entries, case_there}
 use Rattle.value_lift.proofs.Views.{out_record, out_tuple, out_variant, out_enum, out_option, out_result}
 use Rattle.value_lift.proofs.WordStood.{flat_of_record, flat_of_tuple}
-use Rattle.value_lift.proofs.WordFound.{WordTold, WordToldRest, word_told_nothing, word_told_payload, word_bool, word_s8, word_u8, word_s16, word_u16, word_s32, word_u32, word_s64, word_u64, word_char, word_string, word_flags, word_list, word_row, word_cases, word_silent}
+use Rattle.value_lift.proofs.WordFound.{WordTold, WordToldRest, word_told_nothing, word_told_payload, word_bool, word_s8, word_u8, word_s16, word_u16, word_s32, word_u32, word_own, word_borrow, word_stream, word_future, word_s64, word_u64, word_char, word_string, word_flags, word_list, word_row, word_cases}
 use Rattle.value_lift.proofs.Wrapped.{shares, enum_shares}
 
 abbrev ToldCase : Case → Type 0
@@ -151,10 +149,12 @@ told_step (F.Result (Some o) None) =
 told_step (F.Result (Some o) (Some e)) =
     told_at (roll-ValType (F.Result (Some o.0) (Some e.0))) (types.Result (Some o.0) (Some e.0)) (rolls-Result (Some o.0) (Some e.0))
     (told_result (Some o.0) (Some e.0) (word_told_payload o.0 o.1) (word_told_payload e.0 e.1))
-told_step (F.Own n) = word_silent (roll-ValType (F.Own n)) (F.Own n) (out_of_roll (F.Own n)) tt (λ ws at v h. no_value v (trap BadCase at) h)
-told_step (F.Borrow n) = word_silent (roll-ValType (F.Borrow n)) (F.Borrow n) (out_of_roll (F.Borrow n)) tt (λ ws at v h. no_value v (trap BadCase at) h)
-told_step (F.Stream e) = word_silent (roll-ValType (layer (F.Stream e))) (layer (F.Stream e)) (out_of_roll (layer (F.Stream e))) tt (λ ws at v h. no_value v (trap BadCase at) h)
-told_step (F.Future e) = word_silent (roll-ValType (layer (F.Future e))) (layer (F.Future e)) (out_of_roll (layer (F.Future e))) tt (λ ws at v h. no_value v (trap BadCase at) h)
+told_step (F.Own n) = told_at (roll-ValType (F.Own n)) (leaves.Own n) (rolls-Own n) (word_own n)
+told_step (F.Borrow n) = told_at (roll-ValType (F.Borrow n)) (leaves.Borrow n) (rolls-Borrow n) (word_borrow n)
+told_step (F.Stream None) = told_at (roll-ValType (F.Stream None)) (types.Stream None) (rolls-Stream None) (word_stream None)
+told_step (F.Stream (Some e)) = told_at (roll-ValType (F.Stream (Some e.0))) (types.Stream (Some e.0)) (rolls-Stream (Some e.0)) (word_stream (Some e.0))
+told_step (F.Future None) = told_at (roll-ValType (F.Future None)) (types.Future None) (rolls-Future None) (word_future None)
+told_step (F.Future (Some e)) = told_at (roll-ValType (F.Future (Some e.0))) (types.Future (Some e.0)) (rolls-Future (Some e.0)) (word_future (Some e.0))
 
 told_case_step : (y : F.Case-F OfType OfCase OfField) → ToldCase (roll-Case (map-Case OfType OfCase OfField ValType Case Field (λ e. e.0) (λ e. e.0) (λ e. e.0) y))
 told_case_step y =

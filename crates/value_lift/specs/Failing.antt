@@ -1,8 +1,8 @@
 -- Why no value of a type stands at a place of a memory, and where (Component Model, CanonicalABI.md, "Loading"), by cases on the type and
 -- on what is wrong. The reason is that of the first part, from left to right, that stands for nothing, and the spot is the place of that
 -- part's first byte. The parts before it stand, as `specs/Standing` says, and are counted. A value is counted when it is reached; the
--- bytes of a text are counted where all are inside, before they are tested. For handles and the ends of streams and futures there is no
--- case yet. `specs/Lifting` computes what this says; the laws in `specs/Laws` say that both are the same.
+-- bytes of a text are counted where all are inside, before they are tested. A handle and an end that are told by their index do not fail
+-- once they are counted. `specs/Lifting` computes what this says; the laws in `specs/Laws` say that both are the same.
 use Rattle.std.specs.Prelude.{◌≡◌, ◌≢◌, ◌≤◌, ◌<◌, ◌+◌, ◌*◌, ◌%◌, ℕ, suc, IsFalse, List, ◌∷◌, map, length, Option, Some}
 use Rattle.std.specs.List.{slice_get}
 use Rattle.std.specs.Int.{w32}

@@ -1,13 +1,11 @@
 -- What holds of lifting alone: what is lifted from a memory is what stands there, and nothing else is; where no value stands, it stops at
 -- the first part that stands for nothing, and for its reason; so there is one value or one fault. The same of core values.
-use Rattle.std.specs.Prelude.{◌≡◌, ◌≤◌, ◌<◌, ◌+◌, ◌-◌, ◌↔◌, ◌⊎◌, ℕ, false, List, map, length, Ok, Err}
+use Rattle.std.specs.Prelude.{◌≡◌, ◌≤◌, ◌<◌, ◌+◌, ◌-◌, ◌↔◌, ◌⊎◌, ℕ, List, map, length, Ok, Err}
 use Rattle.ca_types.specs.declared.types.ValType.{ValType}
 use Rattle.ca_types.specs.declared.value.Value.{Value}
 use Rattle.value_lift.specs.declared.counting.LiftOf.{LiftOf}
 use Rattle.value_lift.specs.declared.trap.LiftWhy.{LiftWhy}
-use Rattle.ca_types.specs.Ends.{has_end}
 use Rattle.ca_types.specs.Flat.{flat}
-use Rattle.laid_types.specs.Handles.{has_handle}
 use Rattle.value_lift.specs.Answers.{trap}
 use Rattle.value_lift.specs.Lifting.{lift, load, load_list, lift_flat, most}
 use Rattle.value_lift.specs.Standing.{Stands, total, counts}
@@ -60,33 +58,28 @@ LiftedWordsStand =
     (what : LiftOf) (type : ValType) (memory words : List ℕ) (v : Value) → AreWords (flat type) words
     → (lift_flat what type memory words ≡ Ok v) ↔ IsLifted what type memory words v
 
--- A type that holds no handle and no end of a stream or a future.
-pub record IsBare (type : ValType) : Type 0 where
-  pub handles : has_handle type ≡ false
-  pub ends : has_end type ≡ false
-
 -- Lifting from a memory stops exactly where the value at the place fails, for the same reason and at the same spot.
 abbrev pub FailingValuesStop : Type 0
 FailingValuesStop =
-    (type : ValType) (memory : List ℕ) (place left : ℕ) (why : LiftWhy) (spot : ℕ) → IsBare type
+    (type : ValType) (memory : List ℕ) (place left : ℕ) (why : LiftWhy) (spot : ℕ)
     → (lift type memory place left ≡ Err (trap why spot)) ↔ Fails memory place type left why spot
 
 -- Loading a value stops exactly where it fails.
 abbrev pub FailingLoadsStop : Type 0
 FailingLoadsStop =
-    (what : LiftOf) (type : ValType) (memory : List ℕ) (place : ℕ) (why : LiftWhy) (spot : ℕ) → IsBare type
+    (what : LiftOf) (type : ValType) (memory : List ℕ) (place : ℕ) (why : LiftWhy) (spot : ℕ)
     → (load what type memory place ≡ Err (trap why spot)) ↔ LoadFails what type memory place why spot
 
 -- Loading values one after the other stops exactly where they fail.
 abbrev pub FailingListsStop : Type 0
 FailingListsStop =
-    (type : ValType) (memory : List ℕ) (place count : ℕ) (why : LiftWhy) (spot : ℕ) → IsBare type
+    (type : ValType) (memory : List ℕ) (place count : ℕ) (why : LiftWhy) (spot : ℕ)
     → (load_list type memory place count ≡ Err (trap why spot)) ↔ LoadListFails type memory place count why spot
 
 -- Lifting from core values, which are of the type's core types, stops exactly where they fail.
 abbrev pub FailingWordsStop : Type 0
 FailingWordsStop =
-    (what : LiftOf) (type : ValType) (memory words : List ℕ) (why : LiftWhy) (spot : ℕ) → IsBare type → AreWords (flat type) words
+    (what : LiftOf) (type : ValType) (memory words : List ℕ) (why : LiftWhy) (spot : ℕ) → AreWords (flat type) words
     → (lift_flat what type memory words ≡ Err (trap why spot)) ↔ LiftFlatFails what type memory words why spot
 
 -- There is one thing, or one fault, and never both.
@@ -98,15 +91,15 @@ pub record OneOrFault {A : Type 0} (Is : A → Type 0) (Faults : LiftWhy → ℕ
 
 -- So a place has one value of a type, or one fault;
 abbrev pub OneIsLoaded : Type 0
-OneIsLoaded = (what : LiftOf) (type : ValType) (memory : List ℕ) (place : ℕ) → IsBare type → OneOrFault (IsLoaded what type memory place) (LoadFails what type memory place)
+OneIsLoaded = (what : LiftOf) (type : ValType) (memory : List ℕ) (place : ℕ) → OneOrFault (IsLoaded what type memory place) (LoadFails what type memory place)
 
 -- it has one list of so many values, where that is one at least, or one fault;
 abbrev pub OneListIsLoaded : Type 0
 OneListIsLoaded =
-    (type : ValType) (memory : List ℕ) (place count : ℕ) → IsBare type → 0 < count → OneOrFault (AreLoaded type memory place count) (LoadListFails type memory place count)
+    (type : ValType) (memory : List ℕ) (place count : ℕ) → 0 < count → OneOrFault (AreLoaded type memory place count) (LoadListFails type memory place count)
 
 -- and core values, which are of the type's core types, have one value of the type, or one fault.
 abbrev pub OneIsLifted : Type 0
 OneIsLifted =
-    (what : LiftOf) (type : ValType) (memory words : List ℕ) → IsBare type → AreWords (flat type) words
+    (what : LiftOf) (type : ValType) (memory words : List ℕ) → AreWords (flat type) words
     → OneOrFault (IsLifted what type memory words) (LiftFlatFails what type memory words)

@@ -1,4 +1,7 @@
 pub mod Bytes
+pub mod Leaves
+pub mod Ledger
+pub mod Over
 pub mod Answers
 pub mod Pieces
 pub mod Lifting

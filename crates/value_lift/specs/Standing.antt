@@ -1,7 +1,7 @@
 -- Which value of a type stands at a place of a memory (Component Model, CanonicalABI.md, "Loading"), by cases on the value. That the
 -- place is a multiple of the alignment, and that all bytes of the value are inside, is not said here, since for its parts it follows
--- from the same of the whole: `specs/Stored` says it of the whole. For handles and the ends of streams and futures there is no case
--- yet. `specs/Lifting` computes what this says; the laws in `specs/Laws` say that both are the same.
+-- from the same of the whole: `specs/Stored` says it of the whole. A handle and the end of a stream or a future are told by
+-- their index, in the place of what it names. `specs/Lifting` computes what this says; the laws in `specs/Laws` say that both are the same.
 use Rattle.std.specs.Prelude.{◌≡◌, ◌≢◌, ◌≤◌, ◌<◌, ◌+◌, ◌*◌, ◌%◌, ◌/◌, ℕ, suc, Bool, true, false, IsTrue, List, [], ◌∷◌, map, length, Option, Some, None}
 use Rattle.std.specs.List.{slice_get}
 use Rattle.std.specs.Int.{w8, w16, w32, w64, cast_signed}
@@ -47,6 +47,12 @@ mutual
     u64_stands : (place : ℕ) → Stands memory place leaves.U64 (plain.U64 (number w64 place memory))
     -- A character is its number, a Unicode scalar value.
     char_stands : (place : ℕ) → IsTrue (is_scalar (number w32 place memory)) → Stands memory place leaves.Char (plain.Char (number w32 place memory))
+    -- A handle is its index.
+    own_stands : (place resource : ℕ) → Stands memory place (leaves.Own resource) (plain.Own (record { resource = resource; rep = number w32 place memory }))
+    borrow_stands : (place resource : ℕ) → Stands memory place (leaves.Borrow resource) (plain.Borrow (record { resource = resource; rep = number w32 place memory }))
+    -- So is the end of a stream or a future.
+    stream_stands : (place : ℕ) (element : Option ValType) → Stands memory place (types.Stream element) (plain.Stream (number w32 place memory))
+    future_stands : (place : ℕ) (element : Option ValType) → Stands memory place (types.Future element) (plain.Future (number w32 place memory))
     -- A text is the place and the number of its bytes, which are inside and UTF-8.
     string_stands : (place at count : ℕ) → number w32 place memory ≡ at → number w32 (place + 4) memory ≡ count → at + count ≤ length memory
         → IsUtf8 (bytes_at at count memory) → Stands memory place leaves.String (plain.String (bytes_at at count memory))

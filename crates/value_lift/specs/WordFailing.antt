@@ -1,7 +1,7 @@
 -- Why core values stand for no value of a type, over a memory, and where (Component Model, CanonicalABI.md, "Flat Lifting"), by cases on
 -- the type and on what is wrong, as `specs/Failing` says it of a memory. The spot of a part that stands in core values is the number of
--- its first one; what stands behind a place in memory has its spots in memory. For handles and the ends of streams and futures there
--- is no case yet. `specs/Lifting` computes what this says; the laws in `specs/Laws` say that both are the same.
+-- its first one; what stands behind a place in memory has its spots in memory. A handle and an end that are told by their index do
+-- not fail once they are counted. `specs/Lifting` computes what this says; the laws in `specs/Laws` say that both are the same.
 use Rattle.std.specs.Prelude.{◌≡◌, ◌≢◌, ◌≤◌, ◌<◌, ◌+◌, ◌*◌, ◌%◌, ℕ, suc, IsFalse, List, [], ◌∷◌, ◌++◌, map, length, Option, Some}
 use Rattle.std.specs.List.{slice_get}
 use Rattle.std.specs.Str.{IsUtf8}

@@ -1,7 +1,7 @@
 -- Which value of a type some core values stand for, over a memory (Component Model, CanonicalABI.md, "Flat Lifting"), by cases on the
--- value. That they are of the type's core types is not said here: `specs/Stored` says it of the whole. For handles and the ends of
--- streams and futures there is no case yet. `specs/Lifting` computes what this says; the laws in `specs/Laws` say that both are the
--- same.
+-- value. That they are of the type's core types is not said here: `specs/Stored` says it of the whole. A handle and the end of a
+-- stream or a future are told by their index, in the place of what it names. `specs/Lifting` computes what this says; the laws in
+-- `specs/Laws` say that both are the same.
 use Rattle.std.specs.Prelude.{◌≡◌, ◌≢◌, ◌≤◌, ◌<◌, ◌+◌, ◌*◌, ◌%◌, ◌^◌, ℕ, Bool, true, false, IsTrue, List, [], ◌∷◌, ◌++◌, map, length, Option, Some, None}
 use Rattle.std.specs.List.{slice_get}
 use Rattle.std.specs.Int.{w8, w16, w32, w64, cast_signed}
@@ -51,6 +51,12 @@ mutual
     s64_flat : (w : ℕ) → FlatOf memory leaves.S64 (plain.S64 (cast_signed w64 w)) (w ∷ [])
     u64_flat : (w : ℕ) → FlatOf memory leaves.U64 (plain.U64 w) (w ∷ [])
     char_flat : (w : ℕ) → IsTrue (is_scalar w) → FlatOf memory leaves.Char (plain.Char w) (w ∷ [])
+    -- A handle is its index.
+    own_flat : (resource w : ℕ) → FlatOf memory (leaves.Own resource) (plain.Own (record { resource = resource; rep = w })) (w ∷ [])
+    borrow_flat : (resource w : ℕ) → FlatOf memory (leaves.Borrow resource) (plain.Borrow (record { resource = resource; rep = w })) (w ∷ [])
+    -- So is the end of a stream or a future.
+    stream_flat : (element : Option ValType) (w : ℕ) → FlatOf memory (types.Stream element) (plain.Stream w) (w ∷ [])
+    future_flat : (element : Option ValType) (w : ℕ) → FlatOf memory (types.Future element) (plain.Future w) (w ∷ [])
     -- Texts and lists are a place in the memory and a number of bytes or elements.
     string_flat : (at count : ℕ) → at + count ≤ length memory → IsUtf8 (bytes_at at count memory)
         → FlatOf memory leaves.String (plain.String (bytes_at at count memory)) (at ∷ count ∷ [])

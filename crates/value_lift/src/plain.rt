@@ -10,7 +10,7 @@ ghost use Rattle.value_lift.specs.Pieces.{plain_of, char_of, flags_of};
 use crate::bytes::{number8, number16, number32, number64};
 use crate::trap::{LiftTrap, LiftWhy};
 use ca_base::{Memory, Name, Seq};
-use ca_types::{ValType, Value};
+use ca_types::{Handle, ValType, Value};
 use std::alloc::Global;
 
 /// The character with this number.
@@ -53,6 +53,16 @@ pub(crate) fn plain_at(memory: &[u8], place: usize, val_type: &ValType) -> Resul
         ValType::S64 => Ok(Value::S64(number64(memory, place).cast_signed())),
         ValType::U64 => Ok(Value::U64(number64(memory, place))),
         ValType::Char => char_of(number32(memory, place), place as u64),
+        ValType::Own(resource) => Ok(Value::Own(Handle {
+            resource: *resource,
+            rep: number32(memory, place),
+        })),
+        ValType::Borrow(resource) => Ok(Value::Borrow(Handle {
+            resource: *resource,
+            rep: number32(memory, place),
+        })),
+        ValType::Stream(_) => Ok(Value::Stream(number32(memory, place))),
+        ValType::Future(_) => Ok(Value::Future(number32(memory, place))),
         _ => Err(LiftTrap::at(LiftWhy::BadCase, place as u64)),
     }
 }

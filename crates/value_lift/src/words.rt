@@ -20,7 +20,7 @@ use crate::plain::{char_of, flags_of};
 use crate::texts::string_of;
 use crate::trap::{LiftError, LiftTrap, LiftWhy};
 use ca_base::Seq;
-use ca_types::{Boxed, ValType, Value, Values};
+use ca_types::{Boxed, Handle, ValType, Value, Values};
 use laid_types::LaidType;
 use std::alloc::Global;
 
@@ -47,6 +47,16 @@ fn plain_word(word: u64, at: u64, val_type: &ValType) -> Result<Value, LiftTrap>
         ValType::S64 => Ok(Value::S64(word.cast_signed())),
         ValType::U64 => Ok(Value::U64(word)),
         ValType::Char => char_of((word % (1 << 32)) as u32, at),
+        ValType::Own(resource) => Ok(Value::Own(Handle {
+            resource: *resource,
+            rep: (word % (1 << 32)) as u32,
+        })),
+        ValType::Borrow(resource) => Ok(Value::Borrow(Handle {
+            resource: *resource,
+            rep: (word % (1 << 32)) as u32,
+        })),
+        ValType::Stream(_) => Ok(Value::Stream((word % (1 << 32)) as u32)),
+        ValType::Future(_) => Ok(Value::Future((word % (1 << 32)) as u32)),
         _ => Err(LiftTrap::at(LiftWhy::BadCase, at)),
     }
 }

@@ -37,10 +37,6 @@ IsPlain (V.List all) = ⊥
 IsPlain (V.Record all) = ⊥
 IsPlain (V.Variant n payload) = ⊥
 IsPlain (V.Flags flags) = ⊥
-IsPlain (V.Own handle) = ⊥
-IsPlain (V.Borrow handle) = ⊥
-IsPlain (V.Stream number) = ⊥
-IsPlain (V.Future number) = ⊥
 IsPlain other = Unit {0}
 
 plain_lies : (y : Layer) (w : V.Value-F Value) → passes (tests_in y) w ≡ true → IsPlain w → length (plain_bytes w) ≡ (lies y).size
@@ -82,13 +78,13 @@ plain_lies (F.Option part) (V.Variant n payload) h i = absurd i
 plain_lies (F.Option part) other h i = cc
 plain_lies (F.Result ok err) (V.Variant n payload) h i = absurd i
 plain_lies (F.Result ok err) other h i = cc
-plain_lies (F.Own resource) (V.Own handle) h i = absurd i
+plain_lies (F.Own resource) (V.Own handle) h i = refl
 plain_lies (F.Own resource) other h i = cc
-plain_lies (F.Borrow resource) (V.Borrow handle) h i = absurd i
+plain_lies (F.Borrow resource) (V.Borrow handle) h i = refl
 plain_lies (F.Borrow resource) other h i = cc
-plain_lies (F.Stream element) (V.Stream number) h i = absurd i
+plain_lies (F.Stream element) (V.Stream number) h i = refl
 plain_lies (F.Stream element) other h i = cc
-plain_lies (F.Future element) (V.Future number) h i = absurd i
+plain_lies (F.Future element) (V.Future number) h i = refl
 plain_lies (F.Future element) other h i = cc
 
 some_bytes : {A : Type 0} (w : V.Value-F A) → IsPlain w → 1 ≤ length (plain_bytes w)
@@ -102,6 +98,10 @@ some_bytes (V.U32 n) i = omega arith
 some_bytes (V.S64 n) i = omega arith
 some_bytes (V.U64 n) i = omega arith
 some_bytes (V.Char c) i = omega arith
+some_bytes (V.Own handle) i = omega arith
+some_bytes (V.Borrow handle) i = omega arith
+some_bytes (V.Stream number) i = omega arith
+some_bytes (V.Future number) i = omega arith
 some_bytes other i = absurd i
 
 pub plain_size : (t : ValType) (w : V.Value-F Value) → passes (tests_in (out-ValType t)) w ≡ true → IsPlain w → (1 ≤ length (plain_bytes w)) × (length (plain_bytes w) ≡ (laid t).size)
@@ -197,18 +197,13 @@ flag_bytes n =
 
 -- a value that has none of the forms with parts
 pub is_plain : (v : Value) → ((x : _) → v ≡ plain.String x → ⊥) → ((x : _) → v ≡ values.List x → ⊥) → ((x : _) → v ≡ values.Record x → ⊥)
-    → ((x : _) (p : _) → v ≡ values.Variant x p → ⊥) → ((x : _) → v ≡ plain.Flags x → ⊥) → ((x : _) → v ≡ plain.Own x → ⊥) → ((x : _) → v ≡ plain.Borrow x → ⊥)
-    → ((x : _) → v ≡ plain.Stream x → ⊥) → ((x : _) → v ≡ plain.Future x → ⊥) → IsPlain (out-Value v)
-is_plain v a b c d e f g h i =
+    → ((x : _) (p : _) → v ≡ values.Variant x p → ⊥) → ((x : _) → v ≡ plain.Flags x → ⊥) → IsPlain (out-Value v)
+is_plain v a b c d e =
     elim (out-Value v) as (λ (w : V.Value-F Value). (roll-Value w ≡ v → IsPlain w)) [
       | V.String x ↦ λ s. a x (sym s ∙ plain.rolls-String x)
       | V.List x ↦ λ s. b x (sym s ∙ plain.rolls-List x)
       | V.Record x ↦ λ s. c x (sym s ∙ plain.rolls-Record x)
       | V.Variant x p ↦ λ s. d x p (sym s ∙ plain.rolls-Variant x p)
       | V.Flags x ↦ λ s. e x (sym s ∙ plain.rolls-Flags x)
-      | V.Own x ↦ λ s. f x (sym s ∙ plain.rolls-Own x)
-      | V.Borrow x ↦ λ s. g x (sym s ∙ plain.rolls-Borrow x)
-      | V.Stream x ↦ λ s. h x (sym s ∙ plain.rolls-Stream x)
-      | V.Future x ↦ λ s. i x (sym s ∙ plain.rolls-Future x)
       | other ↦ λ s. tt
     ] (roll-out-Value v)

@@ -11,56 +11,18 @@ use Rattle.ca_types.specs.declared.value.Value.{Value, out-Value}
 use Rattle.ca_types.specs.declared.value.Value.TheOpen as V
 use Rattle.ca_types.specs.declared.value.Value.TheViews.{the_lemmas, roll-Value}
 use Rattle.ca_types.specs.declared.value.Value.TheFolds.{map-Value, ind-Value, fold-roll-Value}
-use Rattle.ca_types.specs.Ends.{has_end, some_true, held_end}
 use Rattle.ca_types.specs.Fits.{test_of, fits, each_passes}
 use Rattle.ca_types.specs.Flat.{flat, all_of, joined_all}
 use Rattle.ca_types.specs.Layout.{laid, aligned}
-use Rattle.laid_types.specs.Handles.{has_handle, held_handle}
 use Rattle.laid_types.specs.Parts.{parts_of, parts_case, part_at}
-use Rattle.laid_types.specs.Gathered.{flats, flat_over, ends, handles, end_over, handle_over}
+use Rattle.laid_types.specs.Gathered.{flats, flat_over}
 use Rattle.laid_types.proofs.ByParts.{flat_by_parts}
-use Rattle.laid_types.proofs.HeldByParts.{end_by_parts, handle_by_parts}
 use Rattle.value_lower.specs.Plan.{Plan}
 use Rattle.value_lower.specs.Lowering.{Lowered, lowered, lower_step, store, flat_words, store_case, words_case, elements_from, list_in, fields_from, payload_at, field_words, payload_words, filled, pointed, plain_word, flags_number}
 use Rattle.value_lower.proofs.Fitted.{Layer, tests_in, passes, by_layers, payload_fits}
 use Rattle.value_lower.proofs.Bytes.{IsPlain}
 use Rattle.value_lower.proofs.FlatWords.{of_joined}
 use Rattle.value_lower.proofs.Giving.{AllGive, asked_gives, text_gives}
-
--- A type that holds no handle and no end.
-pub record HoldsNone (t : ValType) : Type 0 where
-  pub handle : has_handle t ≡ false
-  pub end : has_end t ≡ false
-
-or_left_false : (a b : Bool) → (a || b) ≡ false → a ≡ false
-or_left_false true b h = cc
-or_left_false false b h = refl
-
-or_right_false : (a b : Bool) → (a || b) ≡ false → b ≡ false
-or_right_false true b h = cc
-or_right_false false b h = h
-
-none_true : (f : Option ValType → Bool) (types : List (Option ValType)) (n : ℕ) (p : ValType) → some_true (map f types) ≡ false → option_and_then (λ part. part) (slice_get types n) ≡ Some p → f (Some p) ≡ false
-none_true f [] n p h i = cc
-none_true f (o ∷ types) zero p h i = ap f (sym i) ∙ or_left_false (f o) (some_true (map f types)) h
-none_true f (o ∷ types) (suc n) p h i = none_true f types n p (or_right_false (f o) (some_true (map f types)) h) i
-
-part_holds_none : (y : Layer) (n : ℕ) (p : ValType) → handle_over y (handles (parts_case y)) ≡ false → end_over y (ends (parts_case y)) ≡ false
-    → option_and_then (λ part. part) (slice_get (parts_case y) n) ≡ Some p → HoldsNone p
-part_holds_none (F.Own r) n p h e i = cc
-part_holds_none (F.Borrow r) n p h e i = cc
-part_holds_none (F.Stream t) n p h e i = cc
-part_holds_none (F.Future t) n p h e i = cc
-part_holds_none (F.Record fields) n p h e i = record { handle = none_true held_handle (parts_case (F.Record fields)) n p h i; end = none_true held_end (parts_case (F.Record fields)) n p e i }
-part_holds_none (F.Variant cases) n p h e i = record { handle = none_true held_handle (parts_case (F.Variant cases)) n p h i; end = none_true held_end (parts_case (F.Variant cases)) n p e i }
-part_holds_none (F.Tuple parts) n p h e i = record { handle = none_true held_handle (parts_case (F.Tuple parts)) n p h i; end = none_true held_end (parts_case (F.Tuple parts)) n p e i }
-part_holds_none (F.List t) n p h e i = record { handle = none_true held_handle (Some t ∷ []) n p h i; end = none_true held_end (Some t ∷ []) n p e i }
-part_holds_none (F.Option t) n p h e i = record { handle = none_true held_handle (None ∷ Some t ∷ []) n p h i; end = none_true held_end (None ∷ Some t ∷ []) n p e i }
-part_holds_none (F.Result ok err) n p h e i = record { handle = none_true held_handle (ok ∷ err ∷ []) n p h i; end = none_true held_end (ok ∷ err ∷ []) n p e i }
-part_holds_none other n p h e i = cc
-
-parts_hold_none : (t : ValType) → HoldsNone t → (n : ℕ) (p : ValType) → part_at t n ≡ Some p → HoldsNone p
-parts_hold_none t h n p i = part_holds_none (out-ValType t) n p (sym (handle_by_parts t) ∙ h.handle) (sym (end_by_parts t) ∙ h.end) i
 
 -- How many core values a layer has.
 abbrev count_of : Layer → ℕ
@@ -107,22 +69,6 @@ cases_count (F.Option part) n payload h = refl
 cases_count (F.Result ok err) n payload h = refl
 cases_count other n payload h = cc
 
-no_own : (y : Layer) (w : _) → passes (tests_in y) (V.Own w) ≡ true → handle_over y (handles (parts_case y)) ≡ false → ⊥
-no_own (F.Own r) w h i = cc
-no_own other w h i = cc
-
-no_borrow : (y : Layer) (w : _) → passes (tests_in y) (V.Borrow w) ≡ true → handle_over y (handles (parts_case y)) ≡ false → ⊥
-no_borrow (F.Borrow r) w h i = cc
-no_borrow other w h i = cc
-
-no_stream : (y : Layer) (w : ℕ) → passes (tests_in y) (V.Stream w) ≡ true → end_over y (ends (parts_case y)) ≡ false → ⊥
-no_stream (F.Stream t) w h i = cc
-no_stream other w h i = cc
-
-no_future : (y : Layer) (w : ℕ) → passes (tests_in y) (V.Future w) ≡ true → end_over y (ends (parts_case y)) ≡ false → ⊥
-no_future (F.Future t) w h i = cc
-no_future other w h i = cc
-
 -- Values that are each of the type at their place.
 abbrev Row : List (Option ValType) → List Value → Type 0
 Row [] [] = Unit {0}
@@ -161,7 +107,7 @@ module _ (Q : List ℕ → Type 0) where
   -- Whatever follows gives such core values, if it does so behind as many as stand for the type.
   pub record Good (v : Value) : Type 0 where
     pub store : (t : ValType) (place : ℕ) (k : Plan) → AllGive Q k → AllGive Q (store t v place k)
-    pub words : (t : ValType) (before : List ℕ) (k : List ℕ → Plan) → HoldsNone t → fits v t ≡ true
+    pub words : (t : ValType) (before : List ℕ) (k : List ℕ → Plan) → fits v t ≡ true
         → ((ws : List ℕ) → length ws ≡ length before + length (flat t) → AllGive Q (k ws)) → AllGive Q (flat_words t v before k)
 
   abbrev Goods : Type 0
@@ -211,23 +157,22 @@ module _ (Q : List ℕ → Type 0) where
   store_gives other t place k h = h
 
   fields_count : (types : List (Option ValType)) (es : List Goods) (before : List ℕ) (k : List ℕ → Plan) → Row types (these es)
-      → ((n : ℕ) (p : ValType) → option_and_then (λ part. part) (slice_get types n) ≡ Some p → HoldsNone p)
       → ((ws : List ℕ) → length ws ≡ length before + length (all_of (flats types)) → AllGive Q (k ws)) → AllGive Q (field_words types (map lowered (these es)) before k)
-  fields_count [] [] before k r none h = h before (omega arith)
-  fields_count [] (e ∷ es) before k r none h = absurd r
-  fields_count (None ∷ types) es before k r none h = absurd r
-  fields_count (Some t ∷ types) [] before k r none h = absurd r
-  fields_count (Some t ∷ types) (e ∷ es) before k r none h =
-      e.1.words t before (λ words. field_words types (map lowered (these es)) words k) (none 0 t refl) r.0
-      (λ ws i. fields_count types es ws k r.1 (λ n p j. none (suc n) p j) (λ us j. h us (omega (arith, i, j, length-append (flat t) (all_of (flats types))))))
+  fields_count [] [] before k r h = h before (omega arith)
+  fields_count [] (e ∷ es) before k r h = absurd r
+  fields_count (None ∷ types) es before k r h = absurd r
+  fields_count (Some t ∷ types) [] before k r h = absurd r
+  fields_count (Some t ∷ types) (e ∷ es) before k r h =
+      e.1.words t before (λ words. field_words types (map lowered (these es)) words k) r.0
+      (λ ws i. fields_count types es ws k r.1 (λ us j. h us (omega (arith, i, j, length-append (flat t) (all_of (flats types))))))
 
   payload_count : (t : ValType) (o : Option ValType) (e : Goods) (before : List ℕ) (k : List ℕ → Plan)
-      → ((p : ValType) → o ≡ Some p → HoldsNone p × (fits e.0 p ≡ true) × (suc (length (flat p)) ≤ length (flat t)))
+      → ((p : ValType) → o ≡ Some p → (fits e.0 p ≡ true) × (suc (length (flat p)) ≤ length (flat t)))
       → 1 ≤ length (flat t)
       → ((ws : List ℕ) → length before ≤ length ws → length ws + 1 ≤ length before + length (flat t) → AllGive Q (k ws)) → AllGive Q (payload_words o (Some (lowered e.0)) before k)
   payload_count t (Some p) e before k g m h =
       let q = g p refl in
-      e.1.words p before k q.0 q.1 (λ ws i. h ws (omega (arith, i)) (omega (arith, i, q.2)))
+      e.1.words p before k q.0 (λ ws i. h ws (omega (arith, i)) (omega (arith, i, q.1)))
   payload_count t None e before k g m h = h before (omega arith) (omega (arith, m))
 
   no_payload_count : (t : ValType) (o : Option ValType) (before : List ℕ) (k : List ℕ → Plan) → 1 ≤ length (flat t)
@@ -236,7 +181,7 @@ module _ (Q : List ℕ → Type 0) where
   no_payload_count t None before k m h = h before (omega arith) (omega (arith, m))
 
   abbrev WordsGive : V.Value-F Goods → Type 0
-  WordsGive w = (t : ValType) (before : List ℕ) (k : List ℕ → Plan) → HoldsNone t → passes (tests_in (out-ValType t)) (layer w) ≡ true
+  WordsGive w = (t : ValType) (before : List ℕ) (k : List ℕ → Plan) → passes (tests_in (out-ValType t)) (layer w) ≡ true
       → ((ws : List ℕ) → length ws ≡ length before + length (flat t) → AllGive Q (k ws)) → AllGive Q (words_case (in_layer (layer w)) t before k)
 
   one_more : (before : List ℕ) (w : ℕ) → length (before ++ w ∷ []) ≡ length before + 1
@@ -253,36 +198,36 @@ module _ (Q : List ℕ → Type 0) where
   plain_gives w word i t before k h g = g (before ++ word ∷ []) (omega (arith, one_more before word, plain_count (out-ValType t) w h i, count_is t))
 
   words_give : (w : V.Value-F Goods) → WordsGive w
-  words_give (V.String text) = λ t before k none h g. text_gives Q text (λ to. k (before ++ to ∷ length text ∷ [])) (λ to low few.
+  words_give (V.String text) = λ t before k h g. text_gives Q text (λ to. k (before ++ to ∷ length text ∷ [])) (λ to low few.
       g (before ++ to ∷ length text ∷ []) (omega (arith, length-append before (to ∷ length text ∷ []), text_count (out-ValType t) text h, count_is t)))
-  words_give (V.List es) = λ t before k none h g. list_gives (part_at t 0) es (λ to. k (before ++ to ∷ length (map lowered (these es)) ∷ [])) (λ to.
+  words_give (V.List es) = λ t before k h g. list_gives (part_at t 0) es (λ to. k (before ++ to ∷ length (map lowered (these es)) ∷ [])) (λ to.
       g (before ++ to ∷ length (map lowered (these es)) ∷ []) (omega (arith, length-append before (to ∷ length (map lowered (these es)) ∷ []), list_count (out-ValType t) (these es) h, count_is t)))
-  words_give (V.Record es) = λ t before k none h g.
+  words_give (V.Record es) = λ t before k h g.
       let r = row_count (out-ValType t) (these es) h in
-      fields_count (parts_of t) es before k r.0 (parts_hold_none t none) (λ ws i. g ws (omega (arith, i, r.1, count_is t)))
-  words_give (V.Variant n (Some e)) = λ t before k none h g.
+      fields_count (parts_of t) es before k r.0 (λ ws i. g ws (omega (arith, i, r.1, count_is t)))
+  words_give (V.Variant n (Some e)) = λ t before k h g.
       let c = cases_count (out-ValType t) n (Some e.0) h in
       payload_count t (part_at t n) e (before ++ n ∷ []) (λ words. k (filled (length (flat t)) (length before) words))
-      (λ p i. (parts_hold_none t none n p i, payload_fits (out-ValType t) n e.0 p h i, omega (arith, c, count_is t, of_joined (parts_of t) n p i)))
+      (λ p i. (payload_fits (out-ValType t) n e.0 p h i, omega (arith, c, count_is t, of_joined (parts_of t) n p i)))
       (omega (arith, c, count_is t)) (case_gives t n before k g)
-  words_give (V.Variant n None) = λ t before k none h g.
+  words_give (V.Variant n None) = λ t before k h g.
       let c = cases_count (out-ValType t) n None h in
       no_payload_count t (part_at t n) (before ++ n ∷ []) (λ words. k (filled (length (flat t)) (length before) words)) (omega (arith, c, count_is t)) (case_gives t n before k g)
-  words_give (V.Flags flags) = λ t before k none h g. g _ (omega (arith, one_more before (flags_number flags), flags_count (out-ValType t) flags h, count_is t))
-  words_give (V.Own w) = λ t before k none h g. absurd (no_own (out-ValType t) w h (sym (handle_by_parts t) ∙ none.handle))
-  words_give (V.Borrow w) = λ t before k none h g. absurd (no_borrow (out-ValType t) w h (sym (handle_by_parts t) ∙ none.handle))
-  words_give (V.Stream w) = λ t before k none h g. absurd (no_stream (out-ValType t) w h (sym (end_by_parts t) ∙ none.end))
-  words_give (V.Future w) = λ t before k none h g. absurd (no_future (out-ValType t) w h (sym (end_by_parts t) ∙ none.end))
-  words_give (V.Bool b) = λ t before k none h g. plain_gives (V.Bool b) (plain_word (layer (V.Bool b))) tt t before k h g
-  words_give (V.S8 n) = λ t before k none h g. plain_gives (V.S8 n) (plain_word (layer (V.S8 n))) tt t before k h g
-  words_give (V.U8 n) = λ t before k none h g. plain_gives (V.U8 n) (plain_word (layer (V.U8 n))) tt t before k h g
-  words_give (V.S16 n) = λ t before k none h g. plain_gives (V.S16 n) (plain_word (layer (V.S16 n))) tt t before k h g
-  words_give (V.U16 n) = λ t before k none h g. plain_gives (V.U16 n) (plain_word (layer (V.U16 n))) tt t before k h g
-  words_give (V.S32 n) = λ t before k none h g. plain_gives (V.S32 n) (plain_word (layer (V.S32 n))) tt t before k h g
-  words_give (V.U32 n) = λ t before k none h g. plain_gives (V.U32 n) (plain_word (layer (V.U32 n))) tt t before k h g
-  words_give (V.S64 n) = λ t before k none h g. plain_gives (V.S64 n) (plain_word (layer (V.S64 n))) tt t before k h g
-  words_give (V.U64 n) = λ t before k none h g. plain_gives (V.U64 n) (plain_word (layer (V.U64 n))) tt t before k h g
-  words_give (V.Char c) = λ t before k none h g. plain_gives (V.Char c) (plain_word (layer (V.Char c))) tt t before k h g
+  words_give (V.Flags flags) = λ t before k h g. g _ (omega (arith, one_more before (flags_number flags), flags_count (out-ValType t) flags h, count_is t))
+  words_give (V.Own w) = λ t before k h g. plain_gives (V.Own w) (plain_word (layer (V.Own w))) tt t before k h g
+  words_give (V.Borrow w) = λ t before k h g. plain_gives (V.Borrow w) (plain_word (layer (V.Borrow w))) tt t before k h g
+  words_give (V.Stream w) = λ t before k h g. plain_gives (V.Stream w) (plain_word (layer (V.Stream w))) tt t before k h g
+  words_give (V.Future w) = λ t before k h g. plain_gives (V.Future w) (plain_word (layer (V.Future w))) tt t before k h g
+  words_give (V.Bool b) = λ t before k h g. plain_gives (V.Bool b) (plain_word (layer (V.Bool b))) tt t before k h g
+  words_give (V.S8 n) = λ t before k h g. plain_gives (V.S8 n) (plain_word (layer (V.S8 n))) tt t before k h g
+  words_give (V.U8 n) = λ t before k h g. plain_gives (V.U8 n) (plain_word (layer (V.U8 n))) tt t before k h g
+  words_give (V.S16 n) = λ t before k h g. plain_gives (V.S16 n) (plain_word (layer (V.S16 n))) tt t before k h g
+  words_give (V.U16 n) = λ t before k h g. plain_gives (V.U16 n) (plain_word (layer (V.U16 n))) tt t before k h g
+  words_give (V.S32 n) = λ t before k h g. plain_gives (V.S32 n) (plain_word (layer (V.S32 n))) tt t before k h g
+  words_give (V.U32 n) = λ t before k h g. plain_gives (V.U32 n) (plain_word (layer (V.U32 n))) tt t before k h g
+  words_give (V.S64 n) = λ t before k h g. plain_gives (V.S64 n) (plain_word (layer (V.S64 n))) tt t before k h g
+  words_give (V.U64 n) = λ t before k h g. plain_gives (V.U64 n) (plain_word (layer (V.U64 n))) tt t before k h g
+  words_give (V.Char c) = λ t before k h g. plain_gives (V.Char c) (plain_word (layer (V.Char c))) tt t before k h g
 
   out_of_roll : (x : V.Value-F Value) → out-Value (roll-Value x) ≡ x
   out_of_roll x = search (rules, the_lemmas)
@@ -292,13 +237,13 @@ module _ (Q : List ℕ → Type 0) where
       let e : lowered (roll-Value (layer w)) ≡ lower_step (in_layer (layer w)) = fold-roll-Value Lowered lower_step (layer w) in
       record {
         store = λ t place k h. subst (λ (l : Lowered). AllGive Q (l.store t place k)) (sym e) (store_gives w t place k h);
-        words = λ t before k none f h. subst (λ (l : Lowered). AllGive Q (l.words t before k)) (sym e)
-            (words_give w t before k none (by_layers t (roll-Value (layer w)) (layer w) f (out_of_roll (layer w))) h);
+        words = λ t before k f h. subst (λ (l : Lowered). AllGive Q (l.words t before k)) (sym e)
+            (words_give w t before k (by_layers t (roll-Value (layer w)) (layer w) f (out_of_roll (layer w))) h);
       }
 
   pub good : (v : Value) → Good v
   good = ind-Value Good (λ x y e. subst (λ (z : V.Value-F Value). Good (roll-Value z)) e (good_step y))
 
-  pub words_all_give : (v : Value) (t : ValType) (before : List ℕ) (k : List ℕ → Plan) → HoldsNone t → fits v t ≡ true
+  pub words_all_give : (v : Value) (t : ValType) (before : List ℕ) (k : List ℕ → Plan) → fits v t ≡ true
       → ((ws : List ℕ) → length ws ≡ length before + length (flat t) → AllGive Q (k ws)) → AllGive Q (flat_words t v before k)
   words_all_give v = (good v).words

@@ -1,11 +1,9 @@
 -- What holds of plans alone.
-use Rattle.std.specs.Prelude.{◌≡◌, ℕ, false, true, List, length, Result}
+use Rattle.std.specs.Prelude.{◌≡◌, ℕ, true, List, length, Result}
 use Rattle.ca_types.specs.declared.types.ValType.{ValType}
 use Rattle.ca_types.specs.declared.value.Value.{Value}
-use Rattle.ca_types.specs.Ends.{has_end}
 use Rattle.ca_types.specs.Fits.{fits}
 use Rattle.ca_types.specs.Flat.{flat}
-use Rattle.laid_types.specs.Handles.{has_handle}
 use Rattle.value_lower.specs.declared.ends.RoomEnd.{RoomEnd}
 use Rattle.value_lower.specs.Plan.{Ask, Plan}
 use Rattle.value_lower.specs.Following.{Came, Words, Follows}
@@ -26,8 +24,8 @@ PlansComeToOne {R} {T} answers memory wrote =
     AnswersOnce answers → WritesOnce wrote → (plan : Plan) (r : R) (one other : Came T) (s u : R)
     → Follows answers memory wrote plan r one s → Follows answers memory wrote plan r other u → (one ≡ other) × (s ≡ u)
 
--- Where a value of a type without handles and ends comes to core values, they are as many as stand for the type.
+-- Where a value of a type comes to core values, they are as many as stand for the type.
 abbrev pub CoreValuesAreComplete : {R T : Type 0} → (R → Ask → Result ℕ (RoomEnd T) → R → Type 0) → (R → List ℕ) → (R → ℕ → List ℕ → R → Type 0) → Type 0
 CoreValuesAreComplete {R} {T} answers memory wrote =
-    (type : ValType) (v : Value) (r s : R) (words : List ℕ) → has_handle type ≡ false → has_end type ≡ false → fits v type ≡ true
+    (type : ValType) (v : Value) (r s : R) (words : List ℕ) → fits v type ≡ true
     → Follows answers memory wrote (flat_lowered type v) r (Words words) s → length words ≡ length (flat type)

@@ -1,6 +1,6 @@
 -- Lowering (Component Model, CanonicalABI.md, "Storing", "Flat Lowering"): how values go into the bytes of a memory and into core
 -- values, from left to right. It is said by cases on the value, as a plan with what follows it. Values are of their types: what is
--- said where a value has no type is never asked for. For handles and the ends of streams and futures there is no case yet.
+-- said where a value has no type is never asked for. A handle and the end of a stream or a future are told by the numbers that they have.
 use Rattle.std.specs.Prelude.{ℕ, ◌+◌, ◌-◌, ◌*◌, ◌^◌, ◌%◌, ◌==◌, nat_lt, nat_le, ◌&&◌, Bool, if◌then◌else◌, List, [], ◌∷◌, ◌++◌, map, length, replicate, Option, Some, None}
 use Rattle.std.specs.Int.{w8, w16, w32, w64, to_le_bytes, cast_unsigned, from_bool}
 use mir.Val.{bits}
@@ -32,6 +32,10 @@ plain_bytes (Value-F.U32 n) = to_le_bytes w32 n
 plain_bytes (Value-F.S64 n) = to_le_bytes w64 (cast_unsigned w64 n)
 plain_bytes (Value-F.U64 n) = to_le_bytes w64 n
 plain_bytes (Value-F.Char c) = to_le_bytes w32 c
+plain_bytes (Value-F.Own handle) = to_le_bytes w32 handle.rep
+plain_bytes (Value-F.Borrow handle) = to_le_bytes w32 handle.rep
+plain_bytes (Value-F.Stream number) = to_le_bytes w32 number
+plain_bytes (Value-F.Future number) = to_le_bytes w32 number
 plain_bytes other = []
 
 -- The same as a core value: signed integers in 32 or 64 bits.
@@ -46,6 +50,10 @@ plain_word (Value-F.U32 n) = n
 plain_word (Value-F.S64 n) = cast_unsigned w64 n
 plain_word (Value-F.U64 n) = n
 plain_word (Value-F.Char c) = c
+plain_word (Value-F.Own handle) = handle.rep
+plain_word (Value-F.Borrow handle) = handle.rep
+plain_word (Value-F.Stream number) = number
+plain_word (Value-F.Future number) = number
 plain_word other = 0
 
 -- a number in 1, 2 or 4 bytes, the lowest first
@@ -119,10 +127,6 @@ store_case (Value-F.List all) type place k = list_in (part_at type 0) all (λ to
 store_case (Value-F.Record all) type place k = fields_from place 0 (parts_of type) all k
 store_case (Value-F.Variant n payload) type place k = case_from type n payload place k
 store_case (Value-F.Flags flags) type place k = Put place (number_bytes (bits_size (length flags)) (flags_number flags)) k
-store_case (Value-F.Own handle) type place k = k
-store_case (Value-F.Borrow handle) type place k = k
-store_case (Value-F.Stream number) type place k = k
-store_case (Value-F.Future number) type place k = k
 store_case plain type place k = Put place (plain_bytes plain) k
 
 -- the values of a record, one after the other behind other core values
@@ -155,10 +159,6 @@ words_case (Value-F.List all) type before k = list_in (part_at type 0) all (λ t
 words_case (Value-F.Record all) type before k = field_words (parts_of type) all before k
 words_case (Value-F.Variant n payload) type before k = case_words type n payload before k
 words_case (Value-F.Flags flags) type before k = k (before ++ flags_number flags ∷ [])
-words_case (Value-F.Own handle) type before k = k before
-words_case (Value-F.Borrow handle) type before k = k before
-words_case (Value-F.Stream number) type before k = k before
-words_case (Value-F.Future number) type before k = k before
 words_case plain type before k = k (before ++ plain_word plain ∷ [])
 
 abbrev pub lower_step : Value-F Lowered → Lowered

@@ -73,6 +73,10 @@ pub(crate) fn put_plain<R: Room>(room: &mut R, place: u64, value: &Value)
         Value::S64(n) => put(room, place, &n.cast_unsigned().to_le_bytes()),
         Value::U64(n) => put(room, place, &n.to_le_bytes()),
         Value::Char(c) => put(room, place, &u32::from(*c).to_le_bytes()),
+        Value::Own(handle) => put(room, place, &handle.rep.to_le_bytes()),
+        Value::Borrow(handle) => put(room, place, &handle.rep.to_le_bytes()),
+        Value::Stream(number) => put(room, place, &number.to_le_bytes()),
+        Value::Future(number) => put(room, place, &number.to_le_bytes()),
         _ => {}
     }
 }
@@ -92,6 +96,10 @@ pub(crate) fn plain_word(value: &Value) -> u64
         Value::S64(n) => n.cast_unsigned(),
         Value::U64(n) => *n,
         Value::Char(c) => u64::from(u32::from(*c)),
+        Value::Own(handle) => u64::from(handle.rep),
+        Value::Borrow(handle) => u64::from(handle.rep),
+        Value::Stream(number) => u64::from(*number),
+        Value::Future(number) => u64::from(*number),
         _ => 0,
     }
 }

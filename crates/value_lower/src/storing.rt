@@ -178,7 +178,6 @@ fn store_layer<R: Room>(
             put_number(room, place, t.align(), flags_number(flags.as_slice()));
             Ok(())
         }
-        Value::Own(_) | Value::Borrow(_) | Value::Stream(_) | Value::Future(_) => Ok(()),
         plain => {
             put_plain(room, place, plain);
             Ok(())

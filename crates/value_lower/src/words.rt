@@ -157,7 +157,6 @@ fn push_layer<R: Room>(
             words.push(u64::from(flags_number(flags.as_slice())))?;
             Ok(())
         }
-        Value::Own(_) | Value::Borrow(_) | Value::Stream(_) | Value::Future(_) => Ok(()),
         plain => {
             words.push(plain_word(plain))?;
             Ok(())

@@ -21,7 +21,6 @@ use Rattle.value_lift.specs.Lifting.{load, lift_flat, lift_words, most, tuple_ca
 use Rattle.value_lift.proofs.Views.{out_tuple}
 use Rattle.value_lift.specs.Standing.{counts}
 use Rattle.value_lift.specs.WordStanding.{wrapped}
-use Rattle.value_lift.specs.Laws.{IsBare}
 use Rattle.value_lift.proofs.WordStood.{IsThere, word_stood, flat_of_tuple}
 use Rattle.value_lift.proofs.WordTypes.{word_told_type}
 use Rattle.value_lift.proofs.TypesStopped.{type_stops}
@@ -43,9 +42,9 @@ take_many zero ws h = refl
 take_many (suc n) [] h = absurd (omega (arith, h))
 take_many (suc n) (w ∷ ws) h = ap suc (take_many n ws (omega (arith, h)))
 
-first_words : (what : LiftOf) (t : ValType) (memory words : List ℕ) → IsBare t → length (flat t) ≤ length words
+first_words : (what : LiftOf) (t : ValType) (memory words : List ℕ) → length (flat t) ≤ length words
     → lift_flat what t memory (take (length (flat t)) words) ≡ lift_flat what t memory words
-first_words what t memory words bare h = by (lift_words t memory short 0 (most what)) refl
+first_words what t memory words h = by (lift_words t memory short 0 (most what)) refl
   where
     short : List ℕ
     short = take (length (flat t)) words
@@ -62,7 +61,7 @@ first_words what t memory words bare h = by (lift_words t memory short 0 (most w
         let few : counts x.0 ≤ most what = (let count = found.count in omega (arith, count)) in
         ap (λ (l : Lifted Value). value_of l) e ∙ sym (ap (λ (l : Lifted Value). value_of l) (word_stood found.stands words 0 (most what) there few))
     by (Err trap) e =
-        let fails = (type_stops t bare).words memory short 0 (most what) trap room e in
+        let fails = (type_stops t).words memory short 0 (most what) trap room e in
         ap (λ (l : Lifted Value). value_of l) e ∙ sym (ap (λ (l : Lifted Value). value_of l) (word_failed fails words there))
 
 -- The core values of the parameters are those of their tuple.
@@ -159,16 +158,16 @@ first_place t words h more =
     let place : List CoreType = out_place 1 (flat_payload f.result) in
     first_typed place words (subst (λ (ts : List CoreType). AreWords (map core_val (ts ++ place)) words) (at_most_many (flat_params f) long) h.fits)
 
-pub lifted_from_words : (f : FuncType) (t : ValType) (bytes words : List ℕ) (n : ℕ) → t ≡ params_type f → has_handle t ≡ false → has_end t ≡ false → TakeWords t words → n ≡ length (take 17 (flat t)) → n ≤ 16
+pub lifted_from_words : (f : FuncType) (t : ValType) (bytes words : List ℕ) (n : ℕ) → t ≡ params_type f → TakeWords t words → n ≡ length (take 17 (flat t)) → n ≤ 16
     → arguments_lifted f bytes words ≡ lift_flat whole.Arguments t bytes (take n words)
 unfolding arguments_lifted
-lifted_from_words f t bytes words n e handles ends h is few =
+lifted_from_words f t bytes words n e h is few =
     let low : length (take 17 (flat t)) ≤ 16 = omega (arith, is, few) in
     let same : length (take 17 (flat t)) ≡ length (flat t) = all_few 16 (flat t) low in
     let enough : n ≤ length words = enough_words t words n h is few in
     ap (λ (b : Bool). if b then load whole.Arguments (params_type f) bytes (slice_index words 0) else lift_flat whole.Arguments (params_type f) bytes words) (in_words t f e low)
     ∙ ap (λ (u : ValType). lift_flat whole.Arguments u bytes words) (sym e)
-    ∙ sym (first_words whole.Arguments t bytes words (record { handles = handles; ends = ends }) (omega (arith, same, is, enough)))
+    ∙ sym (first_words whole.Arguments t bytes words (omega (arith, same, is, enough)))
     ∙ ap (λ (m : ℕ). lift_flat whole.Arguments t bytes (take m words)) (sym same ∙ sym is)
 
 -- Arguments are a tuple.

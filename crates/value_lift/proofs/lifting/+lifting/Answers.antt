@@ -6,15 +6,17 @@ use Rattle.ca_types.specs.declared.value.Value.{Value}
 use Rattle.ca_types.specs.declared.value.Value.TheViews as values
 use Rattle.ca_types.specs.Layout.{tag_size}
 use Rattle.laid_types.specs.Parts.{parts_of, case_count, payload_place}
+use Rattle.ca_base.specs.declared.memory.MemoryOr.{MemoryOr}
+use Rattle.value_lift.specs.declared.trap.LiftTrap.{LiftTrap}
 use Rattle.value_lift.specs.Bytes.{number, width_of}
 use Rattle.value_lift.specs.Answers.{Lifted, MayLift, made}
-use Rattle.value_lift.specs.Pieces.{elements_of}
+use Rattle.value_lift.specs.Pieces.{elements_of, list_of}
 use Rattle.value_lift.specs.Lifting.{part, parts, lift, fields_from}
 use Rattle.value_lift.proofs.Depth.{deeper}
-use Rattle.value_lift.proofs.Inside.{list_some, case_some, field_at, size_at, field_next}
+use Rattle.value_lift.proofs.Inside.{list_some, case_some, field_at, size_at, field_next, field_stops}
 use Rattle.value_lift.proofs.Forms.{IsRow, HasCases, is_row, has_cases, row_lift, cases_lift}
 use Rattle.value_lift.proofs.Rooms.{row_room, case_room}
-use Rattle.value_lift.proofs.Steps.{made_stops, case_none, elements_next, fields_skip, skip_room}
+use Rattle.value_lift.proofs.Steps.{made_stops, case_none, list_none, elements_next, fields_skip, skip_room}
 use Rattle.value_lift.proofs.lifting.+lifting.Goals as goal
 
 pub case_at-returns-in_default : goal.case_at-returns-in_default
@@ -176,3 +178,23 @@ list_of-returns-in_err-elements t c =
     rw (p.1, p.2)
     (subst (λ (l : Lifted Value). MayLift l c.elements_of.new.left (Err c.in_err-elements.field-0.0)) (sym whole)
     (made_stops values.List elements c.elements_of.new.left c.in_err-elements.field-0.0 c.in_err-elements.ensures))
+
+pub fields_at-returns-in_err-value : goal.fields_at-returns-in_err-value
+fields_at-returns-in_err-value t c =
+    let l = c.loop-at in
+    let types = parts_of c.args.t.now in
+    let there = sym c.part.ensures ∙ c.in-Some.is in
+    let f =
+    field_at c.args.memory.now c.args.place l.end l.left l.at types c.in-Some.part c.align.result c.aligned-start.result there l.invariant.room c.align.ensures.value c.aligned-start.ensures.value in
+    let p = err_from_is_err_and c.from_residual.result c.from_residual.ensures.1 in
+    rw (p.1, p.2)
+    (field_stops (fields_from c.args.memory.now c.args.place [] 0 (parts types) c.args.left.now) c.args.memory.now c.args.place l.end l.left c.value_at.new.left l.at types c.in-Some.part
+    c.aligned-start.result l.values c.in_err-value.field-0.0 l.invariant.same there f c.in_err-value.ensures)
+
+pub list_of-returns-in_default : goal.list_of-returns-in_default
+list_of-returns-in_default t c =
+    let types = parts_of c.args.t.now in
+    let none = sym c.part.ensures ∙ c.in_default.is in
+    let whole = list_of (parts types) c.args.at c.args.count c.args.memory.now c.args.place c.args.left.now in
+    subst (λ (e : MemoryOr LiftTrap). MayLift whole c.args.left.now (Err e)) (sym c.into.ensures)
+    (list_none types c.args.at c.args.count c.args.memory.now c.args.place c.args.left.now none ∙ ap (λ (fault : LiftTrap). Err fault) (sym c.at.ensures))

@@ -10,7 +10,7 @@ use Rattle.laid_types.specs.Parts.{parts_of}
 use Rattle.value_lift.specs.Answers.{Lifted, MayLift, made}
 use Rattle.value_lift.specs.Lifting.{parts, word_fields_from, lift_words}
 use Rattle.value_lift.proofs.Depth.{deeper}
-use Rattle.value_lift.proofs.Inside.{word_case_some, word_count, word_inside, word_next}
+use Rattle.value_lift.proofs.Inside.{word_case_some, word_count, word_inside, word_next, word_stops}
 use Rattle.value_lift.proofs.Forms.{IsRow, HasCases, is_row, has_cases, row_words, cases_words}
 use Rattle.value_lift.proofs.WordRooms.{row_words_room, case_words_room}
 use Rattle.value_lift.proofs.Steps.{made_stops, word_fields_skip, word_skip_room}
@@ -109,3 +109,12 @@ word_fields_at-loop-index-preserved t c =
     word_next c.args.memory.now c.args.words.now l.next l.left c.word_value_at.new.left l.index types c.in-Some.part (length c.flat.result.now) l.values c.push.new.self c.in_ok-value.value there
     l.invariant.room count c.in_ok-value.ensures c.in_ok-push.ensures.ok in
     record { same = l.invariant.same ∙ next.0; room = next.1 }
+
+pub word_fields_at-returns-in_err-value : goal.word_fields_at-returns-in_err-value
+word_fields_at-returns-in_err-value t c =
+    let l = c.loop-index in
+    let types = parts_of c.args.t.now in
+    let p = err_from_is_err_and c.from_residual.result c.from_residual.ensures.1 in
+    rw (p.1, p.2)
+    (word_stops (word_fields_from c.args.memory.now c.args.words.now [] c.args.at (parts types) c.args.left.now) c.args.memory.now c.args.words.now l.next l.left c.word_value_at.new.left l.index types
+    c.in-Some.part l.values c.in_err-value.field-0.0 l.invariant.same (sym c.part.ensures ∙ c.in-Some.is) c.in_err-value.ensures)

@@ -7,6 +7,6 @@ use Rattle.value_lower.proofs.Counts.{words_all_give}
 use Rattle.value_lower.proofs.laws.core_values_are_complete.Goals as goal
 
 pub returns : goal.returns
-returns g c = λ type v r s words handle end f h.
+returns g c = λ type v r s words f h.
     given (λ (ws : List ℕ). length ws ≡ length (flat type)) g.R.Room.answers g.R.Room.memory g.R.Room.wrote (flat_lowered type v) r s words h
-    (words_all_give (λ (ws : List ℕ). length ws ≡ length (flat type)) v type [] (λ ws. Gives ws) (record { handle = handle; end = end }) f (λ ws i. omega (arith, i)))
+    (words_all_give (λ (ws : List ℕ). length ws ≡ length (flat type)) v type [] (λ ws. Gives ws) f (λ ws i. omega (arith, i)))

@@ -304,7 +304,7 @@ pub store_layer-put_plain-requires : goal.store_layer-put_plain-requires
 store_layer-put_plain-requires g t c =
     let v = c.args.value.now in
     let d = c.in_default in
-    let i = is_plain v d.not-String d.not-List d.not-Record d.not-Variant d.not-Flags d.not-Own d.not-Borrow d.not-Stream d.not-Future in
+    let i = is_plain v d.not-String d.not-List d.not-Record d.not-Variant d.not-Flags in
     let s = plain_size c.args.t.now (out-Value v) (by_layers c.args.t.now v (out-Value v) c.requires.fits refl) i in
     record {
       some = s.0;

@@ -17,4 +17,4 @@ returns-clause-count g c =
     subst (λ (before : List ℕ). Follows g.R.Room.answers g.R.Room.memory g.R.Room.wrote (flat_words t v before (λ ws. Gives ws)) c.args.room.now (Words words) c.push_value.new.room) c.new-words.ensures
     (c.in_ok-push_value.ensures (λ ws. Gives ws) (Words words) c.push_value.new.room (refl, refl)) in
     given (λ (ws : List ℕ). length ws ≡ length (flat t)) g.R.Room.answers g.R.Room.memory g.R.Room.wrote (flat_lowered t v) c.args.room.now c.push_value.new.room words came
-    (words_all_give (λ (ws : List ℕ). length ws ≡ length (flat t)) v t [] (λ ws. Gives ws) (record { handle = c.requires.handles; end = c.requires.ends }) c.requires.fits (λ ws i. omega (arith, i)))
+    (words_all_give (λ (ws : List ℕ). length ws ≡ length (flat t)) v t [] (λ ws. Gives ws) c.requires.fits (λ ws i. omega (arith, i)))

@@ -40,6 +40,6 @@ pub returns-else-count-gt16 : goal.returns-else-count-gt16
 returns-else-count-gt16 c f e =
     subst (λ (r : Result Value LiftTrap). MayMake {X = Value} (λ v. v) r c.lift_flat.result)
     (ap (λ (ws : List ℕ). lift_flat whole.Arguments c.args.of_type.now c.args.memory.now ws) c.first_words.ensures
-    ∙ sym (lifted_from_words f c.args.of_type.now c.args.memory.now c.args.words.now (length c.flat-count.result.now) e c.requires.handles c.requires.ends c.requires.taken
+    ∙ sym (lifted_from_words f c.args.of_type.now c.args.memory.now c.args.words.now (length c.flat-count.result.now) e c.requires.taken
     (ap (λ (ts : List CoreType). length ts) c.flat-count.ensures) c.if-count-gt16.false))
     c.lift_flat.ensures
