@@ -6,3 +6,4 @@ pub mod Copies
 pub mod Full
 pub mod Texts
 pub mod runs
+pub mod sound

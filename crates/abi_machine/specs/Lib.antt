@@ -33,3 +33,4 @@ pub mod Next
 pub mod Run
 pub mod Dump
 pub mod examples
+pub mod sound

@@ -12,9 +12,15 @@
 //!
 //! - `run_end`: how a run ends
 //! - `examples`: the machine on small examples, which `specs/examples` has
+//! - `laws`: what every step keeps
 #![tactic(auto)]
 
 pub mod examples;
+mod laws;
 mod run_end;
 
+pub use laws::{
+    histories_stay, init_runs_alone, limits_stay, members_stay, nothing_is_held, numbers_stay,
+    steps_are_changes,
+};
 pub use run_end::RunEnd;

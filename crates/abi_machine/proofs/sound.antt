@@ -1,0 +1,14 @@
+pub mod Lifts
+pub mod Found
+pub mod Lists
+pub mod Lifted
+pub mod Aside
+pub mod Sets
+pub mod Steps
+pub mod Alone
+pub mod Changing
+pub mod Limited
+pub mod Histories
+pub mod Numbered
+pub mod Joined
+pub mod Passing

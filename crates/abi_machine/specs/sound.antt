@@ -1,0 +1,9 @@
+pub mod Changes
+pub mod Controls
+pub mod Initial
+pub mod Stepping
+pub mod Limits
+pub mod Tables
+pub mod Numbers
+pub mod Members
+pub mod Passed
