@@ -1,6 +1,7 @@
 mod Counting
 mod Ending
-mod Keeping
-mod Meetings
+pub mod Keeping
+pub mod Meetings
 mod Stopping
 mod Telling
+pub mod Coming

@@ -2,3 +2,4 @@ pub mod Closed
 pub mod Laws
 pub mod Meeting
 pub mod Runs
+pub mod Places

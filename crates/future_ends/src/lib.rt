@@ -5,7 +5,7 @@
 //! is cancelled. An end that was told anything but a cancel is done.
 //!
 //! Sides, copies and single ends are those of streams, with offers of length 1. As there, the copies that are closed
-//! are not kept: a clause `stands` says for every list of closed copies what a call adds to it.
+//! are not kept: a clause `stands` says of which run of calls the ends come.
 //!
 //! - `meet`: an offer that meets the other end
 //! - `future_end`: what differs at one end from a stream's

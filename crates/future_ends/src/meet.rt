@@ -2,6 +2,7 @@
 
 ghost use Rattle.std.specs.Prelude.{◌≡◌};
 ghost use Rattle.future_ends.specs.Meeting.{met};
+ghost use Rattle.future_ends.specs.Places.{copies};
 ghost use Rattle.future_ends.specs.Runs.{payload_at_once};
 
 use crate::future_end::payload;
@@ -19,6 +20,16 @@ pub enum Meet {
 }
 
 impl Meet {
+    /// Whether the value is to be copied.
+    pub fn copies(self) -> bool
+        ensures { result ≡ copies self }
+    {
+        match self {
+            Meet::Copies => true,
+            Meet::Stands | Meet::Dropped => false,
+        }
+    }
+
     /// The payload of a call that is answered at once: its result, 0 for completed and 1 for dropped. A call whose offer
     /// stands has none yet.
     pub fn payload(self) -> Option<u32>

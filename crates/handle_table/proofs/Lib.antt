@@ -6,3 +6,4 @@ pub mod Places
 pub mod Soundness
 pub mod Standing
 pub mod Writes
+pub mod Walking

@@ -1,5 +1,6 @@
 -- A table of handles as contracts see it: a slot for each index that was ever given, and the freed indices.
 use Rattle.std.specs.Prelude.{◌≡◌, ℕ, zero, suc, List, [], ◌∷◌, ◌++◌, length, drop, count_by, slice_index_or, slice_set, Option, Some, None, is_some, refl}
+use Rattle.std.specs.List.{filter, range_with_len}
 use Rattle.std.specs.Coded.{Coded, code_by, coded×, coded_ℕ, coded_list, coded_option}
 use Rattle.handle_table.specs.History.{Event, next_in, slots_of, freed, IsHistory}
 
@@ -47,6 +48,10 @@ module _ {E : Type 0} where
   -- the index that the next add is given
   abbrev pub next_of : Slots E → ℕ
   next_of s = next_in s.freed (length s.entries)
+
+  -- the indices at which an entry is live, rising
+  abbrev pub live_indices : Slots E → List ℕ
+  live_indices s = filter (λ index. is_some (entry_at s index)) (range_with_len 1 (length s.entries))
 
   -- The slots with an entry at the next index: the slot that was freed last, or a new one
   abbrev pub filled : List (Option E) → List ℕ → E → List (Option E)

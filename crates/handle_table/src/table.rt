@@ -1,10 +1,11 @@
 //! A table of handles.
 
-ghost use Rattle.std.specs.Prelude.{◌≡◌, ℕ, ◌+◌, ◌<◌, ◌≤◌, List, [], ◌∷◌, Some, None, IsSome, IsTrue, MatchResult, MatchOption, IfOk, OnOk, OnSome, option_copied, is_some, IsOk};
+ghost use Rattle.std.specs.Prelude.{◌≡◌, ℕ, ◌+◌, ◌<◌, ◌≤◌, List, [], ◌∷◌, Some, None, IsSome, IsTrue, MatchResult, MatchOption, IfOk, OnOk, OnSome, option_copied, is_some, IsOk, length};
 ghost use Rattle.std.specs.Option.{option_copied_mut};
 ghost use Rattle.std.specs.Borrow.{sem};
-ghost use Rattle.handle_table.specs.History.{Event, Add, Remove, live, next_index, live_count, most_live};
-ghost use Rattle.handle_table.specs.Slots.{no_slots, entry_at, count, next_of, removed, StandsFor};
+ghost use Rattle.std.specs.List.{filter, range_with_len};
+ghost use Rattle.handle_table.specs.History.{Event, Add, Remove, live, greatest, next_index, live_count, most_live};
+ghost use Rattle.handle_table.specs.Slots.{no_slots, entry_at, live_indices, count, next_of, removed, StandsFor};
 ghost use Rattle.handle_table.specs.Calls.{Added, NotAdded};
 
 use crate::refusal::{AddError, Full};
@@ -123,6 +124,24 @@ impl<T: Drop> Table<T> {
         }
     }
 
+    /// The greatest index that was ever given, 0 where none was.
+    #[tactic(auto, using(crate::proofs::Walking::shows_greatest))]
+    pub fn greatest(&self) -> u32
+        ensures exact { result ≡ length self.now.slots.entries }
+        ensures limit { result ≤ most_live }
+        ensures stands { (h : List (Event T)) → StandsFor h self.now.slots → result ≡ greatest h }
+    {
+        self.given()
+    }
+
+    /// The indices at which an entry is live, rising. It fails for want of memory alone.
+    pub fn indices(&self, alloc: Global) -> Result<Vec<u32>, AllocError>
+        ensures exact { IfOk result (λ indices. indices.items ≡ live_indices self.now.slots) }
+        ensures stands { (h : List (Event T)) → StandsFor h self.now.slots → IfOk result (λ indices. indices.items ≡ filter (λ index. is_some (live h index)) (range_with_len 1 (greatest h))) }
+    {
+        self.walk(alloc)
+    }
+
     /// The live entry at an index, if there is one.
     pub fn get(&self, index: u32) -> Option<&T>
         ensures exact { option_copied result ≡ entry_at self.now.slots index }
@@ -170,6 +189,27 @@ impl<T: Drop> Table<T> {
         ensures value { entry_at self.old.slots index ≡ Some result.now }
     {
         self.slots[index as usize - 1].entry_mut()
+    }
+
+    /// How many indices were ever given.
+    fn given(&self) -> u32
+        ensures exact { result ≡ length self.now.slots.entries }
+        ensures limit { result ≤ most_live }
+    {
+        self.slots.len() as u32
+    }
+
+    /// The indices at which an entry is live.
+    fn walk(&self, alloc: Global) -> Result<Vec<u32>, AllocError>
+        ensures { IfOk result (λ indices. indices.items ≡ live_indices self.now.slots) }
+    {
+        let mut indices = Vec::new(alloc);
+        for index in 1..self.given() + 1 {
+            if self.is_live(index) {
+                indices.push(index)?;
+            }
+        }
+        Ok(indices)
     }
 
     /// Whether an entry is live at an index.

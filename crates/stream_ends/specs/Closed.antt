@@ -1,6 +1,6 @@
 -- The ends of a stream with the copies that were told: what each call adds to them. A copy is told once, by the call
 -- that closes it.
-use Rattle.std.specs.Prelude.{◌≡◌, ℕ, List, [], ◌∷◌, ◌++◌, Option, Some, None}
+use Rattle.std.specs.Prelude.{ℕ, List, [], ◌∷◌, ◌++◌, Option, Some, None}
 use Rattle.stream_ends.specs.declared.side.Side.{Side}
 use Rattle.stream_ends.specs.declared.side.Side.TheVariants.{Reader, Writer}
 use Rattle.stream_ends.specs.declared.open_copy.CopyResult.{CopyResult}
@@ -10,10 +10,6 @@ use Rattle.stream_ends.specs.declared.meet.Meet.{Meet}
 use Rattle.stream_ends.specs.declared.meet.Meet.TheVariants.{Stands, Copies, Dropped, Displaces, ZeroDone, NothingNow}
 use Rattle.stream_ends.specs.Ends.{EndsView, ClosedCopy, Ends, no_end, end_at, result_of, told}
 use Rattle.stream_ends.specs.Meeting.{met_at, after, after_copy, after_dropping, changed}
-
--- these ends may have led to a meeting place that looks like this
-abbrev pub StandsFor : Ends → EndsView → Type 0
-StandsFor ends view = ends.view ≡ view
 
 -- a new stream
 abbrev pub new_ends : Ends

@@ -3,3 +3,4 @@ pub mod Ends
 pub mod Laws
 pub mod Meeting
 pub mod Runs
+pub mod Places

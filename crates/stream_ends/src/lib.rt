@@ -5,8 +5,8 @@
 //! place. What came of a standing offer is
 //! told once, at its delivery or where the copy is cancelled.
 //!
-//! Contracts see a meeting place as its two ends. The copies that are closed are not kept: a clause `stands` says for
-//! every list of closed copies what a call adds to it.
+//! Contracts see a meeting place as its two ends and the number of elements that are due to be copied. The copies that are
+//! closed are not kept: a clause `stands` says of which run of calls the ends come.
 //!
 //! - `side` and `open_copy`: the two sides, and a read or write under way
 //! - `stream_end`: one end

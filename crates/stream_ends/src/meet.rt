@@ -26,6 +26,17 @@ pub enum Meet {
 }
 
 impl Meet {
+    /// How many elements are to be copied.
+    pub fn count(self) -> u32
+        ensures { result ≡ count_of self }
+    {
+        match self {
+            Meet::Copies(count) => count,
+            Meet::Stands | Meet::Dropped | Meet::Displaces => 0,
+            Meet::ZeroDone | Meet::NothingNow => 0,
+        }
+    }
+
     /// The payload of a call that is answered at once: its result, 0 for completed and 1 for dropped, plus 16 times the
     /// elements copied. A call whose offer stands has none yet.
     pub fn payload(self) -> Option<u32>

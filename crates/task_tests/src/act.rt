@@ -2,7 +2,7 @@
 
 use std::alloc::AllocError;
 use std::fmt::Write;
-use stream_ends::{By, Offer, Side};
+use stream_ends::{By, Offer, OpenCopy, Side};
 
 /// What happens.
 #[derive(Clone, Copy)]
@@ -74,4 +74,15 @@ pub fn write_offer(text: &mut String, offer: Option<Offer>) -> Result<(), AllocE
     let length = offer.length;
     let copied = offer.copied;
     write!(text, "{side}/{task}/{length}/{copied}")
+}
+
+/// Writes the open copy of an end: its length, how much of it is copied, and whether it stands.
+pub fn write_copy(text: &mut String, copy: Option<OpenCopy>) -> Result<(), AllocError> {
+    let Some(copy) = copy else {
+        return text.push_str("none");
+    };
+    let stands = if copy.standing { "y" } else { "n" };
+    let length = copy.length;
+    let copied = copy.copied;
+    write!(text, "{length}/{copied}/{stands}")
 }

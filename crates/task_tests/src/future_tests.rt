@@ -1,9 +1,9 @@
 //! Reads, writes, cancels and drops of futures.
 //!
 //! What happens, then what is answered. `o` is the offer that stands, as its side, its task, its length and how much is copied.
-//! A payload is 0 for completed, 1 for dropped, 2 for cancelled.
+//! `kr` and `kw` are the open copy of an end, as its length, how much is copied and whether it stands. A payload is 0 for completed, 1 for dropped, 2 for cancelled.
 
-use crate::act::{Act, Answer, act_of, write_answer, write_offer};
+use crate::act::{Act, Answer, act_of, write_answer, write_copy, write_offer};
 use cases::{Acts, Answers, acted};
 use future_ends::{Meet, Rendezvous};
 use std::alloc::{AllocError, Global};
@@ -75,6 +75,8 @@ impl Ends {
     fn write_answer(&mut self, word: &str, text: &mut String) -> Result<(), AllocError> {
         match word {
             "o" => write_offer(text, self.ends.standing()),
+            "kr" => write_copy(text, self.ends.open_copy(Side::Reader)),
+            "kw" => write_copy(text, self.ends.open_copy(Side::Writer)),
             _ => match act_of(word) {
                 Some(act) => write_answer(text, happen(&mut self.ends, act)),
                 None => text.push_str("no such word"),

@@ -21,8 +21,8 @@ fn drop_text(answer: Result<(), SetRefusal>) -> &'static str {
 }
 
 /// Begins a wait on a set.
-fn wait_on(sets: &mut Sets, set: u32) -> &'static str {
-    if set as usize >= sets.len() {
+fn wait_on(sets: &mut Sets, set: u64) -> &'static str {
+    if set >= sets.len() {
         return "no";
     }
     if sets.waiters(set) < 99 {
@@ -32,8 +32,8 @@ fn wait_on(sets: &mut Sets, set: u32) -> &'static str {
 }
 
 /// Ends a wait on a set, where there is one.
-fn wait_off(sets: &mut Sets, set: u32) -> &'static str {
-    if set as usize >= sets.len() || sets.waiters(set) == 0 {
+fn wait_off(sets: &mut Sets, set: u64) -> &'static str {
+    if set >= sets.len() || sets.waiters(set) == 0 {
         return "no";
     }
     sets.wait_off(set);
@@ -41,8 +41,8 @@ fn wait_off(sets: &mut Sets, set: u32) -> &'static str {
 }
 
 /// Drops a set.
-fn drop_set(sets: &mut Sets, set: u32) -> &'static str {
-    if set as usize >= sets.len() {
+fn drop_set(sets: &mut Sets, set: u64) -> &'static str {
+    if set >= sets.len() {
         return "no";
     }
     drop_text(sets.drop_set(set))
@@ -60,10 +60,10 @@ fn write_listed(text: &mut String, listed: Result<Nums, Memory>) -> Result<(), A
 fn write_members(
     alloc: Global,
     sets: &Sets,
-    set: u32,
+    set: u64,
     text: &mut String,
 ) -> Result<(), AllocError> {
-    if set as usize >= sets.len() {
+    if set >= sets.len() {
         return text.push_str("no");
     }
     write_listed(text, sets.members(set).list(alloc))
@@ -73,27 +73,27 @@ fn write_members(
 fn write_ready(
     alloc: Global,
     sets: &Sets,
-    set: u32,
+    set: u64,
     told: &Nums,
     text: &mut String,
 ) -> Result<(), AllocError> {
-    if set as usize >= sets.len() {
+    if set >= sets.len() {
         return text.push_str("no");
     }
     write_listed(text, sets.ready(alloc, set, told))
 }
 
 /// Whether there is a ready one in a set.
-fn any_ready(sets: &Sets, set: u32, told: &Nums) -> &'static str {
-    if set as usize >= sets.len() || !sets.any_ready(set, told) {
+fn any_ready(sets: &Sets, set: u64, told: &Nums) -> &'static str {
+    if set >= sets.len() || !sets.any_ready(set, told) {
         return "no";
     }
     "yes"
 }
 
 /// Lets a waitable join a set.
-fn join(sets: &mut Sets, waitable: u32, set: u32) -> &'static str {
-    if set as usize >= sets.len() {
+fn join(sets: &mut Sets, waitable: u32, set: u64) -> &'static str {
+    if set >= sets.len() {
         return "no";
     }
     if sets.join(waitable, set).is_ok() {
@@ -108,7 +108,7 @@ fn write_told(
     alloc: Global,
     sets: &Sets,
     name: &str,
-    set: u32,
+    set: u64,
     told: &Nums,
     text: &mut String,
 ) -> Result<(), AllocError> {
@@ -123,7 +123,7 @@ fn write_told_in(
     alloc: Global,
     sets: &Sets,
     name: &str,
-    set: u32,
+    set: u64,
     waitables: &str,
     text: &mut String,
 ) -> Result<(), AllocError> {
@@ -132,7 +132,7 @@ fn write_told_in(
 }
 
 /// Writes the number of a set that is made.
-fn write_made(text: &mut String, made: Result<u32, Memory>) -> Result<(), AllocError> {
+fn write_made(text: &mut String, made: Result<u64, Memory>) -> Result<(), AllocError> {
     match made {
         Ok(set) => write_value(text, set),
         Err(_) => text.push_str("memory"),
@@ -148,15 +148,16 @@ pub(crate) struct Called {
 impl Called {
     /// The answer to a call that tells of no waitables.
     fn answer(&mut self, name: &str, first: u32, second: u32) -> &'static str {
+        let set = u64::from(first);
         match name {
-            "j" => join(&mut self.sets, first, second),
+            "j" => join(&mut self.sets, first, u64::from(second)),
             "l" => {
                 self.sets.leave(first);
                 "ok"
             }
-            "w" => wait_on(&mut self.sets, first),
-            "o" => wait_off(&mut self.sets, first),
-            "d" => drop_set(&mut self.sets, first),
+            "w" => wait_on(&mut self.sets, set),
+            "o" => wait_off(&mut self.sets, set),
+            "d" => drop_set(&mut self.sets, set),
             _ => "?",
         }
     }
@@ -171,10 +172,11 @@ impl Called {
         text: &mut String,
     ) -> Result<(), AllocError> {
         let number = number_of(first);
+        let set = u64::from(number);
         match name {
             "m" => write_made(text, self.sets.make(alloc)),
-            "s" => write_members(alloc, &self.sets, number, text),
-            "r" | "a" => write_told_in(alloc, &self.sets, name, number, second, text),
+            "s" => write_members(alloc, &self.sets, set, text),
+            "r" | "a" => write_told_in(alloc, &self.sets, name, set, second, text),
             _ => text.push_str(self.answer(name, number, number_of(second))),
         }
     }

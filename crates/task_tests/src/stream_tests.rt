@@ -1,10 +1,11 @@
 //! Reads, writes, cancels and drops of streams.
 //!
-//! What happens, then what is answered. `o` is the offer that stands, as its side, its task, its length and how much is copied;
+//! What happens, then what is answered. `o` is the offer that stands, as its side, its task, its length and how much is copied; `kr`
+//! and `kw` are the open copy of an end, as its length, how much is copied and whether it stands;
 //! `fr` and `fw` ask whether an end is done. A payload is 16 times the elements copied, plus 0 for completed, 1 for dropped and
 //! 2 for cancelled.
 
-use crate::act::{Act, Answer, act_of, write_answer, write_offer};
+use crate::act::{Act, Answer, act_of, write_answer, write_copy, write_offer};
 use cases::{Acts, Answers, acted};
 use std::alloc::{AllocError, Global};
 use std::test::Fail;
@@ -70,6 +71,8 @@ impl Ends {
     fn write_answer(&mut self, word: &str, text: &mut String) -> Result<(), AllocError> {
         match word {
             "o" => write_offer(text, self.ends.standing()),
+            "kr" => write_copy(text, self.ends.open_copy(Side::Reader)),
+            "kw" => write_copy(text, self.ends.open_copy(Side::Writer)),
             "fr" => text.push_str(yes_or_no(self.ends.is_done(Side::Reader))),
             "fw" => text.push_str(yes_or_no(self.ends.is_done(Side::Writer))),
             _ => match act_of(word) {

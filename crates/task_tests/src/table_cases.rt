@@ -2,11 +2,11 @@
 //!
 //! What is done to an empty table, then what is answered. The entries that are added are 100, 101, and so on; `put:7` adds 7.
 //! `fill` adds 1 to 65535, each at the index of its number. `shuffle` adds 1,000 entries to an empty table, removes them in
-//! another order, and adds 1,000 again.
+//! another order, and adds 1,000 again. `greatest` tells the greatest index that was given, and `all` the indices of live entries.
 
 ghost use Rattle.std.specs.Prelude.{◌<◌};
 
-use crate::texts::{number_of, write_behind, write_value};
+use crate::texts::{number_of, write_behind, write_numbers, write_value};
 use cases::{Acts, Answers, Steps, acted, write_acts};
 use handle_table::{AddError, Table};
 use std::alloc::{AllocError, Global};
@@ -135,14 +135,23 @@ impl Run {
 }
 
 impl Run {
+    /// Writes the indices at which an entry is live.
+    fn write_indices(&self, alloc: Global, text: &mut String) -> Result<(), AllocError> {
+        let indices = self.table.indices(alloc)?;
+        write_numbers(text, &indices)
+    }
+
     /// Writes the answer to a word.
     fn write_answer(
         &mut self,
+        alloc: Global,
         name: &str,
         rest: &str,
         text: &mut String,
     ) -> Result<(), AllocError> {
         match name {
+            "greatest" => write_value(text, self.table.greatest()),
+            "all" => self.write_indices(alloc, text),
             "next" => write_value(text, self.table.next()),
             "len" => write_value(text, self.table.len()),
             "fill" => text.push_str(fill(&mut self.table)),
@@ -157,12 +166,12 @@ impl Run {
 impl Acts for Run {
     fn act(
         &mut self,
-        _alloc: Global,
+        alloc: Global,
         name: &str,
         rest: &str,
         text: &mut String,
     ) -> Result<(), Fail> {
-        self.write_answer(name, rest, text)?;
+        self.write_answer(alloc, name, rest, text)?;
         Ok(())
     }
 }

@@ -1,8 +1,9 @@
 //! What happens to a task.
 
 ghost use Rattle.std.specs.Prelude.{◌≡◌};
-ghost use Rattle.tasks.specs.Tasks.{is_entry};
+ghost use Rattle.tasks.specs.Tasks.{is_entry, is_sync, is_cancellable};
 
+use entry_gate::Kind;
 use thiserror::Error;
 
 /// Where a task waits.
@@ -91,5 +92,33 @@ impl BlockedAt {
             BlockedAt::Copy(_) => false,
             BlockedAt::Cancel(_) => false,
         }
+    }
+
+    /// Whether a cancellation ends this wait of a task of this kind (Concurrency.md, "Cancellation"): in its loop where `entry_free`,
+    /// that is where no task holds exclusive entry to its instance, and in a wait or `yield` with the built-in's flag where the task
+    /// isn't lifted without `async`.
+    pub fn is_cancellable(self, entry_free: bool, kind: Kind, flag: bool) -> bool
+        ensures { result ≡ is_cancellable entry_free kind self flag }
+    {
+        match self {
+            BlockedAt::Entry => false,
+            BlockedAt::Loop(_) => entry_free,
+            BlockedAt::Yield => flag && !is_sync(kind),
+            BlockedAt::Set(_) => flag && !is_sync(kind),
+            BlockedAt::Call(_) => false,
+            BlockedAt::Copy(_) => false,
+            BlockedAt::Cancel(_) => false,
+        }
+    }
+}
+
+/// Whether a core function is lifted without `async`.
+pub(crate) fn is_sync(kind: Kind) -> bool
+    ensures { result ≡ is_sync kind }
+{
+    match kind {
+        Kind::Sync => true,
+        Kind::Callback => false,
+        Kind::Stackful => false,
     }
 }

@@ -1,10 +1,10 @@
 //! A task.
 
 ghost use Rattle.std.specs.Prelude.{◌≡◌, IsTrue};
-ghost use Rattle.tasks.specs.Tasks.{new_task, may_happen, fault, answer, after, advanced, cancel_case, blocked_case, is_cancellable, cancelled, may_cancel, state_of, is_sync, asking_fault, resolving_fault, cancel_fault};
+ghost use Rattle.tasks.specs.Tasks.{new_task, may_happen, fault, answer, after, advanced, cancel_case, blocked_case, cancelled, may_cancel, state_of, asking_fault, resolving_fault, cancel_fault};
 ghost use Rattle.tasks.specs.History.{History, history_of, happened, asked_for, StandsFor};
 
-use crate::event::{Asked, BlockedAt, TaskEvent, TaskTrap};
+use crate::event::{Asked, BlockedAt, TaskEvent, TaskTrap, is_sync};
 use crate::phase::{Caller, Cancellation, Phase, Resolution};
 use crate::subtask_state::SubtaskState;
 use entry_gate::Kind;
@@ -283,35 +283,9 @@ fn blocked_case(entry_free: bool, kind: Kind, why: BlockedAt, flag: bool) -> Ask
     if why.is_entry() {
         return Asked::Removed;
     }
-    if is_cancellable(entry_free, kind, why, flag) {
+    if why.is_cancellable(entry_free, kind, flag) {
         Asked::ResumeNow
     } else {
         Asked::Pending
-    }
-}
-
-/// Whether a cancellation ends this wait.
-fn is_cancellable(entry_free: bool, kind: Kind, why: BlockedAt, flag: bool) -> bool
-    ensures { result ≡ is_cancellable entry_free kind why flag }
-{
-    match why {
-        BlockedAt::Entry => false,
-        BlockedAt::Loop(_) => entry_free,
-        BlockedAt::Yield => flag && !is_sync(kind),
-        BlockedAt::Set(_) => flag && !is_sync(kind),
-        BlockedAt::Call(_) => false,
-        BlockedAt::Copy(_) => false,
-        BlockedAt::Cancel(_) => false,
-    }
-}
-
-/// Whether a core function is lifted without `async`.
-fn is_sync(kind: Kind) -> bool
-    ensures { result ≡ is_sync kind }
-{
-    match kind {
-        Kind::Sync => true,
-        Kind::Callback => false,
-        Kind::Stackful => false,
     }
 }

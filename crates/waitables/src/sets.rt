@@ -68,23 +68,21 @@ impl Sets {
     }
 
     /// How many sets were made.
-    pub fn len(&self) -> usize
+    pub fn len(&self) -> u64
         ensures exact { result ≡ length self.now }
     {
-        self.sets.len()
+        self.sets.len() as u64
     }
 
     /// Makes a set, without members, and answers its number. After `Memory` the sets are as they were.
     #[tactic(auto, using(crate::proofs::Showing::made_shown))]
-    pub fn make(&mut self, alloc: Global) -> Result<u32, Memory>
+    pub fn make(&mut self, alloc: Global) -> Result<u64, Memory>
         ensures number { IfOk result (λ number. number ≡ length self.old) }
         ensures exact { OnOk result (self.new ≡ self.old ++ no_set ∷ []) }
         ensures stands { OnOk result ((h : List Event) → StandsFor h self.old → StandsFor (h ++ Made ∷ []) self.new) }
         ensures memory { OnErr result (self.new ≡ self.old) }
     {
-        let Ok(number) = u32::try_from(self.sets.len()) else {
-            return Err(Memory);
-        };
+        let number = self.sets.len() as u64;
         self.sets.push(WaitableSet {
             by_time: BTreeMap::new(alloc),
             waiters: 0,
@@ -94,7 +92,7 @@ impl Sets {
 
     /// Lets a waitable leave the set that it is in, and join this one as the last member. After `Memory` the sets are as
     /// they were. `Memory` comes also where 2^64 - 1 waitables have joined before.
-    pub fn join(&mut self, waitable: u32, set: u32) -> Result<(), Memory>
+    pub fn join(&mut self, waitable: u32, set: u64) -> Result<(), Memory>
         requires { set < length self.old }
         ensures exact { OnOk result (self.new ≡ joined waitable set self.old) }
         ensures stands { OnOk result ((h : List Event) → StandsFor h self.old → StandsFor (h ++ Joins waitable set ∷ []) self.new) }
@@ -129,7 +127,7 @@ impl Sets {
     }
 
     /// The members of a set by time of joining.
-    pub fn members(&self, set: u32) -> Members<'_>
+    pub fn members(&self, set: u64) -> Members<'_>
         requires { set < length self.now }
         ensures exact { result ≡ (set_at self.now set).members }
     {
@@ -138,7 +136,7 @@ impl Sets {
 
     /// The members that are told to have an event, by time of joining, whatever the order of `told`. It costs a look-up
     /// for each of `told`.
-    pub fn ready(&self, alloc: Global, set: u32, told: &Nums) -> Result<Nums, Memory>
+    pub fn ready(&self, alloc: Global, set: u64, told: &Nums) -> Result<Nums, Memory>
         requires { set < length self.now }
         ensures exact { IfOk result (λ ready. ready ≡ ready_of told.now (set_at self.now set)) }
     {
@@ -147,7 +145,7 @@ impl Sets {
     }
 
     /// Whether a member is told to have an event. It costs a look-up for each of `told`.
-    pub fn any_ready(&self, set: u32, told: &Nums) -> bool
+    pub fn any_ready(&self, set: u64, told: &Nums) -> bool
         requires { set < length self.now }
         ensures exact { result ≡ not (is_none (ready_of told.now (set_at self.now set))) }
     {
@@ -158,7 +156,7 @@ impl Sets {
     /// task waits on it. `Members` comes where it has a member, whether or not a task waits on it, and `Waiters` where it
     /// has none and a task does. Either way the sets look as they did: one that is dropped is empty, and its number isn't
     /// given again.
-    pub fn drop_set(&mut self, set: u32) -> Result<(), SetRefusal>
+    pub fn drop_set(&mut self, set: u64) -> Result<(), SetRefusal>
         requires { set < length self.old }
         ensures answer { result ≡ drop_answer (set_at self.old set) }
         ensures exact { self.new ≡ self.old }
@@ -174,7 +172,7 @@ impl Sets {
     }
 
     /// A task begins to wait on a set.
-    pub fn wait_on(&mut self, set: u32)
+    pub fn wait_on(&mut self, set: u64)
         requires there { set < length self.old }
         requires few { (set_at self.old set).waiters + 1 < 2 ^ 64 }
         ensures exact { self.new ≡ waited_on set self.old }
@@ -184,7 +182,7 @@ impl Sets {
     }
 
     /// A task ceases to wait on a set.
-    pub fn wait_off(&mut self, set: u32)
+    pub fn wait_off(&mut self, set: u64)
         requires there { set < length self.old }
         requires some { 0 < (set_at self.old set).waiters }
         ensures exact { self.new ≡ waited_off set self.old }
@@ -194,7 +192,7 @@ impl Sets {
     }
 
     /// How many tasks wait on a set.
-    pub fn waiters(&self, set: u32) -> u64
+    pub fn waiters(&self, set: u64) -> u64
         requires { set < length self.now }
         ensures exact { result ≡ (set_at self.now set).waiters }
     {
@@ -203,7 +201,7 @@ impl Sets {
 }
 
 /// The time at which a waitable joined a set, if it is in that set.
-fn time_in(places: &BTreeMap<u32, Place>, waitable: u32, set: u32) -> Option<u64>
+fn time_in(places: &BTreeMap<u32, Place>, waitable: u32, set: u64) -> Option<u64>
     ensures { result ≡ time_in set (get nat_cmp places.now waitable) }
 {
     let place = places.get(&waitable)?;
@@ -219,7 +217,7 @@ fn told_by_time(
     alloc: Global,
     places: &BTreeMap<u32, Place>,
     told: &[u32],
-    set: u32,
+    set: u64,
 ) -> Result<BTreeMap<u64, u32>, Memory>
     ensures { IfOk result (λ found. AreTold (get nat_cmp places.now) set told.now found.entries) }
 {
@@ -233,7 +231,7 @@ fn told_by_time(
 }
 
 /// Whether one of these waitables is in this set.
-fn any_in(places: &BTreeMap<u32, Place>, told: &[u32], set: u32) -> bool
+fn any_in(places: &BTreeMap<u32, Place>, told: &[u32], set: u64) -> bool
     ensures { result ≡ list_any (is_in (get nat_cmp places.now) set) told.now }
 {
     told.iter()
