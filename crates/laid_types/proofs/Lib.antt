@@ -10,3 +10,5 @@ pub mod Kept
 pub mod FirstPlaces
 pub mod Steps
 pub mod Told
+pub mod SameTypes
+pub mod Numbers

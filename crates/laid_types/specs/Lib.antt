@@ -5,5 +5,6 @@ pub mod Depth
 pub mod Layers
 pub mod Gathered
 pub mod Known
+pub mod SameTypes
 pub mod Computed
 pub mod Placing

@@ -1,6 +1,7 @@
 //! A type of the table.
 
-ghost use Rattle.std.specs.Prelude.{◌≡◌, ◌≤◌, ◌^◌, length, min, take, IfOk};
+ghost use Rattle.std.specs.Prelude.{◌≡◌, ◌≤◌, ◌^◌, length, min, take, Some, IfOk};
+ghost use Rattle.std.specs.List.{slice_get};
 ghost use Rattle.ca_base.specs.Names.{first_named};
 ghost use Rattle.ca_types.specs.Layout.{laid, tag_size};
 ghost use Rattle.ca_types.specs.Flat.{flat};
@@ -14,6 +15,7 @@ ghost use Rattle.laid_types.specs.Known.{Stands};
 use crate::entry::Entry;
 use crate::gathering::case_count;
 use crate::laying::tag_size;
+use crate::numbered_type::NumberedType;
 use crate::types::LaidTypes;
 use ca_types::{CoreType, Shared, ValType};
 use std::alloc::AllocError;
@@ -24,12 +26,13 @@ use std::marker::Model;
 pub struct LaidType<'a> {
     types: &'a LaidTypes,
     entry: &'a Entry,
+    number: usize,
 }
 
 impl<'a> Model for LaidType<'a> {
     ghost use Rattle.ca_types.specs.declared.types.ValType.{ValType};
     ghost use Rattle.ca_types.specs.contracts.types.ValType as val_type;
-    ghost use Rattle.laid_types.specs.Known.{Stands};
+    ghost use Rattle.laid_types.specs.Known.{HasNumber};
 
     ghost Value = { ValType };
 
@@ -37,16 +40,28 @@ impl<'a> Model for LaidType<'a> {
 
     ghost view = { λ t. t.entry.now.val_type };
 
-    ghost invariant = { λ t. Stands t.types.now t.entry.now };
+    ghost invariant = { λ t. HasNumber t.types.now t.number t.entry.now };
 }
 
 impl<'a> LaidType<'a> {
-    /// The type of an entry whose parts are among these types.
-    pub(crate) fn of(types: &'a LaidTypes, entry: &'a Entry) -> LaidType<'a>
-        requires { Stands types.now entry.now }
+    /// The type of an entry that has a number among these types.
+    pub(crate) fn of(types: &'a LaidTypes, entry: &'a Entry, number: usize) -> LaidType<'a>
+        requires stands { Stands types.now entry.now }
+        requires there { slice_get types.now number ≡ Some entry.now.val_type }
         ensures { result ≡ entry.now.val_type }
     {
-        LaidType { types, entry }
+        LaidType {
+            types,
+            entry,
+            number,
+        }
+    }
+
+    /// The type with its number in its table.
+    pub fn numbered(&self) -> NumberedType<'a>
+        ensures { result.val_type ≡ self.now }
+    {
+        NumberedType::of(self.types, self.entry, self.number)
     }
 
     /// The same type.
@@ -56,6 +71,7 @@ impl<'a> LaidType<'a> {
         LaidType {
             types: self.types,
             entry: self.entry,
+            number: self.number,
         }
     }
 

@@ -13,7 +13,8 @@
 //! - `gathering`: what is computed of a type from its parts
 //! - `making`: entries of layers
 //! - `types`: the table
-//! - `laid_type`: a type of the table
+//! - `laid_type`: a type of the table; `numbered_type`: the same with its number
+//! - `laws`: what holds of types alone
 #![tactic(auto)]
 
 mod entry;
@@ -22,13 +23,16 @@ mod gathering;
 mod holding;
 mod labels;
 mod laid_type;
+pub mod laws;
 mod layer;
 mod laying;
 mod making;
+mod numbered_type;
 mod trees;
 mod types;
 
 pub use laid_type::LaidType;
 pub use layer::{LabelledCase, LabelledPart, ValTypeLayer};
 pub use laying::aligned;
+pub use numbered_type::NumberedType;
 pub use types::LaidTypes;

@@ -3,12 +3,13 @@
 ghost use Rattle.std.specs.Prelude.{◌≡◌, ◌<◌, ◌∷◌, ◌++◌, [], length, Some, IfOk, OnOk, OnErr};
 ghost use Rattle.std.specs.List.{slice_get};
 ghost use Rattle.laid_types.specs.Layers.{AreThere, tree_at, type_of, part_numbers};
-ghost use Rattle.laid_types.specs.Known.{Stands};
+ghost use Rattle.laid_types.specs.Known.{Stands, numbered_at};
 
 use crate::entry::Entry;
 use crate::laid_type::LaidType;
 use crate::layer::ValTypeLayer;
 use crate::making::entry_of;
+use crate::numbered_type::NumberedType;
 use ca_types::{Shared, ValType};
 use std::alloc::{AllocError, Global};
 use std::marker::Model;
@@ -72,7 +73,18 @@ impl LaidTypes {
         ensures { result ≡ slice_get self.now number }
     {
         if number < self.len() {
-            Some(LaidType::of(self, self.entry(number)))
+            Some(LaidType::of(self, self.entry(number), number))
+        } else {
+            None
+        }
+    }
+
+    /// The type of a number, with the number.
+    pub fn numbered(&self, number: usize) -> Option<NumberedType<'_>>
+        ensures { result ≡ numbered_at self.now number }
+    {
+        if number < self.len() {
+            Some(NumberedType::of(self, self.entry(number), number))
         } else {
             None
         }

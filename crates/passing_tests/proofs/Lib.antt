@@ -1,2 +1,3 @@
 mod Fit
 mod There
+mod Loans

@@ -1,5 +1,6 @@
 //! The answers to lines.
 
+use crate::handles::handles_told;
 use crate::kinds::{Kind, lowers_of};
 use crate::laid::{aligned_told, label_told, layout_told, parts_told, size_told};
 use crate::large_texts::texts_told;
@@ -8,7 +9,7 @@ use crate::loading::lift_told;
 use crate::long_lists::passed_told;
 use crate::making::{Made, put_made};
 use crate::storing::lower_told;
-use laid_types::{LaidType, LaidTypes};
+use laid_types::LaidType;
 use std::alloc::Global;
 use std::test::Fail;
 use value_lift::LiftOf;
@@ -31,7 +32,7 @@ fn type_answer(
         Kind::Doubled => size_told(alloc, count, t),
         Kind::DoubledValue => loaded(alloc, t, &[1, 2, 3, 4], 0, LiftOf::Value),
         Kind::Passed => passed_told(alloc, t, rest),
-        Kind::Aligned | Kind::Large => Err(Fail::new("no type")),
+        Kind::Aligned | Kind::Large | Kind::WithTable(_) => Err(Fail::new("no type")),
     }
 }
 
@@ -43,10 +44,9 @@ fn words_answer(
     words: &str,
     rest: &str,
 ) -> Result<String, Fail> {
-    let mut types = LaidTypes::new(alloc);
-    let number = put_made(alloc, &mut types, how, words)?;
-    match types.get(number) {
-        Some(t) => type_answer(alloc, kind, types.len(), &t, rest),
+    let put = put_made(alloc, how, words)?;
+    match put.types.get(put.number) {
+        Some(t) => type_answer(alloc, kind, put.types.len(), &t, rest),
         None => Err(Fail::new("no type")),
     }
 }
@@ -65,6 +65,7 @@ pub(crate) fn line_told(alloc: Global, kind: Kind, line: &str) -> Result<String,
     match kind {
         Kind::Aligned => aligned_told(alloc, line),
         Kind::Large => large_answer(alloc, line),
+        Kind::WithTable(lifts) => handles_told(alloc, lifts, line),
         Kind::Doubled | Kind::DoubledValue => {
             words_answer(alloc, kind, Made::Doubled, words, rest)
         }

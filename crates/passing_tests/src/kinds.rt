@@ -24,6 +24,7 @@ pub(crate) enum Lowers {
 #[derive(Clone, Copy)]
 pub(crate) enum Kind {
     Lifted(Lifts),
+    WithTable(Lifts),
     Texts,
     Layout,
     Parts,
@@ -45,6 +46,17 @@ fn lifts_of(word: &str) -> Option<Kind> {
         "load-integer" => Some(Kind::Lifted(Lifts::LoadInteger)),
         "lift" => Some(Kind::Lifted(Lifts::Lift)),
         "lift-arguments" => Some(Kind::Lifted(Lifts::LiftArguments)),
+        _ => None,
+    }
+}
+
+/// What a word lifts with a table of handles.
+fn with_table(word: &str) -> Option<Kind> {
+    match word {
+        "load-handles" => Some(Kind::WithTable(Lifts::Load)),
+        "load-elements-handles" => Some(Kind::WithTable(Lifts::LoadElements)),
+        "lift-handles" => Some(Kind::WithTable(Lifts::Lift)),
+        "lift-arguments-handles" => Some(Kind::WithTable(Lifts::LiftArguments)),
         _ => None,
     }
 }
@@ -82,6 +94,9 @@ pub(crate) fn kind_of(word: &str) -> Option<Kind> {
         return Some(Kind::Lowered(lowers));
     }
     if let Some(kind) = lifts_of(word) {
+        return Some(kind);
+    }
+    if let Some(kind) = with_table(word) {
         return Some(kind);
     }
     told_of(word)

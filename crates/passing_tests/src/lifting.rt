@@ -12,7 +12,9 @@ use laid_types::LaidType;
 use std::alloc::Global;
 use std::test::Fail;
 use type_texts::value_told;
-use value_lift::{LiftError, LiftOf, LiftTrap, lift_flat, load, load_int, load_list};
+use value_lift::{
+    LiftError, LiftOf, LiftTrap, LiftWhy, lift_flat_bare, load_bare, load_int, load_list_bare,
+};
 
 /// The text of a value that is let go then.
 fn told(alloc: Global, value: Value, val_type: &ValType) -> Result<String, Fail> {
@@ -21,8 +23,11 @@ fn told(alloc: Global, value: Value, val_type: &ValType) -> Result<String, Fail>
 
 /// The text of a trap.
 fn trap_told(alloc: Global, trap: LiftTrap) -> Result<String, Fail> {
-    let why = trap.why;
     let place = trap.place;
+    if let LiftWhy::Refused(why) = trap.why {
+        return Ok(format!(in alloc; "{why:?} at {place}")?);
+    }
+    let why = trap.why;
     Ok(format!(in alloc; "{why:?} at {place}")?)
 }
 
@@ -35,7 +40,7 @@ fn error_told(alloc: Global, error: LiftError) -> Result<String, Fail> {
 }
 
 /// The text of a value that is lifted, or of why none is.
-fn value_or_error(
+pub(crate) fn value_or_error(
     alloc: Global,
     lifted: Result<Value, LiftError>,
     val_type: &ValType,
@@ -47,7 +52,7 @@ fn value_or_error(
 }
 
 /// The text of values that are lifted as those of a type of lists, or of why none are.
-fn values_or_error(
+pub(crate) fn values_or_error(
     alloc: Global,
     lifted: Result<Values, LiftError>,
     val_type: &ValType,
@@ -66,7 +71,7 @@ fn holds(t: &LaidType<'_>) -> bool
 }
 
 /// Whether a type is one of tuples, where arguments are lifted.
-fn is_for(what: LiftOf, val_type: &ValType) -> bool
+pub(crate) fn is_for(what: LiftOf, val_type: &ValType) -> bool
     ensures { result ≡ true → IsFor what val_type.now }
 {
     match what {
@@ -95,7 +100,7 @@ pub(crate) fn loaded(
     if !may_lift(t, what) {
         return Err(Fail::new("handles"));
     }
-    let lifted = load(alloc, memory, place, t, what);
+    let lifted = load_bare(alloc, memory, place, t, what);
     value_or_error(alloc, lifted, t.val_type())
 }
 
@@ -110,7 +115,7 @@ pub(crate) fn lifted(
     if !may_lift(t, what) || words.len() > 16 || words.len() != t.flat().len() {
         return Err(Fail::new("words"));
     }
-    let lifted = lift_flat(alloc, memory, t, words, what);
+    let lifted = lift_flat_bare(alloc, memory, t, words, what);
     value_or_error(alloc, lifted, t.val_type())
 }
 
@@ -128,7 +133,7 @@ pub(crate) fn elements_loaded(
     if holds(&element) {
         return Err(Fail::new("handles"));
     }
-    let lifted = load_list(alloc, memory, place, count, &element);
+    let lifted = load_list_bare(alloc, memory, place, count, &element);
     values_or_error(alloc, lifted, t.val_type())
 }
 

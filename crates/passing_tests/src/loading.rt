@@ -10,7 +10,7 @@ use std::test::Fail;
 use value_lift::LiftOf;
 
 /// Core values with spaces between them.
-fn core_values(alloc: Global, text: &str) -> Result<Vec<u64>, Fail> {
+pub(crate) fn core_values(alloc: Global, text: &str) -> Result<Vec<u64>, Fail> {
     let mut words = Vec::new(alloc);
     for word in text.split_whitespace() {
         words.push(word.parse::<u64>()?)?;

@@ -8,7 +8,7 @@ use ca_types::{Value, Values};
 use laid_types::LaidType;
 use std::alloc::{AllocError, Global};
 use std::test::Fail;
-use value_lift::load_list;
+use value_lift::load_list_bare;
 
 /// So many numbers, of which no two are equal.
 fn numbers(alloc: Global, count: u32) -> Result<Vec<Value>, AllocError> {
@@ -40,7 +40,7 @@ fn lifted(alloc: Global, memory: &[u8], count: u32, t: &LaidType<'_>) -> Result<
     if holds(t) {
         return Err(Fail::new("handles"));
     }
-    match load_list(alloc, memory, 0, count, t) {
+    match load_list_bare(alloc, memory, 0, count, t) {
         Ok(values) => Ok(values),
         Err(MemoryOr::Memory) => Err(Fail::new("memory")),
         Err(MemoryOr::Fault(_)) => Err(Fail::new("not lifted")),

@@ -15,6 +15,8 @@
 //! - `load-texts`: how many texts a list has, each the same mebibyte of the letter `a`, so that the memory is small. The list is
 //!   counted as 1, and each of 127 texts as 1,048,577; with the last one that makes 134,217,857, and 134,217,728 may be counted
 //! - `lift`, `lift-arguments`: core values
+//! - `load-handles`, `load-elements-handles`, `lift-handles`, `lift-arguments-handles`: the same with the entries of a table of handles
+//!   before the bytes; wanted are besides, with semicolons between, the entries then and what moved
 //!
 //! What is computed of types:
 //!
@@ -44,12 +46,14 @@
 //! - `kinds`: kinds of tables; `answers`: the answers to their lines
 //! - `putting`: types put into a table, layer by layer; `making`: types of words put into a table
 //! - `laid`: what is computed of types, as text
+//! - `handles`: what is lifted with a table, as text; `things`: tables of words
 //! - `lifting`: what is lifted, as text; `loading`: what a line says of it; `large_texts`: a list of texts
 //! - `scripted`: a room of a script; `lines`: the parts of a line
 //! - `lowering`: what is lowered, as text; `storing`: what a line says of it; `long_lists`: a list that is lowered and lifted
 #![tactic(auto)]
 
 mod answers;
+mod handles;
 mod kinds;
 mod laid;
 mod large_texts;
@@ -62,6 +66,7 @@ mod making;
 mod putting;
 mod scripted;
 mod storing;
+mod things;
 
 use answers::line_told;
 use cases::{Steps, Tables, check_steps, run_tables};

@@ -1,8 +1,13 @@
 //! Types of words, put into a table.
 
+ghost use Rattle.std.specs.Prelude.{IfOk};
+ghost use Rattle.laid_types.specs.SameTypes.{AreDistinct};
+
 use crate::lines::number;
 use crate::putting::{add, put};
+use ca_types::{Shared, ValType};
 use laid_types::{LaidTypes, ValTypeLayer};
+use link_values::ValueTypes;
 use std::alloc::Global;
 use std::test::Fail;
 use type_texts::type_of;
@@ -29,11 +34,23 @@ fn with_labels(alloc: Global, words: &str) -> Result<String, Fail> {
     Ok(format!(in alloc; "{before}{labels}{after}")?)
 }
 
-/// Puts the type that words stand for into a table, and answers its number.
-fn put_words(alloc: Global, types: &mut LaidTypes, words: &str) -> Result<usize, Fail> {
+/// A table of types, and the number of one of them.
+#[derive(Drop)]
+pub(crate) struct Put {
+    pub(crate) types: LaidTypes,
+    pub(crate) number: usize,
+}
+
+/// The type that words stand for, in a table.
+fn put_words(alloc: Global, words: &str) -> Result<Put, Fail> {
     let words = with_labels(alloc, words)?;
     let val_type = type_of(alloc, words.as_str())?;
-    put(alloc, types, val_type.get())
+    let mut types = ValueTypes::new(alloc);
+    let number = put(alloc, &mut types, val_type.get())?;
+    Ok(Put {
+        types: types.into_laid(),
+        number,
+    })
 }
 
 /// Adds a pair of a type, with a byte behind it or without, so often, and answers the last number.
@@ -69,31 +86,45 @@ fn add_word(alloc: Global, types: &mut LaidTypes, part: usize, word: &str) -> Re
     }
 }
 
-/// Adds the type of layers, and answers its number.
-fn add_words(alloc: Global, types: &mut LaidTypes, words: &str) -> Result<usize, Fail> {
-    let mut part = add(alloc, types, &ValTypeLayer::U8)?;
+/// The type of layers, in a table.
+fn put_layers(alloc: Global, words: &str) -> Result<Put, Fail> {
+    let mut types = LaidTypes::new(alloc);
+    let mut number = add(alloc, &mut types, &ValTypeLayer::U8)?;
     for word in words.split_whitespace() {
-        part = add_word(alloc, types, part, word)?;
+        number = add_word(alloc, &mut types, number, word)?;
     }
-    Ok(part)
+    Ok(Put { types, number })
 }
 
-/// Adds the type of bytes, doubled so often, and answers its number.
-fn doubled(alloc: Global, types: &mut LaidTypes, times: u32) -> Result<usize, Fail> {
-    let part = add(alloc, types, &ValTypeLayer::U8)?;
-    add_pairs(alloc, types, part, None, times)
+/// The type of bytes, doubled so often, in a table.
+fn doubled(alloc: Global, times: u32) -> Result<Put, Fail> {
+    let mut types = LaidTypes::new(alloc);
+    let part = add(alloc, &mut types, &ValTypeLayer::U8)?;
+    let number = add_pairs(alloc, &mut types, part, None, times)?;
+    Ok(Put { types, number })
 }
 
-/// Puts the type of words into a table, and answers its number.
-pub(crate) fn put_made(
-    alloc: Global,
-    types: &mut LaidTypes,
-    how: Made,
-    words: &str,
-) -> Result<usize, Fail> {
+/// The type of words, in a table.
+pub(crate) fn put_made(alloc: Global, how: Made, words: &str) -> Result<Put, Fail> {
     match how {
-        Made::OfWords => put_words(alloc, types, words),
-        Made::Doubled => doubled(alloc, types, number(words)?),
-        Made::OfLayers => add_words(alloc, types, words),
+        Made::OfWords => put_words(alloc, words),
+        Made::Doubled => doubled(alloc, number(words)?),
+        Made::OfLayers => put_layers(alloc, words),
     }
+}
+
+/// Types in a table in which none stands twice, and the number of each.
+pub(crate) fn put_all(
+    alloc: Global,
+    val_types: &[Shared<ValType>],
+) -> Result<(LaidTypes, Vec<usize>), Fail>
+    ensures { IfOk result (λ r. AreDistinct r.0) }
+{
+    let mut types = ValueTypes::new(alloc);
+    let mut numbers = Vec::new(alloc);
+    for val_type in val_types {
+        numbers.push(put(alloc, &mut types, val_type.get())?)?;
+    }
+    types.are_apart();
+    Ok((types.into_laid(), numbers))
 }

@@ -8,6 +8,7 @@ ghost use Rattle.passing_tests.specs.There.{is_there, layer_there};
 use ca_base::Name;
 use ca_types::{Case, Field, Shared, ValType};
 use laid_types::{LabelledCase, LabelledPart, LaidTypes, ValTypeLayer};
+use link_values::ValueTypes;
 use std::alloc::Global;
 use std::test::Fail;
 
@@ -57,6 +58,26 @@ fn layer_there(count: usize, layer: &ValTypeLayer<'_, '_>) -> bool
     }
 }
 
+/// Whether the parts of a layer are among types of which none stands twice.
+#[tactic(auto, using(crate::proofs::There::layer_is_there))]
+fn are_there_once(types: &ValueTypes<'_>, layer: &ValTypeLayer<'_, '_>) -> bool
+    ensures { result ≡ true → AreThere types.now (part_numbers layer.now) }
+{
+    layer_there(types.len(), layer)
+}
+
+/// The number of the type of a layer among types of which none stands twice. It is added where it is not there.
+fn add_once<'a>(
+    alloc: Global,
+    types: &mut ValueTypes<'a>,
+    layer: &ValTypeLayer<'_, 'a>,
+) -> Result<usize, Fail> {
+    if !are_there_once(types, layer) {
+        return Err(Fail::new("no part"));
+    }
+    Ok(types.number_of(alloc, layer)?)
+}
+
 /// Whether the parts of a layer are there.
 #[tactic(auto, using(crate::proofs::There::layer_is_there))]
 fn are_there(types: &LaidTypes, layer: &ValTypeLayer<'_, '_>) -> bool
@@ -97,7 +118,7 @@ fn plain_layer(val_type: &ValType) -> ValTypeLayer<'static, 'static> {
 }
 
 /// The texts of labels.
-fn texts(alloc: Global, labels: &[Name]) -> Result<Vec<&str>, Fail> {
+fn texts<'a>(alloc: Global, labels: &'a [Name]) -> Result<Vec<&'a str>, Fail> {
     let mut texts = Vec::new(alloc);
     for label in labels {
         texts.push(label.as_str())?;
@@ -106,61 +127,77 @@ fn texts(alloc: Global, labels: &[Name]) -> Result<Vec<&str>, Fail> {
 }
 
 /// Puts flags into a table.
-fn put_flags(alloc: Global, types: &mut LaidTypes, labels: &[Name]) -> Result<usize, Fail> {
+fn put_flags<'a>(
+    alloc: Global,
+    types: &mut ValueTypes<'a>,
+    labels: &'a [Name],
+) -> Result<usize, Fail> {
     let labels = texts(alloc, labels)?;
-    add(alloc, types, &ValTypeLayer::Flags(&labels))
+    add_once(alloc, types, &ValTypeLayer::Flags(&labels))
 }
 
 /// Puts an enum into a table.
-fn put_enum(alloc: Global, types: &mut LaidTypes, labels: &[Name]) -> Result<usize, Fail> {
+fn put_enum<'a>(
+    alloc: Global,
+    types: &mut ValueTypes<'a>,
+    labels: &'a [Name],
+) -> Result<usize, Fail> {
     let labels = texts(alloc, labels)?;
-    add(alloc, types, &ValTypeLayer::Enum(&labels))
+    add_once(alloc, types, &ValTypeLayer::Enum(&labels))
 }
 
 /// Puts a record into a table.
 #[cycle(putting)]
-fn put_record(alloc: Global, types: &mut LaidTypes, fields: &[Field]) -> Result<usize, Fail> {
+fn put_record<'a>(
+    alloc: Global,
+    types: &mut ValueTypes<'a>,
+    fields: &'a [Field],
+) -> Result<usize, Fail> {
     let mut parts = Vec::new(alloc);
     for field in fields {
         let number = put(alloc, types, field.val_type.get())?;
         let label = field.label.as_str();
         parts.push(LabelledPart { label, number })?;
     }
-    add(alloc, types, &ValTypeLayer::Record(&parts))
+    add_once(alloc, types, &ValTypeLayer::Record(&parts))
 }
 
 /// Puts a variant into a table.
 #[cycle(putting)]
-fn put_variant(alloc: Global, types: &mut LaidTypes, cases: &[Case]) -> Result<usize, Fail> {
+fn put_variant<'a>(
+    alloc: Global,
+    types: &mut ValueTypes<'a>,
+    cases: &'a [Case],
+) -> Result<usize, Fail> {
     let mut parts = Vec::new(alloc);
     for case in cases {
         let payload = put_payload(alloc, types, &case.payload)?;
         let label = case.label.as_str();
         parts.push(LabelledCase { label, payload })?;
     }
-    add(alloc, types, &ValTypeLayer::Variant(&parts))
+    add_once(alloc, types, &ValTypeLayer::Variant(&parts))
 }
 
 /// Puts a tuple into a table.
 #[cycle(putting)]
-fn put_tuple(
+fn put_tuple<'a>(
     alloc: Global,
-    types: &mut LaidTypes,
-    places: &[Shared<ValType>],
+    types: &mut ValueTypes<'a>,
+    places: &'a [Shared<ValType>],
 ) -> Result<usize, Fail> {
     let mut parts = Vec::new(alloc);
     for part in places {
         parts.push(put(alloc, types, part.get())?)?;
     }
-    add(alloc, types, &ValTypeLayer::Tuple(&parts))
+    add_once(alloc, types, &ValTypeLayer::Tuple(&parts))
 }
 
 /// Puts the type of a payload into a table, where there is one.
 #[cycle(putting)]
-fn put_payload(
+fn put_payload<'a>(
     alloc: Global,
-    types: &mut LaidTypes,
-    payload: &Option<Shared<ValType>>,
+    types: &mut ValueTypes<'a>,
+    payload: &'a Option<Shared<ValType>>,
 ) -> Result<Option<usize>, Fail> {
     match payload {
         Some(part) => Ok(Some(put(alloc, types, part.get())?)),
@@ -170,7 +207,11 @@ fn put_payload(
 
 /// Puts a type into a table, its parts first, and answers its number.
 #[cycle(putting)]
-pub(crate) fn put(alloc: Global, types: &mut LaidTypes, val_type: &ValType) -> Result<usize, Fail> {
+pub(crate) fn put<'a>(
+    alloc: Global,
+    types: &mut ValueTypes<'a>,
+    val_type: &'a ValType,
+) -> Result<usize, Fail> {
     match val_type {
         ValType::Record(fields) => put_record(alloc, types, fields.as_slice()),
         ValType::Variant(cases) => put_variant(alloc, types, cases.as_slice()),
@@ -179,25 +220,25 @@ pub(crate) fn put(alloc: Global, types: &mut LaidTypes, val_type: &ValType) -> R
         ValType::Enum(labels) => put_enum(alloc, types, labels.as_slice()),
         ValType::List(part) => {
             let part = put(alloc, types, part.get())?;
-            add(alloc, types, &ValTypeLayer::List(part))
+            add_once(alloc, types, &ValTypeLayer::List(part))
         }
         ValType::Option(part) => {
             let part = put(alloc, types, part.get())?;
-            add(alloc, types, &ValTypeLayer::Option(part))
+            add_once(alloc, types, &ValTypeLayer::Option(part))
         }
         ValType::Result { ok, err } => {
             let ok = put_payload(alloc, types, ok)?;
             let err = put_payload(alloc, types, err)?;
-            add(alloc, types, &ValTypeLayer::Result { ok, err })
+            add_once(alloc, types, &ValTypeLayer::Result { ok, err })
         }
         ValType::Stream(part) => {
             let part = put_payload(alloc, types, part)?;
-            add(alloc, types, &ValTypeLayer::Stream(part))
+            add_once(alloc, types, &ValTypeLayer::Stream(part))
         }
         ValType::Future(part) => {
             let part = put_payload(alloc, types, part)?;
-            add(alloc, types, &ValTypeLayer::Future(part))
+            add_once(alloc, types, &ValTypeLayer::Future(part))
         }
-        plain => add(alloc, types, &plain_layer(plain)),
+        plain => add_once(alloc, types, &plain_layer(plain)),
     }
 }

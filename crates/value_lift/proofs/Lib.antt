@@ -3,13 +3,13 @@ pub mod Layers
 pub mod Depth
 pub mod Lists
 pub mod OverTypes
-pub mod OverSteps
+pub mod Views
 pub mod Equations
+pub mod OverForms
 pub mod Forms
 pub mod Rooms
 pub mod WordRooms
 pub mod Steps
-pub mod Views
 pub mod Stood
 pub mod Passing
 pub mod Found
@@ -27,3 +27,6 @@ pub mod WordFailed
 pub mod WordStopped
 pub mod TypesStopped
 pub mod Faults
+pub mod Lends
+pub mod ByItself
+pub mod Given

@@ -3,8 +3,11 @@ use Rattle.std.proofs.Common.{◌≡◌, ◌∙◌, ◌+◌, ◌<◌, ℕ, zero,
 use Rattle.std.specs.List.{slice_get}
 use Rattle.std.specs.Option.{option_and_then, option_map}
 use Rattle.ca_types.specs.declared.types.ValType.{ValType}
-use Rattle.value_lift.specs.Pieces.{part_in}
-use Rattle.value_lift.specs.Lifting.{part, parts}
+use Rattle.value_lift.specs.Ledger.{Ledger}
+use Rattle.value_lift.specs.Leaves.{part_in}
+use Rattle.value_lift.specs.Answers.{plainly}
+use Rattle.value_lift.specs.Over.{part, parts}
+use Rattle.value_lift.specs.Lifting as plain
 
 module _ {A : Type 0} where
   dropped : (xs : List (Option A)) (n : ℕ) (x : Option A) → slice_get xs n ≡ Some x → drop n xs ≡ x ∷ drop (suc n) xs
@@ -40,8 +43,11 @@ module _ {A : Type 0} where
       next xs n w.0 w.1 ∙ ap (λ (x : Option A). x ∷ drop (n + 1) xs) none
 
 -- the parts of types
-pub part_image : (types : List (Option ValType)) (n : ℕ) → part_in (parts types) n ≡ option_map part (part_in types n)
-part_image [] n = refl
-part_image (None ∷ types) zero = refl
-part_image (Some t ∷ types) zero = refl
-part_image (t ∷ types) (suc n) = part_image types n
+pub part_image_over : {S G : Type 0} (led : Ledger S G) (types : List (Option ValType)) (n : ℕ) → part_in (parts led types) n ≡ option_map (part led) (part_in types n)
+part_image_over led [] n = refl
+part_image_over led (None ∷ types) zero = refl
+part_image_over led (Some t ∷ types) zero = refl
+part_image_over led (t ∷ types) (suc n) = part_image_over led types n
+
+pub part_image : (types : List (Option ValType)) (n : ℕ) → part_in (plain.parts types) n ≡ option_map plain.part (part_in types n)
+part_image = part_image_over plainly

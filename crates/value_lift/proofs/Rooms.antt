@@ -14,7 +14,10 @@ use Rattle.ca_types.specs.Layout.{Laid, laid, laid_step, laid_payload, aligned, 
 use Rattle.ca_types.proofs.Folds.{held}
 use Rattle.laid_types.specs.Parts.{parts_of, parts_case, part_at, case_count, count_case, payload_place, layouts}
 use Rattle.value_lift.specs.Bytes.{is_inside, width_of}
-use Rattle.value_lift.specs.Lifting.{parts, laid_of, behind_tag}
+use Rattle.value_lift.specs.Ledger.{Ledger}
+use Rattle.value_lift.specs.Answers.{plainly}
+use Rattle.value_lift.specs.Over.{parts, laid_of, behind_tag}
+use Rattle.value_lift.specs.Lifting as plain
 use Rattle.value_lift.specs.Room.{end_behind, HasCaseRoom}
 use Rattle.value_lift.proofs.Equations.{layouts_in, laid_is}
 use Rattle.value_lift.proofs.Forms.{IsRow, HasCases}
@@ -97,13 +100,16 @@ case_room t place memory h i = record {
 }
 
 -- where a payload stands, over the parts
-laid_parts : (types : List (Option ValType)) → map laid_of (parts types) ≡ map laid_payload types
-laid_parts [] = refl
-laid_parts (None ∷ types) = ap (λ (ls : List (Option Laid)). None ∷ ls) (laid_parts types)
-laid_parts (Some t ∷ types) = ap (λ (ls : List (Option Laid)). Some (laid t) ∷ ls) (laid_parts types)
+laid_parts : {S G : Type 0} (led : Ledger S G) (types : List (Option ValType)) → map laid_of (parts led types) ≡ map laid_payload types
+laid_parts led [] = refl
+laid_parts led (None ∷ types) = ap (λ (ls : List (Option Laid)). None ∷ ls) (laid_parts led types)
+laid_parts led (Some t ∷ types) = ap (λ (ls : List (Option Laid)). Some (laid t) ∷ ls) (laid_parts led types)
 
-pub payload_behind : (t : ValType) → behind_tag (case_count t) (parts (parts_of t)) ≡ payload_place t
-payload_behind t = ap (λ (ls : List (Option Laid)). aligned (tag_size (case_count t)) (top_align (there ls))) (laid_parts (parts_of t))
+pub payload_behind_over : {S G : Type 0} (led : Ledger S G) (t : ValType) → behind_tag (case_count t) (parts led (parts_of t)) ≡ payload_place t
+payload_behind_over led t = ap (λ (ls : List (Option Laid)). aligned (tag_size (case_count t)) (top_align (there ls))) (laid_parts led (parts_of t))
+
+pub payload_behind : (t : ValType) → behind_tag (case_count t) (plain.parts (parts_of t)) ≡ payload_place t
+payload_behind = payload_behind_over plainly
 
 -- the bytes of a number of 1, 2 or 4 bytes
 pub tag_bytes : (n : ℕ) → byte_len (width_of (tag_size n)) ≡ tag_size n

@@ -1,8 +1,6 @@
 -- What lifting answers over the plain ledger, which counts and takes an index for itself: something, and how much may be counted still;
--- or the first fault. And what is said of a call that lifts.
-use Rattle.std.specs.Prelude.{◌≡◌, ℕ, ◌-◌, nat_le, if◌then◌else◌, Result, Ok, Err}
-use Rattle.ca_base.specs.declared.memory.MemoryOr.{MemoryOr}
-use Rattle.ca_base.specs.declared.memory.MemoryOr.TheVariants.{Memory, Fault}
+-- or the first fault.
+use Rattle.std.specs.Prelude.{ℕ, ◌-◌, nat_le, if◌then◌else◌, Result, Ok, Err}
 use Rattle.value_lift.specs.declared.trap.LiftWhy.TheVariants.{TooLarge}
 use Rattle.value_lift.specs.declared.trap.LiftTrap.{LiftTrap}
 use Rattle.value_lift.specs.Ledger.{Ledger, Came}
@@ -24,14 +22,3 @@ plainly = record { spend = counted; stop = λ fault left. fault; take = λ u lef
 -- something for which nothing is counted
 abbrev pub uncounted : {A : Type 0} → ℕ → Result A LiftTrap → Lifted A
 uncounted left r = kept.uncounted plainly left r
-
--- A call that counts, and changes what may be counted still.
-abbrev pub Counts : {X : Type 0} → Result ℕ LiftTrap → ℕ → Result X LiftTrap → Type 0
-Counts count left (Ok _) = count ≡ Ok left
-Counts count left (Err fault) = count ≡ Err fault
-
--- A call that lifts, or is short of memory and then says nothing; and what may be counted still behind it.
-abbrev pub MayLift : {A : Type 0} → Lifted A → ℕ → Result A (MemoryOr LiftTrap) → Type 0
-MayLift lifted left (Ok x) = lifted ≡ Ok (x, left)
-MayLift lifted left (Err (Fault fault)) = lifted ≡ Err fault
-MayLift lifted left (Err Memory) = Unit {0}

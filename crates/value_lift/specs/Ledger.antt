@@ -1,7 +1,9 @@
 -- What is kept while values are lifted (Component Model, CanonicalABI.md, "Loading", "Flat Lifting"): how much may be counted still, and
 -- what indices in a table name. Lifting is said for any such ledger, and goes on with it from part to part, from left to right; where it
 -- stops, the ledger tells with what.
-use Rattle.std.specs.Prelude.{ℕ, Result, Ok, Err}
+use Rattle.std.specs.Prelude.{◌≡◌, ℕ, Result, Ok, Err}
+use Rattle.ca_base.specs.declared.memory.MemoryOr.{MemoryOr}
+use Rattle.ca_base.specs.declared.memory.MemoryOr.TheVariants.{Memory, Fault}
 use Rattle.ca_types.specs.declared.types.ValType.{ValType}
 use Rattle.value_lift.specs.declared.trap.LiftTrap.{LiftTrap}
 
@@ -53,3 +55,19 @@ module _ {S F : Type 0} where
   abbrev pub uncounted : Ledger S F → {A : Type 0} → S → Result A LiftTrap → Came S F A
   uncounted l kept (Ok x) = Ok (x, kept)
   uncounted l kept (Err fault) = Err (l.stop fault kept)
+
+  -- what an index names, once the value that it tells is counted
+  abbrev pub reached : Ledger S F → What → ℕ → ℕ → S → Came S F ℕ
+  reached l what index place kept =
+      counting (l.spend 1 place kept) (λ kept. l.take (record { what = what; index = index; place = place }) kept)
+
+  -- A call that counts, and what is kept behind it.
+  abbrev pub Spends : {X : Type 0} → Ledger S F → Result S F → S → Result X LiftTrap → Type 0
+  Spends l spent kept (Ok _) = spent ≡ Ok kept
+  Spends l spent kept (Err fault) = spent ≡ Err (l.stop fault kept)
+
+  -- A call that lifts, or is short of memory and then says nothing; and what is kept behind it.
+  abbrev pub MayTake : {A : Type 0} → Ledger S F → Came S F A → S → Result A (MemoryOr LiftTrap) → Type 0
+  MayTake l came kept (Ok x) = came ≡ Ok (x, kept)
+  MayTake l came kept (Err (Fault fault)) = came ≡ Err (l.stop fault kept)
+  MayTake l came kept (Err Memory) = Unit {0}

@@ -2,6 +2,8 @@ pub mod Bytes
 pub mod Leaves
 pub mod Ledger
 pub mod Over
+pub mod Named
+pub mod Tables
 pub mod Answers
 pub mod Pieces
 pub mod Lifting

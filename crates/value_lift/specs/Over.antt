@@ -271,3 +271,18 @@ module _ {S F : Type 0} (l : Ledger S F) where
   -- the outer layer of a type, with its parts
   abbrev pub layer_of : ValType → ValType-F (Part S F) (Option (Part S F)) (Part S F)
   layer_of type = map-ValType ValType Case Field (Part S F) (Option (Part S F)) (Part S F) part payload_part field_part (out-ValType type)
+
+  -- The value at a place, which is a multiple of the type's alignment, with all its bytes inside.
+  abbrev pub load_by : ValType → Lift S F
+  load_by type memory place kept =
+      if is_aligned place (laid type).align
+      then (if is_inside place (laid type).size memory then lift type memory place kept else fails (trap Bounds place) kept)
+      else fails (trap Misaligned place) kept
+
+  -- So many values one after the other, each of which is counted. None stand anywhere.
+  abbrev pub load_list_by : ValType → List ℕ → ℕ → ℕ → S → Came S F (List Value)
+  load_list_by type memory place count kept = if count == 0 then Ok ([], kept) else elements_of (part type) place count memory place kept
+
+  -- The value in core values.
+  abbrev pub lift_flat_by : ValType → List ℕ → List ℕ → S → Came S F Value
+  lift_flat_by type memory words kept = lift_words type memory words 0 kept

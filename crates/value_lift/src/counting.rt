@@ -1,7 +1,8 @@
 //! How much one lifting counts: 1 for each value, and 1 for each byte of a text.
 
-ghost use Rattle.std.specs.Prelude.{◌≡◌};
-ghost use Rattle.value_lift.specs.Answers.{counted, Counts};
+ghost use Rattle.std.specs.Prelude.{◌≡◌, ◌+◌, MatchResult};
+ghost use Rattle.value_lift.specs.Ledger.{Spends};
+ghost use Rattle.value_lift.specs.Answers.{counted, plainly};
 ghost use Rattle.value_lift.specs.Lifting.{most};
 
 use crate::trap::{LiftTrap, LiftWhy};
@@ -29,7 +30,8 @@ impl LiftOf {
 
 /// Counts so much for what stands at a place.
 pub(crate) fn count(many: u32, place: u64, left: &mut u32) -> Result<(), LiftTrap>
-    ensures { Counts (counted many place left.old) left.new result }
+    ensures told { Spends plainly (counted many place left.old) left.new result }
+    ensures exact { MatchResult result (λ _. left.old ≡ left.new + many) (λ _. left.new ≡ left.old) }
 {
     if many > *left {
         return Err(LiftTrap::at(LiftWhy::TooLarge, place));

@@ -1,80 +1,58 @@
-//! Values of a memory.
+//! Values of a memory at a place that is tested, over any ledger; and integers.
 
-ghost use Rattle.std.specs.Prelude.{◌≡◌, true, false, IsTrue};
-ghost use Rattle.ca_base.specs.Faults.{MayMake};
-ghost use Rattle.ca_types.specs.Ends.{has_end};
-ghost use Rattle.laid_types.specs.Handles.{has_handle};
-ghost use Rattle.value_lift.specs.Lifting.{IsFor, load, load_list, is_integer};
+ghost use Rattle.std.specs.Prelude.{◌≡◌, IsTrue};
+ghost use Rattle.value_lift.specs.Ledger.{MayTake};
+ghost use Rattle.value_lift.specs.Over.{load_by, load_list_by};
+ghost use Rattle.value_lift.specs.Lifting.{load, is_integer};
 ghost use Rattle.value_lift.specs.declared.counting.LiftOf.TheVariants as whole;
 
 use crate::bytes::is_inside;
-use crate::counting::LiftOf;
+use crate::ledger::Ledger;
 use crate::lifting::{elements_of, value_at};
 use crate::plain::plain_at;
 use crate::trap::{LiftError, LiftTrap, LiftWhy};
 use ca_base::Seq;
 use ca_types::{ValType, Value, Values, align, size};
-use laid_types::LaidType;
+use laid_types::NumberedType;
 use std::alloc::Global;
 
-/// The value of a type at a place of a memory (Component Model, CanonicalABI.md, "Loading").
-///
-/// The type holds no handle and no end of a stream or a future. Values with them need the table of handles of the component
-/// instance whose memory this is, and a list of the handles that are lent and the ends that are taken. Arguments are of the type
-/// of a tuple.
-///
-/// # Errors
-///
-/// Want of memory, or the first part from left to right that stands for nothing: `Misaligned` and `Bounds` for the place
-/// itself, where the value begins at no multiple of its alignment or does not end inside, and for a list; `Bounds` for a
-/// text; `BadChar`, `BadUtf8` and `BadCase`; `TooLarge` where more than 134,217,728 values and bytes of texts are reached.
-pub fn load(
+/// The value of a type at a place of a memory.
+pub(crate) fn load_by<L: Ledger>(
     alloc: Global,
     memory: &[u8],
+    ledger: &mut L,
     place: u32,
-    t: &LaidType<'_>,
-    what: LiftOf,
+    t: &NumberedType<'_>,
 ) -> Result<Value, LiftError>
-    requires handles { has_handle t.now ≡ false }
-    requires ends { has_end t.now ≡ false }
-    requires whole { IsFor what t.now }
-    ensures { MayMake (λ v. v) (load what t.now memory.now place) result }
+    requires { L.knows t.now.types }
+    ensures { MayTake (L.ledger t.now.types) (load_by (L.ledger t.now.types) t.now.val_type memory.now place (L.kept ledger.old)) (L.kept ledger.new) result }
 {
-    if place % t.align() != 0 {
+    let laid = t.laid();
+    if place % laid.align() != 0 {
         return Err(LiftTrap::at(LiftWhy::Misaligned, u64::from(place)).into());
     }
-    if !is_inside(memory, place, t.size()) {
+    if !is_inside(memory, place, laid.size()) {
         return Err(LiftTrap::at(LiftWhy::Bounds, u64::from(place)).into());
     }
-    let mut left = what.most();
-    let value = value_at(alloc, memory, &mut left, place as usize, t)?;
-    Ok(value)
+    value_at(alloc, memory, ledger, place as usize, t)
 }
 
-/// So many values of a type, one after the other from a place of a memory on. No value stands at any place.
-///
-/// The type holds no handle and no end of a stream or a future, as for `load`.
-///
-/// # Errors
-///
-/// Want of memory, or the first fault, as for a list with that place and number of elements. Each element is counted.
-pub fn load_list(
+/// So many values of a type, one after the other from a place of a memory on.
+pub(crate) fn load_list_by<L: Ledger>(
     alloc: Global,
     memory: &[u8],
+    ledger: &mut L,
     place: u32,
     count: u32,
-    t: &LaidType<'_>,
+    t: &NumberedType<'_>,
 ) -> Result<Values, LiftError>
-    requires handles { has_handle t.now ≡ false }
-    requires ends { has_end t.now ≡ false }
-    ensures { MayMake (λ v. v) (load_list t.now memory.now place count) result }
+    requires { L.knows t.now.types }
+    ensures { MayTake (L.ledger t.now.types) (load_list_by (L.ledger t.now.types) t.now.val_type memory.now place count (L.kept ledger.old)) (L.kept ledger.new) result }
 {
     if count == 0 {
         return Ok(Seq::new(alloc));
     }
-    let mut left = LiftOf::Value.most();
-    let values = elements_of(alloc, memory, &mut left, place, count, u64::from(place), t)?;
-    Ok(values)
+    elements_of(alloc, memory, ledger, place, count, u64::from(place), t)
 }
 
 /// The integer of a type at a place of a memory. It takes no memory.

@@ -1,13 +1,15 @@
 //! Texts.
 
-ghost use Rattle.std.specs.Prelude.{◌≡◌, true, false, MatchResult};
+ghost use Rattle.std.specs.Prelude.{◌≡◌, true, false, List, MatchResult};
 ghost use Rattle.std.specs.Str.{is_utf8};
 ghost use Rattle.value_lift.specs.declared.trap.LiftWhy.TheVariants.{BadUtf8};
-ghost use Rattle.value_lift.specs.Answers.{trap, MayLift};
-ghost use Rattle.value_lift.specs.Pieces.{string_of};
+ghost use Rattle.ca_types.specs.declared.types.ValType.{ValType};
+ghost use Rattle.value_lift.specs.Leaves.{trap};
+ghost use Rattle.value_lift.specs.Ledger.{MayTake};
+ghost use Rattle.value_lift.specs.Over.{string_of};
 
 use crate::bytes::{bytes_at, is_inside};
-use crate::counting::count;
+use crate::ledger::Ledger;
 use crate::trap::{LiftError, LiftTrap, LiftWhy};
 use ca_base::Name;
 use ca_types::Value;
@@ -25,20 +27,20 @@ fn as_text(bytes: &[u8], place: u64) -> Result<&str, LiftTrap>
 }
 
 /// The text of so many bytes of the memory, where their place and number stand at another place.
-pub(crate) fn string_of(
+pub(crate) fn string_of<L: Ledger>(
     alloc: Global,
     memory: &[u8],
-    left: &mut u32,
+    ledger: &mut L,
     at: u32,
     length: u32,
     place: u64,
 ) -> Result<Value, LiftError>
-    ensures { MayLift (string_of at length memory.now place left.old) left.new result }
+    ensures { (types : List ValType) → MayTake (L.ledger types) (string_of (L.ledger types) at length memory.now place (L.kept ledger.old)) (L.kept ledger.new) result }
 {
     if !is_inside(memory, at, u128::from(length)) {
         return Err(LiftTrap::at(LiftWhy::Bounds, place).into());
     }
-    count(length, place, left)?;
+    ledger.count(length, place)?;
     let bytes = bytes_at(memory, at as usize, length as usize);
     let text = as_text(bytes, place)?;
     Ok(Value::String(Name::new(alloc, text)?))

@@ -3,6 +3,7 @@
 ghost use Rattle.std.specs.Prelude.{◌≡◌};
 
 use ca_base::MemoryOr;
+use res_handles::Refusal;
 use thiserror::Error;
 
 /// Why no value of a type stands there.
@@ -26,6 +27,9 @@ pub enum LiftWhy {
     /// More is lifted at once than may be: 134,217,728 values and bytes of texts.
     #[error("more is lifted at once than may be")]
     TooLarge,
+    /// The index of a handle or an end is refused.
+    #[error("{0}")]
+    Refused(Refusal),
 }
 
 /// Why and where lifting ends without a value.
