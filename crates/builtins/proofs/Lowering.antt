@@ -7,12 +7,12 @@ use Rattle.wasm_store.specs.Step.{Ends}
 use Rattle.wasm_execution.specs.Run.{Comes}
 use Rattle.value_lower.specs.declared.ends.RoomEnd.{RoomEnd}
 use Rattle.value_lower.specs.declared.ends.RoomEnd.TheVariants.{Trapped, NoFuel, Memory}
-use Rattle.value_lower.specs.Plan.{Ask, Plan, Gives, Fails, Asks, Size, Put}
+use Rattle.value_lower.specs.Plan.{Ask, New, Plan, Gives, Fails, Asks, Size, Put, Adds}
 use Rattle.value_lower.specs.Following.{Came, Words, Failed, Ended, Follows, written}
 use Rattle.copy_engine.specs.declared.nested.NestedTrap.{NestedTrap}
 use Rattle.copy_engine.specs.declared.nested.NestedTrap.TheVariants.{Core, CannotLeave, NoRealloc}
 use Rattle.copy_engine.specs.declared.store_room.LowerOptions.{LowerOptions}
-use Rattle.copy_engine.specs.Nested.{RoomState, with_bytes_in, memory_with, is_realloc, if_realloc, realloc_in, begun, NestedGives, ReallocGives, Stores, Reallocs}
+use Rattle.copy_engine.specs.Nested.{RoomState, with_bytes_in, memory_with, is_realloc, if_realloc, realloc_in, begun, NestedGives, ReallocGives, rooms_with}
 use Rattle.copy_engine.specs.Turns.{Counts}
 use Rattle.comp_graph.specs.Needs.{realloc_type}
 use Rattle.comp_graph.specs.Graph.{Graph}
@@ -44,6 +44,12 @@ use Rattle.builtins.proofs.Counts.{HasAsMany, moves_keep}
 use Rattle.builtins.proofs.Memories.{put_again, put_own, put_funcs, put_count, same_bytes, same_put, memory_kept}
 use Rattle.world.proofs.Moving.{with_used}
 use Rattle.world.proofs.Nesting.{nested_at, nested_ends, nested_traps, nested_waits, nested_calls}
+
+-- A plan goes on with no index here.
+none_added : (options : LowerOptions) (entry : New) (k : Option ℕ → Plan) (r t : RoomState) (came : Came NestedTrap) → Follows (rooms_with options) (Adds entry k) r came t
+    → Follows (rooms_with options) (k None) r came t
+none_added options entry k r t came f =
+    subst (λ (o : Option ℕ). Follows (rooms_with options) (k o) r came t) f.2.0.0 (subst (λ (m : RoomState). Follows (rooms_with options) (k f.0) m came t) f.2.0.1 f.3)
 
 module _ (g : Graph) (s : Script) (w : World) (l : Lowering) (options : LowerOptions) where
   -- A part before that of a lowering.
@@ -179,8 +185,8 @@ module _ (g : Graph) (s : Script) (w : World) (l : Lowering) (options : LowerOpt
   asked_leads : (ask : Ask) (k : ℕ → Plan) (whole : Plan) (a : Store) (n used : ℕ) (r t : RoomState) (came : Came NestedTrap) (o : Option (ℕ × Function)) → IsSafe g s (with_room w a n (Lowers l whole))
       → Stands a n whole (Asks ask k) r → Counts came → used + t.units ≡ s.fuel → found_at r.store.funcs l.realloc ≡ o
       → ((place now : ℕ) (mid : RoomState) → IsSafe g s (with_room w mid.store now (Lowers l (k place))) → Stands mid.store now (k place) (k place) mid
-      → Follows (Reallocs options) (memory_with options) (Stores options) (k place) mid came t → LoweringLeads g s (with_room w mid.store now (Lowers l (k place))) l came t used)
-      → Follows (Reallocs options) (memory_with options) (Stores options) (Asks ask k) r came t → LoweringLeads g s (with_room w a n (Lowers l whole)) l came t used
+      → Follows (rooms_with options) (k place) mid came t → LoweringLeads g s (with_room w mid.store now (Lowers l (k place))) l came t used)
+      → Follows (rooms_with options) (Asks ask k) r came t → LoweringLeads g s (with_room w a n (Lowers l whole)) l came t used
   asked_leads ask k whole a n used r t came None safe h counts behind e more f =
       absurd (never_stuck g s (with_room w a n (Lowers l whole)) safe.kept safe.own (asked_turn a n whole r ask k None h e))
   asked_leads ask k whole a n used r t came (Some p) safe h counts behind e more (inl f) =
@@ -208,7 +214,7 @@ module _ (g : Graph) (s : Script) (w : World) (l : Lowering) (options : LowerOpt
 
   -- A plan, up to its end.
   plan_leads : (plan whole : Plan) (a : Store) (n used : ℕ) (r t : RoomState) (came : Came NestedTrap) → IsSafe g s (with_room w a n (Lowers l whole)) → Stands a n whole plan r
-      → Counts came → Follows (Reallocs options) (memory_with options) (Stores options) plan r came t → used + t.units ≡ s.fuel
+      → Counts came → Follows (rooms_with options) plan r came t → used + t.units ≡ s.fuel
       → LoweringLeads g s (with_room w a n (Lowers l whole)) l came t used
   plan_leads (Gives words) whole a n used r t came safe h counts f behind =
       at_end a n used (Lowers l whole) came (Words words) r t f.0 f.1 h.units behind (words_next a n whole r words h)
@@ -235,6 +241,10 @@ module _ (g : Graph) (s : Script) (w : World) (l : Lowering) (options : LowerOpt
   plan_leads (Asks ask k) whole a n used r t came safe h counts f behind =
       asked_leads ask k whole a n used r t came (found_at r.store.funcs l.realloc) safe h counts behind refl
       (λ place now mid is stands follows. plan_leads (k place) (k place) mid.store now used mid t came is stands counts follows behind) f
+  plan_leads (Adds entry k) whole a n used r t came safe h counts f behind =
+      plan_leads (k None) whole a n used r t came safe
+      (record { settles = h.settles; puts = h.puts; memory = h.memory; realloc = h.realloc; funcs = h.funcs; units = h.units }) counts
+      (none_added options entry k r t came f) behind
 
 -- No lowering gives back units.
 nested_spends : (r t : RoomState) (k : Stack) (result : Result ℕ (RoomEnd NestedTrap)) → NestedGives r k result t → t.units ≤ r.units
@@ -249,7 +259,7 @@ realloc_spends : (r t : RoomState) (ask : Ask) (o : Option (ℕ × Function)) (r
 realloc_spends r t ask None result h = let same = ap (λ (x : RoomState). x.units) h.1 in omega (arith, same)
 realloc_spends r t ask (Some f) result h = nested_spends r t (begun f ask) result h
 
-pub plan_spends : (options : LowerOptions) (plan : Plan) (r t : RoomState) (came : Came NestedTrap) → Follows (Reallocs options) (memory_with options) (Stores options) plan r came t
+pub plan_spends : (options : LowerOptions) (plan : Plan) (r t : RoomState) (came : Came NestedTrap) → Follows (rooms_with options) plan r came t
     → t.units ≤ r.units
 plan_spends options (Gives words) r t came f = let same = ap (λ (x : RoomState). x.units) f.1 in omega (arith, same)
 plan_spends options (Fails why) r t came f = let same = ap (λ (x : RoomState). x.units) f.1 in omega (arith, same)
@@ -259,6 +269,7 @@ plan_spends options (Asks ask k) r t came (inl f) =
     omega (arith, first, rest)
 plan_spends options (Asks ask k) r t came (inr f) = realloc_spends r t ask (realloc_in options.realloc r.store) (Err f.0) f.1
 plan_spends options (Size k) r t came f = plan_spends options (k (length (memory_with options r))) r t came f
+plan_spends options (Adds entry k) r t came f = plan_spends options (k None) r t came (none_added options entry k r t came f)
 plan_spends options (Put place bytes k) r t came f =
     let same : f.0.units ≡ r.units = ap (λ (x : RoomState). x.units) f.1.0 in
     let rest : t.units ≤ f.0.units = plan_spends options k f.0 t came f.2 in

@@ -15,7 +15,7 @@ use Rattle.value_lower.specs.declared.ends.RoomEnd.TheVariants.{Trapped, NoFuel,
 use Rattle.copy_engine.specs.declared.nested.HostCall.{HostCall}
 use Rattle.copy_engine.specs.declared.nested.NestedTrap.{NestedTrap}
 use Rattle.copy_engine.specs.declared.nested.NestedTrap.TheVariants.{Core, CannotLeave, NoRealloc}
-use Rattle.copy_engine.specs.Nested.{RoomState, memory_with, Stores, Reallocs}
+use Rattle.copy_engine.specs.Nested.{RoomState, rooms_with}
 use Rattle.copy_engine.specs.declared.store_room.LowerOptions.{LowerOptions}
 use Rattle.comp_graph.specs.Graph.{Graph}
 use Rattle.script_reader.specs.Script.{Script}
@@ -83,7 +83,7 @@ as_plan (came.Trapped why) = follow.Ended (Trapped why)
 as_plan came.NoFuel = follow.Ended NoFuel
 
 abbrev pub PlanComesTo : LowerOptions → Plan → RoomState → Came → RoomState → Type 0
-PlanComesTo options plan before came after = follow.Follows (Reallocs options) (memory_with options) (Stores options) plan before (as_plan came) after
+PlanComesTo options plan before came after = follow.Follows (rooms_with options) plan before (as_plan came) after
 
 abbrev pub IsCame : Result (List ℕ) (LowerError NestedTrap) → Result Came Want → Type 0
 IsCame (Ok words) result = result ≡ Ok (came.Words words)

@@ -9,7 +9,7 @@ use Rattle.copy_engine.specs.declared.nested.HostCall.{HostCall}
 use Rattle.copy_engine.specs.declared.nested.NestedTrap.{NestedTrap}
 use Rattle.copy_engine.specs.declared.nested.NestedTrap.TheVariants.{Core, CannotLeave, NoRealloc}
 use Rattle.copy_engine.specs.declared.store_room.LowerOptions.{LowerOptions}
-use Rattle.copy_engine.specs.Nested.{RoomState, memory_with, Stores, Reallocs}
+use Rattle.copy_engine.specs.Nested.{RoomState, rooms_with}
 use Rattle.copy_engine.specs.Turns.{Counts}
 use Rattle.comp_graph.specs.Graph.{Graph}
 use Rattle.script_reader.specs.Script.{Script}
@@ -49,5 +49,5 @@ abbrev pub LoweringsLead : Type 0
 LoweringsLead =
     (g : Graph) (s : Script) (w : World) (l : Lowering) (plan : Plan) (options : LowerOptions) (before after : RoomState) (came : Came NestedTrap)
     → IsSafe g s w → w.control ≡ Lowers l plan → IsRoomOf s w l options before → Counts came
-    → Follows (Reallocs options) (memory_with options) (Stores options) plan before came after
+    → Follows (rooms_with options) plan before came after
     → WithUsed s after.units (λ used. LoweringLeads g s w l came after used)

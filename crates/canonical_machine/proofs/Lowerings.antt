@@ -6,7 +6,7 @@ use Rattle.wasm_store.specs.Stack.{Stack, Running, AtHost, Given}
 use Rattle.wasm_store.specs.Step.{Move, Goes, Traps}
 use Rattle.wasm_store.specs.Step as core
 use Rattle.wasm_store.proofs.Lists.{if_both}
-use Rattle.value_lower.specs.Plan.{Plan, Gives, Fails, Asks, Size, Put}
+use Rattle.value_lower.specs.Plan.{Plan, Gives, Fails, Asks, Size, Put, Adds}
 use Rattle.value_lower.specs.Following.{written}
 use Rattle.comp_graph.specs.Graph.{Graph, func_named}
 use Rattle.script_reader.specs.Script.{Script}
@@ -125,6 +125,7 @@ module _ (g : Graph) (s : Script) (apart : IsApart g) where
         quiet_ends w (InLowering l k) later holding (answered_ends k (λ place. plan_soon (k place))) u (nested_of l ask f) kept)
     plan_soon (Size k) bytes t = plan_soon (k (length bytes)) bytes t
     plan_soon (Put place more k) bytes t = plan_soon k (written place more bytes) t
+    plan_soon (Adds entry k) bytes t = plan_soon (k None) bytes t
 
     pub lowering_ends : (plan : Plan) → Kept g s (with_control (Lowers l plan) w) → RunsOn g s (with_control (Lowers l plan) w)
     unfolding lowers_turn

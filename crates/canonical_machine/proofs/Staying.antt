@@ -14,7 +14,7 @@ use Rattle.wasm_store.specs.Typed.{Extends, StoreTyped, StackTyped, MemoryTyped}
 use Rattle.wasm_store.proofs.Lists.{all_at, all_map, all_set}
 use Rattle.wasm_store.proofs.Stores.{stays_typed, still, memory_changed, store_same}
 use Rattle.wasm_store.proofs.Memories.{memory_rewritten}
-use Rattle.value_lower.specs.Plan.{Plan, Gives, Fails, Asks, Size, Put}
+use Rattle.value_lower.specs.Plan.{Plan, Gives, Fails, Asks, Size, Put, Adds}
 use Rattle.value_lower.specs.Following.{written}
 use Rattle.comp_graph.specs.Needs.{realloc_type}
 use Rattle.comp_graph.specs.Graph.{Graph}
@@ -236,6 +236,7 @@ settled A Q (Gives words) bytes all h = record { pauses = h; long = refl; are_by
 settled A Q (Fails why) bytes all h = record { pauses = tt; long = refl; are_bytes = all }
 settled A Q (Asks ask k) bytes all h = record { pauses = h; long = refl; are_bytes = all }
 settled A Q (Size k) bytes all h = settled A Q (k (length bytes)) bytes all h
+settled A Q (Adds entry k) bytes all h = settled A Q (k None) bytes all (h None)
 settled A Q (Put place more k) bytes all h =
     let long : length (written place more bytes) ≡ length bytes = written_long place more bytes h.1 in
     let r = settled A Q k (written place more bytes) (between place (place + length more) more bytes h.0 all) (subst (λ (n : ℕ). IsPlanned A Q n k) (sym long) h.2) in

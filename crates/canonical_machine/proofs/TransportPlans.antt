@@ -1,5 +1,5 @@
 -- Plans that are followed over answers of reallocs, and what is lifted behind them.
-use Rattle.std.proofs.Common.{◌≡◌, ◌∙◌, ◌≤◌, ◌+◌, ℕ, Bool, true, false, nat_le, nat_lt, if◌then◌else◌, List, [], ◌∷◌, ◌++◌, map, length, Some, Result, Ok, Err, refl, ap, arith, length-append}
+use Rattle.std.proofs.Common.{◌≡◌, ◌∙◌, ◌≤◌, ◌+◌, ℕ, Bool, true, false, nat_le, nat_lt, if◌then◌else◌, List, [], ◌∷◌, ◌++◌, map, length, Some, Result, Ok, Err, refl, ap, arith, length-append, None}
 use Rattle.std.proofs.lemmas.Bool.Decides.{nat_tests}
 use Rattle.std.proofs.lemmas.List.{length-map}
 use Rattle.std.specs.Prelude.{slice_index}
@@ -22,7 +22,7 @@ use Rattle.value_lift.proofs.Loaded.{loaded_values_stand}
 use Rattle.value_lift.proofs.Passing.{ok_same}
 use Rattle.value_lift.proofs.WordStood.{flat_of_tuple}
 use Rattle.value_lift.proofs.WordTypes.{word_told_type}
-use Rattle.value_lower.specs.Plan.{Plan, Gives, Fails, Asks, Size, Put}
+use Rattle.value_lower.specs.Plan.{Plan, Gives, Fails, Asks, Size, Put, Adds}
 use Rattle.value_lower.specs.Following.{written}
 use Rattle.value_lower.specs.Lowering.{stored, placed, flat_lowered}
 use Rattle.canonical_machine.specs.Settling.{Answer, IsAnswer, Settles}
@@ -51,6 +51,7 @@ settles (Asks ask k) memory [] after given h = h
 settles (Asks ask k) memory (answer ∷ answers) after given h = h
 settles (Size k) memory answers after given h = settles (k (length memory)) memory answers after given h
 settles (Put place bytes k) memory answers after given h = settles k (written place bytes memory) answers after given h
+settles (Adds entry k) memory answers after given h = (None, settles (k None) memory answers after given h)
 
 -- What was lowered is lifted.
 

@@ -16,7 +16,7 @@ use Rattle.ca_types.specs.declared.value.Value.TheVariants as plain
 use Rattle.ca_types.specs.Layout.{laid}
 use Rattle.ca_types.specs.Flat.{flat, flat_payload, all_of}
 use Rattle.laid_types.specs.Parts.{parts_of, parts_case}
-use Rattle.value_lower.specs.Plan.{Plan, Gives, Fails, Asks, Size, Put}
+use Rattle.value_lower.specs.Plan.{Plan, Gives, Fails, Asks, Size, Put, Adds}
 use Rattle.value_lower.specs.Following.{written}
 use Rattle.value_lower.specs.Lowering.{lowered, store, elements_from, flat_words, field_words, payload_words, filled, bits_of, placed, flat_lowered}
 use Rattle.value_lower.proofs.Giving.{AllGive, asked_gives, text_gives}
@@ -43,6 +43,7 @@ settled Q (Asks ask k) memory [] after words h q = absurd h
 settled Q (Asks ask k) memory (answer ∷ answers) after words h q = settled Q (k answer.place) answer.after answers after words h.1 (q answer.place h.0.low)
 settled Q (Size k) memory answers after words h q = settled Q (k (length memory)) memory answers after words h (q (length memory))
 settled Q (Put place bytes k) memory answers after words h q = settled Q k (written place bytes memory) answers after words h q
+settled Q (Adds entry k) memory answers after words h q = settled Q (k h.0) memory answers after words h.1 (q h.0)
 
 abbrev somes : List ValType → List (Option ValType)
 somes types = map (λ (t : ValType). Some t) types

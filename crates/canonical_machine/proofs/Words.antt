@@ -25,7 +25,7 @@ use Rattle.value_lift.specs.WordStanding as lift
 use Rattle.value_lift.proofs.Passing.{ok_same}
 use Rattle.value_lift.proofs.WordStood.{flat_of_tuple}
 use Rattle.value_lift.proofs.WordTypes.{word_told_type}
-use Rattle.value_lower.specs.Plan.{Plan, Gives, Fails, Asks, Size, Put}
+use Rattle.value_lower.specs.Plan.{Plan, Gives, Fails, Asks, Size, Put, Adds}
 use Rattle.value_lower.specs.Lowering.{stored, flat_lowered, placed, store}
 use Rattle.value_lower.proofs.Giving.{AllGive, tested_gives}
 use Rattle.value_lower.proofs.Counts.{good}
@@ -64,6 +64,7 @@ planned A Q R f n (Fails why) h g = tt
 planned A Q R f n (Asks ask k) h g = (h.0, h.1, λ place later low more. planned A Q R f later (k place) (h.2 place later low more) (g place low))
 planned A Q R f n (Size k) h g = planned A Q R f n (k n) h (g n)
 planned A Q R f n (Put place bytes k) h g = (h.0, h.1, planned A Q R f n k h.2 g)
+planned A Q R f n (Adds entry k) h g = λ given. planned A Q R f n (k given) (h given) (g given)
 
 -- How many are passed as such.
 more_le : (most count : ℕ) → nat_lt most count ≡ true → nat_le count most ≡ false

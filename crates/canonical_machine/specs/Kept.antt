@@ -16,7 +16,7 @@ use Rattle.wasm_store.specs.Instantiation.{LimitsMatch}
 use Rattle.wasm_store.specs.Typed.{StoreTyped, HasContext, module_context, StackTyped}
 use Rattle.wasm_store.specs.Laws.{IsOwn}
 use Rattle.ca_types.specs.declared.value.Value.TheViews as value
-use Rattle.value_lower.specs.Plan.{Plan, Gives, Fails, Asks, Size, Put}
+use Rattle.value_lower.specs.Plan.{Plan, Gives, Fails, Asks, Size, Put, Adds}
 use Rattle.canonical_machine.specs.Values.{IsOf}
 use Rattle.comp_graph.specs.declared.graph.CanonFunc.{CanonFunc}
 use Rattle.comp_graph.specs.CoreItems.{table_space, memory_space}
@@ -154,6 +154,7 @@ IsPlanned MayAsk Q count (Asks ask k) =
     MayAsk × AreWords realloc_type.params (ask_words ask) × ((place later : ℕ) → place < 2 ^ 32 → count ≤ later → IsPlanned MayAsk Q later (k place))
 IsPlanned MayAsk Q count (Size k) = IsPlanned MayAsk Q count (k count)
 IsPlanned MayAsk Q count (Put place bytes k) = AreBytes bytes × (place + length bytes ≤ count) × IsPlanned MayAsk Q count k
+IsPlanned MayAsk Q count (Adds entry k) = (given : Option ℕ) → IsPlanned MayAsk Q count (k given)
 
 -- What a lowering comes to are words that are taken: by the acting task's core function, or by the core function by which it was called.
 abbrev pub Takes : Graph → Then → Task → List ℕ → Type 0

@@ -3,6 +3,7 @@
 ghost use Rattle.canonical_machine.specs.ValueLaws.{FittingValuesAre, StoredValuesStand, StoredListsStand, PlacedValuesStand, StoredValuesAreLoaded, StoredListsAreLoaded, LoweredWordsStand, LoweredWordsAreLifted, LoweredWordsAreTyped, PlacedWordsAreTyped, StoresLeaveOthers, ListsLeaveOthers, PlacedLeaveOthers, WordsLeaveOthers};
 ghost use Rattle.canonical_machine.specs.LiftedValues.{ValuesOfTypesFit, ValuesOfTypesAreInRange, StandingValuesAre, StandingListsAre, FlattenedValuesAre, LoadedValuesAre, LoadedListsAre, LiftedValuesAre};
 ghost use Rattle.canonical_machine.specs.Values.{AreBytes};
+ghost use Rattle.value_lower.specs.Following.{untabled};
 ghost use Rattle.canonical_machine.specs.ValueRooms.{FollowedOver, FollowedSettle, StoredStand, ListsStand, PlacedStand, LoweredStand, LoweredAreTyped, PlacedAreTyped};
 
 use value_lower::Room;
@@ -92,22 +93,22 @@ pub fn other_bytes_stay()
 /// A plan that is followed in a room to its core values is followed over some answers of its reallocs, and goes so in the room's
 /// memory.
 pub fn followed_plans_settle<R: Room>()
-    ensures over { FollowedOver R.answers R.memory R.wrote }
-    ensures settle { FollowedSettle R.answers R.memory R.wrote }
+    ensures over { FollowedOver (untabled R.memory R.answers R.wrote) }
+    ensures settle { FollowedSettle (untabled R.memory R.answers R.wrote) }
 {}
 
 /// What `store`, `store_list`, `lower_placed` and `lower_flat` leave in a room: over all answers of its reallocs that lie apart, the
 /// value stands there.
 pub fn lowered_values_stand<R: Room>()
-    ensures stored { StoredStand R.answers R.memory R.wrote }
-    ensures lists { ListsStand R.answers R.memory R.wrote }
-    ensures placed { PlacedStand R.answers R.memory R.wrote }
-    ensures flat { LoweredStand R.answers R.memory R.wrote }
+    ensures stored { StoredStand (untabled R.memory R.answers R.wrote) }
+    ensures lists { ListsStand (untabled R.memory R.answers R.wrote) }
+    ensures placed { PlacedStand (untabled R.memory R.answers R.wrote) }
+    ensures flat { LoweredStand (untabled R.memory R.answers R.wrote) }
 {}
 
 /// Whatever the reallocs of a room answer, the core values that `lower_flat` and `lower_placed` come to are of their core types: so a core
 /// function takes them.
 pub fn core_values_are_typed<R: Room>()
-    ensures flat { LoweredAreTyped R.answers R.memory R.wrote }
-    ensures placed { PlacedAreTyped R.answers R.memory R.wrote }
+    ensures flat { LoweredAreTyped (untabled R.memory R.answers R.wrote) }
+    ensures placed { PlacedAreTyped (untabled R.memory R.answers R.wrote) }
 {}

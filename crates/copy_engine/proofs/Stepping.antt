@@ -7,13 +7,13 @@ use Rattle.wasm_store.specs.Step.{Move, Goes, Calls, Ends, Traps, next, cost, un
 use Rattle.wasm_execution.specs.Run.{Comes}
 use Rattle.value_lower.specs.declared.ends.RoomEnd.{RoomEnd}
 use Rattle.value_lower.specs.declared.ends.RoomEnd.TheVariants.{Trapped, NoFuel, Memory}
-use Rattle.value_lower.specs.Plan.{Ask, Plan, Gives, Fails, Asks, Size, Put}
-use Rattle.value_lower.specs.Following.{Came, Ended}
+use Rattle.value_lower.specs.Plan.{Ask, Plan, Gives, Fails, Asks, Size, Put, Adds}
+use Rattle.value_lower.specs.Following.{Came, Ended, Follows}
 use Rattle.copy_engine.specs.declared.store_room.LowerOptions.{LowerOptions}
 use Rattle.copy_engine.specs.declared.nested.HostCall.{HostCall}
 use Rattle.copy_engine.specs.declared.nested.NestedTrap.{NestedTrap}
 use Rattle.copy_engine.specs.declared.nested.NestedTrap.TheVariants.{Core, CannotLeave, NoRealloc}
-use Rattle.copy_engine.specs.Nested.{RoomState, memory_with, realloc_in, begun, NestedGives, ReallocGives}
+use Rattle.copy_engine.specs.Nested.{RoomState, memory_with, realloc_in, begun, rooms_with, NestedGives, ReallocGives}
 use Rattle.copy_engine.specs.Turns.{Plans, Runs, Conf, Turn, On, Over, paid, moved, ran, asks, turn, Turns, ComesTo, Counts, FollowsBySteps}
 
 abbrev state : Store → ℕ → Option HostCall → RoomState
@@ -159,3 +159,7 @@ follows_by_steps options (Size k) r s came counts f =
 follows_by_steps options (Put place bytes k) r s came counts f =
     one_more options (planned (Put place bytes k) r) (planned k f.0) came s (ap (λ (q : RoomState). On (planned k q)) (sym f.1.0))
     (follows_by_steps options k f.0 s came counts f.2)
+follows_by_steps options (Adds entry k) r s came counts f =
+    let here : Follows (rooms_with options) (k f.0) r came s = subst (λ (m : RoomState). Follows (rooms_with options) (k f.0) m came s) f.2.0.1 f.3 in
+    one_more options (planned (Adds entry k) r) (planned (k None) r) came s refl
+    (follows_by_steps options (k None) r s came counts (subst (λ (o : Option ℕ). Follows (rooms_with options) (k o) r came s) f.2.0.0 here))

@@ -13,7 +13,7 @@ use Rattle.wasm_execution.specs.Run.{Comes, Waits, GivesUp}
 use Rattle.value_lower.specs.declared.ends.RoomEnd.{RoomEnd}
 use Rattle.value_lower.specs.declared.ends.RoomEnd.TheVariants.{Trapped, NoFuel, Memory}
 use Rattle.value_lower.specs.Plan.{Ask}
-use Rattle.value_lower.specs.Following.{written}
+use Rattle.value_lower.specs.Following.{Rooms, untabled, written}
 use Rattle.copy_engine.specs.declared.nested.HostCall.{HostCall}
 use Rattle.copy_engine.specs.declared.store_room.LowerOptions.{LowerOptions}
 use Rattle.copy_engine.specs.declared.nested.NestedTrap.{NestedTrap}
@@ -84,3 +84,7 @@ ReallocGives (Some f) r ask result s = NestedGives r (begun f ask) result s
 
 abbrev pub Reallocs : LowerOptions → RoomState → Ask → Result ℕ (RoomEnd NestedTrap) → RoomState → Type 0
 Reallocs options r ask result s = ReallocGives (realloc_in options.realloc r.store) r ask result s
+
+-- A memory of a store with its realloc, as what is said of rooms. It has no table.
+abbrev pub rooms_with : LowerOptions → Rooms RoomState NestedTrap
+rooms_with options = untabled (memory_with options) (Reallocs options) (Stores options)

@@ -9,7 +9,7 @@ use Rattle.value_lower.specs.Following.{IsTold, Comes}
 use Rattle.copy_engine.specs.declared.nested.NestedTrap.{NestedTrap}
 use Rattle.copy_engine.specs.declared.store_room.LowerOptions.{LowerOptions}
 use Rattle.copy_engine.specs.declared.store_room.StoreRoom.{StoreRoom}
-use Rattle.copy_engine.specs.Nested.{RoomState, memory_with, Stores, Reallocs}
+use Rattle.copy_engine.specs.Nested.{RoomState, memory_with, Stores, Reallocs, rooms_with}
 
 -- what it works on now
 abbrev pub state_of : StoreRoom → RoomState
@@ -39,4 +39,4 @@ IfTold (Err (error.Ended end)) fact = IsTold end fact
 
 -- With these options a call follows a plan to its end over a store, its fuel and what is kept of a call of the host.
 abbrev pub Lowers : {A : Type 0} → LowerOptions → Plan → (A → List ℕ) → RoomState → Result A (LowerError NestedTrap) → RoomState → Type 0
-Lowers options plan words r result s = Comes (Reallocs options) (memory_with options) (Stores options) plan words r result s
+Lowers options plan words r result s = Comes (rooms_with options) plan words r result s

@@ -5,12 +5,12 @@ use Rattle.wasm_store.specs.Store.{Function}
 use Rattle.wasm_store.specs.Stack.{Stack}
 use Rattle.wasm_store.specs.Step.{Move, Goes, Calls, Ends, Traps, Stuck, next, cost}
 use Rattle.value_lower.specs.declared.ends.RoomEnd.TheVariants.{Trapped, NoFuel, Memory}
-use Rattle.value_lower.specs.Plan.{Ask, Plan, Gives, Fails, Asks, Size, Put}
+use Rattle.value_lower.specs.Plan.{Ask, Plan, Gives, Fails, Asks, Size, Put, Adds}
 use Rattle.value_lower.specs.Following.{Came, Words, Failed, Ended, Follows, written}
 use Rattle.copy_engine.specs.declared.store_room.LowerOptions.{LowerOptions}
 use Rattle.copy_engine.specs.declared.nested.NestedTrap.{NestedTrap}
 use Rattle.copy_engine.specs.declared.nested.NestedTrap.TheVariants.{Core, CannotLeave, NoRealloc}
-use Rattle.copy_engine.specs.Nested.{RoomState, memory_with, with_bytes_in, realloc_in, begun, Stores, Reallocs}
+use Rattle.copy_engine.specs.Nested.{RoomState, memory_with, with_bytes_in, realloc_in, begun, rooms_with}
 
 -- what is going on: a plan, or the stack of a realloc, with whose place the plan goes on
 pub data Doing : Type 0 where
@@ -61,6 +61,7 @@ turn_by options (Plans (Asks ask k)) r = asks (realloc_in options.realloc r.stor
 turn_by options (Plans (Size k)) r = On (record { doing = Plans (k (length (memory_with options r))); room = r })
 turn_by options (Plans (Put place bytes k)) r =
     On (record { doing = Plans k; room = record r { store = with_bytes_in options.memory (written place bytes (memory_with options r)) r.store } })
+turn_by options (Plans (Adds entry k)) r = On (record { doing = Plans (k None); room = r })
 turn_by options (Runs k plan) r = ran (next r.store k) k plan r
 
 abbrev pub turn : LowerOptions → Conf → Turn
@@ -90,5 +91,5 @@ Counts (Ended Memory) = ⊥
 abbrev pub FollowsBySteps : Type 0
 FollowsBySteps =
     (options : LowerOptions) (plan : Plan) (r s : RoomState) (came : Came NestedTrap) → Counts came
-    → Follows (Reallocs options) (memory_with options) (Stores options) plan r came s
+    → Follows (rooms_with options) plan r came s
     → ComesTo options (record { doing = Plans plan; room = r }) came s

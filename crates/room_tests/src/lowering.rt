@@ -42,6 +42,7 @@ fn error_name(error: LowerError<NestedTrap>) -> &'static str {
     match error {
         LowerError::Failed(LowerWhy::Misaligned) => "misaligned",
         LowerError::Failed(LowerWhy::Bounds) => "bounds",
+        LowerError::Failed(LowerWhy::TableFull) => "table full",
         LowerError::Ended(RoomEnd::Trapped(trap)) => trap_name(trap),
         LowerError::Ended(RoomEnd::NoFuel) => "no fuel",
         LowerError::Ended(RoomEnd::Memory) => "no memory",

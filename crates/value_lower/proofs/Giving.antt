@@ -1,10 +1,9 @@
 -- What holds of all core values that a plan may give.
-use Rattle.std.proofs.Common.{◌≡◌, ◌<◌, ◌+◌, ◌%◌, ◌^◌, ◌==◌, ◌&&◌, cond, nat_lt, nat_le, ℕ, Bool, true, false, List, length, Result, refl, sym, subst, inl, inr}
+use Rattle.std.proofs.Common.{◌≡◌, ◌<◌, ◌+◌, ◌%◌, ◌^◌, ◌==◌, ◌&&◌, cond, nat_lt, nat_le, ℕ, Bool, true, false, List, length, Option, refl, sym, subst, inl, inr}
 use Rattle.std.proofs.lemmas.Bool.{cond_both, ltb-true}
 use Rattle.value_lower.specs.declared.ends.LowerWhy.TheVariants.{Misaligned, Bounds}
-use Rattle.value_lower.specs.declared.ends.RoomEnd.{RoomEnd}
-use Rattle.value_lower.specs.Plan.{Ask, Plan, Gives, Fails, Asks, Size, Put}
-use Rattle.value_lower.specs.Following.{Came, Words, Failed, Ended, Follows}
+use Rattle.value_lower.specs.Plan.{Plan, Gives, Fails, Asks, Size, Put, Adds}
+use Rattle.value_lower.specs.Following.{Rooms, Came, Words, Failed, Ended, Follows}
 use Rattle.value_lower.specs.Lowering.{tested, asked, text_in}
 
 left_true : (a b : Bool) → (a && b) ≡ true → a ≡ true
@@ -22,6 +21,7 @@ module _ (Q : List ℕ → Type 0) where
   AllGive (Asks ask k) = (place : ℕ) → place < 2 ^ 32 → AllGive (k place)
   AllGive (Size k) = (there : ℕ) → AllGive (k there)
   AllGive (Put place bytes k) = AllGive k
+  AllGive (Adds entry k) = (given : Option ℕ) → AllGive (k given)
 
   pub tested_gives : (place align size : ℕ) (k : Plan) → AllGive k → AllGive (tested place align size k)
   tested_gives place align size k h =
@@ -36,14 +36,14 @@ module _ (Q : List ℕ → Type 0) where
   pub text_gives : (text : List ℕ) (k : ℕ → Plan) → ((place : ℕ) → place < 2 ^ 32 → length text < 2 ^ 32 → AllGive (k place)) → AllGive (text_in text k)
   text_gives text k h = asked_gives (length text) 1 (length text) (λ place. Put place text (k place)) h
 
-  module _ {R T : Type 0} (answers : R → Ask → Result ℕ (RoomEnd T) → R → Type 0) (memory : R → List ℕ) (wrote : R → ℕ → List ℕ → R → Type 0) where
+  module _ {R T : Type 0} (rooms : Rooms R T) where
     abbrev came_words : List ℕ → Came T
     came_words words = Words words
 
     same_words : (words others : List ℕ) → came_words words ≡ came_words others → words ≡ others
     same_words words others h = cc
 
-    pub given : (plan : Plan) (r s : R) (words : List ℕ) → Follows answers memory wrote plan r (Words words) s → AllGive plan → Q words
+    pub given : (plan : Plan) (r s : R) (words : List ℕ) → Follows rooms plan r (Words words) s → AllGive plan → Q words
     given (Gives others) r s words h q = subst Q (sym (same_words words others h.0)) q
     given (Fails why) r s words h q =
         let e : came_words words ≡ Failed why = h.0 in
@@ -52,5 +52,6 @@ module _ (Q : List ℕ → Type 0) where
     given (Asks ask k) r s words (inr h) q =
         let e : came_words words ≡ Ended h.0 = h.2 in
         cc
-    given (Size k) r s words h q = given (k (length (memory r))) r s words h (q (length (memory r)))
+    given (Size k) r s words h q = given (k (length (rooms.memory r))) r s words h (q (length (rooms.memory r)))
     given (Put place bytes k) r s words h q = given k h.0 s words h.2 q
+    given (Adds entry k) r s words h q = given (k h.0) h.1 s words h.3 (q h.0)

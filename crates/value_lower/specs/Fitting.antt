@@ -10,7 +10,7 @@ use Rattle.ca_types.specs.Layout.{laid, tag_size}
 use Rattle.laid_types.specs.Parts.{part_at, case_count, payload_place}
 pub use Rattle.laid_types.specs.Placing.{end_behind}
 use Rattle.value_lower.specs.declared.ends.LowerWhy.{LowerWhy}
-use Rattle.value_lower.specs.declared.ends.LowerWhy.TheVariants.{Misaligned, Bounds}
+use Rattle.value_lower.specs.declared.ends.LowerWhy.TheVariants.{Misaligned, Bounds, TableFull}
 
 -- So many bytes from a place on are inside a memory of this length, and below 2^32.
 pub record HasBytes (place size there : ℕ) : Type 0 where
@@ -38,6 +38,7 @@ PayloadFits payload type n = (v : Value) (p : ValType) → payload ≡ Some v �
 abbrev pub IsRefused : ℕ → ℕ → ℕ → ℕ → LowerWhy → Type 0
 IsRefused place align size there Misaligned = place % align ≢ 0
 IsRefused place align size there Bounds = (place % align ≡ 0) × (there < place + size) × (there ≤ 2 ^ 32)
+IsRefused place align size there TableFull = ⊥
 
 -- Each part of a type has at most 16 core values.
 abbrev pub FewParts : ValType → Type 0

@@ -3,7 +3,7 @@
 ghost use Rattle.std.specs.Prelude.{◌≡◌, ◌≢◌, ◌+◌, ◌%◌, ◌<◌, ◌≤◌, ◌^◌, ℕ, length, IfOk, MatchResult};
 ghost use Rattle.value_lower.specs.declared.ends.LowerWhy.TheVariants.{Misaligned, Bounds};
 ghost use Rattle.value_lower.specs.Plan.{Plan};
-ghost use Rattle.value_lower.specs.Following.{Runs};
+ghost use Rattle.value_lower.specs.Following.{Runs, untabled};
 ghost use Rattle.value_lower.specs.Lowering.{asked, text_in};
 ghost use Rattle.value_lower.specs.Fitting.{HasBytes, IsRefused};
 
@@ -40,7 +40,7 @@ pub(crate) fn ask<R: Room>(
     size: u128,
 ) -> Result<u32, LowerError<R::Trap>>
     requires { 1 ≤ align }
-    ensures follows { (k : ℕ → Plan) → Runs R.answers R.memory R.wrote (asked count align size k) k room.old result room.new }
+    ensures follows { (k : ℕ → Plan) → Runs (untabled R.memory R.answers R.wrote) (asked count align size k) k room.old result room.new }
     ensures bytes { IfOk result (λ place. HasBytes place size (length (R.memory room.new))) }
     ensures few { IfOk result (λ place. count < 2 ^ 32) }
     ensures grows { length (R.memory room.old) ≤ length (R.memory room.new) }
@@ -59,7 +59,7 @@ pub(crate) fn text_in<R: Room>(
     room: &mut R,
     text: &str,
 ) -> Result<u32, LowerError<R::Trap>>
-    ensures follows { (k : ℕ → Plan) → Runs R.answers R.memory R.wrote (text_in text.now k) k room.old result room.new }
+    ensures follows { (k : ℕ → Plan) → Runs (untabled R.memory R.answers R.wrote) (text_in text.now k) k room.old result room.new }
     ensures few { IfOk result (λ place. length text.now < 2 ^ 32) }
     ensures grows { length (R.memory room.old) ≤ length (R.memory room.new) }
 {

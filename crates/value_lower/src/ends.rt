@@ -12,6 +12,9 @@ pub enum LowerWhy {
     /// Not all bytes are inside the memory, or 2^32 or more are asked for.
     #[error("the bytes are not inside the memory")]
     Bounds,
+    /// The table of handles has 65,535 live entries, and one more is to be made.
+    #[error("the table of handles is full")]
+    TableFull,
 }
 
 /// Why a realloc gives no answer.

@@ -4,7 +4,7 @@ ghost use Rattle.std.specs.Prelude.{◌≡◌, ◌+◌, ◌≤◌, ◌%◌, ◌^
 ghost use Rattle.std.specs.Int.{w32, byte_len, to_le_bytes};
 ghost use Rattle.ca_types.specs.declared.value.Value.{out-Value};
 ghost use Rattle.value_lower.specs.Plan.{Plan, Put};
-ghost use Rattle.value_lower.specs.Following.{Leads};
+ghost use Rattle.value_lower.specs.Following.{Leads, untabled};
 ghost use Rattle.value_lower.specs.Lowering.{number_bytes, width_of, bits_of, flags_number, plain_bytes, plain_word, pointed};
 ghost use Rattle.value_lower.specs.Fitting.{HasBytes};
 
@@ -15,7 +15,7 @@ use ca_types::Value;
 pub(crate) fn put<R: Room>(room: &mut R, place: u64, bytes: &[u8])
     requires some { 1 ≤ length bytes.now }
     requires bytes { HasBytes place (length bytes.now) (length (R.memory room.old)) }
-    ensures leads { (k : Plan) → Leads R.answers R.memory R.wrote (Put place bytes.now k) room.old k room.new }
+    ensures leads { (k : Plan) → Leads (untabled R.memory R.answers R.wrote) (Put place bytes.now k) room.old k room.new }
     ensures size { length (R.memory room.new) ≡ length (R.memory room.old) }
 {
     room.put(place as u32, bytes);
@@ -24,7 +24,7 @@ pub(crate) fn put<R: Room>(room: &mut R, place: u64, bytes: &[u8])
 /// Puts a number of 1, 2 or 4 bytes at a place: the lowest of its bytes.
 pub(crate) fn put_number<R: Room>(room: &mut R, place: u64, size: u32, number: u32)
     requires { HasBytes place (byte_len (width_of size)) (length (R.memory room.old)) }
-    ensures leads { (k : Plan) → Leads R.answers R.memory R.wrote (Put place (number_bytes size number) k) room.old k room.new }
+    ensures leads { (k : Plan) → Leads (untabled R.memory R.answers R.wrote) (Put place (number_bytes size number) k) room.old k room.new }
     ensures size { length (R.memory room.new) ≡ length (R.memory room.old) }
 {
     if size <= 1 {
@@ -39,7 +39,7 @@ pub(crate) fn put_number<R: Room>(room: &mut R, place: u64, size: u32, number: u
 /// Puts a number of 4 bytes at a place.
 fn put32<R: Room>(room: &mut R, place: u64, number: u32)
     requires { HasBytes place 4 (length (R.memory room.old)) }
-    ensures leads { (k : Plan) → Leads R.answers R.memory R.wrote (Put place (to_le_bytes w32 number) k) room.old k room.new }
+    ensures leads { (k : Plan) → Leads (untabled R.memory R.answers R.wrote) (Put place (to_le_bytes w32 number) k) room.old k room.new }
     ensures size { length (R.memory room.new) ≡ length (R.memory room.old) }
 {
     put(room, place, &number.to_le_bytes());
@@ -48,7 +48,7 @@ fn put32<R: Room>(room: &mut R, place: u64, number: u32)
 /// Puts a place and a number of bytes or elements at a place.
 pub(crate) fn put_pointed<R: Room>(room: &mut R, place: u64, to: u32, count: u32)
     requires { HasBytes place 8 (length (R.memory room.old)) }
-    ensures leads { (k : Plan) → Leads R.answers R.memory R.wrote (pointed place to count k) room.old k room.new }
+    ensures leads { (k : Plan) → Leads (untabled R.memory R.answers R.wrote) (pointed place to count k) room.old k room.new }
     ensures size { length (R.memory room.new) ≡ length (R.memory room.old) }
 {
     put32(room, place, to);
@@ -59,7 +59,7 @@ pub(crate) fn put_pointed<R: Room>(room: &mut R, place: u64, to: u32, count: u32
 pub(crate) fn put_plain<R: Room>(room: &mut R, place: u64, value: &Value)
     requires some { 1 ≤ length (plain_bytes (out-Value value.now)) }
     requires bytes { HasBytes place (length (plain_bytes (out-Value value.now))) (length (R.memory room.old)) }
-    ensures leads { (k : Plan) → Leads R.answers R.memory R.wrote (Put place (plain_bytes (out-Value value.now)) k) room.old k room.new }
+    ensures leads { (k : Plan) → Leads (untabled R.memory R.answers R.wrote) (Put place (plain_bytes (out-Value value.now)) k) room.old k room.new }
     ensures size { length (R.memory room.new) ≡ length (R.memory room.old) }
 {
     match value {

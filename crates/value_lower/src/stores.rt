@@ -4,7 +4,7 @@ ghost use Rattle.std.specs.Prelude.{◌≡◌, ◌∷◌, [], true, false};
 ghost use Rattle.ca_types.specs.Ends.{has_end};
 ghost use Rattle.ca_types.specs.Fits.{fits};
 ghost use Rattle.laid_types.specs.Handles.{has_handle};
-ghost use Rattle.value_lower.specs.Following.{Comes};
+ghost use Rattle.value_lower.specs.Following.{Comes, untabled};
 ghost use Rattle.value_lower.specs.Lowering.{stored, all_stored, placed};
 ghost use Rattle.value_lower.specs.Fitting.{AllFit};
 
@@ -39,7 +39,7 @@ pub fn store<R: Room>(
     requires handles { has_handle t.now ≡ false }
     requires ends { has_end t.now ≡ false }
     requires fits { fits value.now t.now ≡ true }
-    ensures { Comes R.answers R.memory R.wrote (stored t.now value.now place) (λ _. []) room.old result room.new }
+    ensures { Comes (untabled R.memory R.answers R.wrote) (stored t.now value.now place) (λ _. []) room.old result room.new }
 {
     test_place(room, place, t.align(), t.size())?;
     store_value(alloc, room, u64::from(place), value, t)
@@ -62,7 +62,7 @@ pub fn store_list<R: Room>(
     requires handles { has_handle t.now ≡ false }
     requires ends { has_end t.now ≡ false }
     requires fit { AllFit values.now t.now }
-    ensures { Comes R.answers R.memory R.wrote (all_stored t.now values.now place) (λ _. []) room.old result room.new }
+    ensures { Comes (untabled R.memory R.answers R.wrote) (all_stored t.now values.now place) (λ _. []) room.old result room.new }
 {
     if values.is_empty() {
         return Ok(());
@@ -89,7 +89,7 @@ pub fn lower_placed<R: Room>(
     requires handles { has_handle t.now ≡ false }
     requires ends { has_end t.now ≡ false }
     requires fits { fits value.now t.now ≡ true }
-    ensures { Comes R.answers R.memory R.wrote (placed t.now value.now) (λ place. place ∷ []) room.old result room.new }
+    ensures { Comes (untabled R.memory R.answers R.wrote) (placed t.now value.now) (λ place. place ∷ []) room.old result room.new }
 {
     let place = ask(alloc, room, 1, t.align(), t.size())?;
     store_value(alloc, room, u64::from(place), value, t)?;

@@ -6,7 +6,7 @@ ghost use Rattle.ca_types.specs.Fits.{fits};
 ghost use Rattle.ca_types.specs.Layout.{laid};
 ghost use Rattle.laid_types.specs.Parts.{part_at, parts_of};
 ghost use Rattle.value_lower.specs.Plan.{Plan};
-ghost use Rattle.value_lower.specs.Following.{Runs};
+ghost use Rattle.value_lower.specs.Following.{Runs, untabled};
 ghost use Rattle.value_lower.specs.Lowering.{lowered, layer_of, store, store_case, elements_from, text_in, list_in, pointed, fields_from, case_from};
 ghost use Rattle.value_lower.specs.Fitting.{HasBytes, HasCaseBytes, end_behind, AllFit, EachFits, PayloadFits};
 
@@ -26,7 +26,7 @@ fn store_text<R: Room>(
     text: &str,
 ) -> Result<(), LowerError<R::Trap>>
     requires { HasBytes place 8 (length (R.memory room.old)) }
-    ensures follows { (k : Plan) → Runs R.answers R.memory R.wrote (text_in text.now (λ to. pointed place to (length text.now) k)) (λ _. k) room.old result room.new }
+    ensures follows { (k : Plan) → Runs (untabled R.memory R.answers R.wrote) (text_in text.now (λ to. pointed place to (length text.now) k)) (λ _. k) room.old result room.new }
     ensures grows { IfOk result (λ _. length (R.memory room.old) ≤ length (R.memory room.new)) }
 {
     let to = text_in(alloc, room, text)?;
@@ -45,7 +45,7 @@ pub(crate) fn store_elements<R: Room>(
 ) -> Result<(), LowerError<R::Trap>>
     requires fit { AllFit values.now element.now }
     requires bytes { HasBytes place (length values.now * (laid element.now).size) (length (R.memory room.old)) }
-    ensures follows { (k : Plan) → Runs R.answers R.memory R.wrote (elements_from element.now place (map lowered values.now) k) (λ _. k) room.old result room.new }
+    ensures follows { (k : Plan) → Runs (untabled R.memory R.answers R.wrote) (elements_from element.now place (map lowered values.now) k) (λ _. k) room.old result room.new }
     ensures grows { IfOk result (λ _. length (R.memory room.old) ≤ length (R.memory room.new)) }
 {
     let mut at = place;
@@ -65,7 +65,7 @@ pub(crate) fn list_in<R: Room>(
     t: &LaidType<'_>,
 ) -> Result<u32, LowerError<R::Trap>>
     requires fit { (p : _) → part_at t.now 0 ≡ Some p → AllFit values.now p }
-    ensures follows { (k : ℕ → Plan) → Runs R.answers R.memory R.wrote (list_in (part_at t.now 0) (map lowered values.now) k) k room.old result room.new }
+    ensures follows { (k : ℕ → Plan) → Runs (untabled R.memory R.answers R.wrote) (list_in (part_at t.now 0) (map lowered values.now) k) k room.old result room.new }
     ensures few { IfOk result (λ place. length values.now < 2 ^ 32) }
     ensures grows { IfOk result (λ place. length (R.memory room.old) ≤ length (R.memory room.new)) }
 {
@@ -95,7 +95,7 @@ fn store_list<R: Room>(
 ) -> Result<(), LowerError<R::Trap>>
     requires fit { (p : _) → part_at t.now 0 ≡ Some p → AllFit values.now p }
     requires bytes { HasBytes place 8 (length (R.memory room.old)) }
-    ensures follows { (k : Plan) → Runs R.answers R.memory R.wrote (list_in (part_at t.now 0) (map lowered values.now) (λ to. pointed place to (length values.now) k)) (λ _. k) room.old result room.new }
+    ensures follows { (k : Plan) → Runs (untabled R.memory R.answers R.wrote) (list_in (part_at t.now 0) (map lowered values.now) (λ to. pointed place to (length values.now) k)) (λ _. k) room.old result room.new }
     ensures grows { IfOk result (λ _. length (R.memory room.old) ≤ length (R.memory room.new)) }
 {
     let to = list_in(alloc, room, values, t)?;
@@ -114,7 +114,7 @@ fn store_fields<R: Room>(
 ) -> Result<(), LowerError<R::Trap>>
     requires fit { EachFits values.now t.now }
     requires bytes { HasBytes place (end_behind 0 (parts_of t.now)) (length (R.memory room.old)) }
-    ensures follows { (k : Plan) → Runs R.answers R.memory R.wrote (fields_from place 0 (parts_of t.now) (map lowered values.now) k) (λ _. k) room.old result room.new }
+    ensures follows { (k : Plan) → Runs (untabled R.memory R.answers R.wrote) (fields_from place 0 (parts_of t.now) (map lowered values.now) k) (λ _. k) room.old result room.new }
     ensures grows { IfOk result (λ _. length (R.memory room.old) ≤ length (R.memory room.new)) }
 {
     let mut end = 0;
@@ -141,7 +141,7 @@ fn store_case<R: Room>(
 ) -> Result<(), LowerError<R::Trap>>
     requires fit { PayloadFits payload.now t.now case }
     requires bytes { HasCaseBytes t.now place (length (R.memory room.old)) }
-    ensures follows { (k : Plan) → Runs R.answers R.memory R.wrote (case_from t.now case (option_map lowered payload.now) place k) (λ _. k) room.old result room.new }
+    ensures follows { (k : Plan) → Runs (untabled R.memory R.answers R.wrote) (case_from t.now case (option_map lowered payload.now) place k) (λ _. k) room.old result room.new }
     ensures grows { IfOk result (λ _. length (R.memory room.old) ≤ length (R.memory room.new)) }
 {
     put_number(room, place, t.tag_size(), case);
@@ -166,7 +166,7 @@ fn store_layer<R: Room>(
 ) -> Result<(), LowerError<R::Trap>>
     requires fits { fits value.now t.now ≡ true }
     requires bytes { HasBytes place (laid t.now).size (length (R.memory room.old)) }
-    ensures follows { (k : Plan) → Runs R.answers R.memory R.wrote (store_case (layer_of value.now) t.now place k) (λ _. k) room.old result room.new }
+    ensures follows { (k : Plan) → Runs (untabled R.memory R.answers R.wrote) (store_case (layer_of value.now) t.now place k) (λ _. k) room.old result room.new }
     ensures grows { IfOk result (λ _. length (R.memory room.old) ≤ length (R.memory room.new)) }
 {
     match value {
@@ -196,7 +196,7 @@ pub(crate) fn store_value<R: Room>(
 ) -> Result<(), LowerError<R::Trap>>
     requires fits { fits value.now t.now ≡ true }
     requires bytes { HasBytes place (laid t.now).size (length (R.memory room.old)) }
-    ensures follows { (k : Plan) → Runs R.answers R.memory R.wrote (store t.now value.now place k) (λ _. k) room.old result room.new }
+    ensures follows { (k : Plan) → Runs (untabled R.memory R.answers R.wrote) (store t.now value.now place k) (λ _. k) room.old result room.new }
     ensures grows { IfOk result (λ _. length (R.memory room.old) ≤ length (R.memory room.new)) }
 {
     store_layer(alloc, room, place, value, t)

@@ -8,7 +8,7 @@ ghost use Rattle.ca_types.specs.Flat.{flat};
 ghost use Rattle.laid_types.specs.Handles.{has_handle};
 ghost use Rattle.laid_types.specs.Parts.{part_at, parts_of};
 ghost use Rattle.value_lower.specs.Plan.{Plan};
-ghost use Rattle.value_lower.specs.Following.{Runs, Comes};
+ghost use Rattle.value_lower.specs.Following.{Runs, Comes, untabled};
 ghost use Rattle.value_lower.specs.Lowering.{lowered, layer_of, flat_words, words_case, text_in, list_in, field_words, payload_words, case_words, filled, flat_lowered};
 ghost use Rattle.value_lower.specs.Fitting.{AllFit, EachFits, PayloadFits, FewParts};
 
@@ -43,7 +43,7 @@ fn push_text<R: Room>(
     words: &mut Words,
     text: &str,
 ) -> Result<(), LowerError<R::Trap>>
-    ensures { (k : List ℕ → Plan) → Runs R.answers R.memory R.wrote (text_in text.now (λ to. k (words.old ++ to ∷ length text.now ∷ []))) (λ _. k words.new) room.old result room.new }
+    ensures { (k : List ℕ → Plan) → Runs (untabled R.memory R.answers R.wrote) (text_in text.now (λ to. k (words.old ++ to ∷ length text.now ∷ []))) (λ _. k words.new) room.old result room.new }
 {
     let place = text_in(alloc, room, text)?;
     words.push(u64::from(place))?;
@@ -60,7 +60,7 @@ fn push_list<R: Room>(
     t: &LaidType<'_>,
 ) -> Result<(), LowerError<R::Trap>>
     requires { (p : _) → part_at t.now 0 ≡ Some p → AllFit values.now p }
-    ensures { (k : List ℕ → Plan) → Runs R.answers R.memory R.wrote (list_in (part_at t.now 0) (map lowered values.now) (λ to. k (words.old ++ to ∷ length values.now ∷ []))) (λ _. k words.new) room.old result room.new }
+    ensures { (k : List ℕ → Plan) → Runs (untabled R.memory R.answers R.wrote) (list_in (part_at t.now 0) (map lowered values.now) (λ to. k (words.old ++ to ∷ length values.now ∷ []))) (λ _. k words.new) room.old result room.new }
 {
     let place = list_in(alloc, room, values, t)?;
     words.push(u64::from(place))?;
@@ -79,7 +79,7 @@ fn push_fields<R: Room>(
 ) -> Result<(), LowerError<R::Trap>>
     requires fit { EachFits values.now t.now }
     requires few { FewParts t.now }
-    ensures { (k : List ℕ → Plan) → Runs R.answers R.memory R.wrote (field_words (parts_of t.now) (map lowered values.now) words.old k) (λ _. k words.new) room.old result room.new }
+    ensures { (k : List ℕ → Plan) → Runs (untabled R.memory R.answers R.wrote) (field_words (parts_of t.now) (map lowered values.now) words.old k) (λ _. k words.new) room.old result room.new }
 {
     for (index, value) in values.iter().enumerate() {
         let Some(part) = t.part(index) else {
@@ -103,7 +103,7 @@ fn push_case<R: Room>(
     requires fit { PayloadFits payload.now t.now case }
     requires few { FewParts t.now }
     requires most { length (flat t.now) ≤ 16 }
-    ensures { (k : List ℕ → Plan) → Runs R.answers R.memory R.wrote (case_words t.now case (option_map lowered payload.now) words.old k) (λ _. k words.new) room.old result room.new }
+    ensures { (k : List ℕ → Plan) → Runs (untabled R.memory R.answers R.wrote) (case_words t.now case (option_map lowered payload.now) words.old k) (λ _. k words.new) room.old result room.new }
 {
     let others = words.len();
     words.push(u64::from(case))?;
@@ -124,7 +124,7 @@ fn push_payload<R: Room>(
 ) -> Result<(), LowerError<R::Trap>>
     requires fit { PayloadFits payload.now t.now case }
     requires few { FewParts t.now }
-    ensures { (k : List ℕ → Plan) → Runs R.answers R.memory R.wrote (payload_words (part_at t.now case) (option_map lowered payload.now) words.old k) (λ _. k words.new) room.old result room.new }
+    ensures { (k : List ℕ → Plan) → Runs (untabled R.memory R.answers R.wrote) (payload_words (part_at t.now case) (option_map lowered payload.now) words.old k) (λ _. k words.new) room.old result room.new }
 {
     let Some(payload) = payload else {
         return Ok(());
@@ -146,7 +146,7 @@ fn push_layer<R: Room>(
 ) -> Result<(), LowerError<R::Trap>>
     requires fits { fits value.now t.now ≡ true }
     requires most { length (flat t.now) ≤ 16 }
-    ensures { (k : List ℕ → Plan) → Runs R.answers R.memory R.wrote (words_case (layer_of value.now) t.now words.old k) (λ _. k words.new) room.old result room.new }
+    ensures { (k : List ℕ → Plan) → Runs (untabled R.memory R.answers R.wrote) (words_case (layer_of value.now) t.now words.old k) (λ _. k words.new) room.old result room.new }
 {
     match value {
         Value::String(text) => push_text(alloc, room, words, text.as_str()),
@@ -175,7 +175,7 @@ fn push_value<R: Room>(
 ) -> Result<(), LowerError<R::Trap>>
     requires fits { fits value.now t.now ≡ true }
     requires most { length (flat t.now) ≤ 16 }
-    ensures { (k : List ℕ → Plan) → Runs R.answers R.memory R.wrote (flat_words t.now value.now words.old k) (λ _. k words.new) room.old result room.new }
+    ensures { (k : List ℕ → Plan) → Runs (untabled R.memory R.answers R.wrote) (flat_words t.now value.now words.old k) (λ _. k words.new) room.old result room.new }
 {
     push_layer(alloc, room, words, value, t)
 }
@@ -205,7 +205,7 @@ pub fn lower_flat<R: Room>(
     requires ends { has_end t.now ≡ false }
     requires fits { fits value.now t.now ≡ true }
     requires few { length (flat t.now) ≤ 16 }
-    ensures follows { Comes R.answers R.memory R.wrote (flat_lowered t.now value.now) (λ words. words) room.old result room.new }
+    ensures follows { Comes (untabled R.memory R.answers R.wrote) (flat_lowered t.now value.now) (λ words. words) room.old result room.new }
     ensures count { IfOk result (λ words. length words ≡ length (flat t.now)) }
 {
     let mut words = Seq::new(alloc);

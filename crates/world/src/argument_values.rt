@@ -23,7 +23,7 @@ use ca_types::Value;
 use laid_types::LaidType;
 use script_reader::{Call, Script};
 use std::alloc::Global;
-use value_lift::{LiftError, LiftOf, lift_flat, load};
+use value_lift::{LiftError, LiftOf, lift_flat_bare, load_bare};
 use wasm_store::Store;
 
 /// The arguments of the acting task, which are of this type: what the innermost of the tasks that wait passes, by its words and the
@@ -87,7 +87,7 @@ fn lift_arguments(
 {
     let count = of_type.flat().len();
     if count > 16 {
-        load(
+        load_bare(
             alloc,
             memory,
             first_place(words),
@@ -95,7 +95,7 @@ fn lift_arguments(
             LiftOf::Arguments,
         )
     } else {
-        lift_flat(
+        lift_flat_bare(
             alloc,
             memory,
             of_type,

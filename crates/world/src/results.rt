@@ -21,7 +21,7 @@ use ca_types::Value;
 use laid_types::LaidType;
 use std::alloc::Global;
 use trace_show::TypedValue;
-use value_lift::{LiftError, LiftOf, lift_flat, load};
+use value_lift::{LiftError, LiftOf, lift_flat_bare, load_bare};
 use wasm_store::Store;
 
 /// The result of a function, if it has one, of the words with which its core function ended. It fails for want of memory, or where the
@@ -61,8 +61,8 @@ fn lift_result(
     ensures { (f : FuncType) → f.result ≡ Some of_type.now → MayMake (λ v. v) (result_lifted f of_type.now memory.now ended.now) result }
 {
     if of_type.flat().len() > 1 {
-        load(alloc, memory, ended[0] as u32, of_type, LiftOf::Value)
+        load_bare(alloc, memory, ended[0] as u32, of_type, LiftOf::Value)
     } else {
-        lift_flat(alloc, memory, of_type, ended, LiftOf::Value)
+        lift_flat_bare(alloc, memory, of_type, ended, LiftOf::Value)
     }
 }

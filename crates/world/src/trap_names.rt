@@ -1,8 +1,9 @@
 //! The names of traps.
 
 ghost use Rattle.std.specs.Prelude.{◌≡◌};
-ghost use Rattle.canonical_machine.specs.Traps.{core_name, lift_name, lower_name};
+ghost use Rattle.canonical_machine.specs.Traps.{core_name, lift_name, lower_name, refusal_name};
 
+use res_handles::Refusal;
 use trace_show::TrapName;
 use value_lift::LiftWhy;
 use value_lower::LowerWhy;
@@ -24,6 +25,20 @@ pub fn core_name(why: Trap) -> TrapName
     }
 }
 
+/// The name of the reason why a handle or an end is refused.
+fn refusal_name(why: Refusal) -> TrapName
+    ensures { result ≡ refusal_name why }
+{
+    match why {
+        Refusal::Absent => TrapName::Absent,
+        Refusal::OtherKind => TrapName::OtherKind,
+        Refusal::OtherType => TrapName::OtherType,
+        Refusal::NotOwn => TrapName::NotOwn,
+        Refusal::Lent => TrapName::Lent,
+        Refusal::NotIdle => TrapName::NotIdle,
+    }
+}
+
 /// The name of the reason why a value is not lifted.
 pub fn lift_name(why: LiftWhy) -> TrapName
     ensures { result ≡ lift_name why }
@@ -35,6 +50,7 @@ pub fn lift_name(why: LiftWhy) -> TrapName
         LiftWhy::BadUtf8 => TrapName::BadUtf8,
         LiftWhy::BadCase => TrapName::BadCase,
         LiftWhy::TooLarge => TrapName::TooLarge,
+        LiftWhy::Refused(why) => refusal_name(why),
     }
 }
 
@@ -45,5 +61,6 @@ pub fn lower_name(why: LowerWhy) -> TrapName
     match why {
         LowerWhy::Misaligned => TrapName::Misaligned,
         LowerWhy::Bounds => TrapName::Bounds,
+        LowerWhy::TableFull => TrapName::TableFull,
     }
 }

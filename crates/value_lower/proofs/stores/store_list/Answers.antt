@@ -4,6 +4,7 @@ use Rattle.ca_types.specs.declared.types.ValType.{ValType}
 use Rattle.ca_types.specs.declared.value.Value.{Value}
 use Rattle.ca_types.specs.Layout.{laid}
 use Rattle.value_lower.specs.Plan.{Plan, Gives}
+use Rattle.value_lower.specs.Following.{untabled}
 use Rattle.value_lower.specs.Lowering.{lowered, tested, all_stored, elements_from}
 use Rattle.value_lower.proofs.Going.{same, goes, comes, tested_goes}
 use Rattle.value_lower.proofs.Plans.{all_limited}
@@ -28,10 +29,10 @@ returns g c =
     let bytes = c.in_ok-test_place.ensures.1 in
     let limited : length all * c.size.result ≡ length all * min (laid t).size (2 ^ 64) = ap (λ (n : ℕ). length all * n) c.size.ensures in
     let size : length all * (laid t).size ≡ length all * min (laid t).size (2 ^ 64) = all_limited (length all) (laid t).size (omega (arith, bytes.reach, limited)) in
-    comes g.R.Room.answers g.R.Room.memory g.R.Room.wrote whole (λ x. Gives []) (λ x. []) room c.store_elements.new.room c.store_elements.result (λ x. refl)
-    (goes g.R.Room.answers g.R.Room.memory g.R.Room.wrote whole part (λ x. Gives []) room room c.store_elements.new.room c.store_elements.result
+    comes (untabled g.R.Room.memory g.R.Room.answers g.R.Room.wrote) whole (λ x. Gives []) (λ x. []) room c.store_elements.new.room c.store_elements.result (λ x. refl)
+    (goes (untabled g.R.Room.memory g.R.Room.answers g.R.Room.wrote) whole part (λ x. Gives []) room room c.store_elements.new.room c.store_elements.result
     (λ came after f.
-    same g.R.Room.answers g.R.Room.memory g.R.Room.wrote whole test room (some_stored t all place c.if-is_empty.ensures) came after
-    (tested_goes g.R.Room.answers g.R.Room.memory g.R.Room.wrote place (laid t).align (length all * (laid t).size) mid room here (omega (arith, bytes.inside, limited, size)) came after
-    (same g.R.Room.answers g.R.Room.memory g.R.Room.wrote mid part room (ap (λ (n : ℕ). elements_from t n (map lowered all) (Gives [])) (sym c.from.ensures)) came after f)))
+    same (untabled g.R.Room.memory g.R.Room.answers g.R.Room.wrote) whole test room (some_stored t all place c.if-is_empty.ensures) came after
+    (tested_goes (untabled g.R.Room.memory g.R.Room.answers g.R.Room.wrote) place (laid t).align (length all * (laid t).size) mid room here (omega (arith, bytes.inside, limited, size)) came after
+    (same (untabled g.R.Room.memory g.R.Room.answers g.R.Room.wrote) mid part room (ap (λ (n : ℕ). elements_from t n (map lowered all) (Gives [])) (sym c.from.ensures)) came after f)))
     (c.store_elements.ensures.follows (Gives [])))

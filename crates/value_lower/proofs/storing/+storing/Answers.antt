@@ -14,6 +14,7 @@ use Rattle.ca_types.specs.declared.value.Value.TheOpen as V
 use Rattle.ca_types.specs.Layout.{laid, aligned}
 use Rattle.laid_types.specs.Parts.{part_at, parts_of}
 use Rattle.value_lower.specs.Plan.{Plan, Put}
+use Rattle.value_lower.specs.Following.{untabled}
 use Rattle.value_lower.specs.Lowering.{Lowered, lowered, layer_of, store, store_case, elements_from, asked, list_in, pointed, fields_from, case_from, number_bytes, plain_bytes, text_in, width_of, flags_number}
 use Rattle.value_lower.specs.Fitting.{HasBytes, end_behind}
 use Rattle.value_lower.proofs.Going.{same, further, goes, stops}
@@ -30,9 +31,9 @@ list_in-returns-in_err-place-clause-follows g t c = λ k.
     let all = c.args.values.now in
     let plan : Plan = asked (length all) c.align.result (length all * c.size.result) (elements_at c.in-Some.element all k) in
     rw (p.1, p.2)
-    (stops g.R.Room.answers g.R.Room.memory g.R.Room.wrote (list_in (part_at c.args.t.now 0) (map lowered all) k) plan (elements_at c.in-Some.element all k) k c.args.room.now c.args.room.now
+    (stops (untabled g.R.Room.memory g.R.Room.answers g.R.Room.wrote) (list_in (part_at c.args.t.now 0) (map lowered all) k) plan (elements_at c.in-Some.element all k) k c.args.room.now c.args.room.now
     c.ask.new.room c.in_err-place.field-0.0
-    (same g.R.Room.answers g.R.Room.memory g.R.Room.wrote _ plan c.args.room.now
+    (same (untabled g.R.Room.memory g.R.Room.answers g.R.Room.wrote) _ plan c.args.room.now
     (list_asked (part_at c.args.t.now 0) c.in-Some.element all c.align.result c.size.result k (sym c.part.ensures ∙ c.in-Some.is) c.align.ensures.value c.size.ensures))
     (c.in_err-place.ensures.follows (elements_at c.in-Some.element all k)))
 
@@ -45,12 +46,12 @@ list_in-returns-in_err-store_elements-clause-follows g t c = λ k.
     let whole : Plan = list_in (part_at c.args.t.now 0) (map lowered all) k in
     let rest : Plan = elements_from e c.from.result (map lowered all) (k c.in_ok-place.place) in
     rw (p.1, p.2)
-    (stops g.R.Room.answers g.R.Room.memory g.R.Room.wrote {A = Unit {0}} whole rest (λ x. k c.in_ok-place.place) k c.args.room.now c.ask.new.room c.store_elements.new.room c.in_err-store_elements.field-0.0
+    (stops (untabled g.R.Room.memory g.R.Room.answers g.R.Room.wrote) {A = Unit {0}} whole rest (λ x. k c.in_ok-place.place) k c.args.room.now c.ask.new.room c.store_elements.new.room c.in_err-store_elements.field-0.0
     (λ came after f.
-    same g.R.Room.answers g.R.Room.memory g.R.Room.wrote whole plan c.args.room.now
+    same (untabled g.R.Room.memory g.R.Room.answers g.R.Room.wrote) whole plan c.args.room.now
     (list_asked (part_at c.args.t.now 0) e all c.align.result c.size.result k (sym c.part.ensures ∙ c.in-Some.is) c.align.ensures.value c.size.ensures) came after
     (c.in_ok-place.ensures.follows (elements_at e all k) came after
-    (same g.R.Room.answers g.R.Room.memory g.R.Room.wrote (elements_at e all k c.in_ok-place.place) rest c.ask.new.room
+    (same (untabled g.R.Room.memory g.R.Room.answers g.R.Room.wrote) (elements_at e all k c.in_ok-place.place) rest c.ask.new.room
     (ap (λ (n : ℕ). elements_from e n (map lowered all) (k c.in_ok-place.place)) (sym c.from.ensures)) came after f)))
     (c.in_err-store_elements.ensures.follows (k c.in_ok-place.place)))
 
@@ -61,10 +62,10 @@ list_in-returns-clause-follows g t c = λ k came after f.
     let plan : Plan = asked (length all) c.align.result (length all * c.size.result) (elements_at e all k) in
     let whole : Plan = list_in (part_at c.args.t.now 0) (map lowered all) k in
     let rest : Plan = elements_from e c.from.result (map lowered all) (k c.in_ok-place.place) in
-    same g.R.Room.answers g.R.Room.memory g.R.Room.wrote whole plan c.args.room.now
+    same (untabled g.R.Room.memory g.R.Room.answers g.R.Room.wrote) whole plan c.args.room.now
     (list_asked (part_at c.args.t.now 0) e all c.align.result c.size.result k (sym c.part.ensures ∙ c.in-Some.is) c.align.ensures.value c.size.ensures) came after
     (c.in_ok-place.ensures.follows (elements_at e all k) came after
-    (same g.R.Room.answers g.R.Room.memory g.R.Room.wrote (elements_at e all k c.in_ok-place.place) rest c.ask.new.room
+    (same (untabled g.R.Room.memory g.R.Room.answers g.R.Room.wrote) (elements_at e all k c.in_ok-place.place) rest c.ask.new.room
     (ap (λ (n : ℕ). elements_from e n (map lowered all) (k c.in_ok-place.place)) (sym c.from.ensures)) came after
     (c.in_ok-store_elements.ensures.follows (k c.in_ok-place.place) came after f)))
 
@@ -79,9 +80,9 @@ store_elements-returns-in_err-store_value-clause-follows g t c = λ k.
     let part : Plan = store e c.value-item.result l.at rest in
     let whole : Plan = elements_from e c.args.place (map lowered all) k in
     rw (p.1, p.2)
-    (stops g.R.Room.answers g.R.Room.memory g.R.Room.wrote {A = Unit {0}} {B = Unit {0}} whole part (λ x. rest) (λ x. k) c.args.room.now l.room c.store_value.new.room c.in_err-store_value.field-0.0
-    (further g.R.Room.answers g.R.Room.memory g.R.Room.wrote whole left part c.args.room.now l.room l.room (l.invariant.leads k)
-    (same g.R.Room.answers g.R.Room.memory g.R.Room.wrote left part l.room (elements_one e l.at l.value-index all c.value-item.result k c.loop-value-test.true c.value-item.is)))
+    (stops (untabled g.R.Room.memory g.R.Room.answers g.R.Room.wrote) {A = Unit {0}} {B = Unit {0}} whole part (λ x. rest) (λ x. k) c.args.room.now l.room c.store_value.new.room c.in_err-store_value.field-0.0
+    (further (untabled g.R.Room.memory g.R.Room.answers g.R.Room.wrote) whole left part c.args.room.now l.room l.room (l.invariant.leads k)
+    (same (untabled g.R.Room.memory g.R.Room.answers g.R.Room.wrote) left part l.room (elements_one e l.at l.value-index all c.value-item.result k c.loop-value-test.true c.value-item.is)))
     (c.in_err-store_value.ensures.follows rest))
 
 -- Records.
@@ -93,9 +94,9 @@ store_fields-loop-index-preserved-in_default g t c =
     let none = sym c.part.ensures ∙ c.in_default.is in
     record {
       leads = λ k.
-          further g.R.Room.answers g.R.Room.memory g.R.Room.wrote (fields_from c.args.place 0 types (map lowered all) k) (fields_left c.args.place l.end l.index types all k)
+          further (untabled g.R.Room.memory g.R.Room.answers g.R.Room.wrote) (fields_from c.args.place 0 types (map lowered all) k) (fields_left c.args.place l.end l.index types all k)
           (fields_left c.args.place l.end (l.index + 1) types all k) c.args.room.now l.room l.room (l.invariant.leads k)
-          (same g.R.Room.answers g.R.Room.memory g.R.Room.wrote (fields_left c.args.place l.end l.index types all k) (fields_left c.args.place l.end (l.index + 1) types all k) l.room
+          (same (untabled g.R.Room.memory g.R.Room.answers g.R.Room.wrote) (fields_left c.args.place l.end l.index types all k) (fields_left c.args.place l.end (l.index + 1) types all k) l.room
           (fields_none c.args.place l.end l.index types all c.index-values-index.result k none c.loop-index-test.true c.index-values-index.is));
       bytes = subst (λ (n : ℕ). HasBytes c.args.place n (length (g.R.Room.memory l.room))) (none_behind l.end l.index types none) l.invariant.bytes;
       grows = l.invariant.grows;
@@ -152,9 +153,9 @@ store_fields-returns-in_err-store_value-clause-follows g t c = λ k.
     let part : Plan = store q v (place + c.aligned-start.result) rest in
     let whole : Plan = fields_from place 0 types (map lowered all) k in
     rw (p.1, p.2)
-    (stops g.R.Room.answers g.R.Room.memory g.R.Room.wrote {A = Unit {0}} {B = Unit {0}} whole part (λ x. rest) (λ x. k) c.args.room.now l.room c.store_value.new.room c.in_err-store_value.field-0.0
-    (further g.R.Room.answers g.R.Room.memory g.R.Room.wrote whole left part c.args.room.now l.room l.room (l.invariant.leads k)
-    (same g.R.Room.answers g.R.Room.memory g.R.Room.wrote left part l.room
+    (stops (untabled g.R.Room.memory g.R.Room.answers g.R.Room.wrote) {A = Unit {0}} {B = Unit {0}} whole part (λ x. rest) (λ x. k) c.args.room.now l.room c.store_value.new.room c.in_err-store_value.field-0.0
+    (further (untabled g.R.Room.memory g.R.Room.answers g.R.Room.wrote) whole left part c.args.room.now l.room l.room (l.invariant.leads k)
+    (same (untabled g.R.Room.memory g.R.Room.answers g.R.Room.wrote) left part l.room
     (fields_one place l.end l.index types all q v k there c.loop-index-test.true c.index-values-index.is ∙ ap (λ (n : ℕ). store q v (place + n) rest) (sym f.start_is))))
     (c.in_err-store_value.ensures.follows rest))
 
@@ -194,12 +195,12 @@ store_fields-loop-index-preserved g t c =
           let left : Plan = fields_left place l.end l.index types all k in
           let part : Plan = store q v (place + c.aligned-start.result) rest in
           let whole : Plan = fields_from place 0 types (map lowered all) k in
-          further g.R.Room.answers g.R.Room.memory g.R.Room.wrote whole left (fields_left place (c.aligned-start.result + c.size.result) (l.index + 1) types all k) c.args.room.now l.room c.store_value.new.room (l.invariant.leads k)
+          further (untabled g.R.Room.memory g.R.Room.answers g.R.Room.wrote) whole left (fields_left place (c.aligned-start.result + c.size.result) (l.index + 1) types all k) c.args.room.now l.room c.store_value.new.room (l.invariant.leads k)
           (λ came after h.
-          same g.R.Room.answers g.R.Room.memory g.R.Room.wrote left part l.room
+          same (untabled g.R.Room.memory g.R.Room.answers g.R.Room.wrote) left part l.room
           (fields_one place l.end l.index types all q v k there c.loop-index-test.true c.index-values-index.is ∙ ap (λ (n : ℕ). store q v (place + n) rest) (sym f.start_is)) came after
           (c.in_ok-store_value.ensures.follows rest came after
-          (same g.R.Room.answers g.R.Room.memory g.R.Room.wrote rest (fields_left place (c.aligned-start.result + c.size.result) (l.index + 1) types all k) c.store_value.new.room
+          (same (untabled g.R.Room.memory g.R.Room.answers g.R.Room.wrote) rest (fields_left place (c.aligned-start.result + c.size.result) (l.index + 1) types all k) c.store_value.new.room
           (ap (λ (n : ℕ). fields_left place n (l.index + 1) types all k) end) came after h)));
       bytes = record { inside = omega (arith, left, l.invariant.bytes.inside, c.in_ok-store_value.ensures.grows); reach = omega (arith, left, l.invariant.bytes.reach) };
       grows = omega (arith, l.invariant.grows, c.in_ok-store_value.ensures.grows);
@@ -210,9 +211,9 @@ store_fields-returns-clause-follows g t c = λ k.
     let l = c.loop-index in
     let all = c.args.values.now in
     let types = parts_of c.args.t.now in
-    further g.R.Room.answers g.R.Room.memory g.R.Room.wrote (fields_from c.args.place 0 types (map lowered all) k) (fields_left c.args.place l.end l.index types all k) k c.args.room.now l.room l.room
+    further (untabled g.R.Room.memory g.R.Room.answers g.R.Room.wrote) (fields_from c.args.place 0 types (map lowered all) k) (fields_left c.args.place l.end l.index types all k) k c.args.room.now l.room l.room
     (l.invariant.leads k)
-    (same g.R.Room.answers g.R.Room.memory g.R.Room.wrote (fields_left c.args.place l.end l.index types all k) k l.room (fields_done c.args.place l.end l.index types all k (omega arith)))
+    (same (untabled g.R.Room.memory g.R.Room.answers g.R.Room.wrote) (fields_left c.args.place l.end l.index types all k) k l.room (fields_done c.args.place l.end l.index types all k (omega arith)))
 
 -- Cases.
 pub store_case-returns-clause-follows : goal.store_case-returns-clause-follows
@@ -223,9 +224,9 @@ store_case-returns-clause-follows g t c = λ k.
     let q = c.in-Some-part.part in
     let whole : Plan = case_from c.args.t.now n (option_map lowered o) c.args.place k in
     let part : Plan = store q v (c.args.place + c.from.result) k in
-    goes g.R.Room.answers g.R.Room.memory g.R.Room.wrote whole part (λ x. k) c.args.room.now c.put_number.new.room c.store_value.new.room c.store_value.result
+    goes (untabled g.R.Room.memory g.R.Room.answers g.R.Room.wrote) whole part (λ x. k) c.args.room.now c.put_number.new.room c.store_value.new.room c.store_value.result
     (λ came after f.
-    same g.R.Room.answers g.R.Room.memory g.R.Room.wrote whole (Put c.args.place (number_bytes c.tag_size.result n) part) c.args.room.now
+    same (untabled g.R.Room.memory g.R.Room.answers g.R.Room.wrote) whole (Put c.args.place (number_bytes c.tag_size.result n) part) c.args.room.now
     (case_plan c.args.t.now n o v q c.args.place c.tag_size.result c.from.result k (c.in-Some.is ∙ ap (λ (x : Value). Some x) (sym c.get.ensures)) (sym c.part.ensures ∙ c.in-Some-part.is) c.tag_size.ensures.value
     (c.from.ensures ∙ c.payload_place.ensures)) came after (c.put_number.ensures.leads part came after f))
     (c.store_value.ensures.follows k)
@@ -314,8 +315,8 @@ store_layer-put_plain-requires g t c =
 pub store_layer-returns-in-String-clause-follows : goal.store_layer-returns-in-String-clause-follows
 store_layer-returns-in-String-clause-follows g t c = λ k.
     let text = c.in-String.text in
-    goes g.R.Room.answers g.R.Room.memory g.R.Room.wrote (store_case (layer_of c.args.value.now) c.args.t.now c.args.place k) (text_in c.as_str.result.now (λ to. pointed c.args.place to (length c.as_str.result.now) k)) (λ x. k) c.args.room.now c.args.room.now c.store_text.new.room c.store_text.result
-    (same g.R.Room.answers g.R.Room.memory g.R.Room.wrote (store_case (layer_of c.args.value.now) c.args.t.now c.args.place k) (text_in c.as_str.result.now (λ to. pointed c.args.place to (length c.as_str.result.now) k)) c.args.room.now
+    goes (untabled g.R.Room.memory g.R.Room.answers g.R.Room.wrote) (store_case (layer_of c.args.value.now) c.args.t.now c.args.place k) (text_in c.as_str.result.now (λ to. pointed c.args.place to (length c.as_str.result.now) k)) (λ x. k) c.args.room.now c.args.room.now c.store_text.new.room c.store_text.result
+    (same (untabled g.R.Room.memory g.R.Room.answers g.R.Room.wrote) (store_case (layer_of c.args.value.now) c.args.t.now c.args.place k) (text_in c.as_str.result.now (λ to. pointed c.args.place to (length c.as_str.result.now) k)) c.args.room.now
     (ap (λ (w : V.Value-F Lowered). store_case w c.args.t.now c.args.place k) (layer_string c.args.value.now text c.in-String.is)
     ∙ ap (λ (bytes : List ℕ). text_in bytes (λ to. pointed c.args.place to (length bytes) k)) (sym c.as_str.ensures)))
     (c.store_text.ensures.follows k)
@@ -324,8 +325,8 @@ pub store_layer-returns-in-List-clause-follows : goal.store_layer-returns-in-Lis
 store_layer-returns-in-List-clause-follows g t c = λ k.
     let all = c.in-List.values in
     let part : List Value → Plan = λ (vs : List Value). list_in (part_at c.args.t.now 0) (map lowered vs) (λ to. pointed c.args.place to (length vs) k) in
-    goes g.R.Room.answers g.R.Room.memory g.R.Room.wrote (store_case (layer_of c.args.value.now) c.args.t.now c.args.place k) (part c.as_slice.result.now) (λ x. k) c.args.room.now c.args.room.now c.store_list.new.room c.store_list.result
-    (same g.R.Room.answers g.R.Room.memory g.R.Room.wrote (store_case (layer_of c.args.value.now) c.args.t.now c.args.place k) (part c.as_slice.result.now) c.args.room.now
+    goes (untabled g.R.Room.memory g.R.Room.answers g.R.Room.wrote) (store_case (layer_of c.args.value.now) c.args.t.now c.args.place k) (part c.as_slice.result.now) (λ x. k) c.args.room.now c.args.room.now c.store_list.new.room c.store_list.result
+    (same (untabled g.R.Room.memory g.R.Room.answers g.R.Room.wrote) (store_case (layer_of c.args.value.now) c.args.t.now c.args.place k) (part c.as_slice.result.now) c.args.room.now
     (ap (λ (w : V.Value-F Lowered). store_case w c.args.t.now c.args.place k) (layer_list c.args.value.now all c.in-List.is)
     ∙ ap (λ (n : ℕ). list_in (part_at c.args.t.now 0) (map lowered all) (λ to. pointed c.args.place to n k)) (length-map all lowered)
     ∙ ap part (sym c.as_slice.ensures)))
@@ -335,16 +336,16 @@ pub store_layer-returns-in-Record-clause-follows : goal.store_layer-returns-in-R
 store_layer-returns-in-Record-clause-follows g t c = λ k.
     let all = c.in-Record.values in
     let part : List Value → Plan = λ (vs : List Value). fields_from c.args.place 0 (parts_of c.args.t.now) (map lowered vs) k in
-    goes g.R.Room.answers g.R.Room.memory g.R.Room.wrote (store_case (layer_of c.args.value.now) c.args.t.now c.args.place k) (part c.as_slice-in-Record.result.now) (λ x. k) c.args.room.now c.args.room.now c.store_fields.new.room c.store_fields.result
-    (same g.R.Room.answers g.R.Room.memory g.R.Room.wrote (store_case (layer_of c.args.value.now) c.args.t.now c.args.place k) (part c.as_slice-in-Record.result.now) c.args.room.now
+    goes (untabled g.R.Room.memory g.R.Room.answers g.R.Room.wrote) (store_case (layer_of c.args.value.now) c.args.t.now c.args.place k) (part c.as_slice-in-Record.result.now) (λ x. k) c.args.room.now c.args.room.now c.store_fields.new.room c.store_fields.result
+    (same (untabled g.R.Room.memory g.R.Room.answers g.R.Room.wrote) (store_case (layer_of c.args.value.now) c.args.t.now c.args.place k) (part c.as_slice-in-Record.result.now) c.args.room.now
     (ap (λ (w : V.Value-F Lowered). store_case w c.args.t.now c.args.place k) (layer_record c.args.value.now all c.in-Record.is) ∙ ap part (sym c.as_slice-in-Record.ensures)))
     (c.store_fields.ensures.follows k)
 
 pub store_layer-returns-in-Variant-clause-follows : goal.store_layer-returns-in-Variant-clause-follows
 store_layer-returns-in-Variant-clause-follows g t c = λ k.
     let part : Plan = case_from c.args.t.now c.in-Variant.case (option_map lowered c.in-Variant.payload) c.args.place k in
-    goes g.R.Room.answers g.R.Room.memory g.R.Room.wrote (store_case (layer_of c.args.value.now) c.args.t.now c.args.place k) part (λ x. k) c.args.room.now c.args.room.now c.store_case.new.room c.store_case.result
-    (same g.R.Room.answers g.R.Room.memory g.R.Room.wrote (store_case (layer_of c.args.value.now) c.args.t.now c.args.place k) part c.args.room.now
+    goes (untabled g.R.Room.memory g.R.Room.answers g.R.Room.wrote) (store_case (layer_of c.args.value.now) c.args.t.now c.args.place k) part (λ x. k) c.args.room.now c.args.room.now c.store_case.new.room c.store_case.result
+    (same (untabled g.R.Room.memory g.R.Room.answers g.R.Room.wrote) (store_case (layer_of c.args.value.now) c.args.t.now c.args.place k) part c.args.room.now
     (ap (λ (w : V.Value-F Lowered). store_case w c.args.t.now c.args.place k) (layer_variant c.args.value.now c.in-Variant.case c.in-Variant.payload c.in-Variant.is)))
     (c.store_case.ensures.follows k)
 
@@ -353,7 +354,7 @@ store_layer-returns-in-Flags-clause-follows g t c = λ k came after f.
     let flags = c.in-Flags.flags in
     let h = by_layers c.args.t.now c.args.value.now (V.Flags flags) c.requires.fits (out_flags c.args.value.now flags c.in-Flags.is) in
     let s = flags_size c.args.t.now flags h in
-    same g.R.Room.answers g.R.Room.memory g.R.Room.wrote (store_case (layer_of c.args.value.now) c.args.t.now c.args.place k) (Put c.args.place (number_bytes c.align.result c.flags_number.result) k) c.args.room.now
+    same (untabled g.R.Room.memory g.R.Room.answers g.R.Room.wrote) (store_case (layer_of c.args.value.now) c.args.t.now c.args.place k) (Put c.args.place (number_bytes c.align.result c.flags_number.result) k) c.args.room.now
     (ap (λ (w : V.Value-F Lowered). store_case w c.args.t.now c.args.place k) (layer_flags c.args.value.now flags c.in-Flags.is)
     ∙ ap (λ (n : ℕ). Put c.args.place (number_bytes n (flags_number flags)) k) (sym (c.align.ensures.value ∙ s.1))
     ∙ ap (λ (n : ℕ). Put c.args.place (number_bytes c.align.result n) k) (sym (c.flags_number.ensures ∙ ap flags_number c.as_slice-in-Flags.ensures))) came after

@@ -12,6 +12,7 @@ use Rattle.ca_types.specs.declared.value.Value.TheOpen as V
 use Rattle.ca_types.specs.declared.value.Value.TheViews.{the_lemmas}
 use Rattle.laid_types.specs.Parts.{part_at, parts_of}
 use Rattle.value_lower.specs.Plan.{Plan}
+use Rattle.value_lower.specs.Following.{untabled}
 use Rattle.value_lower.specs.Lowering.{Lowered, lowered, layer_of, flat_words, words_case, text_in, list_in, field_words, case_words}
 use Rattle.value_lower.proofs.Going.{same, further, goes, stops}
 use Rattle.value_lower.proofs.Views.{out_list, out_record, out_variant, layer_string, layer_list, layer_record, layer_variant}
@@ -27,9 +28,9 @@ push_fields-loop-index-preserved-in_default g t c = λ k.
     let all = c.args.values.now in
     let types = parts_of c.args.t.now in
     let none = sym c.part.ensures ∙ c.in_default.is in
-    further g.R.Room.answers g.R.Room.memory g.R.Room.wrote (field_words types (map lowered all) c.args.words.now k) (words_left l.index types all l.words k) (words_left (l.index + 1) types all l.words k)
+    further (untabled g.R.Room.memory g.R.Room.answers g.R.Room.wrote) (field_words types (map lowered all) c.args.words.now k) (words_left l.index types all l.words k) (words_left (l.index + 1) types all l.words k)
     c.args.room.now l.room l.room (l.invariant k)
-    (same g.R.Room.answers g.R.Room.memory g.R.Room.wrote (words_left l.index types all l.words k) (words_left (l.index + 1) types all l.words k) l.room
+    (same (untabled g.R.Room.memory g.R.Room.answers g.R.Room.wrote) (words_left l.index types all l.words k) (words_left (l.index + 1) types all l.words k) l.room
     (words_none l.index types all c.index-values-index.result l.words k none c.loop-index-test.true c.index-values-index.is))
 
 pub push_fields-push_value-requires : goal.push_fields-push_value-requires
@@ -66,10 +67,10 @@ push_fields-returns-in_err-push_value g t c = λ k.
     let part : Plan = flat_words c.in-Some.part c.index-values-index.result l.words rest in
     let whole : Plan = field_words types (map lowered all) c.args.words.now k in
     rw (p.1, p.2)
-    (stops g.R.Room.answers g.R.Room.memory g.R.Room.wrote {A = Unit {0}} {B = Unit {0}} whole part (λ x. rest c.push_value.new.words) (λ x. k c.push_value.new.words) c.args.room.now l.room c.push_value.new.room
+    (stops (untabled g.R.Room.memory g.R.Room.answers g.R.Room.wrote) {A = Unit {0}} {B = Unit {0}} whole part (λ x. rest c.push_value.new.words) (λ x. k c.push_value.new.words) c.args.room.now l.room c.push_value.new.room
     c.in_err-push_value.field-0.0
-    (further g.R.Room.answers g.R.Room.memory g.R.Room.wrote whole left part c.args.room.now l.room l.room (l.invariant k)
-    (same g.R.Room.answers g.R.Room.memory g.R.Room.wrote left part l.room
+    (further (untabled g.R.Room.memory g.R.Room.answers g.R.Room.wrote) whole left part c.args.room.now l.room l.room (l.invariant k)
+    (same (untabled g.R.Room.memory g.R.Room.answers g.R.Room.wrote) left part l.room
     (words_one l.index types all c.in-Some.part c.index-values-index.result l.words k there c.loop-index-test.true c.index-values-index.is)))
     (c.in_err-push_value.ensures rest))
 
@@ -83,9 +84,9 @@ push_fields-loop-index-preserved g t c = λ k.
     let left : Plan = words_left l.index types all l.words k in
     let part : Plan = flat_words c.in-Some.part c.index-values-index.result l.words rest in
     let whole : Plan = field_words types (map lowered all) c.args.words.now k in
-    further g.R.Room.answers g.R.Room.memory g.R.Room.wrote whole left (rest c.push_value.new.words) c.args.room.now l.room c.push_value.new.room (l.invariant k)
+    further (untabled g.R.Room.memory g.R.Room.answers g.R.Room.wrote) whole left (rest c.push_value.new.words) c.args.room.now l.room c.push_value.new.room (l.invariant k)
     (λ came after h.
-    same g.R.Room.answers g.R.Room.memory g.R.Room.wrote left part l.room
+    same (untabled g.R.Room.memory g.R.Room.answers g.R.Room.wrote) left part l.room
     (words_one l.index types all c.in-Some.part c.index-values-index.result l.words k there c.loop-index-test.true c.index-values-index.is) came after
     (c.in_ok-push_value.ensures rest came after h))
 
@@ -94,9 +95,9 @@ push_fields-returns g t c = λ k.
     let l = c.loop-index in
     let all = c.args.values.now in
     let types = parts_of c.args.t.now in
-    further g.R.Room.answers g.R.Room.memory g.R.Room.wrote (field_words types (map lowered all) c.args.words.now k) (words_left l.index types all l.words k) (k l.words) c.args.room.now l.room l.room
+    further (untabled g.R.Room.memory g.R.Room.answers g.R.Room.wrote) (field_words types (map lowered all) c.args.words.now k) (words_left l.index types all l.words k) (k l.words) c.args.room.now l.room l.room
     (l.invariant k)
-    (same g.R.Room.answers g.R.Room.memory g.R.Room.wrote (words_left l.index types all l.words k) (k l.words) l.room (words_done l.index types all l.words k (omega arith)))
+    (same (untabled g.R.Room.memory g.R.Room.answers g.R.Room.wrote) (words_left l.index types all l.words k) (k l.words) l.room (words_done l.index types all l.words k (omega arith)))
 
 -- Values.
 pub push_layer-push_list-requires : goal.push_layer-push_list-requires
@@ -147,8 +148,8 @@ push_layer-returns-in-String g t c = λ k.
     let before = c.args.words.now in
     let part : List ℕ → Plan = λ (bytes : List ℕ). text_in bytes (λ to. k (before ++ to ∷ length bytes ∷ [])) in
     let whole : Plan = words_case (layer_of c.args.value.now) c.args.t.now before k in
-    goes g.R.Room.answers g.R.Room.memory g.R.Room.wrote whole (part c.as_str.result.now) (λ x. k c.push_text.new.words) c.args.room.now c.args.room.now c.push_text.new.room c.push_text.result
-    (same g.R.Room.answers g.R.Room.memory g.R.Room.wrote whole (part c.as_str.result.now) c.args.room.now
+    goes (untabled g.R.Room.memory g.R.Room.answers g.R.Room.wrote) whole (part c.as_str.result.now) (λ x. k c.push_text.new.words) c.args.room.now c.args.room.now c.push_text.new.room c.push_text.result
+    (same (untabled g.R.Room.memory g.R.Room.answers g.R.Room.wrote) whole (part c.as_str.result.now) c.args.room.now
     (ap (λ (w : V.Value-F Lowered). words_case w c.args.t.now before k) (layer_string c.args.value.now text c.in-String.is) ∙ ap part (sym c.as_str.ensures)))
     (c.push_text.ensures k)
 
@@ -158,8 +159,8 @@ push_layer-returns-in-List g t c = λ k.
     let before = c.args.words.now in
     let part : List Value → Plan = λ (vs : List Value). list_in (part_at c.args.t.now 0) (map lowered vs) (λ to. k (before ++ to ∷ length vs ∷ [])) in
     let whole : Plan = words_case (layer_of c.args.value.now) c.args.t.now before k in
-    goes g.R.Room.answers g.R.Room.memory g.R.Room.wrote whole (part c.as_slice.result.now) (λ x. k c.push_list.new.words) c.args.room.now c.args.room.now c.push_list.new.room c.push_list.result
-    (same g.R.Room.answers g.R.Room.memory g.R.Room.wrote whole (part c.as_slice.result.now) c.args.room.now
+    goes (untabled g.R.Room.memory g.R.Room.answers g.R.Room.wrote) whole (part c.as_slice.result.now) (λ x. k c.push_list.new.words) c.args.room.now c.args.room.now c.push_list.new.room c.push_list.result
+    (same (untabled g.R.Room.memory g.R.Room.answers g.R.Room.wrote) whole (part c.as_slice.result.now) c.args.room.now
     (ap (λ (w : V.Value-F Lowered). words_case w c.args.t.now before k) (layer_list c.args.value.now all c.in-List.is)
     ∙ ap (λ (n : ℕ). list_in (part_at c.args.t.now 0) (map lowered all) (λ to. k (before ++ to ∷ n ∷ []))) (length-map all lowered)
     ∙ ap part (sym c.as_slice.ensures)))
@@ -171,8 +172,8 @@ push_layer-returns-in-Record g t c = λ k.
     let before = c.args.words.now in
     let part : List Value → Plan = λ (vs : List Value). field_words (parts_of c.args.t.now) (map lowered vs) before k in
     let whole : Plan = words_case (layer_of c.args.value.now) c.args.t.now before k in
-    goes g.R.Room.answers g.R.Room.memory g.R.Room.wrote whole (part c.as_slice-in-Record.result.now) (λ x. k c.push_fields.new.words) c.args.room.now c.args.room.now c.push_fields.new.room c.push_fields.result
-    (same g.R.Room.answers g.R.Room.memory g.R.Room.wrote whole (part c.as_slice-in-Record.result.now) c.args.room.now
+    goes (untabled g.R.Room.memory g.R.Room.answers g.R.Room.wrote) whole (part c.as_slice-in-Record.result.now) (λ x. k c.push_fields.new.words) c.args.room.now c.args.room.now c.push_fields.new.room c.push_fields.result
+    (same (untabled g.R.Room.memory g.R.Room.answers g.R.Room.wrote) whole (part c.as_slice-in-Record.result.now) c.args.room.now
     (ap (λ (w : V.Value-F Lowered). words_case w c.args.t.now before k) (layer_record c.args.value.now all c.in-Record.is) ∙ ap part (sym c.as_slice-in-Record.ensures)))
     (c.push_fields.ensures k)
 
@@ -181,7 +182,7 @@ push_layer-returns-in-Variant g t c = λ k.
     let before = c.args.words.now in
     let part : Plan = case_words c.args.t.now c.in-Variant.case (option_map lowered c.in-Variant.payload) before k in
     let whole : Plan = words_case (layer_of c.args.value.now) c.args.t.now before k in
-    goes g.R.Room.answers g.R.Room.memory g.R.Room.wrote whole part (λ x. k c.push_case.new.words) c.args.room.now c.args.room.now c.push_case.new.room c.push_case.result
-    (same g.R.Room.answers g.R.Room.memory g.R.Room.wrote whole part c.args.room.now
+    goes (untabled g.R.Room.memory g.R.Room.answers g.R.Room.wrote) whole part (λ x. k c.push_case.new.words) c.args.room.now c.args.room.now c.push_case.new.room c.push_case.result
+    (same (untabled g.R.Room.memory g.R.Room.answers g.R.Room.wrote) whole part c.args.room.now
     (ap (λ (w : V.Value-F Lowered). words_case w c.args.t.now before k) (layer_variant c.args.value.now c.in-Variant.case c.in-Variant.payload c.in-Variant.is)))
     (c.push_case.ensures k)
