@@ -1,1 +1,2 @@
 pub mod FuncsPassed
+pub mod RunningTold

@@ -372,6 +372,13 @@ impl<'a> Graph<'a> {
         &self.exports
     }
 
+    /// What each function that can be called lifts, in order.
+    pub fn lifts(&self) -> &[Lift]
+        ensures { result.now ≡ self.now.lifts }
+    {
+        self.lifts.as_slice()
+    }
+
     /// What the export of this number lifts.
     pub fn lift(&self, number: usize) -> Lift
         requires { number < length self.now.exports }

@@ -10,11 +10,13 @@
 //! - `func_types`: function types over a table of types of values
 //! - `graph`: the graph
 //! - `numbers`: numbers in graphs
+//! - `running`: which graphs run
 #![tactic(auto)]
 
 mod func_types;
 mod graph;
 mod numbers;
+mod running;
 
 pub use func_types::{FuncTypes, GraphTypes, NumberedFunc, PassedTypes};
 pub use graph::{
@@ -22,3 +24,4 @@ pub use graph::{
     Lift, Lower, Options, Resource,
 };
 pub use numbers::graph_number;
+pub use running::runs_now;
