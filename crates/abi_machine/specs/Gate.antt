@@ -15,12 +15,15 @@ place_of (InLoop word) = stays.InLoop
 place_of Exited = Outside
 place_of _ = Inside
 
--- the stays at an instance
+-- the stays at an instance, of these tasks
 abbrev pub stay_of : ℕ × Task → Stay
 stay_of x = record { task = x.0; kind = kind_of x.1; place = place_of x.1.state }
 
+abbrev pub stays_in : ℕ → List Task → List Stay
+stays_in i tasks = map stay_of (filter (λ x. runs_in i x.1) (with_numbers 0 tasks))
+
 abbrev pub stays_of : World → ℕ → List Stay
-stays_of w i = map stay_of (filter (λ x. runs_in i x.1) (with_numbers 0 w.tasks))
+stays_of w i = stays_in i w.tasks
 
 abbrev pub gate_of : World → ℕ → GateView
 gate_of w i = record { pressure = backpressure_of w i; holder = holder_of (stays_of w i); waiting = count_by waits (stays_of w i) }

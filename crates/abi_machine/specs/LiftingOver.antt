@@ -2,8 +2,8 @@
 -- `lift_stream` and `lift_future`): what it answers of bytes and of core values, from left to right, over any ledger, which tells how much
 -- may be counted still and what an index names. A value is counted when it is reached; an index is used where it stands.
 --
--- This is what the machine needs of `value_lift`, whose lifting has no case for handles and ends yet. It is written as that one is, and is
--- to be replaced by it.
+-- `value_lift` says the same in its `Over`, for ledgers by which an end is wanted by its whole type. Here an end is wanted by its kind and
+-- its elements, as tables tell it.
 use Rattle.std.specs.Prelude.{ℕ, zero, suc, ◌+◌, ◌*◌, ◌==◌, nat_lt, if◌then◌else◌, List, [], ◌∷◌, ◌++◌, map, length, Option, Some, None, Result, Ok, Err}
 use Rattle.std.specs.Option.{option_map}
 use Rattle.std.specs.Int.{w8, w32}

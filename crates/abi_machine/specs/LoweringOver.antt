@@ -2,8 +2,7 @@
 -- `lower_stream` and `lower_future`): how values go into the bytes of a memory and into core values, from left to right, and how what a
 -- handle or an end names gets an index. It is a plan with what follows it; how an entry is made is left open.
 --
--- This is what the machine needs of `value_lower`, whose plans add no entries yet. It is written as that one is, and is to be replaced by
--- it.
+-- This is what the machine needs of `value_lower`. It is written as that one is, and is to be replaced by it.
 use Rattle.std.specs.Prelude.{ℕ, ◌+◌, ◌*◌, ◌^◌, ◌%◌, ◌==◌, nat_lt, nat_le, ◌&&◌, if◌then◌else◌, List, [], ◌∷◌, ◌++◌, map, length, Option, Some, None}
 use Rattle.std.specs.Int.{w32, to_le_bytes}
 use Rattle.builtin_kinds.specs.declared.EndKind.{EndKind}

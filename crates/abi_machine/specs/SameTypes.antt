@@ -1,7 +1,7 @@
 -- Whether types of values are the same, as a test (Component Model, Explainer.md, "Type Definitions"): a fold over the one gives a test of
 -- the other. The ends of streams and futures, and the results of tasks, are compared by their types.
 --
--- `link_spec`, beside this crate, has the same test among those of closed types: it is to stand below both.
+-- `link_spec` has the same test among those of closed types, and `laid_types` has it of types of values, below both.
 use Rattle.std.specs.Prelude.{ℕ, Bool, true, false, ◌&&◌, ◌==◌, List, [], ◌∷◌, map, Option, Some, None}
 use Rattle.std.specs.Str.{bytes_eq}
 use Rattle.ca_types.specs.declared.types.ValType.{ValType, out-ValType, fold-ValType}

@@ -26,19 +26,6 @@ core_name core_trap.NullElement = trap.NullElement
 core_name core_trap.OtherSignature = trap.OtherSignature
 core_name core_trap.StackLimit = trap.StackLimit
 
-abbrev pub lift_name : LiftWhy → TrapName
-lift_name lift_why.Misaligned = trap.Misaligned
-lift_name lift_why.Bounds = trap.Bounds
-lift_name lift_why.BadChar = trap.BadChar
-lift_name lift_why.BadUtf8 = trap.BadUtf8
-lift_name lift_why.BadCase = trap.BadCase
-lift_name lift_why.TooLarge = trap.TooLarge
-
-abbrev pub lower_name : Why → TrapName
-lower_name Misaligned = trap.Misaligned
-lower_name Bounds = trap.Bounds
-lower_name TableFull = trap.TableFull
-
 abbrev pub refusal_name : Refusal → TrapName
 refusal_name refusal.Absent = trap.Absent
 refusal_name refusal.OtherKind = trap.OtherKind
@@ -46,6 +33,20 @@ refusal_name refusal.OtherType = trap.OtherType
 refusal_name refusal.NotOwn = trap.NotOwn
 refusal_name refusal.Lent = trap.Lent
 refusal_name refusal.NotIdle = trap.NotIdle
+
+abbrev pub lift_name : LiftWhy → TrapName
+lift_name lift_why.Misaligned = trap.Misaligned
+lift_name lift_why.Bounds = trap.Bounds
+lift_name lift_why.BadChar = trap.BadChar
+lift_name lift_why.BadUtf8 = trap.BadUtf8
+lift_name lift_why.BadCase = trap.BadCase
+lift_name lift_why.TooLarge = trap.TooLarge
+lift_name (lift_why.Refused why) = refusal_name why
+
+abbrev pub lower_name : Why → TrapName
+lower_name Misaligned = trap.Misaligned
+lower_name Bounds = trap.Bounds
+lower_name TableFull = trap.TableFull
 
 abbrev pub task_name : TaskTrap → TrapName
 task_name task_trap.SyncTask = trap.SyncTask

@@ -1,5 +1,8 @@
+pub mod Firsts
 pub mod Changes
 pub mod Controls
+pub mod Agreeing
+pub mod Premises
 pub mod Initial
 pub mod Stepping
 pub mod Limits
@@ -7,3 +10,13 @@ pub mod Tables
 pub mod Numbers
 pub mod Members
 pub mod Passed
+pub mod Told
+pub mod Holders
+pub mod Copies
+pub mod OpenCopies
+pub mod Counts
+pub mod Chain
+pub mod Acting
+pub mod Unique
+pub mod Called
+pub mod Callers

@@ -6,10 +6,20 @@ ghost use Rattle.abi_machine.specs.sound.Limits.{FirstWithinLimits, StaysWithinL
 ghost use Rattle.abi_machine.specs.sound.Tables.{FirstHasHistories, HistoriesStay};
 ghost use Rattle.abi_machine.specs.sound.Numbers.{FirstNumbered, StaysNumbered};
 ghost use Rattle.abi_machine.specs.sound.Members.{FirstHasMembers, MembersStay};
+ghost use Rattle.abi_machine.specs.sound.Acting.{FirstOrdered, OrderStays, TrapsNameTheActingTask};
+ghost use Rattle.abi_machine.specs.sound.Called.{FirstHasCalled, CalledStay, OneWaits};
+ghost use Rattle.abi_machine.specs.sound.Callers.{FirstByCanons, ByCanonsStay};
+ghost use Rattle.abi_machine.specs.sound.Unique.{OneRun, OneRunFrom, FewerAreAFront};
 ghost use Rattle.abi_machine.specs.sound.Passed.{FirstHoldsNothing, NothingIsHeld};
+ghost use Rattle.abi_machine.specs.sound.Told.{FirstIsTold, ToldStays};
+ghost use Rattle.abi_machine.specs.sound.Copies.{FirstIsCopied, CopiesStay};
+ghost use Rattle.abi_machine.specs.sound.Counts.{FirstAddsUp, CountsStay};
+ghost use Rattle.abi_machine.specs.sound.OpenCopies.{FirstHoldsCopies, CopiesStayHeld};
+ghost use Rattle.abi_machine.specs.sound.Holders.{FirstHasOneHolder, OneHolderStays};
 
-/// Task 0 instantiates, and runs alone until it has exited; it never runs again, and no other task runs a start function. Where a turn
-/// begins no task runs: so it is in the first world, and so it stays in every step.
+/// Task 0 instantiates, and runs alone until it has exited; it never runs again, and no other task runs a start function. Control says
+/// what is so: where a turn begins no task runs; elsewhere, but where control is back at a task or the run ends in a trap, the acting task
+/// acts, is new, or may be inside its instance; and what is to be copied has room at the other end. So it is in the first world, and so it stays in every step.
 pub fn init_runs_alone()
     ensures first { FirstRunsAlone }
     ensures stays { StaysAlone }
@@ -54,4 +64,71 @@ pub fn members_stay()
 pub fn nothing_is_held()
     ensures first { FirstHoldsNothing }
     ensures stays { NothingIsHeld }
+{}
+
+/// What a caller was told last of a subtask is at most the state that it has, so no other state is told after one in which it has
+/// resolved. A task that resolved as cancelled was told that this is asked, or was never asked: so it is in the first world, and so it
+/// stays in every step.
+pub fn told_states_stay()
+    ensures first { FirstIsTold }
+    ensures stays { ToldStays }
+{}
+
+/// Of the tasks of an instance at most one holds exclusive entry: so it is in the first world, and so it stays in every step.
+pub fn one_holder_stays()
+    ensures first { FirstHasOneHolder }
+    ensures stays { OneHolderStays }
+{}
+
+/// At each end of a stream or a future the counts of the copy under way are in their ranges, an end that is done has none, and of both ends
+/// at most one has an offer that stands: so it is in the first world, and so it stays in every step.
+pub fn copies_stay()
+    ensures first { FirstIsCopied }
+    ensures stays { CopiesStay }
+{}
+
+/// The end of each copy under way stands in a table, and the task that reads or writes is there, and so is the canonical function by which
+/// it does: so it is in the first world, and so it stays in every step.
+pub fn copies_stay_held()
+    ensures first { FirstHoldsCopies }
+    ensures stays { CopiesStayHeld }
+{}
+
+/// At each end of a stream or a future the counts of the copies that were told and of the one under way add up to as many elements as were
+/// carried: so it is in the first world, and so it stays in every step.
+pub fn counts_stay()
+    ensures first { FirstAddsUp }
+    ensures stays { CountsStay }
+{}
+
+/// On the chain each task but the acting one waits for the one right above it, which it called or cancelled; none stands there twice, and
+/// all others are blocked or have exited. The acting task is as what comes next asks, with a stack or without. One that waits in a canonical
+/// function runs a function and has a stack, and one that is new, waits to enter, is in its loop or has exited has none: so it is in the first
+/// world, and so it stays in every step. A trap that ends a run names the acting task.
+pub fn tasks_stay_ordered()
+    ensures first { FirstOrdered }
+    ensures stays { OrderStays }
+    ensures traps { TrapsNameTheActingTask }
+{}
+
+/// A graph and a script have at most one run. Of steps from a world fewer are a front of more.
+pub fn one_run()
+    ensures one { OneRun }
+    ensures from { OneRunFrom }
+    ensures front { FewerAreAFront }
+{}
+
+/// A task that waits for one that it called stands with it as its caller, and so does the canonical function at whose call it waits, so
+/// that at most one waits for each: so it is in the first world, and so it stays in every step.
+pub fn called_stay()
+    ensures first { FirstHasCalled }
+    ensures stays { CalledStay }
+    ensures one { OneWaits }
+{}
+
+/// A task that another one called was called by a canonical function of the graph: so it is in the first world, and so it stays in every
+/// step.
+pub fn by_canons_stay()
+    ensures first { FirstByCanons }
+    ensures stays { ByCanonsStay }
 {}

@@ -6,9 +6,9 @@
 //! `specs/replies`; which values are passed and how by `specs/Passing`, and what indices in them do by `specs/Lifting` and
 //! `specs/Pausing`. `specs/Run` says what a run is, with its lines and its end, and `specs/Dump` what it leaves.
 //!
-//! Tables, handles, sets, tasks, gates, the ends of streams and futures, and choices are those of their crates. What crates below do not
-//! say yet, of handles and ends in values and of types that are the same, stands in `specs/LiftingOver`, `specs/LoweringOver` and
-//! `specs/SameTypes`.
+//! Tables, handles, sets, tasks, gates, the ends of streams and futures, and choices are those of their crates. How values with handles
+//! and ends are lifted from worlds is said by `specs/LiftingOver`, how they are lowered into them by `specs/LoweringOver`, and which types
+//! are the same by `specs/SameTypes`; `value_lift`, `value_lower` and `laid_types` say it of tables, and are to stand in their place.
 //!
 //! - `run_end`: how a run ends
 //! - `examples`: the machine on small examples, which `specs/examples` has
@@ -20,7 +20,8 @@ mod laws;
 mod run_end;
 
 pub use laws::{
-    histories_stay, init_runs_alone, limits_stay, members_stay, nothing_is_held, numbers_stay,
-    steps_are_changes,
+    by_canons_stay, called_stay, copies_stay, copies_stay_held, counts_stay, histories_stay,
+    init_runs_alone, limits_stay, members_stay, nothing_is_held, numbers_stay, one_holder_stays,
+    one_run, steps_are_changes, tasks_stay_ordered, told_states_stay,
 };
 pub use run_end::RunEnd;

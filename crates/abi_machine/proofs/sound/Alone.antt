@@ -5,11 +5,17 @@ use Rattle.std.specs.List.{slice_get, AllByRecursion}
 use Rattle.tasks.specs.declared.phase.Resolution.TheVariants.{Cancelled}
 use Rattle.comp_graph.specs.Graph.{Graph, Lifted}
 use Rattle.script_reader.specs.Script.{Script}
+use Rattle.abi_machine.specs.Control.{Control, Free, Chosen, Instantiates, Runs, Arrives, Lowers, Quiet, Back, Goes, Resumes, Delivers, Leaves, Doomed}
+use Rattle.abi_machine.specs.Control as control
 use Rattle.abi_machine.specs.World.{Callee, Init, Subtask, Host, Guest, TaskState, New, Acting, AfterCall, AfterCancel, WaitsToEnter, InLoop, InBuiltin, Exited, Task, World, new_task}
 use Rattle.abi_machine.specs.World as world
 use Rattle.abi_machine.specs.Edits.{changed_at}
 use Rattle.abi_machine.specs.Reading.{func_of, has_exited, is_instantiated, may_leave}
 use Rattle.abi_machine.specs.sound.Changes.{Change, GoesTo, HasStore, SpendsUnit, UsesPicks, TakesItem, BeginsInstance, AddsEntry, MakesSet, RemovesEntry, RemovesWaitable, LeavesSet, JoinsSet, HasBackpressure, IsCalled, Calls, ComesBack, Acts, Begins, Cancels, Blocks, Exits, IsRemoved, Resolves, IsCancelled, HasWord, HasNewStack, HasStack, LosesStack, IsAnswered, IsTold, IsLent, HasResult, MakesChannel, Offers, Transfers, Concludes, DropsEnd, after, IsFirst, HasFunc, IsCancelling, FirstCancels, IsBlocked, MayCome}
+use Rattle.abi_machine.specs.sound.Premises.{Comes}
+use Rattle.abi_machine.specs.sound.Firsts.{TaskIs}
+use Rattle.abi_machine.specs.sound.Agreeing.{Agrees}
+use Rattle.abi_machine.specs.sound.Controls.{Says}
 use Rattle.abi_machine.specs.sound.Initial.{IsInitial, StartsNothing, InitRunsAlone, RunsAlone, FirstRunsAlone, StaysAlone}
 use Rattle.trace_show.specs.declared.label.Label.{Label}
 use Rattle.abi_machine.specs.Turn.{Steps}
@@ -17,6 +23,7 @@ use Rattle.abi_machine.specs.Next.{next}
 use Rattle.abi_machine.proofs.sound.Lists.{changed_either, more_either, get_front, within}
 use Rattle.abi_machine.proofs.sound.Found.{some_same, changed_there}
 use Rattle.abi_machine.proofs.sound.Aside.{channel_kept, made_kept}
+use Rattle.abi_machine.proofs.sound.turns.Keeping.{Invariant}
 use Rattle.abi_machine.proofs.sound.Steps.{step_keeps}
 
 -- The chain, by the state of task 0.
@@ -90,7 +97,7 @@ has_left (InLoop word) e = cc
 has_left (InBuiltin number words wait) e = cc
 
 -- Once tasks may leave, task 0 has exited.
-free_left : (tasks : List Task) (init : Task) → slice_get tasks 0 ≡ Some init → is_instantiated tasks ≡ true → init.state ≡ Exited
+pub free_left : (tasks : List Task) (init : Task) → slice_get tasks 0 ≡ Some init → is_instantiated tasks ≡ true → init.state ≡ Exited
 free_left [] init there free = cc
 free_left (x ∷ tasks) init there free = has_left init.state (subst (λ (y : Task). has_exited y.state ≡ true) (some_same there) free)
 
@@ -300,14 +307,90 @@ begins_alone w (suc m) task n h first there begins = absurd (subst StartsNothing
 others_none : (g : Graph) (n : ℕ) (task : Task) → slice_get (new_task Init world.Nobody Acting ∷ []) (suc n) ≡ Some task → StartsNothing task.state
 others_none g n task e = cc
 
+-- A change that comes with all that is said where it comes may come.
+pub comes_may : (g : Graph) (s : Script) (c : Change) (w : World) → Comes g s c w → MayCome g s c w
+comes_may g s (GoesTo control) w may = tt
+comes_may g s (HasStore store) w may = tt
+comes_may g s SpendsUnit w may = may
+comes_may g s (UsesPicks picks) w may = may
+comes_may g s TakesItem w may = may
+comes_may g s BeginsInstance w may = tt
+comes_may g s (AddsEntry i entry) w may = may
+comes_may g s (MakesSet i set) w may = may
+comes_may g s (RemovesEntry i index) w may = may
+comes_may g s (RemovesWaitable i index) w may = (may.0, may.1, may.2.0)
+comes_may g s (LeavesSet i index) w may = tt
+comes_may g s (JoinsSet i index set) w may = may
+comes_may g s (HasBackpressure i backpressure) w may = may
+comes_may g s (IsCalled callee call values) w may = may
+comes_may g s (Calls number callee subtask words) w may = (may.0, may.1, may.2, may.3)
+comes_may g s (ComesBack t) w may = may
+comes_may g s (Acts t) w may = may.0
+comes_may g s (Begins n) w may = may.0
+comes_may g s (Cancels t callee number words) w may = (may.0, may.1)
+comes_may g s (Blocks t state) w may = (may.0, may.1, may.2)
+comes_may g s (Exits t) w may = may
+comes_may g s (IsRemoved t) w may = may.0
+comes_may g s (Resolves t resolution) w may = tt
+comes_may g s (IsCancelled t cancellation) w may = tt
+comes_may g s (HasWord t slot word) w may = tt
+comes_may g s (HasNewStack t k) w may = tt
+comes_may g s (HasStack t k) w may = tt
+comes_may g s (LosesStack t) w may = tt
+comes_may g s (IsAnswered t words) w may = tt
+comes_may g s (IsTold t state) w may = tt
+comes_may g s (IsLent t handle) w may = tt
+comes_may g s (HasResult t words) w may = tt
+comes_may g s (MakesChannel kind element) w may = tt
+comes_may g s (Offers e call) w may = tt
+comes_may g s (Transfers e size values) w may = tt
+comes_may g s (Concludes e) w may = tt
+comes_may g s (DropsEnd e) w may = tt
+
+-- what control says of the chain, of all that it says
+agrees_says : (c : Control) (w : World) → Agrees c w → Says c w.chain
+agrees_says Free w h = h
+agrees_says (Chosen k) w h = h
+agrees_says (Instantiates n) w h = h
+agrees_says Runs w h = tt
+agrees_says (control.Calls number words) w h = tt
+agrees_says Arrives w h = tt
+agrees_says (Lowers l plan) w h = tt
+agrees_says (Quiet n b) w h = tt
+agrees_says Back w h = tt
+agrees_says Goes w h = tt
+agrees_says Resumes w h = tt
+agrees_says (Delivers set receiver pick) w h = tt
+agrees_says Leaves w h = tt
+agrees_says (Doomed t why) w h = tt
+
 pub first_runs_alone : FirstRunsAlone
-first_runs_alone g = (record { init = new_task Init world.Nobody Acting; there = refl; instantiates = refl; alone = refl; others = others_none g }, refl)
+first_runs_alone g = (record { init = new_task Init world.Nobody Acting; there = refl; instantiates = refl; alone = refl; others = others_none g }, refl, refl)
+
+init_there : (w : World) → Alone w → TaskIs w.tasks 0 (λ task. task.callee ≡ Init)
+init_there w h = (h.init, h.there, h.instantiates)
+
+abbrev alone_by_itself : (g : Graph) (s : Script) → Invariant g s
+alone_by_itself g s = record { Holds = Alone; stays = λ c u may k. stands_alone g s c u (comes_may g s c u may) k; there = init_there; alone = begins_alone }
 
 pub stays_alone : StaysAlone
-stays_alone g s w v labels h e = step_keeps g s Alone (stands_alone g s) begins_alone w v labels h.1 h.0 e
+stays_alone g s w v labels h e =
+    let k : Alone v × Agrees v.control v = step_keeps (alone_by_itself g s) w v labels h.2 h.0 e in
+    (k.0, agrees_says v.control v k.1, k.1)
 
 -- What every change keeps stays, beside task 0.
+abbrev beside_alone : (g : Graph) (s : Script) (K : World → Type 0) → ((c : Change) (w : World) → Comes g s c w → K w → K (after c w)) → Invariant g s
+beside_alone g s K keep = record {
+  Holds = λ u. Alone u × K u;
+  stays = λ c u may k. (stands_alone g s c u (comes_may g s c u may) k.0, keep c u may k.1);
+  there = λ u k. init_there u k.0;
+  alone = λ u t task n k. begins_alone u t task n k.0;
+}
+
+pub kept_so : (g : Graph) (s : Script) (K : World → Type 0) → ((c : Change) (w : World) → Comes g s c w → K w → K (after c w)) → (w v : World) (labels : List Label) → RunsAlone w → K w
+    → next g s w ≡ Steps labels v → K v
+kept_so g s K keep w v labels alone h e = (step_keeps (beside_alone g s K keep) w v labels alone.2 (alone.0, h) e).0.1
+
 pub kept_alone : (g : Graph) (s : Script) (K : World → Type 0) → ((c : Change) (w : World) → MayCome g s c w → K w → K (after c w)) → (w v : World) (labels : List Label) → RunsAlone w → K w
     → next g s w ≡ Steps labels v → K v
-kept_alone g s K keep w v labels alone h e =
-    (step_keeps g s (λ u. Alone u × K u) (λ c u may k. (stands_alone g s c u may k.0, keep c u may k.1)) (λ u t task n k. begins_alone u t task n k.0) w v labels alone.1 (alone.0, h) e).0.1
+kept_alone g s K keep w v labels alone h e = kept_so g s K (λ c u may k. keep c u (comes_may g s c u may) k) w v labels alone h e

@@ -103,7 +103,7 @@ cancels_changed tasks chain t f same (inr c) = inr (
   ],
 )
 
-some_there : {A : Type 0} (o : Option A) → IsSome o → (x : A) × (o ≡ Some x)
+pub some_there : {A : Type 0} (o : Option A) → IsSome o → (x : A) × (o ≡ Some x)
 some_there None h = cc
 some_there (Some x) h = (x, refl)
 
@@ -283,49 +283,7 @@ none_left (m ∷ members) waiters x h = cc
 pub set_empty : (v : SetView) (x : Unit {0}) → drop_answer v ≡ Ok x → v.members ≡ []
 set_empty v x h = none_left v.members v.waiters x h
 
--- Alternatives.
-
-abbrev pub IsAlternative : Script → World → Alternative → Type 0
-IsAlternative s w (Takes i) = slice_get s.items w.taken ≡ Some i
-IsAlternative s w (GoesOn t) = HasFunc w.tasks t
-
--- those of numbered tasks that pass a test
-kept_there : (P : ℕ → Type 0) (b : Bool) (n : ℕ) (task : Task) (others : List (ℕ × Task)) → (b ≡ true → P n) → AllByRecursion P (map (λ (x : ℕ × Task). x.0) others)
-    → AllByRecursion P (map (λ (x : ℕ × Task). x.0) (if b then (n, task) ∷ others else others))
-kept_there P true n task others h all = (h refl, all)
-kept_there P false n task others h all = all
-
-able_there : (test : Task → Bool) (P : ℕ → Type 0) (n : ℕ) (tasks : List Task) → ((m : ℕ) (task : Task) → slice_get tasks m ≡ Some task → test task ≡ true → P (n + m))
-    → AllByRecursion P (numbers_of test (with_numbers n tasks))
-able_there test P n [] h = tt
-able_there test P n (task ∷ tasks) h =
-    let first : n + 0 ≡ n = omega arith in
-    kept_there P (test task) n task (filter (λ (x : ℕ × Task). test x.1) (with_numbers (n + 1) tasks)) (λ e. subst P first (h 0 task refl e))
-    (able_there test P (n + 1) tasks (λ m x there e. let next : n + suc m ≡ n + 1 + m = omega arith in subst P next (h (suc m) x there e)))
-
--- an able task runs a function
-able_runs : (g : Graph) (w : World) (task : Task) → is_able g w task ≡ true → IsSome (func_of task.callee)
-able_runs g w task e = by (func_of task.callee) e
-  where
-    by : (o : Option Lifted) → passes (λ (f : Lifted). is_able_in g w f.instance task task.state) o ≡ true → IsSome o
-    by None k = cc
-    by (Some f) k = refl
-
-tasks_go_on : (s : Script) (w : World) (all : List ℕ) → AllByRecursion (HasFunc w.tasks) all → AllByRecursion (IsAlternative s w) (map GoesOn all)
-tasks_go_on s w [] h = tt
-tasks_go_on s w (t ∷ all) h = (h.0, tasks_go_on s w all h.1)
-
-first_there : (s : Script) (w : World) (o : Option Item) (others : List Alternative) → slice_get s.items w.taken ≡ o → AllByRecursion (IsAlternative s w) others
-    → AllByRecursion (IsAlternative s w) (item_first o others)
-first_there s w None others e h = h
-first_there s w (Some i) others e h = (e, h)
-
-pub all_alternatives : (g : Graph) (s : Script) (w : World) → AllByRecursion (IsAlternative s w) (alternatives g s w)
-all_alternatives g s w =
-    first_there s w (slice_get s.items w.taken) (map GoesOn (able g w)) refl
-    (tasks_go_on s w (able g w)
-    (able_there (is_able g w) (HasFunc w.tasks) 0 w.tasks
-    (λ m task there e. let same : m ≡ 0 + m = omega arith in subst (HasFunc w.tasks) same (task, there, able_runs g w task e))))
+-- The task that the script called.
 
 found_either : (P : ℕ × Task → Type 0) (b : Bool) (x : ℕ × Task) (others : Option (ℕ × Task)) (found : ℕ × Task) → P x → (others ≡ Some found → P found)
     → (if b then Some x else others) ≡ Some found → P found

@@ -35,12 +35,12 @@ not_same i j h = by (nat_eq i j) refl
     by true e = absurd (h (grind (arith, nat_tests)))
     by false e = e
 
-live_added : (table : List (Event Entry)) (entry other : Entry) (index : ℕ) → IsHistory table → live table index ≡ Some other → live (added entry table) index ≡ Some other
+pub live_added : (table : List (Event Entry)) (entry other : Entry) (index : ℕ) → IsHistory table → live table index ≡ Some other → live (added entry table) index ≡ Some other
 live_added table entry other index history there =
     if_other (nat_eq (next_index table) index) (Some entry) (live table index)
     (not_same (next_index table) index (λ same. let none : live table index ≡ None = subst (λ (k : ℕ). live table k ≡ None) same (not_live table history) in cc)) ∙ there
 
-live_removed : (table : List (Event Entry)) (gone index : ℕ) (other : Entry) → gone ≢ index → live table index ≡ Some other → live (Remove gone ∷ table) index ≡ Some other
+pub live_removed : (table : List (Event Entry)) (gone index : ℕ) (other : Entry) → gone ≢ index → live table index ≡ Some other → live (Remove gone ∷ table) index ≡ Some other
 live_removed table gone index other apart there = if_other (nat_eq gone index) None (live table index) (not_same gone index apart) ∙ there
 
 -- The members of a set, and how often an index is one.
@@ -305,7 +305,7 @@ left_in w i x (OfSubtask callee) e h = h
 left_in w i x (OfSet set) e h = subst (λ (o : Option Inst). members_in (slice_get (sets_in o) set) ≡ []) e h
 left_in w i x (OfEnd r) e h = h
 
-live_in : (insts : List Inst) (i index : ℕ) (x : Inst) (entry : Entry) → slice_get insts i ≡ Some x → live (table_in (slice_get insts i)) index ≡ Some entry → live x.table index ≡ Some entry
+pub live_in : (insts : List Inst) (i index : ℕ) (x : Inst) (entry : Entry) → slice_get insts i ≡ Some x → live (table_in (slice_get insts i)) index ≡ Some entry → live x.table index ≡ Some entry
 live_in insts i index x entry e h = subst (λ (o : Option Inst). live (table_in o) index ≡ Some entry) e h
 
 abbrev Kept : World → Type 0

@@ -1,4 +1,4 @@
--- What lifting in a world keeps.
+-- What lifting in a world keeps, where nothing is under way at an end that is taken.
 use Rattle.std.proofs.Common.{◌≡◌, ℕ, Bool, true, false, List, [], refl, Option, Some, None, Result, Ok, Err, if◌then◌else◌}
 use Rattle.ca_types.specs.declared.types.ValType.{ValType}
 use Rattle.ca_types.specs.declared.types.FuncType.{FuncType}
@@ -17,12 +17,14 @@ use Rattle.abi_machine.specs.Lifting.{Kept, Stopped, Came, by_world, own_taken, 
 use Rattle.abi_machine.specs.Lifting as lifting
 use Rattle.abi_machine.specs.Passing.{arguments_lifted, result_lifted, elements_lifted}
 use Rattle.abi_machine.specs.Returning.{result_passed}
-use Rattle.abi_machine.specs.sound.Changes.{IsWaitable, Stands, IsLeft}
+use Rattle.abi_machine.specs.sound.Changes.{Stands, IsLeft}
+use Rattle.abi_machine.specs.sound.Premises.{IsTaken}
 use Rattle.abi_machine.proofs.sound.Lifts.{Leaves as LeavesWith, Spent, load_leaves, load_list_leaves, lift_flat_leaves}
-use Rattle.abi_machine.proofs.sound.Found.{own_left, lifted_end_stands}
+use Rattle.abi_machine.proofs.sound.Found.{own_left}
+use Rattle.abi_machine.proofs.sound.Takeable.{lifted_end_taken}
 
 module _ (K : World → Type 0) (removes : (i index : ℕ) (w : World) → Stands w i index (IsLeft w i) → K w → K (entry_removed i index w))
-    (waits : (i index : ℕ) (w : World) → Stands w i index IsWaitable → K w → K (left_set i index (entry_removed i index w))) (lends : (callee index : ℕ) (w : World) → K w → K (lent callee index w)) where
+    (waits : (i index : ℕ) (w : World) → Stands w i index (IsTaken w) → K w → K (left_set i index (entry_removed i index w))) (lends : (callee index : ℕ) (w : World) → K w → K (lent callee index w)) where
   abbrev pub KeptSo : Kept → Type 0
   KeptSo k = K k.world
 
@@ -42,7 +44,7 @@ module _ (K : World → Type 0) (removes : (i index : ℕ) (w : World) → Stand
   borrow_keeps i callee index (Ok x) k h = lends callee index k.world h
   borrow_keeps i callee index (Err why) k h = h
 
-  end_keeps : (i index : ℕ) (r : Result ℕ Refusal) (k : Kept) → ((x : ℕ) → r ≡ Ok x → Stands k.world i index IsWaitable) → KeptSo k → LeavesWith KeptSo StoppedSo (end_taken i index r k)
+  end_keeps : (i index : ℕ) (r : Result ℕ Refusal) (k : Kept) → ((x : ℕ) → r ≡ Ok x → Stands k.world i index (IsTaken k.world)) → KeptSo k → LeavesWith KeptSo StoppedSo (end_taken i index r k)
   end_keeps i index (Ok number) k there h = waits i index k.world (there number refl) h
   end_keeps i index (Err why) k there h = h
 
@@ -50,7 +52,7 @@ module _ (K : World → Type 0) (removes : (i index : ℕ) (w : World) → Stand
   taken_keeps i callee (AnOwn resource) index k h = own_keeps i index (own_in (view_at k.world i index) resource) k (λ x e. own_left k.world i index resource x e) h
   taken_keeps i callee (ABorrow resource) index k h = borrow_keeps i callee index (handle_in (view_at k.world i index) resource) k h
   taken_keeps i callee (AnEnd kind element) index k h =
-      end_keeps i index (lifting.end_seen (view_at k.world i index) kind element k.world i index) k (λ x e. lifted_end_stands k.world i index kind element x e) h
+      end_keeps i index (lifting.end_seen (view_at k.world i index) kind element k.world i index) k (λ x e. lifted_end_taken k.world i index kind element x e) h
 
   spends : (i callee many place : ℕ) (k : Kept) → KeptSo k → Spent KeptSo StoppedSo ((by_world i callee).spend many place k)
   spends i callee many place k h = spent_keeps (counted many place k.left) k h

@@ -1,0 +1,5 @@
+pub mod Keeping
+pub mod Moving
+pub mod Waking
+pub mod Nesting
+pub mod Answering

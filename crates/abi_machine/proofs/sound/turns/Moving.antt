@@ -1,0 +1,225 @@
+-- How tasks resolve and exit, the moves of core functions, and instantiation keep what every change keeps.
+use Rattle.std.proofs.Common.{◌≡◌, inl, inr, ℕ, ◌+◌, Bool, nat_lt, List, [], ◌∷◌, drop, refl, sym, ap, ◌∙◌, subst, Option, Some, None, Result, Ok, Err, if◌then◌else◌}
+use Rattle.std.specs.Prelude.{IsSome, is_none, is_some}
+use Rattle.std.specs.List.{slice_get}
+use Rattle.wasm_store.specs.Store.{found_at}
+use Rattle.wasm_store.specs.Stack.{Stack}
+use Rattle.wasm_store.specs.Step.{Move, Goes, Traps}
+use Rattle.wasm_store.specs.Step as core
+use Rattle.wasm_store.specs.Instantiation.{External, Instantiation, Makes, instance_of, instantiated, start_call}
+use Rattle.wasm_store.specs.Instantiation as core_instance
+use Rattle.ca_types.specs.declared.types.ValType.{ValType}
+use Rattle.entry_gate.specs.Callbacks.{callback_of}
+use Rattle.entry_gate.specs.declared.kind.Kind.{Kind}
+use Rattle.entry_gate.specs.declared.kind.Kind.TheVariants.{Sync, Callback, Stackful}
+use Rattle.entry_gate.specs.declared.callback.BadCode.{BadCode}
+use Rattle.entry_gate.specs.declared.callback.Next.{Next}
+use Rattle.entry_gate.specs.declared.callback.Next.TheVariants as next
+use Rattle.tasks.specs.declared.phase.Resolution.TheVariants.{Returned}
+use Rattle.tasks.specs.Tasks.{resolving_fault}
+use Rattle.comp_graph.specs.declared.graph.Action.{Action}
+use Rattle.comp_graph.specs.declared.graph.Action.TheVariants.{Begin, Make}
+use Rattle.comp_graph.specs.declared.graph.FuncRef.{FuncRef}
+use Rattle.comp_graph.specs.declared.graph.Options.{Options}
+use Rattle.comp_graph.specs.Graph.{CoreMake, Graph, Lifted}
+use Rattle.script_reader.specs.Script.{Script}
+use Rattle.trace_show.specs.declared.label.Label.TheVariants as line
+use Rattle.trace_show.specs.declared.label.BlockReason.TheVariants as reason
+use Rattle.trace_show.specs.declared.trap.TrapName.TheVariants as trap
+use Rattle.trace_show.specs.declared.typed.TypedValue.{TypedValue}
+use Rattle.abi_machine.specs.Traps.{core_name, task_name}
+use Rattle.abi_machine.specs.Control.{After, Replies, Finishes, Free, Instantiates, Runs, Leaves, Doomed}
+use Rattle.abi_machine.specs.Control as control
+use Rattle.abi_machine.specs.World.{Init, Caller, Nobody, Host, Guest, TaskState, New as IsNew, Acting, AfterCall, AfterCancel, Begins, WaitsToEnter, InLoop, InBuiltin, Exited, Task, World}
+use Rattle.abi_machine.specs.Edits.{with_store, in_state, resolved, control_behind}
+use Rattle.abi_machine.specs.Canons.{func_address, canon_at, externals}
+use Rattle.abi_machine.specs.Reading.{acting, func_of, kind_of}
+use Rattle.abi_machine.specs.Counting.{task_view}
+use Rattle.abi_machine.specs.Finding.{set_at}
+use Rattle.abi_machine.specs.Lifting.{Kept, Stopped, Came}
+use Rattle.abi_machine.specs.Returning.{result_passed, post_return, finished, passed_to, passed_on, resolves_to, resolves, returning_turn, ending_turn, leaving_turn}
+use Rattle.abi_machine.specs.Looping.{next_turn, looping_turn}
+use Rattle.abi_machine.specs.CoreSteps.{costs, func_ended, stack_ended, ended_over, moved, running_turn}
+use Rattle.abi_machine.specs.Instantiating.{started_up, made as core_made, action_turn, instantiating_turn}
+use Rattle.abi_machine.specs.sound.Changes.{HasStore, BeginsInstance, Begins as IsBegun, Exits, Resolves as IsResolved, HasStack, LosesStack, after, HasFunc}
+use Rattle.abi_machine.specs.sound.Premises.{MayResolve}
+use Rattle.tasks.specs.declared.event.TaskTrap.TheVariants.{Resolved, BorrowLives}
+use Rattle.tasks.specs.declared.phase.Resolution.{Resolution}
+use Rattle.tasks.specs.Views.{TaskView}
+use Rattle.abi_machine.specs.sound.Firsts.{TaskIs, IsActing, MayBeInside}
+use Rattle.abi_machine.specs.sound.Changes.{IsFirst}
+use Rattle.abi_machine.proofs.sound.Lifts.{Leaves as LeavesWith}
+use Rattle.abi_machine.proofs.sound.Found.{acting_first, acting_is, func_changed, some_there}
+use Rattle.abi_machine.proofs.sound.Takeable.{behind_agrees}
+use Rattle.abi_machine.proofs.sound.Acted.{still_is, now_is, is_as, one_task, first_at, first_now, acting_inside}
+use Rattle.abi_machine.proofs.sound.Lifted.{result_keeps}
+use Rattle.abi_machine.proofs.sound.turns.Keeping.{Invariant, HasActing, Keeps, Acted, given_keeps, behind_keeps, stay, acts, goes, goes_on, refused_keeps, unless_keeps, fault_keeps, charged_keeps, on_keeps, blocked_keeps, new_stack_keeps, removes, waits, lends, came_keeps}
+
+-- what a task keeps while something is lifted for it
+abbrev pub IsLike : Task → Task → Type 0
+IsLike task x = (x.resolution ≡ task.resolution) × (x.cancellation ≡ task.cancellation)
+
+-- it acts, and is still like this task
+abbrev pub ActsLike : ℕ → Task → World → Type 0
+ActsLike t task w = IsFirst t w.chain × TaskIs w.tasks t (IsLike task)
+
+pub acts_like : (t : ℕ) (task : Task) (w : World) → IsFirst t w.chain → slice_get w.tasks t ≡ Some task → ActsLike t task w
+acts_like t task w first there = (first, (task, there, (refl, refl)))
+
+is_unresolved : (o : Option Resolution) (borrows : Bool) → (if is_some o then Some Resolved else (if borrows then Some BorrowLives else None)) ≡ None → o ≡ None
+is_unresolved None borrows e = refl
+is_unresolved (Some r) borrows e = cc
+
+-- Where nothing keeps a task from resolving it has not resolved.
+pub no_fault : (v : TaskView) → resolving_fault v ≡ None → v.resolution ≡ None
+no_fault v e = is_unresolved v.resolution (nat_lt 0 v.borrows) e
+
+module _ {g : Graph} {s : Script} (inv : Invariant g s) where
+  -- Tasks resolve and exit.
+
+  pub finished_keeps : (follows : After) (w : World) → Acted inv w → Keeps inv (finished follows w)
+  unfolding finished post_return
+  finished_keeps Replies w h = given_keeps inv (acting w) _ (λ a e. on_keeps inv a.0 [] w h)
+  finished_keeps (Finishes ended) w h = given_keeps inv (acting w) _ (λ a e. given_keeps inv (func_of a.1.callee) _ (λ f i. by a f f.options.post_return))
+    where
+      by : (a : ℕ × Task) (f : Lifted) (r : Option FuncRef) → Keeps inv (post_return a.0 f ended r w)
+      by a f None = goes_on inv Leaves w tt h
+      by a f (Some ref) = given_keeps inv (found_at w.store.funcs (func_address w.store ref)) _ (λ function e. goes inv _ w (h.1, tt) h.0)
+
+  passed_keeps : (t : ℕ) (caller : Caller) (follows : After) (result : Option TypedValue) (w : World) → Acted inv w → Keeps inv (passed_on g t caller follows result w)
+  unfolding passed_on passed_to
+  passed_keeps t Nobody follows result w h = finished_keeps follows w h
+  passed_keeps t (Host call values) follows result w h = finished_keeps follows w h
+  passed_keeps t (Guest subtask) follows None w h = finished_keeps follows w h
+  passed_keeps t (Guest subtask) follows (Some result) w h = given_keeps inv (canon_at g subtask.canon) _ (λ c e. goes inv _ w (h.1, tt) h.0)
+
+  -- what holds while the result of a task is lifted, and when it has come
+  abbrev pub WhileLifted : ℕ → Task → World → Type 0
+  WhileLifted t task w = Acted inv w × ActsLike t task w
+
+  pub result_comes : (i t limit : ℕ) (task : Task) (type : Option ValType) (options : Options) (words : List ℕ) (w : World) → Acted inv w → ActsLike t task w
+      → LeavesWith (λ (k : Kept). WhileLifted t task k.world) (λ (stop : Stopped). WhileLifted t task stop.world) (result_passed i t limit type options words w)
+  result_comes i t limit task type options words w h like =
+      result_keeps (WhileLifted t task) (λ j index v may k. (removes inv j index v may k.0, k.1)) (λ j index v may k. (waits inv j index v may k.0, k.1))
+      (λ callee index v k. (lends inv callee index v k.0, (k.1.0, still_is v.tasks callee t _ (IsLike task) (λ x l. l) k.1.1))) i t limit type options words w (h, like)
+
+  resolvable : (t : ℕ) (task : Task) (w : World) → HasActing w → ActsLike t task w → task.resolution ≡ None → TaskIs w.tasks t (MayResolve Returned)
+  resolvable t task w works like none =
+      (like.1.0, like.1.1, (one_task w.tasks t IsActing like.1.0 like.1.1 (first_at w.tasks w.chain t IsActing like.0 works), like.1.2.0 ∙ none, tt))
+
+  resolves_to_keeps : (t : ℕ) (task : Task) (follows : After) (result : Option TypedValue) (w : World) → WhileLifted t task w → Keeps inv (resolves_to g t task follows result w)
+  unfolding resolves_to
+  resolves_to_keeps t task follows result w i =
+      fault_keeps inv t task_name (resolving_fault (task_view g w t task)) w _ i.0 (λ none.
+      behind_keeps inv (line.Return t result ∷ []) (passed_on g t task.caller follows result (resolved t Returned w))
+      (passed_keeps t task.caller follows result (resolved t Returned w)
+      (stay inv (IsResolved t Returned) w tt (resolvable t task w i.0.1 i.1 (no_fault (task_view g w t task) none)) i.0)))
+
+  pub resolves_keeps : (t : ℕ) (task : Task) (follows : After) (came : Came (Option TypedValue))
+      → LeavesWith (λ (k : Kept). WhileLifted t task k.world) (λ (stop : Stopped). WhileLifted t task stop.world) came → Keeps inv (resolves g t task follows came)
+  unfolding resolves
+  resolves_keeps t task follows came h =
+      came_keeps inv (WhileLifted t task) t came (λ result w. resolves_to g t task follows result w) (λ w k. k.0) h (λ result k comes i. resolves_to_keeps t task follows result k.world i)
+
+  ending_keeps : (t : ℕ) (task : Task) (w : World) → Acted inv w → Keeps inv (ending_turn t task w)
+  unfolding ending_turn
+  ending_keeps t task w h = unless_keeps inv t (is_none task.resolution) trap.Unresolved w _ h (λ e. goes_on inv Leaves w tt h)
+
+  pub leaving_keeps : (w : World) → Acted inv w → Keeps inv (leaving_turn w)
+  unfolding leaving_turn
+  leaving_keeps w h =
+      given_keeps inv (acting w) _ (λ a e.
+      goes inv (control_behind (drop 1 w.chain)) (after (Exits a.0) w) (behind_agrees (drop 1 w.chain) (after (Exits a.0) w) refl) (inv.stays (Exits a.0) w (acting_first w a e) h.0))
+
+  -- Core functions make moves.
+
+  next_keeps : (t : ℕ) (task : Task) (i word : ℕ) (r : Result Next BadCode) (w : World) → IsFirst t w.chain → HasFunc w.tasks t → Acted inv w → Keeps inv (next_turn t task i word r w)
+  unfolding next_turn
+  next_keeps t task i word (Err why) w first runs h = goes_on inv (Doomed t trap.BadCode) w tt h
+  next_keeps t task i word (Ok next.Exit) w first runs h = ending_keeps t task w h
+  next_keeps t task i word (Ok next.Yield) w first runs h = blocked_keeps inv t (InLoop word) reason.Yield w first tt (inr runs) (first_at w.tasks w.chain t IsActing first h.1) h.0
+  next_keeps t task i word (Ok (next.Wait set)) w first runs h =
+      refused_keeps inv t (set_at w i set) w _ h (λ number e. blocked_keeps inv t (InLoop word) (reason.Wait set) w first tt (inr runs) (first_at w.tasks w.chain t IsActing first h.1) h.0)
+  next_keeps t task i word (Ok (next.Poll set)) w first runs h =
+      refused_keeps inv t (set_at w i set) w _ h (λ number e. blocked_keeps inv t (InLoop word) (reason.Poll set) w first tt (inr runs) (first_at w.tasks w.chain t IsActing first h.1) h.0)
+
+  looping_keeps : (t : ℕ) (task : Task) (i : ℕ) (words : List ℕ) (w : World) → IsFirst t w.chain → HasFunc w.tasks t → Acted inv w → Keeps inv (looping_turn t task i words w)
+  unfolding looping_turn
+  looping_keeps t task i [] w first runs h = tt
+  looping_keeps t task i (word ∷ words) w first runs h = next_keeps t task i word (callback_of word) w first runs h
+
+  func_keeps : (t : ℕ) (task : Task) (f : Lifted) (kind : Kind) (words : List ℕ) (w : World) → ActsLike t task w → HasFunc w.tasks t → Acted inv w → Keeps inv (func_ended g t task f kind words w)
+  unfolding func_ended returning_turn
+  func_keeps t task f Sync words w like runs h = resolves_keeps t task (Finishes words) _ (result_comes f.instance t _ task f.func_type.result f.options words w h like)
+  func_keeps t task f Stackful words w like runs h = ending_keeps t task w h
+  func_keeps t task f Callback words w like runs h = looping_keeps t task f.instance words w like.0 runs h
+
+  stack_keeps : (t : ℕ) (task : Task) (state : TaskState) (words : List ℕ) (w : World) → ActsLike t task w → (IsSome (func_of task.callee) → HasFunc w.tasks t)
+      → ((n : ℕ) → state ≡ Begins n → w.chain ≡ 0 ∷ []) → Acted inv w → Keeps inv (stack_ended g t task state words w)
+  unfolding stack_ended
+  stack_keeps t task (Begins n) words w like runs alone h =
+      goes inv (Instantiates n) (in_state t Acting w) (alone n refl) (acts inv t w (like.0, is_as w.tasks t IsActing (MayBeInside w.tasks) (λ x k. inl (acting_inside x k)) (first_at w.tasks w.chain t IsActing like.0 h.1)) h.0).0
+  stack_keeps t task Acting words w like runs alone h =
+      given_keeps inv (func_of task.callee) _ (λ f e. func_keeps t task f (kind_of task) words w like (runs (subst (λ (o : Option Lifted). IsSome o) (sym e) refl)) h)
+  stack_keeps t task IsNew words w like runs alone h = tt
+  stack_keeps t task (AfterCall callee number others) words w like runs alone h = tt
+  stack_keeps t task (AfterCancel callee number others) words w like runs alone h = tt
+  stack_keeps t task WaitsToEnter words w like runs alone h = tt
+  stack_keeps t task (InLoop word) words w like runs alone h = tt
+  stack_keeps t task (InBuiltin number others wait) words w like runs alone h = tt
+  stack_keeps t task Exited words w like runs alone h = tt
+
+  over_keeps : (t : ℕ) (task : Task) (stacks : List Stack) (words : List ℕ) (w : World) → ActsLike t task w → (IsSome (func_of task.callee) → HasFunc w.tasks t)
+      → ((n : ℕ) → task.state ≡ Begins n → w.chain ≡ 0 ∷ []) → Acted inv w → Keeps inv (ended_over g t task stacks words w)
+  unfolding ended_over
+  over_keeps t task [] words w like runs alone h = stack_keeps t task task.state words w like runs alone h
+  over_keeps t task (k ∷ under) words w like runs alone h = on_keeps inv t [] w h
+
+  move_keeps : (t : ℕ) (task : Task) (m : Move) (w : World) → IsFirst t w.chain → slice_get w.tasks t ≡ Some task → ((n : ℕ) → task.state ≡ Begins n → w.chain ≡ 0 ∷ []) → Acted inv w → Keeps inv (moved g t task m w)
+  unfolding moved
+  move_keeps t task (Goes paid store k) w first there alone h =
+      goes_on inv Runs (after (HasStack t k) (with_store store w)) tt (stay inv (HasStack t k) (with_store store w) tt tt (stay inv (HasStore store) w tt tt h))
+  move_keeps t task (core.Calls address words k) w first there alone h = goes_on inv (control.Calls address words) (after (HasStack t k) w) tt (stay inv (HasStack t k) w tt tt h)
+  move_keeps t task (core.Ends words) w first there alone h =
+      over_keeps t task (drop 1 task.stacks) words (after (LosesStack t) w) (first, still_is w.tasks t t (λ x. record x { stacks = drop 1 x.stacks }) (IsLike task) (λ x k. k) (task, there, (refl, refl)))
+      (λ some. func_changed w.tasks t t (λ x. record x { stacks = drop 1 x.stacks }) (λ x. refl) (task, there, some)) alone (stay inv (LosesStack t) w tt tt h)
+  move_keeps t task (Traps why) w first there alone h = goes_on inv (Doomed t (core_name why)) w tt h
+  move_keeps t task core.Stuck w first there alone h = tt
+
+  pub running_keeps : (w : World) → Acted inv w → Keeps inv (running_turn g s w)
+  unfolding running_turn
+  running_keeps w h =
+      given_keeps inv (acting w) _ (λ a e. given_keeps inv (slice_get a.1.stacks 0) _ (λ k i.
+      charged_keeps inv (costs k (core.next w.store k)) w (λ v. moved g a.0 a.1 (core.next w.store k) v) h.0 (λ units j.
+      move_keeps a.0 a.1 (core.next w.store k) (record w { units = units }) (acting_first w a e) (acting_is w a e)
+      (λ n b. inv.alone w a.0 a.1 n h.0 (acting_first w a e) (acting_is w a e) b) (j, h.1))))
+
+  -- Task 0 instantiates.
+
+  start_keeps : (n : ℕ) (k : Option Stack) (w : World) → w.chain ≡ 0 ∷ [] → inv.Holds w → Keeps inv (started_up n k w)
+  unfolding started_up
+  start_keeps n None w one h = goes inv (Instantiates n) w one h
+  start_keeps n (Some k) w one h =
+      let first : IsFirst 0 w.chain = ap (λ (l : List ℕ). slice_get l 0) one in
+      new_stack_keeps inv 0 k (in_state 0 (Begins n) w) (
+        inv.stays (IsBegun n) w (first, inv.there w h) h,
+        first_now _ w.chain 0 IsActing first (now_is w.tasks 0 (λ task. record task { state = Begins n }) (λ task. task.callee ≡ Init) IsActing (λ y l. tt) (inv.there w h)),
+      )
+
+  core_keeps : (n : ℕ) (c : CoreMake) (imports : List External) (r : Instantiation) (w : World) → w.chain ≡ 0 ∷ [] → inv.Holds w → Keeps inv (core_made n c imports r w)
+  unfolding core_made
+  core_keeps n c imports (core_instance.SegmentBounds store) w one h = goes inv (Doomed 0 trap.SegmentBounds) (with_store store w) tt (inv.stays (HasStore store) w tt h)
+  core_keeps n c imports (Makes store) w one h =
+      start_keeps (n + 1) (start_call c.of_module (instance_of c.of_module imports w.store) store) (with_store store w) one (inv.stays (HasStore store) w tt h)
+
+  action_keeps : (n : ℕ) (a : Option Action) (w : World) → w.chain ≡ 0 ∷ [] → inv.Holds w → Keeps inv (action_turn g n a w)
+  unfolding action_turn
+  action_keeps n None w one h = goes inv Free (after (Exits 0) w) (ap (λ (l : List ℕ). drop 1 l) one) (inv.stays (Exits 0) w (ap (λ (l : List ℕ). slice_get l 0) one) h)
+  action_keeps n (Some (Begin number)) w one h = goes inv (Instantiates (n + 1)) (after BeginsInstance w) one (inv.stays BeginsInstance w tt h)
+  action_keeps n (Some (Make number)) w one h =
+      given_keeps inv (slice_get g.cores number) _ (λ c e. given_keeps inv (externals w.store c.imports) _ (λ imports i.
+      core_keeps n c imports (instantiated c.of_module imports w.store) w one h))
+
+  pub instantiating_keeps : (n : ℕ) (w : World) → w.chain ≡ 0 ∷ [] → inv.Holds w → Keeps inv (instantiating_turn g n w)
+  unfolding instantiating_turn
+  instantiating_keeps n w one h = action_keeps n (slice_get g.plan n) w one h
