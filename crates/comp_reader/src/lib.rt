@@ -6,8 +6,8 @@
 //! - `reading`: the reading of a whole component
 //! - `sections`: the sections by their ids, and components that hold others
 //! - `core_modules`, `core_instances`, `instances`, `aliases`, `def_types`, `canons`, `externs`: the items, a kind for each
-//! - `sorts`: the sorts of what stands in them; types of values and of functions, names and canonical functions are read by
-//!   `part_reader`
+//! - `sorts`: the sorts of what stands in them; types of values, of functions and of resources, names and canonical functions are
+//!   read by `part_reader`
 //! - `laws`: that bytes are one component, or are refused in one way
 #![tactic(auto)]
 

@@ -45,8 +45,8 @@ fn read_lower(
 
 /// Reads a canonical function (Component Model, Binary.md, `canon`).
 ///
-/// Its refusals are those of `canon` in `specs/Canons`: a byte that no rule has in its place (`Unsupported`), a number that is too
-/// long (`Leb`), and the window's end. `Memory` is want of memory.
+/// Its refusals are those of `canon` in `specs/Canons`: a byte that no rule has in its place (`Unsupported`), that of a type of floats
+/// as the result of `task.return` (`Float`), a number that is too long (`Leb`), and the window's end. `Memory` is want of memory.
 #[tactic(auto, unfolding(crate::specs::Canons::canon))]
 pub fn read_canon(
     alloc: Global,

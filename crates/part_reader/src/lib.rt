@@ -1,4 +1,4 @@
-//! The readers of the parts of components: names, types of values and of functions, and canonical functions.
+//! The readers of the parts of components: names, types of values, of functions and of resources, and canonical functions.
 //!
 //! A reader answers a part exactly for its bytes, as its grammar in `specs/` says, and else the first place at which they leave it,
 //! with the reason. Only want of memory keeps it from either. The layer above reads whole components, whose items hold these parts.

@@ -1,8 +1,11 @@
--- The graph of a component that is read and linked is apart and passes no handle and no end, and what is read as a script for it is sound.
-use Rattle.std.proofs.Common.{◌≡◌, Bool, if◌then◌else◌, List, [], ◌++◌, map, Result, Ok, sym, subst}
+-- The graph of a component that is read and linked is apart and passes no handle and no end, what is read as a script for it is sound, and its
+-- run makes the answer.
+use mathlib.Core.Path.{fun_ext}
+use Rattle.std.proofs.Common.{◌≡◌, ℕ, Bool, if◌then◌else◌, List, [], ◌++◌, map, Option, Some, Result, Ok, Err, sym, subst}
 use Rattle.std.specs.Prelude.{IfOk, replicate}
 use Rattle.std.specs.List.{AllByRecursion}
 use Rattle.ca_types.specs.declared.exports.Export.{Export}
+use Rattle.comp_tree.specs.declared.items.Component.{Component}
 use Rattle.comp_graph.specs.Graph.{Graph}
 use Rattle.script_reader.specs.declared.fault.ScriptFault.{ScriptFault}
 use Rattle.script_reader.specs.Script.{Script, CallsExport}
@@ -20,11 +23,13 @@ use Rattle.trace_show.specs.LabelText.{trace_text}
 use Rattle.trace_show.specs.DumpText.{dump_text}
 use Rattle.builtins.specs.declared.script_run.Run.{Run}
 use Rattle.builtins.specs.Ran.{IsRunOf}
-use Rattle.wcm.specs.declared.status.Status.{Status}
-use Rattle.wcm.specs.Status.{status_of, IsBehindGraph}
+use Rattle.wcm.specs.Status.{status_of, IsAnswered}
 use Rattle.graph_laws.specs.Laws.{LinkedGraphsAreApart, ReadGraphsAreSound, ReadTypesAreCounted, CountedGraphsArePlain, CallsAreSound}
 use Rattle.wcm.specs.declared.answer.Answer.{Answer}
-use Rattle.wcm.specs.Outcome.{IsOfComponent, RunAnswers}
+use Rattle.command_words.specs.Words as words
+use Rattle.command_words.specs.Words.{Command, component_file}
+use Rattle.wcm.specs.Files.{IsOfComponent, IsFileRead, IsFileLinked, IsScriptFile}
+use Rattle.wcm.specs.Answers.{Answers, file_refused, not_linked, accepted, shown, script_refused, ran, run_answer}
 use Rattle.wcm.specs.Laws.{ScriptsAreSound}
 
 pub scripts_are_sound : ReadGraphsAreSound → ReadTypesAreCounted → ScriptsCallExports → CallsAreSound → ScriptsAreSound
@@ -48,12 +53,20 @@ pub sound_of : ReadGraphsAreSound → ReadTypesAreCounted → CallsAreSound → 
 sound_of graphs counted calls g exports r script of e h called =
     calls g script (graphs of.1.0 of.0 g of.1.1 of.1.2 of.2) (counted of.1.0 of.0 g of.1.1 of.1.2 of.2) (calls_of g exports r script e h called)
 
--- The status of a run's end is none of a deadlock.
-given_end : NoDeadlock → (g : Graph) (s : Script) (labels : List Label) (last : World) (end : RunEnd) → Runs g s labels last end → IsBehindGraph (status_of end)
+-- No run ends in a deadlock, so that each answer of a command has a status that the files decide.
+given_end : NoDeadlock → (g : Graph) (s : Script) (labels : List Label) (last : World) (end : RunEnd) → Runs g s labels last end → IsAnswered (status_of end)
 given_end none g s labels last ends.Done r = tt
 given_end none g s labels last (ends.Trapped task why) r = tt
 given_end none g s labels last (ends.Deadlock tasks) r = absurd (none g s r.0 last tasks r.1 r.2)
 given_end none g s labels last ends.Fuel r = tt
+
+pub answered : NoDeadlock → (held : List ℕ → Option (List ℕ)) (command : Command) (a : Answer) → Answers held (Some command) a → IsAnswered a.status
+answered none held command a (file_refused c refusal f) = tt
+answered none held command a (not_linked c fault f) = tt
+answered none held command a (accepted file g f) = tt
+answered none held command a (shown file g f) = tt
+answered none held command a (script_refused file name dump g fault f s) = tt
+answered none held command a (ran file name dump g calls labels last end f s runs) = given_end none g calls labels last end runs
 
 -- The answer that is made of what a run gives is that of the run.
 pub run_answers : (g : Graph) (s : Script) (dump : Bool) (run : Run) (a : Answer) → IsRunOf g s run
@@ -62,8 +75,15 @@ pub run_answers : (g : Graph) (s : Script) (dump : Bool) (run : Run) (a : Answer
       out = trace_text (trace_of run.labels run.end) ++ (if dump then dump_text (replicate run.instances []) (map (λ m. m.bytes) run.store.memories) else []);
       err = [];
     }
-    → RunAnswers g s dump a
-run_answers g s dump run a ran e = (run.labels, ran.last, run.end, ran.runs, rw (ran.instances, ran.store) e)
+    → (held : List ℕ → Option (List ℕ)) (file name : List ℕ) → IsFileLinked held file g → IsScriptFile held name g.exports s → Answers held (Some (words.Run file name dump)) a
+run_answers g s dump run a of e held file name linked read =
+    let same : a ≡ run_answer dump run.labels of.last run.end = rw (of.instances, of.store) e in
+    subst (λ (b : Answer). Answers held (Some (words.Run file name dump)) b) (sym same) (ran file name dump g s run.labels of.last run.end linked read of.runs)
 
-pub given_status : NoDeadlock → (g : Graph) (s : Script) (run : Run) (status : Status) → IsRunOf g s run → status ≡ status_of run.end → IsBehindGraph status
-given_status none g s run status ran e = subst IsBehindGraph (sym e) (given_end none g s run.labels ran.last run.end ran.runs)
+-- So has what is answered where a file was read, and all files hold what they held.
+pub answered_after : NoDeadlock → {E : Type 0} (before now : List ℕ → Option (List ℕ)) (command : Command) (c : Component) (r : Result Answer E)
+    → ((name : List ℕ) → now name ≡ before name) → IsFileRead before (component_file command) c
+    → IfOk r (λ a. IsFileRead now (component_file command) c → Answers now (Some command) a) → IfOk r (λ a. IsAnswered a.status)
+answered_after none before now command c (Ok a) same read h =
+    answered none now command a (h (subst (λ (held : List ℕ → Option (List ℕ)). IsFileRead held (component_file command) c) (sym (fun_ext same)) read))
+answered_after none before now command c (Err e) same read h = tt

@@ -1,15 +1,18 @@
 -- What holds of the definitions alone.
-use Rattle.std.specs.Prelude.{◌≡◌, ℕ, List, Option}
-use Rattle.std.specs.Option.{IfSome, MatchOption}
+use Rattle.std.specs.Prelude.{◌≡◌, ◌⊎◌, ℕ, List, Option, IfSome, MatchOption}
 use Rattle.comp_tree.specs.declared.items.Component.{Component}
 use Rattle.comp_reader.specs.Binary.{IsComponent}
 use Rattle.script_reader.specs.Script.{Script, IsScript}
 use Rattle.wcm.specs.declared.answer.Answer.{Answer}
+use Rattle.wcm.specs.declared.status.Status.{Status}
+use Rattle.wcm.specs.declared.status.Status.TheVariants.{Refused, LinkRefused}
 use Rattle.comp_graph.specs.Graph.{Graph}
 use Rattle.link_spec.specs.Linked.{IsLinked}
 use Rattle.canonical_machine.specs.Sound.{AreBytes, IsSound}
-use Rattle.wcm.specs.Outcome.{IsTold, Outcome}
-use Rattle.command_words.specs.Words.{command_of}
+use Rattle.wcm.specs.Answers.{Answers}
+use Rattle.wcm.specs.Causes.{HasCause}
+use Rattle.wcm.specs.Files.{IsComponentTold, IsTold}
+use Rattle.command_words.specs.Words.{Command}
 
 -- A script that is read for a component that is read of bytes and linked is sound: so it has exactly one run (`specs/Ending` of
 -- canonical_machine).
@@ -23,11 +26,31 @@ abbrev pub HoldsBytes : (List ℕ → Option (List ℕ)) → Type 0
 HoldsBytes held = (name : List ℕ) → IfSome (held name) AreBytes
 
 -- two answers are the same, but for the text for the error output where the words are no command
-abbrev pub IsSameOutcome : List (List ℕ) → Answer → Answer → Type 0
-IsSameOutcome words a b = MatchOption (command_of words) ((b.status ≡ a.status) × (b.out ≡ a.out)) (λ command. b ≡ a)
+abbrev pub IsSameAnswer : Option Command → Answer → Answer → Type 0
+IsSameAnswer words a b = MatchOption words ((b.status ≡ a.status) × (b.out ≡ a.out)) (λ command. b ≡ a)
 
--- Words whose files are told, of bytes, have an outcome, and no other one.
-abbrev pub OneOutcome : Type 0
-OneOutcome =
-    (words : List (List ℕ)) (held : List ℕ → Option (List ℕ)) → HoldsBytes held → IsTold words held
-    → (a : Answer) × Outcome words held a × ((other : Answer) → Outcome words held other → IsSameOutcome words a other)
+-- Where the files that words ask for are told, there is one answer at the most; and there is one, where the files are of bytes.
+abbrev pub OneAnswer : Type 0
+OneAnswer =
+    (held : List ℕ → Option (List ℕ)) (words : Option Command) (a b : Answer)
+    → IsTold held words → Answers held words a → Answers held words b → IsSameAnswer words a b
+
+abbrev pub SomeAnswer : Type 0
+SomeAnswer =
+    (held : List ℕ → Option (List ℕ)) (words : Option Command)
+    → HoldsBytes held → IsTold held words → (a : Answer) × Answers held words a
+
+-- The status of an answer has its cause, and each cause has an answer with its status.
+abbrev pub StatusesHaveCauses : Type 0
+StatusesHaveCauses = (held : List ℕ → Option (List ℕ)) (words : Option Command) (a : Answer) → Answers held words a → HasCause held words a.status
+
+abbrev pub CausesHaveAnswers : Type 0
+CausesHaveAnswers =
+    (held : List ℕ → Option (List ℕ)) (words : Option Command) (status : Status)
+    → HasCause held words status → (a : Answer) × Answers held words a × (a.status ≡ status)
+
+-- A component file that is told and refused, or whose component is not linked, leaves nothing to be told.
+abbrev pub RefusedFilesTellAll : Type 0
+RefusedFilesTellAll =
+    (held : List ℕ → Option (List ℕ)) (words : Option Command)
+    → IsComponentTold held words → HasCause held words Refused ⊎ HasCause held words LinkRefused → IsTold held words

@@ -1,6 +1,7 @@
-pub mod Gives
+pub mod Answers
+pub mod Causes
+pub mod Files
 pub mod Laws
-pub mod Outcome
 pub mod Status
 pub mod Stops
 pub mod Written

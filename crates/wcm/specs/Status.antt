@@ -65,17 +65,3 @@ IsAnswered ReadFault = ⊥
 IsAnswered WriteFault = ⊥
 IsAnswered Memory = ⊥
 IsAnswered LinkRefused = Unit {0}
-
--- a status behind a linked graph: that of a command without a script, or what the script file and the run decide
-abbrev pub IsBehindGraph : Status → Type 0
-IsBehindGraph Done = Unit {0}
-IsBehindGraph Trap = Unit {0}
-IsBehindGraph Usage = ⊥
-IsBehindGraph Refused = ⊥
-IsBehindGraph ScriptRefused = Unit {0}
-IsBehindGraph Deadlock = ⊥
-IsBehindGraph Fuel = Unit {0}
-IsBehindGraph ReadFault = ⊥
-IsBehindGraph WriteFault = ⊥
-IsBehindGraph Memory = ⊥
-IsBehindGraph LinkRefused = ⊥

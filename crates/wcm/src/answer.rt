@@ -1,19 +1,20 @@
 //! What a call of the program answers, from the files that it names.
 
-ghost use Rattle.std.specs.Prelude.{◌≡◌, ℕ, if◌then◌else◌, List, [], ◌++◌, IfOk, IfSome, MatchResult, map, replicate};
+ghost use Rattle.std.specs.Prelude.{◌≡◌, ℕ, if◌then◌else◌, List, [], ◌++◌, Option, Some, IfOk, MatchResult, map, replicate};
 ghost use Rattle.std.specs.List.{AllByRecursion};
-ghost use Rattle.script_reader.specs.Script.{IsScript, IsScriptRefused, CallsExport};
+ghost use Rattle.script_reader.specs.Script.{CallsExport};
 ghost use Rattle.trace_show.specs.LabelText.{trace_text};
 ghost use Rattle.trace_show.specs.DumpText.{dump_text};
 ghost use Rattle.canonical_machine.specs.Run.{trace_of};
 ghost use Rattle.canonical_machine.specs.Sound.{IsSound};
 ghost use Rattle.canonical_machine.specs.Owners.{IsApart};
 ghost use Rattle.canonical_machine.specs.Plain.{IsPlain};
-ghost use Rattle.wcm.specs.Gives.{CommandGives, GraphGives, ScriptGives};
-ghost use Rattle.wcm.specs.Outcome.{IsRead, IsOfComponent, LinkAnswers, RunAnswers, IsComponentFile, IsRefusedFile, accepted_answer, shown_answer};
+ghost use Rattle.wcm.specs.Answers.{Answers, accepted_answer, shown_answer};
+ghost use Rattle.wcm.specs.Files.{IsRead, IsOfComponent, IsFileRead, IsFileRefused, IsFileLinked, IsScriptFile, IsScriptFileRefused};
 ghost use Rattle.wcm.specs.Stops.{StopsFor};
-ghost use Rattle.wcm.specs.Status.{IsAnswered, IsBehindGraph};
-ghost use Rattle.command_words.specs.Words.{said};
+ghost use Rattle.wcm.specs.Status.{IsAnswered};
+ghost use Rattle.command_words.specs.Words as commands;
+ghost use Rattle.command_words.specs.Words.{component_file, said};
 
 use crate::status::{Status, status_of_end};
 use answer_texts::{
@@ -94,13 +95,13 @@ const TOO_LONG_SCRIPT: ScriptFault = ScriptFault {
     why: ScriptWhy::Size,
 };
 
-/// The component of a file, or the refusal of that file.
+/// The component of a file, or the refusal of that file, of the bytes that the file held when it was read.
 fn component_of<F: Files>(
     alloc: Global,
     name: &str,
     files: &mut F,
 ) -> Result<Result<Component, Refusal<ComponentWhy>>, Stop>
-    ensures file { IfSome (F.held files.old name.now) (λ bytes. IfOk result (λ found. MatchResult found (IsComponentFile bytes) (IsRefusedFile bytes))) }
+    ensures file { IfOk result (λ found. MatchResult found (IsFileRead (F.held files.old) name.now) (IsFileRefused (F.held files.old) name.now)) }
     ensures read { IfOk result (λ found. IfOk found IsRead) }
     ensures same { (other : List ℕ) → F.held files.new other ≡ F.held files.old other }
     ensures cause { StopsFor (F.faults files.old) (F.faults files.new) result }
@@ -119,14 +120,15 @@ fn component_of<F: Files>(
     }
 }
 
-/// The script of a file for a component with these exports, or the refusal of that file.
+/// The script of a file for a component with these exports, or the refusal of that file, of the bytes that the file held when it was
+/// read.
 fn script_of<F: Files>(
     alloc: Global,
     name: &str,
     files: &mut F,
     exports: &Exports,
 ) -> Result<Result<Script, ScriptFault>, Stop>
-    ensures file { IfSome (F.held files.old name.now) (λ bytes. IfOk result (λ found. MatchResult found (IsScript exports.now bytes) (IsScriptRefused exports.now bytes))) }
+    ensures file { IfOk result (λ found. MatchResult found (IsScriptFile (F.held files.old) name.now exports.now) (IsScriptFileRefused (F.held files.old) name.now exports.now)) }
     ensures calls { IfOk result (λ found. IfOk found (λ s. AllByRecursion (CallsExport exports.now) s.items)) }
     ensures same { (other : List ℕ) → F.held files.new other ≡ F.held files.old other }
     ensures cause { StopsFor (F.faults files.old) (F.faults files.new) result }
@@ -172,10 +174,9 @@ fn run_answer(alloc: Global, graph: &Graph, script: &Script, dump: bool) -> Resu
     requires sound { IsSound graph.now script.now }
     requires apart { IsApart graph.now }
     requires plain { IsPlain graph.now }
-    ensures run { IfOk result (λ a. RunAnswers graph.now script.now dump a) }
-    ensures status { IfOk result (λ a. IsBehindGraph a.status) }
+    ensures { IfOk result (λ a. (held : List ℕ → Option (List ℕ)) (file name : List ℕ)
+        → IsFileLinked held file graph.now → IsScriptFile held name graph.now.exports script.now → Answers held (Some (commands.Run file name dump)) a) }
 {
-    tasks_are_over();
     let run = run_script(alloc, graph, script)?;
     let out = run_text(alloc, &run, dump)?;
     Ok(Answer {
@@ -216,7 +217,8 @@ fn script_answer<F: Files>(
     files: &mut F,
 ) -> Result<Answer, Stop>
     requires linked { IsOfComponent graph.now }
-    ensures file { IfOk result (λ a. ScriptGives graph.now (F.held files.old script.now) dump a) }
+    ensures file { IfOk result (λ a. (file : List ℕ)
+        → IsFileLinked (F.held files.old) file graph.now → Answers (F.held files.old) (Some (commands.Run file script.now dump)) a) }
     ensures same { (other : List ℕ) → F.held files.new other ≡ F.held files.old other }
     ensures cause { StopsFor (F.faults files.old) (F.faults files.new) result }
 {
@@ -242,8 +244,8 @@ fn graph_answer<F: Files>(
     files: &mut F,
 ) -> Result<Answer, Stop>
     requires linked { IsOfComponent graph.now }
-    ensures file { IfOk result (λ a. GraphGives (said command.entry) (F.held files.old) graph.now a) }
-    ensures status { IfOk result (λ a. IsBehindGraph a.status) }
+    ensures file { IfOk result (λ a. IsFileLinked (F.held files.old) (component_file (said command.entry)) graph.now
+        → Answers (F.held files.old) (Some (said command.entry)) a) }
     ensures same { (other : List ℕ) → F.held files.new other ≡ F.held files.old other }
     ensures cause { StopsFor (F.faults files.old) (F.faults files.new) result }
 {
@@ -262,8 +264,8 @@ fn link_answer<F: Files>(
     files: &mut F,
 ) -> Result<Answer, Stop>
     requires read { IsRead component.now }
-    ensures file { IfOk result (λ a. LinkAnswers component.now a (λ g. GraphGives (said command.entry) (F.held files.old) g a)) }
-    ensures status { IfOk result (λ a. IsAnswered a.status) }
+    ensures file { IfOk result (λ a. IsFileRead (F.held files.old) (component_file (said command.entry)) component.now
+        → Answers (F.held files.old) (Some (said command.entry)) a) }
     ensures same { (other : List ℕ) → F.held files.new other ≡ F.held files.old other }
     ensures cause { StopsFor (F.faults files.old) (F.faults files.new) result }
 {
@@ -280,11 +282,12 @@ fn link_answer<F: Files>(
 /// The answer of a command: the component file is read first, and what the command asks for behind it where that is a
 /// component that is linked.
 pub fn answer_of<F: Files>(alloc: Global, command: Command, files: &mut F) -> Result<Answer, Stop>
-    ensures files { IfOk result (λ a. CommandGives (said command.entry) (F.held files.old) a) }
+    ensures files { IfOk result (λ a. Answers (F.held files.old) (Some (said command.entry)) a) }
     ensures status { IfOk result (λ a. IsAnswered a.status) }
     ensures same { (other : List ℕ) → F.held files.new other ≡ F.held files.old other }
     ensures cause { StopsFor (F.faults files.old) (F.faults files.new) result }
 {
+    tasks_are_over();
     match component_of(alloc, command.file(), files)? {
         Ok(component) => link_answer(alloc, command, &component, files),
         Err(refused) => {

@@ -1,6 +1,6 @@
 //! What holds of the definitions alone.
 
-ghost use Rattle.wcm.specs.Laws.{ScriptsAreSound, OneOutcome};
+ghost use Rattle.wcm.specs.Laws.{CausesHaveAnswers, OneAnswer, RefusedFilesTellAll, ScriptsAreSound, SomeAnswer, StatusesHaveCauses};
 
 use canonical_machine::runs_end;
 use comp_reader::one_reading;
@@ -20,10 +20,11 @@ pub fn scripts_are_sound()
     calls_are_sound();
 }
 
-/// Words whose files are told, of bytes, have an outcome, and no other one, but for the text for the error output where they are
-/// no command.
-pub fn one_outcome()
-    ensures { OneOutcome }
+/// Where the files that words ask for are told, there is one answer at the most, but for the text for the error output where the words
+/// are no command; and there is one, where the files are of bytes.
+pub fn one_answer()
+    ensures one { OneAnswer }
+    ensures some { SomeAnswer }
 {
     one_reading();
     graphs_are_computed();
@@ -31,3 +32,11 @@ pub fn one_outcome()
     linked_graphs_are_apart();
     runs_end();
 }
+
+/// The status of an answer has its cause, and each cause has an answer with its status. A component file that is told and refused, or
+/// whose component is not linked, leaves nothing to be told.
+pub fn statuses_have_causes()
+    ensures causes { StatusesHaveCauses }
+    ensures answers { CausesHaveAnswers }
+    ensures told { RefusedFilesTellAll }
+{}

@@ -1,11 +1,12 @@
 //! The top call.
 
-ghost use Rattle.std.specs.Prelude.{false, Some, ◌≡◌, ◌≢◌, ◌<◌, ◌⊎◌, ◌↔◌, ◌∷◌, ◌++◌, ℕ, List, [], None, OnOk, OnErr, map, string_bytes, codes};
+ghost use Rattle.std.specs.Prelude.{false, Some, ◌≡◌, ◌≢◌, ◌<◌, ◌⊎◌, ◌∷◌, ◌++◌, ℕ, List, [], None, OnOk, OnErr, map, string_bytes, codes};
 ghost use Rattle.ca_io.specs.Causes.{Rose};
 ghost use Rattle.ca_io.specs.Bytes.{grown, TookFront};
 ghost use Rattle.wcm.specs.declared.answer.Answer.{Answer};
-ghost use Rattle.canonical_machine.specs.declared.run_end.RunEnd.TheVariants as end;
-ghost use Rattle.wcm.specs.Outcome.{Outcome, IsTold, IsComponentTold, NamesRefused, NamesLinkRefused, NamesScriptRefused, NamesRun, NamesTrap, NamesDone};
+ghost use Rattle.wcm.specs.Answers.{Answers};
+ghost use Rattle.wcm.specs.Causes.{IsCaused};
+ghost use Rattle.wcm.specs.Files.{IsTold};
 ghost use Rattle.wcm.specs.Status.{IsGiven, IsFinal};
 ghost use Rattle.command_words.specs.Words.{Command, command_of, is_taken, plain_command};
 ghost use Rattle.wcm.specs.Written.{WroteAll, WroteFront, WroteFrontOrLine};
@@ -43,8 +44,8 @@ fn write_answer<K: Sink>(answer: &Answer, out: &mut K, err: &mut K) -> Result<()
 /// makes the core instances and then the script's calls, and writes the trace to the output; with `--dump` what the run
 /// leaves stands behind it. For words that are none of these a text for the user goes to the error output.
 ///
-/// The files are told where the component file is, and either that one decides the answer, or the command is not `run`, or
-/// the script file is told too.
+/// What it answers is a row of `Answers`, by the command that the words lead to and what the files may hold: what is told of them, or
+/// anything. They are told where the component file is, and, where `run` finds that one linked to a graph, the script file too.
 #[tactic(auto, using(crate::proofs::Taken::grown_nil, crate::proofs::Taken::took, command_words::proofs::Plain::plain_is))]
 pub fn run_words<F: Files, K: Sink>(
     alloc: Global,
@@ -53,20 +54,20 @@ pub fn run_words<F: Files, K: Sink>(
     out: &mut K,
     err: &mut K,
 ) -> Status
-    // Where the files are told, while no source or sink fails and memory lasts, what is written is the outcome's texts, and
-    // nothing else.
-    ensures headline { IsTold (map string_bytes words.now) (F.held files.old)
-        → (Rose (F.faults files.old) (F.faults files.new) → ⊥)
+    // While no source or sink fails and memory lasts, what is written are the texts of an answer, and nothing else.
+    ensures headline { (Rose (F.faults files.old) (F.faults files.new) → ⊥)
         → (Rose (K.faults out.old) (K.faults out.new) → ⊥)
         → (Rose (K.faults err.old) (K.faults err.new) → ⊥)
         → result ≢ Status.Memory
-        → (a : Answer) × Outcome (map string_bytes words.now) (F.held files.old) a × (result ≡ a.status)
+        → (a : Answer) × Answers (F.held files.old) (command_of (map string_bytes words.now)) a × (result ≡ a.status)
         × WroteAll a (K.taken out.old) (K.taken out.new) (K.taken err.old) (K.taken err.new) }
 
-    // The same where the files are told, and no fault and no want of memory ended the call.
-    ensures written { IsTold (map string_bytes words.now) (F.held files.old) → IsFinal result
-        → (a : Answer) × Outcome (map string_bytes words.now) (F.held files.old) a × (result ≡ a.status)
+    // The same where no fault and no want of memory ended the call. Where the files are told, each status comes exactly where it has a
+    // cause in what they hold.
+    ensures written { IsFinal result
+        → (a : Answer) × Answers (F.held files.old) (command_of (map string_bytes words.now)) a × (result ≡ a.status)
         × WroteAll a (K.taken out.old) (K.taken out.new) (K.taken err.old) (K.taken err.new) }
+    ensures status { IsFinal result → IsCaused (F.held files.old) (command_of (map string_bytes words.now)) result }
 
     // Usage only where clap's command does not take the words; wherever it does not, unless a write fault or want of memory
     // took its place. The files and the output are left alone then. Plain words lead to the command that they name.
@@ -76,21 +77,6 @@ pub fn run_words<F: Files, K: Sink>(
     ensures usage_is_silent { is_taken (map string_bytes words.now) ≡ false → (files.new ≡ files.old) × (out.new ≡ out.old) }
     ensures plain { (command : Command) → plain_command (map string_bytes words.now) ≡ Some command
         → (command_of (map string_bytes words.now) ≡ Some command) × (result ≢ Status.Usage) }
-
-    // Where no fault and no want of memory ended the call: what each answer tells of the files. The component file alone is to
-    // be told for the refusals of the component.
-    ensures refused { IsComponentTold (map string_bytes words.now) (F.held files.old) → IsFinal result
-        → ((result ≡ Status.Refused) ↔ NamesRefused (map string_bytes words.now) (F.held files.old)) }
-    ensures link_refused { IsComponentTold (map string_bytes words.now) (F.held files.old) → IsFinal result
-        → ((result ≡ Status.LinkRefused) ↔ NamesLinkRefused (map string_bytes words.now) (F.held files.old)) }
-    ensures script_refused { IsTold (map string_bytes words.now) (F.held files.old) → IsFinal result
-        → ((result ≡ Status.ScriptRefused) ↔ NamesScriptRefused (map string_bytes words.now) (F.held files.old)) }
-    ensures done { IsTold (map string_bytes words.now) (F.held files.old) → IsFinal result
-        → ((result ≡ Status.Done) ↔ NamesDone (map string_bytes words.now) (F.held files.old)) }
-    ensures trap { IsTold (map string_bytes words.now) (F.held files.old) → IsFinal result
-        → ((result ≡ Status.Trap) ↔ NamesTrap (map string_bytes words.now) (F.held files.old)) }
-    ensures fuel { IsTold (map string_bytes words.now) (F.held files.old) → IsFinal result
-        → ((result ≡ Status.Fuel) ↔ NamesRun (map string_bytes words.now) (F.held files.old) end.Fuel) }
 
     // No run ends with tasks that cannot go on.
     ensures given { IsGiven result }
@@ -104,22 +90,23 @@ pub fn run_words<F: Files, K: Sink>(
         × (K.taken err.new ≡ grown (K.taken err.old) (codes "read fault" ++ 10 ∷ [])) }
 
     // A write fault, only where the count of a sink's faults rose; wherever it grew, unless want of memory took its
-    // place. Each output took a front of the outcome's text; or a file was not read and the count of the files' faults rose,
+    // place. Each output took a front of an answer's text; or a file was not read and the count of the files' faults rose,
     // the output took nothing, and the error output a front of the line.
     ensures write_fault { result ≡ Status.WriteFault
         → Rose (K.faults out.old) (K.faults out.new) ⊎ Rose (K.faults err.old) (K.faults err.new) }
     ensures write_fault_is_told { (K.faults out.old < K.faults out.new) ⊎ (K.faults err.old < K.faults err.new)
         → (result ≡ Status.WriteFault) ⊎ (result ≡ Status.Memory) }
-    ensures write_fault_front { IsTold (map string_bytes words.now) (F.held files.old) → result ≡ Status.WriteFault
-        → ((a : Answer) × Outcome (map string_bytes words.now) (F.held files.old) a
+    ensures write_fault_front { result ≡ Status.WriteFault
+        → ((a : Answer) × Answers (F.held files.old) (command_of (map string_bytes words.now)) a
         × WroteFront a (K.taken out.old) (K.taken out.new) (K.taken err.old) (K.taken err.new))
         ⊎ (Rose (F.faults files.old) (F.faults files.new)
         × (K.taken out.new ≡ K.taken out.old)
         × TookFront (K.taken err.old) (K.taken err.new) (codes "read fault" ++ 10 ∷ [])) }
 
-    // After want of memory the output took a front of what the outcome has for it, and the error output a front of what the
-    // outcome has for it or of the line, which is whole where the error output did not fail.
-    ensures memory { (a : Answer) → Outcome (map string_bytes words.now) (F.held files.old) a → result ≡ Status.Memory
+    // After want of memory, where the files are told, the output took a front of what the answer has for it, and the error output a
+    // front of what the answer has for it or of the line, which is whole where the error output did not fail.
+    ensures memory { IsTold (F.held files.old) (command_of (map string_bytes words.now))
+        → (a : Answer) → Answers (F.held files.old) (command_of (map string_bytes words.now)) a → result ≡ Status.Memory
         → WroteFrontOrLine a (codes "want of memory" ++ 10 ∷ []) (K.taken out.old) (K.taken out.new) (K.taken err.old) (K.taken err.new) }
     ensures memory_line { result ≡ Status.Memory → (Rose (K.faults err.old) (K.faults err.new) → ⊥)
         → K.taken err.new ≡ grown (K.taken err.old) (codes "want of memory" ++ 10 ∷ []) }

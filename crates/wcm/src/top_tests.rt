@@ -230,7 +230,8 @@ fn calls_over_a_long_file(rt: HostRuntime) -> Result<(), Fail> {
 #[test]
 fn laws_hold() {
     laws::scripts_are_sound();
-    laws::one_outcome();
+    laws::one_answer();
+    laws::statuses_have_causes();
     command_words::laws::plain_words_are_taken();
     command_words::laws::taken_words_are_read();
 }
