@@ -1,65 +1,16 @@
 //! The core values that stand for a value (Component Model, CanonicalABI.md, "Flattening").
 
-ghost use Rattle.std.specs.Prelude.{◌≡◌, [], ◌∷◌, ◌++◌, OnOk, IfOk, map, zip};
+ghost use Rattle.std.specs.Prelude.{◌≡◌, ◌∷◌, ◌++◌, OnOk, IfOk};
 ghost use Rattle.std.specs.List.{flat_map};
 ghost use Rattle.ca_types.specs.declared.core_type.CoreType.TheVariants.{I32};
-ghost use Rattle.ca_types.specs.Flat.{joined, joined_lists, flat, flat_payload, flat_params, flat_func, at_most, out_place};
+ghost use Rattle.ca_types.specs.Flat.{flat, flat_payload, flat_params, flat_func, at_most, out_place};
 
 use crate::core_type::{CoreFunc, CoreType, CoreTypes, FlatKind};
+use crate::joining::{alone, joined_lists};
 use crate::shared::Shared;
 use crate::types::{FuncType, Param, ValType};
 use ca_base::{Memory, Seq};
-use std::alloc::{AllocError, Global};
-
-/// A core type that holds what either of two holds.
-fn joined(one: CoreType, other: CoreType) -> CoreType
-    ensures { result ≡ joined one other }
-{
-    match (one, other) {
-        (CoreType::I32, CoreType::I32) => CoreType::I32,
-        _ => CoreType::I64,
-    }
-}
-
-/// The core types that hold what either of two lists holds, for the places that both have. It fails for want of memory
-/// alone.
-fn joined_pairs(
-    alloc: Global,
-    one: &[CoreType],
-    other: &[CoreType],
-) -> Result<Vec<CoreType>, AllocError>
-    ensures { IfOk result (λ types. types.items ≡ map (λ p. joined p.0 p.1) (zip one.now other.now)) }
-{
-    one.iter()
-        .zip(other)
-        .map(|(one, other)| joined(*one, *other))
-        .collect(alloc)
-}
-
-/// Core types that hold what either of two lists holds, place by place. It fails for want of memory alone.
-#[tactic(auto, using(crate::proofs::Joins::joined_by_parts, crate::proofs::Joins::both_within))]
-fn joined_lists(
-    alloc: Global,
-    one: &[CoreType],
-    other: &[CoreType],
-) -> Result<Vec<CoreType>, Memory>
-    ensures { IfOk result (λ types. types.items ≡ joined_lists one.now other.now) }
-{
-    let mut types = joined_pairs(alloc, one, other)?;
-    let both = types.len();
-    types.extend_from_slice(&one[both..])?;
-    types.extend_from_slice(&other[both..])?;
-    Ok(types)
-}
-
-/// A core type alone.
-fn alone(alloc: Global, core_type: CoreType) -> Result<Vec<CoreType>, Memory>
-    ensures { IfOk result (λ types. types.items ≡ core_type ∷ []) }
-{
-    let mut types = Vec::new(alloc);
-    types.push(core_type)?;
-    Ok(types)
-}
+use std::alloc::Global;
 
 /// The number of a case, and behind it core types for the payloads.
 fn tagged(alloc: Global, mut payloads: Vec<CoreType>) -> Result<Vec<CoreType>, Memory>
@@ -76,7 +27,7 @@ fn flat(alloc: Global, val_type: &ValType) -> Result<Vec<CoreType>, Memory>
     ensures { IfOk result (λ types. types.items ≡ flat val_type.now) }
 {
     match val_type {
-        ValType::S64 | ValType::U64 => alone(alloc, CoreType::I64),
+        ValType::S64 | ValType::U64 => Ok(alone(alloc, CoreType::I64)?),
         ValType::String | ValType::List(_) => tagged(alloc, alone(alloc, CoreType::I32)?),
         ValType::Record(fields) => {
             let mut types = Vec::new(alloc);
@@ -112,7 +63,7 @@ fn flat(alloc: Global, val_type: &ValType) -> Result<Vec<CoreType>, Memory>
             }
             tagged(alloc, payloads)
         }
-        _ => alone(alloc, CoreType::I32),
+        _ => Ok(alone(alloc, CoreType::I32)?),
     }
 }
 

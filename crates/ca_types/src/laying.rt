@@ -1,7 +1,7 @@
-//! How values lie in memory, as far as memory can reach.
+//! How values lie in memory, as far as memory can reach (Component Model, CanonicalABI.md, "Alignment" and "Element Size").
 
 ghost use Rattle.std.specs.Prelude.{◌≡◌, ◌≤◌, ◌+◌, ◌^◌};
-ghost use Rattle.ca_types.specs.Layout.{aligned};
+ghost use Rattle.ca_types.specs.Layout.{aligned, tag_size, bits_size};
 
 /// No memory holds so many bytes.
 const MOST: u128 = 1 << 64;
@@ -16,7 +16,7 @@ pub struct Laying {
 }
 
 /// The first multiple of an alignment at or behind a place.
-fn aligned(place: u128, align: u32) -> u128
+pub fn aligned(place: u128, align: u32) -> u128
     requires place { place ≤ 2 ^ 65 }
     requires align { (1 ≤ align) × (align ≤ 8) }
     ensures value { result ≡ aligned place align }
@@ -26,8 +26,37 @@ fn aligned(place: u128, align: u32) -> u128
     place + (align - place % align) % align
 }
 
+/// How many bytes tell one of so many cases.
+pub fn tag_size(count: usize) -> u32
+    ensures value { result ≡ tag_size count }
+    ensures bounds { (1 ≤ result) × (result ≤ 4) }
+{
+    if count <= 256 {
+        1
+    } else if count <= 65_536 {
+        2
+    } else {
+        4
+    }
+}
+
+/// How many bytes hold so many bits, of which there are at most 32.
+pub fn bits_size(count: usize) -> u32
+    ensures value { result ≡ bits_size count }
+    ensures bounds { (1 ≤ result) × (result ≤ 4) }
+{
+    if count <= 8 {
+        1
+    } else if count <= 16 {
+        2
+    } else {
+        4
+    }
+}
+
 impl Laying {
-    ghost use Rattle.ca_types.specs.Limited.{as_laid, InReach, nothing, followed, closed, joined};
+    ghost use Rattle.ca_types.specs.Layout.{scalar};
+    ghost use Rattle.ca_types.specs.Limited.{as_laid, InReach, nothing, followed, closed, joined, tagged};
 
     /// What takes no room.
     pub fn nothing() -> Laying
@@ -35,6 +64,26 @@ impl Laying {
         ensures reach { InReach (as_laid result) }
     {
         Laying { size: 0, align: 1 }
+    }
+
+    /// A value of so many bytes, at a multiple of them.
+    pub fn scalar(bytes: u32) -> Laying
+        requires { (1 ≤ bytes) × (bytes ≤ 8) }
+        ensures value { as_laid result ≡ scalar bytes }
+        ensures reach { InReach (as_laid result) }
+    {
+        Laying {
+            size: u128::from(bytes),
+            align: bytes,
+        }
+    }
+
+    /// A place in memory and a length.
+    pub fn slice() -> Laying
+        ensures value { as_laid result ≡ record { size = 8; align = 4 } }
+        ensures reach { InReach (as_laid result) }
+    {
+        Laying { size: 8, align: 4 }
     }
 
     /// A part at the first place behind this that suits it.
@@ -74,5 +123,23 @@ impl Laying {
             size: self.size.max(other.size),
             align: self.align.max(other.align),
         }
+    }
+
+    /// The number of one of so many cases, and behind it room for this as a payload.
+    pub fn tagged(self, count: usize) -> Laying
+        requires { InReach (as_laid self) }
+        ensures value { as_laid result ≡ tagged count (as_laid self) }
+        ensures reach { InReach (as_laid result) }
+    {
+        let tag = Laying::scalar(tag_size(count));
+        tag.followed(self).closed()
+    }
+
+    /// Where this stands as a payload, behind the number of one of so many cases.
+    pub fn behind_tag(self, count: usize) -> u32
+        requires { InReach (as_laid self) }
+        ensures { result ≡ aligned (tag_size count) self.align }
+    {
+        aligned(u128::from(tag_size(count)), self.align) as u32
     }
 }

@@ -6,7 +6,7 @@
 //! - `types`, `value` and `exports`: types, values, and the functions that a component exports
 //! - `shared` and `boxed`: parts of types and payloads of values, which contracts see as what they hold
 //! - `laying` and `layout`: sizes and alignments
-//! - `core_type` and `flattening`: the core types of types and functions
+//! - `core_type`, `joining` and `flattening`: the core types of types and functions
 //! - `ends`: which types hold the end of a stream or a future
 //! - `fit`: which values are of a type
 //! - `items`: a case or a label by its number
@@ -19,6 +19,7 @@ mod exports;
 mod fit;
 mod flattening;
 mod items;
+mod joining;
 mod laying;
 mod layout;
 mod shared;
@@ -32,6 +33,8 @@ pub use exports::{Export, Exports};
 pub use fit::fits;
 pub use flattening::{flat_func, flatten};
 pub use items::item_at;
+pub use joining::{alone, joined_lists};
+pub use laying::{Laying, aligned, bits_size, tag_size};
 pub use layout::{align, size};
 pub use shared::Shared;
 pub use types::{Case, Field, FuncType, Param, ValType};

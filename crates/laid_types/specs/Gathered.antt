@@ -12,10 +12,6 @@ use Rattle.ca_types.specs.Ends.{held_end, some_true}
 use Rattle.laid_types.specs.Handles.{held_handle, held_borrow, held_top}
 use Rattle.laid_types.specs.Lists.{held_list}
 use Rattle.laid_types.specs.Depth.{held_depth, greatest}
-use Rattle.laid_types.specs.declared.laying.Laying.{Laying}
-
-abbrev pub as_laid : Laying → Laid
-as_laid l = record { size = l.size; align = l.align }
 
 -- room for what there was room for, and for payloads, as far as memory can reach
 abbrev pub room_for : Laid → List Laid → Laid

@@ -5,18 +5,16 @@ ghost use Rattle.std.specs.List.{slice_get};
 ghost use Rattle.std.specs.Option.{option_and_then};
 ghost use Rattle.ca_base.specs.Names.{first_named};
 ghost use Rattle.ca_types.specs.Layout.{laid};
-ghost use Rattle.ca_types.specs.Limited.{InReach, limited};
+ghost use Rattle.ca_types.specs.Limited.{as_laid, InReach, limited};
 ghost use Rattle.ca_types.specs.Flat.{flat};
 ghost use Rattle.ca_types.specs.Ends.{has_end};
 ghost use Rattle.laid_types.specs.Parts.{labels_of, payload_place};
 ghost use Rattle.laid_types.specs.Handles.{has_handle, has_borrow, top_resource};
 ghost use Rattle.laid_types.specs.Lists.{has_list};
 ghost use Rattle.laid_types.specs.Depth.{depth};
-ghost use Rattle.laid_types.specs.Gathered.{as_laid};
 
 use crate::holding::Holding;
-use crate::laying::Laying;
-use ca_types::{CoreType, Shared, ValType};
+use ca_types::{CoreType, Laying, Shared, ValType};
 use std::alloc::AllocError;
 use std::collections::BTreeMap;
 use std::marker::Model;
@@ -42,7 +40,7 @@ impl Model for Entry {
     ghost use Rattle.std.specs.BTreeMap.{get_by_text};
     ghost use Rattle.ca_types.specs.contracts.types.ValType as val_type_row;
     ghost use Rattle.laid_types.specs.Known.{Known};
-    ghost use Rattle.laid_types.specs.Gathered.{as_laid};
+    ghost use Rattle.ca_types.specs.Limited.{as_laid};
     ghost use Rattle.laid_types.specs.Computed.{IsComputed};
 
     ghost Value = { Known };

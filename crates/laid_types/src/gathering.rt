@@ -4,19 +4,18 @@ ghost use Rattle.std.specs.Prelude.{◌≡◌, ◌∷◌, take, min, IfOk};
 ghost use Rattle.ca_types.specs.declared.core_type.CoreType.TheVariants.{I32};
 ghost use Rattle.ca_types.specs.declared.types.ValType.{out-ValType};
 ghost use Rattle.ca_types.specs.Layout.{record_laid, tagged};
-ghost use Rattle.ca_types.specs.Limited.{InReach, limited, nothing};
+ghost use Rattle.ca_types.specs.Limited.{as_laid, InReach, limited, nothing};
 ghost use Rattle.ca_types.specs.Flat.{all_of, joined_all};
 ghost use Rattle.ca_types.specs.Ends.{some_true};
 ghost use Rattle.laid_types.specs.Parts.{case_count, layouts};
 ghost use Rattle.laid_types.specs.Layers.{AreThere, trees_of};
 ghost use Rattle.laid_types.specs.Depth.{greatest};
-ghost use Rattle.laid_types.specs.Gathered.{as_laid, room_for, laid_over, flats, flat_over, ends, handles, borrows, lists, end_over, handle_over, borrow_over, list_over, depths, depth_over, tops, top_over};
+ghost use Rattle.laid_types.specs.Gathered.{room_for, laid_over, flats, flat_over, ends, handles, borrows, lists, end_over, handle_over, borrow_over, list_over, depths, depth_over, tops, top_over};
 
-use crate::flattening::{alone, joined_lists, push_types, tagged};
+use crate::flattening::{push_types, tagged};
 use crate::holding::Holding;
-use crate::laying::{Laying, bits_size};
 use crate::types::LaidTypes;
-use ca_types::{CoreType, ValType};
+use ca_types::{CoreType, Laying, ValType, alone, bits_size, joined_lists};
 use std::alloc::{AllocError, Global};
 
 /// How many cases a type has to tell apart.

@@ -14,10 +14,9 @@ ghost use Rattle.laid_types.specs.Known.{Stands};
 
 use crate::entry::Entry;
 use crate::gathering::case_count;
-use crate::laying::tag_size;
 use crate::numbered_type::NumberedType;
 use crate::types::LaidTypes;
-use ca_types::{CoreType, Shared, ValType};
+use ca_types::{CoreType, Shared, ValType, tag_size};
 use std::alloc::AllocError;
 use std::marker::Model;
 

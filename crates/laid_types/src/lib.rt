@@ -5,7 +5,7 @@
 //! was computed of its parts. The types are those of `ca_types`, which defines what is computed.
 //!
 //! - `layer`: what a type is made of, by the numbers of earlier types
-//! - `laying` and `flattening`: sizes and alignments, and core types, of several parts
+//! - `flattening`: the first core types of several parts
 //! - `holding`: what values of a type hold
 //! - `labels`: where labels stand
 //! - `entry`: a type with what is computed of it
@@ -25,7 +25,6 @@ mod labels;
 mod laid_type;
 pub mod laws;
 mod layer;
-mod laying;
 mod making;
 mod numbered_type;
 mod trees;
@@ -33,6 +32,5 @@ mod types;
 
 pub use laid_type::LaidType;
 pub use layer::{LabelledCase, LabelledPart, ValTypeLayer};
-pub use laying::aligned;
 pub use numbered_type::NumberedType;
 pub use types::LaidTypes;

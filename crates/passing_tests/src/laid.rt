@@ -1,7 +1,7 @@
 //! What is computed of types in a table, as text.
 
-use ca_types::CoreType;
-use laid_types::{LaidType, aligned};
+use ca_types::{CoreType, aligned};
+use laid_types::LaidType;
 use std::alloc::{AllocError, Global};
 use std::fmt::Write;
 use std::test::Fail;

@@ -1,9 +1,9 @@
 -- The room so far and the payloads that are left give the whole.
 use Rattle.std.proofs.Common.{◌≡◌, drop}
-use Rattle.ca_types.specs.Limited.{InReach, nothing}
+use Rattle.ca_types.specs.Limited.{as_laid, InReach, nothing}
 use Rattle.laid_types.specs.Parts.{layouts}
 use Rattle.laid_types.specs.Layers.{trees_of}
-use Rattle.laid_types.specs.Gathered.{as_laid, room_for}
+use Rattle.laid_types.specs.Gathered.{room_for}
 use Rattle.laid_types.proofs.gathering.payload_laying.Given as goal
 
 abbrev pub invariant-loop-part : goal.invariant-loop-part

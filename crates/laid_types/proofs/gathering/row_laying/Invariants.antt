@@ -1,11 +1,10 @@
 -- The row so far and the parts that are left give the whole.
 use Rattle.std.proofs.Common.{◌≡◌, drop}
 use Rattle.ca_types.specs.Layout.{record_laid}
-use Rattle.ca_types.specs.Limited.{InReach, limited}
+use Rattle.ca_types.specs.Limited.{as_laid, InReach, limited}
 use Rattle.ca_types.proofs.Layouts.{closed_behind}
 use Rattle.laid_types.specs.Parts.{layouts}
 use Rattle.laid_types.specs.Layers.{trees_of}
-use Rattle.laid_types.specs.Gathered.{as_laid}
 use Rattle.laid_types.proofs.gathering.row_laying.Given as goal
 
 abbrev pub invariant-loop-part : goal.invariant-loop-part

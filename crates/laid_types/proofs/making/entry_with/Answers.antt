@@ -1,9 +1,9 @@
 -- What was gathered is what is to be known of the type.
 use Rattle.std.proofs.Common.{◌∙◌, List, Option, take, min, ap, sym, refl}
 use Rattle.ca_types.specs.declared.types.ValType.{ValType, out-ValType}
-use Rattle.ca_types.specs.Limited.{limited, nothing}
+use Rattle.ca_types.specs.Limited.{as_laid, limited, nothing}
 use Rattle.laid_types.specs.Parts.{case_count, layouts, parts_of}
-use Rattle.laid_types.specs.Gathered.{as_laid, room_for, laid_over, flats, flat_over, ends, handles, borrows, lists, end_over, handle_over, borrow_over, list_over, depths, depth_over, tops, top_over}
+use Rattle.laid_types.specs.Gathered.{room_for, laid_over, flats, flat_over, ends, handles, borrows, lists, end_over, handle_over, borrow_over, list_over, depths, depth_over, tops, top_over}
 use Rattle.laid_types.proofs.ByParts.{laid_by_parts, flat_by_parts}
 use Rattle.laid_types.proofs.HeldByParts.{end_by_parts, handle_by_parts, borrow_by_parts, list_by_parts}
 use Rattle.laid_types.proofs.DepthByParts.{depth_by_parts}

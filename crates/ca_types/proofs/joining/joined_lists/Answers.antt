@@ -2,7 +2,7 @@
 use Rattle.std.proofs.Common.{◌≡◌, ◌∙◌, ◌++◌, arith, ap, length, List}
 use Rattle.ca_types.specs.declared.core_type.CoreType.{CoreType}
 use Rattle.ca_types.proofs.Joins.{both_within, joined_by_steps, take_rest}
-use Rattle.ca_types.proofs.flattening.joined_lists.Goals as goal
+use Rattle.ca_types.proofs.joining.joined_lists.Goals as goal
 
 pub slice_bounds-extend_from_slice-count : goal.slice_bounds-extend_from_slice-count
 slice_bounds-extend_from_slice-count c = omega (arith, (both_within c.args.one.now c.args.other.now).0, ap length c.in_ok-types.ensures)
