@@ -33,3 +33,7 @@ pub mod Ordered
 pub mod Unique
 pub mod Calling
 pub mod Callers
+pub mod Unresolved
+pub mod Unborrowed
+pub mod Lent
+pub mod Borrowed

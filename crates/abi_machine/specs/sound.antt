@@ -20,3 +20,7 @@ pub mod Acting
 pub mod Unique
 pub mod Called
 pub mod Callers
+pub mod Entering
+pub mod PassedTypes
+pub mod Loans
+pub mod Borrows

@@ -290,7 +290,7 @@ task_held : (g : Graph) (w : World) (t : ℕ) (f : Task → Task) → HoldsCopie
 task_held g w t f h = tasks_held g w (changed_at t f w.tasks) (λ n k. there_changed w.tasks t n f k) h
 
 -- what stands in a table where an instance is changed
-live_changed : (insts : List Inst) (i : ℕ) (f : Inst → Inst) (j index : ℕ) (x : Entry)
+pub live_changed : (insts : List Inst) (i : ℕ) (f : Inst → Inst) (j index : ℕ) (x : Entry)
     → ((inst : Inst) → j ≡ i → slice_get insts i ≡ Some inst → live inst.table index ≡ Some x → live (f inst).table index ≡ Some x) → live (table_in (slice_get insts j)) index ≡ Some x
     → live (table_in (slice_get (changed_at i f insts) j)) index ≡ Some x
 live_changed insts i f j index x keeps there = by_inst (slice_get insts j) refl there
@@ -384,7 +384,7 @@ held_kept g s (AddsEntry i entry) w may h = insts_held g w _ (add_keeps g w i en
 held_kept g s (MakesSet i set) w may h =
     insts_held g w _ (both_keep g w (after (AddsEntry i (OfSet set)) w).insts _ (add_keeps g w i (OfSet set) h.0) (tables_keep g (after (AddsEntry i (OfSet set)) w) i _ (λ x. refl))) h.1
 held_kept g s (RemovesEntry i index) w may h =
-    insts_held g w _ (remove_keeps g w i index may.0 may.1 (λ e c copy there under same. left_apart w i may.0 e may.2 same)) h.1
+    insts_held g w _ (remove_keeps g w i index may.0 may.1 (λ e c copy there under same. left_apart w i may.0 e may.2.0 same)) h.1
 held_kept g s (RemovesWaitable i index) w may h =
     insts_held g w _
     (both_keep g w (after (RemovesEntry i index) w).insts _

@@ -235,7 +235,7 @@ told_kept g s (IsRemoved t) w may h =
     resolves_told x Cancelled removable.1 (λ same asked. not_asked x.cancellation removable.2 asked) k) h)
 told_kept g s (Resolves t resolution) w may h =
     all_changed IsTold t _ w.tasks
-    (λ x e k. let resolves : MayResolve resolution x = one_task w.tasks t (MayResolve resolution) x e may in resolves_told x resolution resolves.1 (may_resolve resolution x resolves.2) k) h
+    (λ x e k. let resolves : MayResolve resolution x = one_task w.tasks t (MayResolve resolution) x e may.0 in resolves_told x resolution resolves.1 (may_resolve resolution x resolves.2) k) h
 told_kept g s (IsCancelled t c) w may h = all_changed IsTold t _ w.tasks (λ x e k. becomes_told x c (one_task w.tasks t (MayBecome c) x e may) k) h
 told_kept g s (TellsState t state) w may h =
     all_changed IsTold t _ w.tasks

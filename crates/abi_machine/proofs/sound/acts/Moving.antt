@@ -136,7 +136,7 @@ module _ {g : Graph} {s : Script} (ord : Order g s) where
   func_keeps : (t : ℕ) (task : Task) (f : Lifted) (kind : Kind) (words : List ℕ) (w : World) → HasFunc w.tasks t → Held ord false t w → Keeps ord (func_ended g t task f kind words w)
   unfolding func_ended returning_turn
   func_keeps t task f Sync words w runs h =
-      resolves_keeps t task (Finishes words) _ (result_keeps (Held ord false t) (removes ord false t) (waits ord false t) (lends ord false t) f.instance t _ f.func_type.result f.options words w h)
+      resolves_keeps t task (Finishes words) _ (result_keeps f.instance t (Held ord false t) (Unit {0}) (removes ord false t) (waits ord false t) (lends ord false t f.instance t) _ f.func_type.result (λ b. tt) f.options words w h)
   func_keeps t task f Stackful words w runs h = ending_keeps t task w h
   func_keeps t task f Callback words w runs h = looping_keeps t task f.instance words w runs h
 

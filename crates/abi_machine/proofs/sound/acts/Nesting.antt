@@ -98,7 +98,7 @@ module _ {g : Graph} {s : Script} (ord : Order g s) where
   moved_by_keeps t e call read write reading writing count None w h = (goes ord _ w h.0, ((t, h.1), (h.1.0, tt)))
   moved_by_keeps t e call read write reading writing count (Some element) w h =
       came_keeps ord true t (elements_written t write writing count element w) (λ values later. elements_read g t e call.length read reading element values later)
-      (elements_keep (Held ord true t) (removes ord true t) (waits ord true t) (lends ord true t) (inst_of_canon writing) t element _ _ count w h) (λ values v i. (goes ord _ v i.0, ((t, i.1), (i.1.0, tt))))
+      (elements_keep (inst_of_canon writing) t (Held ord true t) (Unit {0}) (removes ord true t) (waits ord true t) (lends ord true t (inst_of_canon writing) t) element (λ b. tt) _ _ count w h) (λ values v i. (goes ord _ v i.0, ((t, i.1), (i.1.0, tt))))
 
   elements_moved_keep : (t : ℕ) (e : EndRef) (call : OpenCopy) (count : ℕ) (element : Option ValType) (offer : OpenCopy) (w : World) → Held ord true t w → Keeps ord (elements_moved g t e call count element offer w)
   unfolding elements_moved

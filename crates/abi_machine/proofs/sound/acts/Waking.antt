@@ -54,7 +54,7 @@ module _ {g : Graph} {s : Script} (ord : Order g s) where
   called_keeps t f (Guest subtask) w h =
       given_keeps ord (canon_at g subtask.canon) _ (λ c e.
       came_keeps ord false t (arguments_passed t f subtask c w) (λ v later. with_arguments g t f v later)
-      (arguments_keep (Held ord false t) (removes ord false t) (waits ord false t) (lends ord false t) (inst_of_canon c) t (options_of_canon c).is_async f.func_type _ subtask.words w h)
+      (arguments_keep (inst_of_canon c) t (Held ord false t) (Unit {0}) (removes ord false t) (waits ord false t) (lends ord false t (inst_of_canon c) t) (options_of_canon c).is_async f.func_type (λ b. tt) _ subtask.words w h)
       (λ v later i. (goes ord _ later i.0, ((t, i.1), (i.1.0, tt)))))
 
   entered_keeps : (t : ℕ) (task : Task) (f : Lifted) (w : World) → Is (WaitsWith false) t w → ord.Holds w → Keeps ord (entered g t task f w)
