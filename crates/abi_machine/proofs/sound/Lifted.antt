@@ -21,7 +21,7 @@ use Rattle.abi_machine.specs.Passing.{params_type, arguments_lifted, result_lift
 use Rattle.abi_machine.specs.Returning.{result_passed}
 use Rattle.abi_machine.specs.sound.Changes.{Stands}
 use Rattle.abi_machine.specs.sound.Premises.{IsHandle, IsFree, IsTaken}
-use Rattle.abi_machine.proofs.sound.Lifts.{Leaves as LeavesWith, Spent, IsUsed, load_leaves, load_list_leaves, lift_flat_leaves}
+use Rattle.abi_machine.proofs.sound.Lifts.{Leaves as LeavesWith, Spent, IsUsed, load_uses, load_list_uses, lift_flat_uses}
 use Rattle.abi_machine.proofs.sound.Found.{handle_stands, own_free}
 use Rattle.abi_machine.proofs.sound.Takeable.{lifted_end_taken}
 
@@ -78,10 +78,10 @@ module _ (i callee : ℕ) (K : World → Type 0) (B : Type 0) (removes : (j inde
   either_came false x y h k = k
 
   loaded_keeps : (type : ValType) → (has_borrow type ≡ true → B) → (bytes : List ℕ) (place : ℕ) (k : Kept) → KeptSo k → LeavesWith KeptSo StoppedSo (load_by (by_world i callee) type bytes place k)
-  loaded_keeps type may bytes place k h = load_leaves (by_world i callee) KeptSo StoppedSo B spends stops takes type may bytes place k h
+  loaded_keeps type may bytes place k h = load_uses (by_world i callee) KeptSo StoppedSo B spends stops takes type may bytes place k h
 
   flat_keeps : (type : ValType) → (has_borrow type ≡ true → B) → (bytes words : List ℕ) (k : Kept) → KeptSo k → LeavesWith KeptSo StoppedSo (lift_flat_by (by_world i callee) type bytes words k)
-  flat_keeps type may bytes words k h = lift_flat_leaves (by_world i callee) KeptSo StoppedSo B spends stops takes type may bytes words k h
+  flat_keeps type may bytes words k h = lift_flat_uses (by_world i callee) KeptSo StoppedSo B spends stops takes type may bytes words k h
 
   pub arguments_keep : (is_async : Bool) (f : FuncType) → (has_borrow (params_type f) ≡ true → B) → (bytes words : List ℕ) (w : World) → K w
       → LeavesWith KeptSo StoppedSo (arguments_lifted i callee is_async f bytes words w)
@@ -94,7 +94,7 @@ module _ (i callee : ℕ) (K : World → Type 0) (B : Type 0) (removes : (j inde
 
   pub elements_keep : (type : ValType) → (has_borrow type ≡ true → B) → (bytes : List ℕ) (place count : ℕ) (w : World) → K w → LeavesWith KeptSo StoppedSo (elements_lifted i callee type bytes place count w)
   unfolding elements_lifted
-  elements_keep type may bytes place count w h = load_list_leaves (by_world i callee) KeptSo StoppedSo B spends stops takes type may bytes place count _ h
+  elements_keep type may bytes place count w h = load_list_uses (by_world i callee) KeptSo StoppedSo B spends stops takes type may bytes place count _ h
 
   pub result_keeps : (limit : ℕ) (type : Option ValType) → (held_borrow type ≡ true → B) → (options : Options) (words : List ℕ) (w : World) → K w
       → LeavesWith KeptSo StoppedSo (result_passed i callee limit type options words w)

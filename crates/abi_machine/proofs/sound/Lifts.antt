@@ -120,15 +120,15 @@ module _ {S T : Type 0} (l : Ledger S T) (P : S → Type 0) (Q : T → Type 0) (
       after_leaves (e.lift memory (place + aligned end e.laid.align) s) _ (h.0.0 memory (place + aligned end e.laid.align) s p)
       (λ v t q. fields_leave memory place (before ++ v ∷ []) (aligned end e.laid.align + e.laid.size) parts t h.1 q)
 
-  payload_leaves : (e : Option (Part S T)) (memory : List ℕ) (place : ℕ) (s : S) → LiftsAny e → P s → Leaves P Q (over.payload_of l e memory place s)
-  payload_leaves None memory place s h p = p
-  payload_leaves (Some e) memory place s h p = made_leaves _ (e.lift memory place s) (h.0 memory place s p)
+  payload_uses : (e : Option (Part S T)) (memory : List ℕ) (place : ℕ) (s : S) → LiftsAny e → P s → Leaves P Q (over.payload_of l e memory place s)
+  payload_uses None memory place s h p = p
+  payload_uses (Some e) memory place s h p = made_leaves _ (e.lift memory place s) (h.0 memory place s p)
 
   case_leaves : (count : ℕ) (parts : List (Option (Part S T))) (memory : List ℕ) (place : ℕ) (s : S) → AllByRecursion LiftsAny parts → P s
       → Leaves P Q (over.case_of l count parts memory place s)
   case_leaves count parts memory place s h p =
       let n = number (width_of (tag_size count)) place memory in
-      chosen_leaves n count place s _ p (payload_leaves (part_in parts n) memory (place + behind_tag count parts) s (part_lifts parts n h) p)
+      chosen_leaves n count place s _ p (payload_uses (part_in parts n) memory (place + behind_tag count parts) s (part_lifts parts n h) p)
 
   word_fields_leave : (memory words : List ℕ) (before : List Value) (at : ℕ) (parts : List (Part S T)) (s : S) → AllByRecursion Lifts parts → P s
       → Leaves P Q (over.word_fields_from l memory words before at parts s)
@@ -137,15 +137,15 @@ module _ {S T : Type 0} (l : Ledger S T) (P : S → Type 0) (Q : T → Type 0) (
       after_leaves (e.lift_words memory words at s) _ (h.0.1 memory words at s p)
       (λ v t q. word_fields_leave memory words (before ++ v ∷ []) (at + length e.flat) parts t h.1 q)
 
-  word_payload_leaves : (e : Option (Part S T)) (memory words : List ℕ) (at : ℕ) (s : S) → LiftsAny e → P s → Leaves P Q (over.word_payload_of l e memory words at s)
-  word_payload_leaves None memory words at s h p = p
-  word_payload_leaves (Some e) memory words at s h p = made_leaves _ (e.lift_words memory words at s) (h.1 memory words at s p)
+  word_payload_uses : (e : Option (Part S T)) (memory words : List ℕ) (at : ℕ) (s : S) → LiftsAny e → P s → Leaves P Q (over.word_payload_of l e memory words at s)
+  word_payload_uses None memory words at s h p = p
+  word_payload_uses (Some e) memory words at s h p = made_leaves _ (e.lift_words memory words at s) (h.1 memory words at s p)
 
   word_case_leaves : (count : ℕ) (parts : List (Option (Part S T))) (memory words : List ℕ) (at : ℕ) (s : S) → AllByRecursion LiftsAny parts → P s
       → Leaves P Q (over.word_case_of l count parts memory words at s)
   word_case_leaves count parts memory words at s h p =
       chosen_leaves (low w32 at words) count at s _ p
-      (word_payload_leaves (part_in parts (low w32 at words)) memory words (at + 1) s (part_lifts parts (low w32 at words) h) p)
+      (word_payload_uses (part_in parts (low w32 at words)) memory words (at + 1) s (part_lifts parts (low w32 at words) h) p)
 
   taken_leaves : (what : What) (make : ℕ → Value) (index place : ℕ) (s : S) → IsUsed B what → P s → Leaves P Q (over.taken l what make index place s)
   taken_leaves what make index place s used p = made_leaves make _ (takes (record { what = what; index = index; place = place }) s used p)
@@ -343,13 +343,25 @@ module _ {S T : Type 0} (l : Ledger S T) (P : S → Type 0) (Q : T → Type 0) (
 
   -- A value at a place, values one after the other, and a value in core values.
 
-  pub load_leaves : (t : ValType) → (has_borrow t ≡ true → B) → (memory : List ℕ) (place : ℕ) (s : S) → P s → Leaves P Q (over.load_by l t memory place s)
-  load_leaves t may memory place s p =
+  pub load_uses : (t : ValType) → (has_borrow t ≡ true → B) → (memory : List ℕ) (place : ℕ) (s : S) → P s → Leaves P Q (over.load_by l t memory place s)
+  load_uses t may memory place s p =
       either_leaves (is_aligned place (over.part l t).laid.align) _ _
       (either_leaves (is_inside place (over.part l t).laid.size memory) _ _ ((all_lift t may).0 memory place s p) (stops _ s p)) (stops _ s p)
 
-  pub load_list_leaves : (t : ValType) → (has_borrow t ≡ true → B) → (memory : List ℕ) (place count : ℕ) (s : S) → P s → Leaves P Q (over.load_list_by l t memory place count s)
-  load_list_leaves t may memory place count s p = either_leaves (count == 0) _ _ p (list_leaves (over.part l t) place count memory place s (all_lift t may) p)
+  pub load_list_uses : (t : ValType) → (has_borrow t ≡ true → B) → (memory : List ℕ) (place count : ℕ) (s : S) → P s → Leaves P Q (over.load_list_by l t memory place count s)
+  load_list_uses t may memory place count s p = either_leaves (count == 0) _ _ p (list_leaves (over.part l t) place count memory place s (all_lift t may) p)
 
-  pub lift_flat_leaves : (t : ValType) → (has_borrow t ≡ true → B) → (memory words : List ℕ) (s : S) → P s → Leaves P Q (over.lift_flat_by l t memory words s)
-  lift_flat_leaves t may memory words s p = (all_lift t may).1 memory words 0 s p
+  pub lift_flat_uses : (t : ValType) → (has_borrow t ≡ true → B) → (memory words : List ℕ) (s : S) → P s → Leaves P Q (over.lift_flat_by l t memory words s)
+  lift_flat_uses t may memory words s p = (all_lift t may).1 memory words 0 s p
+
+-- The same where it does not matter what a type holds.
+module _ {S T : Type 0} (l : Ledger S T) (P : S → Type 0) (Q : T → Type 0) (spends : (many place : ℕ) (s : S) → P s → Spent P Q (l.spend many place s))
+    (stops : (fault : LiftTrap) (s : S) → P s → Q (l.stop fault s)) (takes : (u : Use) (s : S) → P s → Leaves P Q (l.take u s)) where
+  pub load_leaves : (t : ValType) (memory : List ℕ) (place : ℕ) (s : S) → P s → Leaves P Q (over.load_by l t memory place s)
+  load_leaves t memory place s p = load_uses l P Q (Unit {0}) spends stops (λ u s used p. takes u s p) t (λ b. tt) memory place s p
+
+  pub load_list_leaves : (t : ValType) (memory : List ℕ) (place count : ℕ) (s : S) → P s → Leaves P Q (over.load_list_by l t memory place count s)
+  load_list_leaves t memory place count s p = load_list_uses l P Q (Unit {0}) spends stops (λ u s used p. takes u s p) t (λ b. tt) memory place count s p
+
+  pub lift_flat_leaves : (t : ValType) (memory words : List ℕ) (s : S) → P s → Leaves P Q (over.lift_flat_by l t memory words s)
+  lift_flat_leaves t memory words s p = lift_flat_uses l P Q (Unit {0}) spends stops (λ u s used p. takes u s p) t (λ b. tt) memory words s p
