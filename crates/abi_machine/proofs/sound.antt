@@ -33,3 +33,7 @@ pub mod Ordered
 pub mod Unique
 pub mod Calling
 pub mod Callers
+pub mod known
+pub mod Looping
+pub mod Awaited
+pub mod Picking

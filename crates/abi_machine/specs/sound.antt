@@ -20,3 +20,6 @@ pub mod Acting
 pub mod Unique
 pub mod Called
 pub mod Callers
+pub mod Loops
+pub mod Subtasks
+pub mod Picked

@@ -290,7 +290,7 @@ task_held : (g : Graph) (w : World) (t : ℕ) (f : Task → Task) → HoldsCopie
 task_held g w t f h = tasks_held g w (changed_at t f w.tasks) (λ n k. there_changed w.tasks t n f k) h
 
 -- what stands in a table where an instance is changed
-live_changed : (insts : List Inst) (i : ℕ) (f : Inst → Inst) (j index : ℕ) (x : Entry)
+pub live_changed : (insts : List Inst) (i : ℕ) (f : Inst → Inst) (j index : ℕ) (x : Entry)
     → ((inst : Inst) → j ≡ i → slice_get insts i ≡ Some inst → live inst.table index ≡ Some x → live (f inst).table index ≡ Some x) → live (table_in (slice_get insts j)) index ≡ Some x
     → live (table_in (slice_get (changed_at i f insts) j)) index ≡ Some x
 live_changed insts i f j index x keeps there = by_inst (slice_get insts j) refl there
