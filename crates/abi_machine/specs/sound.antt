@@ -24,3 +24,6 @@ pub mod Entering
 pub mod PassedTypes
 pub mod Loans
 pub mod Borrows
+pub mod Loops
+pub mod Subtasks
+pub mod Picked
