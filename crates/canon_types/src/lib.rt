@@ -5,13 +5,18 @@
 //!
 //! - `options`: the options of canonical functions, by their kinds
 //! - `func_types`: the types of the core functions that lifts and lowers ask for and make
+//! - `builtins`, on `builtin_types`: built-ins, with the types of their core functions
 //! - `needs`: whether lifts and lowers ask for a memory, and for a function that gives places in it
 #![tactic(auto)]
 
+mod builtin_types;
+mod builtins;
 mod func_types;
 mod needs;
 mod options;
 
-pub use func_types::{lifted_type, lowered_type, post_return_type, realloc_type};
-pub use needs::{lift_needs_realloc, lower_needs_realloc, needs_memory};
-pub use options::{OptionIndices, are_there, indices_of, stand_once};
+pub use builtin_types::callback_type;
+pub use builtins::{Built, context_builtin, plain_builtin, wait_builtin};
+pub use func_types::{lift_type, lower_type, post_return_type, realloc_type};
+pub use needs::{lift_needs_memory, lift_needs_realloc, lower_needs_memory, lower_needs_realloc};
+pub use options::{OptionIndices, are_there, has_async, indices_of, stand_once};

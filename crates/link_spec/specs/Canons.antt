@@ -1,15 +1,14 @@
 -- The options of canonical functions (Component Model, Explainer.md, "Canonical Definitions"; CanonicalABI.md, "Canonical ABI
--- Options"), when a core item can be lifted with them, and when a function can be lowered. An option stands at most once, and those
--- of asynchronous functions not at all.
+-- Options"), when a core item can be lifted with them, and when a function can be lowered. An option stands at most once.
 use Rattle.std.specs.Prelude.{◌≡◌, ◌≤◌, ℕ, Bool, true, false, not, ◌&&◌, ◌||◌, nat_lt, nat_le, is_some, List, [], ◌∷◌, length, filter, Option, Some, None, IfSome, IsSome}
 use Rattle.std.specs.Option.{option_and_then, option_map_or}
-use Rattle.std.specs.List.{slice_get, list_all}
+use Rattle.std.specs.List.{slice_get}
 use Rattle.ca_types.specs.declared.types.FuncType.{FuncType}
 use Rattle.wasm_module.specs.declared.types.FuncType as core
 use Rattle.comp_graph.specs.declared.graph.Options.{Options}
 use Rattle.comp_graph.specs.Closed.{first_of}
 use Rattle.comp_graph.specs.CoreItems.{CoreItem, core_func_of, core_memory_of, func_part}
-use Rattle.comp_graph.specs.Needs.{lifted_type, realloc_type, post_return_type, needs_memory, lift_needs_realloc, lower_needs_realloc}
+use Rattle.comp_graph.specs.Needs.{lift_type, realloc_type, callback_type, post_return_type, lift_needs_memory, lift_needs_realloc, lower_needs_memory, lower_needs_realloc}
 use Rattle.comp_tree.specs.declared.items.CanonOption.{CanonOption}
 use Rattle.comp_tree.specs.declared.items.CanonOption.TheVariants as option
 use Rattle.link_spec.specs.Spaces.{Spaces}
@@ -25,14 +24,13 @@ is_utf8 (option.PostReturn index) = false
 is_utf8 option.Async = false
 is_utf8 (option.Callback index) = false
 
--- whether it is one of synchronous functions
-abbrev pub is_sync : CanonOption → Bool
-is_sync option.Utf8 = true
-is_sync (option.Memory index) = true
-is_sync (option.Realloc index) = true
-is_sync (option.PostReturn index) = true
-is_sync option.Async = false
-is_sync (option.Callback index) = false
+abbrev pub is_async : CanonOption → Bool
+is_async option.Utf8 = false
+is_async (option.Memory index) = false
+is_async (option.Realloc index) = false
+is_async (option.PostReturn index) = false
+is_async option.Async = true
+is_async (option.Callback index) = false
 
 -- the index that an option of a kind has
 abbrev pub memory_index : CanonOption → Option ℕ
@@ -59,17 +57,30 @@ post_return_index (option.PostReturn index) = Some index
 post_return_index option.Async = None
 post_return_index (option.Callback index) = None
 
+abbrev pub callback_index : CanonOption → Option ℕ
+callback_index option.Utf8 = None
+callback_index (option.Memory index) = None
+callback_index (option.Realloc index) = None
+callback_index (option.PostReturn index) = None
+callback_index option.Async = None
+callback_index (option.Callback index) = Some index
+
 -- how many options pass a test
 abbrev pub count_of : (CanonOption → Bool) → List CanonOption → ℕ
 count_of p options = length (filter p options)
 
--- No option stands twice, and all are of synchronous functions.
+-- whether one is `async`
+abbrev pub has_async : List CanonOption → Bool
+has_async options = nat_lt 0 (count_of is_async options)
+
+-- No option stands twice.
 pub record StandOnce (options : List CanonOption) : Type 0 where
   pub utf8 : count_of is_utf8 options ≤ 1
   pub memory : count_of (λ o. is_some (memory_index o)) options ≤ 1
   pub realloc : count_of (λ o. is_some (realloc_index o)) options ≤ 1
   pub post_return : count_of (λ o. is_some (post_return_index o)) options ≤ 1
-  pub sync : list_all is_sync options ≡ true
+  pub asynchronous : count_of is_async options ≤ 1
+  pub callback : count_of (λ o. is_some (callback_index o)) options ≤ 1
 
 -- What options name.
 
@@ -84,18 +95,23 @@ IsOptionThere s o =
     IfSome (memory_index o) (λ index. IsSome (slice_get s.core_memories index))
     × IfSome (realloc_index o) (λ index. IsSome (slice_get s.core_funcs index))
     × IfSome (post_return_index o) (λ index. IsSome (slice_get s.core_funcs index))
+    × IfSome (callback_index o) (λ index. IsSome (slice_get s.core_funcs index))
 
--- what the options of a canonical function give it
+-- what the options of a canonical function give it, and whether one is `async`
 pub record Given : Type 0 where
   pub memory : Option CoreItem
   pub realloc : Option CoreItem
   pub post_return : Option CoreItem
+  pub callback : Option CoreItem
+  pub is_async : Bool
 
 abbrev pub given_by : Spaces → List CanonOption → Given
 given_by s options = record {
   memory = option_and_then (slice_get s.core_memories) (first_index memory_index options);
   realloc = option_and_then (slice_get s.core_funcs) (first_index realloc_index options);
   post_return = option_and_then (slice_get s.core_funcs) (first_index post_return_index options);
+  callback = option_and_then (slice_get s.core_funcs) (first_index callback_index options);
+  is_async = has_async options;
 }
 
 -- the same without types
@@ -104,8 +120,8 @@ options_of given = record {
   memory = option_and_then core_memory_of given.memory;
   realloc = option_and_then core_func_of given.realloc;
   post_return = option_and_then core_func_of given.post_return;
-  callback = None;
-  is_async = false;
+  callback = option_and_then core_func_of given.callback;
+  is_async = given.is_async;
 }
 
 -- Lifts.
@@ -114,24 +130,29 @@ options_of given = record {
 abbrev pub IsOfCoreType : core.FuncType → CoreItem → Type 0
 IsOfCoreType type item = func_part item ≡ Some type
 
--- A core item can be lifted to a function of a type, with what is given: the core functions have the types that they need, and
--- where something is passed in memory, or asks for a place in it, the memory is given, or the function that gives places.
+-- A core item can be lifted to a function of a type, with what is given: the core functions have the types that they need, by how the
+-- function is lifted; none is called when a result was lifted that `task.return` gives, and only with `async` one is called with
+-- events; and where something is passed in memory, or asks for a place in it, the memory is given, or the function that gives places.
 pub record CanBeLifted (type : FuncType) (item : CoreItem) (given : Given) : Type 0 where
-  pub core : IsOfCoreType (lifted_type type) item
+  pub core : IsOfCoreType (lift_type (options_of given) type) item
   pub realloc : IfSome given.realloc (IsOfCoreType realloc_type)
   pub post_return : IfSome given.post_return (IsOfCoreType (post_return_type type))
-  pub memory_given : needs_memory type ≡ true → IsSome given.memory
+  pub callback : IfSome given.callback (IsOfCoreType callback_type)
+  pub returns : IsSome given.post_return → given.is_async ≡ false
+  pub called_back : IsSome given.callback → given.is_async ≡ true
+  pub memory_given : lift_needs_memory given.is_async type ≡ true → IsSome given.memory
   pub realloc_given : lift_needs_realloc type ≡ true → IsSome given.realloc
 
 -- Lowers.
 
 -- A function of a type can be lowered with what is given: the function that gives places has its type, no function is called when
--- a result was lifted, and where something is passed in memory, or what the result holds asks for a place in it, the memory is
--- given, or the function that gives places.
+-- a result was lifted or with events, and where something is passed in memory, or what the result holds asks for a place in it, the
+-- memory is given, or the function that gives places.
 pub record CanBeLowered (type : FuncType) (given : Given) : Type 0 where
   pub realloc : IfSome given.realloc (IsOfCoreType realloc_type)
   pub post_return : given.post_return ≡ None
-  pub memory_given : needs_memory type ≡ true → IsSome given.memory
+  pub callback : given.callback ≡ None
+  pub memory_given : lower_needs_memory given.is_async type ≡ true → IsSome given.memory
   pub realloc_given : lower_needs_realloc type ≡ true → IsSome given.realloc
 
 -- The same as tests.
@@ -143,7 +164,7 @@ abbrev pub stand_once : List CanonOption → Bool
 stand_once options =
     at_most_once is_utf8 options && at_most_once (λ o. is_some (memory_index o)) options
     && at_most_once (λ o. is_some (realloc_index o)) options && at_most_once (λ o. is_some (post_return_index o)) options
-    && list_all is_sync options
+    && at_most_once is_async options && at_most_once (λ o. is_some (callback_index o)) options
 
 abbrev pub is_index_there : {A : Type 0} → List A → Option ℕ → Bool
 is_index_there xs index = option_map_or (λ i. nat_lt i (length xs)) index true
@@ -151,22 +172,34 @@ is_index_there xs index = option_map_or (λ i. nat_lt i (length xs)) index true
 abbrev pub is_option_there : Spaces → CanonOption → Bool
 is_option_there s o =
     is_index_there s.core_memories (memory_index o) && is_index_there s.core_funcs (realloc_index o)
-    && is_index_there s.core_funcs (post_return_index o)
+    && is_index_there s.core_funcs (post_return_index o) && is_index_there s.core_funcs (callback_index o)
 
 abbrev pub is_of_core_type : core.FuncType → CoreItem → Bool
 is_of_core_type type item = option_map_or (λ other. same_core_func other type) (func_part item) false
 
-abbrev pub can_be_lifted : FuncType → CoreItem → Given → Bool
-can_be_lifted type item given =
-    is_of_core_type (lifted_type type) item
+-- core functions of their types
+abbrev pub are_of_types : FuncType → CoreItem → Given → Bool
+are_of_types type item given =
+    is_of_core_type (lift_type (options_of given) type) item
     && option_map_or (is_of_core_type realloc_type) given.realloc true
     && option_map_or (is_of_core_type (post_return_type type)) given.post_return true
-    && (not (needs_memory type) || is_some given.memory)
+    && option_map_or (is_of_core_type callback_type) given.callback true
+
+-- a post-return without `async` alone, and a callback with it alone
+abbrev pub are_of_kind : Given → Bool
+are_of_kind given = (not (is_some given.post_return) || not given.is_async) && (not (is_some given.callback) || given.is_async)
+
+abbrev pub can_be_lifted : FuncType → CoreItem → Given → Bool
+can_be_lifted type item given =
+    are_of_types type item given
+    && are_of_kind given
+    && (not (lift_needs_memory given.is_async type) || is_some given.memory)
     && (not (lift_needs_realloc type) || is_some given.realloc)
 
 abbrev pub can_be_lowered : FuncType → Given → Bool
 can_be_lowered type given =
     option_map_or (is_of_core_type realloc_type) given.realloc true
     && not (is_some given.post_return)
-    && (not (needs_memory type) || is_some given.memory)
+    && not (is_some given.callback)
+    && (not (lower_needs_memory given.is_async type) || is_some given.memory)
     && (not (lower_needs_realloc type) || is_some given.realloc)

@@ -1,9 +1,9 @@
 -- What an item of a component makes in the index spaces of its component instance, and what keeps an item from that, by its
--- reason (Component Model, Explainer.md, "Instance Definitions", "Alias Definitions", "Canonical Definitions" and "Import and
--- Export Definitions"; CanonicalABI.md, `canon lift` and `canon lower`). At one item the reasons come in the order in which
+-- reason (Component Model, Explainer.md, "Instance Definitions", "Alias Definitions", "Canonical Definitions", "Canonical Built-ins"
+-- and "Import and Export Definitions"; CanonicalABI.md, `canon lift` and `canon lower`). At one item the reasons come in the order in which
 -- `LinkWhy` has them. The instantiation of a component makes more than one item can say; its own reasons are here, and what its
 -- component's items make stands in `Linked`.
-use Rattle.std.specs.Prelude.{◌≡◌, ◌<◌, ◌≤◌, ◌⊎◌, ℕ, true, false, cond, List, [], ◌∷◌, ◌++◌, length, map, set, Option, Some, None}
+use Rattle.std.specs.Prelude.{◌≡◌, ◌<◌, ◌≤◌, ◌⊎◌, ℕ, Bool, true, false, cond, nat_lt, List, [], ◌∷◌, ◌++◌, length, map, set, Option, Some, None}
 use Rattle.std.specs.Option.{option_map, option_and_then, MatchOption}
 use Rattle.std.specs.List.{slice_get, AllByRecursion, AllZip}
 use Rattle.std.specs.Str.{bytes_eq}
@@ -25,6 +25,8 @@ use Rattle.comp_tree.specs.declared.instances.AliasTarget.TheVariants as target
 use Rattle.comp_tree.specs.declared.externs.ExternDesc.{ExternDesc}
 use Rattle.comp_tree.specs.declared.externs.ExternDesc.TheVariants as desc
 use Rattle.comp_tree.specs.declared.externs.Export as read
+use Rattle.comp_tree.specs.declared.builtins.CanonBuiltin.{CanonBuiltin}
+use Rattle.comp_tree.specs.declared.builtins.CanonBuiltin.TheVariants as read_builtin
 use Rattle.comp_tree.specs.declared.items.CanonOption.{CanonOption}
 use Rattle.comp_tree.specs.declared.items.Canon.TheVariants.{Lift, Lower, Builtin}
 use Rattle.comp_tree.specs.declared.items.Item.{Item, out-Item}
@@ -32,8 +34,10 @@ use Rattle.comp_tree.specs.declared.items.Item.TheOpen.{Item-F}
 use Rattle.comp_tree.specs.declared.items.Component.{Component}
 use Rattle.link_spec.specs.declared.fault.LinkWhy.{LinkWhy}
 use Rattle.link_spec.specs.declared.fault.LinkWhy.TheVariants as why
-use Rattle.comp_graph.specs.CoreItems.{core_func_of}
-use Rattle.comp_graph.specs.Needs.{lowered_type}
+use Rattle.comp_graph.specs.CoreItems.{core_func_of, core_memory_of}
+use Rattle.comp_graph.specs.Graph.{canon_type}
+use Rattle.comp_graph.specs.declared.graph.BuiltinKind.{BuiltinKind}
+use Rattle.comp_graph.specs.declared.graph.BuiltinKind.TheVariants as builtin
 use Rattle.comp_graph.specs.declared.graph.FuncRef.{FuncRef}
 use Rattle.comp_graph.specs.declared.graph.FuncRef.TheVariants as func_ref
 use Rattle.comp_graph.specs.declared.graph.CanonFunc.{CanonFunc}
@@ -207,8 +211,8 @@ abbrev pub type_makes : Linking → ℕ → Spaces → Meaning Closed → Linkin
 type_makes l n s meaning new =
     (closed : Closed) × StandsFor meaning closed × (new ≡ with_spaces l n (with_definition s (AType closed)))
 
--- Lifts: an index that is not there, also of an option; a type that is none of functions; an option twice or of asynchronous
--- functions, or a core item that cannot be lifted with the options.
+-- Lifts: an index that is not there, also of an option; a type that is none of functions; an option twice, or a core item that cannot
+-- be lifted with the options.
 abbrev pub lift_has : Spaces → ℕ → List CanonOption → ℕ → LinkWhy → Type 0
 lift_has s f options t why.Index =
     (slice_get s.core_funcs f ≡ None) ⊎ AnyByRecursion (λ o. IsOptionThere s o → ⊥) options ⊎ (slice_get s.types t ≡ None)
@@ -231,8 +235,16 @@ lift_makes l n s f options t new =
     × StandOnce options × CanBeLifted type item (given_by s options)
     × (new ≡ with_spaces l n (with_definition s (AFunc (lifted_with n type core (given_by s options)))))
 
--- Lowers: an index that is not there, also of an option; an option twice or of asynchronous functions, or a function that cannot be
--- lowered with the options.
+-- One core function more, which the Canonical ABI makes.
+abbrev pub with_canon : Linking → ℕ → Spaces → CanonFunc → Linking
+with_canon l n s f = record {
+  scopes = set l.scopes n (with_core_item s (Func (func_ref.Canon (length l.canons)) (canon_type f)));
+  cores = l.cores;
+  canons = l.canons ++ f ∷ [];
+  plan = l.plan;
+}
+
+-- Lowers: an index that is not there, also of an option; an option twice, or a function that cannot be lowered with the options.
 abbrev pub lower_has : Spaces → ℕ → List CanonOption → LinkWhy → Type 0
 lower_has s f options why.Index = (slice_get s.funcs f ≡ None) ⊎ AnyByRecursion (λ o. IsOptionThere s o → ⊥) options
 lower_has s f options why.Canon =
@@ -248,14 +260,8 @@ lowered_with n func given = canon_func.Lower (record {
   options = options_of given;
 })
 
--- one core function more, to which a function is lowered
 abbrev pub lower_made : Linking → ℕ → Spaces → Lifted → Given → Linking
-lower_made l n s func given = record {
-  scopes = set l.scopes n (with_core_item s (Func (func_ref.Canon (length l.canons)) (lowered_type func.func_type)));
-  cores = l.cores;
-  canons = l.canons ++ lowered_with n func given ∷ [];
-  plan = l.plan;
-}
+lower_made l n s func given = with_canon l n s (lowered_with n func given)
 
 abbrev pub lower_makes : Linking → ℕ → Spaces → ℕ → List CanonOption → Linking → Type 0
 lower_makes l n s f options new =
@@ -263,10 +269,34 @@ lower_makes l n s f options new =
     × StandOnce options × CanBeLowered func.func_type (given_by s options)
     × (new ≡ lower_made l n s func (given_by s options))
 
--- Built-ins: none is made.
-abbrev pub builtin_has : LinkWhy → Type 0
-builtin_has why.Canon = Unit {0}
-builtin_has other = ⊥
+-- Built-ins.
+
+-- whether the memory that one names is there
+abbrev pub is_builtin_there : Spaces → CanonBuiltin → Bool
+is_builtin_there s (read_builtin.Wait op cancellable memory) = nat_lt memory (length s.core_memories)
+is_builtin_there s other = true
+
+-- What it is: a task has two words, and none of resources, of streams, of futures and of results is made.
+abbrev pub builtin_of : Spaces → CanonBuiltin → Option BuiltinKind
+builtin_of s (read_builtin.Plain b) = Some (builtin.Plain b)
+builtin_of s (read_builtin.Context op slot) = cond (nat_lt slot 2) (Some (builtin.Context op slot)) None
+builtin_of s (read_builtin.Wait op cancellable memory) =
+    option_map (λ m. builtin.Wait op cancellable m) (option_and_then core_memory_of (slice_get s.core_memories memory))
+builtin_of s other = None
+
+-- an index of a memory that is not there; a word that a task does not have, or a built-in that is not made
+abbrev pub builtin_has : Spaces → CanonBuiltin → LinkWhy → Type 0
+builtin_has s b why.Index = is_builtin_there s b ≡ false
+builtin_has s b why.Canon = builtin_of s b ≡ None
+builtin_has s b why = ⊥
+
+-- one of the component instance of a number
+abbrev pub builtin_made : Linking → ℕ → Spaces → BuiltinKind → Linking
+builtin_made l n s kind = with_canon l n s (canon_func.Builtin (record { instance = n; kind = kind }))
+
+abbrev pub builtin_makes : Linking → ℕ → Spaces → CanonBuiltin → Linking → Type 0
+builtin_makes l n s b new =
+    (kind : BuiltinKind) × (is_builtin_there s b ≡ true) × (builtin_of s b ≡ Some kind) × (new ≡ builtin_made l n s kind)
 
 -- Imports.
 
@@ -367,7 +397,7 @@ has_case l n s (Item-F.Alias alias) why = alias_has l n s alias.sort alias.targe
 has_case l n s (Item-F.Type type) why = type_has (meaning_of type (levels_at l (n ∷ s.around))) why
 has_case l n s (Item-F.Canon (Lift f options t)) why = lift_has s f options t why
 has_case l n s (Item-F.Canon (Lower f options)) why = lower_has s f options why
-has_case l n s (Item-F.Canon (Builtin b)) why = builtin_has why
+has_case l n s (Item-F.Canon (Builtin b)) why = builtin_has s b why
 has_case l n s (Item-F.Import i) why = import_has s i.name i.desc why
 has_case l n s (Item-F.Export e) why = export_has s e why
 
@@ -384,7 +414,7 @@ makes_case l n s (Item-F.Alias alias) new = alias_makes l n s alias.sort alias.t
 makes_case l n s (Item-F.Type type) new = type_makes l n s (meaning_of type (levels_at l (n ∷ s.around))) new
 makes_case l n s (Item-F.Canon (Lift f options t)) new = lift_makes l n s f options t new
 makes_case l n s (Item-F.Canon (Lower f options)) new = lower_makes l n s f options new
-makes_case l n s (Item-F.Canon (Builtin b)) new = ⊥
+makes_case l n s (Item-F.Canon (Builtin b)) new = builtin_makes l n s b new
 makes_case l n s (Item-F.Import i) new = import_makes l n s i.name i.desc new
 makes_case l n s (Item-F.Export e) new = export_makes l n s e new
 

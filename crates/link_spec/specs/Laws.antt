@@ -9,7 +9,6 @@ use Rattle.ca_types.specs.declared.exports.Export.{Export}
 use Rattle.comp_graph.specs.declared.graph.CanonFunc.{CanonFunc}
 use Rattle.comp_graph.specs.declared.graph.CanonFunc.TheVariants as canon_func
 use Rattle.comp_graph.specs.Graph.{Graph, CoreMake, names, IsLiftThere, AreImported, AreMade}
-use Rattle.comp_graph.specs.Running.{IsSync}
 use Rattle.comp_tree.specs.declared.items.Item.{Item}
 use Rattle.comp_tree.specs.declared.items.Component.{Component}
 use Rattle.link_spec.specs.declared.fault.LinkWhy.{LinkWhy}
@@ -106,8 +105,8 @@ LiftsAreThere =
     (c : Component) (g : Graph) → IsLinked c g → AllZip (λ (e : Export) lift. IsLiftThere g.cores g.canons e.func_type lift) g.exports g.lifts
 
 -- Core instances and core functions of the Canonical ABI are made one behind the other, in some order: each core instance has the
--- imports that its module asks for, and what is lowered is there, with the memory and the core functions that the lower uses, of what
--- was made before it.
+-- imports that its module asks for, and what is lowered is there, with the memory and the core functions that the lower uses, and so is
+-- what a built-in uses, of what was made before it.
 abbrev pub GraphsAreMade : Type 0
 GraphsAreMade = (c : Component) (g : Graph) → IsLinked c g → AreMade g.cores g.canons g.resources
 
@@ -129,9 +128,9 @@ HasSoundType (canon_func.Builtin b) = Unit {0}
 abbrev pub LoweredTypesAreSound : Type 0
 LoweredTypesAreSound = (c : Component) (g : Graph) → IsLinked c g → AllByRecursion HasSoundType g.canons
 
--- All functions of a graph are synchronous, no resources are defined, and no streams and futures have a type.
-abbrev pub GraphsAreSync : Type 0
-GraphsAreSync = (c : Component) (g : Graph) → IsLinked c g → IsSync g
+-- No resources of a graph are defined, and no streams and futures have a type.
+abbrev pub GraphsHaveNoResources : Type 0
+GraphsHaveNoResources = (c : Component) (g : Graph) → IsLinked c g → g.resources ≡ []
 
 abbrev pub GraphsHaveNoEnds : Type 0
 GraphsHaveNoEnds = (c : Component) (g : Graph) → IsLinked c g → g.end_types ≡ []

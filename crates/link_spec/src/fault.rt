@@ -21,10 +21,11 @@ pub enum LinkWhy {
     /// "Type Definitions").
     #[error("a name stands twice, or a type is not what it may be")]
     Typing,
-    /// An option of a lift or of a lower stands twice, or is `async` or `callback`; a core function that it uses is of another type
-    /// than it needs; a lower has a `post-return`; something passes in memory, or asks for a place there, and no memory is given, or
-    /// no function that gives places; or the item is a built-in (Component Model, CanonicalABI.md, "Canonical ABI Options",
-    /// "Flattening", `canon lift` and `canon lower`).
+    /// An option of a lift or of a lower stands twice; a core function that it uses is of another type than it needs; a lift has a
+    /// `post-return` with `async`, or a `callback` without; a lower has a `post-return` or a `callback`; something passes in memory,
+    /// or asks for a place there, and no memory is given, or no function that gives places; a built-in names a word that a task does
+    /// not have; or it is one of resources, of streams, of futures or of results (Component Model, CanonicalABI.md, "Canonical ABI
+    /// Options", "Flattening", `canon lift`, `canon lower` and the built-ins).
     #[error("a canonical function cannot be made of what it is given")]
     Canon,
     /// There are more than 256 component instances, more than 256 core instances, or more than 32 value types in one another.

@@ -1,6 +1,6 @@
 //! What holds of every linking.
 
-ghost use Rattle.link_spec.specs.Laws.{MakesExcludesReasons, BeginsExcludesReasons, MakesExcludesBegins, MakesOnce, BeginsOnce, OneName, OneFirst, OneLinking, LinksExcludesFaults, OneFault, OneGraph, LinkedIsNotRefused, OneRefusal, FewInstances, GraphsAreFew, GraphsAreImported, LiftsAreThere, GraphsAreMade, LabelsAreDistinct, TypesAreShallow, LoweredTypesAreSound, GraphsAreSync, GraphsHaveNoEnds, RootNamesAreDistinct, NamesAreDistinct, ModulesStand, OutcomeComputed, ReasonComputed, GraphComputed, FaultComputed, LinkedOrRefused, FuncsCompared, ClosedCompared, FitsTested};
+ghost use Rattle.link_spec.specs.Laws.{MakesExcludesReasons, BeginsExcludesReasons, MakesExcludesBegins, MakesOnce, BeginsOnce, OneName, OneFirst, OneLinking, LinksExcludesFaults, OneFault, OneGraph, LinkedIsNotRefused, OneRefusal, FewInstances, GraphsAreFew, GraphsAreImported, LiftsAreThere, GraphsAreMade, LabelsAreDistinct, TypesAreShallow, LoweredTypesAreSound, GraphsHaveNoResources, GraphsHaveNoEnds, RootNamesAreDistinct, NamesAreDistinct, ModulesStand, OutcomeComputed, ReasonComputed, GraphComputed, FaultComputed, LinkedOrRefused, FuncsCompared, ClosedCompared, FitsTested};
 
 /// An item that makes something, or begins an instance of a component, has no reason against it, and none does both.
 pub fn items_make_or_are_refused()
@@ -43,9 +43,10 @@ pub fn instances_stay_few()
 {}
 
 /// The core instances of a graph have the imports that their modules ask for, of core instances before them and of functions that
-/// are lowered. What a lift uses is there, with the types that it needs, and so is what is lowered, with what the lowering uses: of
-/// functions that are lowered each stands on those before it alone. No two parameters of an export have one label, and its types
-/// nest at most 32 types in one another. Each core instance is of a module that stands in the component.
+/// the Canonical ABI makes. What a lift uses is there, with the types that it needs, and so is what is lowered, with what the lowering
+/// uses, and what a built-in uses: each function that the Canonical ABI makes stands on those before it alone. No two parameters of
+/// an export have one label, and its types nest at most 32 types in one another. Each core instance is of a module that stands in the
+/// component.
 pub fn graphs_are_sound()
     ensures imported { GraphsAreImported }
     ensures lifts { LiftsAreThere }
@@ -56,10 +57,9 @@ pub fn graphs_are_sound()
     ensures modules { ModulesStand }
 {}
 
-/// All functions of a graph are synchronous: no core function is a built-in, and neither a lift nor a lower is `async`. No resources
-/// are defined, and no streams and futures have a type.
-pub fn graphs_are_sync()
-    ensures sync { GraphsAreSync }
+/// No resources of a graph are defined, and no streams and futures have a type.
+pub fn graphs_have_no_ends()
+    ensures resources { GraphsHaveNoResources }
     ensures ends { GraphsHaveNoEnds }
 {}
 
