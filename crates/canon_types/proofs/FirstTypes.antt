@@ -1,14 +1,18 @@
 -- The first core types of a function type tell what its lift needs, and its lower.
 use Rattle.std.proofs.Common.{◌≡◌, ◌<◌, ◌≤◌, ◌++◌, ℕ, Bool, true, false, List, [], ◌∷◌, length, take, map, refl, ap, ◌∙◌, arith}
-use Rattle.std.specs.Prelude.{nat_le, nat_lt, if◌then◌else◌}
+use Rattle.std.specs.Prelude.{nat_le, nat_lt, if◌then◌else◌, is_some}
 use Rattle.std.proofs.lemmas.List.{length-take, take_all}
 use Rattle.std.proofs.lemmas.Bool.{leb-true, leb-false, lt-leb}
 use Rattle.std.proofs.lemmas.Bool.Decides.{nat_tests}
 use Rattle.ca_types.specs.declared.core_type.CoreType.{CoreType}
 use Rattle.ca_types.specs.declared.core_type.CoreType.TheVariants.{I32}
 use Rattle.ca_types.specs.declared.types.FuncType.{FuncType}
-use Rattle.ca_types.specs.Flat.{at_most, out_place, returned, flat_params, flat_payload}
-use Rattle.comp_graph.specs.Needs.{core_val, lifted_type, lowered_type}
+use Rattle.ca_types.specs.Flat.{at_most, out_place, returned, flat_params, flat_payload, flat_func}
+use Rattle.ca_types.specs.declared.core_type.FlatKind.{FlatKind}
+use Rattle.ca_types.specs.declared.core_type.FlatKind.TheVariants.{SyncLift, AsyncLift, CallbackLift}
+use Rattle.comp_graph.specs.declared.graph.Options.{Options}
+use Rattle.comp_graph.specs.Needs.{core_val, core_func, lift_type, lifted_type, lower_type}
+use Rattle.canon_types.specs.Results.{lift_results}
 use Rattle.link_types.specs.declared.laid_func.LaidFunc.{LaidFunc}
 use Rattle.link_types.specs.Laid.{IsLaid}
 
@@ -52,12 +56,47 @@ many_params laid f h = ap (λ (ts : List CoreType). nat_lt 16 (length ts)) h.par
 pub many_results : (laid : LaidFunc) (f : FuncType) → IsLaid laid f → nat_lt 1 (length laid.returned) ≡ nat_lt 1 (length (flat_payload f.result))
 many_results laid f h = ap (λ (ts : List CoreType). nat_lt 1 (length ts)) h.returned ∙ more_than 1 17 (flat_payload f.result) (omega arith)
 
-pub lowered_params_are : (laid : LaidFunc) (f : FuncType) → IsLaid laid f → map core_val (at_most 16 laid.params ++ out_place 1 laid.returned) ≡ (lowered_type f).params
+pub lowered_params_are : (laid : LaidFunc) (f : FuncType) → IsLaid laid f → map core_val (at_most 16 laid.params ++ out_place 1 laid.returned) ≡ (lower_type false f).params
 lowered_params_are laid f h =
     ap (λ (ts : List CoreType). map core_val (at_most 16 ts ++ out_place 1 laid.returned)) h.params
     ∙ ap (λ (ts : List CoreType). map core_val (ts ++ out_place 1 laid.returned)) (first_passed 16 17 (flat_params f) (omega arith))
     ∙ ap (λ (ts : List CoreType). map core_val (at_most 16 (flat_params f) ++ out_place 1 ts)) h.returned
     ∙ ap (λ (ts : List CoreType). map core_val (at_most 16 (flat_params f) ++ ts)) (first_placed 1 17 (flat_payload f.result) (omega arith))
 
-pub lowered_results_are : (laid : LaidFunc) (f : FuncType) → IsLaid laid f → map core_val (returned laid.returned) ≡ (lowered_type f).results
+pub lowered_results_are : (laid : LaidFunc) (f : FuncType) → IsLaid laid f → map core_val (returned laid.returned) ≡ (lower_type false f).results
 lowered_results_are laid f h = ap (λ (ts : List CoreType). map core_val (returned ts)) h.returned ∙ ap (map core_val) (first_returned 17 (flat_payload f.result) (omega arith))
+
+-- The same by the kinds of lifts.
+abbrev kind_of : Bool → Bool → FlatKind
+kind_of is_async has_callback = if is_async then (if has_callback then CallbackLift else AsyncLift) else SyncLift
+
+kind_params : (laid : LaidFunc) (f : FuncType) → IsLaid laid f → (is_async has_callback : Bool) → map core_val (at_most 16 laid.params) ≡ (core_func (flat_func (kind_of is_async has_callback) f)).params
+kind_params laid f h true true = params_are laid f h
+kind_params laid f h true false = params_are laid f h
+kind_params laid f h false has_callback = params_are laid f h
+
+pub lift_params_are : (laid : LaidFunc) (f : FuncType) (options : Options) → IsLaid laid f → map core_val (at_most 16 laid.params) ≡ (lift_type options f).params
+lift_params_are laid f options h = kind_params laid f h options.is_async (is_some options.callback)
+
+kind_results : (laid : LaidFunc) (f : FuncType) → IsLaid laid f → (is_async has_callback : Bool)
+    → map core_val (if is_async then (if has_callback then (I32 ∷ []) else []) else at_most 1 laid.returned) ≡ (core_func (flat_func (kind_of is_async has_callback) f)).results
+kind_results laid f h true true = refl
+kind_results laid f h true false = refl
+kind_results laid f h false has_callback = results_are laid f h
+
+pub lift_results_are : (laid : LaidFunc) (f : FuncType) (options : Options) → IsLaid laid f → map core_val (lift_results options laid.returned) ≡ (lift_type options f).results
+lift_results_are laid f options h = kind_results laid f h options.is_async (is_some options.callback)
+
+-- The same of lowers with `async`, which pass four core values of parameters and none of a result.
+pub more_params : (laid : LaidFunc) (f : FuncType) → IsLaid laid f → nat_lt 4 (length laid.params) ≡ nat_lt 4 (length (flat_params f))
+more_params laid f h = ap (λ (ts : List CoreType). nat_lt 4 (length ts)) h.params ∙ more_than 4 17 (flat_params f) (omega arith)
+
+pub some_results : (laid : LaidFunc) (f : FuncType) → IsLaid laid f → nat_lt 0 (length laid.returned) ≡ nat_lt 0 (length (flat_payload f.result))
+some_results laid f h = ap (λ (ts : List CoreType). nat_lt 0 (length ts)) h.returned ∙ more_than 0 17 (flat_payload f.result) (omega arith)
+
+pub async_params_are : (laid : LaidFunc) (f : FuncType) → IsLaid laid f → map core_val (at_most 4 laid.params ++ out_place 0 laid.returned) ≡ (lower_type true f).params
+async_params_are laid f h =
+    ap (λ (ts : List CoreType). map core_val (at_most 4 ts ++ out_place 0 laid.returned)) h.params
+    ∙ ap (λ (ts : List CoreType). map core_val (ts ++ out_place 0 laid.returned)) (first_passed 4 17 (flat_params f) (omega arith))
+    ∙ ap (λ (ts : List CoreType). map core_val (at_most 4 (flat_params f) ++ out_place 0 ts)) h.returned
+    ∙ ap (λ (ts : List CoreType). map core_val (at_most 4 (flat_params f) ++ ts)) (first_placed 0 17 (flat_payload f.result) (omega arith))

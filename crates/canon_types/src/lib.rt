@@ -5,13 +5,16 @@
 //!
 //! - `options`: the options of canonical functions, by their kinds
 //! - `func_types`: the types of the core functions that lifts and lowers ask for and make
+//! - `builtin_types`: the types of built-ins as core functions, and of those that the Canonical ABI calls
 //! - `needs`: whether lifts and lowers ask for a memory, and for a function that gives places in it
 #![tactic(auto)]
 
+mod builtin_types;
 mod func_types;
 mod needs;
 mod options;
 
-pub use func_types::{lifted_type, lowered_type, post_return_type, realloc_type};
-pub use needs::{lift_needs_realloc, lower_needs_realloc, needs_memory};
-pub use options::{OptionIndices, are_there, indices_of, stand_once};
+pub use builtin_types::{callback_type, context_type, plain_type, wait_type};
+pub use func_types::{lift_type, lower_type, post_return_type, realloc_type};
+pub use needs::{lift_needs_memory, lift_needs_realloc, lower_needs_memory, lower_needs_realloc};
+pub use options::{OptionIndices, are_there, has_async, indices_of, stand_once};

@@ -3,7 +3,7 @@
 ghost use Rattle.std.specs.Prelude.{◌≡◌, length};
 ghost use Rattle.std.specs.List.{list_all};
 ghost use Rattle.link_spec.specs.Canons as canons;
-ghost use Rattle.link_spec.specs.Canons.{count_of, is_option_there, is_sync, memory_index, realloc_index, post_return_index};
+ghost use Rattle.link_spec.specs.Canons.{count_of, is_option_there, memory_index, realloc_index, post_return_index, callback_index};
 ghost use Rattle.link_spec.specs.Spaces.{Spaces};
 ghost use Rattle.canon_types.specs.Kinds.{kind_index, is_of_kind};
 
@@ -20,6 +20,10 @@ enum Kind {
     Realloc,
     /// The core function that is called when the result was lifted.
     PostReturn,
+    /// That a task returns by `task.return`, or a caller goes on before what it called has returned.
+    Async,
+    /// The core function that is called with each event of a task.
+    Callback,
 }
 
 /// The indices that options have, of each kind that of its first option.
@@ -31,6 +35,8 @@ pub struct OptionIndices {
     pub realloc: Option<u32>,
     /// The index of the core function that is called when the result was lifted.
     pub post_return: Option<u32>,
+    /// The index of the core function that is called with each event of a task.
+    pub callback: Option<u32>,
 }
 
 /// Whether an option is of a kind.
@@ -42,19 +48,8 @@ fn is_of(kind: Kind, option: CanonOption) -> bool
         Kind::Memory => matches!(option, CanonOption::Memory(_)),
         Kind::Realloc => matches!(option, CanonOption::Realloc(_)),
         Kind::PostReturn => matches!(option, CanonOption::PostReturn(_)),
-    }
-}
-
-/// Whether an option is one of synchronous functions.
-fn is_sync(option: CanonOption) -> bool
-    ensures { result ≡ is_sync option }
-{
-    match option {
-        CanonOption::Utf8
-        | CanonOption::Memory(_)
-        | CanonOption::Realloc(_)
-        | CanonOption::PostReturn(_) => true,
-        CanonOption::Async | CanonOption::Callback(_) => false,
+        Kind::Async => matches!(option, CanonOption::Async),
+        Kind::Callback => matches!(option, CanonOption::Callback(_)),
     }
 }
 
@@ -68,14 +63,7 @@ fn count_of(kind: Kind, options: &[CanonOption]) -> usize
         .count()
 }
 
-/// Whether options are those of synchronous functions.
-fn are_sync(options: &[CanonOption]) -> bool
-    ensures { result ≡ list_all is_sync options.now }
-{
-    options.iter().all(|option| is_sync(*option))
-}
-
-/// Whether no option stands twice, and none is of asynchronous functions (Component Model, Explainer.md, "Canonical Definitions").
+/// Whether no option stands twice (Component Model, Explainer.md, "Canonical Definitions").
 pub fn stand_once(options: &[CanonOption]) -> bool
     ensures { result ≡ canons.stand_once options.now }
 {
@@ -83,7 +71,15 @@ pub fn stand_once(options: &[CanonOption]) -> bool
         && count_of(Kind::Memory, options) <= 1
         && count_of(Kind::Realloc, options) <= 1
         && count_of(Kind::PostReturn, options) <= 1
-        && are_sync(options)
+        && count_of(Kind::Async, options) <= 1
+        && count_of(Kind::Callback, options) <= 1
+}
+
+/// Whether one is `async`.
+pub fn has_async(options: &[CanonOption]) -> bool
+    ensures { result ≡ canons.has_async options.now }
+{
+    count_of(Kind::Async, options) > 0
 }
 
 /// The index that an option of a kind has.
@@ -93,7 +89,8 @@ fn index_of(kind: Kind, option: CanonOption) -> Option<u32>
     match (kind, option) {
         (Kind::Memory, CanonOption::Memory(index))
         | (Kind::Realloc, CanonOption::Realloc(index))
-        | (Kind::PostReturn, CanonOption::PostReturn(index)) => Some(index),
+        | (Kind::PostReturn, CanonOption::PostReturn(index))
+        | (Kind::Callback, CanonOption::Callback(index)) => Some(index),
         (_, _) => None,
     }
 }
@@ -112,12 +109,13 @@ fn first_index(kind: Kind, options: &[CanonOption]) -> Option<u32>
 
 /// What options name (Component Model, CanonicalABI.md, "Canonical ABI Options").
 pub fn indices_of(options: &[CanonOption]) -> OptionIndices
-    ensures { result ≡ record { memory = canons.first_index memory_index options.now; realloc = canons.first_index realloc_index options.now; post_return = canons.first_index post_return_index options.now } }
+    ensures { result ≡ record { memory = canons.first_index memory_index options.now; realloc = canons.first_index realloc_index options.now; post_return = canons.first_index post_return_index options.now; callback = canons.first_index callback_index options.now } }
 {
     OptionIndices {
         memory: first_index(Kind::Memory, options),
         realloc: first_index(Kind::Realloc, options),
         post_return: first_index(Kind::PostReturn, options),
+        callback: first_index(Kind::Callback, options),
     }
 }
 
@@ -126,9 +124,11 @@ fn is_there(option: CanonOption, memories: usize, funcs: usize) -> bool
     ensures { (s : Spaces) → memories ≡ length s.core_memories → funcs ≡ length s.core_funcs → result ≡ is_option_there s option }
 {
     match option {
-        CanonOption::Utf8 | CanonOption::Async | CanonOption::Callback(_) => true,
+        CanonOption::Utf8 | CanonOption::Async => true,
         CanonOption::Memory(index) => (index as usize) < memories,
-        CanonOption::Realloc(index) | CanonOption::PostReturn(index) => (index as usize) < funcs,
+        CanonOption::Realloc(index)
+        | CanonOption::PostReturn(index)
+        | CanonOption::Callback(index) => (index as usize) < funcs,
     }
 }
 

@@ -1,3 +1,4 @@
+pub mod Built
 pub mod Next
 pub mod Reached
 pub mod Ready

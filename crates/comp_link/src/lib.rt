@@ -6,8 +6,8 @@
 //! either.
 //!
 //! - `linking`: from a component to its graph, item by item
-//! - `core_instances`, `core_aliases`, `lifts`, `lowers`, `aliases`, `types`, `instances`, `imports` and `exports`: what each kind
-//!   of item makes
+//! - `core_instances`, `core_aliases`, `lifts`, `lowers`, `builtins`, `aliases`, `types`, `instances`, `imports` and `exports`: what
+//!   each kind of item makes
 //! - `named` and `seen`: definitions under names, and definitions as they are asked for
 //! - `linker`, of `scope` and `canons`: linking as it stands, the index spaces of a component instance, and the core functions that
 //!   functions are lowered to
@@ -16,6 +16,7 @@
 #![tactic(auto)]
 
 mod aliases;
+mod builtins;
 mod canons;
 mod core_aliases;
 mod core_instances;

@@ -16,7 +16,8 @@ use crate::link_fault::ItemError;
 use crate::linker::Linker;
 use ca_base::MemoryOr;
 use canon_types::{
-    lift_needs_realloc, lifted_type, needs_memory, post_return_type, realloc_type, stand_once,
+    callback_type, lift_needs_memory, lift_needs_realloc, lift_type, post_return_type,
+    realloc_type, stand_once,
 };
 use comp_graph::graph_number;
 use comp_tree::{CanonOption, CoreSort};
@@ -25,15 +26,32 @@ use link_instances::{DefinitionRef, LiftedRef};
 use link_spec::LinkWhy;
 use link_types::{FuncTypeRef, LaidFunc, TypeRef, Types};
 
+/// Whether a core item, and the core functions that options give, have the types that a lift to a function of a type needs.
+fn are_of_types(laid: &LaidFunc, item: &CoreItem<'_>, given: &Given<'_>) -> bool
+    ensures { (f : FuncType) → IsLaid laid.now f → result ≡ canons.are_of_types f item.now given.now }
+{
+    item.is_of_type(&lift_type(laid, &given.options()))
+        && given.realloc_is(&realloc_type())
+        && given.post_return_is(&post_return_type(laid))
+        && given.callback_is(&callback_type())
+}
+
+/// Whether a core function that is called when the result was lifted is given without `async` alone, and one that is called with
+/// events with it alone.
+fn are_of_kind(given: &Given<'_>) -> bool
+    ensures { result ≡ canons.are_of_kind given.now }
+{
+    (!given.has_post_return() || !given.is_async()) && (!given.has_callback() || given.is_async())
+}
+
 /// Whether a core item can be lifted to a function of a type, with what options give (Component Model, CanonicalABI.md, `canon
 /// lift`). It takes no longer for a function of many parameters.
 fn can_be_lifted(laid: &LaidFunc, item: &CoreItem<'_>, given: &Given<'_>) -> bool
     ensures { (f : FuncType) → IsLaid laid.now f → result ≡ canons.can_be_lifted f item.now given.now }
 {
-    item.is_of_type(&lifted_type(laid))
-        && given.realloc_is(&realloc_type())
-        && given.post_return_is(&post_return_type(laid))
-        && (!needs_memory(laid) || given.has_memory())
+    are_of_types(laid, item, given)
+        && are_of_kind(given)
+        && (!lift_needs_memory(laid, given.is_async()) || given.has_memory())
         && (!lift_needs_realloc(laid) || given.has_realloc())
 }
 

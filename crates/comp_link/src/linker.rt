@@ -6,11 +6,13 @@ ghost use Rattle.std.specs.Option.{option_and_then, option_copied};
 ghost use Rattle.ca_base.specs.Faults.{IfFault};
 ghost use Rattle.wasm_module.specs.declared.module.ModuleTree.{ModuleTree};
 ghost use Rattle.comp_graph.specs.Closed.{Extern, Externs};
+ghost use Rattle.comp_graph.specs.Graph.{canon_type};
+ghost use Rattle.comp_graph.specs.Passed.{HasCanonType};
 ghost use Rattle.link_spec.specs.Definitions.{CoreItem, extern_of, Lifted, Closure, Definition, AComponent, AModule, Exports, types_of};
 ghost use Rattle.link_spec.specs.Tests.{are_types};
 ghost use Rattle.link_spec.specs.Spaces.{Spaces, Linking, with_core_item, with_core_instance, with_definition, with_spaces};
 ghost use Rattle.link_spec.specs.Canons.{Given, options_of};
-ghost use Rattle.link_spec.specs.Items.{core_made, lower_made, with_import, with_export};
+ghost use Rattle.link_spec.specs.Items.{core_made, with_canon, lower_made, builtin_made, with_import, with_export};
 ghost use Rattle.link_spec.specs.Linked.{root_begun, begun, with_instance};
 ghost use Rattle.link_spec.specs.Computed.{imports_outcome};
 ghost use Rattle.link_types.specs.Table.{IsName, IsExtern, IsInstanceType};
@@ -20,17 +22,19 @@ ghost use Rattle.link_instances.specs.References as references;
 ghost use Rattle.link_instances.specs.Fit.{IsFit};
 ghost use Rattle.link_meanings.specs.Meant.{IsFoundAs};
 ghost use Rattle.comp_link.specs.Reached.{IsReached};
-ghost use Rattle.comp_link.specs.State.{world_of, IsScope, IsKept, IsState, IsAt, IsThere, IsLive, Stands, ended};
+ghost use Rattle.comp_link.specs.State.{world_of, type_table, IsScope, IsKept, IsState, IsAt, IsThere, IsLive, Stands, ended};
+ghost use Rattle.comp_link.specs.Built.{IsBuilt};
 
 use crate::canons::lowered_to;
 use crate::link_fault::ItemError;
 use crate::scope::{Scope, Standing};
 use ca_base::{Name, Seq};
 use ca_types::Shared;
-use canon_types::lowered_type;
-use comp_graph::{Action, CanonFunc, CoreExtern, Options, graph_number};
+use canon_types::lower_type;
+use comp_graph::{Action, Builtin, BuiltinKind, CanonFunc, CoreExtern, Options, graph_number};
 use comp_tree::{Component, CoreArgument};
 use link_core_exports::{CoreExports, CoreItem, CoreModule, Cores, InlineExports};
+use link_core_types::CoreFuncType;
 use link_instances::{DefinitionRef, Fit, InstanceRef, Instances, LiftedRef};
 use link_types::{ExternRef, InstanceTypeRef, Listing, Types};
 use std::alloc::{AllocError, Global};
@@ -54,9 +58,9 @@ pub struct Linker<'a> {
     pub scopes: Vec<Scope<'a>>,
     /// The core modules, by their numbers, and the core instances that are made of them, in order of making.
     pub cores: Cores<'a>,
-    /// The core functions that functions are lowered to, in order of making.
+    /// The core functions that the Canonical ABI makes, in order of making.
     pub canons: Vec<CanonFunc>,
-    /// The number of the type of the function that each of them calls.
+    /// The number of the type of the function that each of them calls, if it calls one.
     pub canon_types: Vec<Option<u32>>,
     /// What is made, in file order.
     pub plan: Vec<Action>,
@@ -267,6 +271,27 @@ impl<'a> Linker<'a> {
         Ok(())
     }
 
+    /// Adds a core function that the Canonical ABI makes, with the number of the type of what it passes, and with its core type.
+    fn add_canon(
+        &mut self,
+        n: usize,
+        canon: CanonFunc,
+        passed: Option<u32>,
+        core_type: CoreFuncType,
+    ) -> Result<(), AllocError>
+        requires { n < length self.old.scopes.items }
+        ensures ok { OnOk result ((bases : List Exports) (l : Linking) (s : Spaces) → IsAt bases self.old n l s → HasCanonType (type_table self.old.types) passed canon → core_type ≡ canon_type canon → IsState bases self.new (with_canon l n s canon)) }
+        ensures scopes { OnOk result (length self.new.scopes.items ≡ length self.old.scopes.items) }
+        ensures live { OnOk result (ended self.new ≡ ended self.old) }
+    {
+        let number = graph_number(self.canons.len())?;
+        let item = CoreItem::made(number, core_type);
+        self.canon_types.push(passed)?;
+        self.canons.push(canon)?;
+        self.scopes[n].add_core_item(item)?;
+        Ok(())
+    }
+
     /// Lowers a function whose type is there, with these options: one core function more.
     pub fn add_lower(
         &mut self,
@@ -284,15 +309,30 @@ impl<'a> Linker<'a> {
         let Some(made) = lowered_to(alloc, &self.types, instance, func, options)? else {
             return Ok(());
         };
-        let number = graph_number(self.canons.len())?;
         let func_type = graph_number(func.func_type.number())?;
         let Some(laid) = self.types.laid_func(func.func_type) else {
             return Ok(());
         };
-        let item = CoreItem::made(number, lowered_type(laid));
-        self.canon_types.push(Some(func_type))?;
-        self.canons.push(made)?;
-        self.scopes[n].add_core_item(item)?;
+        let core_type = lower_type(laid, options.is_async);
+        self.add_canon(n, made, Some(func_type), core_type)?;
+        Ok(())
+    }
+
+    /// Adds a built-in, which passes no values of a type, with the type of its core function.
+    pub fn add_builtin(
+        &mut self,
+        n: usize,
+        kind: BuiltinKind,
+        core_type: CoreFuncType,
+    ) -> Result<(), AllocError>
+        requires { n < length self.old.scopes.items }
+        ensures ok { OnOk result ((bases : List Exports) (l : Linking) (s : Spaces) → IsAt bases self.old n l s → IsBuilt kind core_type → IsState bases self.new (builtin_made l n s kind)) }
+        ensures scopes { OnOk result (length self.new.scopes.items ≡ length self.old.scopes.items) }
+        ensures live { OnOk result (ended self.new ≡ ended self.old) }
+    {
+        let instance = graph_number(n)?;
+        let builtin = CanonFunc::Builtin(Builtin { instance, kind });
+        self.add_canon(n, builtin, None, core_type)?;
         Ok(())
     }
 

@@ -20,6 +20,7 @@ ghost use Rattle.comp_link.specs.Reached.{IsReached};
 ghost use Rattle.comp_link.specs.Running.{inside, placed_error, next_of};
 
 use crate::aliases::link_alias;
+use crate::builtins::link_builtin;
 use crate::core_instances::link_core_instance;
 use crate::exports::link_export;
 use crate::graphs::graph_of;
@@ -36,8 +37,8 @@ use comp_graph::Graph;
 use comp_tree::{Canon, Component, Item};
 use link_core_exports::CoreModule;
 use link_instances::InstanceRef;
+use link_spec::LinkFault;
 use link_spec::laws::graphs_are_sound;
-use link_spec::{LinkFault, LinkWhy};
 use std::alloc::Global;
 use wasm_typing::Valid;
 
@@ -74,7 +75,7 @@ fn link_component<'a>(
     Ok(())
 }
 
-/// Links a canonical function. No built-in is linked.
+/// Links a canonical function.
 fn link_canon(
     alloc: Global,
     linker: &mut Linker<'_>,
@@ -93,7 +94,7 @@ fn link_canon(
             func_type,
         } => link_lift(linker, n, *core_func, options.as_slice(), *func_type),
         Canon::Lower { func, options } => link_lower(alloc, linker, n, *func, options.as_slice()),
-        Canon::Builtin(_) => Err(MemoryOr::Fault(LinkWhy::Canon)),
+        Canon::Builtin(builtin) => link_builtin(linker, n, builtin),
     }
 }
 

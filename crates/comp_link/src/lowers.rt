@@ -16,7 +16,7 @@ ghost use Rattle.comp_link.specs.Ready.{IsLowering};
 use crate::link_fault::ItemError;
 use crate::linker::Linker;
 use ca_base::MemoryOr;
-use canon_types::{lower_needs_realloc, needs_memory, realloc_type, stand_once};
+use canon_types::{lower_needs_memory, lower_needs_realloc, realloc_type, stand_once};
 use comp_graph::Options;
 use comp_tree::CanonOption;
 use link_core_exports::Given;
@@ -32,7 +32,8 @@ fn can_be_lowered(laid: &LaidFunc, given: &Given<'_>) -> bool
 {
     given.realloc_is(&realloc_type())
         && !given.has_post_return()
-        && (!needs_memory(laid) || given.has_memory())
+        && !given.has_callback()
+        && (!lower_needs_memory(laid, given.is_async()) || given.has_memory())
         && (!lower_needs_realloc(laid) || given.has_realloc())
 }
 

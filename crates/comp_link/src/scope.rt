@@ -18,7 +18,7 @@ ghost use Rattle.comp_link.specs.State.{IsModule, IsScope, IsKept, AreGiven};
 
 use ca_base::{Name, Seq, adds};
 use ca_types::Shared;
-use canon_types::{are_there, indices_of};
+use canon_types::{are_there, has_async, indices_of};
 use comp_tree::{CanonOption, Component, CoreSort, Sort};
 use link_core_exports::{CoreExports, CoreItem, Given, item_at, item_named};
 use link_instances::{DefinitionRef, InstanceRef, LiftedRef};
@@ -273,6 +273,8 @@ impl<'a> Scope<'a> {
             item_named(&self.core_memories, indices.memory),
             item_named(&self.core_funcs, indices.realloc),
             item_named(&self.core_funcs, indices.post_return),
+            item_named(&self.core_funcs, indices.callback),
+            has_async(options),
         )
     }
 

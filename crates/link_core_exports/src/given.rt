@@ -11,12 +11,15 @@ use link_core_types::CoreFuncType;
 use std::marker::Model;
 
 /// What the options of a canonical function give it (Component Model, CanonicalABI.md, "Canonical ABI Options"): the memory, the
-/// core function that gives places in it, and the core function that is called when the result was lifted.
+/// core function that gives places in it, the core function that is called when the result was lifted, and the one that is called
+/// with each event of a task; and whether one is `async`.
 #[derive(Drop)]
 pub struct Given<'a> {
     memory: Option<CoreItem<'a>>,
     realloc: Option<CoreItem<'a>>,
     post_return: Option<CoreItem<'a>>,
+    callback: Option<CoreItem<'a>>,
+    is_async: bool,
 }
 
 impl<'a> Model for Given<'a> {
@@ -32,24 +35,35 @@ impl<'a> Model for Given<'a> {
 
     ghost coded = { Prim.hlevel (codes, func_type.the_row.coded, limits.the_row.coded, global_type.the_row.coded, core_ref.the_row.coded, func_ref.the_row.coded) };
 
-    ghost view = { λ g. record { memory = g.memory; realloc = g.realloc; post_return = g.post_return } };
+    ghost view = { λ g. record { memory = g.memory; realloc = g.realloc; post_return = g.post_return; callback = g.callback; is_async = g.is_async } };
 }
 
 impl<'a> Given<'a> {
-    /// This memory, this core function that gives places in it, and this one that is called when the result was lifted, where there
-    /// is one.
+    /// This memory, this core function that gives places in it, this one that is called when the result was lifted, and this one that
+    /// is called with each event of a task, where there is one; and whether an option is `async`.
     pub fn new(
         memory: Option<CoreItem<'a>>,
         realloc: Option<CoreItem<'a>>,
         post_return: Option<CoreItem<'a>>,
+        callback: Option<CoreItem<'a>>,
+        is_async: bool,
     ) -> Given<'a>
-        ensures { result ≡ record { memory = memory.entry; realloc = realloc.entry; post_return = post_return.entry } }
+        ensures { result ≡ record { memory = memory.entry; realloc = realloc.entry; post_return = post_return.entry; callback = callback.entry; is_async = is_async } }
     {
         Given {
             memory,
             realloc,
             post_return,
+            callback,
+            is_async,
         }
+    }
+
+    /// Whether an option is `async`.
+    pub fn is_async(&self) -> bool
+        ensures { result ≡ self.now.is_async }
+    {
+        self.is_async
     }
 
     /// Whether a memory is given.
@@ -73,6 +87,13 @@ impl<'a> Given<'a> {
         self.post_return.is_some()
     }
 
+    /// Whether a core function that is called with events is given.
+    pub fn has_callback(&self) -> bool
+        ensures { result ≡ is_some self.now.callback }
+    {
+        self.callback.is_some()
+    }
+
     /// Whether what is to give places is a core function of this type, where it is given.
     pub fn realloc_is(&self, func_type: &CoreFuncType) -> bool
         ensures { result ≡ option_map_or (is_of_core_type func_type.now) self.now.realloc true }
@@ -87,6 +108,13 @@ impl<'a> Given<'a> {
         is_or_absent(&self.post_return, func_type)
     }
 
+    /// Whether what is to be called with events is a core function of this type, where it is given.
+    pub fn callback_is(&self, func_type: &CoreFuncType) -> bool
+        ensures { result ≡ option_map_or (is_of_core_type func_type.now) self.now.callback true }
+    {
+        is_or_absent(&self.callback, func_type)
+    }
+
     /// The same without types.
     pub fn options(&self) -> Options
         ensures { result ≡ options_of self.now }
@@ -95,8 +123,8 @@ impl<'a> Given<'a> {
             memory: memory_of(&self.memory),
             realloc: func_of(&self.realloc),
             post_return: func_of(&self.post_return),
-            callback: None,
-            is_async: false,
+            callback: func_of(&self.callback),
+            is_async: self.is_async,
         }
     }
 }

@@ -7,22 +7,23 @@ use Rattle.ca_base.specs.Names.{is_among}
 use Rattle.ca_types.specs.declared.types.FuncType.{FuncType}
 use Rattle.wasm_module.specs.declared.types.FuncType as core
 use Rattle.comp_graph.specs.CoreItems.{core_func_of, func_part}
-use Rattle.comp_graph.specs.Needs.{lifted_type}
+use Rattle.comp_graph.specs.Needs.{lift_type}
 use Rattle.comp_tree.specs.declared.instances.Sort.{Sort}
 use Rattle.comp_tree.specs.declared.instances.AliasTarget.{AliasTarget}
 use Rattle.comp_tree.specs.declared.instances.AliasTarget.TheVariants as target
 use Rattle.comp_tree.specs.declared.externs.ExternDesc.{ExternDesc}
 use Rattle.comp_tree.specs.declared.externs.Export as read
+use Rattle.comp_tree.specs.declared.builtins.CanonBuiltin.{CanonBuiltin}
 use Rattle.comp_tree.specs.declared.items.CanonOption.{CanonOption}
 use Rattle.link_spec.specs.declared.fault.LinkWhy.TheVariants as why
 use Rattle.comp_graph.specs.Closed.{Closed, Extern, OfFunc, OfType, OfInstance, func_of}
 use Rattle.link_spec.specs.Definitions.{CoreItem, Func, Table, Memory, Global, core_named, Lifted, Definition, AFunc, AnInstance, Exports, export_names, export_named, lacks, seen_as, types_of}
-use Rattle.link_spec.specs.Canons.{IsOptionThere, Given, given_by, CanBeLifted, CanBeLowered, stand_once, is_option_there, can_be_lifted, can_be_lowered}
+use Rattle.link_spec.specs.Canons.{IsOptionThere, Given, given_by, options_of, CanBeLifted, CanBeLowered, stand_once, is_option_there, can_be_lifted, can_be_lowered}
 use Rattle.link_spec.specs.Types.{Meaning}
 use Rattle.link_spec.specs.Spaces.{Spaces, Linking, size_of, definition_at, IsOfSort, with_core_item, with_definition, with_spaces, outer_at}
-use Rattle.link_spec.specs.Items.{AnyByRecursion, IsCoreOf, alias_has, alias_makes, type_has, type_makes, lift_has, lift_makes, lower_has, lower_made, lower_makes, wanted, IsOfTypes, lacking, DoesNotFit, import_has, with_import, IsImported, import_makes, said, IsSaid, export_has, with_export, IsExported, export_makes}
+use Rattle.link_spec.specs.Items.{AnyByRecursion, IsCoreOf, alias_has, alias_makes, type_has, type_makes, lift_has, lift_makes, lower_has, lower_made, lower_makes, is_builtin_there, builtin_of, builtin_has, builtin_makes, wanted, IsOfTypes, lacking, DoesNotFit, import_has, with_import, IsImported, import_makes, said, IsSaid, export_has, with_export, IsExported, export_makes}
 use Rattle.link_spec.specs.Tests.{is_core_of, is_of_sort, fits, root_may_import}
-use Rattle.link_spec.specs.Computed.{after, there_or, Outcome, Makes, core_aliased, alias_outcome, type_outcome, lifted_to, lifted_of, lift_outcome, lowered_from, lower_outcome, root_given, as_asked, import_outcome, said_is_there, said_lacks, as_said, export_outcome}
+use Rattle.link_spec.specs.Computed.{after, there_or, Outcome, Makes, core_aliased, alias_outcome, type_outcome, lifted_to, lifted_of, lift_outcome, lowered_from, lower_outcome, builtin_outcome, root_given, as_asked, import_outcome, said_is_there, said_lacks, as_said, export_outcome}
 use Rattle.link_spec.proofs.Lists.{some_all, match_at, match_some, then_some}
 use Rattle.link_spec.proofs.Excluding.{both_of, true_false}
 use Rattle.link_spec.proofs.Telling.{less, not_less, fails, all_pass_or, core_of_told, sort_told, fits_told, root_refused, root_taken, root_types}
@@ -130,7 +131,7 @@ lifted_sound l n s f options t type item there are is clear =
     sound_if P Q (can_be_lifted type item given) why.Canon _ clear
     (λ other. inr (match_in (UnfitAt s f options) (option_and_then func_of (slice_get s.types t)) type is
     (match_in (Unfit s options type) (slice_get s.core_funcs f) item there (fails (can_be_lifted type item given) (lifted_told type item given) other)))) (λ fits.
-    sound_there P Q (core_func_of item) why.Canon _ clear (λ none. absurd (not_func item (lifted_type type) ((lifted_told type item given).0 fits).core none))
+    sound_there P Q (core_func_of item) why.Canon _ clear (λ none. absurd (not_func item (lift_type (options_of given) type) ((lifted_told type item given).0 fits).core none))
     (λ core of_item. (item, core, type, there, of_item, are, is, (once_told options).0 once, (lifted_told type item given).0 fits, refl))))
 
 -- options that are there, or not
@@ -195,6 +196,18 @@ lower_sound l n s f options =
     ]) in
     let typed = clear_typing P (clear_missing P index (λ name h. h)) (λ h. h) in
     sound_behind P Q (lowered_from func.func_type options (given_by s options)) _ (lowered_sound l n s f options func there are typed))))
+
+-- Built-ins.
+
+pub builtin_sound : (l : Linking) (n : ℕ) (s : Spaces) (b : CanonBuiltin) → Sound (builtin_has s b) (MakesBy (builtin_makes l n s b)) (builtin_outcome l n s b)
+builtin_sound l n s b =
+    let P = builtin_has s b in
+    let Q = MakesBy (builtin_makes l n s b) in
+    let root = clear_root P (λ h. h) in
+    sound_if P Q (is_builtin_there s b) why.Index _ root (λ absent. absent) (λ there.
+    (let index = clear_index P root (λ absent. true_false (is_builtin_there s b) there absent) in
+    let typed = clear_typing P (clear_missing P index (λ name h. h)) (λ h. h) in
+    sound_there P Q (builtin_of s b) why.Canon _ typed (λ none. none) (λ kind is. (kind, there, is, refl))))
 
 -- Imports.
 

@@ -1,22 +1,29 @@
 -- What is lifted is there, and what is lowered: the core function, or the function, and what options give, with the types that the
--- lift or the lower needs.
-use Rattle.std.proofs.Common.{◌≡◌, ℕ, false, List, [], refl, ap, subst, Option, Some, None}
+-- lift or the lower needs. What built-ins use is there.
+use Rattle.std.proofs.Common.{◌≡◌, ℕ, Bool, true, false, cond, nat_lt, List, [], refl, ap, subst, Option, Some, None}
 use Rattle.std.specs.Prelude.{IfSome, IsSome, is_some}
 use Rattle.std.specs.Option.{option_and_then}
+use Rattle.std.specs.List.{slice_get, AllByRecursion}
 use Rattle.ca_types.specs.declared.types.FuncType.{FuncType}
 use Rattle.wasm_module.specs.declared.types.Limits.{Limits}
 use Rattle.wasm_module.specs.declared.types.FuncType as core
 use Rattle.comp_graph.specs.declared.graph.FuncRef.{FuncRef}
 use Rattle.comp_graph.specs.declared.graph.CanonFunc.{CanonFunc}
 use Rattle.comp_graph.specs.CoreItems.{CoreItem, Func, Table, Memory, Global, core_func_of, core_memory_of}
-use Rattle.comp_graph.specs.Graph.{CoreMake, core_type, IsIn, IsItem, IsMemoryThere, IsLiftThere, IsCanonThere}
-use Rattle.comp_graph.specs.Needs.{lifted_type, realloc_type, post_return_type}
+use Rattle.comp_graph.specs.Graph.{CoreMake, core_type, IsIn, IsItem, IsMemoryThere, IsLiftThere, IsBuiltinThere, IsCanonThere}
+use Rattle.comp_graph.specs.Needs.{lift_type, realloc_type, callback_type, post_return_type}
+use Rattle.comp_graph.specs.declared.graph.BuiltinKind.{BuiltinKind}
+use Rattle.comp_graph.specs.declared.graph.BuiltinKind.TheVariants as builtin
+use Rattle.comp_tree.specs.declared.builtins.CanonBuiltin.{CanonBuiltin}
+use Rattle.comp_tree.specs.declared.builtins.CanonBuiltin.TheVariants as read_builtin
 use Rattle.link_spec.specs.Definitions.{Lifted}
-use Rattle.link_spec.specs.Canons.{Given, IsOfCoreType, CanBeLifted, CanBeLowered}
-use Rattle.link_spec.specs.Items.{lifted_with, lowered_with}
-use Rattle.link_spec.proofs.Holding.{holds_at, if_weaker, if_then, if_both}
+use Rattle.link_spec.specs.Canons.{Given, options_of, IsOfCoreType, CanBeLifted, CanBeLowered}
+use Rattle.link_spec.specs.Items.{lifted_with, lowered_with, builtin_of}
+use Rattle.link_spec.specs.Spaces.{Spaces}
+use Rattle.link_spec.proofs.Holding.{all_at, holds_at, if_weaker, if_mapped, if_then, if_both}
 use Rattle.link_spec.proofs.Kept.{IsMemoryOf, type_there}
 use Rattle.link_spec.proofs.Soundness.{lift_for, IsMemoryItem}
+use Rattle.link_spec.proofs.Telling.{less}
 
 -- a core function that is there, of a type
 item_type : (cores : List CoreMake) (canons : List CanonFunc) (item : CoreItem) (type : core.FuncType) → IsItem cores canons item → IsOfCoreType type item → IfSome (core_func_of item) (λ f. core_type cores canons f ≡ Some type)
@@ -42,6 +49,11 @@ given_there cores canons type given h k =
 given_there_and : (cores : List CoreMake) (canons : List CanonFunc) (type : core.FuncType) (P : Type 0) (f : Option FuncRef) → P → IfSome f (λ f. core_type cores canons f ≡ Some type) → IfSome f (λ f. (core_type cores canons f ≡ Some type) × P)
 given_there_and cores canons type P f p h = if_weaker (λ f. core_type cores canons f ≡ Some type) (λ f. (core_type cores canons f ≡ Some type) × P) (λ f k. (k, p)) f h
 
+given_there_if : (cores : List CoreMake) (canons : List CanonFunc) (type : core.FuncType) (P : Type 0) (given : Option CoreItem) → (IsSome given → P)
+    → IfSome (option_and_then core_func_of given) (λ f. core_type cores canons f ≡ Some type) → IfSome (option_and_then core_func_of given) (λ f. (core_type cores canons f ≡ Some type) × P)
+given_there_if cores canons type P None p h = tt
+given_there_if cores canons type P (Some item) p h = given_there_and cores canons type P (core_func_of item) (p refl) h
+
 -- what is given is a function, and a memory
 func_given : (type : core.FuncType) (given : Option CoreItem) → IfSome given (IsOfCoreType type) → IsSome given → IsSome (option_and_then core_func_of given)
 func_given type None h k = k
@@ -62,6 +74,7 @@ pub record IsGiven (cores : List CoreMake) (canons : List CanonFunc) (given : Gi
   pub memory : IfSome given.memory (IsMemoryItem cores canons)
   pub realloc : IfSome given.realloc (IsItem cores canons)
   pub post_return : IfSome given.post_return (IsItem cores canons)
+  pub callback : IfSome given.callback (IsItem cores canons)
 
 given_memory : (cores : List CoreMake) (canons : List CanonFunc) (given : Option CoreItem) → IfSome given (IsMemoryItem cores canons) → IsMemoryThere cores (option_and_then core_memory_of given)
 given_memory cores canons given h =
@@ -71,11 +84,11 @@ given_memory cores canons given h =
 pub lift_there : (cores : List CoreMake) (canons : List CanonFunc) (n : ℕ) (type : FuncType) (item : CoreItem) (core : FuncRef) (given : Given) → core_func_of item ≡ Some core → IsItem cores canons item → IsGiven cores canons given → CanBeLifted type item given
     → IsLiftThere cores canons type (lift_for (lifted_with n type core given))
 lift_there cores canons n type item core given is h k fits = record {
-  core = holds_at (λ f. core_type cores canons f ≡ Some (lifted_type type)) (core_func_of item) core (item_type cores canons item (lifted_type type) h fits.core) is;
+  core = holds_at (λ f. core_type cores canons f ≡ Some (lift_type (options_of given) type)) (core_func_of item) core (item_type cores canons item (lift_type (options_of given) type) h fits.core) is;
   memory = given_memory cores canons given.memory k.memory;
   realloc = given_there cores canons realloc_type given.realloc k.realloc fits.realloc;
-  post_return = given_there_and cores canons (post_return_type type) (false ≡ false) (option_and_then core_func_of given.post_return) refl (given_there cores canons (post_return_type type) given.post_return k.post_return fits.post_return);
-  callback = tt;
+  post_return = given_there_if cores canons (post_return_type type) (given.is_async ≡ false) given.post_return fits.returns (given_there cores canons (post_return_type type) given.post_return k.post_return fits.post_return);
+  callback = given_there_if cores canons callback_type (given.is_async ≡ true) given.callback fits.called_back (given_there cores canons callback_type given.callback k.callback fits.callback);
   memory_given = λ needs. memory_given cores canons given.memory k.memory (fits.memory_given needs);
   realloc_given = λ needs. func_given realloc_type given.realloc fits.realloc (fits.realloc_given needs);
 }
@@ -88,8 +101,25 @@ lower_there cores canons n func given h k fits = record {
     memory = given_memory cores canons given.memory k.memory;
     realloc = given_there cores canons realloc_type given.realloc k.realloc fits.realloc;
     post_return = ap (λ o. option_and_then core_func_of o) fits.post_return;
-    callback = refl;
+    callback = ap (λ o. option_and_then core_func_of o) fits.callback;
   };
   memory_given = λ needs. memory_given cores canons given.memory k.memory (fits.memory_given needs);
   realloc_given = λ needs. func_given realloc_type given.realloc fits.realloc (fits.realloc_given needs);
 }
+
+-- Built-ins.
+
+word_there : (cores : List CoreMake) (canons : List CanonFunc) (n : ℕ) (kind : BuiltinKind) (b : Bool) → (b ≡ true → IsBuiltinThere cores canons [] n kind) → IfSome (cond b (Some kind) None) (IsBuiltinThere cores canons [] n)
+word_there cores canons n kind true h = h refl
+word_there cores canons n kind false h = tt
+
+builtin_is : (cores : List CoreMake) (canons : List CanonFunc) (n : ℕ) (s : Spaces) (b : CanonBuiltin) → AllByRecursion (IsMemoryItem cores canons) s.core_memories → IfSome (builtin_of s b) (IsBuiltinThere cores canons [] n)
+builtin_is cores canons n s (read_builtin.Plain b) h = tt
+builtin_is cores canons n s (read_builtin.Context op slot) h = word_there cores canons n (builtin.Context op slot) (nat_lt slot 2) (less slot 2)
+builtin_is cores canons n s (read_builtin.Wait op cancellable memory) h =
+    if_mapped (λ m. builtin.Wait op cancellable m) (IsBuiltinThere cores canons [] n) (option_and_then core_memory_of (slice_get s.core_memories memory))
+    (given_memory cores canons (slice_get s.core_memories memory) (all_at (IsMemoryItem cores canons) s.core_memories memory h))
+builtin_is cores canons n s other h = tt
+
+pub builtin_there : (cores : List CoreMake) (canons : List CanonFunc) (n : ℕ) (s : Spaces) (b : CanonBuiltin) (kind : BuiltinKind) → AllByRecursion (IsMemoryItem cores canons) s.core_memories → builtin_of s b ≡ Some kind → IsBuiltinThere cores canons [] n kind
+builtin_there cores canons n s b kind h is = holds_at (IsBuiltinThere cores canons [] n) (builtin_of s b) kind (builtin_is cores canons n s b h) is

@@ -18,6 +18,7 @@ use Rattle.comp_tree.specs.declared.instances.AliasTarget.{AliasTarget}
 use Rattle.comp_tree.specs.declared.instances.AliasTarget.TheVariants as target
 use Rattle.comp_tree.specs.declared.externs.ExternDesc.{ExternDesc}
 use Rattle.comp_tree.specs.declared.externs.Export as read
+use Rattle.comp_tree.specs.declared.builtins.CanonBuiltin.{CanonBuiltin}
 use Rattle.comp_tree.specs.declared.items.CanonOption.{CanonOption}
 use Rattle.comp_tree.specs.declared.items.Canon.TheVariants.{Lift, Lower, Builtin}
 use Rattle.comp_tree.specs.declared.items.Item.{Item, out-Item}
@@ -28,7 +29,7 @@ use Rattle.link_spec.specs.Definitions.{CoreItem, CoreExport, Definition, AFunc,
 use Rattle.link_spec.specs.Canons.{given_by}
 use Rattle.link_spec.specs.Types.{Meaning}
 use Rattle.link_spec.specs.Spaces.{Spaces, Linking, definition_at, with_spaces, with_core_item, with_core_instance, with_definition}
-use Rattle.link_spec.specs.Items.{FindsItem, IsInline, core_made, core_instance_makes, AreNamed, instance_makes, alias_makes, lifted_with, lift_makes, lower_made, lower_makes, IsImported, with_import, import_makes, said, IsExported, with_export, export_makes, makes_case}
+use Rattle.link_spec.specs.Items.{FindsItem, IsInline, core_made, core_instance_makes, AreNamed, instance_makes, alias_makes, lifted_with, lift_makes, lower_made, lower_makes, builtin_of, builtin_made, builtin_makes, IsImported, with_import, import_makes, said, IsExported, with_export, export_makes, makes_case}
 use Rattle.link_spec.specs.Laws.{MakesOnce, BeginsOnce}
 use Rattle.link_spec.proofs.Lists.{same_zip}
 
@@ -97,6 +98,12 @@ lower_once : (l : Linking) (n : ℕ) (s : Spaces) (f : ℕ) (options : List Cano
 lower_once l n s f options a b (func, is, there, once, fits, made) (func', is', there', once', fits', made') =
     both_made (λ func. lower_made l n s func (given_by s options)) func func' a b (one_value _ func func' is is') made made'
 
+-- Built-ins.
+
+builtin_once : (l : Linking) (n : ℕ) (s : Spaces) (built : CanonBuiltin) (a b : Linking) → builtin_makes l n s built a → builtin_makes l n s built b → a ≡ b
+builtin_once l n s built a b (kind, there, is, made) (kind', there', is', made') =
+    both_made (builtin_made l n s) kind kind' a b (one_value (builtin_of s built) kind kind' is is') made made'
+
 -- Imports and exports.
 
 imported_once : (given : Option Exports) (name : List ℕ) (extern : Extern) (a b : Definition) → IsImported given name extern a → IsImported given name extern b → a ≡ b
@@ -135,7 +142,7 @@ case_once l n s (Item-F.Type type) a b (closed, is, made) (closed', is', made') 
     both_made (λ closed. with_spaces l n (with_definition s (AType closed))) closed closed' a b (one_value _ closed closed' is.0 is'.0) made made'
 case_once l n s (Item-F.Canon (Lift f options t)) a b h k = lift_once l n s f options t a b h k
 case_once l n s (Item-F.Canon (Lower f options)) a b h k = lower_once l n s f options a b h k
-case_once l n s (Item-F.Canon (Builtin built)) a b h k = absurd h
+case_once l n s (Item-F.Canon (Builtin built)) a b h k = builtin_once l n s built a b h k
 case_once l n s (Item-F.Import i) a b h k = import_once l n s i.name i.desc a b h k
 case_once l n s (Item-F.Export e) a b h k = export_once l n s e a b h k
 

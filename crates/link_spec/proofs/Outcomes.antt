@@ -10,15 +10,15 @@ use Rattle.link_spec.specs.declared.fault.LinkWhy.{LinkWhy}
 use Rattle.link_spec.specs.Definitions.{Closure, Exports}
 use Rattle.link_spec.specs.Types.{meaning_of}
 use Rattle.link_spec.specs.Spaces.{Spaces, Linking, levels_at}
-use Rattle.link_spec.specs.Items.{has_case, makes_case, item_has, builtin_has}
+use Rattle.link_spec.specs.Items.{has_case, makes_case, item_has}
 use Rattle.link_spec.specs.Linked.{IsFirst, Begins}
 use Rattle.link_spec.specs.Computed.{Outcome, Makes, Starts, outcome_case, item_outcome}
 use Rattle.link_spec.specs.Laws.{IsOutcome, OutcomeComputed, ReasonComputed}
 use Rattle.link_spec.proofs.Excluding.{makes_excludes_reasons, begins_excludes_reasons, makes_excludes_begins}
 use Rattle.link_spec.proofs.Making.{makes_once, begins_once}
 use Rattle.link_spec.proofs.Naming.{one_first}
-use Rattle.link_spec.proofs.Sounding.{Clear, First, Sound, sound_map, clear_root, clear_index, clear_missing, clear_typing}
-use Rattle.link_spec.proofs.ItemOutcomes.{alias_sound, type_sound, lift_sound, lower_sound, import_sound, export_sound}
+use Rattle.link_spec.proofs.Sounding.{First, Sound, sound_map}
+use Rattle.link_spec.proofs.ItemOutcomes.{alias_sound, type_sound, lift_sound, lower_sound, builtin_sound, import_sound, export_sound}
 use Rattle.link_spec.proofs.CoreOutcomes.{MakesBy, InstanceComes, BeginsBy, core_instance_sound, instance_sound}
 
 -- Items.
@@ -39,10 +39,6 @@ instance_comes : (l : Linking) (n : ℕ) (s : Spaces) (i : made_of.Instance) (o 
 instance_comes l n s i (Makes new) h = h
 instance_comes l n s i (Starts c arguments) h = h
 
--- A built-in has one reason.
-builtin_clear : Clear builtin_has 4
-builtin_clear = clear_typing builtin_has (clear_missing builtin_has (clear_index builtin_has (clear_root builtin_has (λ h. h)) (λ h. h)) (λ name h. h)) (λ h. h)
-
 case_sound : (l : Linking) (n : ℕ) (s : Spaces) (shape : Item-F Item Component) → Sound (has_case l n s shape) (CaseComes l n s shape) (outcome_case l n s shape)
 case_sound l n s (Item-F.CoreModule m) = refl
 case_sound l n s (Item-F.CoreInstance c) = sound_map _ _ (CaseComes l n s (Item-F.CoreInstance c)) _ (only_makes l n s (Item-F.CoreInstance c) _ (λ new h. h)) (core_instance_sound l n s c)
@@ -53,7 +49,7 @@ case_sound l n s (Item-F.Type type) =
     sound_map _ _ (CaseComes l n s (Item-F.Type type)) _ (only_makes l n s (Item-F.Type type) _ (λ new h. h)) (type_sound l n s (meaning_of type (levels_at l (n ∷ s.around))))
 case_sound l n s (Item-F.Canon (Lift f options t)) = sound_map _ _ (CaseComes l n s (Item-F.Canon (Lift f options t))) _ (only_makes l n s (Item-F.Canon (Lift f options t)) _ (λ new h. h)) (lift_sound l n s f options t)
 case_sound l n s (Item-F.Canon (Lower f options)) = sound_map _ _ (CaseComes l n s (Item-F.Canon (Lower f options))) _ (only_makes l n s (Item-F.Canon (Lower f options)) _ (λ new h. h)) (lower_sound l n s f options)
-case_sound l n s (Item-F.Canon (Builtin b)) = record { has = tt; clear = builtin_clear }
+case_sound l n s (Item-F.Canon (Builtin b)) = sound_map _ _ (CaseComes l n s (Item-F.Canon (Builtin b))) _ (only_makes l n s (Item-F.Canon (Builtin b)) _ (λ new h. h)) (builtin_sound l n s b)
 case_sound l n s (Item-F.Import i) = sound_map _ _ (CaseComes l n s (Item-F.Import i)) _ (only_makes l n s (Item-F.Import i) _ (λ new h. h)) (import_sound l n s i.name i.desc)
 case_sound l n s (Item-F.Export e) = sound_map _ _ (CaseComes l n s (Item-F.Export e)) _ (only_makes l n s (Item-F.Export e) _ (λ new h. h)) (export_sound l n s e)
 

@@ -1,5 +1,5 @@
 -- Small components, item by item: items are taken by their outer layers, and types by their folds.
-use Rattle.std.proofs.Common.{◌≡◌, ◌∙◌, sym, ap, refl, ℕ, Bool, true, false, map, List, [], ◌∷◌, Some}
+use Rattle.std.proofs.Common.{◌≡◌, ◌∙◌, sym, ap, refl, ℕ, Bool, true, false, map, List, [], ◌∷◌, None, Some}
 use Rattle.std.specs.Prelude.{Ok, Result, codes}
 use Rattle.ca_types.specs.declared.core_type.CoreType.{CoreType}
 use Rattle.ca_types.specs.declared.core_type.CoreType.TheVariants.{I32}
@@ -12,7 +12,12 @@ use Rattle.ca_types.specs.Flat.{flat, flat_step, flat_case, flat_field}
 use Rattle.laid_types.specs.Lists.{has_list, list_step}
 use Rattle.wasm_module.specs.declared.types.ValType.TheVariants as core
 use Rattle.comp_graph.specs.Graph.{Graph, no_options}
-use Rattle.comp_graph.specs.Needs.{lifted_type, lowered_type, needs_memory, lift_needs_realloc, lower_needs_realloc}
+use Rattle.comp_graph.specs.Needs.{lifted_type, lowered_type, lift_type, lower_type, needs_memory, lift_needs_memory, lift_needs_realloc, lower_needs_memory, lower_needs_realloc}
+use Rattle.comp_graph.specs.declared.graph.BuiltinKind.TheVariants as builtin
+use Rattle.comp_tree.specs.declared.builtins.CanonBuiltin.TheVariants as read_builtin
+use Rattle.builtin_kinds.specs.declared.PlainBuiltin.TheVariants as plain_builtin
+use Rattle.builtin_kinds.specs.declared.ContextOp.TheVariants as context_op
+use Rattle.builtin_kinds.specs.declared.WaitOp.TheVariants as wait_op
 use Rattle.comp_tree.specs.declared.instances.Sort.TheVariants as sorts
 use Rattle.comp_tree.specs.declared.externs.ExternDesc.{ExternDesc}
 use Rattle.comp_tree.specs.declared.externs.ExternDesc.TheVariants as desc
@@ -42,7 +47,7 @@ use Rattle.link_spec.specs.Computed.{Run, run, run_within, answer_of, linked}
 use Rattle.link_spec.specs.Same.{same_val}
 use Rattle.link_spec.proofs.Depths.{leaf_depth}
 use Rattle.link_spec.proofs.SameValues.{val_told}
-use Rattle.link_spec.specs.Examples.{root, fault, u32, of_types, import, outer, export_type, wanting, instantiate, giving_both, begins, of_one, make_with_absent, lifting, lifting_twice, with_memory, callable_as, lowering, lowering_string, taking_string, giving_string, passing, passed}
+use Rattle.link_spec.specs.Examples.{root, fault, u32, of_types, import, outer, export_type, wanting, instantiate, giving_both, begins, of_one, make_with_absent, lifting, lifting_twice, with_memory, callable_as, lowering, lowering_string, taking_string, giving_string, passing, passed, built, making, with_async, with_callback}
 
 pub value_rolled : (type : DefValType) (levels : List Level) → meaning_of (plain_type.Value type) levels ≡ value_meaning (types_around levels) type
 value_rolled type levels =
@@ -135,6 +140,12 @@ lifts_with_memory inside = simp layers refl
 pub memory_twice : (inside : Run) → answer_of (run inside root_begun 0 (root (lifting (option.Memory 0 ∷ option.Memory 0 ∷ []))).items) ≡ fault 5 why.Canon
 memory_twice inside = simp layers refl
 
+pub callback_alone : (inside : Run) → answer_of (run inside root_begun 0 (root (lifting (option.Callback 0 ∷ []))).items) ≡ fault 5 why.Canon
+callback_alone inside = simp layers refl
+
+pub result_given : (inside : Run) → answer_of (run inside root_begun 0 (root (lifting (option.Async ∷ []))).items) ≡ fault 5 why.Canon
+result_given inside = simp layers refl
+
 pub absent_argument : (inside : Run) → answer_of (run inside root_begun 0 (root (plain.CoreModule of_one ∷ make_with_absent ∷ [])).items) ≡ fault 1 why.Index
 absent_argument inside = simp layers refl
 
@@ -175,3 +186,35 @@ string_lowered = rw string_flat refl
 
 pub string_lifted : lifted_type giving_string ≡ record { params = []; results = core.I32 ∷ [] }
 string_lifted = rw string_flat refl
+
+-- what the kinds of lifts and lowers of a function that gives a string need
+pub async_lifted : lift_type with_async giving_string ≡ record { params = []; results = [] }
+async_lifted = refl
+
+pub called_back : lift_type with_callback giving_string ≡ record { params = []; results = core.I32 ∷ [] }
+called_back = refl
+
+pub async_needs_no_memory : lift_needs_memory true giving_string ≡ false
+async_needs_no_memory = refl
+
+pub async_lowered : lower_type true giving_string ≡ record { params = core.I32 ∷ []; results = core.I32 ∷ [] }
+async_lowered = rw string_flat refl
+
+pub async_needs_memory : lower_needs_memory true giving_string ≡ true
+async_needs_memory = simp (string_flat, string_holds_list) refl
+
+-- built-ins
+pub set_made : (inside : Run) → answer_of (run inside root_begun 0 (built (read_builtin.Plain plain_builtin.WaitableSetNew)).items) ≡ making (builtin.Plain plain_builtin.WaitableSetNew)
+set_made inside = simp layers refl
+
+pub word_set : (inside : Run) → answer_of (run inside root_begun 0 (built (read_builtin.Context context_op.Set 1)).items) ≡ making (builtin.Context context_op.Set 1)
+word_set inside = simp layers refl
+
+pub no_word : (inside : Run) → answer_of (run inside root_begun 0 (built (read_builtin.Context context_op.Set 2)).items) ≡ fault 0 why.Canon
+no_word inside = simp layers refl
+
+pub no_event_memory : (inside : Run) → answer_of (run inside root_begun 0 (built (read_builtin.Wait wait_op.Poll false 0)).items) ≡ fault 0 why.Index
+no_event_memory inside = simp layers refl
+
+pub result_not_returned : (inside : Run) → answer_of (run inside root_begun 0 (built (read_builtin.TaskReturn None [])).items) ≡ fault 0 why.Canon
+result_not_returned inside = simp layers refl

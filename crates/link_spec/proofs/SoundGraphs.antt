@@ -9,7 +9,6 @@ use Rattle.comp_graph.specs.declared.graph.Lift.{Lift}
 use Rattle.comp_graph.specs.declared.graph.CanonFunc.{CanonFunc}
 use Rattle.comp_graph.specs.declared.graph.CanonFunc.TheVariants as canon_func
 use Rattle.comp_graph.specs.Graph.{Graph, IsLiftThere, AreImported, AreMade, none_made}
-use Rattle.comp_graph.specs.Running.{IsSync, IsSyncLift, IsSyncCanon}
 use Rattle.comp_tree.specs.declared.items.Item.{Item, out-Item}
 use Rattle.comp_tree.specs.declared.items.Component.{Component}
 use Rattle.link_spec.specs.Definitions.{Closure, AFunc, AnInstance, Exports, EmptyInstance, WithExport}
@@ -18,10 +17,10 @@ use Rattle.link_spec.specs.Linked.{Begins, begun, exports_or, exports_at, with_i
 use Rattle.link_spec.specs.Distinct.{HasDistinctLabels}
 use Rattle.link_spec.specs.Shallow.{HasShallowTypes}
 use Rattle.link_spec.specs.Standing.{StandsIn, stands_behind}
-use Rattle.link_spec.specs.Laws.{GraphsAreImported, LiftsAreThere, GraphsAreMade, LabelsAreDistinct, TypesAreShallow, HasSoundType, LoweredTypesAreSound, GraphsAreSync, GraphsHaveNoEnds, ModulesStand}
+use Rattle.link_spec.specs.Laws.{GraphsAreImported, LiftsAreThere, GraphsAreMade, LabelsAreDistinct, TypesAreShallow, HasSoundType, LoweredTypesAreSound, GraphsHaveNoResources, GraphsHaveNoEnds, ModulesStand}
 use Rattle.link_spec.proofs.Holding.{all_push, all_both, all_at, all_mapped, all_weaker, holds_at}
 use Rattle.link_spec.proofs.Modules.{ModulesHave, shape_has}
-use Rattle.link_spec.proofs.Soundness.{IsFuncSound, IsLowered, AreSound, AreSpacesSound, IsLinkingSound}
+use Rattle.link_spec.proofs.Soundness.{IsFuncSound, HasApartType, AreSound, AreSpacesSound, IsLinkingSound}
 use Rattle.link_spec.proofs.SoundSpaces.{kept_spaces, sound_definition, sound_new}
 use Rattle.link_spec.proofs.SoundSeen.{are_named_sound}
 use Rattle.link_spec.proofs.SoundItems.{IsReached, with_spaces_sound, case_reached}
@@ -132,30 +131,16 @@ lifts_are_there c g (l, links, is) =
 pub graphs_are_made : GraphsAreMade
 graphs_are_made c g (l, links, is) = subst (λ (g : Graph). AreMade g.cores g.canons g.resources) (sym is) (any_sound c l links).made
 
-sound_type : (f : CanonFunc) → IsLowered f → HasSoundType f
-sound_type (canon_func.Lower l) h = h.0
+sound_type : (f : CanonFunc) → HasApartType f → HasSoundType f
+sound_type (canon_func.Lower l) h = h
 sound_type (canon_func.Builtin b) h = tt
 
 pub lowered_types_are_sound : LoweredTypesAreSound
 lowered_types_are_sound c g (l, links, is) =
-    subst (λ (g : Graph). AllByRecursion HasSoundType g.canons) (sym is) (all_weaker IsLowered HasSoundType sound_type l.canons (any_sound c l links).called)
+    subst (λ (g : Graph). AllByRecursion HasSoundType g.canons) (sym is) (all_weaker HasApartType HasSoundType sound_type l.canons (any_sound c l links).called)
 
--- All is synchronous.
-sync_canon : (f : CanonFunc) → IsLowered f → IsSyncCanon f
-sync_canon (canon_func.Lower l) h = (h.1, h.2)
-sync_canon (canon_func.Builtin b) h = absurd h
-
-sync_graph : (l : Linking) → IsLinkingSound AnyModule l → IsSync (graph_of l)
-sync_graph l h = record {
-  canons = all_weaker IsLowered IsSyncCanon sync_canon l.canons h.called;
-  lifts =
-      all_mapped lift_of IsSyncLift (callables (exports_at l 0))
-      (all_weaker (λ (c : Callable). IsFuncSound l.cores l.canons c.func) (λ (c : Callable). IsSyncLift (lift_of c)) (λ c k. k.sync) (callables (exports_at l 0)) (root_callables AnyModule l h));
-  resources = refl;
-}
-
-pub graphs_are_sync : GraphsAreSync
-graphs_are_sync c g (l, links, is) = subst IsSync (sym is) (sync_graph l (any_sound c l links))
+pub graphs_have_no_resources : GraphsHaveNoResources
+graphs_have_no_resources c g (l, links, is) = ap (λ (g : Graph). g.resources) is
 
 pub graphs_have_no_ends : GraphsHaveNoEnds
 graphs_have_no_ends c g (l, links, is) = ap (λ (g : Graph). g.end_types) is

@@ -1,5 +1,5 @@
--- What an item makes of a sound linking is sound, and core instances and functions that are lowered come only behind those that
--- there are.
+-- What an item makes of a sound linking is sound, and core instances and core functions of the Canonical ABI come only behind those
+-- that there are.
 use Rattle.std.proofs.Common.{◌≡◌, ℕ, List, [], ◌∷◌, ◌++◌, length, map, refl, sym, ap, subst, append-nil, Option, Some, None}
 use Rattle.std.specs.Prelude.{IfSome}
 use Rattle.std.specs.Option.{option_map, option_and_then}
@@ -14,8 +14,8 @@ use Rattle.wasm_module.specs.Spaces.{type_of_func, global_space}
 use Rattle.comp_graph.specs.CoreItems.{table_space, memory_space}
 use Rattle.comp_graph.specs.declared.graph.FuncRef.TheVariants as func_ref
 use Rattle.comp_graph.specs.declared.graph.CanonFunc.{CanonFunc}
+use Rattle.comp_graph.specs.declared.graph.CanonFunc.TheVariants as canon_func
 use Rattle.comp_graph.specs.Graph.{canon_type, IsItem, IsCanonThere, HasImports, instance_made, canon_made}
-use Rattle.comp_graph.specs.Needs.{lowered_type}
 use Rattle.comp_tree.specs.declared.core_instances.CoreArgument.{CoreArgument}
 use Rattle.comp_tree.specs.declared.core_instances.CoreInlineExport.{CoreInlineExport}
 use Rattle.comp_tree.specs.declared.core_instances.CoreInstance.{CoreInstance}
@@ -27,6 +27,7 @@ use Rattle.comp_tree.specs.declared.instances.AliasTarget.{AliasTarget}
 use Rattle.comp_tree.specs.declared.instances.AliasTarget.TheVariants as target
 use Rattle.comp_tree.specs.declared.externs.ExternDesc.{ExternDesc}
 use Rattle.comp_tree.specs.declared.externs.Export as read
+use Rattle.comp_tree.specs.declared.builtins.CanonBuiltin.{CanonBuiltin}
 use Rattle.comp_tree.specs.declared.items.CanonOption.{CanonOption}
 use Rattle.comp_tree.specs.declared.items.Canon.TheVariants.{Lift, Lower, Builtin}
 use Rattle.comp_tree.specs.declared.items.Item.{Item}
@@ -35,16 +36,16 @@ use Rattle.comp_tree.specs.declared.items.Component.{Component}
 use Rattle.comp_graph.specs.Closed.{Extern, OfFunc, OfType, OfInstance, func_of}
 use Rattle.link_spec.specs.Definitions.{CoreItem, Func, Table, Memory, Global, extern_of, item_of, CoreFits, CoreExport, core_named, listed, exports_of, Definition, AFunc, AType, AComponent, AnInstance, AModule, Exports, WithExport, export_named}
 use Rattle.link_spec.specs.Spaces.{CoreMake, Spaces, Linking, Level, level_of, listed_level, levels_at, core_item_at, definition_at, with_core_item, with_core_instance, with_definition, with_spaces, outer_definition, outer_at}
-use Rattle.link_spec.specs.Canons.{memory_index, realloc_index, post_return_index, first_index, given_by}
+use Rattle.link_spec.specs.Canons.{memory_index, realloc_index, post_return_index, callback_index, first_index, given_by}
 use Rattle.link_spec.specs.Types.{meaning_of}
-use Rattle.link_spec.specs.Items.{argument_named, import_found, FindsItem, IsInline, core_instance_makes, instance_makes, alias_makes, lifted_with, lift_makes, lowered_with, lower_makes, wanted, IsImported, import_makes, said, IsExported, export_makes, makes_case}
+use Rattle.link_spec.specs.Items.{argument_named, import_found, FindsItem, IsInline, core_instance_makes, instance_makes, alias_makes, lifted_with, lift_makes, with_canon, lowered_with, lower_makes, builtin_makes, wanted, IsImported, import_makes, said, IsExported, export_makes, makes_case}
 use Rattle.link_spec.proofs.Holding.{all_push, all_set, all_weaker, all_mapped, all_flat, all_at, all_second, zip_weaker, holds_at, if_weaker, if_mapped, if_found, if_each, if_cond, last_there}
 use Rattle.link_spec.proofs.Kept.{imported_behind, kept_imported}
 use Rattle.link_spec.proofs.Apart.{IsFuncApart, IsApart, IsExternApart, IsKnownApart, of_func_apart, desc_apart}
 use Rattle.link_spec.proofs.ApartMeanings.{IsLevelApart, AreLevelsApart, meaning_apart}
 use Rattle.link_spec.proofs.Modules.{ShapeHas}
-use Rattle.link_spec.proofs.Soundness.{IsFuncSound, IsLowered, IsMemoryItem, AreThere, IsSound, AreSound, AreSpacesSound, IsLinkingSound}
-use Rattle.link_spec.proofs.LiftsThere.{IsGiven, lift_there, lower_there}
+use Rattle.link_spec.proofs.Soundness.{IsFuncSound, HasApartType, IsMemoryItem, AreThere, IsSound, AreSound, AreSpacesSound, IsLinkingSound}
+use Rattle.link_spec.proofs.LiftsThere.{IsGiven, lift_there, lower_there, builtin_there}
 use Rattle.link_spec.proofs.SoundSpaces.{more_cores, more_canons, sound_core_item, sound_core_instance, sound_definition, sound_imports, sound_exports, item_there, definition_sound, outer_sound, named_sound, core_named_there}
 use Rattle.link_spec.proofs.SoundSeen.{seen_sound, types_sound, are_named_sound}
 
@@ -78,7 +79,7 @@ module _ (cores : List CoreMake) (canons : List CanonFunc) (core : CoreMake) (nu
       (λ e. listed_there (option_map (λ item. (let x : CoreExport = record { name = e.name; item = item } in x)) (item_of core.of_module number e.desc))
       (if_mapped (λ item. (let x : CoreExport = record { name = e.name; item = item } in x)) (λ (e : CoreExport). IsItem cores canons e.item) (item_of core.of_module number e.desc) (item_of_there e.desc))) core.of_module.exports
 
--- A linking that is sound, and has all core instances of one before it, and all that is lowered in it.
+-- A linking that is sound, and has all core instances of one before it, and all core functions of the Canonical ABI.
 pub record IsReached (R : ModuleTree → Type 0) (l new : Linking) : Type 0 where
   pub sound : IsLinkingSound R new
   pub more : List CoreMake
@@ -187,6 +188,7 @@ module _ (R : ModuleTree → Type 0) where
     memory = if_each (slice_get s.core_memories) (IsMemoryItem cores canons) (λ index. all_at (IsMemoryItem cores canons) s.core_memories index k.core.memories_there) (first_index memory_index options);
     realloc = if_each (slice_get s.core_funcs) (IsItem cores canons) (λ index. all_at (IsItem cores canons) s.core_funcs index k.core.funcs_there) (first_index realloc_index options);
     post_return = if_each (slice_get s.core_funcs) (IsItem cores canons) (λ index. all_at (IsItem cores canons) s.core_funcs index k.core.funcs_there) (first_index post_return_index options);
+    callback = if_each (slice_get s.core_funcs) (IsItem cores canons) (λ index. all_at (IsItem cores canons) s.core_funcs index k.core.funcs_there) (first_index callback_index options);
   }
 
   lift_reached : (l : Linking) (n : ℕ) (s : Spaces) (f : ℕ) (options : List CanonOption) (t : ℕ) (new : Linking) → IsLinkingSound R l → AreSpacesSound R l.cores l.canons s → lift_makes l n s f options t new → IsReached R l new
@@ -196,20 +198,19 @@ module _ (R : ModuleTree → Type 0) where
             lift_there l.cores l.canons n type item core (given_by s options) of_item (holds_at (IsItem l.cores l.canons) (slice_get s.core_funcs f) item (all_at (IsItem l.cores l.canons) s.core_funcs f k.core.funcs_there) is)
             (options_given l.cores l.canons s options k) fits;
         apart = holds_at IsFuncApart (option_and_then func_of (slice_get s.types t)) type (if_found func_of IsApart IsFuncApart of_func_apart (slice_get s.types t) (all_at IsApart s.types t k.defined.types_apart)) of_type;
-        sync = refl;
       })
 
-  -- Lowers.
-  lower_reached : (l : Linking) (n : ℕ) (s : Spaces) (f : ℕ) (options : List CanonOption) (new : Linking) → IsLinkingSound R l → AreSpacesSound R l.cores l.canons s → lower_makes l n s f options new → IsReached R l new
-  lower_reached l n s f options new h k (func, is, there, once, fits, made) =
+  -- Core functions of the Canonical ABI.
+  canon_reached : (l : Linking) (n : ℕ) (s : Spaces) (canon : CanonFunc) (new : Linking) → IsLinkingSound R l → AreSpacesSound R l.cores l.canons s → HasApartType canon → IsCanonThere l.cores l.canons [] canon → new ≡ with_canon l n s canon → IsReached R l new
+  canon_reached l n s canon new h k apart there made =
       subst (IsReached R l) (sym made) (record {
         sound = record {
           scopes = all_set (AreSpacesSound R l.cores longer) l.scopes n (with_core_item s item)
               (all_weaker (AreSpacesSound R l.cores l.canons) (AreSpacesSound R l.cores longer) (more_canons R l.cores l.canons (canon ∷ [])) l.scopes h.scopes)
               (sound_core_item R l.cores longer s item (more_canons R l.cores l.canons (canon ∷ []) s k) item_is);
           imported = kept_imported l.canons (canon ∷ []) [] l.cores h.imported;
-          made = canon_made l.cores l.canons [] canon h.made canon_there;
-          called = all_push IsLowered l.canons canon h.called (func_sound.apart, refl, func_sound.sync);
+          made = canon_made l.cores l.canons [] canon h.made there;
+          called = all_push HasApartType l.canons canon h.called apart;
           modules_have = h.modules_have;
         };
         more = [];
@@ -218,23 +219,24 @@ module _ (R : ModuleTree → Type 0) where
         wider = refl;
       })
     where
-      canon : CanonFunc
-      canon = lowered_with n func (given_by s options)
-
       longer : List CanonFunc
       longer = l.canons ++ canon ∷ []
 
       item : CoreItem
-      item = Func (func_ref.Canon (length l.canons)) (lowered_type func.func_type)
+      item = Func (func_ref.Canon (length l.canons)) (canon_type canon)
 
       item_is : IsItem l.cores longer item
       item_is = ap (λ o. option_map canon_type o) (last_there l.canons canon)
 
-      func_sound : IsFuncSound l.cores l.canons func
-      func_sound = holds_at (IsFuncSound l.cores l.canons) (slice_get s.funcs f) func (all_at (IsFuncSound l.cores l.canons) s.funcs f k.defined.funcs_sound) is
+  lower_reached : (l : Linking) (n : ℕ) (s : Spaces) (f : ℕ) (options : List CanonOption) (new : Linking) → IsLinkingSound R l → AreSpacesSound R l.cores l.canons s → lower_makes l n s f options new → IsReached R l new
+  lower_reached l n s f options new h k (func, is, there, once, fits, made) =
+      let func_sound : IsFuncSound l.cores l.canons func = holds_at (IsFuncSound l.cores l.canons) (slice_get s.funcs f) func (all_at (IsFuncSound l.cores l.canons) s.funcs f k.defined.funcs_sound) is in
+      canon_reached l n s (lowered_with n func (given_by s options)) new h k func_sound.apart
+      (lower_there l.cores l.canons n func (given_by s options) func_sound.there (options_given l.cores l.canons s options k) fits) made
 
-      canon_there : IsCanonThere l.cores l.canons [] canon
-      canon_there = lower_there l.cores l.canons n func (given_by s options) func_sound.there (options_given l.cores l.canons s options k) fits
+  builtin_reached : (l : Linking) (n : ℕ) (s : Spaces) (b : CanonBuiltin) (new : Linking) → IsLinkingSound R l → AreSpacesSound R l.cores l.canons s → builtin_makes l n s b new → IsReached R l new
+  builtin_reached l n s b new h k (kind, there, is, made) =
+      canon_reached l n s (canon_func.Builtin (record { instance = n; kind = kind })) new h k tt (builtin_there l.cores l.canons n s b kind k.core.memories_there is) made
 
   -- Imports and exports.
   wanted_apart : (cores : List CoreMake) (canons : List CanonFunc) (s : Spaces) (asked : ExternDesc) → AreSpacesSound R cores canons s → IfSome (wanted s asked).means IsExternApart
@@ -274,6 +276,6 @@ module _ (R : ModuleTree → Type 0) where
       (holds_at IsApart (meaning_of type (levels_at l (n ∷ s.around))).means closed (meaning_apart type (levels_at l (n ∷ s.around)) (levels_apart l (n ∷ s.around) h)) means.0)
   case_reached l n s (Item-F.Canon (Lift f options t)) new has h k makes = lift_reached l n s f options t new h k makes
   case_reached l n s (Item-F.Canon (Lower f options)) new has h k makes = lower_reached l n s f options new h k makes
-  case_reached l n s (Item-F.Canon (Builtin b)) new has h k makes = absurd makes
+  case_reached l n s (Item-F.Canon (Builtin b)) new has h k makes = builtin_reached l n s b new h k makes
   case_reached l n s (Item-F.Import i) new has h k makes = import_reached l n s i.name i.desc new h k makes
   case_reached l n s (Item-F.Export e) new has h k makes = export_reached l n s e new h k makes

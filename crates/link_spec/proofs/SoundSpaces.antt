@@ -34,7 +34,7 @@ kept_memory cores more canons others (Table t limits) h = absurd h
 kept_memory cores more canons others (Global g type) h = absurd h
 
 kept_func : (cores more : List CoreMake) (canons others : List CanonFunc) (f : Lifted) → IsFuncSound cores canons f → IsFuncSound (cores ++ more) (canons ++ others) f
-kept_func cores more canons others f h = record { there = kept_lift cores more canons others f.func_type (lift_for f) h.there; apart = h.apart; sync = h.sync }
+kept_func cores more canons others f h = record { there = kept_lift cores more canons others f.func_type (lift_for f) h.there; apart = h.apart }
 
 module _ (R : ModuleTree → Type 0) where
   mutual

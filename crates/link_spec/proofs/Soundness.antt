@@ -1,6 +1,6 @@
 -- Sound definitions: what each function lifts with is there, with the types that it needs; types are apart, no two names of an
 -- instance are equal, and each module has what those of the component have. Sound spaces hold sound definitions and core items that
--- are there. Of sound linkings what is lowered is there.
+-- are there. Of sound linkings what the Canonical ABI makes stands on what is there.
 use Rattle.std.proofs.Common.{◌≡◌, false, List, []}
 use Rattle.std.specs.Prelude.{IfSome}
 use Rattle.std.specs.List.{AllByRecursion}
@@ -10,7 +10,6 @@ use Rattle.comp_graph.specs.declared.graph.Lift.{Lift}
 use Rattle.comp_graph.specs.declared.graph.CanonFunc.{CanonFunc}
 use Rattle.comp_graph.specs.declared.graph.CanonFunc.TheVariants as canon_func
 use Rattle.comp_graph.specs.Graph.{CoreMake, IsLiftThere, IsItem, AreImported, AreMade}
-use Rattle.comp_graph.specs.Running.{IsSyncLift}
 use Rattle.comp_graph.specs.Closed.{Closed}
 use Rattle.link_spec.specs.Definitions.{CoreItem, Memory, CoreExport, Lifted, Closure, Definition, AFunc, AType, AComponent, AnInstance, AModule, Exports, EmptyInstance, WithExport, export_names}
 use Rattle.link_spec.specs.Spaces.{Spaces, Linking}
@@ -24,12 +23,11 @@ lift_for f = record { instance = f.instance; core = f.core; options = f.options 
 pub record IsFuncSound (cores : List CoreMake) (canons : List CanonFunc) (f : Lifted) : Type 0 where
   pub there : IsLiftThere cores canons f.func_type (lift_for f)
   pub apart : IsFuncApart f.func_type
-  pub sync : IsSyncLift (lift_for f)
 
--- What is lowered has a type whose labels are apart and which is shallow, and is synchronous, as its lift is. Nothing else is made.
-abbrev pub IsLowered : CanonFunc → Type 0
-IsLowered (canon_func.Lower l) = IsFuncApart l.func_type × (l.options.is_async ≡ false) × IsSyncLift l.lift
-IsLowered (canon_func.Builtin b) = ⊥
+-- What is lowered has a type whose labels are apart and which is shallow.
+abbrev pub HasApartType : CanonFunc → Type 0
+HasApartType (canon_func.Lower l) = IsFuncApart l.func_type
+HasApartType (canon_func.Builtin b) = Unit {0}
 
 -- a memory that is there
 abbrev pub IsMemoryItem : List CoreMake → List CanonFunc → CoreItem → Type 0
@@ -75,5 +73,5 @@ pub record IsLinkingSound (R : ModuleTree → Type 0) (l : Linking) : Type 0 whe
   pub scopes : AllByRecursion (AreSpacesSound R l.cores l.canons) l.scopes
   pub imported : AreImported l.canons [] l.cores
   pub made : AreMade l.cores l.canons []
-  pub called : AllByRecursion IsLowered l.canons
+  pub called : AllByRecursion HasApartType l.canons
   pub modules_have : AllByRecursion (λ (core : CoreMake). R core.of_module) l.cores

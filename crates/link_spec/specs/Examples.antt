@@ -1,6 +1,6 @@
 -- Small components, whose graphs and faults the laws `examples` have. Items stand at the places 0, 1 and so on, and those of a
 -- component inside at 10, 11 and so on.
-use Rattle.std.specs.Prelude.{ℕ, zero, suc, ◌+◌, List, [], ◌∷◌, length, map, None, Some, Result, Ok, Err, pos, codes}
+use Rattle.std.specs.Prelude.{ℕ, zero, suc, ◌+◌, true, List, [], ◌∷◌, length, map, None, Some, Result, Ok, Err, pos, codes}
 use Rattle.ca_base.specs.declared.placed.Placed.{Placed}
 use Rattle.ca_types.specs.declared.types.ValType.TheVariants as val_type
 use Rattle.ca_types.specs.declared.types.FuncType.{FuncType}
@@ -13,6 +13,7 @@ use Rattle.wasm_module.specs.Expr.{Plain, End}
 use Rattle.comp_graph.specs.declared.graph.Options.{Options}
 use Rattle.comp_graph.specs.declared.graph.Lift as graph
 use Rattle.comp_graph.specs.declared.graph.FuncRef.TheVariants as func_ref
+use Rattle.comp_graph.specs.declared.graph.BuiltinKind.{BuiltinKind}
 use Rattle.comp_graph.specs.declared.graph.CanonFunc.TheVariants as canon_func
 use Rattle.comp_graph.specs.declared.graph.CoreExtern.TheVariants as extern
 use Rattle.comp_graph.specs.Graph.{Graph, no_options}
@@ -37,7 +38,8 @@ use Rattle.comp_tree.specs.declared.types.DefType.{DefType}
 use Rattle.comp_tree.specs.declared.types.InstanceDecl.{InstanceDecl}
 use Rattle.comp_tree.specs.declared.items.CanonOption.{CanonOption}
 use Rattle.comp_tree.specs.declared.items.CanonOption.TheVariants as option
-use Rattle.comp_tree.specs.declared.items.Canon.TheVariants.{Lift, Lower}
+use Rattle.comp_tree.specs.declared.builtins.CanonBuiltin.{CanonBuiltin}
+use Rattle.comp_tree.specs.declared.items.Canon.TheVariants.{Lift, Lower, Builtin}
 use Rattle.comp_tree.specs.declared.items.Item.{Item}
 use Rattle.comp_tree.specs.declared.items.Item.TheVariants as plain
 use Rattle.comp_tree.specs.declared.items.Item.TheViews as item
@@ -267,3 +269,26 @@ taking_string = record { params = record { label = codes "a"; val_type = val_typ
 
 abbrev pub giving_string : FuncType
 giving_string = record { params = []; result = Some val_type.String }
+
+-- A built-in alone, and the graph of one that is made.
+abbrev pub built : CanonBuiltin → Component
+built b = root (plain.Canon (Builtin b) ∷ [])
+
+abbrev pub making : BuiltinKind → Result Graph LinkFault
+making kind = Ok (record {
+  plan = Begin 0 ∷ [];
+  instance_count = 1;
+  cores = [];
+  canons = canon_func.Builtin (record { instance = 0; kind = kind }) ∷ [];
+  resources = [];
+  exports = [];
+  lifts = [];
+  end_types = [];
+})
+
+-- a lift and a lower with `async`, and a lift with a callback too
+abbrev pub with_async : Options
+with_async = record no_options { is_async = true }
+
+abbrev pub with_callback : Options
+with_callback = record with_async { callback = Some (func_ref.Canon 0) }

@@ -1,6 +1,6 @@
 //! Examples of the definitions, worked out by hand.
 
-ghost use Rattle.std.specs.Prelude.{◌≡◌, true, false, [], ◌∷◌, Ok, codes};
+ghost use Rattle.std.specs.Prelude.{◌≡◌, true, false, [], ◌∷◌, None, Ok, codes};
 ghost use Rattle.wasm_module.specs.declared.types.ValType.TheVariants.{I32};
 ghost use Rattle.comp_tree.specs.declared.instances.Sort.TheVariants as sorts;
 ghost use Rattle.comp_tree.specs.declared.externs.ExternDesc.TheVariants as desc;
@@ -8,10 +8,15 @@ ghost use Rattle.comp_tree.specs.declared.types.DefType.TheVariants as plain_typ
 ghost use Rattle.comp_tree.specs.declared.items.CanonOption.TheVariants as option;
 ghost use Rattle.comp_tree.specs.declared.items.Item.TheVariants as plain;
 ghost use Rattle.comp_graph.specs.Graph.{no_options};
-ghost use Rattle.comp_graph.specs.Needs.{lifted_type, lowered_type, needs_memory, lift_needs_realloc, lower_needs_realloc};
+ghost use Rattle.comp_graph.specs.Needs.{lifted_type, lowered_type, lift_type, lower_type, needs_memory, lift_needs_memory, lift_needs_realloc, lower_needs_memory, lower_needs_realloc};
+ghost use Rattle.comp_graph.specs.declared.graph.BuiltinKind.TheVariants as builtin;
+ghost use Rattle.comp_tree.specs.declared.builtins.CanonBuiltin.TheVariants as read_builtin;
+ghost use Rattle.builtin_kinds.specs.declared.PlainBuiltin.TheVariants as plain_builtin;
+ghost use Rattle.builtin_kinds.specs.declared.ContextOp.TheVariants as context_op;
+ghost use Rattle.builtin_kinds.specs.declared.WaitOp.TheVariants as wait_op;
 ghost use Rattle.link_spec.specs.declared.fault.LinkWhy.TheVariants as why;
 ghost use Rattle.link_spec.specs.Computed.{linked};
-ghost use Rattle.link_spec.specs.Examples.{root, fault, u32, list_of, record_of, lists, of_lists, import, outer, export_type, instantiate, wanting, giving_both, nesting, begins, of_one, make, make_with_absent, lifting, lifting_twice, with_memory, callable_as, lowering, lowering_string, taking_string, giving_string, passing, passed};
+ghost use Rattle.link_spec.specs.Examples.{root, fault, u32, list_of, record_of, lists, of_lists, import, outer, export_type, instantiate, wanting, giving_both, nesting, begins, of_one, make, make_with_absent, lifting, lifting_twice, with_memory, callable_as, lowering, lowering_string, taking_string, giving_string, passing, passed, built, making, with_async, with_callback};
 
 /// Faults of one item: an import of the root that is a function, also where its index is not there; an outer alias that goes
 /// past the root; and an export of a name that was exported.
@@ -71,10 +76,13 @@ pub fn core_instances()
     ensures absent { linked (root (plain.CoreModule of_one ∷ make_with_absent ∷ [])) ≡ fault 1 why.Index }
 {}
 
-/// A lift with a memory is linked. With the memory twice it is refused.
+/// A lift with a memory is linked. With the memory twice it is refused, with a callback alone, and with `async` where its core function
+/// gives the result.
 pub fn options()
     ensures made { linked (root (lifting (option.Memory 0 ∷ []))) ≡ Ok (callable_as with_memory (codes "run" ∷ [])) }
     ensures twice { linked (root (lifting (option.Memory 0 ∷ option.Memory 0 ∷ []))) ≡ fault 5 why.Canon }
+    ensures callback { linked (root (lifting (option.Callback 0 ∷ []))) ≡ fault 5 why.Canon }
+    ensures asynchronous { linked (root (lifting (option.Async ∷ []))) ≡ fault 5 why.Canon }
 {}
 
 /// A function that is exported as `a#run`, and a function `run` of an instance that is exported as `a`, can be called under one
@@ -106,4 +114,24 @@ pub fn types_of_lowers()
     ensures lifted_place { lift_needs_realloc taking_string ≡ true }
     ensures lowered { lowered_type giving_string ≡ record { params = I32 ∷ []; results = [] } }
     ensures lifted { lifted_type giving_string ≡ record { params = []; results = I32 ∷ [] } }
+{}
+
+/// A lift with `async` is of a core function that gives nothing, and with a callback of one that gives a code; its result needs no
+/// memory. A lower with `async` takes a place for each result and gives the subtask's state.
+pub fn types_of_kinds()
+    ensures lifted { lift_type with_async giving_string ≡ record { params = []; results = [] } }
+    ensures called_back { lift_type with_callback giving_string ≡ record { params = []; results = I32 ∷ [] } }
+    ensures no_memory { lift_needs_memory true giving_string ≡ false }
+    ensures lowered { lower_type true giving_string ≡ record { params = I32 ∷ []; results = I32 ∷ [] } }
+    ensures memory { lower_needs_memory true giving_string ≡ true }
+{}
+
+/// Built-ins are made. Where the memory is not there in which an event is put, or a word of the task, one is refused; none is made that
+/// returns a result.
+pub fn builtins()
+    ensures made { linked (built (read_builtin.Plain plain_builtin.WaitableSetNew)) ≡ making (builtin.Plain plain_builtin.WaitableSetNew) }
+    ensures word { linked (built (read_builtin.Context context_op.Set 1)) ≡ making (builtin.Context context_op.Set 1) }
+    ensures no_word { linked (built (read_builtin.Context context_op.Set 2)) ≡ fault 0 why.Canon }
+    ensures no_memory { linked (built (read_builtin.Wait wait_op.Poll false 0)) ≡ fault 0 why.Index }
+    ensures not_made { linked (built (read_builtin.TaskReturn None [])) ≡ fault 0 why.Canon }
 {}

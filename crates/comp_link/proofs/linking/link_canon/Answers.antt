@@ -6,3 +6,6 @@ returns-in-Lift-clause-made c = λ bases l s at. rw (c.in-Lift.is, sym c.as_slic
 
 pub returns-in-Lower-clause-made : goal.returns-in-Lower-clause-made
 returns-in-Lower-clause-made c = λ bases l s at. rw (c.in-Lower.is, sym c.as_slice-in-Lower.ensures) (c.link_lower.ensures.made bases l s at)
+
+pub returns-in-Builtin-clause-made : goal.returns-in-Builtin-clause-made
+returns-in-Builtin-clause-made c = λ bases l s at. rw c.in-Builtin.is (c.link_builtin.ensures.made bases l s at)

@@ -1,0 +1,80 @@
+//! The types of built-ins as core functions, and of those that the Canonical ABI calls.
+
+ghost use Rattle.std.specs.Prelude.{◌≡◌, option_to_list};
+ghost use Rattle.comp_graph.specs.Needs.{taking, word, callback_type};
+ghost use Rattle.comp_graph.specs.Graph as graph;
+
+use builtin_kinds::{ContextOp, PlainBuiltin};
+use link_core_types::{CoreFuncType, FewTypes};
+use wasm_module::ValType;
+
+/// The type of a core function without parameters.
+fn of_nothing(returned: Option<ValType>) -> CoreFuncType
+    ensures { result ≡ taking 0 (option_to_list returned) }
+{
+    CoreFuncType::new(FewTypes::new(), returned)
+}
+
+/// The type of a core function of one i32.
+fn of_word(returned: Option<ValType>) -> CoreFuncType
+    ensures { result ≡ taking 1 (option_to_list returned) }
+{
+    let mut params = FewTypes::new();
+    params.push(ValType::I32);
+    CoreFuncType::new(params, returned)
+}
+
+/// The type of a core function of two i32.
+fn of_two_words(returned: Option<ValType>) -> CoreFuncType
+    ensures { result ≡ taking 2 (option_to_list returned) }
+{
+    let mut params = FewTypes::new();
+    params.push(ValType::I32);
+    params.push(ValType::I32);
+    CoreFuncType::new(params, returned)
+}
+
+/// The type of a built-in that names nothing (Component Model, CanonicalABI.md, `canon task.cancel` and its fellows).
+pub fn plain_type(builtin: PlainBuiltin) -> CoreFuncType
+    ensures { result ≡ graph.plain_type builtin }
+{
+    match builtin {
+        PlainBuiltin::TaskCancel | PlainBuiltin::BackpressureInc | PlainBuiltin::BackpressureDec =>
+            of_nothing(None),
+        PlainBuiltin::BackpressureSet | PlainBuiltin::SubtaskDrop | PlainBuiltin::WaitableSetDrop =>
+            of_word(None),
+        PlainBuiltin::SubtaskCancel { is_async: _ } => of_word(Some(ValType::I32)),
+        PlainBuiltin::Yield { cancellable: _ } => of_nothing(Some(ValType::I32)),
+        PlainBuiltin::WaitableSetNew => of_nothing(Some(ValType::I32)),
+        PlainBuiltin::WaitableJoin => of_two_words(None),
+    }
+}
+
+/// The type of a built-in of a word of the task (Component Model, CanonicalABI.md, `canon context.get` and `canon context.set`).
+pub fn context_type(op: ContextOp) -> CoreFuncType
+    ensures { result ≡ graph.context_type op }
+{
+    match op {
+        ContextOp::Get => of_nothing(Some(ValType::I32)),
+        ContextOp::Set => of_word(None),
+    }
+}
+
+/// The type of a built-in that asks for an event of a set (Component Model, CanonicalABI.md, `canon waitable-set.wait` and `canon
+/// waitable-set.poll`).
+pub fn wait_type() -> CoreFuncType
+    ensures { result ≡ taking 2 word }
+{
+    of_two_words(Some(ValType::I32))
+}
+
+/// The type of the core function that is called with each event of a task (Component Model, CanonicalABI.md, `canon lift`).
+pub fn callback_type() -> CoreFuncType
+    ensures { result ≡ callback_type }
+{
+    let mut params = FewTypes::new();
+    params.push(ValType::I32);
+    params.push(ValType::I32);
+    params.push(ValType::I32);
+    CoreFuncType::new(params, Some(ValType::I32))
+}
