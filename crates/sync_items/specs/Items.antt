@@ -48,8 +48,8 @@ first_among inside (placed ∷ items) = option_or (first_at inside placed.place 
 
 -- of a component, where so many components may stand in one another: one that is deeper is more
 abbrev pub first_inside : ℕ → Inside
-first_inside zero place items = Some place
-first_inside (suc depth) place items = first_among (first_inside depth) items
+first_inside zero = λ place items. Some place
+first_inside (suc depth) = λ place items. first_among (first_inside depth) items
 
 -- how many components may stand in one another, as they are read
 abbrev pub nesting_limit : ℕ
