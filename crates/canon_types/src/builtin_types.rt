@@ -35,7 +35,7 @@ fn of_two_words(returned: Option<ValType>) -> CoreFuncType
 }
 
 /// The type of a built-in that names nothing (Component Model, CanonicalABI.md, `canon task.cancel` and its fellows).
-pub fn plain_type(builtin: PlainBuiltin) -> CoreFuncType
+pub(crate) fn plain_type(builtin: PlainBuiltin) -> CoreFuncType
     ensures { result ≡ graph.plain_type builtin }
 {
     match builtin {
@@ -51,7 +51,7 @@ pub fn plain_type(builtin: PlainBuiltin) -> CoreFuncType
 }
 
 /// The type of a built-in of a word of the task (Component Model, CanonicalABI.md, `canon context.get` and `canon context.set`).
-pub fn context_type(op: ContextOp) -> CoreFuncType
+pub(crate) fn context_type(op: ContextOp) -> CoreFuncType
     ensures { result ≡ graph.context_type op }
 {
     match op {
@@ -62,7 +62,7 @@ pub fn context_type(op: ContextOp) -> CoreFuncType
 
 /// The type of a built-in that asks for an event of a set (Component Model, CanonicalABI.md, `canon waitable-set.wait` and `canon
 /// waitable-set.poll`).
-pub fn wait_type() -> CoreFuncType
+pub(crate) fn wait_type() -> CoreFuncType
     ensures { result ≡ taking 2 word }
 {
     of_two_words(Some(ValType::I32))

@@ -5,16 +5,18 @@
 //!
 //! - `options`: the options of canonical functions, by their kinds
 //! - `func_types`: the types of the core functions that lifts and lowers ask for and make
-//! - `builtin_types`: the types of built-ins as core functions, and of those that the Canonical ABI calls
+//! - `builtins`, on `builtin_types`: built-ins, with the types of their core functions
 //! - `needs`: whether lifts and lowers ask for a memory, and for a function that gives places in it
 #![tactic(auto)]
 
 mod builtin_types;
+mod builtins;
 mod func_types;
 mod needs;
 mod options;
 
-pub use builtin_types::{callback_type, context_type, plain_type, wait_type};
+pub use builtin_types::callback_type;
+pub use builtins::{Built, context_builtin, plain_builtin, wait_builtin};
 pub use func_types::{lift_type, lower_type, post_return_type, realloc_type};
 pub use needs::{lift_needs_memory, lift_needs_realloc, lower_needs_memory, lower_needs_realloc};
 pub use options::{OptionIndices, are_there, has_async, indices_of, stand_once};

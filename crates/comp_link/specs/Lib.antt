@@ -1,4 +1,3 @@
-pub mod Built
 pub mod Next
 pub mod Reached
 pub mod Ready

@@ -1,6 +1,6 @@
 //! Linking of built-ins.
 
-ghost use Rattle.std.specs.Prelude.{◌≡◌, ◌<◌, cond, nat_lt, List, Option, Some, None, IfSome, IfOk, OnOk, length};
+ghost use Rattle.std.specs.Prelude.{◌≡◌, ◌<◌, List, IfSome, IfOk, OnOk, length};
 ghost use Rattle.std.specs.List.{slice_get};
 ghost use Rattle.std.specs.Option.{option_map, option_and_then};
 ghost use Rattle.comp_graph.specs.CoreItems.{core_memory_of};
@@ -12,32 +12,20 @@ ghost use Rattle.link_spec.specs.Items as items;
 ghost use Rattle.link_spec.specs.Computed.{Makes, builtin_outcome};
 ghost use Rattle.link_types.specs.Table.{Table};
 ghost use Rattle.link_instances.specs.References.{World};
-ghost use Rattle.comp_link.specs.Built.{IsBuilt};
+ghost use Rattle.canon_types.specs.declared.builtins.Built.{Built};
+ghost use Rattle.canon_types.specs.Built.{IsBuilt};
 ghost use Rattle.comp_link.specs.State.{IsScope, IsAt, IsMade, ended};
 ghost use Rattle.comp_link.specs.Told.{IsTold};
 
 use crate::link_fault::ItemError;
 use crate::linker::Linker;
 use crate::scope::Scope;
-use builtin_kinds::{ContextOp, PlainBuiltin, WaitOp};
+use builtin_kinds::WaitOp;
 use ca_base::MemoryOr;
-use canon_types::{context_type, plain_type, wait_type};
-use comp_graph::{BuiltinKind, CoreRef};
+use canon_types::{Built, context_builtin, plain_builtin, wait_builtin};
+use comp_graph::CoreRef;
 use comp_tree::{CanonBuiltin, CoreSort};
-use link_core_types::CoreFuncType;
 use link_spec::LinkWhy;
-
-/// How many words a task has.
-const WORDS: u32 = 2;
-
-/// A built-in, with the type of its core function.
-#[derive(Drop)]
-struct Built {
-    /// What it is.
-    kind: BuiltinKind,
-    /// The type of its core function.
-    core_type: CoreFuncType,
-}
 
 /// Whether the memory that a built-in names is there, where it names one.
 fn is_there(scope: &Scope<'_>, builtin: &CanonBuiltin) -> bool
@@ -64,43 +52,6 @@ fn is_there(scope: &Scope<'_>, builtin: &CanonBuiltin) -> bool
     }
 }
 
-/// A built-in that names nothing.
-fn plain(builtin: PlainBuiltin) -> Built
-    ensures kind { result.kind ≡ builtin_kind.Plain builtin }
-    ensures built { IsBuilt result.kind result.core_type }
-{
-    Built {
-        kind: BuiltinKind::Plain(builtin),
-        core_type: plain_type(builtin),
-    }
-}
-
-/// A built-in of a word of the task.
-fn context(op: ContextOp, slot: u32) -> Built
-    ensures kind { result.kind ≡ builtin_kind.Context op slot }
-    ensures built { IsBuilt result.kind result.core_type }
-{
-    Built {
-        kind: BuiltinKind::Context { op, slot },
-        core_type: context_type(op),
-    }
-}
-
-/// A built-in that puts an event into this memory.
-fn wait(op: WaitOp, cancellable: bool, memory: CoreRef) -> Built
-    ensures kind { result.kind ≡ builtin_kind.Wait op cancellable memory }
-    ensures built { IsBuilt result.kind result.core_type }
-{
-    Built {
-        kind: BuiltinKind::Wait {
-            op,
-            cancellable,
-            memory,
-        },
-        core_type: wait_type(),
-    }
-}
-
 /// The memory of an index.
 fn memory_at(scope: &Scope<'_>, memory: u32) -> Option<CoreRef>
     ensures { (t : Table) (w : World) (s : Spaces) → IsScope t w scope.now s → result ≡ option_and_then core_memory_of (slice_get s.core_memories memory) }
@@ -111,36 +62,25 @@ fn memory_at(scope: &Scope<'_>, memory: u32) -> Option<CoreRef>
     }
 }
 
-/// A built-in that puts an event into the memory of an index, if there is one.
+/// A built-in that asks for an event, which goes into the memory of an index, if there is one.
 fn wait_at(scope: &Scope<'_>, op: WaitOp, cancellable: bool, memory: u32) -> Option<Built>
-    ensures kind { (t : Table) (w : World) (s : Spaces) → IsScope t w scope.now s → option_map (λ b. b.kind) result ≡ option_map (λ m. builtin_kind.Wait op cancellable m) (option_and_then core_memory_of (slice_get s.core_memories memory)) }
-    ensures built { IfSome result (λ b. IsBuilt b.kind b.core_type) }
+    ensures kind { (t : Table) (w : World) (s : Spaces) → IsScope t w scope.now s → option_map (λ (b : Built). b.kind) result ≡ option_map (λ m. builtin_kind.Wait op cancellable m) (option_and_then core_memory_of (slice_get s.core_memories memory)) }
+    ensures built { IfSome result IsBuilt }
 {
     match memory_at(scope, memory) {
-        Some(memory) => Some(wait(op, cancellable, memory)),
+        Some(memory) => Some(wait_builtin(op, cancellable, memory)),
         None => None,
     }
 }
 
-/// A built-in of a word of the task, if the task has it.
-fn context_at(op: ContextOp, slot: u32) -> Option<Built>
-    ensures kind { option_map (λ b. b.kind) result ≡ cond (nat_lt slot 2) (Some (builtin_kind.Context op slot)) None }
-    ensures built { IfSome result (λ b. IsBuilt b.kind b.core_type) }
-{
-    if slot < WORDS {
-        return Some(context(op, slot));
-    }
-    None
-}
-
 /// What a built-in is, if it is made.
 fn builtin_of(scope: &Scope<'_>, builtin: &CanonBuiltin) -> Option<Built>
-    ensures kind { (t : Table) (w : World) (s : Spaces) → IsScope t w scope.now s → option_map (λ b. b.kind) result ≡ items.builtin_of s builtin.now }
-    ensures built { IfSome result (λ b. IsBuilt b.kind b.core_type) }
+    ensures kind { (t : Table) (w : World) (s : Spaces) → IsScope t w scope.now s → option_map (λ (b : Built). b.kind) result ≡ items.builtin_of s builtin.now }
+    ensures built { IfSome result IsBuilt }
 {
     match builtin {
-        CanonBuiltin::Plain(named) => Some(plain(*named)),
-        CanonBuiltin::Context { op, slot } => context_at(*op, *slot),
+        CanonBuiltin::Plain(named) => Some(plain_builtin(*named)),
+        CanonBuiltin::Context { op, slot } => context_builtin(*op, *slot),
         CanonBuiltin::Wait {
             op,
             cancellable,
@@ -162,8 +102,8 @@ fn builtin_of(scope: &Scope<'_>, builtin: &CanonBuiltin) -> Option<Built>
 /// What a built-in of a component instance is.
 fn built(linker: &Linker<'_>, n: usize, builtin: &CanonBuiltin) -> Result<Built, ItemError>
     requires { n < length linker.now.scopes.items }
-    ensures told { (bases : List Exports) (l : Linking) (s : Spaces) → IsAt bases linker.now n l s → IsTold (λ b outcome. outcome ≡ Makes (builtin_made l n s b.kind)) result (builtin_outcome l n s builtin.now) }
-    ensures built { IfOk result (λ b. IsBuilt b.kind b.core_type) }
+    ensures told { (bases : List Exports) (l : Linking) (s : Spaces) → IsAt bases linker.now n l s → IsTold (λ (b : Built) outcome. outcome ≡ Makes (builtin_made l n s b.kind)) result (builtin_outcome l n s builtin.now) }
+    ensures built { IfOk result IsBuilt }
 {
     let scope = linker.scope(n);
     if !is_there(scope, builtin) {
@@ -187,6 +127,6 @@ pub fn link_builtin(
     ensures live { OnOk result (ended linker.new ≡ ended linker.old) }
 {
     let made = built(linker, n, builtin)?;
-    linker.add_builtin(n, made.kind, made.core_type)?;
+    linker.add_builtin(n, made)?;
     Ok(())
 }

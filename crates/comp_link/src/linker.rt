@@ -8,6 +8,7 @@ ghost use Rattle.wasm_module.specs.declared.module.ModuleTree.{ModuleTree};
 ghost use Rattle.comp_graph.specs.Closed.{Extern, Externs};
 ghost use Rattle.comp_graph.specs.Graph.{canon_type};
 ghost use Rattle.comp_graph.specs.Passed.{HasCanonType};
+ghost use Rattle.canon_types.specs.Built.{IsBuilt};
 ghost use Rattle.link_spec.specs.Definitions.{CoreItem, extern_of, Lifted, Closure, Definition, AComponent, AModule, Exports, types_of};
 ghost use Rattle.link_spec.specs.Tests.{are_types};
 ghost use Rattle.link_spec.specs.Spaces.{Spaces, Linking, with_core_item, with_core_instance, with_definition, with_spaces};
@@ -23,15 +24,14 @@ ghost use Rattle.link_instances.specs.Fit.{IsFit};
 ghost use Rattle.link_meanings.specs.Meant.{IsFoundAs};
 ghost use Rattle.comp_link.specs.Reached.{IsReached};
 ghost use Rattle.comp_link.specs.State.{world_of, type_table, IsScope, IsKept, IsState, IsAt, IsThere, IsLive, Stands, ended};
-ghost use Rattle.comp_link.specs.Built.{IsBuilt};
 
 use crate::canons::lowered_to;
 use crate::link_fault::ItemError;
 use crate::scope::{Scope, Standing};
 use ca_base::{Name, Seq};
 use ca_types::Shared;
-use canon_types::lower_type;
-use comp_graph::{Action, Builtin, BuiltinKind, CanonFunc, CoreExtern, Options, graph_number};
+use canon_types::{Built, lower_type};
+use comp_graph::{Action, Builtin, CanonFunc, CoreExtern, Options, graph_number};
 use comp_tree::{Component, CoreArgument};
 use link_core_exports::{CoreExports, CoreItem, CoreModule, Cores, InlineExports};
 use link_core_types::CoreFuncType;
@@ -318,19 +318,15 @@ impl<'a> Linker<'a> {
         Ok(())
     }
 
-    /// Adds a built-in, which passes no values of a type, with the type of its core function.
-    pub fn add_builtin(
-        &mut self,
-        n: usize,
-        kind: BuiltinKind,
-        core_type: CoreFuncType,
-    ) -> Result<(), AllocError>
+    /// Adds a built-in.
+    pub fn add_builtin(&mut self, n: usize, made: Built) -> Result<(), AllocError>
         requires { n < length self.old.scopes.items }
-        ensures ok { OnOk result ((bases : List Exports) (l : Linking) (s : Spaces) → IsAt bases self.old n l s → IsBuilt kind core_type → IsState bases self.new (builtin_made l n s kind)) }
+        ensures ok { OnOk result ((bases : List Exports) (l : Linking) (s : Spaces) → IsAt bases self.old n l s → IsBuilt made → IsState bases self.new (builtin_made l n s made.kind)) }
         ensures scopes { OnOk result (length self.new.scopes.items ≡ length self.old.scopes.items) }
         ensures live { OnOk result (ended self.new ≡ ended self.old) }
     {
         let instance = graph_number(n)?;
+        let Built { kind, core_type } = made;
         let builtin = CanonFunc::Builtin(Builtin { instance, kind });
         self.add_canon(n, builtin, None, core_type)?;
         Ok(())

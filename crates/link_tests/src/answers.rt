@@ -3,9 +3,11 @@
 //! A component, its graph and its fault are each lent to the function that tells of them as the last step, so that they are let
 //! go in one place.
 
+use builtin_kinds::{ContextOp, PlainBuiltin, WaitOp};
 use ca_base::{MemoryOr, ReadError, Refusal};
 use comp_graph::{
-    Action, CanonFunc, CoreExtern, CoreMake, CoreRef, FuncRef, Graph, Lift, Lower, Options,
+    Action, Builtin, BuiltinKind, CanonFunc, CoreExtern, CoreMake, CoreRef, FuncRef, Graph, Lift,
+    Lower, Options,
 };
 use comp_link::{LinkFault, LinkWhy, link};
 use comp_reader::{Component, ComponentWhy, read_component};
@@ -26,7 +28,7 @@ fn write_ref(text: &mut String, core: CoreRef) -> Result<(), AllocError> {
 fn write_func(text: &mut String, func: FuncRef) -> Result<(), AllocError> {
     match func {
         FuncRef::Instance(core) => write_ref(text, core),
-        FuncRef::Canon(number) => write!(text, "lower {number}"),
+        FuncRef::Canon(number) => write!(text, "canon {number}"),
     }
 }
 
@@ -108,11 +110,22 @@ fn write_used(text: &mut String, word: &str, used: Option<FuncRef>) -> Result<()
     }
 }
 
+/// Writes a word behind a space, if it holds.
+fn write_flag(text: &mut String, word: &str, holds: bool) -> Result<(), AllocError> {
+    if holds {
+        text.push(' ')?;
+        return text.push_str(word);
+    }
+    Ok(())
+}
+
 /// Writes what a lift or a lower uses beside its function.
 fn write_options(text: &mut String, options: Options) -> Result<(), AllocError> {
     write_memory(text, options.memory)?;
     write_used(text, "realloc", options.realloc)?;
-    write_used(text, "post-return", options.post_return)
+    write_used(text, "post-return", options.post_return)?;
+    write_used(text, "callback", options.callback)?;
+    write_flag(text, "async", options.is_async)
 }
 
 /// Writes what a function lifts, to the end of the line.
@@ -133,12 +146,76 @@ fn write_lower(text: &mut String, lower: &Lower) -> Result<(), AllocError> {
     write_lift(text, lower.lift)
 }
 
+/// The name of a built-in that names nothing.
+fn plain_name(builtin: PlainBuiltin) -> &'static str {
+    match builtin {
+        PlainBuiltin::TaskCancel => "task.cancel",
+        PlainBuiltin::BackpressureSet => "backpressure.set",
+        PlainBuiltin::BackpressureInc => "backpressure.inc",
+        PlainBuiltin::BackpressureDec => "backpressure.dec",
+        PlainBuiltin::SubtaskCancel { is_async: false } => "subtask.cancel",
+        PlainBuiltin::SubtaskCancel { is_async: true } => "subtask.cancel async",
+        PlainBuiltin::SubtaskDrop => "subtask.drop",
+        PlainBuiltin::Yield { cancellable: false } => "yield",
+        PlainBuiltin::Yield { cancellable: true } => "yield cancellable",
+        PlainBuiltin::WaitableSetNew => "waitable-set.new",
+        PlainBuiltin::WaitableSetDrop => "waitable-set.drop",
+        PlainBuiltin::WaitableJoin => "waitable.join",
+    }
+}
+
+/// Writes a built-in of a word of the task.
+fn write_context(text: &mut String, op: ContextOp, slot: u32) -> Result<(), AllocError> {
+    let word = match op {
+        ContextOp::Get => "get",
+        ContextOp::Set => "set",
+    };
+    write!(text, "context.{word} {slot}")
+}
+
+/// Writes a built-in that asks for an event of a set.
+fn write_wait(
+    text: &mut String,
+    op: WaitOp,
+    cancellable: bool,
+    memory: CoreRef,
+) -> Result<(), AllocError> {
+    text.push_str(match op {
+        WaitOp::Wait => "waitable-set.wait",
+        WaitOp::Poll => "waitable-set.poll",
+    })?;
+    write_flag(text, "cancellable", cancellable)?;
+    write_memory(text, Some(memory))
+}
+
+/// Writes what a built-in is.
+fn write_kind(text: &mut String, kind: &BuiltinKind) -> Result<(), AllocError> {
+    match kind {
+        BuiltinKind::Plain(builtin) => text.push_str(plain_name(*builtin)),
+        BuiltinKind::Context { op, slot } => write_context(text, *op, *slot),
+        BuiltinKind::Wait {
+            op,
+            cancellable,
+            memory,
+        } => write_wait(text, *op, *cancellable, *memory),
+        _ => text.push_str("of a type"),
+    }
+}
+
+/// Writes a built-in, in a line.
+fn write_builtin(text: &mut String, builtin: &Builtin) -> Result<(), AllocError> {
+    let instance = builtin.instance;
+    write!(text, "builtin {instance} ")?;
+    write_kind(text, &builtin.kind)?;
+    text.push('\n')
+}
+
 /// Writes each core function that the Canonical ABI makes.
 fn write_canons(text: &mut String, canons: &[CanonFunc]) -> Result<(), AllocError> {
     for canon in canons {
         match canon {
             CanonFunc::Lower(lower) => write_lower(text, lower.get())?,
-            CanonFunc::Builtin(_) => text.push_str("builtin\n")?,
+            CanonFunc::Builtin(builtin) => write_builtin(text, builtin)?,
         }
     }
     Ok(())

@@ -30,12 +30,15 @@
 //! - `canon`: the options of lifts
 //! - `lower`: functions that are lowered, their types and options, and what uses the core functions
 //! - `index`: indices of each sort that are not there, in exports, imports, arguments and instances of exports
+//! - `kinds`: lifts and lowers with `async`, and lifts with a callback
+//! - `builtin`: built-ins, their core types, and what uses the core functions
 //! - `unlinked`: what is read and not linked yet
 //!
-//! Answers tell a definition of a core instance as `INSTANCE.INDEX`, and a core function that a function is lowered to as
-//! `lower N`, where N is its number in the order of linking, from 0 on. Behind the lines of core instances there is a line
-//! `lower INSTANCE OPTIONS of LIFT` for each of these: the component instance that lowers the function, what it uses, told as
-//! behind an export, and what the function lifts, told as an export tells it behind its name.
+//! Answers tell a definition of a core instance as `INSTANCE.INDEX`, and a core function that the Canonical ABI makes as `canon N`,
+//! where N is its number in the order of linking, from 0 on. Behind the lines of core instances there is a line for each of these.
+//! For a function that is lowered it is `lower INSTANCE OPTIONS of LIFT`: the component instance that lowers the function, what it
+//! uses, told as behind an export, and what the function lifts, told as an export tells it behind its name. For a built-in it is
+//! `builtin INSTANCE NAME`, with what the built-in names behind it.
 //!
 //! The module `components` has the bytes of cases, and `answers` the answers as text.
 #![tactic(auto)]

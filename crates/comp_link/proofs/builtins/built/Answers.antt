@@ -4,7 +4,7 @@ use Rattle.comp_graph.specs.declared.graph.BuiltinKind.{BuiltinKind}
 use Rattle.link_spec.specs.declared.fault.LinkWhy.TheVariants as why
 use Rattle.link_spec.specs.Items.{is_builtin_there, builtin_of, builtin_made}
 use Rattle.link_spec.specs.Computed.{Outcome, Makes, builtin_outcome}
-use Rattle.comp_link.specs.declared.builtins.Built.{Built}
+use Rattle.canon_types.specs.declared.builtins.Built.{Built}
 use Rattle.comp_link.specs.State.{world_of}
 use Rattle.comp_link.proofs.Told.{reason_is, told_value}
 use Rattle.comp_link.proofs.CanonParts.{not_there, not_made, is_made}

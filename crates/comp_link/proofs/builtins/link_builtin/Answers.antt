@@ -4,7 +4,7 @@ use Rattle.std.proofs.lemmas.Result.{err_from_is_err_and}
 use Rattle.link_spec.specs.declared.fault.LinkWhy.{LinkWhy}
 use Rattle.link_spec.specs.Items.{builtin_made}
 use Rattle.link_spec.specs.Computed.{Outcome, Makes, builtin_outcome}
-use Rattle.comp_link.specs.declared.builtins.Built.{Built}
+use Rattle.canon_types.specs.declared.builtins.Built.{Built}
 use Rattle.comp_link.proofs.Told.{made_told, value_told}
 use Rattle.comp_link.proofs.builtins.link_builtin.Goals as goal
 

@@ -9,5 +9,5 @@ use Rattle.comp_link.proofs.linker.Linker.add_builtin.Goals as goal
 pub returns-clause-ok : goal.returns-clause-ok
 returns-clause-ok c bases l s at built =
     let passes = subst (λ (o : Option ValType). MayBeAt c.args.self.now.types.values None o) (sym built.passes_none) tt in
-    subst (λ (n : ℕ). IsState bases c.add_canon.new.self (with_canon l c.args.n s (canon_func.Builtin (record { instance = n; kind = c.args.kind })))) c.in_ok-instance.ensures
+    subst (λ (n : ℕ). IsState bases c.add_canon.new.self (with_canon l c.args.n s (canon_func.Builtin (record { instance = n; kind = c.args.made.kind })))) c.in_ok-instance.ensures
     (c.in_ok-add_canon.ensures.ok bases l s at passes built.typed)
