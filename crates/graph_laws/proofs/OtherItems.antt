@@ -4,7 +4,6 @@ use Rattle.std.proofs.Common.{◌≡◌, ℕ, zero, suc, Bool, true, false, List
 use Rattle.std.specs.Prelude.{cond, nat_lt}
 use Rattle.std.specs.List.{AllByRecursion, list_all}
 use Rattle.std.specs.Option.{option_or, IsSome}
-use Rattle.std.proofs.lemmas.Bool.{and_parts}
 use Rattle.ca_base.specs.declared.placed.Placed.{Placed}
 use Rattle.comp_tree.specs.declared.items.CanonOption.{CanonOption}
 use Rattle.comp_tree.specs.declared.items.CanonOption.TheVariants as option
@@ -78,10 +77,10 @@ never h = cc
 
 none_async : (options : List CanonOption) → list_all is_sync_option options ≡ true → count_of is_async options ≡ 0
 none_async [] h = refl
-none_async (option.Utf8 ∷ options) h = none_async options (and_parts _ _ h).1
-none_async (option.Memory index ∷ options) h = none_async options (and_parts _ _ h).1
-none_async (option.Realloc index ∷ options) h = none_async options (and_parts _ _ h).1
-none_async (option.PostReturn index ∷ options) h = none_async options (and_parts _ _ h).1
+none_async (option.Utf8 ∷ options) h = none_async options h
+none_async (option.Memory index ∷ options) h = none_async options h
+none_async (option.Realloc index ∷ options) h = none_async options h
+none_async (option.PostReturn index ∷ options) h = none_async options h
 none_async (option.Async ∷ options) h = never h
 none_async (option.Callback index ∷ options) h = never h
 
