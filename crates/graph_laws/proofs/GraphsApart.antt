@@ -1,5 +1,5 @@
 -- Linked graphs are apart, and their plans make each core instance in order; and where the modules of a component are sound, so is its
--- graph.
+-- graph, if all its functions are synchronous.
 use Rattle.std.proofs.Common.{◌≡◌, ℕ, List, [], ◌++◌, length, map, refl, sym, subst, Option, Some, None}
 use Rattle.std.specs.List.{slice_get, AllByRecursion}
 use Rattle.ca_base.specs.declared.placed.Placed.{Placed}
@@ -8,11 +8,12 @@ use Rattle.wasm_store.specs.Instantiation.{InRange}
 use Rattle.comp_tree.specs.declared.items.Item.{Item, out-Item}
 use Rattle.comp_tree.specs.declared.items.Component.{Component}
 use Rattle.comp_graph.specs.Graph.{CoreMake, Graph}
+use Rattle.comp_graph.proofs.RunningTold.{runs_told}
 use Rattle.link_spec.specs.Definitions.{Closure, AFunc, AnInstance, Exports, EmptyInstance, WithExport}
 use Rattle.link_spec.specs.Spaces.{Spaces, Linking, new_spaces, with_definition}
 use Rattle.link_spec.specs.Standing.{StandsIn}
 use Rattle.link_spec.specs.Linked.{Begins, begun, exports_or, exports_at, with_instance, Links, leads_by_making, leads_by_instance, no_items, item_links, root_begun, Callable, funcs_behind, callables, lift_of, graph_of}
-use Rattle.link_spec.specs.Laws.{GraphsAreImported, LiftsAreThere, GraphsAreMade, GraphsAreSync, ModulesStand}
+use Rattle.link_spec.specs.Laws.{GraphsAreImported, LiftsAreThere, GraphsAreMade, ModulesStand}
 use Rattle.link_spec.proofs.Holding.{all_push, all_both, all_mapped, all_weaker}
 use Rattle.canonical_machine.specs.Sound.{HasBytes, Makes}
 use Rattle.canonical_machine.specs.Owners.{IsLiftApart, IsApart}
@@ -113,8 +114,8 @@ plans_make_in_order c g (l, links, is) = subst (λ (g : Graph). Makes 0 g.plan g
 all_sound : (c : Component) (cores : List CoreMake) → HasSoundModules c → AllByRecursion (λ (core : CoreMake). StandsIn core.of_module c.items) cores → AllByRecursion (λ (core : CoreMake). IsSoundModule core.of_module) cores
 all_sound c cores has stand = all_weaker (λ (core : CoreMake). StandsIn core.of_module c.items) (λ (core : CoreMake). IsSoundModule core.of_module) (λ core s. has core.of_module s) cores stand
 
-pub linked_graphs_are_sound : GraphsAreImported → LiftsAreThere → GraphsAreMade → GraphsAreSync → ModulesStand → LinkedGraphsAreSound
-linked_graphs_are_sound imported there made sync stand c g has linked =
+pub linked_graphs_are_sound : GraphsAreImported → LiftsAreThere → GraphsAreMade → ModulesStand → LinkedGraphsAreSound
+linked_graphs_are_sound imported there made stand c g has linked runs =
     let sound = all_sound c g.cores has (stand c g linked) in
     record {
       valid = all_weaker (λ (core : CoreMake). IsSoundModule core.of_module) (λ (core : CoreMake). Typed core.of_module) (λ core s. s.typed) g.cores sound;
@@ -124,5 +125,5 @@ linked_graphs_are_sound imported there made sync stand c g has linked =
       lifts = there c g linked;
       made = made c g linked;
       planned = plans_make_in_order c g linked;
-      sync = sync c g linked;
+      sync = (runs_told g).0 runs;
     }

@@ -1,5 +1,5 @@
 -- What an item makes of a linking that is apart is apart, and each component instance keeps what it owns.
-use Rattle.std.proofs.Common.{◌≡◌, ℕ, List, [], ◌∷◌, ◌++◌, length, map, sym, ap, subst, arith, Option, Some, None}
+use Rattle.std.proofs.Common.{◌≡◌, ◌∙◌, ℕ, List, [], ◌∷◌, ◌++◌, length, map, refl, sym, ap, subst, arith, Option, Some, None}
 use Rattle.std.specs.List.{slice_get}
 use Rattle.std.specs.Option.{option_map, option_and_then, IfSome}
 use Rattle.std.specs.Str.{bytes_eq}
@@ -20,6 +20,7 @@ use Rattle.comp_tree.specs.declared.instances.AliasTarget.{AliasTarget}
 use Rattle.comp_tree.specs.declared.instances.AliasTarget.TheVariants as target
 use Rattle.comp_tree.specs.declared.externs.ExternDesc.{ExternDesc}
 use Rattle.comp_tree.specs.declared.externs.Export as read
+use Rattle.comp_tree.specs.declared.builtins.CanonBuiltin.{CanonBuiltin}
 use Rattle.comp_tree.specs.declared.items.CanonOption.{CanonOption}
 use Rattle.comp_tree.specs.declared.items.Canon.TheVariants.{Lift, Lower, Builtin}
 use Rattle.comp_tree.specs.declared.items.Item.{Item}
@@ -30,14 +31,14 @@ use Rattle.comp_graph.specs.declared.graph.FuncRef.{FuncRef}
 use Rattle.comp_graph.specs.declared.graph.FuncRef.TheVariants as func_ref
 use Rattle.comp_graph.specs.declared.graph.CoreExtern.{CoreExtern}
 use Rattle.comp_graph.specs.declared.graph.CanonFunc.{CanonFunc}
+use Rattle.comp_graph.specs.declared.graph.CanonFunc.TheVariants as canon_func
 use Rattle.comp_graph.specs.CoreItems.{core_func_of, core_memory_of, table_space, memory_space}
 use Rattle.comp_graph.specs.Closed.{Extern, OfFunc, OfType, OfInstance}
-use Rattle.comp_graph.specs.Graph.{CoreMake, Graph}
-use Rattle.comp_graph.specs.Needs.{lowered_type}
+use Rattle.comp_graph.specs.Graph.{CoreMake, Graph, canon_type}
 use Rattle.link_spec.specs.Definitions.{CoreItem, Func, Table, Memory, Global, extern_of, item_of, CoreExport, core_named, listed, exports_of, Definition, AFunc, AType, AComponent, AnInstance, AModule, Exports, EmptyInstance, WithExport, export_named}
 use Rattle.link_spec.specs.Spaces.{Spaces, Linking, core_item_at, definition_at, with_core_item, with_core_instance, with_definition, with_spaces, outer_definition, outer_at}
 use Rattle.link_spec.specs.Canons.{memory_index, realloc_index, post_return_index, first_index, given_by, options_of}
-use Rattle.link_spec.specs.Items.{argument_named, import_found, FindsItem, IsInline, core_made, core_instance_makes, instance_makes, alias_makes, lifted_with, lift_makes, lowered_with, lower_made, lower_makes, IsImported, import_makes, said, IsExported, export_makes, makes_case}
+use Rattle.link_spec.specs.Items.{argument_named, import_found, FindsItem, IsInline, core_made, core_instance_makes, instance_makes, alias_makes, lifted_with, lift_makes, with_canon, lowered_with, lower_makes, builtin_makes, IsImported, import_makes, said, IsExported, export_makes, makes_case}
 use Rattle.link_spec.proofs.Holding.{all_push, all_mapped, all_flat, all_at, all_second, holds_at, if_mapped, if_found, if_each, if_cond, last_there}
 use Rattle.canonical_machine.specs.Reading.{inst_of_canon}
 use Rattle.canonical_machine.specs.Owners.{owner_of_core, owner_of_canon, owner_of_func, owner_of_extern, AreOptionsOf, IsCanonApart}
@@ -177,7 +178,7 @@ alias_reached l n s sort (target.Outer up index) new h k (d, is, made) =
     (holds_at (IsDefinedApart (made_by l)) (outer_at l (n ∷ s.around) sort up index) d
     (if_each (outer_definition sort index) (IsDefinedApart (made_by l)) (λ (t : Spaces). outer_apart (made_by l) t sort index) (option_and_then (slice_get l.scopes) (slice_get (n ∷ s.around) up))) is)
 
--- Lifts and lowers.
+-- Lifts.
 lift_reached : (l : Linking) (n : ℕ) (s : Spaces) (f : ℕ) (options : List CanonOption) (t : ℕ) (new : Linking) → IsLinkingApart l → AreSpacesApart (made_by l) n s → lift_makes l n s f options t new → IsReachedApart l new
 lift_reached l n s f options t new h k (item, core, type, is, of_item, there, of_type, once, fits, made) =
     defined_reached l n s (AFunc (lifted_with n type core (given_by s options))) new h k made (
@@ -186,38 +187,49 @@ lift_reached l n s f options t new h k (item, core, type, is, of_item, there, of
       options_own (made_by l) n s k options,
     )
 
-lower_reached : (l : Linking) (n : ℕ) (s : Spaces) (f : ℕ) (options : List CanonOption) (new : Linking) → IsLinkingApart l → AreSpacesApart (made_by l) n s → lower_makes l n s f options new → IsReachedApart l new
-lower_reached l n s f options new h k (func, is, there, once, fits, made) =
+-- One core function more, which the Canonical ABI makes in this component instance.
+canon_reached : (l : Linking) (n : ℕ) (s : Spaces) (canon : CanonFunc) (new : Linking) → IsLinkingApart l → AreSpacesApart (made_by l) n s → inst_of_canon canon ≡ n
+    → (AreSpacesApart (made_by (with_canon l n s canon)) n s → IsCanonApart (made_by (with_canon l n s canon)) canon) → new ≡ with_canon l n s canon → IsReachedApart l new
+canon_reached l n s canon new h k of_instance canon_own made =
     subst (IsReachedApart l) (sym made) (record {
       apart = record {
-        scopes = at_set (AreSpacesApart longer) l.scopes n (with_core_item s item) (with_item_apart longer n s item (kept_spaces (made_by l) longer keeps n s k) own) (λ i t e. kept_spaces (made_by l) longer keeps i t (h.scopes i t e));
+        scopes = at_set (AreSpacesApart longer) l.scopes n (with_core_item s item) (with_item_apart longer n s item spaces own) (λ i t e. kept_spaces (made_by l) longer keeps i t (h.scopes i t e));
         imports = kept_imports (made_by l) longer keeps l.cores h.imports;
-        lowers = all_push (IsCanonApart longer) l.canons canon (kept_canons (made_by l) longer keeps l.canons h.lowers) canon_own;
+        lowers = all_push (IsCanonApart longer) l.canons canon (kept_canons (made_by l) longer keeps l.canons h.lowers) (canon_own spaces);
         planned = h.planned;
       };
       keeps = keeps;
     })
   where
-    canon : CanonFunc
-    canon = lowered_with n func (given_by s options)
-
     item : CoreItem
-    item = Func (func_ref.Canon (length l.canons)) (lowered_type func.func_type)
+    item = Func (func_ref.Canon (length l.canons)) (canon_type canon)
 
     longer : Graph
-    longer = made_by (lower_made l n s func (given_by s options))
+    longer = made_by (with_canon l n s canon)
 
     keeps : KeepsOwners (made_by l) longer
     keeps = record { cores = λ number owner e. e; canons = λ number owner e. kept_mapped inst_of_canon l.canons (canon ∷ []) number owner e }
 
     own : owner_of_canon longer (length l.canons) ≡ Some n
-    own = ap (option_map inst_of_canon) (last_there l.canons canon)
+    own = ap (option_map inst_of_canon) (last_there l.canons canon) ∙ ap (λ (x : ℕ). Some x) of_instance
 
     spaces : AreSpacesApart longer n s
     spaces = kept_spaces (made_by l) longer keeps n s k
 
-    canon_own : IsCanonApart longer canon
-    canon_own = (options_own longer n s spaces options, holds_at (IsFuncApart longer) (slice_get s.funcs f) func (all_at (IsFuncApart longer) s.funcs f spaces.funcs) is)
+lower_reached : (l : Linking) (n : ℕ) (s : Spaces) (f : ℕ) (options : List CanonOption) (new : Linking) → IsLinkingApart l → AreSpacesApart (made_by l) n s → lower_makes l n s f options new → IsReachedApart l new
+lower_reached l n s f options new h k (func, is, there, once, fits, made) = canon_reached l n s canon new h k refl canon_own made
+  where
+    canon : CanonFunc
+    canon = lowered_with n func (given_by s options)
+
+    longer : Graph
+    longer = made_by (with_canon l n s canon)
+
+    canon_own : AreSpacesApart longer n s → IsCanonApart longer canon
+    canon_own spaces = (options_own longer n s spaces options, holds_at (IsFuncApart longer) (slice_get s.funcs f) func (all_at (IsFuncApart longer) s.funcs f spaces.funcs) is)
+
+builtin_reached : (l : Linking) (n : ℕ) (s : Spaces) (b : CanonBuiltin) (new : Linking) → IsLinkingApart l → AreSpacesApart (made_by l) n s → builtin_makes l n s b new → IsReachedApart l new
+builtin_reached l n s b new h k (kind, there, is, made) = canon_reached l n s (canon_func.Builtin (record { instance = n; kind = kind })) new h k refl (λ spaces. tt) made
 
 -- Imports and exports.
 imported_apart : (g : Graph) (arguments : Option Exports) (name : List ℕ) (extern : Extern) (d : Definition) → IfSome arguments (AreDefinedApart g) → IsImported arguments name extern d → IsDefinedApart g d
@@ -251,6 +263,6 @@ case_reached l n s (Item-F.Alias alias) new h k makes = alias_reached l n s alia
 case_reached l n s (Item-F.Type type) new h k (closed, means, made) = defined_reached l n s (AType closed) new h k made tt
 case_reached l n s (Item-F.Canon (Lift f options t)) new h k makes = lift_reached l n s f options t new h k makes
 case_reached l n s (Item-F.Canon (Lower f options)) new h k makes = lower_reached l n s f options new h k makes
-case_reached l n s (Item-F.Canon (Builtin b)) new h k makes = absurd makes
+case_reached l n s (Item-F.Canon (Builtin b)) new h k makes = builtin_reached l n s b new h k makes
 case_reached l n s (Item-F.Import i) new h k makes = import_reached l n s i.name i.desc new h k makes
 case_reached l n s (Item-F.Export e) new h k makes = export_reached l n s e new h k makes

@@ -15,8 +15,10 @@ pub mod SoundCalls
 mod TypesStand
 mod CountedTypes
 mod CountedMeanings
-mod CountedSpaces
+mod SpacesHold
+mod LinkingsHold
 mod CountedGraphs
 mod TypesRead
 mod ComponentTypes
 mod PlainTypes
+mod OtherItems

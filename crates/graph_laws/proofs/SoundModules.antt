@@ -85,4 +85,4 @@ read_modules_are_sound bytes c h read m stands =
     record { typed = fit.0; in_range = fit.1; bytes = read_data_are_bytes bytes c m h read stands }
 
 pub read_graphs_are_sound : LinkedGraphsAreSound → ReadGraphsAreSound
-read_graphs_are_sound sound bytes c g h read linked = sound c g (read_modules_are_sound bytes c h read) linked
+read_graphs_are_sound sound bytes c g h read linked runs = sound c g (read_modules_are_sound bytes c h read) linked runs

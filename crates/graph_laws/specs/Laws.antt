@@ -1,6 +1,6 @@
 -- What the graph of a component has, where it is linked (Component Model, Explainer.md, "Instance Definitions" and "Canonical
 -- Definitions"), and what its modules have, where it was read before (Binary.md, "Core Definitions"; Core 2.0, section 5.5).
-use Rattle.std.specs.Prelude.{ℕ, List}
+use Rattle.std.specs.Prelude.{◌≡◌, ℕ, true, false, List, IsSome}
 use Rattle.std.specs.List.{AllByRecursion}
 use Rattle.wasm_module.specs.declared.module.ModuleTree.{ModuleTree}
 use Rattle.wasm_typing.specs.Modules.{Typed}
@@ -8,6 +8,8 @@ use Rattle.wasm_store.specs.Instantiation.{InRange}
 use Rattle.comp_tree.specs.declared.items.Component.{Component}
 use Rattle.comp_reader.specs.Binary.{IsComponent}
 use Rattle.comp_graph.specs.Graph.{Graph}
+use Rattle.comp_graph.specs.Running.{runs_now}
+use Rattle.sync_items.specs.Items.{first_not_sync}
 use Rattle.script_reader.specs.Script.{Script, CallsExport}
 use Rattle.link_spec.specs.Standing.{StandsIn}
 use Rattle.link_spec.specs.Linked.{IsLinked}
@@ -26,9 +28,9 @@ pub record IsSoundModule (m : ModuleTree) : Type 0 where
 abbrev pub HasSoundModules : Component → Type 0
 HasSoundModules c = (m : ModuleTree) → StandsIn m c.items → IsSoundModule m
 
--- Where a component has sound modules, its graph is sound.
+-- Where a component has sound modules, its graph is sound, if all its functions are synchronous.
 abbrev pub LinkedGraphsAreSound : Type 0
-LinkedGraphsAreSound = (c : Component) (g : Graph) → HasSoundModules c → IsLinked c g → IsSoundGraph g
+LinkedGraphsAreSound = (c : Component) (g : Graph) → HasSoundModules c → IsLinked c g → runs_now g ≡ true → IsSoundGraph g
 
 -- The plan of a graph makes each core instance, in order.
 abbrev pub PlansMakeInOrder : Type 0
@@ -46,12 +48,14 @@ ReadModulesAreTyped = (bytes : List ℕ) (c : Component) (m : ModuleTree) → Is
 abbrev pub ReadDataAreBytes : Type 0
 ReadDataAreBytes = (bytes : List ℕ) (c : Component) (m : ModuleTree) → AreBytes bytes → IsComponent bytes c → StandsIn m c.items → HasBytes m
 
--- What is read of bytes has sound modules, and so its graph is sound.
+-- What is read of bytes has sound modules, and so its graph is sound, if all its functions are synchronous.
 abbrev pub ReadModulesAreSound : Type 0
 ReadModulesAreSound = (bytes : List ℕ) (c : Component) → AreBytes bytes → IsComponent bytes c → HasSoundModules c
 
 abbrev pub ReadGraphsAreSound : Type 0
-ReadGraphsAreSound = (bytes : List ℕ) (c : Component) (g : Graph) → AreBytes bytes → IsComponent bytes c → IsLinked c g → IsSoundGraph g
+ReadGraphsAreSound =
+    (bytes : List ℕ) (c : Component) (g : Graph)
+    → AreBytes bytes → IsComponent bytes c → IsLinked c g → runs_now g ≡ true → IsSoundGraph g
 
 -- What functions of a graph pass that is read of bytes and linked has types whose labels are counted.
 abbrev pub ReadTypesAreCounted : Type 0
@@ -68,3 +72,7 @@ abbrev pub CallsAreSound : Type 0
 CallsAreSound =
     (g : Graph) (s : Script)
     → IsSoundGraph g → HasCountedFuncs g → AllByRecursion (CallsExport g.exports) s.items → IsSound g s
+
+-- A component whose graph has more than synchronous functions has a first item that is more.
+abbrev pub OtherItemsAreFound : Type 0
+OtherItemsAreFound = (c : Component) (g : Graph) → IsLinked c g → runs_now g ≡ false → IsSome (first_not_sync c)

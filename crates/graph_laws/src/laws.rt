@@ -1,18 +1,17 @@
 //! What holds of every linked graph, and of the modules that are read.
 
 ghost use Rattle.canonical_machine.specs.Sound.{AreBytes};
-ghost use Rattle.graph_laws.specs.Laws.{LinkedGraphsAreSound, PlansMakeInOrder, LinkedGraphsAreApart, ReadModulesAreTyped, ReadDataAreBytes, ReadModulesAreSound, ReadGraphsAreSound, ReadTypesAreCounted, CountedGraphsArePlain, CallsAreSound};
+ghost use Rattle.graph_laws.specs.Laws.{LinkedGraphsAreSound, PlansMakeInOrder, LinkedGraphsAreApart, ReadModulesAreTyped, ReadDataAreBytes, ReadModulesAreSound, ReadGraphsAreSound, ReadTypesAreCounted, CountedGraphsArePlain, CallsAreSound, OtherItemsAreFound};
 
-use link_spec::laws::{graphs_are_sound, graphs_are_sync};
+use link_spec::laws::graphs_are_sound;
 
-/// The graph of a component whose modules are typed, in range and of bytes is sound. The plan of every linked graph makes its core
-/// instances, each once, in order.
+/// The graph of a component whose modules are typed, in range and of bytes is sound, if all its functions are synchronous. The plan of
+/// every linked graph makes its core instances, each once, in order.
 pub fn linked_graphs_are_sound()
     ensures sound { LinkedGraphsAreSound }
     ensures planned { PlansMakeInOrder }
 {
     graphs_are_sound();
-    graphs_are_sync();
 }
 
 /// In a linked graph what a core instance imports, the core function of a lift, and what the options of a lift or a lower give, were made
@@ -32,7 +31,7 @@ pub fn read_data_are_bytes()
 {}
 
 /// The modules that stand in a component that is read of bytes are typed, in range and of bytes. So the graph to which it is linked is
-/// sound.
+/// sound, if all its functions are synchronous.
 pub fn read_graphs_are_sound()
     ensures modules { ReadModulesAreSound }
     ensures graphs { ReadGraphsAreSound }
@@ -60,4 +59,9 @@ pub fn counted_graphs_are_plain()
 /// what such a call passes is of its type.
 pub fn calls_are_sound()
     ensures { CallsAreSound }
+{}
+
+/// A component whose graph has more than synchronous functions has a first item that is a built-in, or a lift or a lower with `async`.
+pub fn other_items_are_found()
+    ensures { OtherItemsAreFound }
 {}

@@ -3,9 +3,10 @@
 //! A component, its graph, a script and a run are each lent to the function that tells of them as the last step, so that they are
 //! let go in one place.
 
-ghost use Rattle.std.specs.Prelude.{ℕ, List, IfOk};
+ghost use Rattle.std.specs.Prelude.{◌≡◌, ℕ, true, List, IfOk};
 ghost use Rattle.comp_tree.specs.declared.items.Component.{Component};
 ghost use Rattle.comp_reader.specs.Binary.{IsComponent};
+ghost use Rattle.comp_graph.specs.Running.{runs_now};
 ghost use Rattle.link_spec.specs.Linked.{IsLinked};
 ghost use Rattle.canonical_machine.specs.Sound.{AreBytes, IsSound};
 ghost use Rattle.canonical_machine.specs.Owners.{IsApart};
@@ -19,8 +20,8 @@ use builtins::{Run, run_script, trace_text};
 use ca_base::{Bytes, MemoryOr, ReadError};
 use canonical_machine::RunEnd;
 use cases::Answers;
-use comp_graph::Graph;
-use comp_link::{LinkFault, link};
+use comp_graph::{Graph, runs_now};
+use comp_link::{LinkFault, LinkWhy, link};
 use comp_reader::{Component, ComponentWhy, read_component};
 use graph_laws::laws::{
     calls_are_sound, counted_graphs_are_plain, files_are_bytes, linked_graphs_are_apart,
@@ -30,6 +31,7 @@ use script_reader::{Script, ScriptFault, read_script};
 use std::alloc::Global;
 use std::fmt::Write;
 use std::test::Fail;
+use sync_items::first_not_sync;
 use world::dump_text;
 
 /// Cases, each with its answer.
@@ -91,7 +93,7 @@ fn script_refused(alloc: Global, fault: ScriptFault) -> Result<String, Fail> {
     answer(alloc, 4, &line)
 }
 
-/// What a script comes to for the graph of a component that is read of bytes.
+/// What a script comes to for the graph of a component that is read of bytes, of synchronous functions alone.
 fn scripted(
     alloc: Global,
     component: &Component,
@@ -101,6 +103,7 @@ fn scripted(
 ) -> Result<String, Fail>
     requires read { (bytes : List ℕ) × AreBytes bytes × IsComponent bytes component.now }
     requires linked { IsLinked component.now graph.now }
+    requires runs { runs_now graph.now ≡ true }
 {
     read_graphs_are_sound();
     read_types_are_counted();
@@ -114,6 +117,13 @@ fn scripted(
     }
 }
 
+/// The answer for a component whose graph has more than synchronous functions.
+fn not_run(alloc: Global, component: &Component) -> Result<String, Fail> {
+    let place = first_not_sync(component).ok_or("no such item")?;
+    let why = LinkWhy::Limit;
+    link_refused(alloc, &LinkFault { place, why })
+}
+
 /// The answer of a command for the graph of a component that is read of bytes.
 fn graph_answer(
     alloc: Global,
@@ -125,7 +135,13 @@ fn graph_answer(
     requires linked { IsLinked component.now graph.now }
 {
     match case.command {
-        Command::Run { dump } => scripted(alloc, component, graph, case.script.as_str(), dump),
+        Command::Run { dump } => {
+            if runs_now(graph) {
+                scripted(alloc, component, graph, case.script.as_str(), dump)
+            } else {
+                not_run(alloc, component)
+            }
+        }
         Command::Check => answer(alloc, 0, &accepted_text(alloc)?),
         Command::Show => answer(alloc, 0, &graph_text(alloc, graph)?),
     }

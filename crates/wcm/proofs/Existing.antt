@@ -1,6 +1,6 @@
 -- Words whose files are told, of bytes, have an answer.
-use Rattle.std.proofs.Common.{◌≡◌, ℕ, Bool, List, [], length, Option, Some, None, Result, Ok, Err, inl, inr, refl, subst}
-use Rattle.std.specs.Option.{IfSome}
+use Rattle.std.proofs.Common.{◌≡◌, ℕ, Bool, true, false, List, [], length, Option, Some, None, Result, Ok, Err, inl, inr, refl, subst}
+use Rattle.std.specs.Option.{IfSome, IsSome}
 use Rattle.std.proofs.lemmas.Bool.{cases_lt}
 use Rattle.comp_tree.specs.declared.items.Component.{Component}
 use Rattle.comp_reader.specs.Binary.{IsComponent}
@@ -8,15 +8,17 @@ use Rattle.comp_reader.specs.Laws.{OneReading}
 use Rattle.script_reader.specs.declared.fault.ScriptFault.{ScriptFault}
 use Rattle.script_reader.specs.Script.{Script, script}
 use Rattle.comp_graph.specs.Graph.{Graph}
+use Rattle.comp_graph.specs.Running.{runs_now}
+use Rattle.sync_items.specs.Items.{first_not_sync}
 use Rattle.link_spec.specs.Linked.{IsLinked}
 use Rattle.link_spec.specs.Laws.{LinkedOrRefused}
 use Rattle.canonical_machine.specs.Sound.{AreBytes}
 use Rattle.canonical_machine.specs.Ending.{EachRunEnds}
-use Rattle.graph_laws.specs.Laws.{LinkedGraphsAreApart}
+use Rattle.graph_laws.specs.Laws.{LinkedGraphsAreApart, OtherItemsAreFound}
 use Rattle.command_words.specs.Words.{Command, Run, Check, Show, component_file}
 use Rattle.wcm.specs.declared.answer.Answer.{Answer}
-use Rattle.wcm.specs.Files.{component_limit, too_long, MayHold, IsFileLinked, IsScriptTold, AreTold}
-use Rattle.wcm.specs.Answers.{Answers, no_command, file_refused, not_linked, accepted, shown, script_refused, ran, usage_answer, refused_answer, link_refused_answer, script_refused_answer, accepted_answer, shown_answer, run_answer}
+use Rattle.wcm.specs.Files.{component_limit, too_long, MayHold, IsComponentFile, IsFileLinked, IsScriptTold, AreTold}
+use Rattle.wcm.specs.Answers.{Answers, no_command, file_refused, not_linked, accepted, shown, not_run, script_refused, ran, usage_answer, refused_answer, link_refused_answer, not_run_answer, script_refused_answer, accepted_answer, shown_answer, run_answer}
 use Rattle.wcm.specs.Laws.{ScriptsAreSound, SomeAnswer}
 use Rattle.wcm.proofs.Held.{told_bytes, may_hold}
 
@@ -24,23 +26,36 @@ use Rattle.wcm.proofs.Held.{told_bytes, may_hold}
 are_bytes : (o : Option (List ℕ)) (bytes : List ℕ) → IfSome o AreBytes → o ≡ Some bytes → AreBytes bytes
 are_bytes o bytes h e = subst (λ (o : Option (List ℕ)). IfSome o AreBytes) e h
 
-module _ (reading : OneReading) (links : LinkedOrRefused) (sound : ScriptsAreSound) (apart : LinkedGraphsAreApart) (ends : EachRunEnds) where
+-- what an option is that has a value
+some_at : (o : Option ℕ) → IsSome o → (place : ℕ) × (o ≡ Some place)
+some_at None h = cc
+some_at (Some place) h = (place, refl)
+
+module _ (reading : OneReading) (links : LinkedOrRefused) (sound : ScriptsAreSound) (apart : LinkedGraphsAreApart) (others : OtherItemsAreFound) (ends : EachRunEnds) where
   by_script : (held : List ℕ → Option (List ℕ)) (file name : List ℕ) (dump : Bool) (bytes text : List ℕ) (c : Component) (g : Graph) (r : Result Script ScriptFault)
-      → AreBytes bytes → IsComponent bytes c → IsLinked c g → IsFileLinked held file g → MayHold held name text → script g.exports text ≡ r → (a : Answer) × Answers held (Some (Run file name dump)) a
-  by_script held file name dump bytes text c g (Err fault) b i l linked holds h =
-      (script_refused_answer fault, script_refused file name dump g fault linked (record { text = text; holds = holds; refused = h }))
-  by_script held file name dump bytes text c g (Ok s) b i l linked holds h =
-      let run = ends g s (sound bytes text c g s b i l h) (apart c g l) in
-      (run_answer dump run.0 run.1 run.2, ran file name dump g s run.0 run.1 run.2 linked (record { text = text; holds = holds; read = h }) run.3)
+      → AreBytes bytes → IsComponent bytes c → IsLinked c g → IsFileLinked held file g → runs_now g ≡ true → MayHold held name text → script g.exports text ≡ r → (a : Answer) × Answers held (Some (Run file name dump)) a
+  by_script held file name dump bytes text c g (Err fault) b i l linked runs holds h =
+      (script_refused_answer fault, script_refused file name dump g fault linked runs (record { text = text; holds = holds; refused = h }))
+  by_script held file name dump bytes text c g (Ok s) b i l linked runs holds h =
+      let run = ends g s (sound bytes text c g s b i l runs h) (apart c g l) in
+      (run_answer dump run.0 run.1 run.2, ran file name dump g s run.0 run.1 run.2 linked runs (record { text = text; holds = holds; read = h }) run.3)
+
+  -- by whether a graph is run
+  by_run : (held : List ℕ → Option (List ℕ)) (file name : List ℕ) (dump : Bool) (bytes : List ℕ) (c : Component) (g : Graph) (runs : Bool)
+      → AreBytes bytes → MayHold held file bytes → IsComponentFile bytes c → IsLinked c g → runs_now g ≡ runs → (runs ≡ true → IsSome (held name)) → (a : Answer) × Answers held (Some (Run file name dump)) a
+  by_run held file name dump bytes c g true b holds read l e told =
+      let text = told_bytes (held name) (told refl) in
+      by_script held file name dump bytes text.0 c g (script g.exports text.0) b read.1 l (record { bytes = bytes; component = c; holds = holds; read = read; linked = l }) e (may_hold (held name) text.0 text.1) refl
+  by_run held file name dump bytes c g false b holds read l e told =
+      let place = some_at (first_not_sync c) (others c g l e) in
+      (not_run_answer place.0, not_run file name dump place.0 (record { bytes = bytes; component = c; graph = g; holds = holds; read = read; linked = l; beyond = e; first = place.1 }))
 
   -- behind a graph
   by_graph : (held : List ℕ → Option (List ℕ)) (command : Command) (bytes : List ℕ) (c : Component) (g : Graph)
-      → AreBytes bytes → IsComponent bytes c → IsLinked c g → IsFileLinked held (component_file command) g → IsScriptTold held command → (a : Answer) × Answers held (Some command) a
-  by_graph held (Run file name dump) bytes c g b i l linked told =
-      let text = told_bytes (held name) told in
-      by_script held file name dump bytes text.0 c g (script g.exports text.0) b i l linked (may_hold (held name) text.0 text.1) refl
-  by_graph held (Check file) bytes c g b i l linked told = (accepted_answer, accepted file g linked)
-  by_graph held (Show file) bytes c g b i l linked told = (shown_answer g, shown file g linked)
+      → AreBytes bytes → MayHold held (component_file command) bytes → IsComponentFile bytes c → IsLinked c g → IsScriptTold held command g → (a : Answer) × Answers held (Some command) a
+  by_graph held (Run file name dump) bytes c g b holds read l told = by_run held file name dump bytes c g (runs_now g) b holds read l refl told
+  by_graph held (Check file) bytes c g b holds read l told = (accepted_answer, accepted file g (record { bytes = bytes; component = c; holds = holds; read = read; linked = l }))
+  by_graph held (Show file) bytes c g b holds read l told = (shown_answer g, shown file g (record { bytes = bytes; component = c; holds = holds; read = read; linked = l }))
 
   by_bytes : (held : List ℕ → Option (List ℕ)) (command : Command) (bytes : List ℕ) → AreBytes bytes → MayHold held (component_file command) bytes → AreTold held command → (a : Answer) × Answers held (Some command) a
   by_bytes held command bytes b holds told =
@@ -50,7 +65,7 @@ module _ (reading : OneReading) (links : LinkedOrRefused) (sound : ScriptsAreSou
           | inl good ↦ elim (links good.0) [
             | inl graph ↦
                 let linked : IsFileLinked held (component_file command) graph.0 = record { bytes = bytes; component = good.0; holds = holds; read = (short, good.1); linked = graph.1 } in
-                by_graph held command bytes good.0 graph.0 b good.1 graph.1 linked (told.script graph.0 linked)
+                by_graph held command bytes good.0 graph.0 b holds (short, good.1) graph.1 (told.script graph.0 linked)
             | inr bad ↦ (link_refused_answer bad.0, not_linked command bad.0 (record { bytes = bytes; component = good.0; holds = holds; read = (short, good.1); refused = bad.1 }))
           ]
           | inr bad ↦ (refused_answer bad.0, file_refused command bad.0 (record { bytes = bytes; holds = holds; refused = inr (short, bad.1) }))

@@ -1,4 +1,4 @@
--- What the bytes of a component file come to is one: a refusal, a fault of linking or a graph.
+-- What the bytes of a component file come to is one: a refusal, a fault of linking, or a component and its graph.
 use Rattle.std.proofs.Common.{◌≡◌, inl, inr, ℕ, List, ap, sym, ◌∙◌, subst, arith, Result, Ok, Err}
 use Rattle.ca_base.specs.Span.{Span}
 use Rattle.ca_base.specs.declared.refusal.Refusal.{Refusal}
@@ -59,24 +59,26 @@ component_or_not bytes c e h k =
 pub data Found : Type 0 where
   BadFile : Refusal ComponentWhy → Found
   BadLinks : LinkFault → Found
-  GoodFile : Graph → Found
+  GoodFile : Component → Graph → Found
 
 abbrev pub Finds : List ℕ → Found → Type 0
 Finds bytes (BadFile refusal) = IsRefusedFile bytes refusal
 Finds bytes (BadLinks fault) = (c : Component) × IsComponentFile bytes c × IsLinkRefused c fault
-Finds bytes (GoodFile g) = (c : Component) × IsComponentFile bytes c × IsLinked c g
+Finds bytes (GoodFile c g) = IsComponentFile bytes c × IsLinked c g
 
 pub one_found : (bytes : List ℕ) (x y : Found) → Finds bytes x → Finds bytes y → x ≡ y
 one_found bytes (BadFile r) (BadFile q) h k = ap (λ (e : Refusal ComponentWhy). BadFile e) (one_refusal bytes r q h k)
 one_found bytes (BadFile r) (BadLinks f) h k = absurd (component_or_not bytes k.0 r k.1 h)
-one_found bytes (BadFile r) (GoodFile g) h k = absurd (component_or_not bytes k.0 r k.1 h)
+one_found bytes (BadFile r) (GoodFile c g) h k = absurd (component_or_not bytes c r k.0 h)
 one_found bytes (BadLinks f) (BadFile r) h k = absurd (component_or_not bytes h.0 r h.1 k)
 one_found bytes (BadLinks f) (BadLinks e) h k =
     ap (λ (e : LinkFault). BadLinks e) (following.one_refusal h.0 f e h.2 (subst (λ (c : Component). IsLinkRefused c e) (one_component bytes k.0 h.0 k.1 h.1) k.2))
-one_found bytes (BadLinks f) (GoodFile g) h k =
-    absurd (linked_is_not_refused h.0 g f (subst (λ (c : Component). IsLinked c g) (one_component bytes k.0 h.0 k.1 h.1) k.2) h.2)
-one_found bytes (GoodFile g) (BadFile r) h k = absurd (component_or_not bytes h.0 r h.1 k)
-one_found bytes (GoodFile g) (BadLinks f) h k =
-    absurd (linked_is_not_refused h.0 g f h.2 (subst (λ (c : Component). IsLinkRefused c f) (one_component bytes k.0 h.0 k.1 h.1) k.2))
-one_found bytes (GoodFile g) (GoodFile d) h k =
-    ap (λ (g : Graph). GoodFile g) (one_graph h.0 g d h.2 (subst (λ (c : Component). IsLinked c d) (one_component bytes k.0 h.0 k.1 h.1) k.2))
+one_found bytes (BadLinks f) (GoodFile c g) h k =
+    absurd (linked_is_not_refused h.0 g f (subst (λ (c : Component). IsLinked c g) (one_component bytes c h.0 k.0 h.1) k.1) h.2)
+one_found bytes (GoodFile c g) (BadFile r) h k = absurd (component_or_not bytes c r h.0 k)
+one_found bytes (GoodFile c g) (BadLinks f) h k =
+    absurd (linked_is_not_refused c g f h.1 (subst (λ (c : Component). IsLinkRefused c f) (one_component bytes k.0 c k.1 h.0) k.2))
+one_found bytes (GoodFile c g) (GoodFile d e) h k =
+    let same : d ≡ c = one_component bytes d c k.0 h.0 in
+    let graphs : g ≡ e = one_graph c g e h.1 (subst (λ (c : Component). IsLinked c e) same k.1) in
+    ap (λ (g : Graph). GoodFile c g) graphs ∙ ap (λ (c : Component). GoodFile c e) (sym same)

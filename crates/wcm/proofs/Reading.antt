@@ -1,5 +1,6 @@
 -- What files may hold that are too long, and the rows of answers that need no run.
-use Rattle.std.proofs.Common.{◌≡◌, ◌<◌, ℕ, Bool, List, length, Option, Some, Result, Ok, Err, IsErrOf, MatchResult, inl, refl, sym, subst}
+use Rattle.std.proofs.Common.{◌≡◌, ◌<◌, ℕ, Bool, true, false, List, length, Option, Some, Result, Ok, Err, IsErrOf, MatchResult, inl, refl, sym, subst}
+use Rattle.std.specs.Prelude.{IfOk}
 use Rattle.std.proofs.lemmas.Bool.{lt-ltb}
 use Rattle.std.specs.Option.{IfSome}
 use Rattle.ca_base.specs.declared.refusal.Refusal.{Refusal}
@@ -10,12 +11,14 @@ use Rattle.script_reader.specs.declared.fault.ScriptFault.{ScriptFault}
 use Rattle.script_reader.specs.Script as text_of
 use Rattle.script_reader.specs.Script.{size_limit, IsScriptRefused}
 use Rattle.link_spec.specs.declared.fault.LinkFault.{LinkFault}
-use Rattle.link_spec.specs.Linked.{IsLinkRefused}
+use Rattle.link_spec.specs.Linked.{IsLinked, IsLinkRefused}
 use Rattle.comp_graph.specs.Graph.{Graph}
+use Rattle.comp_graph.specs.Running.{runs_now}
+use Rattle.sync_items.specs.Items.{first_not_sync}
 use Rattle.command_words.specs.Words.{Command, Run, Check, Show, component_file}
 use Rattle.wcm.specs.declared.answer.Answer.{Answer}
 use Rattle.wcm.specs.Files.{component_limit, too_long, IsFileRead, IsFileRefused, IsFileLinked, IsScriptFileRefused}
-use Rattle.wcm.specs.Answers.{Answers, file_refused, not_linked, accepted, shown, script_refused, refused_answer, link_refused_answer, accepted_answer, shown_answer, script_refused_answer}
+use Rattle.wcm.specs.Answers.{Answers, file_refused, not_linked, accepted, shown, not_run, script_refused, refused_answer, link_refused_answer, not_run_answer, accepted_answer, shown_answer, script_refused_answer}
 use Rattle.wcm.proofs.Held.{too_many}
 
 -- A file that is too long.
@@ -41,6 +44,17 @@ of_ok P Q r x is h = subst (λ r. MatchResult r P Q) is h
 pub of_err : {X E : Type 0} (P : X → Type 0) (Q : E → Type 0) (r : Result X E) (e : E) → r ≡ Err e → MatchResult r P Q → Q e
 of_err P Q r e is h = subst (λ r. MatchResult r P Q) is h
 
+-- a file of which a component is read that is linked
+pub linked_file : (held : List ℕ → Option (List ℕ)) (name : List ℕ) (c : Component) (g : Graph) → IsFileRead held name c → IsLinked c g → IsFileLinked held name g
+linked_file held name c g f linked = record { bytes = f.bytes; component = c; holds = f.holds; read = f.read; linked = linked }
+
+-- what is answered for a file whose component is linked
+pub linked_row : {E : Type 0} (held : List ℕ → Option (List ℕ)) (name : List ℕ) (dump : Bool) (c : Component) (g : Graph) (r : Result Answer E) → IsLinked c g
+    → IfOk r (λ a. (file : List ℕ) → IsFileLinked held file g → Answers held (Some (Run file name dump)) a)
+    → IfOk r (λ a. (file : List ℕ) → IsFileRead held file c → Answers held (Some (Run file name dump)) a)
+linked_row held name dump c g (Ok a) linked h = λ file read. h file (linked_file held file c g read linked)
+linked_row held name dump c g (Err e) linked h = tt
+
 -- The rows that need no run.
 pub refused_row : (held : List ℕ → Option (List ℕ)) (command : Command) (refusal : Refusal ComponentWhy) (a : Answer) → IsFileRefused held (component_file command) refusal → a ≡ refused_answer refusal → Answers held (Some command) a
 refused_row held command refusal a f e = subst (λ (b : Answer). Answers held (Some command) b) (sym e) (file_refused command refusal f)
@@ -60,7 +74,13 @@ shown_row held command file g a same linked e =
     let row : Answers held (Some (Show file)) (shown_answer g) = shown file g (subst (λ (c : Command). IsFileLinked held (component_file c) g) same linked) in
     subst (λ (b : Answer). Answers held (Some command) b) (sym e) (subst (λ (c : Command). Answers held (Some c) (shown_answer g)) (sym same) row)
 
-pub script_refused_row : (held : List ℕ → Option (List ℕ)) (file name : List ℕ) (dump : Bool) (g : Graph) (exports : List Export) (fault : ScriptFault) (a : Answer) → IsFileLinked held file g → exports ≡ g.exports → IsScriptFileRefused held name exports fault → a ≡ script_refused_answer fault → Answers held (Some (Run file name dump)) a
-script_refused_row held file name dump g exports fault a linked same s e =
+pub script_refused_row : (held : List ℕ → Option (List ℕ)) (file name : List ℕ) (dump : Bool) (g : Graph) (exports : List Export) (fault : ScriptFault) (a : Answer) → IsFileLinked held file g → runs_now g ≡ true → exports ≡ g.exports → IsScriptFileRefused held name exports fault → a ≡ script_refused_answer fault → Answers held (Some (Run file name dump)) a
+script_refused_row held file name dump g exports fault a linked runs same s e =
     subst (λ (b : Answer). Answers held (Some (Run file name dump)) b) (sym e)
-    (script_refused file name dump g fault linked (subst (λ (es : List Export). IsScriptFileRefused held name es fault) same s))
+    (script_refused file name dump g fault linked runs (subst (λ (es : List Export). IsScriptFileRefused held name es fault) same s))
+
+pub not_run_row : (held : List ℕ → Option (List ℕ)) (file name : List ℕ) (dump : Bool) (c : Component) (g : Graph) (place : ℕ) (a : Answer) → IsFileRead held file c → IsLinked c g → runs_now g ≡ false → first_not_sync c ≡ Some place
+    → a ≡ not_run_answer place → Answers held (Some (Run file name dump)) a
+not_run_row held file name dump c g place a f linked beyond first e =
+    subst (λ (b : Answer). Answers held (Some (Run file name dump)) b) (sym e)
+    (not_run file name dump place (record { bytes = f.bytes; component = c; graph = g; holds = f.holds; read = f.read; linked = linked; beyond = beyond; first = first }))

@@ -1,9 +1,12 @@
 -- Where the files are told that a command asks for, it has one answer.
-use Rattle.std.proofs.Common.{◌≡◌, ℕ, Bool, List, [], refl, ap, sym, ◌∙◌, subst, Option, Some, None, Result, Ok, Err}
+use Rattle.std.proofs.Common.{◌≡◌, ℕ, Bool, true, false, List, [], refl, ap, sym, ◌∙◌, subst, Option, Some, None, Result, Ok, Err}
 use Rattle.std.specs.Option.{IsSome}
+use Rattle.comp_tree.specs.declared.items.Component.{Component}
+use Rattle.sync_items.specs.Items.{first_not_sync}
 use Rattle.script_reader.specs.declared.fault.ScriptFault.{ScriptFault}
 use Rattle.script_reader.specs.Script.{Script, script}
 use Rattle.comp_graph.specs.Graph.{Graph}
+use Rattle.comp_graph.specs.Running.{runs_now}
 use Rattle.trace_show.specs.declared.label.Label.{Label}
 use Rattle.canonical_machine.specs.declared.run_end.RunEnd.{RunEnd}
 use Rattle.canonical_machine.specs.World.{World}
@@ -13,7 +16,7 @@ use Rattle.command_words.specs.Words.{Command, Run, Check, Show, component_file}
 use Rattle.wcm.specs.declared.answer.Answer.{Answer}
 use Rattle.wcm.specs.declared.status.Status.TheVariants.{Usage}
 use Rattle.wcm.specs.Files.{MayHold, IsScriptTold, AreTold}
-use Rattle.wcm.specs.Answers.{Answers, no_command, file_refused, not_linked, accepted, shown, script_refused, ran, refused_answer, link_refused_answer, script_refused_answer, accepted_answer, shown_answer, run_answer}
+use Rattle.wcm.specs.Answers.{Answers, no_command, file_refused, not_linked, accepted, shown, not_run, script_refused, ran, refused_answer, link_refused_answer, not_run_answer, script_refused_answer, accepted_answer, shown_answer, run_answer}
 use Rattle.wcm.specs.Laws.{IsSameAnswer, OneAnswer}
 use Rattle.wcm.proofs.Held.{same_bytes}
 use Rattle.wcm.proofs.Found.{Found, BadFile, BadLinks, GoodFile, Finds, one_found}
@@ -30,16 +33,21 @@ record ByScript (held : List ℕ → Option (List ℕ)) (name : List ℕ) (dump 
   says : script g.exports text ≡ said
   behind : BehindScript g dump said a
 
+-- what is answered for the run of a graph, by whether it is run
+abbrev BehindRun : (List ℕ → Option (List ℕ)) → List ℕ → Bool → Component → Graph → Bool → Answer → Type 0
+BehindRun held name dump c g true a = ByScript held name dump g a
+BehindRun held name dump c g false a = (place : ℕ) × (first_not_sync c ≡ Some place) × (a ≡ not_run_answer place)
+
 -- what is answered behind a graph, and for what a component file comes to
-abbrev BehindGraph : (List ℕ → Option (List ℕ)) → Command → Graph → Answer → Type 0
-BehindGraph held (Run file name dump) g a = ByScript held name dump g a
-BehindGraph held (Check file) g a = a ≡ accepted_answer
-BehindGraph held (Show file) g a = a ≡ shown_answer g
+abbrev BehindGraph : (List ℕ → Option (List ℕ)) → Command → Component → Graph → Answer → Type 0
+BehindGraph held (Run file name dump) c g a = BehindRun held name dump c g (runs_now g) a
+BehindGraph held (Check file) c g a = a ≡ accepted_answer
+BehindGraph held (Show file) c g a = a ≡ shown_answer g
 
 abbrev Behind : (List ℕ → Option (List ℕ)) → Command → Found → Answer → Type 0
 Behind held command (BadFile refusal) a = a ≡ refused_answer refusal
 Behind held command (BadLinks fault) a = a ≡ link_refused_answer fault
-Behind held command (GoodFile g) a = BehindGraph held command g a
+Behind held command (GoodFile c g) a = BehindGraph held command c g a
 
 record ByFile (held : List ℕ → Option (List ℕ)) (command : Command) (a : Answer) : Type 0 where
   bytes : List ℕ
@@ -54,24 +62,36 @@ by_file held command a (file_refused c refusal f) =
 by_file held command a (not_linked c fault f) =
     record { bytes = f.bytes; holds = f.holds; found = BadLinks fault; finds = (f.component, f.read, f.refused); behind = refl }
 by_file held command a (accepted file g f) =
-    record { bytes = f.bytes; holds = f.holds; found = GoodFile g; finds = (f.component, f.read, f.linked); behind = refl }
+    record { bytes = f.bytes; holds = f.holds; found = GoodFile f.component g; finds = (f.read, f.linked); behind = refl }
 by_file held command a (shown file g f) =
-    record { bytes = f.bytes; holds = f.holds; found = GoodFile g; finds = (f.component, f.read, f.linked); behind = refl }
-by_file held command a (script_refused file name dump g fault f s) =
+    record { bytes = f.bytes; holds = f.holds; found = GoodFile f.component g; finds = (f.read, f.linked); behind = refl }
+by_file held command a (not_run file name dump place f) =
     record {
       bytes = f.bytes;
       holds = f.holds;
-      found = GoodFile g;
-      finds = (f.component, f.read, f.linked);
-      behind = record { text = s.text; holds = s.holds; said = Err fault; says = s.refused; behind = refl };
+      found = GoodFile f.component f.graph;
+      finds = (f.read, f.linked);
+      behind = subst (λ (runs : Bool). BehindRun held name dump f.component f.graph runs (not_run_answer place)) (sym f.beyond) (place, f.first, refl);
     }
-by_file held command a (ran file name dump g calls labels last end f s runs) =
+by_file held command a (script_refused file name dump g fault f runs s) =
     record {
       bytes = f.bytes;
       holds = f.holds;
-      found = GoodFile g;
-      finds = (f.component, f.read, f.linked);
-      behind = record { text = s.text; holds = s.holds; said = Ok calls; says = s.read; behind = (labels, last, end, runs, refl) };
+      found = GoodFile f.component g;
+      finds = (f.read, f.linked);
+      behind =
+          subst (λ (runs : Bool). BehindRun held name dump f.component g runs (script_refused_answer fault)) (sym runs)
+          (record { text = s.text; holds = s.holds; said = Err fault; says = s.refused; behind = refl });
+    }
+by_file held command a (ran file name dump g calls labels last end f runs s comes) =
+    record {
+      bytes = f.bytes;
+      holds = f.holds;
+      found = GoodFile f.component g;
+      finds = (f.read, f.linked);
+      behind =
+          subst (λ (runs : Bool). BehindRun held name dump f.component g runs (run_answer dump labels last end)) (sym runs)
+          (record { text = s.text; holds = s.holds; said = Ok calls; says = s.read; behind = (labels, last, end, comes, refl) });
     }
 
 -- Each of these is one.
@@ -87,16 +107,26 @@ one_by_script held name dump g a b told h k =
     let said : k.said ≡ h.said = sym k.says ∙ (ap (λ (text : List ℕ). script g.exports text) texts ∙ h.says) in
     one_behind_script g dump h.said a b h.behind (subst (λ (r : Result Script ScriptFault). BehindScript g dump r b) said k.behind)
 
-one_behind_graph : (held : List ℕ → Option (List ℕ)) (command : Command) (g : Graph) (a b : Answer) → IsScriptTold held command → BehindGraph held command g a → BehindGraph held command g b → b ≡ a
-one_behind_graph held (Run file name dump) g a b told h k = one_by_script held name dump g a b told h k
-one_behind_graph held (Check file) g a b told h k = k ∙ sym h
-one_behind_graph held (Show file) g a b told h k = k ∙ sym h
+same_place : (o : Option ℕ) (x y : ℕ) → o ≡ Some x → o ≡ Some y → y ≡ x
+same_place o x y h k = cc
+
+one_behind_run : (held : List ℕ → Option (List ℕ)) (name : List ℕ) (dump : Bool) (c : Component) (g : Graph) (runs : Bool) (a b : Answer)
+    → (runs ≡ true → IsSome (held name)) → BehindRun held name dump c g runs a → BehindRun held name dump c g runs b → b ≡ a
+one_behind_run held name dump c g true a b told h k = one_by_script held name dump g a b (told refl) h k
+one_behind_run held name dump c g false a b told h k =
+    k.2 ∙ (ap (λ (place : ℕ). not_run_answer place) (same_place (first_not_sync c) h.0 k.0 h.1 k.1) ∙ sym h.2)
+
+one_behind_graph : (held : List ℕ → Option (List ℕ)) (command : Command) (c : Component) (g : Graph) (a b : Answer)
+    → IsScriptTold held command g → BehindGraph held command c g a → BehindGraph held command c g b → b ≡ a
+one_behind_graph held (Run file name dump) c g a b told h k = one_behind_run held name dump c g (runs_now g) a b told h k
+one_behind_graph held (Check file) c g a b told h k = k ∙ sym h
+one_behind_graph held (Show file) c g a b told h k = k ∙ sym h
 
 one_behind : (held : List ℕ → Option (List ℕ)) (command : Command) (bytes : List ℕ) (found : Found) (a b : Answer) → AreTold held command → MayHold held (component_file command) bytes → Finds bytes found → Behind held command found a → Behind held command found b → b ≡ a
 one_behind held command bytes (BadFile refusal) a b told holds finds h k = k ∙ sym h
 one_behind held command bytes (BadLinks fault) a b told holds finds h k = k ∙ sym h
-one_behind held command bytes (GoodFile g) a b told holds finds h k =
-    one_behind_graph held command g a b (told.script g (record { bytes = bytes; component = finds.0; holds = holds; read = finds.1; linked = finds.2 })) h k
+one_behind held command bytes (GoodFile c g) a b told holds finds h k =
+    one_behind_graph held command c g a b (told.script g (record { bytes = bytes; component = c; holds = holds; read = finds.0; linked = finds.1 })) h k
 
 one_by_file : (held : List ℕ → Option (List ℕ)) (command : Command) (a b : Answer) → AreTold held command → ByFile held command a → ByFile held command b → b ≡ a
 one_by_file held command a b told h k =

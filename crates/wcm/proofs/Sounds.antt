@@ -1,12 +1,14 @@
 -- The graph of a component that is read and linked is apart and passes no handle and no end, what is read as a script for it is sound, and its
 -- run makes the answer.
 use mathlib.Core.Path.{fun_ext}
-use Rattle.std.proofs.Common.{◌≡◌, ℕ, Bool, if◌then◌else◌, List, [], ◌++◌, map, Option, Some, Result, Ok, Err, sym, subst}
+use Rattle.std.proofs.Common.{◌≡◌, ℕ, Bool, true, if◌then◌else◌, List, [], ◌++◌, map, Option, Some, Result, Ok, Err, sym, subst}
 use Rattle.std.specs.Prelude.{IfOk, replicate}
 use Rattle.std.specs.List.{AllByRecursion}
 use Rattle.ca_types.specs.declared.exports.Export.{Export}
 use Rattle.comp_tree.specs.declared.items.Component.{Component}
 use Rattle.comp_graph.specs.Graph.{Graph}
+use Rattle.comp_graph.specs.Running.{runs_now}
+use Rattle.comp_graph.proofs.RunningTold.{runs_told}
 use Rattle.script_reader.specs.declared.fault.ScriptFault.{ScriptFault}
 use Rattle.script_reader.specs.Script.{Script, CallsExport}
 use Rattle.script_reader.specs.Laws.{ScriptsCallExports}
@@ -29,12 +31,12 @@ use Rattle.wcm.specs.declared.answer.Answer.{Answer}
 use Rattle.command_words.specs.Words as words
 use Rattle.command_words.specs.Words.{Command, component_file}
 use Rattle.wcm.specs.Files.{IsOfComponent, IsFileRead, IsFileLinked, IsScriptFile}
-use Rattle.wcm.specs.Answers.{Answers, file_refused, not_linked, accepted, shown, script_refused, ran, run_answer}
+use Rattle.wcm.specs.Answers.{Answers, file_refused, not_linked, accepted, shown, not_run, script_refused, ran, run_answer}
 use Rattle.wcm.specs.Laws.{ScriptsAreSound}
 
 pub scripts_are_sound : ReadGraphsAreSound → ReadTypesAreCounted → ScriptsCallExports → CallsAreSound → ScriptsAreSound
-scripts_are_sound graphs counted called calls bytes text c g script are read links h =
-    calls g script (graphs bytes c g are read links) (counted bytes c g are read links) (called g.exports text script h)
+scripts_are_sound graphs counted called calls bytes text c g script are read links runs h =
+    calls g script (graphs bytes c g are read links runs) (counted bytes c g are read links) (called g.exports text script h)
 
 -- The graph of a component.
 pub apart_of : LinkedGraphsAreApart → (g : Graph) → IsOfComponent g → IsApart g
@@ -48,10 +50,10 @@ calls_of : (g : Graph) (exports : List Export) (r : Result Script ScriptFault) (
 calls_of g exports r script e h calls =
     subst (λ (es : List Export). AllByRecursion (CallsExport es) script.items) e (subst (λ (r : Result Script ScriptFault). IfOk r (λ (s : Script). AllByRecursion (CallsExport exports) s.items)) h calls)
 
-pub sound_of : ReadGraphsAreSound → ReadTypesAreCounted → CallsAreSound → (g : Graph) (exports : List Export) (r : Result Script ScriptFault) (script : Script) → IsOfComponent g → exports ≡ g.exports → r ≡ Ok script
+pub sound_of : ReadGraphsAreSound → ReadTypesAreCounted → CallsAreSound → (g : Graph) (exports : List Export) (r : Result Script ScriptFault) (script : Script) → IsOfComponent g → runs_now g ≡ true → exports ≡ g.exports → r ≡ Ok script
     → IfOk r (λ s. AllByRecursion (CallsExport exports) s.items) → IsSound g script
-sound_of graphs counted calls g exports r script of e h called =
-    calls g script (graphs of.1.0 of.0 g of.1.1 of.1.2 of.2) (counted of.1.0 of.0 g of.1.1 of.1.2 of.2) (calls_of g exports r script e h called)
+sound_of graphs counted calls g exports r script of runs e h called =
+    calls g script (graphs of.1.0 of.0 g of.1.1 of.1.2 of.2 runs) (counted of.1.0 of.0 g of.1.1 of.1.2 of.2) (calls_of g exports r script e h called)
 
 -- No run ends in a deadlock, so that each answer of a command has a status that the files decide.
 given_end : NoDeadlock → (g : Graph) (s : Script) (labels : List Label) (last : World) (end : RunEnd) → Runs g s labels last end → IsAnswered (status_of end)
@@ -65,20 +67,21 @@ answered none held command a (file_refused c refusal f) = tt
 answered none held command a (not_linked c fault f) = tt
 answered none held command a (accepted file g f) = tt
 answered none held command a (shown file g f) = tt
-answered none held command a (script_refused file name dump g fault f s) = tt
-answered none held command a (ran file name dump g calls labels last end f s runs) = given_end none g calls labels last end runs
+answered none held command a (not_run file name dump place f) = tt
+answered none held command a (script_refused file name dump g fault f runs s) = tt
+answered none held command a (ran file name dump g calls labels last end f runs s comes) = given_end none g calls labels last end comes
 
 -- The answer that is made of what a run gives is that of the run.
-pub run_answers : (g : Graph) (s : Script) (dump : Bool) (run : Run) (a : Answer) → IsRunOf g s run
+pub run_answers : (g : Graph) (s : Script) (dump : Bool) (run : Run) (a : Answer) → IsSound g s → IsRunOf g s run
     → a ≡ record {
       status = status_of run.end;
       out = trace_text (trace_of run.labels run.end) ++ (if dump then dump_text (replicate run.instances []) (map (λ m. m.bytes) run.store.memories) else []);
       err = [];
     }
     → (held : List ℕ → Option (List ℕ)) (file name : List ℕ) → IsFileLinked held file g → IsScriptFile held name g.exports s → Answers held (Some (words.Run file name dump)) a
-run_answers g s dump run a of e held file name linked read =
+run_answers g s dump run a sound of e held file name linked read =
     let same : a ≡ run_answer dump run.labels of.last run.end = rw (of.instances, of.store) e in
-    subst (λ (b : Answer). Answers held (Some (words.Run file name dump)) b) (sym same) (ran file name dump g s run.labels of.last run.end linked read of.runs)
+    subst (λ (b : Answer). Answers held (Some (words.Run file name dump)) b) (sym same) (ran file name dump g s run.labels of.last run.end linked ((runs_told g).1 sound.graph.sync) read of.runs)
 
 -- So has what is answered where a file was read, and all files hold what they held.
 pub answered_after : NoDeadlock → {E : Type 0} (before now : List ℕ → Option (List ℕ)) (command : Command) (c : Component) (r : Result Answer E)

@@ -6,6 +6,7 @@ use Rattle.script_reader.specs.declared.fault.ScriptFault.{ScriptFault}
 use Rattle.script_reader.specs.Script.{Script}
 use Rattle.link_spec.specs.declared.fault.LinkFault.{LinkFault}
 use Rattle.comp_graph.specs.Graph.{Graph}
+use Rattle.comp_graph.specs.Running.{runs_now}
 use Rattle.trace_show.specs.declared.label.Label.{Label}
 use Rattle.trace_show.specs.declared.trap.TrapName.{TrapName}
 use Rattle.canonical_machine.specs.declared.run_end.RunEnd.{RunEnd}
@@ -15,7 +16,7 @@ use Rattle.canonical_machine.specs.Run.{Runs}
 use Rattle.command_words.specs.Words.{Command, Run, Check, Show, component_file}
 use Rattle.wcm.specs.declared.status.Status.{Status}
 use Rattle.wcm.specs.declared.status.Status.TheVariants.{Done, Trap, Usage, Refused, ScriptRefused, Deadlock, Fuel, ReadFault, WriteFault, Memory, LinkRefused}
-use Rattle.wcm.specs.Files.{IsFileRefused, IsFileNotLinked, IsFileLinked, IsScriptFileRefused, IsScriptFile, IsTold}
+use Rattle.wcm.specs.Files.{IsFileRefused, IsFileNotLinked, IsFileLinked, IsFileNotRun, IsScriptFileRefused, IsScriptFile, IsTold}
 
 -- a command that asks for nothing behind a graph
 abbrev pub asks_of_graph : Command → Bool
@@ -31,6 +32,22 @@ pub record HasGraph (held : List ℕ → Option (List ℕ)) (words : Option Comm
   pub asks : asks_of_graph command ≡ true
   pub linked : IsFileLinked held (component_file command) graph
 
+-- the component of a command is not linked
+pub record HasNoGraph (held : List ℕ → Option (List ℕ)) (words : Option Command) : Type 0 where
+  pub command : Command
+  pub fault : LinkFault
+  pub named : words ≡ Some command
+  pub refused : IsFileNotLinked held (component_file command) fault
+
+-- a component is to be run, and is linked, and its graph has more than synchronous functions
+pub record HasNotRun (held : List ℕ → Option (List ℕ)) (words : Option Command) : Type 0 where
+  pub file : List ℕ
+  pub script : List ℕ
+  pub dump : Bool
+  pub place : ℕ
+  pub named : words ≡ Some (Run file script dump)
+  pub linked : IsFileNotRun held file place
+
 -- a component is to be run, and is linked, and its script file is refused
 pub record HasNoScript (held : List ℕ → Option (List ℕ)) (words : Option Command) : Type 0 where
   pub file : List ℕ
@@ -40,6 +57,7 @@ pub record HasNoScript (held : List ℕ → Option (List ℕ)) (words : Option C
   pub fault : ScriptFault
   pub named : words ≡ Some (Run file script dump)
   pub linked : IsFileLinked held file graph
+  pub sync : runs_now graph ≡ true
   pub refused : IsScriptFileRefused held script graph.exports fault
 
 -- a component is to be run, and is linked, and the run of its script has this end
@@ -53,6 +71,7 @@ pub record HasRun (held : List ℕ → Option (List ℕ)) (words : Option Comman
   pub last : World
   pub named : words ≡ Some (Run file script dump)
   pub linked : IsFileLinked held file graph
+  pub sync : runs_now graph ≡ true
   pub read : IsScriptFile held script graph.exports calls
   pub runs : Runs graph calls labels last end
 
@@ -69,8 +88,7 @@ HasCause held words Fuel = HasRun held words ends.Fuel
 HasCause held words ReadFault = ⊥
 HasCause held words WriteFault = ⊥
 HasCause held words Memory = ⊥
-HasCause held words LinkRefused =
-    (command : Command) × (fault : LinkFault) × (words ≡ Some command) × IsFileNotLinked held (component_file command) fault
+HasCause held words LinkRefused = HasNoGraph held words ⊎ HasNotRun held words
 
 -- the status that a command comes to: it has its cause, and no other status has one where the files are told
 pub record IsCaused (held : List ℕ → Option (List ℕ)) (words : Option Command) (status : Status) : Type 0 where

@@ -1,5 +1,5 @@
 -- What holds of the definitions alone.
-use Rattle.std.specs.Prelude.{◌≡◌, ◌⊎◌, ℕ, List, Option, IfSome, MatchOption}
+use Rattle.std.specs.Prelude.{◌≡◌, ◌⊎◌, ℕ, true, List, Option, IfSome, MatchOption}
 use Rattle.comp_tree.specs.declared.items.Component.{Component}
 use Rattle.comp_reader.specs.Binary.{IsComponent}
 use Rattle.script_reader.specs.Script.{Script, IsScript}
@@ -7,6 +7,7 @@ use Rattle.wcm.specs.declared.answer.Answer.{Answer}
 use Rattle.wcm.specs.declared.status.Status.{Status}
 use Rattle.wcm.specs.declared.status.Status.TheVariants.{Refused, LinkRefused}
 use Rattle.comp_graph.specs.Graph.{Graph}
+use Rattle.comp_graph.specs.Running.{runs_now}
 use Rattle.link_spec.specs.Linked.{IsLinked}
 use Rattle.canonical_machine.specs.Sound.{AreBytes, IsSound}
 use Rattle.wcm.specs.Answers.{Answers}
@@ -14,12 +15,12 @@ use Rattle.wcm.specs.Causes.{HasCause}
 use Rattle.wcm.specs.Files.{IsComponentTold, IsTold}
 use Rattle.command_words.specs.Words.{Command}
 
--- A script that is read for a component that is read of bytes and linked is sound: so it has exactly one run (`specs/Ending` of
--- canonical_machine).
+-- A script that is read for a component that is read of bytes and linked is sound, if all functions of its graph are synchronous: so it
+-- has exactly one run (`specs/Ending` of canonical_machine).
 abbrev pub ScriptsAreSound : Type 0
 ScriptsAreSound =
     (bytes text : List ℕ) (c : Component) (g : Graph) (script : Script)
-    → AreBytes bytes → IsComponent bytes c → IsLinked c g → IsScript g.exports text script → IsSound g script
+    → AreBytes bytes → IsComponent bytes c → IsLinked c g → runs_now g ≡ true → IsScript g.exports text script → IsSound g script
 
 -- each file that is held is one of bytes
 abbrev pub HoldsBytes : (List ℕ → Option (List ℕ)) → Type 0
@@ -49,7 +50,7 @@ CausesHaveAnswers =
     (held : List ℕ → Option (List ℕ)) (words : Option Command) (status : Status)
     → HasCause held words status → (a : Answer) × Answers held words a × (a.status ≡ status)
 
--- A component file that is told and refused, or whose component is not linked, leaves nothing to be told.
+-- A component file that is told and refused, or whose component is not linked or not run, leaves nothing to be told.
 abbrev pub RefusedFilesTellAll : Type 0
 RefusedFilesTellAll =
     (held : List ℕ → Option (List ℕ)) (words : Option Command)

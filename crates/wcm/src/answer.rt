@@ -1,15 +1,18 @@
 //! What a call of the program answers, from the files that it names.
 
-ghost use Rattle.std.specs.Prelude.{◌≡◌, ℕ, if◌then◌else◌, List, [], ◌++◌, Option, Some, IfOk, MatchResult, map, replicate};
+ghost use Rattle.std.specs.Prelude.{◌≡◌, ℕ, true, false, if◌then◌else◌, List, [], ◌++◌, Option, Some, IfOk, MatchResult, map, replicate};
 ghost use Rattle.std.specs.List.{AllByRecursion};
 ghost use Rattle.script_reader.specs.Script.{CallsExport};
+ghost use Rattle.comp_graph.specs.Running.{runs_now};
+ghost use Rattle.link_spec.specs.Linked.{IsLinked};
+ghost use Rattle.sync_items.specs.Items.{first_not_sync};
 ghost use Rattle.trace_show.specs.LabelText.{trace_text};
 ghost use Rattle.trace_show.specs.DumpText.{dump_text};
 ghost use Rattle.canonical_machine.specs.Run.{trace_of};
 ghost use Rattle.canonical_machine.specs.Sound.{IsSound};
 ghost use Rattle.canonical_machine.specs.Owners.{IsApart};
 ghost use Rattle.canonical_machine.specs.Plain.{IsPlain};
-ghost use Rattle.wcm.specs.Answers.{Answers, accepted_answer, shown_answer};
+ghost use Rattle.wcm.specs.Answers.{Answers, accepted_answer, shown_answer, not_run_answer};
 ghost use Rattle.wcm.specs.Files.{IsRead, IsOfComponent, IsFileRead, IsFileRefused, IsFileLinked, IsScriptFile, IsScriptFileRefused};
 ghost use Rattle.wcm.specs.Stops.{StopsFor};
 ghost use Rattle.wcm.specs.Status.{IsAnswered};
@@ -26,15 +29,16 @@ use ca_io::{FileError, Files, read_all};
 use ca_types::Exports;
 use canonical_machine::tasks_are_over;
 use command_words::Command;
-use comp_graph::Graph;
-use comp_link::link;
+use comp_graph::{Graph, runs_now};
+use comp_link::{LinkFault, LinkWhy, link};
 use comp_reader::{Component, ComponentWhy, read_component};
 use graph_laws::laws::{
     calls_are_sound, counted_graphs_are_plain, files_are_bytes, linked_graphs_are_apart,
-    read_graphs_are_sound, read_types_are_counted,
+    other_items_are_found, read_graphs_are_sound, read_types_are_counted,
 };
 use script_reader::{Script, ScriptFault, ScriptWhy, read_script};
 use std::alloc::{AllocError, Global};
+use sync_items::first_not_sync;
 use world::dump_text;
 
 /// What a call of the program answers.
@@ -208,7 +212,32 @@ fn shown_answer(alloc: Global, graph: &Graph) -> Result<Answer, Memory>
     })
 }
 
-/// The answer for a graph and the script file of this name; `dump` asks for what the run leaves.
+/// The answer that a graph is not run, whose component has the first item of more than synchronous functions at this place.
+fn not_run_answer(alloc: Global, place: usize) -> Result<Answer, Memory>
+    ensures { IfOk result (λ a. a ≡ not_run_answer place) }
+{
+    let fault = LinkFault {
+        place,
+        why: LinkWhy::Limit,
+    };
+    let line = link_refused_line(alloc, &fault)?;
+    Ok(refusal(alloc, Status::LinkRefused, line))
+}
+
+/// The place of the first item of more than synchronous functions of a component, whose graph has such functions.
+fn first_place(component: &Component, graph: &Graph) -> usize
+    requires linked { IsLinked component.now graph.now }
+    requires beyond { runs_now graph.now ≡ false }
+    ensures { first_not_sync component.now ≡ Some result }
+{
+    other_items_are_found();
+    match first_not_sync(component) {
+        Some(place) => place,
+        None => unreachable!(),
+    }
+}
+
+/// The answer for a graph of synchronous functions and the script file of this name; `dump` asks for what the run leaves.
 fn script_answer<F: Files>(
     alloc: Global,
     graph: &Graph,
@@ -217,6 +246,7 @@ fn script_answer<F: Files>(
     files: &mut F,
 ) -> Result<Answer, Stop>
     requires linked { IsOfComponent graph.now }
+    requires runs { runs_now graph.now ≡ true }
     ensures file { IfOk result (λ a. (file : List ℕ)
         → IsFileLinked (F.held files.old) file graph.now → Answers (F.held files.old) (Some (commands.Run file script.now dump)) a) }
     ensures same { (other : List ℕ) → F.held files.new other ≡ F.held files.old other }
@@ -236,21 +266,50 @@ fn script_answer<F: Files>(
     }
 }
 
-/// The answer of a command for the graph of its component.
+/// The answer for a component, its graph, and the script file of this name, which is asked for where all functions of the graph are
+/// synchronous; `dump` asks for what the run leaves.
+fn sync_answer<F: Files>(
+    alloc: Global,
+    component: &Component,
+    graph: &Graph,
+    script: &str,
+    dump: bool,
+    files: &mut F,
+) -> Result<Answer, Stop>
+    requires read { IsRead component.now }
+    requires linked { IsLinked component.now graph.now }
+    ensures file { IfOk result (λ a. (file : List ℕ)
+        → IsFileRead (F.held files.old) file component.now → Answers (F.held files.old) (Some (commands.Run file script.now dump)) a) }
+    ensures same { (other : List ℕ) → F.held files.new other ≡ F.held files.old other }
+    ensures cause { StopsFor (F.faults files.old) (F.faults files.new) result }
+{
+    if runs_now(graph) {
+        script_answer(alloc, graph, script, dump, files)
+    } else {
+        let place = first_place(component, graph);
+        Ok(not_run_answer(alloc, place)?)
+    }
+}
+
+/// The answer of a command for its component and the graph of that.
 fn graph_answer<F: Files>(
     alloc: Global,
     command: Command,
+    component: &Component,
     graph: &Graph,
     files: &mut F,
 ) -> Result<Answer, Stop>
-    requires linked { IsOfComponent graph.now }
-    ensures file { IfOk result (λ a. IsFileLinked (F.held files.old) (component_file (said command.entry)) graph.now
+    requires read { IsRead component.now }
+    requires linked { IsLinked component.now graph.now }
+    ensures file { IfOk result (λ a. IsFileRead (F.held files.old) (component_file (said command.entry)) component.now
         → Answers (F.held files.old) (Some (said command.entry)) a) }
     ensures same { (other : List ℕ) → F.held files.new other ≡ F.held files.old other }
     ensures cause { StopsFor (F.faults files.old) (F.faults files.new) result }
 {
     match command {
-        Command::Run { script, dump, .. } => script_answer(alloc, graph, script, dump, files),
+        Command::Run { script, dump, .. } => {
+            sync_answer(alloc, component, graph, script, dump, files)
+        }
         Command::Check { .. } => Ok(accepted_answer(alloc)?),
         Command::Show { .. } => Ok(shown_answer(alloc, graph)?),
     }
@@ -270,7 +329,7 @@ fn link_answer<F: Files>(
     ensures cause { StopsFor (F.faults files.old) (F.faults files.new) result }
 {
     match link(alloc, component) {
-        Ok(graph) => graph_answer(alloc, command, &graph, files),
+        Ok(graph) => graph_answer(alloc, command, component, &graph, files),
         Err(MemoryOr::Memory) => Err(Stop::Memory),
         Err(MemoryOr::Fault(fault)) => {
             let line = link_refused_line(alloc, &fault)?;

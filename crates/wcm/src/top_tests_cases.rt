@@ -73,7 +73,7 @@ add.wasm add.txt
 ";
 
 /// How many cases there are.
-pub const COUNT: u32 = 49;
+pub const COUNT: u32 = 53;
 
 /// The cases.
 pub const CASES: &str = "
@@ -265,6 +265,52 @@ change 67 98
 last calls
 status LinkRefused
 err link refused at 60: Missing(sub)
+
+# so does a component that is linked and has built-ins, which are not run
+front 89
+change 83 5
+change 84 5
+change 85 5
+change 86 5
+change 87 5
+change 88 5
+words wcm run add.wasm missing.txt
+status LinkRefused
+err link refused at 84: Limit
+
+front 89
+change 83 5
+change 84 5
+change 85 5
+change 86 5
+change 87 5
+change 88 5
+reads 3
+status LinkRefused
+err link refused at 84: Limit
+
+front 89
+change 83 5
+change 84 5
+change 85 5
+change 86 5
+change 87 5
+change 88 5
+last calls
+status LinkRefused
+err link refused at 84: Limit
+
+front 89
+change 83 5
+change 84 5
+change 85 5
+change 86 5
+change 87 5
+change 88 5
+words wcm check add.wasm
+reads 3
+status Done
+out accepted
 
 # check and show read the component file alone
 words wcm check add.wasm

@@ -1,3 +1,4 @@
+use Rattle.std.proofs.Common.{refl}
 use Rattle.link_spec.specs.Examples.{root}
 use Rattle.graph_laws.specs.Examples.{parent, both}
 use Rattle.graph_laws.proofs.Samples.{both_linked, modules_are_sound}
@@ -9,6 +10,6 @@ returns c =
     record {
       linked = is_linked;
       modules = modules_are_sound;
-      sound = c.linked_graphs_are_sound.ensures.sound (root parent) both modules_are_sound is_linked;
+      sound = c.linked_graphs_are_sound.ensures.sound (root parent) both modules_are_sound is_linked refl;
       apart = c.linked_graphs_are_apart.ensures (root parent) both is_linked;
     }

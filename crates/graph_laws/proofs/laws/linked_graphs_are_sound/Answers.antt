@@ -4,4 +4,4 @@ use Rattle.graph_laws.proofs.laws.linked_graphs_are_sound.Goals as goal
 pub returns : goal.returns
 returns c =
     let sound = c.graphs_are_sound.ensures in
-    record { sound = linked_graphs_are_sound sound.imported sound.lifts sound.made c.graphs_are_sync.ensures.sync sound.modules; planned = plans_make_in_order }
+    record { sound = linked_graphs_are_sound sound.imported sound.lifts sound.made sound.modules; planned = plans_make_in_order }

@@ -16,7 +16,7 @@ script_run-requires-clause-sound c =
     let g = c.args.graph.now in
     let read = c.requires.read in
     c.calls_are_sound.ensures g c.in-Ok.script
-    (c.read_graphs_are_sound.ensures.graphs read.0 c.args.component.now g read.1 read.2 c.requires.linked)
+    (c.read_graphs_are_sound.ensures.graphs read.0 c.args.component.now g read.1 read.2 c.requires.linked c.requires.runs)
     (c.read_types_are_counted.ensures read.0 c.args.component.now g read.1 read.2 c.requires.linked)
     (calls_of c.exports.result.now g.exports c.read_script.result c.in-Ok.script c.exports.ensures c.in-Ok.is c.read_script.ensures.calls)
 

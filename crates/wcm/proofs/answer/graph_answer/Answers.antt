@@ -1,12 +1,16 @@
 use Rattle.std.proofs.Common.{ap}
-use Rattle.command_words.specs.Words.{said}
-use Rattle.wcm.proofs.Reading.{accepted_row, shown_row}
+use Rattle.command_words.specs.Words.{said, component_file}
+use Rattle.wcm.proofs.Reading.{linked_file, accepted_row, shown_row}
 use Rattle.wcm.proofs.answer.graph_answer.Goals as goal
 
 pub returns-in_ok-accepted_answer-in-Check-clause-file : goal.returns-in_ok-accepted_answer-in-Check-clause-file
-returns-in_ok-accepted_answer-in-Check-clause-file g c = λ linked.
-    accepted_row (g.F.Files.held c.args.files.now) (said c.args.command) c.in-Check.file.now c.args.graph.now c.in_ok-accepted_answer-in-Check.field-0 (ap said c.in-Check.is) linked c.in_ok-accepted_answer-in-Check.ensures
+returns-in_ok-accepted_answer-in-Check-clause-file g c = λ read.
+    let held = g.F.Files.held c.args.files.now in
+    accepted_row held (said c.args.command) c.in-Check.file.now c.args.graph.now c.in_ok-accepted_answer-in-Check.field-0 (ap said c.in-Check.is)
+    (linked_file held (component_file (said c.args.command)) c.args.component.now c.args.graph.now read c.requires.linked) c.in_ok-accepted_answer-in-Check.ensures
 
 pub returns-in_ok-shown_answer-in-Show-clause-file : goal.returns-in_ok-shown_answer-in-Show-clause-file
-returns-in_ok-shown_answer-in-Show-clause-file g c = λ linked.
-    shown_row (g.F.Files.held c.args.files.now) (said c.args.command) c.in-Show.file.now c.args.graph.now c.in_ok-shown_answer-in-Show.field-0 (ap said c.in-Show.is) linked c.in_ok-shown_answer-in-Show.ensures
+returns-in_ok-shown_answer-in-Show-clause-file g c = λ read.
+    let held = g.F.Files.held c.args.files.now in
+    shown_row held (said c.args.command) c.in-Show.file.now c.args.graph.now c.in_ok-shown_answer-in-Show.field-0 (ap said c.in-Show.is)
+    (linked_file held (component_file (said c.args.command)) c.args.component.now c.args.graph.now read c.requires.linked) c.in_ok-shown_answer-in-Show.ensures
