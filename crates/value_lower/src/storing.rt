@@ -18,8 +18,8 @@ use crate::beside::Beside;
 use crate::ends::{LowerError, LowerWhy};
 use crate::new_entry::NewEntry;
 use crate::plain::{flags_number, put_number, put_plain, put_pointed, put32};
-use ca_types::{Boxed, Value};
-use laid_types::{NumberedType, aligned};
+use ca_types::{Boxed, Value, aligned};
+use laid_types::NumberedType;
 use res_handles::Home;
 use std::alloc::Global;
 
