@@ -23,7 +23,13 @@ pub(crate) fn put<R, B: Beside<R>>(room: &mut R, beside: &B, place: u64, bytes: 
 }
 
 /// Puts a number of 1, 2 or 4 bytes at a place: the lowest of its bytes.
-pub(crate) fn put_number<R, B: Beside<R>>(room: &mut R, beside: &B, place: u64, size: u32, number: u32)
+pub(crate) fn put_number<R, B: Beside<R>>(
+    room: &mut R,
+    beside: &B,
+    place: u64,
+    size: u32,
+    number: u32,
+)
     requires { HasBytes place (byte_len (width_of size)) (length (B.memory (B.state room.old beside.now))) }
     ensures leads { (task : ℕ) (types : List ValType) (k : Plan) → Leads (rooms_of B.memory B.answers B.wrote (B.adds task types)) (Put place (number_bytes size number) k) (B.state room.old beside.now) k (B.state room.new beside.now) }
     ensures size { length (B.memory (B.state room.new beside.now)) ≡ length (B.memory (B.state room.old beside.now)) }
@@ -31,7 +37,12 @@ pub(crate) fn put_number<R, B: Beside<R>>(room: &mut R, beside: &B, place: u64, 
     if size <= 1 {
         put(room, beside, place, &((number % 256) as u8).to_le_bytes());
     } else if size <= 2 {
-        put(room, beside, place, &((number % 65_536) as u16).to_le_bytes());
+        put(
+            room,
+            beside,
+            place,
+            &((number % 65_536) as u16).to_le_bytes(),
+        );
     } else {
         put(room, beside, place, &number.to_le_bytes());
     }
@@ -47,7 +58,13 @@ pub(crate) fn put32<R, B: Beside<R>>(room: &mut R, beside: &B, place: u64, numbe
 }
 
 /// Puts a place and a number of bytes or elements at a place.
-pub(crate) fn put_pointed<R, B: Beside<R>>(room: &mut R, beside: &B, place: u64, to: u32, count: u32)
+pub(crate) fn put_pointed<R, B: Beside<R>>(
+    room: &mut R,
+    beside: &B,
+    place: u64,
+    to: u32,
+    count: u32,
+)
     requires { HasBytes place 8 (length (B.memory (B.state room.old beside.now))) }
     ensures leads { (task : ℕ) (types : List ValType) (k : Plan) → Leads (rooms_of B.memory B.answers B.wrote (B.adds task types)) (pointed place to count k) (B.state room.old beside.now) k (B.state room.new beside.now) }
     ensures size { length (B.memory (B.state room.new beside.now)) ≡ length (B.memory (B.state room.old beside.now)) }

@@ -111,7 +111,15 @@ pub(crate) fn list_in<R, B: Beside<R>>(
         laid.align(),
         count as u128 * laid.size(),
     )?;
-    store_elements(alloc, room, beside, home, u64::from(place), values, &element)?;
+    store_elements(
+        alloc,
+        room,
+        beside,
+        home,
+        u64::from(place),
+        values,
+        &element,
+    )?;
     Ok(place)
 }
 
@@ -212,25 +220,41 @@ fn store_layer<R, B: Beside<R>>(
 {
     match value {
         Value::String(text) => store_text(alloc, room, beside, place, text.as_str()),
-        Value::List(values) =>
-            store_list(alloc, room, beside, home, place, values.as_slice(), t),
-        Value::Record(values) =>
-            store_fields(alloc, room, beside, home, place, values.as_slice(), t),
-        Value::Variant(case, payload) =>
-            store_case(alloc, room, beside, home, place, *case, payload, t),
+        Value::List(values) => store_list(alloc, room, beside, home, place, values.as_slice(), t),
+        Value::Record(values) => store_fields(
+            alloc,
+            room,
+            beside,
+            home,
+            place,
+            values.as_slice(),
+            t,
+        ),
+        Value::Variant(case, payload) => store_case(
+            alloc, room, beside, home, place, *case, payload, t,
+        ),
         Value::Flags(flags) => {
             let laid = t.laid();
-            put_number(room, beside, place, laid.align(), flags_number(flags.as_slice()));
+            put_number(
+                room,
+                beside,
+                place,
+                laid.align(),
+                flags_number(flags.as_slice()),
+            );
             Ok(())
         }
-        Value::Own(handle) =>
-            store_index(room, beside, home, place, NewEntry::Own(*handle), t),
-        Value::Borrow(handle) =>
-            store_index(room, beside, home, place, NewEntry::Borrow(*handle), t),
-        Value::Stream(number) =>
-            store_index(room, beside, home, place, NewEntry::End(*number), t),
-        Value::Future(number) =>
-            store_index(room, beside, home, place, NewEntry::End(*number), t),
+        Value::Own(handle) => store_index(room, beside, home, place, NewEntry::Own(*handle), t),
+        Value::Borrow(handle) => store_index(
+            room,
+            beside,
+            home,
+            place,
+            NewEntry::Borrow(*handle),
+            t,
+        ),
+        Value::Stream(number) => store_index(room, beside, home, place, NewEntry::End(*number), t),
+        Value::Future(number) => store_index(room, beside, home, place, NewEntry::End(*number), t),
         plain => {
             put_plain(room, beside, place, plain);
             Ok(())

@@ -181,19 +181,32 @@ fn push_layer<R, B: Beside<R>>(
 {
     match value {
         Value::String(text) => push_text(alloc, room, beside, words, text.as_str()),
-        Value::List(values) =>
-            push_list(alloc, room, beside, home, words, values.as_slice(), t),
-        Value::Record(values) =>
-            push_fields(alloc, room, beside, home, words, values.as_slice(), t),
-        Value::Variant(case, payload) =>
-            push_case(alloc, room, beside, home, words, *case, payload, t),
+        Value::List(values) => push_list(alloc, room, beside, home, words, values.as_slice(), t),
+        Value::Record(values) => push_fields(
+            alloc,
+            room,
+            beside,
+            home,
+            words,
+            values.as_slice(),
+            t,
+        ),
+        Value::Variant(case, payload) => push_case(
+            alloc, room, beside, home, words, *case, payload, t,
+        ),
         Value::Flags(flags) => {
             words.push(u64::from(flags_number(flags.as_slice())))?;
             Ok(())
         }
         Value::Own(handle) => push_index(room, beside, home, words, NewEntry::Own(*handle), t),
-        Value::Borrow(handle) =>
-            push_index(room, beside, home, words, NewEntry::Borrow(*handle), t),
+        Value::Borrow(handle) => push_index(
+            room,
+            beside,
+            home,
+            words,
+            NewEntry::Borrow(*handle),
+            t,
+        ),
         Value::Stream(number) => push_index(room, beside, home, words, NewEntry::End(*number), t),
         Value::Future(number) => push_index(room, beside, home, words, NewEntry::End(*number), t),
         plain => {
