@@ -10,7 +10,7 @@ use Rattle.value_lower.proofs.Giving.{AllGive}
 use Rattle.value_lower.proofs.CountsOver as over
 
 module _ (Q : List ℕ → Type 0) where
-  plain_gives : (entry : New) (k : ℕ → Plan) → ((index : ℕ) → AllGive Q (k index)) → AllGive Q (plainly entry k)
+  pub plain_gives : (entry : New) (k : ℕ → Plan) → ((index : ℕ) → AllGive Q (k index)) → AllGive Q (plainly entry k)
   plain_gives entry k h = h (number_of entry)
 
   pub good : (v : Value) → over.Good plainly Q plain_gives v
