@@ -14,3 +14,4 @@ pub mod Stored
 pub mod Failing
 pub mod WordFailing
 pub mod Laws
+pub mod Settled
