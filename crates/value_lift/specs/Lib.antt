@@ -15,3 +15,4 @@ pub mod Failing
 pub mod WordFailing
 pub mod Laws
 pub mod Settled
+pub mod Taken
