@@ -56,7 +56,7 @@ module _ {E : Type 0} (view : E → EntryView) (made : Handle → E) (end_type :
 
     pub uses_rise : (uses : List Use) (k : Kept E) (j : ℕ)
         → lends_in (view_at view (slots_behind (applied view made end_type types uses k)) j) ≤ lends_in (view_at view k.slots j) + length uses
-    uses_rise [] k j = omega arith
+    uses_rise [] k j = (let p : lends_in (view_at view k.slots j) ≤ lends_in (view_at view k.slots j) + 0 = omega arith in p)
     uses_rise (u ∷ uses) k j =
         rises_by (taken_as view made end_type types u.what u k) uses (lends_in (view_at view k.slots j)) j (use_rises view made law end_type types u.what u k j) (λ now. uses_rise uses now j)
 

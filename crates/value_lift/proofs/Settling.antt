@@ -139,14 +139,16 @@ module _ {E : Type 0} (view : E → EntryView) (made : Handle → E) (end_type :
         → Goes s k → 1 ≤ s.left → Leaf s u (taken_own o u (less k))
     own_leaf resource s k u (Ok x) w e b low =
         let named : x.rep ≡ names_in view first.slots u.index =
-        name_found (view_at view k.slots u.index) (seen.Handle x) (names_in view first.slots u.index) (b.named u.index) (own_found (view_at view k.slots u.index) resource x e) in
-        (sym named, record {
-          took = applied_one view made end_type types s.uses u first (as_first k) (taken_own (Ok x) u (as_first k)) b.took
-              (ap (λ (w : What). taken_as view made end_type types w u (as_first k)) w ∙ ap (λ (o : Result Handle Refusal). taken_own o u (as_first k)) e);
-          left = ap (λ (n : ℕ). n - 1) b.left;
-          named = λ j. removed_named view made law k.slots u.index j (names_in view first.slots j) (b.named j);
-          paid = paid_more s u low b.paid;
-        })
+        name_found (view_at view k.slots u.index) (seen.Handle x) (names_in view first.slots u.index) (b.named u.index) (own_found (view_at view k.slots u.index) resource x e) in (
+          sym named,
+          record {
+            took = applied_one view made end_type types s.uses u first (as_first k) (taken_own (Ok x) u (as_first k)) b.took
+                (ap (λ (w : What). taken_as view made end_type types w u (as_first k)) w ∙ ap (λ (o : Result Handle Refusal). taken_own o u (as_first k)) e);
+            left = ap (λ (n : ℕ). n - 1) b.left;
+            named = λ j. removed_named view made law k.slots u.index j (names_in view first.slots j) (b.named j);
+            paid = paid_more s u low b.paid;
+          },
+        )
     own_leaf resource s k u (Err why) w e b low = record {
       refused = applied_one view made end_type types s.uses u first (as_first k) (taken_own (Err why) u (as_first k)) b.took
           (ap (λ (w : What). taken_as view made end_type types w u (as_first k)) w ∙ ap (λ (o : Result Handle Refusal). taken_own o u (as_first k)) e);
@@ -157,14 +159,16 @@ module _ {E : Type 0} (view : E → EntryView) (made : Handle → E) (end_type :
         → Goes s k → 1 ≤ s.left → Leaf s u (taken_borrow view made o u (less k))
     borrow_leaf resource s k u (Ok x) w e b low =
         let named : x.rep ≡ names_in view first.slots u.index =
-        name_found (view_at view k.slots u.index) (seen.Handle x) (names_in view first.slots u.index) (b.named u.index) (handle_found (view_at view k.slots u.index) resource x e) in
-        (sym named, record {
-          took = applied_one view made end_type types s.uses u first (as_first k) (taken_borrow view made (Ok x) u (as_first k)) b.took
-              (ap (λ (w : What). taken_as view made end_type types w u (as_first k)) w ∙ ap (λ (o : Result Handle Refusal). taken_borrow view made o u (as_first k)) e);
-          left = ap (λ (n : ℕ). n - 1) b.left;
-          named = λ j. lent_named view made law k.slots u.index j (names_in view first.slots j) (b.named j);
-          paid = paid_more s u low b.paid;
-        })
+        name_found (view_at view k.slots u.index) (seen.Handle x) (names_in view first.slots u.index) (b.named u.index) (handle_found (view_at view k.slots u.index) resource x e) in (
+          sym named,
+          record {
+            took = applied_one view made end_type types s.uses u first (as_first k) (taken_borrow view made (Ok x) u (as_first k)) b.took
+                (ap (λ (w : What). taken_as view made end_type types w u (as_first k)) w ∙ ap (λ (o : Result Handle Refusal). taken_borrow view made o u (as_first k)) e);
+            left = ap (λ (n : ℕ). n - 1) b.left;
+            named = λ j. lent_named view made law k.slots u.index j (names_in view first.slots j) (b.named j);
+            paid = paid_more s u low b.paid;
+          },
+        )
     borrow_leaf resource s k u (Err why) w e b low = record {
       refused = applied_one view made end_type types s.uses u first (as_first k) (taken_borrow view made (Err why) u (as_first k)) b.took
           (ap (λ (w : What). taken_as view made end_type types w u (as_first k)) w ∙ ap (λ (o : Result Handle Refusal). taken_borrow view made o u (as_first k)) e);
@@ -176,14 +180,16 @@ module _ {E : Type 0} (view : E → EntryView) (made : Handle → E) (end_type :
     end_leaf type s k u (Ok number) w e b low =
         let f : EndFound (view_at view k.slots u.index) number = end_found (view_at view k.slots u.index) (is_end_at end_type types k.slots u.index type) number e in
         let named : f.found.number ≡ names_in view first.slots u.index =
-        name_found (view_at view k.slots u.index) (seen.ReadableEnd f.found) (names_in view first.slots u.index) (b.named u.index) f.is in
-        (sym named ∙ f.same, record {
-          took = applied_one view made end_type types s.uses u first (as_first k) (taken_end (Ok number) u (as_first k)) b.took
-              (ap (λ (w : What). taken_as view made end_type types w u (as_first k)) w ∙ ap (λ (o : Result ℕ Refusal). taken_end o u (as_first k)) e);
-          left = ap (λ (n : ℕ). n - 1) b.left;
-          named = λ j. removed_named view made law k.slots u.index j (names_in view first.slots j) (b.named j);
-          paid = paid_more s u low b.paid;
-        })
+        name_found (view_at view k.slots u.index) (seen.ReadableEnd f.found) (names_in view first.slots u.index) (b.named u.index) f.is in (
+          sym named ∙ f.same,
+          record {
+            took = applied_one view made end_type types s.uses u first (as_first k) (taken_end (Ok number) u (as_first k)) b.took
+                (ap (λ (w : What). taken_as view made end_type types w u (as_first k)) w ∙ ap (λ (o : Result ℕ Refusal). taken_end o u (as_first k)) e);
+            left = ap (λ (n : ℕ). n - 1) b.left;
+            named = λ j. removed_named view made law k.slots u.index j (names_in view first.slots j) (b.named j);
+            paid = paid_more s u low b.paid;
+          },
+        )
     end_leaf type s k u (Err why) w e b low = record {
       refused = applied_one view made end_type types s.uses u first (as_first k) (taken_end (Err why) u (as_first k)) b.took
           (ap (λ (w : What). taken_as view made end_type types w u (as_first k)) w ∙ ap (λ (o : Result ℕ Refusal). taken_end o u (as_first k)) e);

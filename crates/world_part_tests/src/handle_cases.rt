@@ -57,10 +57,7 @@ impl Holder {
             "own" => write_added(text, self.changed.instance.lower_own(of, number)),
             "borrow" => self.write_borrow(text, rest, &[2, 3]),
             "home" => self.write_borrow(text, rest, &[3, 1]),
-            "end" => write_added(
-                text,
-                self.changed.instance.lower_end(of as usize, number),
-            ),
+            "end" => write_added(text, self.changed.instance.lower_end(of as usize, number)),
             "set" => self.changed.write_set(alloc, text),
             _ => text.push_str("no such word"),
         }
