@@ -38,7 +38,7 @@ map_snoc {A} {B} f (y ∷ xs) x = ap (λ (ys : List B). f y ∷ ys) (map_snoc f 
 abbrev behind_types : ℕ → List (Option ValType) → ℕ
 behind_types count types = aligned (tag_size count) (top_align (there (map (option_map laid) types)))
 
-module _ {S F : Type 0} (l : Ledger S F) where
+module _ {S J : Type 0} (l : Ledger S J) where
   laids_are : (types : List (Option ValType)) → map laid_of (parts l types) ≡ map (option_map laid) types
   laids_are [] = refl
   laids_are (Some t ∷ types) = ap (λ (ls : List (Option Laid)). Some (laid t) ∷ ls) (laids_are types)
@@ -51,14 +51,14 @@ module _ {S F : Type 0} (l : Ledger S F) where
       → payload_of l (part_in (parts l types) n) memory (place + behind_tag count (parts l types)) kept
       ≡ payload_of l (option_map (part l) (part_in types n)) memory (place + behind_types count types) kept
   payload_is count n types memory place kept =
-      ap (λ (p : Option (Part S F)). payload_of l p memory (place + behind_tag count (parts l types)) kept) (part_image_over l types n)
+      ap (λ (p : Option (Part S J)). payload_of l p memory (place + behind_tag count (parts l types)) kept) (part_image_over l types n)
       ∙ ap (λ (k : ℕ). payload_of l (option_map (part l) (part_in types n)) memory (place + k) kept) (behind_is count types)
 
   word_payload_is : (n : ℕ) (types : List (Option ValType)) (memory words : List ℕ) (at : ℕ) (kept : S)
       → word_payload_of l (part_in (parts l types) n) memory words at kept ≡ word_payload_of l (option_map (part l) (part_in types n)) memory words at kept
-  word_payload_is n types memory words at kept = ap (λ (p : Option (Part S F)). word_payload_of l p memory words at kept) (part_image_over l types n)
+  word_payload_is n types memory words at kept = ap (λ (p : Option (Part S J)). word_payload_of l p memory words at kept) (part_image_over l types n)
 
-module _ {S F T G : Type 0} (l : Ledger S F) (m : Ledger T G) (names : ℕ → ℕ) (Beside : S → Result T G → Type 0) (Ended : F → G → Type 0) where
+module _ {S J T G : Type 0} (l : Ledger S J) (m : Ledger T G) (names : ℕ → ℕ) (Beside : S → Result T G → Type 0) (Ended : J → G → Type 0) where
   abbrev pub Names : ℕ → ℕ → Type 0
   Names a b = names a ≡ b
 
@@ -200,7 +200,7 @@ module _ {S F T G : Type 0} (l : Ledger S F) (m : Ledger T G) (names : ℕ → �
         made_on Beside Ended Carries HeldCarries q (lift_words l t memory words at s) (λ k. lift_words m t memory words at k) (λ v. Some v) (λ v. Some v)
         ((told t refl).words memory words at s q b) (λ v w e. ap (λ (v : Value). Some v) e)
 
-    chosen_on : (n count place : ℕ) (s : S) (q : Result T G) (payload : Came S F (Option Value)) (other : T → Came T G (Option Value)) → Beside s q
+    chosen_on : (n count place : ℕ) (s : S) (q : Result T G) (payload : Came S J (Option Value)) (other : T → Came T G (Option Value)) → Beside s q
         → Both Beside Ended HeldCarries payload (counting q other)
         → Both Beside Ended Carries (chosen l n count place s payload) (counting q (λ k. chosen m n count place k (other k)))
     chosen_on n count place s q payload other b h =

@@ -25,7 +25,7 @@ use Rattle.value_lift.proofs.Stood.{parts_of_record, parts_of_tuple}
 use Rattle.value_lift.proofs.TypesFound.{all_of_entries, out_of_roll}
 use Rattle.value_lift.proofs.Views.{out_record, out_tuple, out_variant, out_option, out_result}
 
-module _ {S F T G : Type 0} (l : Ledger S F) (m : Ledger T G) (names : ℕ → ℕ) (Beside : S → Result T G → Type 0) (Ended : F → G → Type 0)
+module _ {S J T G : Type 0} (l : Ledger S J) (m : Ledger T G) (names : ℕ → ℕ) (Beside : S → Result T G → Type 0) (Ended : J → G → Type 0)
     (beside : AreBeside l m names Beside Ended) where
   abbrev Told : ValType → Type 0
   Told t = Alike l m names Beside Ended t

@@ -232,7 +232,7 @@ module _ {E : Type 0} (view : E → EntryView) (made : Handle → E) (end_type :
         (sym b.left) (goes_reached (nat_le 1 s.left) what index place s k (λ e. leb-true 1 s.left e) b)
     reaches what index place s (Err stop) b = refuses_reached (nat_le 1 s.left) what index place s stop (λ e. leb-true 1 s.left e) b
 
-    pub beside : AreBeside listing (by_table view made end_type types) (names_in view first.slots) Beside Ended
+    beside : AreBeside listing (by_table view made end_type types) (names_in view first.slots) Beside Ended
     beside = record {
       spends = λ many place s q b. spends many place s q b;
       stops = λ fault s q b. stops fault s q b;
@@ -266,7 +266,7 @@ module _ {E : Type 0} (view : E → EntryView) (made : Handle → E) (end_type :
 
     -- and where it ends the table is as the uses leave it, each of which is paid by what is counted.
     came_ends : {A : Type 0} (V : A → A → Type 0) (r : Came Listed (LiftTrap × List Use) A) (u : Came (Kept E) (Stop E) A) → Both Beside Ended V r u
-        → Ends view made end_type types first (uses_in r) (end_of u)
+        → Ends (uses_in r) (end_of u)
     came_ends V (Ok x) (Ok y) b = record {
       slots = sym (ap slots_behind b.1.took);
       paid = (let p : length x.1.uses + x.1.left ≤ first.left = b.1.paid in omega (arith, p));
@@ -298,7 +298,7 @@ module _ {E : Type 0} (view : E → EntryView) (made : Handle → E) (end_type :
           came_settled CarriedSo carried (load_by listing type memory place (none_listed first.left)) (load_by (by_table view made end_type types) type memory place first)
           (λ v w e. e) load_both
 
-      pub load_ends : Ends view made end_type types first (uses_in (load_by listing type memory place (none_listed first.left)))
+      pub load_ends : Ends (uses_in (load_by listing type memory place (none_listed first.left)))
           (end_of (load_by (by_table view made end_type types) type memory place first))
       load_ends = came_ends CarriedSo (load_by listing type memory place (none_listed first.left)) (load_by (by_table view made end_type types) type memory place first) load_both
 
@@ -313,7 +313,7 @@ module _ {E : Type 0} (view : E → EntryView) (made : Handle → E) (end_type :
           came_settled AllCarriedSo all_carried (load_list_by listing type memory place count (none_listed first.left))
           (load_list_by (by_table view made end_type types) type memory place count first) (λ v w e. e) list_both
 
-      pub list_ends : Ends view made end_type types first (uses_in (load_list_by listing type memory place count (none_listed first.left)))
+      pub list_ends : Ends (uses_in (load_list_by listing type memory place count (none_listed first.left)))
           (end_of (load_list_by (by_table view made end_type types) type memory place count first))
       list_ends =
           came_ends AllCarriedSo (load_list_by listing type memory place count (none_listed first.left)) (load_list_by (by_table view made end_type types) type memory place count first) list_both
@@ -328,6 +328,6 @@ module _ {E : Type 0} (view : E → EntryView) (made : Handle → E) (end_type :
           came_settled CarriedSo carried (lift_flat_by listing type memory words (none_listed first.left)) (lift_flat_by (by_table view made end_type types) type memory words first)
           (λ v w e. e) words_both
 
-      pub words_end : Ends view made end_type types first (uses_in (lift_flat_by listing type memory words (none_listed first.left)))
+      pub words_end : Ends (uses_in (lift_flat_by listing type memory words (none_listed first.left)))
           (end_of (lift_flat_by (by_table view made end_type types) type memory words first))
       words_end = came_ends CarriedSo (lift_flat_by listing type memory words (none_listed first.left)) (lift_flat_by (by_table view made end_type types) type memory words first) words_both
