@@ -29,25 +29,26 @@ left_so {E} {A} view made end_type types came kept slots (Err (Fault fault)) P e
 left_so view made end_type types came kept slots (Err Memory) P e h p = tt
 
 module _ {E A : Type 0} (view : E → EntryView) (made : Handle → E) (law : (x : Handle) → view (made x) ≡ seen.Handle x) (end_type : E → Option ℕ) (types : List ValType)
-    (first : Kept E) (uses : List Use) (came : Came (Kept E) (Stop E) A) (ends : Ends view made end_type types first uses (end_of came)) where
-  pub lends_so : (kept : Kept E) (slots : Slots E) (r : Result A (MemoryOr LiftTrap)) → slots ≡ kept.slots → MayTake (by_table view made end_type types) came kept r
-      → UnlessMemory r (LendsRise view first.left first.slots slots)
-  lends_so kept slots r e h =
-      left_so view made end_type types came kept slots r (λ (s : Slots E). LendsRise view first.left first.slots s) e h
+    (first now : Kept E) (is : now ≡ first) (uses : List Use) (came : Kept E → Came (Kept E) (Stop E) A) (ends : Ends view made end_type types first uses (end_of (came first)))
+    (kept : Kept E) (slots : Slots E) (r : Result A (MemoryOr LiftTrap)) (left : slots ≡ kept.slots) (took : MayTake (by_table view made end_type types) (came now) kept r) where
+  took_first : MayTake (by_table view made end_type types) (came first) kept r
+  took_first = subst (λ (k : Kept E). MayTake (by_table view made end_type types) (came k) kept r) is took
+
+  pub lends_so : UnlessMemory r (LendsRise view first.left first.slots slots)
+  lends_so =
+      left_so view made end_type types (came first) kept slots r (λ (s : Slots E). LendsRise view first.left first.slots s) left took_first
       (λ j.
-      let a : lends_in (view_at view (end_of came) j) ≡ lends_in (view_at view (slots_behind (applied view made end_type types uses first)) j) = ap (λ (s : Slots E). lends_in (view_at view s j)) ends.slots in
+      let a : lends_in (view_at view (end_of (came first)) j) ≡ lends_in (view_at view (slots_behind (applied view made end_type types uses first)) j) = ap (λ (s : Slots E). lends_in (view_at view s j)) ends.slots in
       let b : lends_in (view_at view (slots_behind (applied view made end_type types uses first)) j) ≤ lends_in (view_at view first.slots j) + length uses = uses_rise view made end_type types law uses first j in
       let p : length uses ≤ first.left = ends.paid in
       omega (arith, a, b, p))
 
-  pub run_so : (kept : Kept E) (slots : Slots E) (r : Result A (MemoryOr LiftTrap)) → slots ≡ kept.slots → MayTake (by_table view made end_type types) came kept r
-      → UnlessMemory r (RunGrows view made end_type types uses first slots)
-  run_so kept slots r e h =
-      left_so view made end_type types came kept slots r (λ (s : Slots E). RunGrows view made end_type types uses first s) e h
+  pub run_so : UnlessMemory r (RunGrows view made end_type types uses first slots)
+  run_so =
+      left_so view made end_type types (came first) kept slots r (λ (s : Slots E). RunGrows view made end_type types uses first s) left took_first
       (subst (λ (s : Slots E). RunGrows view made end_type types uses first s) (sym ends.slots) (uses_run view made end_type types law uses first))
 
-  pub history_so : (kept : Kept E) (slots : Slots E) (r : Result A (MemoryOr LiftTrap)) → slots ≡ kept.slots → MayTake (by_table view made end_type types) came kept r
-      → UnlessMemory r (HistoryGrows view made end_type types uses first slots)
-  history_so kept slots r e h =
-      left_so view made end_type types came kept slots r (λ (s : Slots E). HistoryGrows view made end_type types uses first s) e h
+  pub history_so : UnlessMemory r (HistoryGrows view made end_type types uses first slots)
+  history_so =
+      left_so view made end_type types (came first) kept slots r (λ (s : Slots E). HistoryGrows view made end_type types uses first s) left took_first
       (subst (λ (s : Slots E). HistoryGrows view made end_type types uses first s) (sym ends.slots) (uses_history view made end_type types law uses first))
