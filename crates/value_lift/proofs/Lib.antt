@@ -30,3 +30,13 @@ pub mod Faults
 pub mod Lends
 pub mod ByItself
 pub mod Given
+pub mod Carried
+pub mod Both
+pub mod Beside
+pub mod BesideTypes
+pub mod Unlisted
+pub mod Uses
+pub mod Growing
+pub mod Settling
+pub mod Clauses
+pub mod TakenInOrder

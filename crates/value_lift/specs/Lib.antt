@@ -14,3 +14,5 @@ pub mod Stored
 pub mod Failing
 pub mod WordFailing
 pub mod Laws
+pub mod Settled
+pub mod Taken

@@ -5,6 +5,7 @@ ghost use Rattle.ca_types.specs.Flat.{flat};
 ghost use Rattle.laid_types.specs.SameTypes.{AreDistinct};
 ghost use Rattle.value_lift.specs.Over.{load_by, load_list_by, lift_flat_by};
 ghost use Rattle.value_lift.specs.Lifting.{IsFor, most};
+ghost use Rattle.value_lift.specs.Settled.{listing, none_listed, uses_in, LendsRise, RunGrows, HistoryGrows, UnlessMemory};
 ghost use Rattle.value_lift.specs.Tables.{by_table, at_first, MayGive, MostLends};
 
 use crate::by_table::ByTable;
@@ -47,6 +48,9 @@ pub fn load<E: Entry<EndType = usize> + Drop>(
     requires lends { MostLends E.view (2 ^ 63) handles.old.slots }
     requires whole { IsFor what t.now.val_type }
     ensures exact { MayGive (load_by (by_table E.view E.made E.end_type t.now.types) t.now.val_type memory.now place (at_first (most what) handles.old.slots moved.old)) handles.new.slots moved.new result }
+    ensures lends { UnlessMemory result (LendsRise E.view (most what) handles.old.slots handles.new.slots) }
+    ensures run { UnlessMemory result (RunGrows E.view E.made E.end_type t.now.types (uses_in (load_by listing t.now.val_type memory.now place (none_listed (most what)))) (at_first (most what) handles.old.slots moved.old) handles.new.slots) }
+    ensures stands { UnlessMemory result (HistoryGrows E.view E.made E.end_type t.now.types (uses_in (load_by listing t.now.val_type memory.now place (none_listed (most what)))) (at_first (most what) handles.old.slots moved.old) handles.new.slots) }
 {
     let mut ledger = ByTable::begun(alloc, what.most(), handles, moved);
     let loaded = loads::load_by(alloc, memory, &mut ledger, place, t);
@@ -73,6 +77,9 @@ pub fn load_list<E: Entry<EndType = usize> + Drop>(
     requires distinct { AreDistinct t.now.types }
     requires lends { MostLends E.view (2 ^ 63) handles.old.slots }
     ensures exact { MayGive (load_list_by (by_table E.view E.made E.end_type t.now.types) t.now.val_type memory.now place count (at_first 134217728 handles.old.slots moved.old)) handles.new.slots moved.new result }
+    ensures lends { UnlessMemory result (LendsRise E.view 134217728 handles.old.slots handles.new.slots) }
+    ensures run { UnlessMemory result (RunGrows E.view E.made E.end_type t.now.types (uses_in (load_list_by listing t.now.val_type memory.now place count (none_listed 134217728))) (at_first 134217728 handles.old.slots moved.old) handles.new.slots) }
+    ensures stands { UnlessMemory result (HistoryGrows E.view E.made E.end_type t.now.types (uses_in (load_list_by listing t.now.val_type memory.now place count (none_listed 134217728))) (at_first 134217728 handles.old.slots moved.old) handles.new.slots) }
 {
     let mut ledger = ByTable::begun(alloc, LiftOf::Value.most(), handles, moved);
     let loaded = loads::load_list_by(alloc, memory, &mut ledger, place, count, t);
@@ -106,6 +113,9 @@ pub fn lift_flat<E: Entry<EndType = usize> + Drop>(
     requires words { length words.now ≡ length (flat t.now.val_type) }
     requires whole { IsFor what t.now.val_type }
     ensures exact { MayGive (lift_flat_by (by_table E.view E.made E.end_type t.now.types) t.now.val_type memory.now words.now (at_first (most what) handles.old.slots moved.old)) handles.new.slots moved.new result }
+    ensures lends { UnlessMemory result (LendsRise E.view (most what) handles.old.slots handles.new.slots) }
+    ensures run { UnlessMemory result (RunGrows E.view E.made E.end_type t.now.types (uses_in (lift_flat_by listing t.now.val_type memory.now words.now (none_listed (most what)))) (at_first (most what) handles.old.slots moved.old) handles.new.slots) }
+    ensures stands { UnlessMemory result (HistoryGrows E.view E.made E.end_type t.now.types (uses_in (lift_flat_by listing t.now.val_type memory.now words.now (none_listed (most what)))) (at_first (most what) handles.old.slots moved.old) handles.new.slots) }
 {
     let mut ledger = ByTable::begun(alloc, what.most(), handles, moved);
     let lifted = word_value_at(alloc, memory, &mut ledger, words, 0, t);
