@@ -1,5 +1,5 @@
 -- What is entered into a table beside a room.
-use Rattle.std.proofs.Common.{◌≡◌, ℕ, List, Bool, true, false, Option, Some, None, Result, Ok, Err, refl, sym, subst, ap, inl, inr}
+use Rattle.std.proofs.Common.{◌≡◌, ℕ, List, true, false, Some, None, Result, Ok, Err, refl, sym, subst, ap, inl, inr}
 use Rattle.std.specs.Prelude.{MatchResult}
 use Rattle.std.specs.List.{slice_get}
 use Rattle.std.proofs.lemmas.Bool.{cond-true, cond-false, cases_Bool}
@@ -15,7 +15,7 @@ use Rattle.value_lower.specs.declared.ends.LowerWhy.TheVariants.{TableFull}
 use Rattle.value_lower.specs.declared.ends.RoomEnd.{RoomEnd}
 use Rattle.value_lower.specs.Plan.{Ask, New, NewOwn, NewBorrow, NewEnd, Plan, Adds}
 use Rattle.value_lower.specs.Following.{Rooms, Failed, Follows, Leads}
-use Rattle.value_lower.specs.Tables.{with_index, entered, IsEntry, gets, IsLowered, tabled}
+use Rattle.value_lower.specs.Tables.{with_index, entered, IsEntry, IsLowered, tabled}
 
 module _ {E : Type 0} (made : Handle → E) (made_end : ℕ → ℕ → E) (task : ℕ) (types : List ValType) (home : List ℕ) where
   abbrev Lowered : New → Slots E → Result ℕ LowerError → Slots E → Type 0

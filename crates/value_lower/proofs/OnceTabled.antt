@@ -1,15 +1,13 @@
 -- A plan comes to one thing over a room with a table, where no type stands twice among those by which ends are told.
-use Rattle.std.proofs.Common.{◌≡◌, ◌∙◌, ◌<◌, ℕ, List, Option, Some, None, Result, refl, sym, ap, subst, arith}
-use Rattle.std.specs.List.{slice_get}
+use Rattle.std.proofs.Common.{◌≡◌, ◌∙◌, ℕ, List, Option, Some, None, Result, refl, sym, ap, arith}
 use Rattle.ca_types.specs.declared.types.ValType.{ValType}
 use Rattle.laid_types.specs.SameTypes.{AreDistinct}
-use Rattle.handle_table.specs.History.{most_live}
-use Rattle.handle_table.specs.Slots.{Slots, count, added}
+use Rattle.handle_table.specs.Slots.{Slots, added}
 use Rattle.res_handles.specs.declared.handle.Handle.{Handle}
 use Rattle.value_lower.specs.declared.ends.RoomEnd.{RoomEnd}
 use Rattle.value_lower.specs.Plan.{Ask, New, NewOwn, NewBorrow, NewEnd}
-use Rattle.value_lower.specs.Tables.{IsEntry, answered, put_in, enters, tabled}
-use Rattle.value_lower.specs.Laws.{AnswersOnce, WritesOnce, AddsOnce, TabledComeToOne}
+use Rattle.value_lower.specs.Tables.{IsEntry, enters, tabled}
+use Rattle.value_lower.specs.Laws.{AddsOnce, TabledComeToOne}
 use Rattle.value_lower.proofs.Once.{one_end}
 
 both_same : {A B : Type 0} (s u : A × B) → s.0 ≡ u.0 → s.1 ≡ u.1 → s ≡ u
