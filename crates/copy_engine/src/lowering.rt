@@ -14,10 +14,12 @@ use crate::store_room::StoreRoom;
 use ca_types::Value;
 use laid_types::LaidType;
 use std::alloc::Global;
-use value_lower::{LowerError, Words, lower_flat, lower_placed, store, store_list};
+use value_lower::{
+    LowerError, Words, lower_flat_bare, lower_placed_bare, store_bare, store_list_bare,
+};
 
 impl<'a> StoreRoom<'a> {
-    /// The core values that stand for a value, as `lower_flat` of value_lower answers them: the store, the fuel and the kept call are
+    /// The core values that stand for a value, as `lower_flat_bare` of value_lower answers them: the store, the fuel and the kept call are
     /// then what the plan comes to over them.
     pub fn lower_flat(
         &mut self,
@@ -33,10 +35,10 @@ impl<'a> StoreRoom<'a> {
         ensures lowers { Lowers self.old.options (flat_lowered t.now value.now) (λ words. words) (state_of self.old) result (state_of self.new) }
         ensures count { IfOk result (λ words. length words ≡ length (flat t.now)) }
     {
-        lower_flat(alloc, self, value, t)
+        lower_flat_bare(alloc, self, value, t)
     }
 
-    /// Stores a value at a place, as `store` of value_lower.
+    /// Stores a value at a place, as `store_bare` of value_lower.
     pub fn store(
         &mut self,
         alloc: Global,
@@ -50,10 +52,10 @@ impl<'a> StoreRoom<'a> {
         ensures same { IfTold result (Same self.old self.new) }
         ensures lowers { Lowers self.old.options (stored t.now value.now place) (λ _. []) (state_of self.old) result (state_of self.new) }
     {
-        store(alloc, self, place, value, t)
+        store_bare(alloc, self, place, value, t)
     }
 
-    /// Stores values of a type one after the other from a place on, as `store_list` of value_lower.
+    /// Stores values of a type one after the other from a place on, as `store_list_bare` of value_lower.
     pub fn store_list(
         &mut self,
         alloc: Global,
@@ -67,10 +69,10 @@ impl<'a> StoreRoom<'a> {
         ensures same { IfTold result (Same self.old self.new) }
         ensures lowers { Lowers self.old.options (all_stored t.now values.now place) (λ _. []) (state_of self.old) result (state_of self.new) }
     {
-        store_list(alloc, self, place, values, t)
+        store_list_bare(alloc, self, place, values, t)
     }
 
-    /// Stores a value at a new place, as `lower_placed` of value_lower, and answers the place.
+    /// Stores a value at a new place, as `lower_placed_bare` of value_lower, and answers the place.
     pub fn lower_placed(
         &mut self,
         alloc: Global,
@@ -83,6 +85,6 @@ impl<'a> StoreRoom<'a> {
         ensures same { IfTold result (Same self.old self.new) }
         ensures lowers { Lowers self.old.options (placed t.now value.now) (λ place. place ∷ []) (state_of self.old) result (state_of self.new) }
     {
-        lower_placed(alloc, self, value, t)
+        lower_placed_bare(alloc, self, value, t)
     }
 }

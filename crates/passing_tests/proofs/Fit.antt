@@ -1,5 +1,5 @@
 -- Where each of some values passes the test of a type, each is of the type.
-use Rattle.std.proofs.Common.{◌≡◌, ℕ, zero, suc, true, List, [], ◌∷◌, Some}
+use Rattle.std.proofs.Common.{◌≡◌, subst, ℕ, zero, suc, true, List, [], ◌∷◌, Some}
 use Rattle.std.specs.List.{list_all, slice_get}
 use Rattle.ca_types.specs.declared.types.ValType.{ValType}
 use Rattle.ca_types.specs.declared.value.Value.{Value}
@@ -14,3 +14,7 @@ one_fits (x ∷ xs) type h (suc n) v e = one_fits xs type (both (fits x type) (l
 
 pub all_fit : (all : List Value) (type : ValType) → list_all (λ v. fits v type) all ≡ true → AllFit all type
 all_fit all type h = one_fits all type h
+
+-- the same for a type that is told twice
+pub all_fit_too : (all : List Value) (type same : ValType) → list_all (λ v. fits v type) all ≡ true → type ≡ same → AllFit all same
+all_fit_too all type same h e = subst (λ (t : ValType). AllFit all t) e (one_fits all type h)

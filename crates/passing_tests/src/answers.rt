@@ -1,5 +1,6 @@
 //! The answers to lines.
 
+use crate::entering::entered_told;
 use crate::handles::handles_told;
 use crate::kinds::{Kind, lowers_of};
 use crate::laid::{aligned_told, label_told, layout_told, parts_told, size_told};
@@ -32,7 +33,8 @@ fn type_answer(
         Kind::Doubled => size_told(alloc, count, t),
         Kind::DoubledValue => loaded(alloc, t, &[1, 2, 3, 4], 0, LiftOf::Value),
         Kind::Passed => passed_told(alloc, t, rest),
-        Kind::Aligned | Kind::Large | Kind::WithTable(_) => Err(Fail::new("no type")),
+        Kind::Aligned | Kind::Large | Kind::WithTable(_) | Kind::Entered(_) =>
+            Err(Fail::new("no type")),
     }
 }
 
@@ -66,6 +68,7 @@ pub(crate) fn line_told(alloc: Global, kind: Kind, line: &str) -> Result<String,
         Kind::Aligned => aligned_told(alloc, line),
         Kind::Large => large_answer(alloc, line),
         Kind::WithTable(lifts) => handles_told(alloc, lifts, line),
+        Kind::Entered(lowers) => entered_told(alloc, lowers, line),
         Kind::Doubled | Kind::DoubledValue => {
             words_answer(alloc, kind, Made::Doubled, words, rest)
         }

@@ -25,7 +25,7 @@ use type_texts::type_of;
 use value_lift::{LiftOf, Moved, lift_flat, load, load_list};
 
 /// The types of a line.
-fn types_told(alloc: Global, words: &str) -> Result<Vec<Shared<ValType>>, Fail> {
+pub(crate) fn types_told(alloc: Global, words: &str) -> Result<Vec<Shared<ValType>>, Fail> {
     let mut types = Vec::new(alloc);
     for word in words.split('+') {
         types.push(type_of(alloc, word)?)?;

@@ -33,6 +33,7 @@ pub(crate) enum Kind {
     Doubled,
     DoubledValue,
     Lowered(Lowers),
+    Entered(Lowers),
     Large,
     Passed,
 }
@@ -72,6 +73,12 @@ pub(crate) fn lowers_of(word: &str) -> Option<Lowers> {
     }
 }
 
+/// What a word lowers with a table of handles.
+fn entered(word: &str) -> Option<Kind> {
+    let lowers = lowers_of(word.strip_suffix("-handles")?)?;
+    Some(Kind::Entered(lowers))
+}
+
 /// What a word tells of types.
 fn told_of(word: &str) -> Option<Kind> {
     match word {
@@ -97,6 +104,9 @@ pub(crate) fn kind_of(word: &str) -> Option<Kind> {
         return Some(kind);
     }
     if let Some(kind) = with_table(word) {
+        return Some(kind);
+    }
+    if let Some(kind) = entered(word) {
         return Some(kind);
     }
     told_of(word)

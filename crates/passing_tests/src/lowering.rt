@@ -14,7 +14,9 @@ use laid_types::LaidType;
 use std::alloc::Global;
 use std::fmt::Write;
 use std::test::Fail;
-use value_lower::{LowerError, RoomEnd, Words, lower_flat, lower_placed, store, store_list};
+use value_lower::{
+    LowerError, RoomEnd, Words, lower_flat_bare, lower_placed_bare, store_bare, store_list_bare,
+};
 
 /// The text of why a room gives no answer.
 fn end_told(alloc: Global, end: RoomEnd<u32>) -> Result<String, Fail> {
@@ -34,7 +36,7 @@ fn error_told(alloc: Global, error: LowerError<u32>) -> Result<String, Fail> {
 }
 
 /// The text of a store.
-fn store_told(alloc: Global, stored: Result<(), LowerError<u32>>) -> Result<String, Fail> {
+pub(crate) fn store_told(alloc: Global, stored: Result<(), LowerError<u32>>) -> Result<String, Fail> {
     match stored {
         Ok(()) => Ok(String::from_str(alloc, "stored")?),
         Err(error) => error_told(alloc, error),
@@ -42,7 +44,7 @@ fn store_told(alloc: Global, stored: Result<(), LowerError<u32>>) -> Result<Stri
 }
 
 /// The text of a place.
-fn place_told(alloc: Global, placed: Result<u32, LowerError<u32>>) -> Result<String, Fail> {
+pub(crate) fn place_told(alloc: Global, placed: Result<u32, LowerError<u32>>) -> Result<String, Fail> {
     match placed {
         Ok(place) => Ok(format!(in alloc; "at {place}")?),
         Err(error) => error_told(alloc, error),
@@ -59,7 +61,7 @@ fn words_text(alloc: Global, words: &[u64]) -> Result<String, Fail> {
 }
 
 /// The text of core values, or of why there are none.
-fn words_told(alloc: Global, lowered: Result<Words, LowerError<u32>>) -> Result<String, Fail> {
+pub(crate) fn words_told(alloc: Global, lowered: Result<Words, LowerError<u32>>) -> Result<String, Fail> {
     match lowered {
         Ok(words) => words_text(alloc, words.as_slice()),
         Err(error) => error_told(alloc, error),
@@ -103,7 +105,7 @@ pub(crate) fn stored(
     if !may_lower(value, t) {
         return Err(Fail::new("misfit"));
     }
-    store_told(alloc, store(alloc, room, place, value, t))
+    store_told(alloc, store_bare(alloc, room, place, value, t))
 }
 
 /// What comes of storing values one after the other from a place on.
@@ -117,7 +119,7 @@ pub(crate) fn all_stored(
     if !may_all_lower(values, t) {
         return Err(Fail::new("misfit"));
     }
-    store_told(alloc, store_list(alloc, room, place, values, t))
+    store_told(alloc, store_list_bare(alloc, room, place, values, t))
 }
 
 /// The core values that a value is lowered into.
@@ -130,7 +132,7 @@ pub(crate) fn flattened(
     if !may_lower(value, t) || t.flat().len() > 16 {
         return Err(Fail::new("misfit"));
     }
-    words_told(alloc, lower_flat(alloc, room, value, t))
+    words_told(alloc, lower_flat_bare(alloc, room, value, t))
 }
 
 /// The place that a value is lowered to.
@@ -143,5 +145,5 @@ pub(crate) fn placed(
     if !may_lower(value, t) {
         return Err(Fail::new("misfit"));
     }
-    place_told(alloc, lower_placed(alloc, room, value, t))
+    place_told(alloc, lower_placed_bare(alloc, room, value, t))
 }

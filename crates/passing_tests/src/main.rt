@@ -39,6 +39,8 @@
 //! - `all`: values one after the other from a place on
 //! - `flat`: a value as core values. Those that a case does not need are 0
 //! - `place`: a value at a new place
+//! - `store-handles`, `all-handles`, `flat-handles`, `place-handles`: the same with the entries of a table of handles and the resources
+//!   that the instance defines before the values; wanted are besides, behind a semicolon, the entries then
 //! - `large`: what is done, of those four, before a type of very many bytes. It is made of that of bytes: `pair:1` is a pair, so
 //!   twice as many bytes, and `odd:1` a pair with a byte behind it; a greater number stands for that often
 //! - `pass`: how many numbers are lowered as a list and lifted again; how many of them are as they were
@@ -49,10 +51,12 @@
 //! - `handles`: what is lifted with a table, as text; `things`: tables of words
 //! - `lifting`: what is lifted, as text; `loading`: what a line says of it; `large_texts`: a list of texts
 //! - `scripted`: a room of a script; `lines`: the parts of a line
-//! - `lowering`: what is lowered, as text; `storing`: what a line says of it; `long_lists`: a list that is lowered and lifted
+//! - `lowering`: what is lowered, as text; `storing`: what a line says of it; `entering`: the same with a table of handles
+//! - `long_lists`: a list that is lowered and lifted
 #![tactic(auto)]
 
 mod answers;
+mod entering;
 mod handles;
 mod kinds;
 mod laid;

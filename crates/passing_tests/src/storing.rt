@@ -22,7 +22,7 @@ fn write_bytes(text: &mut String, bytes: &[u8]) -> Result<(), Fail> {
 }
 
 /// What comes of a lowering, what its reallocs were asked for, and the memory then.
-fn told(alloc: Global, outcome: &str, room: &ScriptedRoom) -> Result<String, Fail> {
+pub(crate) fn told(alloc: Global, outcome: &str, room: &ScriptedRoom) -> Result<String, Fail> {
     let mut text = String::new(alloc);
     write!(text, "{outcome} |{} |", room.asked())?;
     write_bytes(&mut text, room.memory())?;

@@ -179,7 +179,7 @@ fn write_handle(text: &mut String, handle: Handle) -> Result<(), Fail> {
 }
 
 /// Writes an entry as its word.
-fn write_thing(text: &mut String, thing: Option<&Thing>) -> Result<(), Fail> {
+pub(crate) fn write_thing(text: &mut String, thing: Option<&Thing>) -> Result<(), Fail> {
     match thing {
         Some(Thing::Handle(handle)) => write_handle(text, *handle),
         Some(Thing::End(_, end)) => {

@@ -13,8 +13,9 @@ use Rattle.ca_types.specs.Flat.{flat, joined_lists, joined_all, all_of}
 use Rattle.laid_types.specs.Parts.{parts_of, parts_case}
 use Rattle.laid_types.specs.Gathered.{flats, flat_over}
 use Rattle.laid_types.proofs.ByParts.{flat_by_parts}
-use Rattle.value_lower.specs.Plan.{Plan}
-use Rattle.value_lower.specs.Lowering.{lowered, field_words, flat_words}
+use Rattle.value_lower.specs.Plan.{New, Plan}
+use Rattle.value_lower.specs.Storing.{field_words}
+use Rattle.value_lower.specs.Entering.{lowered, flat_words}
 use Rattle.value_lower.specs.Fitting.{FewParts}
 use Rattle.value_lower.proofs.Lists.{part_there, part_absent}
 use Rattle.value_lower.proofs.Plans.{behind}
@@ -75,31 +76,33 @@ pub few_payloads : (t : ValType) (m : ℕ) (payload : Option Value) → passes (
 few_payloads t m payload h l = λ n p i. omega (arith, case_words (out-ValType t) m payload n p h i, count_is t, l)
 
 -- Fields.
-abbrev pub words_left : ℕ → List (Option ValType) → List Value → List ℕ → (List ℕ → Plan) → Plan
-words_left n types all before k = field_words (drop n types) (map lowered (drop n all)) before k
-
-pub words_one : (n : ℕ) (types : List (Option ValType)) (all : List Value) (t : ValType) (d : Value) (before : List ℕ) (k : List ℕ → Plan) → option_and_then (λ part. part) (slice_get types n) ≡ Some t
-    → n < length all → d ≡ get_or all n d → words_left n types all before k ≡ flat_words t d before (λ words. words_left (n + 1) types all words k)
-words_one n types all t d before k h low e =
-    ap (λ (ts : List (Option ValType)). field_words ts (map lowered (drop n all)) before k) (part_there types n t h)
-    ∙ ap (λ (vs : List Value). field_words (Some t ∷ drop (n + 1) types) (map lowered vs) before k) (behind all n d low e)
-
-pub words_none : (n : ℕ) (types : List (Option ValType)) (all : List Value) (d : Value) (before : List ℕ) (k : List ℕ → Plan) → option_and_then (λ part. part) (slice_get types n) ≡ None
-    → n < length all → d ≡ get_or all n d → words_left n types all before k ≡ words_left (n + 1) types all before k
-words_none n types all d before k h low e =
-    elim (cases_lt n (length types)) [
-      | inl there ↦
-          ap (λ (ts : List (Option ValType)). field_words ts (map lowered (drop n all)) before k) (part_absent types n there h)
-          ∙ ap (λ (vs : List Value). field_words (None ∷ drop (n + 1) types) (map lowered vs) before k) (behind all n d low e)
-      | inr past ↦
-          ap (λ (ts : List (Option ValType)). field_words ts (map lowered (drop n all)) before k) (drop_all n types past)
-          ∙ sym (ap (λ (ts : List (Option ValType)). field_words ts (map lowered (drop (n + 1) all)) before k) (drop_all (n + 1) types (omega arith)))
-    ]
-
 no_words : (types : List (Option ValType)) (before : List ℕ) (k : List ℕ → Plan) → field_words types [] before k ≡ k before
 no_words [] before k = refl
 no_words (t ∷ types) before k = refl
 
-pub words_done : (n : ℕ) (types : List (Option ValType)) (all : List Value) (before : List ℕ) (k : List ℕ → Plan) → length all ≤ n → words_left n types all before k ≡ k before
-words_done n types all before k h =
-    ap (λ (vs : List Value). field_words (drop n types) (map lowered vs) before k) (drop_all n all h) ∙ no_words (drop n types) before k
+module _ (enter : New → (ℕ → Plan) → Plan) where
+  -- Fields.
+  abbrev pub words_left : ℕ → List (Option ValType) → List Value → List ℕ → (List ℕ → Plan) → Plan
+  words_left n types all before k = field_words (drop n types) (map (lowered enter) (drop n all)) before k
+
+  pub words_one : (n : ℕ) (types : List (Option ValType)) (all : List Value) (t : ValType) (d : Value) (before : List ℕ) (k : List ℕ → Plan) → option_and_then (λ part. part) (slice_get types n) ≡ Some t
+      → n < length all → d ≡ get_or all n d → words_left n types all before k ≡ flat_words enter t d before (λ words. words_left (n + 1) types all words k)
+  words_one n types all t d before k h low e =
+      ap (λ (ts : List (Option ValType)). field_words ts (map (lowered enter) (drop n all)) before k) (part_there types n t h)
+      ∙ ap (λ (vs : List Value). field_words (Some t ∷ drop (n + 1) types) (map (lowered enter) vs) before k) (behind all n d low e)
+
+  pub words_none : (n : ℕ) (types : List (Option ValType)) (all : List Value) (d : Value) (before : List ℕ) (k : List ℕ → Plan) → option_and_then (λ part. part) (slice_get types n) ≡ None
+      → n < length all → d ≡ get_or all n d → words_left n types all before k ≡ words_left (n + 1) types all before k
+  words_none n types all d before k h low e =
+      elim (cases_lt n (length types)) [
+        | inl there ↦
+            ap (λ (ts : List (Option ValType)). field_words ts (map (lowered enter) (drop n all)) before k) (part_absent types n there h)
+            ∙ ap (λ (vs : List Value). field_words (None ∷ drop (n + 1) types) (map (lowered enter) vs) before k) (behind all n d low e)
+        | inr past ↦
+            ap (λ (ts : List (Option ValType)). field_words ts (map (lowered enter) (drop n all)) before k) (drop_all n types past)
+            ∙ sym (ap (λ (ts : List (Option ValType)). field_words ts (map (lowered enter) (drop (n + 1) all)) before k) (drop_all (n + 1) types (omega arith)))
+      ]
+
+  pub words_done : (n : ℕ) (types : List (Option ValType)) (all : List Value) (before : List ℕ) (k : List ℕ → Plan) → length all ≤ n → words_left n types all before k ≡ k before
+  words_done n types all before k h =
+      ap (λ (vs : List Value). field_words (drop n types) (map (lowered enter) vs) before k) (drop_all n all h) ∙ no_words (drop n types) before k

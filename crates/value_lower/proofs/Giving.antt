@@ -1,9 +1,13 @@
 -- What holds of all core values that a plan may give.
-use Rattle.std.proofs.Common.{◌≡◌, ◌<◌, ◌+◌, ◌%◌, ◌^◌, ◌==◌, ◌&&◌, cond, nat_lt, nat_le, ℕ, Bool, true, false, List, length, Option, refl, sym, subst, inl, inr}
+use Rattle.std.proofs.Common.{◌≡◌, ◌<◌, ◌+◌, ◌%◌, ◌^◌, ◌==◌, ◌&&◌, cond, nat_lt, nat_le, ℕ, Bool, true, false, List, length, Option, Some, None, Result, Ok, Err, refl, sym, subst, inl, inr}
+use Rattle.std.specs.Prelude.{IfOk}
 use Rattle.std.proofs.lemmas.Bool.{cond_both, ltb-true}
 use Rattle.value_lower.specs.declared.ends.LowerWhy.TheVariants.{Misaligned, Bounds}
-use Rattle.value_lower.specs.Plan.{Plan, Gives, Fails, Asks, Size, Put, Adds}
-use Rattle.value_lower.specs.Following.{Rooms, Came, Words, Failed, Ended, Follows}
+use Rattle.res_handles.specs.Calls.{is_defined}
+use Rattle.value_lower.specs.declared.ends.LowerError.{LowerError}
+use Rattle.value_lower.specs.Plan.{New, NewOwn, NewBorrow, NewEnd, Plan, Gives, Fails, Asks, Size, Put, Adds}
+use Rattle.value_lower.specs.Following.{Rooms, Came, Words, Failed, Ended, Follows, Comes}
+use Rattle.value_lower.specs.Tables.{with_index, entered}
 use Rattle.value_lower.specs.Lowering.{tested, asked, text_in}
 
 left_true : (a b : Bool) → (a && b) ≡ true → a ≡ true
@@ -36,6 +40,17 @@ module _ (Q : List ℕ → Type 0) where
   pub text_gives : (text : List ℕ) (k : ℕ → Plan) → ((place : ℕ) → place < 2 ^ 32 → length text < 2 ^ 32 → AllGive (k place)) → AllGive (text_in text k)
   text_gives text k h = asked_gives (length text) 1 (length text) (λ place. Put place text (k place)) h
 
+  -- what is entered into a table gives what follows with any index
+  index_gives : (k : ℕ → Plan) → ((index : ℕ) → AllGive (k index)) → (given : Option ℕ) → AllGive (with_index k given)
+  index_gives k h (Some index) = h index
+  index_gives k h None = tt
+
+  pub entered_gives : (home : List ℕ) (entry : New) (k : ℕ → Plan) → ((index : ℕ) → AllGive (k index)) → AllGive (entered home entry k)
+  entered_gives home (NewOwn resource rep) k h = index_gives k h
+  entered_gives home (NewBorrow resource rep) k h =
+      cond_both (is_defined resource home) (k rep) (Adds (NewBorrow resource rep) (with_index k)) AllGive (λ e. h rep) (λ e. index_gives k h)
+  entered_gives home (NewEnd type number) k h = index_gives k h
+
   module _ {R T : Type 0} (rooms : Rooms R T) where
     abbrev came_words : List ℕ → Came T
     came_words words = Words words
@@ -55,3 +70,8 @@ module _ (Q : List ℕ → Type 0) where
     given (Size k) r s words h q = given (k (length (rooms.memory r))) r s words h (q (length (rooms.memory r)))
     given (Put place bytes k) r s words h q = given k h.0 s words h.2 q
     given (Adds entry k) r s words h q = given (k h.0) h.1 s words h.3 (q h.0)
+
+    -- where the words of a call are those of its plan
+    pub given_ok : (plan : Plan) (r s : R) (result : Result (List ℕ) (LowerError T)) → Comes rooms plan (λ words. words) r result s → AllGive plan → IfOk result Q
+    given_ok plan r s (Ok words) h q = given plan r s words h q
+    given_ok plan r s (Err e) h q = tt

@@ -2,7 +2,6 @@
 use Rattle.std.proofs.Common.{◌≡◌, ◌+◌, ◌%◌, ◌==◌, ◌≤◌, cond, nat_le, length, ℕ, List, Result, Ok, Err, subst, sym, refl}
 use Rattle.std.proofs.lemmas.Bool.{cond-true, le-leb, eq-eqb}
 use Rattle.value_lower.specs.declared.ends.LowerWhy.TheVariants.{Bounds}
-use Rattle.value_lower.specs.declared.ends.RoomEnd.{RoomEnd}
 use Rattle.value_lower.specs.declared.ends.RoomEnd.TheVariants.{Trapped, NoFuel, Memory}
 use Rattle.value_lower.specs.declared.ends.LowerError.{LowerError}
 use Rattle.value_lower.specs.declared.ends.LowerError.TheVariants as error

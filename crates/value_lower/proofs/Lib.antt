@@ -8,5 +8,9 @@ pub mod Views
 pub mod Plans
 pub mod FlatWords
 pub mod Once
+pub mod OnceTabled
 pub mod Giving
+pub mod CountsOver
 pub mod Counts
+pub mod Numbered
+pub mod Lowered

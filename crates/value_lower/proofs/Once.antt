@@ -1,7 +1,7 @@
 -- A plan comes to one thing in a room that gives one answer to each realloc.
 use Rattle.std.proofs.Common.{◌≡◌, ◌∙◌, ℕ, List, length, Option, Result, Ok, Err, sym, subst, inl, inr}
 use Rattle.value_lower.specs.declared.ends.RoomEnd.{RoomEnd}
-use Rattle.value_lower.specs.Plan.{Ask, New, Plan, Gives, Fails, Asks, Size, Put, Adds}
+use Rattle.value_lower.specs.Plan.{Ask, Plan, Gives, Fails, Asks, Size, Put, Adds}
 use Rattle.value_lower.specs.Following.{Rooms, no_table, untabled, Came, Ended, Follows}
 use Rattle.value_lower.specs.Laws.{AnswersOnce, WritesOnce, AddsOnce, PlansComeToOne}
 

@@ -17,6 +17,10 @@ pub record Rooms (R T : Type 0) : Type 1 where
   pub wrote : R → ℕ → List ℕ → R → Type 0
   pub adds : R → New → Option ℕ → R → Type 0
 
+abbrev pub rooms_of : {R T : Type 0} → (R → List ℕ) → (R → Ask → Result ℕ (RoomEnd T) → R → Type 0) → (R → ℕ → List ℕ → R → Type 0) → (R → New → Option ℕ → R → Type 0)
+    → Rooms R T
+rooms_of memory answers wrote adds = record { memory = memory; answers = answers; wrote = wrote; adds = adds }
+
 -- A room without a table is full.
 abbrev pub no_table : {R : Type 0} → R → New → Option ℕ → R → Type 0
 no_table r entry given s = (given ≡ None) × (s ≡ r)

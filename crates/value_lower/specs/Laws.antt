@@ -7,7 +7,10 @@ use Rattle.ca_types.specs.Flat.{flat}
 use Rattle.value_lower.specs.declared.ends.RoomEnd.{RoomEnd}
 use Rattle.value_lower.specs.Plan.{Ask, New, Plan}
 use Rattle.value_lower.specs.Following.{Rooms, untabled, Came, Words, Follows}
+use Rattle.laid_types.specs.SameTypes.{AreDistinct}
+use Rattle.res_handles.specs.declared.handle.Handle.{Handle}
 use Rattle.value_lower.specs.Lowering.{flat_lowered}
+use Rattle.value_lower.specs.Tables.{IsEntry, tabled}
 
 -- A room gives one answer to each realloc, and is then one room.
 abbrev pub AnswersOnce : {R T : Type 0} → (R → Ask → Result ℕ (RoomEnd T) → R → Type 0) → Type 0
@@ -30,6 +33,12 @@ ComeToOne {R} {T} rooms =
 -- So it is where a room without a table gives one answer to each realloc, and is one room after each store.
 abbrev pub PlansComeToOne : {R T : Type 0} → (R → List ℕ) → (R → Ask → Result ℕ (RoomEnd T) → R → Type 0) → (R → ℕ → List ℕ → R → Type 0) → Type 0
 PlansComeToOne memory answers wrote = AnswersOnce answers → WritesOnce wrote → ComeToOne (untabled memory answers wrote)
+
+-- So it is over its table too, for any task, where no type stands twice among those by which ends are told.
+abbrev pub TabledComeToOne : {R E T : Type 0} → (R → List ℕ) → (R → Ask → Result ℕ (RoomEnd T) → R → Type 0) → (R → ℕ → List ℕ → R → Type 0) → (Handle → E) → (ℕ → ℕ → E) → Type 0
+TabledComeToOne memory answers wrote made made_end =
+    (task : ℕ) (types : List ValType) → AreDistinct types → AnswersOnce answers → WritesOnce wrote
+    → ComeToOne (tabled memory answers wrote (IsEntry made made_end task types))
 
 -- Where a value of a type comes to core values, they are as many as stand for the type.
 abbrev pub CoreValuesAreComplete : {R T : Type 0} → Rooms R T → Type 0

@@ -3,5 +3,7 @@ pub mod Following
 pub mod Storing
 pub mod Entering
 pub mod Lowering
+pub mod Entries
+pub mod Tables
 pub mod Fitting
 pub mod Laws

@@ -1,82 +1,100 @@
 //! Values without parts, and numbers.
 
-ghost use Rattle.std.specs.Prelude.{◌≡◌, ◌+◌, ◌≤◌, ◌%◌, ◌^◌, length};
+ghost use Rattle.std.specs.Prelude.{◌≡◌, ◌+◌, ◌≤◌, ◌%◌, ◌^◌, ℕ, List, length};
 ghost use Rattle.std.specs.Int.{w32, byte_len, to_le_bytes};
+ghost use Rattle.ca_types.specs.declared.types.ValType.{ValType};
 ghost use Rattle.ca_types.specs.declared.value.Value.{out-Value};
 ghost use Rattle.value_lower.specs.Plan.{Plan, Put};
-ghost use Rattle.value_lower.specs.Following.{Leads, untabled};
-ghost use Rattle.value_lower.specs.Lowering.{number_bytes, width_of, bits_of, flags_number, plain_bytes, plain_word, pointed};
+ghost use Rattle.value_lower.specs.Following.{Leads, rooms_of};
+ghost use Rattle.value_lower.specs.Storing.{number_bytes, width_of, bits_of, flags_number, plain_bytes, plain_word, pointed};
 ghost use Rattle.value_lower.specs.Fitting.{HasBytes};
 
-use crate::room::Room;
+use crate::beside::Beside;
 use ca_types::Value;
 
 /// Puts bytes at a place.
-pub(crate) fn put<R: Room>(room: &mut R, place: u64, bytes: &[u8])
+pub(crate) fn put<R, B: Beside<R>>(room: &mut R, beside: &B, place: u64, bytes: &[u8])
     requires some { 1 ≤ length bytes.now }
-    requires bytes { HasBytes place (length bytes.now) (length (R.memory room.old)) }
-    ensures leads { (k : Plan) → Leads (untabled R.memory R.answers R.wrote) (Put place bytes.now k) room.old k room.new }
-    ensures size { length (R.memory room.new) ≡ length (R.memory room.old) }
+    requires bytes { HasBytes place (length bytes.now) (length (B.memory (B.state room.old beside.now))) }
+    ensures leads { (task : ℕ) (types : List ValType) (k : Plan) → Leads (rooms_of B.memory B.answers B.wrote (B.adds task types)) (Put place bytes.now k) (B.state room.old beside.now) k (B.state room.new beside.now) }
+    ensures size { length (B.memory (B.state room.new beside.now)) ≡ length (B.memory (B.state room.old beside.now)) }
 {
-    room.put(place as u32, bytes);
+    beside.put(room, place as u32, bytes);
 }
 
 /// Puts a number of 1, 2 or 4 bytes at a place: the lowest of its bytes.
-pub(crate) fn put_number<R: Room>(room: &mut R, place: u64, size: u32, number: u32)
-    requires { HasBytes place (byte_len (width_of size)) (length (R.memory room.old)) }
-    ensures leads { (k : Plan) → Leads (untabled R.memory R.answers R.wrote) (Put place (number_bytes size number) k) room.old k room.new }
-    ensures size { length (R.memory room.new) ≡ length (R.memory room.old) }
+pub(crate) fn put_number<R, B: Beside<R>>(
+    room: &mut R,
+    beside: &B,
+    place: u64,
+    size: u32,
+    number: u32,
+)
+    requires { HasBytes place (byte_len (width_of size)) (length (B.memory (B.state room.old beside.now))) }
+    ensures leads { (task : ℕ) (types : List ValType) (k : Plan) → Leads (rooms_of B.memory B.answers B.wrote (B.adds task types)) (Put place (number_bytes size number) k) (B.state room.old beside.now) k (B.state room.new beside.now) }
+    ensures size { length (B.memory (B.state room.new beside.now)) ≡ length (B.memory (B.state room.old beside.now)) }
 {
     if size <= 1 {
-        put(room, place, &((number % 256) as u8).to_le_bytes());
+        put(room, beside, place, &((number % 256) as u8).to_le_bytes());
     } else if size <= 2 {
-        put(room, place, &((number % 65_536) as u16).to_le_bytes());
+        put(
+            room,
+            beside,
+            place,
+            &((number % 65_536) as u16).to_le_bytes(),
+        );
     } else {
-        put(room, place, &number.to_le_bytes());
+        put(room, beside, place, &number.to_le_bytes());
     }
 }
 
 /// Puts a number of 4 bytes at a place.
-fn put32<R: Room>(room: &mut R, place: u64, number: u32)
-    requires { HasBytes place 4 (length (R.memory room.old)) }
-    ensures leads { (k : Plan) → Leads (untabled R.memory R.answers R.wrote) (Put place (to_le_bytes w32 number) k) room.old k room.new }
-    ensures size { length (R.memory room.new) ≡ length (R.memory room.old) }
+pub(crate) fn put32<R, B: Beside<R>>(room: &mut R, beside: &B, place: u64, number: u32)
+    requires { HasBytes place 4 (length (B.memory (B.state room.old beside.now))) }
+    ensures leads { (task : ℕ) (types : List ValType) (k : Plan) → Leads (rooms_of B.memory B.answers B.wrote (B.adds task types)) (Put place (to_le_bytes w32 number) k) (B.state room.old beside.now) k (B.state room.new beside.now) }
+    ensures size { length (B.memory (B.state room.new beside.now)) ≡ length (B.memory (B.state room.old beside.now)) }
 {
-    put(room, place, &number.to_le_bytes());
+    put(room, beside, place, &number.to_le_bytes());
 }
 
 /// Puts a place and a number of bytes or elements at a place.
-pub(crate) fn put_pointed<R: Room>(room: &mut R, place: u64, to: u32, count: u32)
-    requires { HasBytes place 8 (length (R.memory room.old)) }
-    ensures leads { (k : Plan) → Leads (untabled R.memory R.answers R.wrote) (pointed place to count k) room.old k room.new }
-    ensures size { length (R.memory room.new) ≡ length (R.memory room.old) }
+pub(crate) fn put_pointed<R, B: Beside<R>>(
+    room: &mut R,
+    beside: &B,
+    place: u64,
+    to: u32,
+    count: u32,
+)
+    requires { HasBytes place 8 (length (B.memory (B.state room.old beside.now))) }
+    ensures leads { (task : ℕ) (types : List ValType) (k : Plan) → Leads (rooms_of B.memory B.answers B.wrote (B.adds task types)) (pointed place to count k) (B.state room.old beside.now) k (B.state room.new beside.now) }
+    ensures size { length (B.memory (B.state room.new beside.now)) ≡ length (B.memory (B.state room.old beside.now)) }
 {
-    put32(room, place, to);
-    put32(room, place + 4, count);
+    put32(room, beside, place, to);
+    put32(room, beside, place + 4, count);
 }
 
 /// Puts a value without parts at a place. Of any other value nothing is put.
-pub(crate) fn put_plain<R: Room>(room: &mut R, place: u64, value: &Value)
+pub(crate) fn put_plain<R, B: Beside<R>>(room: &mut R, beside: &B, place: u64, value: &Value)
     requires some { 1 ≤ length (plain_bytes (out-Value value.now)) }
-    requires bytes { HasBytes place (length (plain_bytes (out-Value value.now))) (length (R.memory room.old)) }
-    ensures leads { (k : Plan) → Leads (untabled R.memory R.answers R.wrote) (Put place (plain_bytes (out-Value value.now)) k) room.old k room.new }
-    ensures size { length (R.memory room.new) ≡ length (R.memory room.old) }
+    requires bytes { HasBytes place (length (plain_bytes (out-Value value.now))) (length (B.memory (B.state room.old beside.now))) }
+    ensures leads { (task : ℕ) (types : List ValType) (k : Plan) → Leads (rooms_of B.memory B.answers B.wrote (B.adds task types)) (Put place (plain_bytes (out-Value value.now)) k) (B.state room.old beside.now) k (B.state room.new beside.now) }
+    ensures size { length (B.memory (B.state room.new beside.now)) ≡ length (B.memory (B.state room.old beside.now)) }
 {
     match value {
-        Value::Bool(value) => put(room, place, &[u8::from(*value)]),
-        Value::S8(n) => put(room, place, &n.cast_unsigned().to_le_bytes()),
-        Value::U8(n) => put(room, place, &n.to_le_bytes()),
-        Value::S16(n) => put(room, place, &n.cast_unsigned().to_le_bytes()),
-        Value::U16(n) => put(room, place, &n.to_le_bytes()),
-        Value::S32(n) => put(room, place, &n.cast_unsigned().to_le_bytes()),
-        Value::U32(n) => put(room, place, &n.to_le_bytes()),
-        Value::S64(n) => put(room, place, &n.cast_unsigned().to_le_bytes()),
-        Value::U64(n) => put(room, place, &n.to_le_bytes()),
-        Value::Char(c) => put(room, place, &u32::from(*c).to_le_bytes()),
-        Value::Own(handle) => put(room, place, &handle.rep.to_le_bytes()),
-        Value::Borrow(handle) => put(room, place, &handle.rep.to_le_bytes()),
-        Value::Stream(number) => put(room, place, &number.to_le_bytes()),
-        Value::Future(number) => put(room, place, &number.to_le_bytes()),
+        Value::Bool(value) => put(room, beside, place, &[u8::from(*value)]),
+        Value::S8(n) => put(room, beside, place, &n.cast_unsigned().to_le_bytes()),
+        Value::U8(n) => put(room, beside, place, &n.to_le_bytes()),
+        Value::S16(n) => put(room, beside, place, &n.cast_unsigned().to_le_bytes()),
+        Value::U16(n) => put(room, beside, place, &n.to_le_bytes()),
+        Value::S32(n) => put(room, beside, place, &n.cast_unsigned().to_le_bytes()),
+        Value::U32(n) => put(room, beside, place, &n.to_le_bytes()),
+        Value::S64(n) => put(room, beside, place, &n.cast_unsigned().to_le_bytes()),
+        Value::U64(n) => put(room, beside, place, &n.to_le_bytes()),
+        Value::Char(c) => put(room, beside, place, &u32::from(*c).to_le_bytes()),
+        Value::Own(handle) => put(room, beside, place, &handle.rep.to_le_bytes()),
+        Value::Borrow(handle) => put(room, beside, place, &handle.rep.to_le_bytes()),
+        Value::Stream(number) => put(room, beside, place, &number.to_le_bytes()),
+        Value::Future(number) => put(room, beside, place, &number.to_le_bytes()),
         _ => {}
     }
 }

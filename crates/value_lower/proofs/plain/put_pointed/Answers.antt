@@ -5,4 +5,5 @@ use Rattle.value_lower.specs.Plan.{Put}
 use Rattle.value_lower.proofs.plain.put_pointed.Goals as goal
 
 pub returns-clause-leads : goal.returns-clause-leads
-returns-clause-leads g c = λ k came after f. c.put32.ensures.leads (Put (c.args.place + 4) (to_le_bytes w32 c.args.count) k) came after (c.put32-2.ensures.leads k came after f)
+returns-clause-leads g c = λ task types k came after f.
+    c.put32.ensures.leads task types (Put (c.args.place + 4) (to_le_bytes w32 c.args.count) k) came after (c.put32-2.ensures.leads task types k came after f)

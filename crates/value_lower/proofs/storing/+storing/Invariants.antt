@@ -1,10 +1,11 @@
--- What is left of the plan leads from the room now to what the whole plan leads to.
+-- What is left of the plan leads from the state now to what the whole plan leads to.
 use Rattle.std.proofs.Common.{◌*◌, ◌≤◌, length, map, drop}
 use Rattle.ca_types.specs.Layout.{laid}
 use Rattle.laid_types.specs.Parts.{parts_of}
 use Rattle.value_lower.specs.Plan.{Plan}
-use Rattle.value_lower.specs.Following.{untabled, Leads}
-use Rattle.value_lower.specs.Lowering.{lowered, elements_from, fields_from}
+use Rattle.value_lower.specs.Following.{rooms_of, Leads}
+use Rattle.value_lower.specs.Storing.{elements_from, fields_from}
+use Rattle.value_lower.specs.Entering.{lowered}
 use Rattle.value_lower.specs.Fitting.{HasBytes, end_behind}
 use Rattle.value_lower.proofs.storing.+storing.Given as goal
 
@@ -12,18 +13,20 @@ abbrev pub invariant-store_elements-loop-value : goal.invariant-store_elements-l
 invariant-store_elements-loop-value g l = record {
   leads :
       (k : Plan)
-      → Leads (untabled g.R.Room.memory g.R.Room.answers g.R.Room.wrote) (elements_from l.fn.element l.fn.place (map lowered l.fn.values) k) l.fn.room
-      (elements_from l.element l.at (map lowered (drop l.value-index l.values)) k) l.room;
-  bytes : HasBytes l.at (length (drop l.value-index l.values) * (laid l.element).size) (length (g.R.Room.memory l.room));
-  grows : length (g.R.Room.memory l.fn.room) ≤ length (g.R.Room.memory l.room);
+      → Leads (rooms_of g.B.Beside.memory g.B.Beside.answers g.B.Beside.wrote (g.B.Beside.adds l.home.task l.t.types))
+      (elements_from l.t.val_type l.fn.place (map (lowered (g.B.Beside.entering l.home.resources.now)) l.values) k) (g.B.Beside.state l.fn.room l.fn.beside)
+      (elements_from l.t.val_type l.at (map (lowered (g.B.Beside.entering l.home.resources.now)) (drop l.value-index l.values)) k) (g.B.Beside.state l.room l.beside);
+  bytes : HasBytes l.at (length (drop l.value-index l.values) * (laid l.t.val_type).size) (length (g.B.Beside.memory (g.B.Beside.state l.room l.beside)));
+  grows : length (g.B.Beside.memory (g.B.Beside.state l.fn.room l.fn.beside)) ≤ length (g.B.Beside.memory (g.B.Beside.state l.room l.beside));
 }
 
 abbrev pub invariant-store_fields-loop-index : goal.invariant-store_fields-loop-index
 invariant-store_fields-loop-index g l = record {
   leads :
       (k : Plan)
-      → Leads (untabled g.R.Room.memory g.R.Room.answers g.R.Room.wrote) (fields_from l.fn.place 0 (parts_of l.fn.t) (map lowered l.fn.values) k) l.fn.room
-      (fields_from l.place l.end (drop l.index (parts_of l.t)) (map lowered (drop l.index l.values)) k) l.room;
-  bytes : HasBytes l.place (end_behind l.end (drop l.index (parts_of l.t))) (length (g.R.Room.memory l.room));
-  grows : length (g.R.Room.memory l.fn.room) ≤ length (g.R.Room.memory l.room);
+      → Leads (rooms_of g.B.Beside.memory g.B.Beside.answers g.B.Beside.wrote (g.B.Beside.adds l.home.task l.t.types))
+      (fields_from l.place 0 (parts_of l.t.val_type) (map (lowered (g.B.Beside.entering l.home.resources.now)) l.values) k) (g.B.Beside.state l.fn.room l.fn.beside)
+      (fields_from l.place l.end (drop l.index (parts_of l.t.val_type)) (map (lowered (g.B.Beside.entering l.home.resources.now)) (drop l.index l.values)) k) (g.B.Beside.state l.room l.beside);
+  bytes : HasBytes l.place (end_behind l.end (drop l.index (parts_of l.t.val_type))) (length (g.B.Beside.memory (g.B.Beside.state l.room l.beside)));
+  grows : length (g.B.Beside.memory (g.B.Beside.state l.fn.room l.fn.beside)) ≤ length (g.B.Beside.memory (g.B.Beside.state l.room l.beside));
 }
