@@ -1,6 +1,6 @@
 -- Lifting over two ledgers, one beside the other. Where both count and use indices so that what they keep goes on to stand in a relation,
 -- both lift the same value, but for what its indices name, or both stop.
-use Rattle.std.proofs.Common.{◌≡◌, ◌∙◌, ◌+◌, ◌*◌, ℕ, zero, suc, Bool, true, false, if◌then◌else◌, ◌==◌, List, [], ◌∷◌, ◌++◌, map, length, Option, Some, None, Ok, Err, Result, refl, ap, sym, subst}
+use Rattle.std.proofs.Common.{◌≡◌, ◌∙◌, ◌+◌, ◌*◌, ℕ, zero, suc, if◌then◌else◌, ◌==◌, List, [], ◌∷◌, ◌++◌, map, length, Option, Some, None, Ok, Err, Result, refl, ap}
 use Rattle.std.specs.Prelude.{nat_lt}
 use Rattle.std.specs.List.{AllByRecursion}
 use Rattle.std.specs.Option.{option_map}
@@ -20,15 +20,14 @@ use Rattle.value_lift.specs.declared.named.Named.{Named}
 use Rattle.value_lift.specs.Bytes.{number, bytes_at, is_inside, is_aligned, width_of}
 use Rattle.value_lift.specs.Leaves.{trap, part_in, plain_of, text_of, flags_of}
 use Rattle.value_lift.specs.Named.{named_in, what_named, value_named}
-use Rattle.value_lift.specs.Ledger.{Ledger, Came, What, after, made, counting, uncounted, reached}
-use Rattle.value_lift.specs.Over.{Part, laid_of, behind_tag, low, fails, string_of, elements_from, elements_of, list_of, chosen, fields_from, payload_of, case_told, case_of, lift_case, word_fields_from, word_payload_of, word_case_of, lift_word_case, lift, lift_words, part, parts, layer_of, load_by, load_list_by, lift_flat_by}
+use Rattle.value_lift.specs.Ledger.{Ledger, Came, What, made, counting, uncounted, reached}
+use Rattle.value_lift.specs.Over.{Part, laid_of, behind_tag, low, fails, string_of, elements_from, elements_of, list_of, chosen, fields_from, payload_of, case_of, lift_case, word_fields_from, word_payload_of, word_case_of, lift_word_case, lift, lift_words, part, parts, layer_of, load_by, load_list_by}
 use Rattle.value_lift.specs.Settled.{carried}
 use Rattle.value_lift.proofs.Both.{stop_of, on_with, Both, Spent, after_on, made_on, counting_on, same_on, if_on, kept_on}
 use Rattle.value_lift.proofs.Carried.{carried_list, carried_record, carried_variant, carried_named, Keeps, text_keeps, plain_keeps, flags_keep}
 use Rattle.value_lift.proofs.Lists.{part_image_over}
 use Rattle.value_lift.proofs.OverForms.{IsRow, HasCases, IsPlain, row_lift_over, cases_lift_over, plain_lift_over, index_lift, row_words_over, cases_words_over, plain_words_over, index_words}
 use Rattle.value_lift.proofs.OverTypes.{parts_over, lift_is_over, lift_words_is_over}
-use Rattle.value_lift.proofs.Views.{out_string, out_list, out_flags}
 
 map_snoc : {A B : Type 0} (f : A → B) (xs : List A) (x : A) → map f (xs ++ x ∷ []) ≡ map f xs ++ f x ∷ []
 map_snoc f [] x = refl

@@ -1,22 +1,20 @@
 -- Over two ledgers that go beside each other the values of every type are lifted alike.
-use Rattle.std.proofs.Common.{◌≡◌, ◌∙◌, ℕ, zero, suc, List, [], ◌∷◌, map, Option, Some, None, Result, Ok, Err, refl, ap, sym, subst}
+use Rattle.std.proofs.Common.{◌≡◌, ◌∙◌, ℕ, zero, suc, List, [], ◌∷◌, map, Option, Some, None, Result, Ok, refl, ap, sym, subst}
 use Rattle.std.specs.List.{AllByRecursion}
 use Rattle.ca_types.specs.declared.types.ValType.{ValType, out-ValType, roll-ValType}
 use Rattle.ca_types.specs.declared.types.Case.{Case}
 use Rattle.ca_types.specs.declared.types.Field.{Field}
 use Rattle.ca_types.specs.declared.types.ValType.TheViews as types
 use Rattle.ca_types.specs.declared.types.ValType.TheViews.{roll-Case, roll-Field}
-use Rattle.ca_types.specs.declared.types.ValType.TheVariants as leaves
 use Rattle.ca_types.specs.declared.types.ValType.TheVariants.{rolls-Record, rolls-Variant, rolls-Tuple, rolls-Option, rolls-Result}
 use Rattle.ca_types.specs.declared.types.ValType.TheOpen as F
 use Rattle.ca_types.specs.declared.types.ValType.TheFolds.{ind-ValType, map-ValType, map-Case, map-Field}
-use Rattle.ca_types.specs.declared.value.Value.{Value}
-use Rattle.laid_types.specs.Parts.{parts_of, parts_case}
+use Rattle.laid_types.specs.Parts.{parts_case}
 use Rattle.value_lift.specs.declared.named.Named.{Named}
 use Rattle.value_lift.specs.declared.named.Named.TheVariants as named
 use Rattle.value_lift.specs.Leaves.{part_in}
 use Rattle.value_lift.specs.Named.{named_in}
-use Rattle.value_lift.specs.Ledger.{Ledger, Came, counting}
+use Rattle.value_lift.specs.Ledger.{Ledger}
 use Rattle.value_lift.specs.Over.{load_by, load_list_by, lift_flat_by}
 use Rattle.value_lift.proofs.Both.{Both}
 use Rattle.value_lift.proofs.Beside.{AreBeside, Alike, AlikeRest, Carries, AllCarry, alike_named, alike_plain, alike_string, alike_flags, alike_list, alike_row, alike_cases, load_on, load_list_on}

@@ -1,6 +1,6 @@
 -- Two liftings that go on, or stop, beside each other: what both lifted stands in some relation, and so does what both keep. The second
 -- may have stopped already, and then the first goes on alone.
-use Rattle.std.proofs.Common.{◌≡◌, ℕ, Bool, true, false, if◌then◌else◌, Ok, Err, Result, sym, subst}
+use Rattle.std.proofs.Common.{◌≡◌, Bool, true, false, if◌then◌else◌, Ok, Err, Result, sym, subst}
 use Rattle.value_lift.specs.declared.trap.LiftTrap.{LiftTrap}
 use Rattle.value_lift.specs.Ledger.{Ledger, Came, after, made, counting}
 

@@ -1,5 +1,5 @@
 -- What is lifted over the plain ledger, without how much may be counted still.
-use Rattle.std.proofs.Common.{◌≡◌, ◌∙◌, ℕ, List, [], ◌∷◌, Ok, Err, Result, refl, ap, sym, Bool, true, false, if◌then◌else◌}
+use Rattle.std.proofs.Common.{◌≡◌, ◌∙◌, ℕ, List, Ok, Err, Result, refl, ap, sym, Bool, true, false, if◌then◌else◌}
 use Rattle.ca_base.specs.declared.memory.MemoryOr.{MemoryOr}
 use Rattle.ca_base.specs.declared.memory.MemoryOr.TheVariants.{Memory, Fault}
 use Rattle.ca_base.specs.Faults.{MayMake}
@@ -12,8 +12,8 @@ use Rattle.value_lift.specs.declared.counting.LiftOf.{LiftOf}
 use Rattle.value_lift.specs.Bytes.{is_inside, is_aligned}
 use Rattle.value_lift.specs.Leaves.{trap}
 use Rattle.value_lift.specs.Answers.{Lifted, plainly}
-use Rattle.value_lift.specs.Ledger.{Came, MayTake, value_of}
-use Rattle.value_lift.specs.Over.{load_by, load_list_by, lift_flat_by, lift_words, lift}
+use Rattle.value_lift.specs.Ledger.{MayTake, value_of}
+use Rattle.value_lift.specs.Over.{load_by, load_list_by, lift_words, lift}
 use Rattle.value_lift.specs.Lifting.{load, load_list, lift_flat, most}
 
 bare : {A : Type 0} (came : Lifted A) (left : ℕ) (made : Result A LiftTrap) (r : Result A (MemoryOr LiftTrap)) → value_of came ≡ made → MayTake plainly came left r → MayMake (λ x. x) made r

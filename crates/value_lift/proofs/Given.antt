@@ -13,7 +13,7 @@ use Rattle.value_lift.specs.declared.trap.LiftTrap.{LiftTrap}
 use Rattle.value_lift.specs.declared.named.Named.{Named}
 use Rattle.value_lift.specs.declared.named.Named.TheVariants as named
 use Rattle.value_lift.specs.Named.{what_named}
-use Rattle.value_lift.specs.Ledger.{Came, MayTake, What, AnEnd, Use, counting, reached}
+use Rattle.value_lift.specs.Ledger.{Came, MayTake, What, AnEnd, counting, reached}
 use Rattle.value_lift.specs.Tables.{Kept, Stop, spent, taken_as, by_table, at_first, Moves, given, MayGive}
 
 -- one value less may be counted

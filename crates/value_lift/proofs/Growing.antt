@@ -1,6 +1,6 @@
 -- What uses make of a table, one after the other, up to the first that is refused: how often handles are lent, and what is added to a run
 -- of calls and to a history.
-use Rattle.std.proofs.Common.{◌≡◌, ◌∙◌, ◌+◌, ◌≤◌, ℕ, suc, List, [], ◌∷◌, ◌++◌, length, Option, Some, None, Result, Ok, Err, refl, ap, sym, subst, arith}
+use Rattle.std.proofs.Common.{◌≡◌, ◌∙◌, ◌+◌, ◌≤◌, ℕ, suc, List, [], ◌∷◌, ◌++◌, length, Option, Result, Ok, Err, refl, ap, sym, subst, arith}
 use Rattle.ca_types.specs.declared.types.ValType.{ValType}
 use Rattle.handle_table.specs.History.{Event}
 use Rattle.handle_table.specs.Slots.{Slots, StandsFor}
@@ -9,9 +9,9 @@ use Rattle.res_handles.specs.declared.entry.EntryView.{EntryView}
 use Rattle.res_handles.specs.declared.entry.EntryView.TheVariants as seen
 use Rattle.res_handles.specs.Calls.{lends_in, view_at, shown}
 use Rattle.res_handles.specs.Runs.{Call, ComesOf}
-use Rattle.value_lift.specs.Ledger.{Use, What}
+use Rattle.value_lift.specs.Ledger.{Use}
 use Rattle.value_lift.specs.Tables.{Kept, Stop, taken_as}
-use Rattle.value_lift.specs.Settled.{call_for, event_for, applied_by, added_by, slots_behind, applied, run_behind, history_behind, RunGrows, HistoryGrows, LendsRise}
+use Rattle.value_lift.specs.Settled.{call_for, event_for, applied_by, added_by, slots_behind, applied, run_behind, history_behind, RunGrows, HistoryGrows}
 use Rattle.value_lift.proofs.Both.{on_with}
 use Rattle.value_lift.proofs.Uses.{slots_of, RunTaken, HistoryTaken, use_rises, use_run, use_history}
 

@@ -1,18 +1,17 @@
 -- How often handles are lent, where one leaves the table or is lent once more; and ends that are told by the numbers of their types.
-use Rattle.std.proofs.Common.{◌≡◌, ◌≢◌, ◌∙◌, ◌+◌, ◌<◌, ◌≤◌, ◌^◌, ℕ, zero, suc, List, [], ◌∷◌, length, Bool, true, false, Option, Some, None, Result, Ok, Err, refl, ap, sym, subst, arith, ◌⊎◌, inl, inr}
-use Rattle.std.specs.Prelude.{nat_eq, IsTrue, ◌↔◌, option_map, option_and_then, MatchResult}
+use Rattle.std.proofs.Common.{◌≡◌, ◌∙◌, ◌+◌, ◌≤◌, ◌^◌, ℕ, zero, suc, List, length, true, Option, Some, None, refl, ap, sym, arith, ◌⊎◌, inl, inr}
+use Rattle.std.specs.Prelude.{nat_eq, option_map}
 use Rattle.std.specs.List.{slice_get}
 use Rattle.std.proofs.lemmas.Bool.{cases_eq, cases_lt, cases_Bool}
 use Rattle.std.proofs.lemmas.Bool.Decides.{Decides-eqb}
 use Rattle.ca_types.specs.declared.types.ValType.{ValType}
 use Rattle.laid_types.specs.SameTypes.{same_val, AreDistinct}
 use Rattle.laid_types.proofs.SameTypes.{val_told}
-use Rattle.handle_table.specs.Slots.{Slots, slot_at, with_slot, entry_at, removed, with_entry}
+use Rattle.handle_table.specs.Slots.{Slots, slot_at, with_slot, removed, with_entry}
 use Rattle.handle_table.proofs.Places.{other_slot, same_slot, slot_past, length_with}
 use Rattle.res_handles.specs.declared.handle.Handle.{Handle}
 use Rattle.res_handles.specs.declared.entry.EntryView.{EntryView}
 use Rattle.res_handles.specs.declared.entry.EntryView.TheVariants as seen
-use Rattle.res_handles.specs.declared.refusal.Refusal.{Refusal}
 use Rattle.res_handles.specs.Calls.{with_lends, lends_in, view_at, relent_by, lent}
 use Rattle.res_handles.specs.Ends.{is_of_by, TellsApart}
 use Rattle.value_lift.specs.Tables.{type_in, MostLends, FewLends}

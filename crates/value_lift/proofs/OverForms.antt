@@ -1,6 +1,6 @@
 -- What lifts a value that is counted already, by the kind of its type, over the parts of the type and over any ledger.
 use Rattle.std.proofs.Common.{◌≡◌, ◌∙◌, ◌+◌, ℕ, List, [], ◌∷◌, length, map, Option, Some, None, Ok, Err, Result, refl, ap, sym, subst, ◌⊎◌, inl, inr}
-use Rattle.std.specs.Int.{w8, w32, byte_len}
+use Rattle.std.specs.Int.{w8, w32}
 use Rattle.std.proofs.lemmas.List.{length-map}
 use Rattle.ca_types.specs.declared.core_type.CoreType.{CoreType}
 use Rattle.ca_types.specs.declared.core_type.CoreType.TheVariants.{I32}
@@ -21,7 +21,7 @@ use Rattle.value_lift.specs.declared.named.Named.TheVariants as named
 use Rattle.value_lift.specs.Bytes.{number}
 use Rattle.value_lift.specs.Leaves.{plain_of}
 use Rattle.value_lift.specs.Named.{named_in, what_named, value_named}
-use Rattle.value_lift.specs.Ledger.{Ledger, Came, Use, What, AnEnd, made, counting, uncounted, reached}
+use Rattle.value_lift.specs.Ledger.{Ledger, Came, made, counting, uncounted, reached}
 use Rattle.value_lift.specs.Over.{Part, part, parts, payload_part, field_part, layer_of, lift, lift_words, lift_case, lift_word_case, string_of, fields_from, case_of, low, word_fields_from, word_case_of}
 use Rattle.value_lift.proofs.OverTypes.{parts_over, lift_is_over, lift_words_is_over, layouts_in, laid_is, flats_in, flat_is}
 use Rattle.value_lift.proofs.Views.{out_record, out_tuple, out_variant, out_enum, out_option, out_result}

@@ -1,29 +1,26 @@
 -- Lifting over a table is what the table makes of the indices that are listed.
-use Rattle.std.proofs.Common.{◌≡◌, ◌∙◌, ◌+◌, ◌-◌, ◌≤◌, ℕ, suc, Bool, true, false, if◌then◌else◌, List, [], ◌∷◌, ◌++◌, map, length, Option, Some, None, Result, Ok, Err, refl, ap, sym, subst, arith, length-append}
+use Rattle.std.proofs.Common.{◌≡◌, ◌∙◌, ◌+◌, ◌-◌, ◌≤◌, ℕ, Bool, true, false, if◌then◌else◌, List, [], ◌∷◌, ◌++◌, length, Option, Some, None, Result, Ok, Err, refl, ap, sym, subst, arith, length-append}
 use Rattle.std.specs.Prelude.{nat_le}
 use Rattle.std.proofs.lemmas.Bool.{leb-true}
-use Rattle.ca_base.specs.declared.memory.MemoryOr.{MemoryOr}
-use Rattle.ca_base.specs.declared.memory.MemoryOr.TheVariants.{Memory, Fault}
 use Rattle.ca_types.specs.declared.types.ValType.{ValType}
 use Rattle.ca_types.specs.declared.value.Value.{Value}
-use Rattle.handle_table.specs.Slots.{Slots, removed}
+use Rattle.handle_table.specs.Slots.{Slots}
 use Rattle.res_handles.specs.declared.handle.Handle.{Handle}
 use Rattle.res_handles.specs.declared.entry.EntryView.{EntryView}
 use Rattle.res_handles.specs.declared.entry.EntryView.TheVariants as seen
 use Rattle.res_handles.specs.declared.refusal.Refusal.{Refusal}
 use Rattle.res_handles.specs.Refusals.{handle_in, own_in}
-use Rattle.res_handles.specs.Calls.{view_at, lent}
+use Rattle.res_handles.specs.Calls.{view_at}
 use Rattle.res_handles.specs.Ends.{end_in}
-use Rattle.value_lift.specs.declared.moved.Moved.{Moved}
 use Rattle.value_lift.specs.declared.trap.LiftTrap.{LiftTrap}
 use Rattle.value_lift.specs.declared.trap.LiftWhy.TheVariants.{TooLarge}
 use Rattle.value_lift.specs.Leaves.{trap}
 use Rattle.value_lift.specs.Ledger.{Came, Use, What, AnOwn, ABorrow, AnEnd, counting, reached}
 use Rattle.value_lift.specs.Over.{load_by, load_list_by, lift_flat_by}
-use Rattle.value_lift.specs.Tables.{Kept, Stop, stopped, spent, taken_own, taken_borrow, taken_end, taken_as, is_end_at, by_table, at_first, MayGive}
-use Rattle.value_lift.specs.Settled.{Listed, listed_spent, listing, none_listed, uses_in, name_of, names_in, carried, all_carried, applied_by, slots_behind, applied, settled, LoadsAreSettled, ListsAreSettled, WordsAreSettled, UnlessMemory}
+use Rattle.value_lift.specs.Tables.{Kept, Stop, stopped, spent, taken_own, taken_borrow, taken_end, taken_as, is_end_at, by_table}
+use Rattle.value_lift.specs.Settled.{Listed, listed_spent, listing, none_listed, uses_in, name_of, names_in, carried, all_carried, slots_behind, applied, settled}
 use Rattle.value_lift.proofs.Both.{stop_of, on_with, Both, Spent}
-use Rattle.value_lift.proofs.Beside.{AreBeside, Names, Carries, AllCarry}
+use Rattle.value_lift.proofs.Beside.{AreBeside, Carries, AllCarry}
 use Rattle.value_lift.proofs.BesideTypes.{loads_alike, lists_alike, words_alike}
 use Rattle.value_lift.proofs.Growing.{applied_one, applied_stopped}
 use Rattle.value_lift.proofs.Uses.{NamedAs, EndFound, own_found, handle_found, end_found, removed_named, lent_named}

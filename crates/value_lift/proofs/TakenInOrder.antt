@@ -1,8 +1,7 @@
 -- Over a table the first use that is refused is the fault, and else it is what lifting comes to without a table.
-use Rattle.std.proofs.Common.{◌≡◌, ◌∙◌, ◌<◌, ◌↔◌, ℕ, List, [], ◌∷◌, ◌++◌, Option, Result, Ok, Err, refl, ap, sym, subst, ◌⊎◌, inl, inr}
+use Rattle.std.proofs.Common.{◌≡◌, ◌∙◌, ℕ, List, [], ◌∷◌, Option, Result, Ok, Err, refl, ap, sym, subst, inl, inr}
 use Rattle.ca_types.specs.declared.types.ValType.{ValType}
 use Rattle.ca_types.specs.declared.value.Value.{Value}
-use Rattle.handle_table.specs.Slots.{Slots}
 use Rattle.res_handles.specs.declared.handle.Handle.{Handle}
 use Rattle.res_handles.specs.declared.entry.EntryView.{EntryView}
 use Rattle.res_handles.specs.declared.entry.EntryView.TheVariants as seen
@@ -10,8 +9,6 @@ use Rattle.res_handles.specs.declared.refusal.Refusal.{Refusal}
 use Rattle.res_handles.specs.Refusals.{handle_in, own_in}
 use Rattle.res_handles.specs.Calls.{view_at}
 use Rattle.res_handles.specs.Ends.{end_in}
-use Rattle.value_lift.specs.declared.counting.LiftOf.{LiftOf}
-use Rattle.value_lift.specs.declared.moved.Moved.{Moved}
 use Rattle.value_lift.specs.declared.trap.LiftTrap.{LiftTrap}
 use Rattle.value_lift.specs.declared.trap.LiftWhy.{LiftWhy}
 use Rattle.value_lift.specs.declared.trap.LiftWhy.TheVariants.{Refused}
@@ -22,9 +19,9 @@ use Rattle.value_lift.specs.Lifting.{load, load_list, lift_flat, most}
 use Rattle.value_lift.specs.Failing.{LoadFails, LoadListFails}
 use Rattle.value_lift.specs.WordFailing.{LiftFlatFails}
 use Rattle.value_lift.specs.Laws.{IsLoaded, AreLoaded, IsLifted}
-use Rattle.value_lift.specs.Tables.{Kept, Stop, stopped, taken_own, taken_borrow, taken_end, taken_as, is_end_at, by_table, at_first}
+use Rattle.value_lift.specs.Tables.{Kept, Stop, stopped, taken_own, taken_borrow, taken_end, taken_as, is_end_at, at_first}
 use Rattle.value_lift.specs.Settled.{Listed, listing, none_listed, uses_in, unlisted, names_in, carried, all_carried, applied_by, applied, settled}
-use Rattle.value_lift.specs.Taken.{FirstRefused, FaultBehind, ValueBehind, ComesTo, LoadsComeTo, ListsComeTo, WordsComeTo}
+use Rattle.value_lift.specs.Taken.{FirstRefused, ComesTo, LoadsComeTo, ListsComeTo, WordsComeTo}
 use Rattle.value_lift.proofs.Faults.{failing_loads_stop, failing_lists_stop, failing_words_stop}
 use Rattle.value_lift.proofs.Loaded.{loaded_values_stand, loaded_lists_stand, lifted_words_stand}
 use Rattle.value_lift.proofs.Settling.{load_settled, list_settled, words_settled}

@@ -1,5 +1,5 @@
 -- What is lifted stands there, for every type.
-use Rattle.std.proofs.Common.{◌≡◌, ◌<◌, ◌+◌, ℕ, zero, suc, List, [], ◌∷◌, map, length, Option, Some, None, Ok, Err, Result, refl, sym, subst, arith, rules}
+use Rattle.std.proofs.Common.{◌≡◌, ◌<◌, ◌+◌, ℕ, zero, suc, List, [], ◌∷◌, map, length, Option, Some, None, refl, sym, subst, arith, rules}
 use Rattle.std.specs.List.{slice_get, AllByRecursion}
 use Rattle.std.specs.Int.{w8, w16, w32, w64, cast_signed}
 use Rattle.ca_types.specs.declared.types.ValType.{ValType, out-ValType, roll-ValType}

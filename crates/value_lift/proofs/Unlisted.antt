@@ -1,10 +1,8 @@
 -- Lifting that lists the indices which are used is plain lifting, but for the list.
-use Rattle.std.proofs.Common.{◌≡◌, ◌∙◌, ◌-◌, ◌==◌, ℕ, Bool, true, false, if◌then◌else◌, List, [], ◌∷◌, ◌++◌, map, Ok, Err, Result, refl, ap, sym, subst}
+use Rattle.std.proofs.Common.{◌≡◌, ◌∙◌, ◌-◌, ◌==◌, ℕ, Bool, true, false, if◌then◌else◌, List, [], Ok, Err, Result, refl, ap, sym, subst}
 use Rattle.std.specs.Prelude.{nat_le}
-use Rattle.ca_types.specs.declared.types.ValType.{ValType}
 use Rattle.ca_types.specs.declared.value.Value.{Value}
 use Rattle.ca_types.specs.Layout.{laid}
-use Rattle.value_lift.specs.declared.counting.LiftOf.{LiftOf}
 use Rattle.value_lift.specs.declared.trap.LiftTrap.{LiftTrap}
 use Rattle.value_lift.specs.declared.trap.LiftWhy.TheVariants.{TooLarge, Misaligned, Bounds}
 use Rattle.value_lift.specs.Bytes.{is_inside, is_aligned}
@@ -12,10 +10,10 @@ use Rattle.value_lift.specs.Leaves.{trap}
 use Rattle.value_lift.specs.Answers.{plainly, counted}
 use Rattle.value_lift.specs.Ledger.{Came, Use, What, counting, value_of, reached}
 use Rattle.value_lift.specs.Over.{load_by, load_list_by, lift_flat_by, lift, elements_of, part}
-use Rattle.value_lift.specs.Lifting.{load, load_list, lift_flat, most}
+use Rattle.value_lift.specs.Lifting.{most}
 use Rattle.value_lift.specs.Settled.{Listed, listed_spent, listing, none_listed, unlisted, ListedLoadsArePlain, ListedListsArePlain, ListedWordsArePlain}
 use Rattle.value_lift.proofs.Both.{stop_of, Both, Spent, on_with}
-use Rattle.value_lift.proofs.Beside.{AreBeside, Names, Carries, AllCarry}
+use Rattle.value_lift.proofs.Beside.{AreBeside, Carries, AllCarry}
 use Rattle.value_lift.proofs.BesideTypes.{loads_alike, lists_alike, words_alike}
 use Rattle.value_lift.proofs.Carried.{carried_same, all_carried_same}
 

@@ -1,10 +1,10 @@
 -- What one use of an index makes of a table, by its kind: how often handles are lent, what indices name, and what it adds to a run of
 -- calls and to a history.
-use Rattle.std.proofs.Common.{◌≡◌, ◌∙◌, ◌+◌, ◌≤◌, ℕ, List, [], ◌∷◌, ◌++◌, Bool, true, false, if◌then◌else◌, Option, Some, None, Result, Ok, Err, refl, ap, sym, subst, arith, inl, inr}
-use Rattle.std.specs.Prelude.{nat_eq, option_map, IsSome, IsOk}
+use Rattle.std.proofs.Common.{◌≡◌, ◌∙◌, ◌+◌, ◌≤◌, ℕ, List, ◌∷◌, Bool, true, false, if◌then◌else◌, Option, Some, None, Result, Ok, Err, refl, ap, sym, subst, arith, inl, inr}
+use Rattle.std.specs.Prelude.{nat_eq, option_map}
 use Rattle.ca_types.specs.declared.types.ValType.{ValType}
 use Rattle.handle_table.specs.History.{Event, Remove}
-use Rattle.handle_table.specs.Slots.{Slots, entry_at, removed, with_entry, StandsFor}
+use Rattle.handle_table.specs.Slots.{Slots, entry_at, removed, StandsFor}
 use Rattle.handle_table.proofs.Histories.{remove_stands}
 use Rattle.res_handles.specs.declared.handle.Handle.{Handle}
 use Rattle.res_handles.specs.declared.handle.Ownership.{Ownership}
@@ -14,13 +14,12 @@ use Rattle.res_handles.specs.declared.entry.EntryView.{EntryView}
 use Rattle.res_handles.specs.declared.entry.EntryView.TheVariants as seen
 use Rattle.res_handles.specs.declared.refusal.Refusal.{Refusal}
 use Rattle.res_handles.specs.declared.refusal.Refusal.TheVariants.{OtherType, Lent, NotIdle}
-use Rattle.res_handles.specs.Refusals.{of_resource, owned, owned_by, that_is, handle_in, own_in}
+use Rattle.res_handles.specs.Refusals.{owned, owned_by, that_is, handle_in, own_in}
 use Rattle.res_handles.specs.Calls.{with_lends, lends_in, view_at, shown, relent_by, lent}
-use Rattle.res_handles.specs.Ends.{end_in, idle_number}
+use Rattle.res_handles.specs.Ends.{end_in}
 use Rattle.res_handles.specs.Laws.{OthersComeAndGo}
 use Rattle.res_handles.specs.Runs.{Call, LiftsOwn, LiftsBorrow, RemovesOther, IsOther, ComesOf}
 use Rattle.res_handles.proofs.Standing.{lifts_own_run, lifts_borrow_run, relent_stands, others}
-use Rattle.value_lift.specs.declared.moved.Moved.{Moved}
 use Rattle.value_lift.specs.Ledger.{Use, What, AnOwn, ABorrow, AnEnd}
 use Rattle.value_lift.specs.Tables.{Kept, Stop, taken_own, taken_borrow, taken_end, taken_as, is_end_at}
 use Rattle.value_lift.specs.Settled.{name_of, lent_in, call_for, event_for}

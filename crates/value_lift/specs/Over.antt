@@ -1,7 +1,7 @@
 -- Lifting over any ledger (Component Model, CanonicalABI.md, "Loading", "Flat Lifting"): what it answers of bytes and of core values, from
 -- left to right. A value is counted when it is reached; an index is used where it stands. A fault stands at the first byte of the part
 -- that stands for nothing, or, where the part stands in core values, at the number of its first one.
-use Rattle.std.specs.Prelude.{ℕ, zero, suc, ◌+◌, ◌*◌, ◌^◌, ◌%◌, ◌==◌, nat_lt, slice_index, if◌then◌else◌, List, [], ◌∷◌, ◌++◌, map, length, Option, Some, None, Result, Ok, Err}
+use Rattle.std.specs.Prelude.{ℕ, zero, suc, ◌+◌, ◌*◌, ◌^◌, ◌%◌, ◌==◌, nat_lt, slice_index, if◌then◌else◌, List, [], ◌∷◌, ◌++◌, map, length, Option, Some, None, Ok, Err}
 use Rattle.std.specs.Option.{option_map}
 use Rattle.std.specs.Int.{Width, w8, w32}
 use mir.Val.{bits}
@@ -22,7 +22,7 @@ use Rattle.value_lift.specs.declared.trap.LiftTrap.{LiftTrap}
 use Rattle.value_lift.specs.declared.trap.LiftWhy.TheVariants.{Misaligned, Bounds, BadCase}
 use Rattle.value_lift.specs.Bytes.{number, bytes_at, is_inside, is_aligned, width_of}
 use Rattle.value_lift.specs.Leaves.{trap, part_in, plain_of, text_of, flags_of}
-use Rattle.value_lift.specs.Ledger.{Ledger, Use, What, AnOwn, ABorrow, AnEnd, Came, after, made, counting, uncounted}
+use Rattle.value_lift.specs.Ledger.{Ledger, What, AnOwn, ABorrow, AnEnd, Came, after, made, counting, uncounted}
 
 -- what lifts the value at a place of a memory, with what is kept
 abbrev pub Lift : Type 0 → Type 0 → Type 0

@@ -1,5 +1,5 @@
 -- The pieces of lifting over the plain ledger (Component Model, CanonicalABI.md, "Loading", "Flat Lifting").
-use Rattle.std.specs.Prelude.{ℕ, nat_lt, if◌then◌else◌, List, Option, Result, Ok, Err}
+use Rattle.std.specs.Prelude.{ℕ, nat_lt, if◌then◌else◌, List, Option, Err}
 use Rattle.ca_types.specs.declared.value.Value.{Value}
 use Rattle.ca_types.specs.declared.value.Value.TheViews as values
 use Rattle.value_lift.specs.declared.trap.LiftTrap.{LiftTrap}

@@ -21,7 +21,7 @@ use Rattle.value_lift.specs.declared.counting.LiftOf.{LiftOf}
 use Rattle.value_lift.specs.declared.trap.LiftTrap.{LiftTrap}
 use Rattle.value_lift.specs.declared.trap.LiftWhy.TheVariants.{TooLarge}
 use Rattle.value_lift.specs.Leaves.{trap}
-use Rattle.value_lift.specs.Ledger.{Ledger, Came, Use, What, AnOwn, ABorrow, AnEnd, counting, value_of}
+use Rattle.value_lift.specs.Ledger.{Ledger, Came, Use, What, AnOwn, ABorrow, AnEnd, counting}
 use Rattle.value_lift.specs.Over.{load_by, load_list_by, lift_flat_by}
 use Rattle.value_lift.specs.Lifting.{load, load_list, lift_flat, most}
 use Rattle.value_lift.specs.Tables.{Kept, Stop, stopped, taken_as, by_table}

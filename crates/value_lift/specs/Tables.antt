@@ -1,7 +1,7 @@
 -- Lifting over the table of handles of a component instance (Component Model, CanonicalABI.md, `lift_own`, `lift_borrow`, `lift_stream`
 -- and `lift_future`). An own handle and an end leave the table, and a borrow is lent. What was lent or has left stays so where lifting
 -- stops.
-use Rattle.std.specs.Prelude.{◌≡◌, ℕ, ◌+◌, ◌-◌, ◌≤◌, ◌^◌, nat_le, if◌then◌else◌, Bool, List, [], ◌∷◌, ◌++◌, Option, Some, None, Result, Ok, Err, option_and_then}
+use Rattle.std.specs.Prelude.{◌≡◌, ℕ, ◌+◌, ◌-◌, ◌≤◌, ◌^◌, nat_le, if◌then◌else◌, Bool, List, [], ◌∷◌, ◌++◌, Option, Result, Ok, Err, option_and_then}
 use Rattle.std.specs.List.{slice_get}
 use Rattle.ca_base.specs.declared.memory.MemoryOr.{MemoryOr}
 use Rattle.ca_base.specs.declared.memory.MemoryOr.TheVariants.{Memory, Fault}

@@ -4,7 +4,6 @@
 -- value that stands there with each index replaced by what it names. What was lent or has left the table before stays so.
 use Rattle.std.specs.Prelude.{◌≡◌, ◌<◌, ◌⊎◌, ℕ, List, ◌∷◌, ◌++◌, Option, Ok, Err}
 use Rattle.ca_types.specs.declared.types.ValType.{ValType}
-use Rattle.ca_types.specs.declared.value.Value.{Value}
 use Rattle.ca_types.specs.Flat.{flat}
 use Rattle.handle_table.specs.Slots.{Slots}
 use Rattle.res_handles.specs.declared.handle.Handle.{Handle}

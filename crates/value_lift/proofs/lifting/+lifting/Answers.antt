@@ -1,5 +1,5 @@
 -- One step of each loop, and values by the forms of their types.
-use Rattle.std.proofs.Common.{rules, min, ◌^◌, ◌-◌, ◌≡◌, ◌∙◌, ◌≤◌, [], length, ℕ, ◌<◌, List, ◌+◌, Option, Some, None, ap, sym, subst, arith, Result, Ok, Err}
+use Rattle.std.proofs.Common.{rules, min, ◌^◌, ◌-◌, ◌≡◌, ◌∙◌, [], length, ℕ, ◌<◌, List, ◌+◌, Some, ap, sym, subst, arith, Ok, Err}
 use Rattle.std.proofs.lemmas.Result.{err_from_is_err_and}
 use Rattle.ca_base.specs.declared.memory.MemoryOr.{MemoryOr}
 use Rattle.ca_types.specs.declared.types.ValType.{ValType, out-ValType}
@@ -10,7 +10,7 @@ use Rattle.ca_types.specs.Layout.{laid, tag_size}
 use Rattle.laid_types.specs.Parts.{parts_of, part_at, case_count, payload_place}
 use Rattle.value_lift.specs.declared.trap.LiftTrap.{LiftTrap}
 use Rattle.value_lift.specs.Bytes.{number, width_of}
-use Rattle.value_lift.specs.Ledger.{Ledger, Came, MayTake, made, reached}
+use Rattle.value_lift.specs.Ledger.{Came, MayTake, made, reached}
 use Rattle.value_lift.specs.Named.{named_in, what_named, value_named}
 use Rattle.value_lift.specs.Over.{part, parts, lift, lift_case, layer_of, string_of, list_of, elements_of, elements_from, fields_from, case_of}
 use Rattle.value_lift.proofs.Depth.{deeper}
