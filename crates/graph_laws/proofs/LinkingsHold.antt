@@ -1,6 +1,6 @@
 -- What is known of each function, type, component and core function that items make is known of all that a component is linked to, where
 -- it is known of what types, lifts, lowers and built-ins make.
-use Rattle.std.proofs.Common.{◌≡◌, ℕ, List, [], ◌∷◌, ◌++◌, length, map, refl, sym, subst, Option, Some, None}
+use Rattle.std.proofs.Common.{◌≡◌, ℕ, List, [], ◌∷◌, ◌++◌, length, refl, sym, subst, Option, Some, None}
 use Rattle.std.specs.List.{slice_get, AllByRecursion}
 use Rattle.std.specs.Option.{option_and_then, IfSome}
 use Rattle.ca_base.specs.declared.placed.Placed.{Placed}

@@ -1,18 +1,15 @@
 -- A component whose items are all of functions without `async`, those of components that stand in it among them, is linked to a graph of
 -- synchronous functions alone.
-use Rattle.std.proofs.Common.{◌≡◌, ℕ, zero, suc, Bool, true, false, List, [], ◌∷◌, length, map, refl, sym, ◌∙◌, ap, subst, Option, Some, None}
+use Rattle.std.proofs.Common.{◌≡◌, ℕ, zero, suc, Bool, true, false, List, [], ◌∷◌, refl, sym, ◌∙◌, ap, subst, Option, Some, None}
 use Rattle.std.specs.Prelude.{cond, nat_lt}
-use Rattle.std.specs.List.{AllByRecursion, list_all}
+use Rattle.std.specs.List.{list_all}
 use Rattle.std.specs.Option.{option_or, IsSome}
 use Rattle.ca_base.specs.declared.placed.Placed.{Placed}
 use Rattle.comp_tree.specs.declared.items.CanonOption.{CanonOption}
 use Rattle.comp_tree.specs.declared.items.CanonOption.TheVariants as option
-use Rattle.comp_tree.specs.declared.items.Canon.{Canon}
 use Rattle.comp_tree.specs.declared.items.Item.{Item, out-Item}
 use Rattle.comp_tree.specs.declared.items.Item.TheOpen.{Item-F}
 use Rattle.comp_tree.specs.declared.items.Component.{Component}
-use Rattle.comp_graph.specs.declared.graph.CanonFunc.{CanonFunc}
-use Rattle.comp_graph.specs.declared.graph.CanonFunc.TheVariants as canon_func
 use Rattle.comp_graph.specs.Closed.{Closed, OfFunc, OfType, OfInstance, Externs, EmptyType, WithExtern}
 use Rattle.comp_graph.specs.Graph.{Graph}
 use Rattle.comp_graph.specs.Running.{IsSyncLift, IsSyncCanon, IsSync, runs_now}
@@ -22,9 +19,9 @@ use Rattle.link_spec.specs.Definitions.{Lifted, types_of}
 use Rattle.link_spec.specs.Spaces.{Linking}
 use Rattle.link_spec.specs.Linked.{exports_at, Links, root_begun, callables, lift_of, graph_of}
 use Rattle.link_spec.proofs.Holding.{all_mapped}
-use Rattle.sync_items.specs.Items.{is_sync_option, is_sync, place_of, first_at, first_among, first_inside, nesting_limit, first_not_sync}
+use Rattle.sync_items.specs.Items.{is_sync_option, is_sync, first_at, first_among, first_inside, nesting_limit, first_not_sync}
 use Rattle.graph_laws.specs.Laws.{OtherItemsAreFound}
-use Rattle.graph_laws.proofs.SpacesHold.{Known, AreDefined, IsLinking}
+use Rattle.graph_laws.proofs.SpacesHold.{Known, AreDefined}
 use Rattle.graph_laws.proofs.LinkingsHold.{AreSteps, called_held, linked_held}
 
 -- items among which no other is found, where so many components may stand in one another
