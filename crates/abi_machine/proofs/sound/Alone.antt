@@ -1,17 +1,17 @@
 -- Task 0 runs alone until it has exited, and never again.
-use Rattle.std.proofs.Common.{◌≡◌, ◌<◌, ◌≤◌, ◌⊎◌, inl, inr, ℕ, zero, suc, ◌+◌, Bool, true, false, List, [], ◌∷◌, ◌++◌, length, drop, refl, sym, ap, ◌∙◌, subst, arith, Option, Some, None}
+use Rattle.std.proofs.Common.{◌≡◌, ◌<◌, ◌≤◌, ◌⊎◌, inl, inr, ℕ, zero, suc, true, List, [], ◌∷◌, ◌++◌, length, drop, refl, sym, ap, ◌∙◌, subst, arith, Option, Some}
 use Rattle.std.specs.Prelude.{IsSome}
 use Rattle.std.specs.List.{slice_get, AllByRecursion}
 use Rattle.wasm_store.proofs.Lists.{all_at}
 use Rattle.tasks.specs.declared.phase.Resolution.TheVariants.{Cancelled}
-use Rattle.comp_graph.specs.Graph.{Graph, Lifted}
+use Rattle.comp_graph.specs.Graph.{Graph}
 use Rattle.script_reader.specs.Script.{Script}
 use Rattle.abi_machine.specs.Control.{Control, Free, Chosen, Instantiates, Runs, Arrives, Lowers, Quiet, Back, Goes, Resumes, Delivers, Leaves, Doomed}
 use Rattle.abi_machine.specs.Control as control
 use Rattle.abi_machine.specs.World.{Callee, Init, Subtask, Host, Guest, TaskState, New, Acting, AfterCall, AfterCancel, WaitsToEnter, InLoop, InBuiltin, Exited, Task, World, new_task}
 use Rattle.abi_machine.specs.World as world
 use Rattle.abi_machine.specs.Edits.{changed_at}
-use Rattle.abi_machine.specs.Reading.{func_of, has_exited, is_instantiated, may_leave}
+use Rattle.abi_machine.specs.Reading.{func_of, has_exited, is_instantiated}
 use Rattle.abi_machine.specs.sound.Changes.{Change, GoesTo, HasStore, SpendsUnit, UsesPicks, TakesItem, BeginsInstance, AddsEntry, MakesSet, RemovesEntry, RemovesWaitable, LeavesSet, JoinsSet, HasBackpressure, IsCalled, Calls, ComesBack, Acts, Begins, Cancels, Blocks, Exits, IsRemoved, Resolves, IsCancelled, HasWord, HasNewStack, HasStack, LosesStack, IsAnswered, IsTold, IsLent, HasResult, MakesChannel, Offers, Transfers, Concludes, DropsEnd, after, IsFirst, HasFunc, IsCancelling, FirstCancels, IsBlocked, MayCome}
 use Rattle.abi_machine.specs.sound.Premises.{Comes}
 use Rattle.abi_machine.specs.sound.Firsts.{TaskIs}

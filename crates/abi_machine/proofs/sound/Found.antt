@@ -1,41 +1,37 @@
 -- What is known of what a step has looked up.
-use Rattle.std.proofs.Common.{◌≡◌, ◌<◌, ◌≤◌, ◌⊎◌, inl, inr, ℕ, zero, suc, ◌+◌, ◌-◌, Bool, true, false, nat_eq, nat_lt, nat_le, List, [], ◌∷◌, length, map, refl, sym, ap, ◌∙◌, subst, arith, Option, Some, None, Result, Ok, Err, if◌then◌else◌}
+use Rattle.std.proofs.Common.{◌≡◌, ◌≤◌, ◌⊎◌, inl, inr, ℕ, zero, suc, ◌+◌, ◌-◌, Bool, true, false, nat_eq, nat_le, List, [], ◌∷◌, refl, sym, ap, ◌∙◌, subst, arith, Option, Some, None, Result, Ok, Err, if◌then◌else◌}
 use Rattle.std.proofs.lemmas.Bool.Decides.{nat_tests}
 use Rattle.std.specs.Prelude.{IsSome}
 use Rattle.std.specs.Option.{option_map}
-use Rattle.std.specs.Prelude.{filter}
-use Rattle.std.specs.List.{slice_get, find, AllByRecursion}
+use Rattle.std.specs.List.{slice_get, find}
 use Rattle.wasm_store.proofs.Lists.{found_there}
 use Rattle.handle_table.specs.History.{Event}
 use Rattle.ca_types.specs.declared.types.ValType.{ValType}
 use Rattle.builtin_kinds.specs.declared.EndKind.{EndKind}
 use Rattle.builtin_kinds.specs.declared.EndKind.TheVariants.{Stream, Future}
 use Rattle.res_handles.specs.declared.handle.Handle.{Handle}
-use Rattle.res_handles.specs.declared.entry.EntryView.{EntryView}
 use Rattle.res_handles.specs.declared.handle.Ownership.{Ownership}
 use Rattle.res_handles.specs.declared.handle.Ownership.TheVariants.{Own, Borrow}
 use Rattle.res_handles.specs.declared.refusal.Refusal.{Refusal}
 use Rattle.res_handles.specs.declared.refusal.Refusal.TheVariants.{OtherType, Lent}
 use Rattle.res_handles.specs.Refusals.{of_resource, handle_in, own_in, dropped_in, that_is, owned, owned_by, unlent}
-use Rattle.waitables.specs.Sets.{SetView, drop_answer, is_none}
+use Rattle.waitables.specs.Sets.{SetView, drop_answer}
 use Rattle.stream_ends.specs.declared.side.Side.{Side}
 use Rattle.stream_ends.specs.declared.side.Side.TheVariants.{Reader, Writer}
-use Rattle.comp_graph.specs.Graph.{Graph, Lifted}
+use Rattle.comp_graph.specs.Graph.{Lifted}
 use Rattle.stream_ends.specs.declared.open_copy.OpenCopy.{OpenCopy}
-use Rattle.script_reader.specs.declared.script.Item.{Item}
-use Rattle.script_reader.specs.Script.{Script}
 use Rattle.trace_show.specs.declared.trap.TrapName.{TrapName}
 use Rattle.abi_machine.specs.Traps.{renamed}
 use Rattle.abi_machine.specs.LoweringOver.{New, NewOwn, NewBorrow, NewEnd}
 use Rattle.abi_machine.specs.Control.{EndRef}
-use Rattle.abi_machine.specs.World.{Entry, OwnHandle, BorrowHandle, OfSubtask, OfSet, OfEnd, Inst, Callee, Caller, AfterCancel, Channel, Task, World}
+use Rattle.abi_machine.specs.World.{Entry, OwnHandle, BorrowHandle, OfSubtask, OfSet, OfEnd, Inst, Callee, AfterCancel, Task, World}
 use Rattle.abi_machine.specs.Edits.{changed_at, with_table, added, entry_added, with_channel, offered_by, offered, control_behind}
-use Rattle.abi_machine.specs.Reading.{table_in, table_of, entry_at, acting, func_of, task_at, subtask_of, may_leave, with_numbers, numbers_of}
-use Rattle.abi_machine.specs.Counting.{passes, lends_of, entry_view, view_at, end_view}
+use Rattle.abi_machine.specs.Reading.{table_in, table_of, entry_at, acting, func_of, task_at, subtask_of, may_leave, with_numbers}
+use Rattle.abi_machine.specs.Counting.{lends_of, entry_view, view_at, end_view}
 use Rattle.abi_machine.specs.Finding.{subtask_in, subtask_at, set_in, set_at, waitable_in, waitable_at, end_in, end_at}
 use Rattle.abi_machine.specs.Lifting as lifting
 use Rattle.abi_machine.specs.Pausing.{entry_of}
-use Rattle.abi_machine.specs.Scheduling.{able, is_able_in, is_able, Alternative, Takes, GoesOn, item_first, alternatives, task_of_call, is_call_of}
+use Rattle.abi_machine.specs.Scheduling.{task_of_call, is_call_of}
 use Rattle.entry_gate.specs.Gates.{set_pressure}
 use Rattle.abi_machine.specs.replies.Pressure.{most_backpressure}
 use Rattle.abi_machine.specs.sound.Changes.{IsWaitable, Stands, IsLeft, IsGuest, IsAdded, IsFirst, HasFunc, IsCancelling, FirstCancels}

@@ -1,11 +1,10 @@
 -- What is lent for a call stands in the table of the instance that calls, and so it stays.
-use Rattle.std.proofs.Common.{◌≡◌, ◌≢◌, ◌⊎◌, inl, inr, ℕ, zero, suc, ◌+◌, Bool, true, false, cond, nat_eq, ◌&&◌, fold, sum_by, count_by, List, [], ◌∷◌, ◌++◌, length, refl, sym, ap, ◌∙◌, subst, arith, Option, Some, None, if◌then◌else◌}
+use Rattle.std.proofs.Common.{◌≡◌, ◌≢◌, inl, inr, ℕ, zero, suc, ◌+◌, Bool, true, false, cond, nat_eq, ◌&&◌, fold, count_by, List, [], ◌∷◌, ◌++◌, length, refl, sym, ap, ◌∙◌, subst, arith, Option, Some, None, if◌then◌else◌}
 use Rattle.std.proofs.lemmas.Bool.Decides.{nat_tests}
 use Rattle.std.specs.Prelude.{IsSome}
 use Rattle.std.specs.List.{slice_get, AllByRecursion}
 use Rattle.wasm_store.proofs.Lists.{all_at}
 use Rattle.ca_types.specs.declared.types.ValType.{ValType}
-use Rattle.laid_types.specs.Handles.{held_borrow}
 use Rattle.handle_table.specs.History.{Event, Remove, IsHistory, live}
 use Rattle.builtin_kinds.specs.declared.EndKind.{EndKind}
 use Rattle.builtin_kinds.specs.declared.EndKind.TheVariants.{Stream, Future}
@@ -15,21 +14,19 @@ use Rattle.tasks.specs.Subtasks.{is_over, delivered, with_lend}
 use Rattle.comp_graph.specs.declared.graph.CanonFunc.{CanonFunc}
 use Rattle.comp_graph.specs.Graph.{Graph}
 use Rattle.script_reader.specs.Script.{Script}
-use Rattle.abi_machine.specs.World.{Entry, OwnHandle, BorrowHandle, OfSubtask, OfSet, OfEnd, Inst, Callee, Init, Subtask, Caller, Nobody, Host, Guest, New, Acting, Exited, AfterCall, Task, Channel, World, first_world, new_inst, new_task, new_channel}
-use Rattle.abi_machine.specs.Edits.{changed_at, changed_number, with_channel, channel_made, caller_changed, by_view}
+use Rattle.abi_machine.specs.World.{Entry, OwnHandle, BorrowHandle, OfSubtask, OfSet, OfEnd, Inst, Callee, Subtask, Caller, Nobody, Host, Guest, New, Exited, AfterCall, Task, Channel, World, new_inst, new_task}
+use Rattle.abi_machine.specs.Edits.{changed_at, with_channel, channel_made, caller_changed, by_view}
 use Rattle.abi_machine.specs.Canons.{inst_of_canon, canon_at}
-use Rattle.abi_machine.specs.Reading.{table_in, numbered, task_at, func_of, is_in, runs_in, subtask_of}
+use Rattle.abi_machine.specs.Reading.{table_in, task_at, func_of, is_in, runs_in, subtask_of}
 use Rattle.abi_machine.specs.Counting.{passes, lends_for, lends_of}
 use Rattle.abi_machine.specs.sound.Changes.{Change, GoesTo, HasStore, SpendsUnit, UsesPicks, TakesItem, BeginsInstance, AddsEntry, MakesSet, RemovesEntry, RemovesWaitable, LeavesSet, JoinsSet, HasBackpressure, IsCalled, Calls, ComesBack, Acts, Begins, Cancels, Blocks, Exits, IsRemoved, Resolves, IsCancelled, HasWord, HasNewStack, HasStack, LosesStack, IsAnswered, IsTold, IsLent, HasResult, MakesChannel, Offers, Transfers, Concludes, DropsEnd, after, IsWaitable, Stands}
-use Rattle.abi_machine.specs.sound.Premises.{IsHandle, IsFree, IsOpenCall, IsOpenOf, GraphPassesBorrow, ReturnsBorrow, HasBorrowResult, HaveBorrowResult, HaveBorrowElement, PassBorrow, MayBeLent, Comes}
-use Rattle.abi_machine.specs.sound.Firsts.{TaskIs}
-use Rattle.abi_machine.specs.sound.Agreeing.{channel_in}
+use Rattle.abi_machine.specs.sound.Premises.{IsHandle, IsFree, IsOpenCall, IsOpenOf, PassBorrow, MayBeLent, Comes}
 use Rattle.abi_machine.specs.sound.Tables.{HaveHistories}
 use Rattle.abi_machine.specs.sound.Loans.{HoldsHandle, table_of_canon, AreLoans, LoansOf, HoldLoans, CallsByOwn, CallByOwn, FirstHoldsLoans, LoansStay}
 use Rattle.abi_machine.specs.sound.PassedTypes.{PassesNoBorrow, HoldsNoBorrow}
-use Rattle.abi_machine.proofs.sound.Lists.{all_changed, all_more, all_as, changed_either, more_either, get_front, there_front}
+use Rattle.abi_machine.proofs.sound.Lists.{all_changed, all_more, all_as, get_front, there_front}
 use Rattle.abi_machine.proofs.sound.Found.{some_same, some_there, there_changed, changed_kept}
-use Rattle.abi_machine.proofs.sound.Acted.{one_task, still_is}
+use Rattle.abi_machine.proofs.sound.Acted.{one_task}
 use Rattle.abi_machine.proofs.sound.Histories.{histories_kept}
 use Rattle.abi_machine.proofs.sound.Joined.{live_added, live_removed}
 use Rattle.abi_machine.proofs.sound.Holding.{live_changed}

@@ -2,7 +2,7 @@
 -- one.
 use Rattle.std.proofs.Common.{◌≡◌, ◌∙◌, ◌+◌, ◌*◌, ◌||◌, ℕ, zero, suc, Bool, true, false, if◌then◌else◌, List, [], ◌∷◌, ◌++◌, map, length, refl, sym, subst, Option, Some, None, Result, Ok, Err}
 use Rattle.std.specs.Prelude.{◌==◌}
-use Rattle.std.specs.List.{slice_get, AllByRecursion}
+use Rattle.std.specs.List.{AllByRecursion}
 use Rattle.std.specs.Int.{Width, w8, w32}
 use Rattle.ca_types.specs.declared.types.ValType.{ValType, roll-ValType}
 use Rattle.ca_types.specs.declared.types.Case.{Case}
@@ -18,7 +18,7 @@ use Rattle.value_lift.specs.declared.trap.LiftTrap.{LiftTrap}
 use Rattle.value_lift.specs.declared.trap.LiftWhy.TheVariants.{Bounds}
 use Rattle.value_lift.specs.Answers.{trap}
 use Rattle.value_lift.specs.Bytes.{number, is_inside, is_aligned, bytes_at, width_of}
-use Rattle.value_lift.specs.Pieces.{part_in, plain_of, text_of, flags_of}
+use Rattle.value_lift.specs.Pieces.{part_in, plain_of, text_of}
 use Rattle.value_lift.specs.Lifting.{low}
 use Rattle.std.specs.Prelude.{nat_lt}
 use Rattle.ca_types.specs.Layout.{tag_size, aligned}

@@ -6,7 +6,7 @@ use Rattle.laid_types.specs.Handles.{held_borrow}
 use Rattle.builtin_kinds.specs.declared.EndKind.{EndKind}
 use Rattle.builtin_kinds.specs.declared.EndKind.TheVariants.{Stream, Future}
 use Rattle.tasks.specs.declared.phase.Resolution.TheVariants.{Cancelled}
-use Rattle.comp_graph.specs.Graph.{Graph, Lifted}
+use Rattle.comp_graph.specs.Graph.{Graph}
 use Rattle.script_reader.specs.Script.{Script}
 use Rattle.abi_machine.specs.World.{Init, Nobody, Host, Guest, New, Acting, AfterCall, Task, Channel, World, first_world, new_task, new_channel}
 use Rattle.abi_machine.specs.Edits.{changed_at, changed_number, with_channel, channel_made}

@@ -1,6 +1,5 @@
 -- A task that has not entered has not resolved, and its caller was not told that it has; and so it stays.
-use Rattle.std.proofs.Common.{◌≡◌, ◌∙◌, ℕ, zero, suc, Bool, true, false, List, [], ◌∷◌, ◌++◌, length, refl, sym, ap, subst, Option, Some, None, if◌then◌else◌}
-use Rattle.std.specs.List.{slice_get, AllByRecursion}
+use Rattle.std.proofs.Common.{◌≡◌, ◌∙◌, ℕ, zero, suc, Bool, true, false, List, [], ◌∷◌, refl, sym, ap, subst, Option, Some, None, if◌then◌else◌}
 use Rattle.tasks.specs.declared.phase.Cancellation.{Cancellation}
 use Rattle.tasks.specs.declared.phase.Phase.{Phase}
 use Rattle.tasks.specs.declared.phase.Phase.TheVariants as phase
@@ -19,7 +18,7 @@ use Rattle.abi_machine.specs.Counting.{phase_of, subtask_state}
 use Rattle.abi_machine.specs.sound.Changes.{Change, GoesTo, HasStore, SpendsUnit, UsesPicks, TakesItem, BeginsInstance, AddsEntry, MakesSet, RemovesEntry, RemovesWaitable, LeavesSet, JoinsSet, HasBackpressure, IsCalled, Calls, ComesBack, Acts, Begins, Cancels, Blocks, Exits, IsRemoved, Resolves, IsCancelled, HasWord, HasNewStack, HasStack, LosesStack, IsAnswered, IsTold, IsLent, HasResult, MakesChannel, Offers, Transfers, Concludes, DropsEnd, after, IsBlocked}
 use Rattle.abi_machine.specs.sound.Premises.{BlocksFrom, MayResolve, Comes}
 use Rattle.abi_machine.specs.sound.Firsts.{IsActingState}
-use Rattle.abi_machine.specs.sound.Entering.{HasNotEntered, IsUntold, IsUnresolved, EntersUnresolved, EnterUnresolved}
+use Rattle.abi_machine.specs.sound.Entering.{HasNotEntered, IsUntold, EntersUnresolved, EnterUnresolved}
 use Rattle.abi_machine.proofs.sound.Lists.{all_changed, all_more}
 use Rattle.abi_machine.proofs.sound.Acted.{one_task}
 use Rattle.abi_machine.proofs.sound.Aside.{channel_kept, made_kept}

@@ -1,6 +1,6 @@
 -- Borrows (Component Model, CanonicalABI.md, "Task State": `Task.return_`, `Task.cancel`; `canon resource.drop`, `lift_own`): where a task resolves
 -- by itself no live borrow handle names it, and a handle leaves its table only where nothing is lent of it.
-use Rattle.std.specs.Prelude.{◌≡◌, ℕ, List, [], ◌∷◌}
+use Rattle.std.specs.Prelude.{◌≡◌, List, [], ◌∷◌}
 use Rattle.comp_graph.specs.Graph.{Graph}
 use Rattle.script_reader.specs.Script.{Script}
 use Rattle.trace_show.specs.declared.label.Label.{Label}

@@ -46,7 +46,7 @@ use Rattle.abi_machine.specs.Control.{EndRef, Replies, InWait, Back, Doomed}
 use Rattle.abi_machine.specs.World.{Entry, OwnHandle, OfSet, OfEnd, Func, Subtask, ForYield, ForSet, TaskState, New, Acting, AfterCall, AfterCancel, Begins, WaitsToEnter, InLoop, InBuiltin, Exited, Task, World}
 use Rattle.abi_machine.specs.Edits.{entry_added, entry_removed, left_set, in_state, resolved, joined, concluded, end_dropped, set_made, channel_made}
 use Rattle.abi_machine.specs.Canons.{func_address, memory_of, bytes_of, canon_at, options_at, builtin_of, lifted_of, resource_at}
-use Rattle.abi_machine.specs.Reading.{table_of, sets_in, backpressure_of, acting, func_of, task_at, is_reentrant, may_leave, channels}
+use Rattle.abi_machine.specs.Reading.{table_of, sets_in, backpressure_of, acting, func_of, is_reentrant, may_leave, channels}
 use Rattle.abi_machine.specs.Counting.{passes, view_at, task_view, has_resolved, end_of, payload_of, ready}
 use Rattle.abi_machine.specs.Finding.{subtask_at, set_at, waitable_at, end_at}
 use Rattle.abi_machine.specs.Turn.{Turn, silent, unless, replied, blocked, with_entry}
@@ -66,7 +66,7 @@ use Rattle.abi_machine.specs.replies.Pressure.{most_backpressure, pressure_inc_t
 use Rattle.abi_machine.specs.replies.Waiting.{set_new_turn, none_ready, by_ready, event_size, event_align, is_cancelled, event_turn, wait_turn, view_of_set, set_drop_turn, joins, join_turn}
 use Rattle.abi_machine.specs.replies.Streams.{end_ref, both_indices, ends_added, channel_new_turn, placed_well, max_length, copy_turn, is_async_copy, copy_cancel_turn, is_unwritten, end_drop_turn}
 use Rattle.abi_machine.specs.Reply.{resource_turn, plain_turn, side_of, copy_size, end_turn, builtin_turn, reply, exempt_turn, allowed, calling_turn}
-use Rattle.abi_machine.specs.sound.Changes.{AddsEntry, MakesSet, RemovesEntry, RemovesWaitable, LeavesSet, JoinsSet, HasBackpressure, Cancels, Resolves as IsResolved, HasWord, MakesChannel, Concludes, DropsEnd, after, IsWaitable, Stands, IsFirst}
+use Rattle.abi_machine.specs.sound.Changes.{AddsEntry, MakesSet, RemovesEntry, RemovesWaitable, LeavesSet, JoinsSet, HasBackpressure, Cancels, Resolves as IsResolved, HasWord, MakesChannel, Concludes, DropsEnd, after, IsWaitable, Stands}
 use Rattle.abi_machine.specs.sound.Initial.{StartsNothing}
 use Rattle.abi_machine.specs.sound.Acting.{Outline, outlines_of, HasStacks, WaitsWith, IsActing, RunsIn, IsRunning, IsCalling, OneActs}
 use Rattle.abi_machine.proofs.sound.Lifted.{result_keeps}

@@ -42,12 +42,12 @@ use Rattle.abi_machine.specs.Looping.{next_turn, looping_turn}
 use Rattle.abi_machine.specs.CoreSteps.{costs, func_ended, stack_ended, ended_over, moved, running_turn}
 use Rattle.abi_machine.specs.Instantiating.{started_up, made as core_made, action_turn, instantiating_turn}
 use Rattle.abi_machine.specs.sound.Changes.{HasStore, BeginsInstance, Acts, Begins as IsBegun, Exits, Resolves as IsResolved, HasStack, LosesStack, after, IsFirst, HasFunc}
-use Rattle.abi_machine.specs.sound.Acting.{Outline, outline_of, outlines_of, HasStacks, WaitsWith, StandsBy, IsStarting, IsActing, RunsIn, IsRunning, OneActs, stacked_after}
+use Rattle.abi_machine.specs.sound.Acting.{Outline, outline_of, outlines_of, HasStacks, WaitsWith, IsStarting, IsActing, RunsIn, IsRunning, OneActs, stacked_after}
 use Rattle.abi_machine.proofs.sound.Lifts.{Leaves as LeavesWith}
 use Rattle.abi_machine.proofs.sound.Lifted.{result_keeps}
 use Rattle.abi_machine.proofs.sound.Found.{some_same, func_changed, acting_first, acting_is}
-use Rattle.abi_machine.proofs.sound.Outlines.{outline_there, Is, as_is, is_there, state_first, stacks_first, MayHaveStacks, Runs as InTask, runs_may, acting_waits}
-use Rattle.abi_machine.proofs.sound.acts.Keeping.{IsIn, Order, is_first, acts_at, acts_by, left_acts, Keeps, Held, still, given_keeps, behind_keeps, goes, refused_keeps, unless_keeps, fault_keeps, charged_keeps, runs_keeps, on_keeps, blocked_keeps, new_stack_keeps, removes, waits, lends, KeptSo, StoppedSo, came_keeps}
+use Rattle.abi_machine.proofs.sound.Outlines.{outline_there, Is, as_is, state_first, stacks_first, MayHaveStacks, Runs as InTask, runs_may, acting_waits}
+use Rattle.abi_machine.proofs.sound.acts.Keeping.{Order, is_first, acts_at, acts_by, left_acts, Keeps, Held, still, given_keeps, behind_keeps, goes, refused_keeps, unless_keeps, fault_keeps, charged_keeps, runs_keeps, on_keeps, blocked_keeps, new_stack_keeps, removes, waits, lends, KeptSo, StoppedSo, came_keeps}
 
 -- the acting task does this, in this state and with these stacks
 abbrev pub IsLeftAs : Callee → TaskState → List Stack → Outline → Type 0

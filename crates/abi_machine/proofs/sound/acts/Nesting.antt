@@ -1,5 +1,5 @@
 -- Reads and writes, nested code and lowerings keep the order of tasks.
-use Rattle.std.proofs.Common.{◌≡◌, ◌<◌, inl, ℕ, Bool, true, false, not, nat_eq, nat_lt, List, [], ◌∷◌, length, refl, sym, ap, ◌∙◌, subst, Option, Some, None, Result, Ok, Err, if◌then◌else◌}
+use Rattle.std.proofs.Common.{◌≡◌, ◌<◌, inl, ℕ, Bool, true, false, nat_eq, nat_lt, List, [], ◌∷◌, length, refl, sym, ap, ◌∙◌, subst, Option, Some, None, Result, Ok, Err, if◌then◌else◌}
 use Rattle.std.specs.Prelude.{slice_index}
 use Rattle.wasm_store.specs.Store.{found_at}
 use Rattle.wasm_store.specs.Stack.{Stack}
@@ -33,8 +33,8 @@ use Rattle.abi_machine.specs.Copying.{blocked_word, completed, Met, AtOnce, Move
 use Rattle.abi_machine.specs.Nested.{HostedTurn, On, EndsIn, TrapsBy, CallsHost, NoRule, hosted_next, nested_ended, answered_in_place, answered_or_refused, calls_host, hosted, nested_turn}
 use Rattle.abi_machine.specs.Lowering.{started, lowered, paused, left_by, settled_turn, lowers_turn}
 use Rattle.abi_machine.specs.replies.Context.{Exempt, Answers, rep_answered, context_answer, exempt_kind, exempt_of}
-use Rattle.abi_machine.specs.sound.Changes.{HasStore, AddsEntry, HasWord, HasResult, Offers, Transfers as IsTransferred, after, IsFirst, MayCome}
-use Rattle.abi_machine.specs.sound.Acting.{Outline, outlines_of, WaitsWith, IsActing, OneActs, FollowsFor, LowersFor, BehindFor, stacked_then, stacked_behind}
+use Rattle.abi_machine.specs.sound.Changes.{HasStore, AddsEntry, HasWord, HasResult, Offers, Transfers as IsTransferred, after, IsFirst}
+use Rattle.abi_machine.specs.sound.Acting.{outlines_of, WaitsWith, IsActing, OneActs, FollowsFor, LowersFor, BehindFor, stacked_then, stacked_behind}
 use Rattle.abi_machine.proofs.sound.Lifted.{elements_keep}
 use Rattle.abi_machine.proofs.sound.Found.{ok_same, some_same, table_kept, added_once, entry_is_added, free_offered}
 use Rattle.abi_machine.proofs.sound.Outlines.{as_is, acting_waits}

@@ -83,7 +83,7 @@ use Rattle.abi_machine.proofs.sound.Found.{some_same, renamed_ok, acting_first, 
 use Rattle.abi_machine.proofs.sound.Takeable.{subtask_taken, end_found}
 use Rattle.abi_machine.proofs.sound.Acted.{one_task, first_at, changed_where}
 use Rattle.abi_machine.proofs.sound.Entries.{right_true, not_false, asked_is, told_is, unasked_is, unresolved_is}
-use Rattle.abi_machine.proofs.sound.turns.Keeping.{Invariant, Keeps, Acted, given_keeps, behind_keeps, either_keeps, stay, acts, goes, goes_on, refused_keeps, unless_keeps, fault_keeps, on_keeps, blocked_keeps, entry_keeps, new_stack_keeps}
+use Rattle.abi_machine.proofs.sound.turns.Keeping.{Invariant, Keeps, Acted, given_keeps, behind_keeps, either_keeps, stay, goes, goes_on, refused_keeps, unless_keeps, fault_keeps, on_keeps, blocked_keeps, entry_keeps, new_stack_keeps}
 use Rattle.abi_machine.proofs.sound.turns.Moving.{ActsLike, acts_like, no_fault, no_borrows, result_comes, resolves_keeps}
 use Rattle.abi_machine.proofs.sound.turns.Waking.{IsToCancel, call_keeps, with_keeps, none_keeps, cancel_keeps, yielded_keeps, cancelled_keeps}
 use Rattle.abi_machine.proofs.sound.turns.Nesting.{exempt_keeps, meets_keeps}

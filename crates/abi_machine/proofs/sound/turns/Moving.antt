@@ -51,7 +51,7 @@ use Rattle.tasks.specs.Views.{TaskView}
 use Rattle.abi_machine.specs.sound.Firsts.{TaskIs, IsActing, MayBeInside}
 use Rattle.abi_machine.specs.sound.Changes.{IsFirst}
 use Rattle.abi_machine.proofs.sound.Lifts.{Leaves as LeavesWith}
-use Rattle.abi_machine.proofs.sound.Found.{acting_first, acting_is, func_changed, some_there}
+use Rattle.abi_machine.proofs.sound.Found.{acting_first, acting_is, func_changed}
 use Rattle.abi_machine.proofs.sound.Takeable.{behind_agrees}
 use Rattle.abi_machine.proofs.sound.Acted.{still_is, now_is, is_as, one_task, first_at, first_now, acting_inside}
 use Rattle.abi_machine.proofs.sound.Lifted.{result_keeps}
