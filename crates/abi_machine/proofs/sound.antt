@@ -41,3 +41,5 @@ pub mod known
 pub mod Looping
 pub mod Awaited
 pub mod Picking
+pub mod own
+pub mod Owning

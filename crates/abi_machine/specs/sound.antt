@@ -27,3 +27,4 @@ pub mod Borrows
 pub mod Loops
 pub mod Subtasks
 pub mod Picked
+pub mod Owners

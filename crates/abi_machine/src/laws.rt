@@ -20,6 +20,7 @@ ghost use Rattle.abi_machine.specs.sound.Loans.{FirstHoldsLoans, LoansStay};
 ghost use Rattle.abi_machine.specs.sound.PassedTypes.{FirstHoldsNoBorrow, NoBorrowStays};
 ghost use Rattle.abi_machine.specs.sound.Borrows.{BorrowsAreGivenBack};
 ghost use Rattle.abi_machine.specs.sound.Loops.{FirstHasLoops, LoopsStay};
+ghost use Rattle.abi_machine.specs.sound.Owners.{FirstIsOwn, OwnStays};
 ghost use Rattle.abi_machine.specs.sound.Picked.{FirstIsPicked, PickedStays};
 ghost use Rattle.abi_machine.specs.sound.Subtasks.{FirstHasSubtasks, SubtasksStay};
 
@@ -180,4 +181,12 @@ pub fn subtasks_stay()
 pub fn picked_is_there()
     ensures first { FirstIsPicked }
     ensures stays { PickedStays }
+{}
+
+/// Where what a core instance imports, the core function of a lift, a destructor, and what the options of canonical definitions give, were
+/// made by their own component instance, a task runs code of the component instance of its function alone, and calls only canonical
+/// functions that this one made, and so does nested code: so it is in the first world, and so it stays in every step.
+pub fn definitions_stay_apart()
+    ensures first { FirstIsOwn }
+    ensures stays { OwnStays }
 {}

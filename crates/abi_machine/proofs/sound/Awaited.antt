@@ -1,13 +1,12 @@
 -- Subtasks of tables, and those for which a caller waits, stay as they are told apart.
-use Rattle.std.proofs.Common.{◌≡◌, ◌≢◌, ◌<◌, ◌⊎◌, inl, inr, ℕ, zero, suc, Bool, true, false, nat_eq, List, [], ◌∷◌, ◌++◌, length, refl, sym, ap, ◌∙◌, subst, arith, Option, Some, None, if◌then◌else◌}
+use Rattle.std.proofs.Common.{◌≡◌, ◌<◌, ◌⊎◌, inl, inr, ℕ, zero, suc, Bool, true, false, nat_eq, List, [], ◌∷◌, ◌++◌, length, refl, sym, ap, ◌∙◌, subst, arith, Option, Some, None, if◌then◌else◌}
 use Rattle.std.proofs.lemmas.Bool.Decides.{nat_tests}
 use Rattle.std.specs.Prelude.{IsSome}
-use Rattle.std.specs.List.{slice_get, AllByRecursion}
+use Rattle.std.specs.List.{slice_get}
 use Rattle.wasm_store.proofs.Lists.{all_at}
 use Rattle.handle_table.specs.History.{Event, Remove, live, next_index}
 use Rattle.tasks.specs.Subtasks.{delivered, with_lend}
 use Rattle.tasks.specs.declared.phase.Resolution.TheVariants.{Cancelled}
-use Rattle.tasks.specs.declared.subtask_state.SubtaskState.TheVariants.{Starting}
 use Rattle.comp_graph.specs.Graph.{Graph}
 use Rattle.script_reader.specs.Script.{Script}
 use Rattle.abi_machine.specs.World.{Entry, OwnHandle, BorrowHandle, OfSubtask, OfSet, OfEnd, Inst, Init, Subtask, Caller, Nobody, Host, Guest, Wait, ForYield, ForSet, ForCall, ForCopy, ForCancel, TaskState, New, Acting, AfterCall, AfterCancel, WaitsToEnter, InLoop, InBuiltin, Exited, Task, World, new_inst, new_task}
@@ -17,17 +16,14 @@ use Rattle.abi_machine.specs.Canons.{options_at}
 use Rattle.abi_machine.specs.Reading.{table_in, subtask_of}
 use Rattle.abi_machine.specs.sound.Changes.{Change, GoesTo, HasStore, SpendsUnit, UsesPicks, TakesItem, BeginsInstance, AddsEntry, MakesSet, RemovesEntry, RemovesWaitable, LeavesSet, JoinsSet, HasBackpressure, IsCalled, Calls, ComesBack, Acts, Begins, Cancels, Blocks, Exits, IsRemoved, Resolves, IsCancelled, HasWord, HasNewStack, HasStack, LosesStack, IsAnswered, IsTold, IsLent, HasResult, MakesChannel, Offers, Transfers, Concludes, DropsEnd, after, IsGuest, IsBlocked, MayCome}
 use Rattle.abi_machine.specs.sound.Numbers.{NamesWhatIsThere, IsNumbered}
-use Rattle.abi_machine.specs.sound.Acting.{Outline}
-use Rattle.abi_machine.specs.sound.Called.{HaveCalled, CalledBy}
+use Rattle.abi_machine.specs.sound.Called.{CalledBy}
 use Rattle.abi_machine.specs.sound.Subtasks.{StandsAt, StandsNowhere, CallIs, IsAsync, IsUntold, IsUnawaited, WaitsSync, CancelsApart, AreSubtasks, HasSubtasks, FirstHasSubtasks, SubtasksStay}
 use Rattle.abi_machine.proofs.sound.Lists.{more_either, get_front, within, length_changed, there_front}
 use Rattle.abi_machine.proofs.sound.Found.{some_same, changed_kept, there_changed}
 use Rattle.abi_machine.proofs.sound.Aside.{channel_kept, made_kept}
 use Rattle.abi_machine.proofs.sound.Chained.{no_first, changed_here, other_there, last_there}
-use Rattle.abi_machine.proofs.sound.Outlines.{Is}
 use Rattle.abi_machine.proofs.sound.Numbered.{numbered, added_either, removed_before}
 use Rattle.abi_machine.proofs.sound.Ordered.{in_order}
-use Rattle.abi_machine.proofs.sound.acts.Keeping.{IsIn}
 use Rattle.abi_machine.proofs.sound.known.Unawaited.{in_this_state}
 use Rattle.abi_machine.proofs.sound.known.Keeping.{IsNewEntry, BlocksAs, Besides}
 use Rattle.abi_machine.proofs.sound.known.Beside.{beside}
@@ -575,6 +571,6 @@ pub subtasks_stay : SubtasksStay
 unfolding beside in_order
 subtasks_stay g s w v labels alone o numbers called h e =
     (step_known
-    (beside g s (in_order g s) (Unit {0}) (Kept g) (λ c u may b k. (numbered g s c u may k.0, subtasks_kept g s c u may b k))
+    (beside g s (in_order g s) (Unit {0}) ⊥ (Kept g) (λ apart. absurd apart) (λ apart u k. absurd apart) (λ c u may b belongs k. (numbered g s c u may k.0, subtasks_kept g s c u may b k))
     (λ t u may k. (numbered g s (ComesBack t) u may k.0, k.1)) (λ t u may k. (numbered g s (IsRemoved t) u may k.0, removed_subtasks g t u k.1)))
-    w v labels (λ given. record { called = called; subtasks = h }) alone.1 o.2 ((alone.0, o.0, o.1), (numbers, h)) e).0.1.1
+    w v labels (λ given. record { called = called; subtasks = h }) (λ apart. absurd apart) alone.1 o.2 ((alone.0, o.0, o.1), (numbers, h)) e).0.1.1

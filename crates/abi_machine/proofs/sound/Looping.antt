@@ -1,10 +1,10 @@
 -- Tasks in their loop wait on sets that are there, and so they do in every step.
-use Rattle.std.proofs.Common.{◌≡◌, ◌≢◌, ◌⊎◌, inl, inr, ℕ, zero, suc, ◌+◌, Bool, true, false, ◌&&◌, nat_eq, List, [], ◌∷◌, ◌++◌, length, refl, sym, ap, ◌∙◌, subst, arith, Option, Some, None, Result, Ok, Err, if◌then◌else◌}
+use Rattle.std.proofs.Common.{◌≡◌, inl, inr, ℕ, zero, suc, ◌+◌, Bool, true, false, ◌&&◌, nat_eq, List, [], ◌∷◌, ◌++◌, length, refl, sym, ap, ◌∙◌, subst, arith, Option, Some, None, Result, Ok, Err, if◌then◌else◌}
 use Rattle.std.proofs.lemmas.Bool.Decides.{nat_tests}
 use Rattle.std.proofs.lemmas.List.Sums.{sum_by-cons}
-use Rattle.std.specs.List.{slice_get, count_by, AllByRecursion}
+use Rattle.std.specs.List.{slice_get, count_by}
 use Rattle.wasm_store.proofs.Lists.{all_at}
-use Rattle.handle_table.specs.History.{Event, Remove, IsHistory, live}
+use Rattle.handle_table.specs.History.{Event, IsHistory, live}
 use Rattle.tasks.specs.declared.phase.Resolution.TheVariants.{Cancelled}
 use Rattle.entry_gate.specs.Callbacks.{callback_of}
 use Rattle.entry_gate.specs.declared.callback.BadCode.{BadCode}
@@ -14,23 +14,23 @@ use Rattle.comp_graph.specs.Graph.{Graph, Lifted}
 use Rattle.script_reader.specs.Script.{Script}
 use Rattle.abi_machine.specs.World.{Entry, OfSubtask, OfSet, OfEnd, OwnHandle, BorrowHandle, Inst, Init, Nobody, Callee, Host, Guest, TaskState, New, Acting, AfterCall, AfterCancel, WaitsToEnter, InLoop, InBuiltin, Exited, Task, World, new_inst, new_task}
 use Rattle.abi_machine.specs.World as world
-use Rattle.abi_machine.specs.Edits.{changed_at, answered_stacks}
+use Rattle.abi_machine.specs.Edits.{changed_at}
 use Rattle.abi_machine.specs.Reading.{table_in, entry_at, func_of, is_in, runs_in}
 use Rattle.abi_machine.specs.Counting.{word_waits_on, waits_on, waiters_of}
 use Rattle.abi_machine.specs.sound.Changes.{Change, GoesTo, HasStore, SpendsUnit, UsesPicks, TakesItem, BeginsInstance, AddsEntry, MakesSet, RemovesEntry, RemovesWaitable, LeavesSet, JoinsSet, HasBackpressure, IsCalled, Calls, ComesBack, Acts, Begins, Cancels, Blocks, Exits, IsRemoved, Resolves, IsCancelled, HasWord, HasNewStack, HasStack, LosesStack, IsAnswered, IsTold, IsLent, HasResult, MakesChannel, Offers, Transfers, Concludes, DropsEnd, after, Stands, IsWaitable, IsBlocked, MayCome}
 use Rattle.abi_machine.specs.sound.Tables.{HaveHistories}
 use Rattle.abi_machine.specs.sound.Acting.{Outline, outline_of}
-use Rattle.abi_machine.specs.sound.Loops.{HasSetAt, GoesOnBy, LoopsIn, LoopsSo, HaveLoops, FirstHasLoops, LoopsStay}
+use Rattle.abi_machine.specs.sound.Loops.{GoesOnBy, LoopsIn, LoopsSo, HaveLoops, FirstHasLoops, LoopsStay}
 use Rattle.abi_machine.proofs.sound.Lists.{more_either, get_front}
 use Rattle.abi_machine.proofs.sound.Found.{some_same}
 use Rattle.abi_machine.proofs.sound.Aside.{channel_kept, made_kept}
-use Rattle.abi_machine.proofs.sound.Chained.{no_first, changed_here, same_or_not}
+use Rattle.abi_machine.proofs.sound.Chained.{no_first, changed_here}
 use Rattle.abi_machine.proofs.sound.Outlines.{outline_there, is_what}
 use Rattle.abi_machine.proofs.sound.Histories.{histories_kept}
 use Rattle.abi_machine.proofs.sound.Joined.{live_added, live_removed}
 use Rattle.abi_machine.proofs.sound.Holding.{live_changed}
 use Rattle.abi_machine.proofs.sound.Ordered.{in_order}
-use Rattle.abi_machine.proofs.sound.known.Keeping.{BlocksAs, Besides, NoneWaits}
+use Rattle.abi_machine.proofs.sound.known.Keeping.{BlocksAs, Besides}
 use Rattle.abi_machine.proofs.sound.known.Beside.{beside}
 use Rattle.abi_machine.proofs.sound.known.Turning.{step_known}
 
@@ -225,5 +225,5 @@ pub loops_stay : LoopsStay
 unfolding beside in_order
 loops_stay g s w v labels alone o history h e =
     (step_known
-    (beside g s (in_order g s) ⊥ Kept (λ c u may b k. (histories_kept g s c u may k.0, loops_kept g s c u may b k)) (λ t u may k. k) (λ t u may k. removed_loops t u k))
-    w v labels (λ none. absurd none) alone.1 o.2 ((alone.0, o.0, o.1), (history, h)) e).0.1.1
+    (beside g s (in_order g s) ⊥ ⊥ Kept (λ apart. absurd apart) (λ apart u k. absurd apart) (λ c u may b belongs k. (histories_kept g s c u may k.0, loops_kept g s c u may b k)) (λ t u may k. k) (λ t u may k. removed_loops t u k))
+    w v labels (λ none. absurd none) (λ apart. absurd apart) alone.1 o.2 ((alone.0, o.0, o.1), (history, h)) e).0.1.1

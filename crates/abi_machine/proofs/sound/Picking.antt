@@ -1,10 +1,10 @@
 -- What was picked is there behind every step.
-use Rattle.std.proofs.Common.{◌≡◌, ℕ, List}
-use Rattle.comp_graph.specs.Graph.{Graph}
-use Rattle.script_reader.specs.Script.{Script}
+use Rattle.abi_machine.specs.Control.{Control, Free, Chosen, Instantiates, Runs, Arrives, Lowers, Quiet, Back, Goes as GoesOn, Resumes, Delivers, Leaves, Doomed}
+use Rattle.abi_machine.specs.Control as control
 use Rattle.abi_machine.specs.World.{World}
-use Rattle.abi_machine.specs.sound.Picked.{FirstIsPicked, PickedStays}
+use Rattle.abi_machine.specs.sound.Picked.{IsPicked, FirstIsPicked, PickedStays}
 use Rattle.abi_machine.proofs.sound.Ordered.{in_order}
+use Rattle.abi_machine.proofs.sound.known.Keeping.{Promises}
 use Rattle.abi_machine.proofs.sound.known.Beside.{beside}
 use Rattle.abi_machine.proofs.sound.known.Turning.{step_known}
 
@@ -14,4 +14,23 @@ first_is_picked g s = tt
 pub picked_stays : PickedStays
 unfolding beside in_order
 picked_stays g s w v labels alone o e =
-    (step_known (beside g s (in_order g s) ⊥ (λ u. Unit {0}) (λ c u may b k. tt) (λ t u may k. tt) (λ t u may k. tt)) w v labels (λ none. absurd none) alone.1 o.2 ((alone.0, o.0, o.1), tt) e).1
+    promised v.control v
+    (step_known
+    (beside g s (in_order g s) ⊥ ⊥ (λ u. Unit {0}) (λ apart. absurd apart) (λ apart u k. absurd apart) (λ c u may b belongs k. tt) (λ t u may k. tt) (λ t u may k. tt))
+    w v labels (λ none. absurd none) (λ apart. absurd apart) alone.1 o.2 ((alone.0, o.0, o.1), tt) e).1
+  where
+    promised : (c : Control) (u : World) → Promises ⊥ g s c u → IsPicked g s c u
+    promised Free u h = tt
+    promised (Chosen k) u h = h
+    promised (Instantiates n) u h = tt
+    promised Runs u h = tt
+    promised (control.Calls number words) u h = tt
+    promised Arrives u h = tt
+    promised (Lowers l plan) u h = tt
+    promised (Quiet n b) u h = tt
+    promised Back u h = tt
+    promised GoesOn u h = tt
+    promised Resumes u h = tt
+    promised (Delivers set receiver pick) u h = tt
+    promised Leaves u h = tt
+    promised (Doomed t why) u h = tt

@@ -1,5 +1,5 @@
 -- What was picked (Component Model, Concurrency.md, "Nondeterminism"): where one of several alternatives was picked, it is there.
-use Rattle.std.specs.Prelude.{◌≡◌, ℕ, List, IsSome}
+use Rattle.std.specs.Prelude.{◌≡◌, List, IsSome}
 use Rattle.std.specs.List.{slice_get}
 use Rattle.comp_graph.specs.Graph.{Graph}
 use Rattle.script_reader.specs.Script.{Script}

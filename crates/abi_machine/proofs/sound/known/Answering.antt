@@ -1,8 +1,11 @@
 -- The answers of built-ins keep what each change keeps.
-use Rattle.std.proofs.Common.{◌≡◌, ◌≤◌, ◌⊎◌, inl, inr, ℕ, zero, suc, ◌+◌, ◌-◌, ◌*◌, ◌%◌, ◌&&◌, Bool, true, not, nat_eq, nat_lt, nat_le, List, [], ◌∷◌, length, refl, sym, ap, ◌∙◌, subst, Option, Some, None, Result, Ok, Err, if◌then◌else◌}
+use Rattle.std.proofs.Common.{arith, ◌≡◌, ◌≤◌, ◌⊎◌, inl, inr, ℕ, zero, suc, ◌+◌, ◌-◌, ◌*◌, ◌%◌, ◌&&◌, Bool, true, not, nat_eq, nat_lt, nat_le, List, [], ◌∷◌, length, refl, sym, ap, ◌∙◌, subst, Option, Some, None, Result, Ok, Err, if◌then◌else◌}
 use Rattle.std.specs.Prelude.{IsSome, slice_index}
 use Rattle.std.specs.List.{slice_get}
+use Rattle.std.proofs.lemmas.Bool.Decides.{nat_tests}
+use Rattle.std.specs.Option.{IfSome}
 use Rattle.wasm_store.specs.Store.{found_at}
+use Rattle.wasm_store.specs.Step.{start}
 use Rattle.ca_types.specs.Layout.{laid}
 use Rattle.ca_types.specs.declared.types.ValType.{ValType}
 use Rattle.builtin_kinds.specs.declared.EndKind.{EndKind}
@@ -42,11 +45,11 @@ use Rattle.trace_show.specs.declared.label.BlockReason.TheVariants as reason
 use Rattle.trace_show.specs.declared.trap.TrapName.{TrapName}
 use Rattle.trace_show.specs.declared.trap.TrapName.TheVariants as trap
 use Rattle.abi_machine.specs.Traps.{task_name, renamed, refusal_name, set_name}
-use Rattle.abi_machine.specs.Control.{EndRef, Replies, InWait, Back, Doomed}
-use Rattle.abi_machine.specs.World.{Entry, OwnHandle, OfSet, OfEnd, Func, Subtask, ForYield, ForSet, TaskState, New, Acting, AfterCall, AfterCancel, Begins, WaitsToEnter, InLoop, InBuiltin, Exited, Task, World}
+use Rattle.abi_machine.specs.Control.{EndRef, Replies, InWait, Calls, Back, Doomed}
+use Rattle.abi_machine.specs.World.{Entry, OwnHandle, OfSet, OfEnd, Func, Destroys, Subtask, ForYield, ForSet, AfterCancel, InBuiltin, Task, World}
 use Rattle.abi_machine.specs.Edits.{entry_added, entry_removed, left_set, in_state, resolved, joined, concluded, end_dropped, set_made, channel_made}
-use Rattle.abi_machine.specs.Canons.{func_address, memory_of, bytes_of, canon_at, options_at, builtin_of, lifted_of, resource_at}
-use Rattle.abi_machine.specs.Reading.{table_of, sets_in, backpressure_of, acting, func_of, task_at, is_reentrant, may_leave, channels}
+use Rattle.abi_machine.specs.Canons.{func_address, memory_of, bytes_of, canon_at, options_at, builtin_of, lifted_of, resource_at, destructor_of}
+use Rattle.abi_machine.specs.Reading.{table_of, sets_in, backpressure_of, acting, func_of, is_reentrant, may_leave, channels}
 use Rattle.abi_machine.specs.Counting.{passes, view_at, task_view, has_resolved, end_of, payload_of, ready}
 use Rattle.abi_machine.specs.Finding.{subtask_at, set_at, waitable_at, end_at}
 use Rattle.abi_machine.specs.Turn.{Turn, silent, unless, replied, blocked, with_entry}
@@ -66,19 +69,20 @@ use Rattle.abi_machine.specs.replies.Pressure.{most_backpressure, pressure_inc_t
 use Rattle.abi_machine.specs.replies.Waiting.{set_new_turn, none_ready, by_ready, event_size, event_align, is_cancelled, event_turn, wait_turn, view_of_set, set_drop_turn, joins, join_turn}
 use Rattle.abi_machine.specs.replies.Streams.{end_ref, both_indices, ends_added, channel_new_turn, placed_well, max_length, copy_turn, is_async_copy, copy_cancel_turn, is_unwritten, end_drop_turn}
 use Rattle.abi_machine.specs.Reply.{resource_turn, plain_turn, side_of, copy_size, end_turn, builtin_turn, reply, exempt_turn, allowed, calling_turn}
-use Rattle.abi_machine.specs.sound.Changes.{AddsEntry, MakesSet, RemovesEntry, RemovesWaitable, LeavesSet, JoinsSet, HasBackpressure, Cancels, Resolves as IsResolved, HasWord, MakesChannel, Concludes, DropsEnd, after, IsWaitable, Stands, IsFirst}
-use Rattle.abi_machine.specs.sound.Initial.{StartsNothing}
-use Rattle.abi_machine.specs.sound.Acting.{Outline, outlines_of, HasStacks, WaitsWith, IsActing, RunsIn, IsRunning, IsCalling, OneActs}
+use Rattle.abi_machine.specs.sound.Changes.{AddsEntry, MakesSet, RemovesEntry, RemovesWaitable, LeavesSet, JoinsSet, HasBackpressure, Cancels, Resolves as IsResolved, HasWord, MakesChannel, Concludes, DropsEnd, after, IsWaitable, Stands}
+use Rattle.abi_machine.specs.sound.Acting.{Outline, outline_of, outlines_of, WaitsWith, IsActing, IsRunning, IsCalling, OneActs}
 use Rattle.abi_machine.proofs.sound.known.Lifting.{result_keeps}
 use Rattle.abi_machine.proofs.sound.Found.{renamed_ok, waitable_stands, end_stands, subtask_stands, set_stands, set_empty, set_few, inc_few, dec_few}
-use Rattle.abi_machine.proofs.sound.Alone.{Alone, free_left}
-use Rattle.abi_machine.proofs.sound.Outlines.{outline_back, Is, as_is, state_first, acting_waits}
+use Rattle.abi_machine.proofs.sound.Outlines.{Is, as_is, state_first, acting_waits}
 use Rattle.abi_machine.proofs.sound.Standing.{steady}
-use Rattle.abi_machine.proofs.sound.acts.Keeping.{acts_at}
+use Rattle.abi_machine.proofs.sound.acts.Keeping.{acts_at, acts_by}
+use Rattle.abi_machine.specs.sound.Owners.{owner_of_canon, owner_of_func, IsStackOf, IsOwnStack, CallsOwn, IsControlOwn}
 use Rattle.abi_machine.specs.sound.Subtasks.{IsUnawaited}
+use Rattle.abi_machine.proofs.sound.own.Belonging.{ref_starts, canon_apart, canon_owner, resource_apart, own_here}
+use Rattle.abi_machine.proofs.sound.own.Tasks.{calls_here, IsOfFunc}
 use Rattle.abi_machine.proofs.sound.known.Handles.{IsHandle, handle_is_left, handle_unwaited, dropped_found, set_none_wait, subtask_there}
 use Rattle.abi_machine.proofs.sound.known.Unawaited.{standing_unawaited}
-use Rattle.abi_machine.proofs.sound.known.Keeping.{Facts, Walk, Keeps, Held, still, given_keeps, behind_keeps, either_keeps, goes, refused_keeps, unless_keeps, fault_keeps, runs_keeps, on_keeps, blocked_keeps, entry_keeps, acting_stack_keeps, removes, waits, lends}
+use Rattle.abi_machine.proofs.sound.known.Keeping.{Facts, CallsItsOwn, Walk, Keeps, Held, still, given_keeps, behind_keeps, either_keeps, goes, refused_keeps, unless_keeps, fault_keeps, runs_keeps, on_keeps, blocked_keeps, entry_keeps, acting_stack_keeps, removes, waits, lends}
 use Rattle.abi_machine.proofs.sound.known.Moving.{resolves_keeps}
 use Rattle.abi_machine.proofs.sound.known.Waking.{call_keeps, with_keeps, none_keeps, cancel_keeps, yielded_keeps, acting_cancelled_keeps}
 use Rattle.abi_machine.proofs.sound.acts.Nesting.{exempt_leaves}
@@ -92,30 +96,41 @@ module _ {g : Graph} {s : Script} (walk : Walk g s) where
   unfolding resource_new_turn
   new_handle_keeps t i resource rep w h =
       entry_keeps walk t i (OwnHandle resource rep) w (λ index v. replied t (index ∷ []) v) (h.0, h.1.0) (λ few.
-      on_keeps walk t (next_index (table_of w i) ∷ []) (entry_added i (OwnHandle resource rep) w) (still walk true t (AddsEntry i (OwnHandle resource rep)) w (few, tt) (λ given. tt) tt h))
+      on_keeps walk t (next_index (table_of w i) ∷ []) (entry_added i (OwnHandle resource rep) w) (still walk true t (AddsEntry i (OwnHandle resource rep)) w (few, tt) (λ given. tt) (λ apart. tt) tt h))
 
-  destroyed_keeps : (t i number : ℕ) (words : List ℕ) (resource : ℕ) (r : Resource) (destructor : Option FuncRef) (rep : ℕ) (w : World) → IsSome (canon_at g number) → may_leave w ≡ true → Held walk true t w
+  destroyed_keeps : (t i number : ℕ) (words : List ℕ) (resource : ℕ) (r : Resource) (destructor : Option FuncRef) (rep : ℕ) (w : World) → IsSome (canon_at g number) → may_leave w ≡ true → owner_of_canon g number ≡ Some i
+      → (walk.Apart → CallsItsOwn g number t w × IfSome destructor (λ f. owner_of_func g f ≡ Some r.instance)) → Held walk true t w
       → Keeps walk (destroyed t i number words resource r destructor rep w)
   unfolding destroyed destroyed_here
-  destroyed_keeps t i number words resource r None rep w known free h =
+  destroyed_keeps t i number words resource r None rep w known free here own h =
       unless_keeps walk t (not (nat_eq r.instance i) && is_reentrant w r.instance t) trap.Reentrant w (replied t [] w) (h.0, h.1.0) (λ e. on_keeps walk t [] w h)
-  destroyed_keeps t i number words resource r (Some ref) rep w known free h =
-      either_keeps walk (nat_eq r.instance i) _ _ (λ e. given_keeps walk (found_at w.store.funcs (func_address w.store ref)) _ (λ function j. acting_stack_keeps walk true t _ w h))
-      (λ e. call_keeps walk t number words _ _ (rep ∷ []) w refl known free h)
+  destroyed_keeps t i number words resource r (Some ref) rep w known free here own h =
+      either_keeps walk (nat_eq r.instance i) _ _
+      (λ e. given_keeps walk (found_at w.store.funcs (func_address w.store ref)) _ (λ function j.
+      acting_stack_keeps walk true t (start function.1 function.0 (rep ∷ [])) w (λ apart.
+      let same : r.instance ≡ i = grind (arith, nat_tests) in
+      let stack : IsStackOf g i (start function.1 function.0 (rep ∷ [])) =
+      ref_starts g w.store i ref function (rep ∷ []) (walk.own apart w h.0).canons (walk.own apart w h.0).owned (subst (λ (n : ℕ). owner_of_func g ref ≡ Some n) same (own apart).1) j in
+      as_is (λ (o : Outline). CallsOwn g (func_of o.callee) number) (λ (o : Outline). IsOwnStack g (func_of o.callee) (start function.1 function.0 (rep ∷ []))) t w
+      (λ o k. own_here g (func_of o.callee) number i (start function.1 function.0 (rep ∷ [])) k here stack) (own apart).0) h))
+      (λ e. call_keeps walk t number words (Destroys resource (destructor_of r.instance ref)) (destructor_of r.instance ref) (rep ∷ []) w refl known free
+      (λ apart. (((own apart).1, record { memory = tt; realloc = tt; post_return = tt; callback = tt }), (own apart).0)) h)
 
-  dropped_keeps : (t i number : ℕ) (words : List ℕ) (x : Handle) (o : Ownership) (w : World) → IsSome (canon_at g number) → may_leave w ≡ true → Held walk true t w → Keeps walk (dropped g t i number words x o w)
+  dropped_keeps : (t i number : ℕ) (words : List ℕ) (x : Handle) (o : Ownership) (w : World) → IsSome (canon_at g number) → may_leave w ≡ true → owner_of_canon g number ≡ Some i → (walk.Apart → CallsItsOwn g number t w) → Held walk true t w → Keeps walk (dropped g t i number words x o w)
   unfolding dropped
-  dropped_keeps t i number words x (Borrow task) w known free h = on_keeps walk t [] w h
-  dropped_keeps t i number words x Own w known free h = given_keeps walk (resource_at g x.resource) _ (λ r e. destroyed_keeps t i number words x.resource r r.destructor x.rep w known free h)
+  dropped_keeps t i number words x (Borrow task) w known free here calls h = on_keeps walk t [] w h
+  dropped_keeps t i number words x Own w known free here calls h =
+      given_keeps walk (resource_at g x.resource) _ (λ r e.
+      destroyed_keeps t i number words x.resource r r.destructor x.rep w known free here (λ apart. (calls apart, resource_apart g x.resource r (walk.graph apart) e)) h)
 
-  drop_keeps : (t i number resource : ℕ) (words : List ℕ) (w : World) → IsSome (canon_at g number) → may_leave w ≡ true → Held walk true t w → Keeps walk (resource_drop_turn g t i number resource words w)
+  drop_keeps : (t i number resource : ℕ) (words : List ℕ) (w : World) → IsSome (canon_at g number) → may_leave w ≡ true → owner_of_canon g number ≡ Some i → (walk.Apart → CallsItsOwn g number t w) → Held walk true t w → Keeps walk (resource_drop_turn g t i number resource words w)
   unfolding resource_drop_turn
-  drop_keeps t i number resource words w known free h =
+  drop_keeps t i number resource words w known free here calls h =
       let answer : Result Handle TrapName = renamed refusal_name (dropped_in (view_at w i (slice_index words 0)) resource) in
       refused_keeps walk t answer w (λ x. dropped g t i number words x x.ownership (entry_removed i (slice_index words 0) w)) (h.0, h.1.0) (λ x e.
       let there : Stands w i (slice_index words 0) IsHandle = dropped_found w i (slice_index words 0) resource x (renamed_ok refusal_name (dropped_in (view_at w i (slice_index words 0)) resource) x e) in
-      dropped_keeps t i number words x x.ownership (entry_removed i (slice_index words 0) w) known free
-      (still walk true t (RemovesEntry i (slice_index words 0)) w (handle_is_left w i (slice_index words 0) there) (handle_unwaited w i (slice_index words 0) there) tt h))
+      dropped_keeps t i number words x x.ownership (entry_removed i (slice_index words 0) w) known free here (λ apart. steady (λ (o : Outline). CallsOwn g (func_of o.callee) number) t (RemovesEntry i (slice_index words 0)) w tt (calls apart))
+      (still walk true t (RemovesEntry i (slice_index words 0)) w (handle_is_left w i (slice_index words 0) there) (handle_unwaited w i (slice_index words 0) there) (λ apart. tt) tt h))
 
   return_keeps : (t : ℕ) (task : Task) (i : ℕ) (result : Option ValType) (options : Options) (words : List ℕ) (w : World) → Held walk true t w → Keeps walk (return_turn g t task i result options words w)
   unfolding return_turn return_checked
@@ -130,45 +145,45 @@ module _ {g : Graph} {s : Script} (walk : Walk g s) where
   task_cancel_keeps : (t : ℕ) (task : Task) (w : World) → Held walk true t w → Keeps walk (task_cancel_turn g t task w)
   unfolding task_cancel_turn
   task_cancel_keeps t task w h =
-      fault_keeps walk t task_name (cancel_fault (task_view g w t task)) w _ (h.0, h.1.0) (on_keeps walk t [] (resolved t Cancelled w) (still walk true t (IsResolved t Cancelled) w tt tt tt h))
+      fault_keeps walk t task_name (cancel_fault (task_view g w t task)) w _ (h.0, h.1.0) (on_keeps walk t [] (resolved t Cancelled w) (still walk true t (IsResolved t Cancelled) w tt tt (λ apart. tt) tt h))
 
-  yield_keeps : (t : ℕ) (task : Task) (number : ℕ) (cancellable : Bool) (words : List ℕ) (w : World) → may_leave w ≡ true → Held walk true t w → Keeps walk (yield_turn t task number cancellable words w)
+  yield_keeps : (t : ℕ) (task : Task) (number : ℕ) (cancellable : Bool) (words : List ℕ) (w : World) → may_leave w ≡ true → (walk.Apart → CallsItsOwn g number t w) → Held walk true t w → Keeps walk (yield_turn t task number cancellable words w)
   unfolding yield_turn
-  yield_keeps t task number cancellable words w free h =
+  yield_keeps t task number cancellable words w free calls h =
       either_keeps walk (cancellable && is_asked task.cancellation) (yield_cancelled t w) (blocked t (InBuiltin number words ForYield) reason.Yield w) (λ e. yielded_keeps walk t w h)
-      (λ e. blocked_keeps walk t (InBuiltin number words ForYield) reason.Yield w h.1.0 tt (inl free) tt (as_is (IsActing true) (WaitsWith true) t w (acting_waits true) h.1) h.0)
+      (λ e. blocked_keeps walk t (InBuiltin number words ForYield) reason.Yield w h.1.0 tt (inl free) tt calls (as_is (IsActing true) (WaitsWith true) t w (acting_waits true) h.1) h.0)
 
   new_set_keeps : (t i : ℕ) (w : World) → Held walk true t w → Keeps walk (set_new_turn t i w)
   unfolding set_new_turn
   new_set_keeps t i w h =
       let set : ℕ = length (sets_in (slice_get w.insts i)) in
       entry_keeps walk t i (OfSet set) w (λ index v. replied t (index ∷ []) (set_made i v)) (h.0, h.1.0) (λ few.
-      on_keeps walk t (next_index (table_of w i) ∷ []) (set_made i (entry_added i (OfSet set) w)) (still walk true t (MakesSet i set) w (few, refl) tt tt h))
+      on_keeps walk t (next_index (table_of w i) ∷ []) (set_made i (entry_added i (OfSet set) w)) (still walk true t (MakesSet i set) w (few, refl) tt (λ apart. tt) tt h))
 
-  none_ready_keeps : (t : ℕ) (f : Lifted) (op : WaitOp) (number : ℕ) (words : List ℕ) (w : World) → may_leave w ≡ true → Held walk true t w → Keeps walk (none_ready g t f op number words w)
+  none_ready_keeps : (t : ℕ) (f : Lifted) (op : WaitOp) (number : ℕ) (words : List ℕ) (w : World) → may_leave w ≡ true → (walk.Apart → CallsItsOwn g number t w) → Is (IsOfFunc f) t w → Held walk true t w → Keeps walk (none_ready g t f op number words w)
   unfolding none_ready
-  none_ready_keeps t f wait_op.Poll number words w free h = none_keeps walk t f (InWait number words) w h
-  none_ready_keeps t f wait_op.Wait number words w free h =
-      blocked_keeps walk t (InBuiltin number words (ForSet (slice_index words 0))) (reason.Wait (slice_index words 0)) w h.1.0 tt (inl free) tt (as_is (IsActing true) (WaitsWith true) t w (acting_waits true) h.1) h.0
+  none_ready_keeps t f wait_op.Poll number words w free calls mine h = none_keeps walk t f (InWait number words) w mine h
+  none_ready_keeps t f wait_op.Wait number words w free calls mine h =
+      blocked_keeps walk t (InBuiltin number words (ForSet (slice_index words 0))) (reason.Wait (slice_index words 0)) w h.1.0 tt (inl free) tt calls (as_is (IsActing true) (WaitsWith true) t w (acting_waits true) h.1) h.0
 
-  by_ready_keeps : (t : ℕ) (f : Lifted) (op : WaitOp) (number : ℕ) (words : List ℕ) (set : ℕ) (members : List ℕ) (w : World) → may_leave w ≡ true → Held walk true t w → Keeps walk (by_ready g t f op number words set members w)
+  by_ready_keeps : (t : ℕ) (f : Lifted) (op : WaitOp) (number : ℕ) (words : List ℕ) (set : ℕ) (members : List ℕ) (w : World) → may_leave w ≡ true → (walk.Apart → CallsItsOwn g number t w) → Is (IsOfFunc f) t w → Held walk true t w → Keeps walk (by_ready g t f op number words set members w)
   unfolding by_ready
-  by_ready_keeps t f op number words set [] w free h = none_ready_keeps t f op number words w free h
-  by_ready_keeps t f op number words set (index ∷ members) w free h = (goes walk _ w h.0, tt, (t, h.1))
+  by_ready_keeps t f op number words set [] w free calls mine h = none_ready_keeps t f op number words w free calls mine h
+  by_ready_keeps t f op number words set (index ∷ members) w free calls mine h = (goes walk _ w h.0, tt, (t, h.1))
 
-  event_keeps : (t : ℕ) (task : Task) (f : Lifted) (i : ℕ) (op : WaitOp) (number : ℕ) (words : List ℕ) (set : ℕ) (w : World) → may_leave w ≡ true → Held walk true t w → Keeps walk (event_turn g t task f i op number words set w)
+  event_keeps : (t : ℕ) (task : Task) (f : Lifted) (i : ℕ) (op : WaitOp) (number : ℕ) (words : List ℕ) (set : ℕ) (w : World) → may_leave w ≡ true → (walk.Apart → CallsItsOwn g number t w) → Is (IsOfFunc f) t w → Held walk true t w → Keeps walk (event_turn g t task f i op number words set w)
   unfolding event_turn
-  event_keeps t task f i op number words set w free h =
+  event_keeps t task f i op number words set w free calls mine h =
       let answers : Turn = if is_cancelled g task number then received_cancel g t f (InWait number words) w else by_ready g t f op number words set (ready w i set) w in
       let outside : Bool = not (nat_le (slice_index words 1 + event_size) (length (bytes_of w.store (memory_of w.store (options_at g number))))) in
       unless_keeps walk t (not (nat_eq (slice_index words 1 % event_align) 0)) trap.Misaligned w (unless t outside trap.Bounds w answers) (h.0, h.1.0) (λ j.
       unless_keeps walk t outside trap.Bounds w answers (h.0, h.1.0) (λ k.
-      either_keeps walk (is_cancelled g task number) (received_cancel g t f (InWait number words) w) (by_ready g t f op number words set (ready w i set) w) (λ e. cancel_keeps walk t f (InWait number words) w h) (λ e. by_ready_keeps t f op number words set (ready w i set) w free h)))
+      either_keeps walk (is_cancelled g task number) (received_cancel g t f (InWait number words) w) (by_ready g t f op number words set (ready w i set) w) (λ e. cancel_keeps walk t f (InWait number words) w mine h) (λ e. by_ready_keeps t f op number words set (ready w i set) w free calls mine h)))
 
-  wait_turn_keeps : (t : ℕ) (task : Task) (i : ℕ) (op : WaitOp) (number : ℕ) (words : List ℕ) (w : World) → may_leave w ≡ true → Held walk true t w → Keeps walk (wait_turn g t task i op number words w)
+  wait_turn_keeps : (t : ℕ) (task : Task) (i : ℕ) (op : WaitOp) (number : ℕ) (words : List ℕ) (w : World) → may_leave w ≡ true → (walk.Apart → CallsItsOwn g number t w) → Is (λ o. o ≡ outline_of task) t w → Held walk true t w → Keeps walk (wait_turn g t task i op number words w)
   unfolding wait_turn
-  wait_turn_keeps t task i op number words w free h =
-      refused_keeps walk t (set_at w i (slice_index words 0)) w _ (h.0, h.1.0) (λ set e. given_keeps walk (func_of task.callee) _ (λ f j. event_keeps t task f i op number words set w free h))
+  wait_turn_keeps t task i op number words w free calls is h =
+      refused_keeps walk t (set_at w i (slice_index words 0)) w _ (h.0, h.1.0) (λ set e. given_keeps walk (func_of task.callee) _ (λ f j. event_keeps t task f i op number words set w free calls (as_is (λ (o : Outline). o ≡ outline_of task) (IsOfFunc f) t w (λ o k. ap (λ (x : Outline). func_of x.callee) k ∙ j) is) h))
 
   set_drop_keeps : (t i index : ℕ) (w : World) → Held walk true t w → Keeps walk (set_drop_turn t i index w)
   unfolding set_drop_turn
@@ -177,14 +192,14 @@ module _ {g : Graph} {s : Script} (walk : Walk g s) where
       refused_keeps walk t (renamed set_name (drop_answer (view_of_set w i index set))) w (λ done. replied t [] (entry_removed i index w)) (h.0, h.1.0) (λ done f.
       on_keeps walk t [] (entry_removed i index w)
       (still walk true t (RemovesEntry i index) w (OfSet set, set_stands w i index set e, set_empty (view_of_set w i index set) done (renamed_ok set_name (drop_answer (view_of_set w i index set)) done f))
-      (λ other at. set_none_wait (view_of_set w i index set) done (renamed_ok set_name (drop_answer (view_of_set w i index set)) done f)) tt h)))
+      (λ other at. set_none_wait (view_of_set w i index set) done (renamed_ok set_name (drop_answer (view_of_set w i index set)) done f)) (λ apart. tt) tt h)))
 
   joins_keeps : (t i index other : ℕ) (w : World) → Stands w i index IsWaitable → Held walk true t w → Keeps walk (joins t i index other w)
   unfolding joins
-  joins_keeps t i index zero w there h = on_keeps walk t [] (left_set i index w) (still walk true t (LeavesSet i index) w tt tt tt h)
+  joins_keeps t i index zero w there h = on_keeps walk t [] (left_set i index w) (still walk true t (LeavesSet i index) w tt tt (λ apart. tt) tt h)
   joins_keeps t i index (suc other) w there h =
       refused_keeps walk t (set_at w i (suc other)) w _ (h.0, h.1.0) (λ set e.
-      on_keeps walk t [] (joined i index set w) (still walk true t (JoinsSet i index set) w (there, (suc other, set_stands w i (suc other) set e)) tt tt h))
+      on_keeps walk t [] (joined i index set w) (still walk true t (JoinsSet i index set) w (there, (suc other, set_stands w i (suc other) set e)) tt (λ apart. tt) tt h))
 
   join_keeps : (t i index other : ℕ) (w : World) → Held walk true t w → Keeps walk (join_turn t i index other w)
   unfolding join_turn
@@ -194,15 +209,15 @@ module _ {g : Graph} {s : Script} (walk : Walk g s) where
   unfolding channel_new_turn ends_added
   new_ends_keep t i kind element w h =
       let v : World = channel_made kind element w in
-      let j : Held walk true t v = still walk true t (MakesChannel kind element) w tt tt tt h in
+      let j : Held walk true t v = still walk true t (MakesChannel kind element) w tt tt (λ apart. tt) tt h in
       let readable : Entry = OfEnd (end_ref kind (length (channels kind w) + 1) Reader) in
       let writable : Entry = OfEnd (end_ref kind (length (channels kind w) + 1) Writer) in
       let both : ℕ → World → Turn = λ first u. with_entry t i writable u (λ second x. replied t (both_indices first second ∷ []) x) in
       entry_keeps walk t i readable v both (j.0, j.1.0) (λ few.
       let u : World = entry_added i readable v in
-      let k : Held walk true t u = still walk true t (AddsEntry i readable) v (few, tt) (λ given. tt) tt j in
+      let k : Held walk true t u = still walk true t (AddsEntry i readable) v (few, tt) (λ given. tt) (λ apart. tt) tt j in
       entry_keeps walk t i writable u (λ second x. replied t (both_indices (next_index (table_of v i)) second ∷ []) x) (k.0, k.1.0) (λ more.
-      on_keeps walk t (both_indices (next_index (table_of v i)) (next_index (table_of u i)) ∷ []) (entry_added i writable u) (still walk true t (AddsEntry i writable) u (more, tt) (λ given. tt) tt k)))
+      on_keeps walk t (both_indices (next_index (table_of v i)) (next_index (table_of u i)) ∷ []) (entry_added i writable u) (still walk true t (AddsEntry i writable) u (more, tt) (λ given. tt) (λ apart. tt) tt k)))
 
   placed_keeps : (t : ℕ) (bytes : List ℕ) (element : Option ValType) (place size : ℕ) (w : World) (more : Turn) → Held walk true t w → Keeps walk more → Keeps walk (placed_well t bytes element place size w more)
   unfolding placed_well
@@ -213,10 +228,10 @@ module _ {g : Graph} {s : Script} (walk : Walk g s) where
       either_keeps walk (nat_eq size 0) more (unless t askew trap.Misaligned w (unless t outside trap.Bounds w more)) (λ e. keeps)
       (λ e. unless_keeps walk t askew trap.Misaligned w (unless t outside trap.Bounds w more) (h.0, h.1.0) (λ f. unless_keeps walk t outside trap.Bounds w more (h.0, h.1.0) (λ j. keeps)))
 
-  copy_keeps : (t i number : ℕ) (kind : EndKind) (side : Side) (element : Option ValType) (options : Options) (words : List ℕ) (size : ℕ) (w : World) → may_leave w ≡ true → Held walk true t w
+  copy_keeps : (t i number : ℕ) (kind : EndKind) (side : Side) (element : Option ValType) (options : Options) (words : List ℕ) (size : ℕ) (w : World) → may_leave w ≡ true → (walk.Apart → CallsItsOwn g number t w) → Held walk true t w
       → Keeps walk (copy_turn g t i number kind side element options words size w)
   unfolding copy_turn
-  copy_keeps t i number kind side element options words size w free h =
+  copy_keeps t i number kind side element options words size w free calls h =
       let bytes : List ℕ = bytes_of w.store (memory_of w.store options) in
       let call : OpenCopy = new_copy (copy_by.Task t) number (slice_index words 1) size in
       let met : EndRef → Turn = λ e. meets g t i e call words (slice_index words 0) w in
@@ -227,7 +242,7 @@ module _ {g : Graph} {s : Script} (walk : Walk g s) where
       unless_keeps walk t (is_copying (end_of w e)) trap.Busy w (done e) (h.0, h.1.0) (λ k.
       unless_keeps walk t (end_of w e).done trap.DoneEnd w (long e) (h.0, h.1.0) (λ l.
       unless_keeps walk t (nat_lt max_length size) trap.TooLong w (placed e) (h.0, h.1.0) (λ m.
-      placed_keeps t bytes element (slice_index words 1) size w (met e) h (meets_keeps walk t i e call words (slice_index words 0) w free h)))))
+      placed_keeps t bytes element (slice_index words 1) size w (met e) h (meets_keeps walk t i e call words (slice_index words 0) w free calls h)))))
 
   copy_cancel_keeps : (t i : ℕ) (kind : EndKind) (side : Side) (element : Option ValType) (index : ℕ) (w : World) → Held walk true t w → Keeps walk (copy_cancel_turn g t i kind side element index w)
   unfolding copy_cancel_turn
@@ -235,7 +250,7 @@ module _ {g : Graph} {s : Script} (walk : Walk g s) where
       let stale : EndRef → Bool = λ e. not (passes (is_async_copy g) (end_of w e).copy) in
       let answers : EndRef → Turn = λ e. replied t (payload_of w e ∷ []) (concluded e w) in
       refused_keeps walk t (end_at w kind side element i index) w (λ e. unless t (stale e) trap.NotCopying w (answers e)) (h.0, h.1.0) (λ e j.
-      unless_keeps walk t (stale e) trap.NotCopying w (answers e) (h.0, h.1.0) (λ k. on_keeps walk t (payload_of w e ∷ []) (concluded e w) (still walk true t (Concludes e) w tt tt tt h)))
+      unless_keeps walk t (stale e) trap.NotCopying w (answers e) (h.0, h.1.0) (λ k. on_keeps walk t (payload_of w e ∷ []) (concluded e w) (still walk true t (Concludes e) w tt tt (λ apart. tt) tt h)))
 
   end_drop_keeps : (t i : ℕ) (kind : EndKind) (side : Side) (element : Option ValType) (index : ℕ) (w : World) → Held walk true t w → Keeps walk (end_drop_turn t i kind side element index w)
   unfolding end_drop_turn
@@ -245,11 +260,11 @@ module _ {g : Graph} {s : Script} (walk : Walk g s) where
       refused_keeps walk t (end_at w kind side element i index) w (λ e. unless t (is_copying (end_of w e)) trap.Busy w (idle e)) (h.0, h.1.0) (λ e j.
       unless_keeps walk t (is_copying (end_of w e)) trap.Busy w (idle e) (h.0, h.1.0) (λ k.
       unless_keeps walk t (is_unwritten kind side (end_of w e)) trap.UnwrittenFuture w (answers e) (h.0, h.1.0) (λ l.
-      on_keeps walk t [] (after (DropsEnd e) (after (RemovesWaitable i index) w)) (still walk true t (DropsEnd e) (after (RemovesWaitable i index) w) tt tt tt (still walk true t (RemovesWaitable i index) w (end_stands w i kind side element index e j) tt tt h)))))
+      on_keeps walk t [] (after (DropsEnd e) (after (RemovesWaitable i index) w)) (still walk true t (DropsEnd e) (after (RemovesWaitable i index) w) tt tt (λ apart. tt) tt (still walk true t (RemovesWaitable i index) w (end_stands w i kind side element index e j) tt (λ apart. tt) tt h)))))
 
-  subtask_cancel_keeps : (t i number : ℕ) (words : List ℕ) (w : World) → (walk.Given → Facts g w) → may_leave w ≡ true → Held walk true t w → Keeps walk (subtask_cancel_turn g t i number words w)
+  subtask_cancel_keeps : (t i number : ℕ) (words : List ℕ) (w : World) → (walk.Given → Facts g w) → may_leave w ≡ true → (walk.Apart → CallsItsOwn g number t w) → Held walk true t w → Keeps walk (subtask_cancel_turn g t i number words w)
   unfolding subtask_cancel_turn cancel_asked
-  subtask_cancel_keeps t i number words w facts free h =
+  subtask_cancel_keeps t i number words w facts free calls h =
       let asking : ℕ → World = λ callee. in_state t (AfterCancel callee number words) w in
       let asks : ℕ → Task → Turn = λ callee task. cancel_asked g callee task (asking callee) in
       let unasked : ℕ → Task → Turn = λ callee task. unless t (not (is_unasked task.cancellation)) trap.Asked w (asks callee task) in
@@ -261,8 +276,8 @@ module _ {g : Graph} {s : Script} (walk : Walk g s) where
       let v : World = asking callee in
       let alone : walk.Given → IsUnawaited w.tasks callee = λ given. standing_unawaited g w i (slice_index words 0) callee (facts given).subtasks (subtask_there w i (slice_index words 0) callee e) in
       either_keeps walk (has_resolved task) (silent Back v) (cancelled_turn g callee task Back v)
-      (λ f. (goes walk Back v (walk.stays (Cancels t callee number words) w (h.1.0, free) (as_is (IsActing true) (WaitsWith true) t w (acting_waits true) h.1, subst (λ (o : Option Task). IsSome o) (sym there) refl, alone) h.0), tt, (t, state_first IsCalling (IsActing true) w t (AfterCancel callee number words) (λ o k. tt) h.1)))
-      (λ f. acting_cancelled_keeps walk t callee number words task w free there alone h)))))
+      (λ f. (goes walk Back v (walk.stays (Cancels t callee number words) w (h.1.0, free) (as_is (IsActing true) (WaitsWith true) t w (acting_waits true) h.1, subst (λ (o : Option Task). IsSome o) (sym there) refl, alone) calls h.0), tt, (t, state_first IsCalling (IsActing true) w t (AfterCancel callee number words) (λ o k. tt) h.1)))
+      (λ f. acting_cancelled_keeps walk t callee number words task w free there alone calls h)))))
 
   subtask_drop_keeps : (t i index : ℕ) (w : World) → Held walk true t w → Keeps walk (subtask_drop_turn t i index w)
   unfolding subtask_drop_turn
@@ -271,52 +286,55 @@ module _ {g : Graph} {s : Script} (walk : Walk g s) where
       let over : Task → Subtask → Turn = λ task subtask. unless t (not (is_over subtask.told)) trap.NotDelivered w answers in
       refused_keeps walk t (subtask_at w i index) w (λ callee. with_subtask_of w callee over) (h.0, h.1.0) (λ callee e. with_keeps walk w callee over (λ task subtask there guest.
       unless_keeps walk t (not (is_over subtask.told)) trap.NotDelivered w answers (h.0, h.1.0) (λ j.
-      on_keeps walk t [] (after (RemovesWaitable i index) w) (still walk true t (RemovesWaitable i index) w (subtask_stands w i index callee e) tt tt h))))
+      on_keeps walk t [] (after (RemovesWaitable i index) w) (still walk true t (RemovesWaitable i index) w (subtask_stands w i index callee e) tt (λ apart. tt) tt h))))
 
   pressure_keeps : (t i pressure : ℕ) (w : World) → (pressure ≤ most_backpressure) ⊎ (pressure ≤ backpressure_of w i) → Held walk true t w → Keeps walk (replied t [] (after (HasBackpressure i pressure) w))
-  pressure_keeps t i pressure w few h = on_keeps walk t [] (after (HasBackpressure i pressure) w) (still walk true t (HasBackpressure i pressure) w few tt tt h)
+  pressure_keeps t i pressure w few h = on_keeps walk t [] (after (HasBackpressure i pressure) w) (still walk true t (HasBackpressure i pressure) w few tt (λ apart. tt) tt h)
 
-  resource_keeps : (t i number : ℕ) (op : ResourceOp) (resource : ℕ) (words : List ℕ) (w : World) → IsSome (canon_at g number) → may_leave w ≡ true → Held walk true t w → Keeps walk (resource_turn g t i number op resource words w)
+  resource_keeps : (t i number : ℕ) (op : ResourceOp) (resource : ℕ) (words : List ℕ) (w : World) → IsSome (canon_at g number) → may_leave w ≡ true → owner_of_canon g number ≡ Some i → (walk.Apart → CallsItsOwn g number t w) → Held walk true t w → Keeps walk (resource_turn g t i number op resource words w)
   unfolding resource_turn
-  resource_keeps t i number resource_op.New resource words w known free h = new_handle_keeps t i resource (slice_index words 0) w h
-  resource_keeps t i number resource_op.Drop resource words w known free h = drop_keeps t i number resource words w known free h
-  resource_keeps t i number resource_op.Rep resource words w known free h = tt
+  resource_keeps t i number resource_op.New resource words w known free here calls h = new_handle_keeps t i resource (slice_index words 0) w h
+  resource_keeps t i number resource_op.Drop resource words w known free here calls h = drop_keeps t i number resource words w known free here calls h
+  resource_keeps t i number resource_op.Rep resource words w known free here calls h = tt
 
-  plain_keeps : (t : ℕ) (task : Task) (i number : ℕ) (op : PlainBuiltin) (words : List ℕ) (w : World) → (walk.Given → Facts g w) → may_leave w ≡ true → Held walk true t w → Keeps walk (plain_turn g t task i number op words w)
+  plain_keeps : (t : ℕ) (task : Task) (i number : ℕ) (op : PlainBuiltin) (words : List ℕ) (w : World) → (walk.Given → Facts g w) → may_leave w ≡ true → (walk.Apart → CallsItsOwn g number t w) → Held walk true t w → Keeps walk (plain_turn g t task i number op words w)
   unfolding plain_turn pressure_set_turn pressure_inc_turn pressure_dec_turn
-  plain_keeps t task i number plain.TaskCancel words w facts free h = task_cancel_keeps t task w h
-  plain_keeps t task i number plain.BackpressureSet words w facts free h = pressure_keeps t i (set_pressure (slice_index words 0)) w (inl (set_few (slice_index words 0))) h
-  plain_keeps t task i number plain.BackpressureInc words w facts free h =
+  plain_keeps t task i number plain.TaskCancel words w facts free calls h = task_cancel_keeps t task w h
+  plain_keeps t task i number plain.BackpressureSet words w facts free calls h = pressure_keeps t i (set_pressure (slice_index words 0)) w (inl (set_few (slice_index words 0))) h
+  plain_keeps t task i number plain.BackpressureInc words w facts free calls h =
       unless_keeps walk t (nat_le most_backpressure (backpressure_of w i)) trap.PressureLimit w (replied t [] (after (HasBackpressure i (backpressure_of w i + 1)) w)) (h.0, h.1.0) (λ e. pressure_keeps t i (backpressure_of w i + 1) w (inl (inc_few (backpressure_of w i) e)) h)
-  plain_keeps t task i number plain.BackpressureDec words w facts free h =
+  plain_keeps t task i number plain.BackpressureDec words w facts free calls h =
       unless_keeps walk t (nat_eq (backpressure_of w i) 0) trap.PressureZero w (replied t [] (after (HasBackpressure i (backpressure_of w i - 1)) w)) (h.0, h.1.0) (λ e. pressure_keeps t i (backpressure_of w i - 1) w (inr (dec_few (backpressure_of w i))) h)
-  plain_keeps t task i number (plain.SubtaskCancel is_async) words w facts free h = subtask_cancel_keeps t i number words w facts free h
-  plain_keeps t task i number plain.SubtaskDrop words w facts free h = subtask_drop_keeps t i (slice_index words 0) w h
-  plain_keeps t task i number (plain.Yield cancellable) words w facts free h = yield_keeps t task number cancellable words w free h
-  plain_keeps t task i number plain.WaitableSetNew words w facts free h = new_set_keeps t i w h
-  plain_keeps t task i number plain.WaitableSetDrop words w facts free h = set_drop_keeps t i (slice_index words 0) w h
-  plain_keeps t task i number plain.WaitableJoin words w facts free h = join_keeps t i (slice_index words 0) (slice_index words 1) w h
+  plain_keeps t task i number (plain.SubtaskCancel is_async) words w facts free calls h = subtask_cancel_keeps t i number words w facts free calls h
+  plain_keeps t task i number plain.SubtaskDrop words w facts free calls h = subtask_drop_keeps t i (slice_index words 0) w h
+  plain_keeps t task i number (plain.Yield cancellable) words w facts free calls h = yield_keeps t task number cancellable words w free calls h
+  plain_keeps t task i number plain.WaitableSetNew words w facts free calls h = new_set_keeps t i w h
+  plain_keeps t task i number plain.WaitableSetDrop words w facts free calls h = set_drop_keeps t i (slice_index words 0) w h
+  plain_keeps t task i number plain.WaitableJoin words w facts free calls h = join_keeps t i (slice_index words 0) (slice_index words 1) w h
 
-  ends_keep : (t i number : ℕ) (kind : EndKind) (element : Option ValType) (op : EndOp) (words : List ℕ) (w : World) → may_leave w ≡ true → Held walk true t w → Keeps walk (end_turn g t i number kind element op words w)
+  ends_keep : (t i number : ℕ) (kind : EndKind) (element : Option ValType) (op : EndOp) (words : List ℕ) (w : World) → may_leave w ≡ true → (walk.Apart → CallsItsOwn g number t w) → Held walk true t w → Keeps walk (end_turn g t i number kind element op words w)
   unfolding end_turn
-  ends_keep t i number kind element end_op.New words w free h = new_ends_keep t i kind element w h
-  ends_keep t i number kind element (end_op.Copy side options) words w free h = copy_keeps t i number kind (side_of side) element options words (copy_size kind words) w free h
-  ends_keep t i number kind element (end_op.Cancel side is_async) words w free h = copy_cancel_keeps t i kind (side_of side) element (slice_index words 0) w h
-  ends_keep t i number kind element (end_op.Drop side) words w free h = end_drop_keeps t i kind (side_of side) element (slice_index words 0) w h
+  ends_keep t i number kind element end_op.New words w free calls h = new_ends_keep t i kind element w h
+  ends_keep t i number kind element (end_op.Copy side options) words w free calls h = copy_keeps t i number kind (side_of side) element options words (copy_size kind words) w free calls h
+  ends_keep t i number kind element (end_op.Cancel side is_async) words w free calls h = copy_cancel_keeps t i kind (side_of side) element (slice_index words 0) w h
+  ends_keep t i number kind element (end_op.Drop side) words w free calls h = end_drop_keeps t i kind (side_of side) element (slice_index words 0) w h
 
-  builtin_keeps : (t : ℕ) (task : Task) (i number : ℕ) (b : BuiltinKind) (words : List ℕ) (w : World) → (walk.Given → Facts g w) → IsSome (canon_at g number) → may_leave w ≡ true → Held walk true t w → Keeps walk (builtin_turn g t task i number b words w)
+  builtin_keeps : (t : ℕ) (task : Task) (i number : ℕ) (b : BuiltinKind) (words : List ℕ) (w : World) → (walk.Given → Facts g w) → IsSome (canon_at g number) → may_leave w ≡ true → owner_of_canon g number ≡ Some i
+      → (walk.Apart → CallsItsOwn g number t w) → Is (λ o. o ≡ outline_of task) t w → Held walk true t w → Keeps walk (builtin_turn g t task i number b words w)
   unfolding builtin_turn
-  builtin_keeps t task i number (builtin.Resource op resource) words w facts known free h = resource_keeps t i number op resource words w known free h
-  builtin_keeps t task i number (builtin.TaskReturn result options) words w facts known free h = return_keeps t task i result options words w h
-  builtin_keeps t task i number (builtin.Plain op) words w facts known free h = plain_keeps t task i number op words w facts free h
-  builtin_keeps t task i number (builtin.Context op slot) words w facts known free h = tt
-  builtin_keeps t task i number (builtin.Wait op cancellable memory) words w facts known free h = wait_turn_keeps t task i op number words w free h
-  builtin_keeps t task i number (builtin.End of_what element op) words w facts known free h = ends_keep t i number of_what element op words w free h
+  builtin_keeps t task i number (builtin.Resource op resource) words w facts known free here calls is h = resource_keeps t i number op resource words w known free here calls h
+  builtin_keeps t task i number (builtin.TaskReturn result options) words w facts known free here calls is h = return_keeps t task i result options words w h
+  builtin_keeps t task i number (builtin.Plain op) words w facts known free here calls is h = plain_keeps t task i number op words w facts free calls h
+  builtin_keeps t task i number (builtin.Context op slot) words w facts known free here calls is h = tt
+  builtin_keeps t task i number (builtin.Wait op cancellable memory) words w facts known free here calls is h = wait_turn_keeps t task i op number words w free calls is h
+  builtin_keeps t task i number (builtin.End of_what element op) words w facts known free here calls is h = ends_keep t i number of_what element op words w free calls h
 
-  reply_keeps : (t : ℕ) (task : Task) (number : ℕ) (c : CanonFunc) (words : List ℕ) (w : World) → (walk.Given → Facts g w) → IsSome (canon_at g number) → may_leave w ≡ true → Held walk true t w → Keeps walk (reply g t task number c words w)
+  reply_keeps : (t : ℕ) (task : Task) (number : ℕ) (c : CanonFunc) (words : List ℕ) (w : World) → (walk.Given → Facts g w) → canon_at g number ≡ Some c → IsSome (canon_at g number) → may_leave w ≡ true
+      → (walk.Apart → CallsItsOwn g number t w) → Is (λ o. o ≡ outline_of task) t w → Held walk true t w → Keeps walk (reply g t task number c words w)
   unfolding reply
-  reply_keeps t task number (canon.Lower l) words w facts known free h = call_keeps walk t number words (Func (lifted_of l)) (lifted_of l) words w refl known free h
-  reply_keeps t task number (canon.Builtin b) words w facts known free h = builtin_keeps t task b.instance number b.kind words w facts known free h
+  reply_keeps t task number (canon.Lower l) words w facts there known free calls is h =
+      call_keeps walk t number words (Func (lifted_of l)) (lifted_of l) words w refl known free (λ apart. ((canon_apart g number (canon.Lower l) (walk.graph apart) there).1, calls apart)) h
+  reply_keeps t task number (canon.Builtin b) words w facts there known free calls is h = builtin_keeps t task b.instance number b.kind words w facts known free (canon_owner g number (canon.Builtin b) there) calls is h
 
   -- a task that runs, also where it may not leave the instance
   abbrev Running : ℕ → World → Type 0
@@ -327,15 +345,15 @@ module _ {g : Graph} {s : Script} (walk : Walk g s) where
   exempted_keeps t (Err why) w keeps h = (goes walk (Doomed t why) w h.0, tt, h.1.0)
   exempted_keeps t (Ok answer) w keeps h = (let k : Running t answer.world = keeps answer refl in runs_keeps walk t answer.words answer.world k.0 k.1)
 
-  pub calling_keeps : (number : ℕ) (words : List ℕ) (w : World) → (walk.Given → Facts g w) → walk.Holds w → OneActs IsRunning (outlines_of w.tasks) w.chain → Keeps walk (calling_turn g number words w)
+  pub calling_keeps : (number : ℕ) (words : List ℕ) (w : World) → (walk.Given → Facts g w) → (walk.Apart → IsControlOwn g (Calls number words) w) → walk.Holds w → OneActs IsRunning (outlines_of w.tasks) w.chain → Keeps walk (calling_turn g number words w)
   unfolding calling_turn allowed
-  calling_keeps number words w facts h o =
+  calling_keeps number words w facts own h o =
       given_keeps walk (acting w) _ (λ a e. given_keeps walk (canon_at g number) _ (λ c i.
-      behind_keeps walk (line.Do a.0 (builtin_of c) words ∷ []) (allowed g a.0 a.1 number c words (exempt_of a.0 words c) w) (by a (acts_at IsRunning w a e o) c (subst (λ (x : Option CanonFunc). IsSome x) (sym i) refl) (exempt_of a.0 words c) refl)))
+      behind_keeps walk (line.Do a.0 (builtin_of c) words ∷ []) (allowed g a.0 a.1 number c words (exempt_of a.0 words c) w) (by a e (acts_at IsRunning w a e o) c i (subst (λ (x : Option CanonFunc). IsSome x) (sym i) refl) (exempt_of a.0 words c) refl)))
     where
-      by : (a : ℕ × Task) → Is IsRunning a.0 w → (c : CanonFunc) → IsSome (canon_at g number) → (x : Option Exempt) → exempt_of a.0 words c ≡ x → Keeps walk (allowed g a.0 a.1 number c words x w)
-      by a r c known (Some exempt) f =
+      by : (a : ℕ × Task) → acting w ≡ Some a → Is IsRunning a.0 w → (c : CanonFunc) → canon_at g number ≡ Some c → IsSome (canon_at g number) → (x : Option Exempt) → exempt_of a.0 words c ≡ x → Keeps walk (allowed g a.0 a.1 number c words x w)
+      by a e r c there known (Some exempt) f =
           exempted_keeps a.0 (exempt w) w
-          (λ answer j. exempt_leaves (Running a.0) (λ t slot word v k. (walk.stays (HasWord t slot word) v tt tt k.0, steady IsRunning a.0 (HasWord t slot word) v tt k.1)) a.0 words c exempt f w answer j (h, r)) (h, r)
-      by a r c known None f =
-          either_keeps walk (may_leave w) _ _ (λ j. reply_keeps a.0 a.1 number c words w facts known j (h, acts_free w a.0 (walk.alone w h) j r)) (λ j. (goes walk (Doomed a.0 trap.CannotLeave) w h, tt, r.0))
+          (λ answer j. exempt_leaves (Running a.0) (λ t slot word v k. (walk.stays (HasWord t slot word) v tt tt (λ apart. tt) k.0, steady IsRunning a.0 (HasWord t slot word) v tt k.1)) a.0 words c exempt f w answer j (h, r)) (h, r)
+      by a e r c there known None f =
+          either_keeps walk (may_leave w) _ _ (λ j. reply_keeps a.0 a.1 number c words w facts there known j (λ apart. calls_here g w a number words e (own apart)) (acts_by w a e) (h, acts_free w a.0 (walk.alone w h) j r)) (λ j. (goes walk (Doomed a.0 trap.CannotLeave) w h, tt, r.0))

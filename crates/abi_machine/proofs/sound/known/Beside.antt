@@ -1,5 +1,5 @@
 -- What each change keeps beside the order of tasks stays in every step, where what held at the start of the step is given.
-use Rattle.std.proofs.Common.{◌≡◌, inl, inr, ℕ, true, List, refl, sym, ◌∙◌, subst, Option, Some}
+use Rattle.std.proofs.Common.{inl, inr, ℕ, true, List, refl, sym, subst, Option}
 use Rattle.std.specs.Prelude.{IsSome}
 use Rattle.std.specs.List.{slice_get}
 use Rattle.tasks.specs.declared.phase.Cancellation.TheVariants.{Asked}
@@ -8,12 +8,13 @@ use Rattle.script_reader.specs.Script.{Script}
 use Rattle.abi_machine.specs.World.{Wait, ForYield, ForSet, ForCall, ForCopy, ForCancel, TaskState, New, Acting, AfterCall, AfterCancel, WaitsToEnter, InLoop, InBuiltin, Exited, Task, World}
 use Rattle.abi_machine.specs.World as world
 use Rattle.abi_machine.specs.sound.Changes.{Change, GoesTo, HasStore, SpendsUnit, UsesPicks, TakesItem, BeginsInstance, AddsEntry, MakesSet, RemovesEntry, RemovesWaitable, LeavesSet, JoinsSet, HasBackpressure, IsCalled, Calls, ComesBack, Acts, Begins, Cancels, Blocks, Exits, IsRemoved, Resolves, IsCancelled, HasWord, HasNewStack, HasStack, LosesStack, IsAnswered, IsTold, IsLent, HasResult, MakesChannel, Offers, Transfers, Concludes, DropsEnd, after, MayCome}
+use Rattle.abi_machine.specs.sound.Owners.{IsApart, IsOwnWorld}
 use Rattle.abi_machine.specs.sound.Acting.{IsActing, WaitsWith}
 use Rattle.abi_machine.proofs.sound.Found.{func_changed, now_cancels, cancels_changed}
 use Rattle.abi_machine.proofs.sound.Outlines.{as_is, is_there, acting_waits}
 use Rattle.abi_machine.proofs.sound.acts.Keeping as order
 use Rattle.abi_machine.proofs.sound.acts.Keeping.{Order}
-use Rattle.abi_machine.proofs.sound.known.Keeping.{BlocksAs, Besides, Walk}
+use Rattle.abi_machine.proofs.sound.known.Keeping.{BlocksAs, Besides, Owns, Walk}
 
 -- What is known where a change comes is what the order of tasks asks.
 waits_before : (g : Graph) (t number : ℕ) (words : List ℕ) (wait : Wait) (w : World) → BlocksAs g t (InBuiltin number words wait) w → order.BlocksAs t (InBuiltin number words wait) w
@@ -74,19 +75,23 @@ was_known F g (Concludes e) w b = tt
 was_known F g (DropsEnd e) w b = tt
 
 -- It is kept, whatever of the order is.
-module _ (g : Graph) (s : Script) (o : Order g s) (F : Type 0) (K : World → Type 0) (kept : (c : Change) (w : World) → MayCome g s c w → Besides F g c w → K w → K (after c w))
+module _ (g : Graph) (s : Script) (o : Order g s) (F A : Type 0) (K : World → Type 0) (graph : A → IsApart g) (own : A → (w : World) → K w → IsOwnWorld g w)
+    (kept : (c : Change) (w : World) → MayCome g s c w → Besides F g c w → (A → Owns g c w) → K w → K (after c w))
     (comes : (t : ℕ) (w : World) → MayCome g s (ComesBack t) w → K w → K (after (ComesBack t) w)) (removed : (t : ℕ) (w : World) → MayCome g s (IsRemoved t) w → K w → K (after (IsRemoved t) w)) where
   unfoldable pub beside : Walk g s
   beside = record {
     Given = F;
+    Apart = A;
+    graph = graph;
+    own = λ apart w h. own apart w h.1;
     Holds = λ w. o.Holds w × K w;
     alone = λ w h. o.alone w h.0;
     chained = λ w h. o.chained w h.0;
     stacked = λ w h. o.stacked w h.0;
-    stays = λ c w may b h. (o.stays c w may (was_known F g c w b) h.0, kept c w may b h.1);
+    stays = λ c w may b belongs h. (o.stays c w may (was_known F g c w b) h.0, kept c w may b belongs h.1);
     comes = λ t w task there runs is idle h. (o.comes t w task there runs is idle h.0, comes t w ((task, there, runs), inl idle) h.1);
     removed = λ t w task there runs waits idle h. (o.removed t w task there runs waits idle h.0, removed t w (task, there, runs) h.1);
-    comes_asked = λ t callee number words w task a free there runs is alone h. (
+    comes_asked = λ t callee number words w task a free there runs is alone calls h. (
       o.comes_asked t callee number words w task a free there runs is h.0,
       (
           let v : World = after (Cancels t callee number words) w in
@@ -96,16 +101,16 @@ module _ (g : Graph) (s : Script) (o : Order g s) (F : Type 0) (K : World → Ty
             func_changed v.tasks callee callee asks (λ x. refl) (func_changed w.tasks t callee (λ x. record x { state = AfterCancel callee number words }) (λ x. refl) (task, there, runs)),
             cancels_changed v.tasks v.chain callee asks (λ x. refl) (inr (now_cancels w t callee number words a.0 (is_there (IsActing true) t w a))),
           )
-          (kept (IsCancelled callee Asked) v tt tt (kept (Cancels t callee number words) w (a.0, free) (as_is (IsActing true) (WaitsWith true) t w (acting_waits true) a, some, alone) h.1))
+          (kept (IsCancelled callee Asked) v tt tt (λ apart. tt) (kept (Cancels t callee number words) w (a.0, free) (as_is (IsActing true) (WaitsWith true) t w (acting_waits true) a, some, alone) calls h.1))
           ),
     );
-    removed_asked = λ t callee number words w task a free there runs waits alone h. (
+    removed_asked = λ t callee number words w task a free there runs waits alone calls h. (
       o.removed_asked t callee number words w task a free there runs waits h.0,
       (
           let v : World = after (Cancels t callee number words) w in
           let some : IsSome (slice_get w.tasks callee) = subst (λ (x : Option Task). IsSome x) (sym there) refl in
           removed callee v (func_changed w.tasks t callee (λ x. record x { state = AfterCancel callee number words }) (λ x. refl) (task, there, runs))
-          (kept (Cancels t callee number words) w (a.0, free) (as_is (IsActing true) (WaitsWith true) t w (acting_waits true) a, some, alone) h.1)
+          (kept (Cancels t callee number words) w (a.0, free) (as_is (IsActing true) (WaitsWith true) t w (acting_waits true) a, some, alone) calls h.1)
           ),
     );
   }

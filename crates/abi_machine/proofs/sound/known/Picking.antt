@@ -1,5 +1,5 @@
 -- What may be done does not depend on the picks that are used, nor on what comes next; so the alternative that is picked is there.
-use Rattle.std.proofs.Common.{◌≡◌, ◌<◌, ◌≤◌, ℕ, zero, suc, ◌%◌, Bool, true, false, not, ◌&&◌, ◌||◌, List, [], ◌∷◌, length, map, filter, refl, sym, ap, ◌∙◌, subst, arith, Option, Some, None, Result, Ok, Err, if◌then◌else◌}
+use Rattle.std.proofs.Common.{◌≡◌, ◌<◌, ℕ, zero, suc, ◌%◌, Bool, true, false, not, ◌&&◌, ◌||◌, List, [], ◌∷◌, length, map, filter, refl, sym, ap, ◌∙◌, subst, arith, Option, Some, None, Result, Ok, Err, if◌then◌else◌}
 use Rattle.std.proofs.lemmas.Nat.{mod_below}
 use Rattle.std.specs.Prelude.{IsSome, slice_index}
 use Rattle.std.specs.List.{slice_get, range_with_len}
@@ -9,7 +9,7 @@ use Rattle.stream_ends.specs.declared.stream_end.End.{End}
 use Rattle.stream_ends.specs.Ends.{is_pending}
 use Rattle.builtin_kinds.specs.declared.EndKind.{EndKind}
 use Rattle.builtin_kinds.specs.declared.EndKind.TheVariants.{Stream, Future}
-use Rattle.choices.specs.Drawing.{Drawn, uses_one, drawn, drawn_answer}
+use Rattle.choices.specs.Drawing.{Drawn, uses_one, drawn_answer}
 use Rattle.entry_gate.specs.Callbacks.{callback_of}
 use Rattle.entry_gate.specs.declared.callback.BadCode.{BadCode}
 use Rattle.entry_gate.specs.declared.callback.Next.{Next}
@@ -20,9 +20,8 @@ use Rattle.script_reader.specs.Script.{Script}
 use Rattle.abi_machine.specs.Control.{EndRef, Control}
 use Rattle.abi_machine.specs.World.{Entry, OwnHandle, BorrowHandle, OfSubtask, OfSet, OfEnd, Wait, ForYield, ForSet, ForCall, ForCopy, ForCancel, TaskState, New, Acting, AfterCall, AfterCancel, Begins, WaitsToEnter, InLoop, InBuiltin, Exited, Channel, Task, World}
 use Rattle.abi_machine.specs.Canons.{flag_at}
-use Rattle.abi_machine.specs.Reading.{table_of, entry_at, members_of, numbered, channels, func_of, kind_of, with_numbers, numbers_of}
-use Rattle.abi_machine.specs.Counting.{passes, blocked_at_of, channel_end, end_of, entry_has_event, is_waited_for, has_news, news_of, ready}
-use Rattle.abi_machine.specs.Counting as counting
+use Rattle.abi_machine.specs.Reading.{table_of, entry_at, members_of, numbered, channels, func_of, kind_of, with_numbers}
+use Rattle.abi_machine.specs.Counting.{passes, blocked_at_of, channel_end, end_of, entry_has_event, is_waited_for, has_news, ready}
 use Rattle.abi_machine.specs.Edits.{set_view}
 use Rattle.abi_machine.specs.Gate.{is_entry_free}
 use Rattle.abi_machine.specs.Finding.{set_number, found_end}

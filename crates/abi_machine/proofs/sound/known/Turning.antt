@@ -1,5 +1,5 @@
 -- Each turn keeps what each change keeps, and what is picked is there.
-use Rattle.std.proofs.Common.{◌≡◌, ◌⊎◌, inl, inr, ℕ, true, List, [], ◌∷◌, length, refl, sym, ap, ◌∙◌, subst, Option, Some, None}
+use Rattle.std.proofs.Common.{◌≡◌, inl, inr, ℕ, true, List, [], ◌∷◌, length, refl, sym, ap, ◌∙◌, subst, Option}
 use Rattle.std.specs.Prelude.{IsSome}
 use Rattle.std.specs.List.{slice_get, AllByRecursion}
 use Rattle.wasm_store.proofs.Lists.{all_at}
@@ -11,14 +11,13 @@ use Rattle.script_reader.specs.Script.{Script}
 use Rattle.trace_show.specs.declared.label.Label.{Label}
 use Rattle.trace_show.specs.declared.label.Label.TheVariants as line
 use Rattle.trace_show.specs.declared.trap.TrapName.{TrapName}
-use Rattle.abi_machine.specs.declared.run_end.RunEnd.TheVariants.{Trapped}
 use Rattle.abi_machine.specs.Control.{Control, Free, Chosen, Instantiates, Runs, Arrives, Lowers, Quiet, Back, Goes as GoesOn, Resumes, Delivers, Leaves, Doomed}
 use Rattle.abi_machine.specs.Control as control
-use Rattle.abi_machine.specs.World.{Func, Host, New, Task, World, new_task}
+use Rattle.abi_machine.specs.World.{Func, Host, New, World, new_task}
 use Rattle.abi_machine.specs.Edits.{with_control, item_taken, chained}
 use Rattle.abi_machine.specs.Reading.{acting, unfinished}
 use Rattle.abi_machine.specs.Counting.{task_view}
-use Rattle.abi_machine.specs.Turn.{Turn, Steps, Ends, silent}
+use Rattle.abi_machine.specs.Turn.{Steps, silent}
 use Rattle.abi_machine.specs.Cancelling.{cancelled_turn}
 use Rattle.choices.specs.Drawing.{drawn}
 use Rattle.abi_machine.specs.Choosing.{picks_of}
@@ -32,10 +31,11 @@ use Rattle.abi_machine.proofs.sound.Found.{call_is}
 use Rattle.abi_machine.proofs.sound.Able.{MayBeDone, all_may}
 use Rattle.abi_machine.proofs.sound.Outlines.{outline_there}
 use Rattle.abi_machine.proofs.sound.acts.Keeping.{IsUntrapped, new_acts}
-use Rattle.abi_machine.specs.sound.Picked.{IsPicked}
+use Rattle.abi_machine.specs.sound.Owners.{IsControlOwn}
+use Rattle.abi_machine.proofs.sound.own.Exports.{named_apart}
 use Rattle.abi_machine.proofs.sound.acts.Turning.{IsUndoomed, doomed_or_not}
 use Rattle.abi_machine.proofs.sound.known.Picking.{picked_there}
-use Rattle.abi_machine.proofs.sound.known.Keeping.{Facts, Walk, Keeps, given_keeps, behind_keeps, either_keeps, goes, charged_keeps, chosen_keeps}
+use Rattle.abi_machine.proofs.sound.known.Keeping.{Facts, Promises, Walk, Keeps, given_keeps, behind_keeps, either_keeps, goes, charged_keeps, chosen_keeps}
 use Rattle.abi_machine.proofs.sound.known.Moving.{leaving_keeps, running_keeps, instantiating_keeps}
 use Rattle.abi_machine.proofs.sound.known.Waking.{arriving_keeps, delivering_keeps, resuming_keeps, back_keeps, idle_cancelled_keeps}
 use Rattle.abi_machine.proofs.sound.known.Nesting.{nested_keeps, lowers_keeps}
@@ -53,7 +53,7 @@ module _ {g : Graph} {s : Script} (walk : Walk g s) where
   item_keeps (item.Call call) w idle taken =
       given_keeps walk (func_named g call.name) _ (λ f e.
       let c : Change = IsCalled (Func f) _ call.values in
-      (goes walk Arrives (after c (item_taken w)) (walk.stays c (item_taken w) (refl, idle) tt taken), tt, new_acts w.tasks w.chain (new_task (Func f) (Host _ call.values) New) refl))
+      (goes walk Arrives (after c (item_taken w)) (walk.stays c (item_taken w) (refl, idle) tt (λ apart. named_apart g call.name f (walk.graph apart) e) taken), tt, new_acts w.tasks w.chain (new_task (Func f) (Host _ call.values) New) refl))
   item_keeps (item.Cancel call) w idle taken =
       given_keeps walk (task_of_call call w) _ (λ found e.
       behind_keeps walk (line.Cancel call ∷ []) _
@@ -67,7 +67,7 @@ module _ {g : Graph} {s : Script} (walk : Walk g s) where
   alternative_keeps : (a : Alternative) (w : World) → MayBeDone s w a → w.chain ≡ [] → walk.Holds w → Keeps walk (alternative_turn g s a w)
   unfolding alternative_turn
   alternative_keeps (Takes i) w there idle h =
-      charged_keeps walk true w (λ v. item_turn g s i v) h (λ units j. item_keeps i (record w { units = units }) idle (walk.stays TakesItem (record w { units = units }) (subst (λ (o : Option Item). IsSome o) (sym there) refl) tt j))
+      charged_keeps walk true w (λ v. item_turn g s i v) h (λ units j. item_keeps i (record w { units = units }) idle (walk.stays TakesItem (record w { units = units }) (subst (λ (o : Option Item). IsSome o) (sym there) refl) tt (λ apart. tt) j))
   alternative_keeps (GoesOnTask t) w there idle h =
       charged_keeps walk true w (λ v. gone t (chained t v)) h (λ units j. gone_keeps t (after (ComesBack t) (record w { units = units }))
       (walk.comes t (record w { units = units }) there.0 there.1 there.2.0 there.2.1 idle j) (t, (refl, (outline_of there.0, outline_there w.tasks t there.0 there.1, there.2.1))))
@@ -94,26 +94,43 @@ module _ {g : Graph} {s : Script} (walk : Walk g s) where
 
   -- The machine.
 
-  pub each_keeps : (w : World) (c : Control) → (walk.Given → Facts g w) → IsUndoomed c → Says c w.chain → ActsBy c (outlines_of w.tasks) w.chain → walk.Holds w → Keeps walk (next_by g s w c)
-  each_keeps w Free facts undoomed says o h = free_keeps w says h
-  each_keeps w (Chosen k) facts undoomed says o h = chosen_turn_keeps k w says h
-  each_keeps w (Instantiates n) facts undoomed says o h = instantiating_keeps walk n w says h o
-  each_keeps w Runs facts undoomed says o h = running_keeps walk w h o
-  each_keeps w (control.Calls number words) facts undoomed says o h = calling_keeps walk number words w facts h o
-  each_keeps w Arrives facts undoomed says o h = arriving_keeps walk w h o
-  each_keeps w (Lowers l plan) facts undoomed says o h = lowers_keeps walk l plan w h o.0 o.1
-  each_keeps w (Quiet n b) facts undoomed says o h = nested_keeps walk n b w h o.0 o.1 o.2
-  each_keeps w Back facts undoomed says o h = back_keeps walk w facts h
-  each_keeps w GoesOn facts undoomed says o h = going_keeps w h o
-  each_keeps w Resumes facts undoomed says o h = resuming_keeps walk w facts h
-  each_keeps w (Delivers set receiver pick) facts undoomed says o h = delivering_keeps walk set receiver pick w facts h o
-  each_keeps w Leaves facts undoomed says o h = leaving_keeps walk w h o
-  each_keeps w (Doomed t why) facts undoomed says o h = absurd undoomed
+  pub each_keeps : (w : World) (c : Control) → (walk.Given → Facts g w) → (walk.Apart → IsControlOwn g c w) → IsUndoomed c → Says c w.chain → ActsBy c (outlines_of w.tasks) w.chain → walk.Holds w → Keeps walk (next_by g s w c)
+  each_keeps w Free facts own undoomed says o h = free_keeps w says h
+  each_keeps w (Chosen k) facts own undoomed says o h = chosen_turn_keeps k w says h
+  each_keeps w (Instantiates n) facts own undoomed says o h = instantiating_keeps walk n w says own h o
+  each_keeps w Runs facts own undoomed says o h = running_keeps walk w h o
+  each_keeps w (control.Calls number words) facts own undoomed says o h = calling_keeps walk number words w facts own h o
+  each_keeps w Arrives facts own undoomed says o h = arriving_keeps walk w h o
+  each_keeps w (Lowers l plan) facts own undoomed says o h = lowers_keeps walk l plan w own h o.0 o.1
+  each_keeps w (Quiet n b) facts own undoomed says o h = nested_keeps walk n b w own h o.0 o.1 o.2
+  each_keeps w Back facts own undoomed says o h = back_keeps walk w facts h
+  each_keeps w GoesOn facts own undoomed says o h = going_keeps w h o
+  each_keeps w Resumes facts own undoomed says o h = resuming_keeps walk w facts h
+  each_keeps w (Delivers set receiver pick) facts own undoomed says o h = delivering_keeps walk set receiver pick w facts h o
+  each_keeps w Leaves facts own undoomed says o h = leaving_keeps walk w h o
+  each_keeps w (Doomed t why) facts own undoomed says o h = absurd undoomed
 
-  pub step_known : (w v : World) (labels : List Label) → (walk.Given → Facts g w) → Says w.control w.chain → ActsBy w.control (outlines_of w.tasks) w.chain → walk.Holds w → machine.next g s w ≡ Steps labels v
-      → walk.Holds v × IsPicked g s v.control v × ActsBy v.control (outlines_of v.tasks) v.chain
-  step_known w v labels facts says o h e = elim (doomed_or_not w.control) [
-    | inl undoomed ↦ subst (Keeps walk) e (each_keeps (with_control Free w) w.control (λ given. record { called = (facts given).called; subtasks = (facts given).subtasks }) undoomed says o (goes walk Free w h))
+  -- what control says, with nothing in front
+  own_free : (c : Control) (w : World) → IsControlOwn g c w → IsControlOwn g c (with_control Free w)
+  own_free Free w h = h
+  own_free (Chosen k) w h = h
+  own_free (Instantiates n) w h = h
+  own_free Runs w h = h
+  own_free (control.Calls number words) w h = h
+  own_free Arrives w h = h
+  own_free (Lowers l plan) w h = h
+  own_free (Quiet n b) w h = h
+  own_free Back w h = h
+  own_free GoesOn w h = h
+  own_free Resumes w h = h
+  own_free (Delivers set receiver pick) w h = h
+  own_free Leaves w h = h
+  own_free (Doomed t why) w h = h
+
+  pub step_known : (w v : World) (labels : List Label) → (walk.Given → Facts g w) → (walk.Apart → IsControlOwn g w.control w) → Says w.control w.chain → ActsBy w.control (outlines_of w.tasks) w.chain → walk.Holds w → machine.next g s w ≡ Steps labels v
+      → walk.Holds v × Promises walk.Apart g s v.control v × ActsBy v.control (outlines_of v.tasks) v.chain
+  step_known w v labels facts own says o h e = elim (doomed_or_not w.control) [
+    | inl undoomed ↦ subst (Keeps walk) e (each_keeps (with_control Free w) w.control (λ given. record { called = (facts given).called; subtasks = (facts given).subtasks }) (λ apart. own_free w.control w (own apart)) undoomed says o (goes walk Free w h))
     | inr d ↦ absurd (never d.0 d.1 (ap (λ (c : Control). next_by g s (with_control Free w) c) (sym d.2) ∙ e))
   ]
     where

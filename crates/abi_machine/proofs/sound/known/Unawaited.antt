@@ -1,13 +1,13 @@
 -- Tasks for which none waits in a call: those that stand in a table, that are cancelled, and those whose caller acts again.
-use Rattle.std.proofs.Common.{◌≡◌, ◌⊎◌, inl, inr, ℕ, true, List, refl, sym, ap, ◌∙◌, subst, Some}
+use Rattle.std.proofs.Common.{◌≡◌, inl, inr, ℕ, true, List, refl, sym, ap, ◌∙◌, subst, Some}
 use Rattle.std.specs.List.{slice_get}
 use Rattle.comp_graph.specs.Graph.{Graph}
 use Rattle.abi_machine.specs.World.{OfSubtask, Subtask, ForCall, TaskState, Acting, AfterCall, AfterCancel, InBuiltin, Task, World}
 use Rattle.abi_machine.specs.Edits.{changed_at, in_state}
 use Rattle.abi_machine.specs.Canons.{options_at}
-use Rattle.abi_machine.specs.Reading.{entry_at, subtask_of}
+use Rattle.abi_machine.specs.Reading.{entry_at}
 use Rattle.abi_machine.specs.sound.Acting.{Outline}
-use Rattle.abi_machine.specs.sound.Called.{IsCalledBy, Called, HasCalled, HaveCalled, CalledBy}
+use Rattle.abi_machine.specs.sound.Called.{Called, HasCalled, HaveCalled, CalledBy}
 use Rattle.abi_machine.specs.sound.Subtasks.{StandsNowhere, CallIs, IsAsync, IsUnawaited, CancelsApart, AreSubtasks}
 use Rattle.abi_machine.proofs.sound.Found.{some_same, changed_kept, changed_there}
 use Rattle.abi_machine.proofs.sound.Chained.{changed_here}
