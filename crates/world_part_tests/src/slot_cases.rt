@@ -158,7 +158,8 @@ impl Changed {
             Errand::None => Words::new(alloc),
             _ => words_of(alloc, &[1, 2])?,
         };
-        self.slot.set_errand(errand, words);
+        self.slot.set_errand(errand);
+        self.slot.set_words(words);
         Ok(())
     }
 
