@@ -1,8 +1,6 @@
 -- What stands in the table of an instance (Component Model, CanonicalABI.md, "Table State"), as handles and ends that are lifted see it, and
 -- what is found at an index where a subtask, a set, a waitable or an end is wanted, or why it is refused.
-use Rattle.std.specs.Prelude.{ℕ, nat_eq, Bool, true, false, ◌&&◌, if◌then◌else◌, Option, Some, None, Result, Ok, Err}
-use Rattle.builtin_kinds.specs.declared.EndKind.{EndKind}
-use Rattle.builtin_kinds.specs.declared.EndKind.TheVariants.{Stream, Future}
+use Rattle.std.specs.Prelude.{ℕ, nat_eq, Bool, true, false, if◌then◌else◌, Option, Some, None, Result, Ok, Err}
 use Rattle.stream_ends.specs.declared.side.Side.{Side}
 use Rattle.stream_ends.specs.declared.side.Side.TheVariants.{Reader, Writer}
 use Rattle.res_handles.specs.declared.handle.Handle.{Handle}
@@ -10,7 +8,6 @@ use Rattle.res_handles.specs.declared.entry.EntryView.{EntryView}
 use Rattle.res_handles.specs.declared.entry.EntryView.TheVariants as seen
 use Rattle.res_handles.specs.declared.refusal.Refusal.{Refusal}
 use Rattle.res_handles.specs.declared.refusal.Refusal.TheVariants.{Absent, OtherKind, OtherType, NotIdle}
-use Rattle.instances.specs.declared.entry.EndType.{EndType}
 use Rattle.instances.specs.declared.entry.EndEntry.{EndEntry}
 use Rattle.instances.specs.declared.entry.WorldEntry.{WorldEntry}
 use Rattle.instances.specs.declared.entry.WorldEntry.TheVariants as entry
@@ -21,21 +18,9 @@ same_side Reader Writer = false
 same_side Writer Reader = false
 same_side Writer Writer = true
 
-abbrev pub same_kind : EndKind → EndKind → Bool
-same_kind Stream Stream = true
-same_kind Stream Future = false
-same_kind Future Stream = false
-same_kind Future Future = true
-
-abbrev pub same_type : EndType → EndType → Bool
-same_type a b = same_kind a.kind b.kind && nat_eq a.number b.number
-
--- the type of an end
-abbrev pub type_of : EndEntry → EndType
-type_of e = record { kind = e.kind; number = e.end_type }
-
-abbrev pub is_of_type : EndType → EndEntry → Bool
-is_of_type wanted e = same_type (type_of e) wanted
+-- whether an end is of the type of a number, in a table in which no type stands twice
+abbrev pub is_of_type : ℕ → EndEntry → Bool
+is_of_type wanted e = nat_eq e.end_type wanted
 
 abbrev pub with_idle : Bool → EndEntry → EndEntry
 with_idle is_idle e = record e { is_idle = is_idle }
@@ -54,12 +39,12 @@ seen_as (entry.Subtask callee) = seen.Other
 seen_as (entry.Set set) = seen.Other
 seen_as (entry.End e) = seen_end e
 
--- the type of a readable end
-abbrev pub readable_type : Side → EndEntry → Option EndType
-readable_type Reader e = Some (type_of e)
+-- the number of the type of a readable end
+abbrev pub readable_type : Side → EndEntry → Option ℕ
+readable_type Reader e = Some e.end_type
 readable_type Writer e = None
 
-abbrev pub end_type_of : WorldEntry → Option EndType
+abbrev pub end_type_of : WorldEntry → Option ℕ
 end_type_of (entry.Handle x) = None
 end_type_of (entry.Subtask callee) = None
 end_type_of (entry.Set set) = None
@@ -69,8 +54,8 @@ end_type_of (entry.End e) = readable_type e.side e
 abbrev pub of_handle : Handle → WorldEntry
 of_handle x = entry.Handle x
 
-abbrev pub of_end : EndType → ℕ → WorldEntry
-of_end t number = entry.End (record { kind = t.kind; side = Reader; end_type = t.number; number = number; is_idle = true })
+abbrev pub of_end : ℕ → ℕ → WorldEntry
+of_end t number = entry.End (record { side = Reader; end_type = t; number = number; is_idle = true })
 
 -- the task that a subtask is
 abbrev pub subtask_in : Option WorldEntry → Result ℕ Refusal
@@ -97,10 +82,10 @@ waitable_in (Some (entry.Set set)) = Err OtherKind
 waitable_in (Some (entry.End e)) = Ok tt
 
 -- the end of a side and a type
-abbrev pub typed_end : EndType → EndEntry → Result EndEntry Refusal
+abbrev pub typed_end : ℕ → EndEntry → Result EndEntry Refusal
 typed_end wanted e = if is_of_type wanted e then Ok e else Err OtherType
 
-abbrev pub end_in : Side → EndType → Option WorldEntry → Result EndEntry Refusal
+abbrev pub end_in : Side → ℕ → Option WorldEntry → Result EndEntry Refusal
 end_in side wanted None = Err Absent
 end_in side wanted (Some (entry.Handle x)) = Err OtherKind
 end_in side wanted (Some (entry.Subtask callee)) = Err OtherKind
@@ -115,7 +100,7 @@ abbrev pub idle_in : Result EndEntry Refusal → Result ℕ Refusal
 idle_in (Ok e) = idle_number e
 idle_in (Err why) = Err why
 
-abbrev pub lifted_end : EndType → Option WorldEntry → Result ℕ Refusal
+abbrev pub lifted_end : ℕ → Option WorldEntry → Result ℕ Refusal
 lifted_end wanted found = idle_in (end_in Reader wanted found)
 
 -- an end of any type

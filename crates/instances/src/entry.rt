@@ -1,32 +1,21 @@
 //! Entries of the table of an instance.
 
 ghost use Rattle.std.specs.Prelude.{◌≡◌, ◌↔◌, IsTrue, Some};
-ghost use Rattle.instances.specs.Entries.{seen_end, readable_type, same_kind, same_side, is_of_type, with_idle};
+ghost use Rattle.instances.specs.Entries.{seen_end, readable_type, same_side, is_of_type, with_idle};
 
-use builtin_kinds::EndKind;
 use res_handles::{Entry, EntryView, Handle, ReadableEnd};
 use std::alloc::AllocError;
 use stream_ends::Side;
 
-/// The type of the ends of a stream or a future.
-#[derive(Clone, Copy)]
-pub struct EndType {
-    /// What the ends belong to.
-    pub kind: EndKind,
-    /// The number of the type of the stream or the future. Equal types have one number.
-    pub number: u32,
-}
-
 /// An end of a stream or a future.
 #[derive(Clone, Copy)]
 pub struct EndEntry {
-    /// What it belongs to.
-    pub kind: EndKind,
     /// Which end it is.
     pub side: Side,
-    /// The number of the type of the stream or the future.
-    pub end_type: u32,
-    /// The number of the stream or the future, counted from 1.
+    /// The number of the type of the stream or the future, in a table in which no type stands twice. The type tells whether the end
+    /// belongs to a stream or to a future.
+    pub end_type: usize,
+    /// The number of the stream among streams, or of the future among futures, counted from 1.
     pub number: u32,
     /// Of a readable end whether no read of it is open and it isn't done.
     pub is_idle: bool,
@@ -49,7 +38,7 @@ impl Entry for WorldEntry {
     ghost use Rattle.std.specs.Prelude.{refl};
     ghost use Rattle.instances.specs.Entries.{seen_as, end_type_of, of_handle, of_end};
 
-    type EndType = EndType;
+    type EndType = usize;
 
     ghost view = { seen_as };
 
@@ -68,7 +57,7 @@ impl Entry for WorldEntry {
         }
     }
 
-    fn is_of(&self, wanted: &EndType) -> bool {
+    fn is_of(&self, wanted: &usize) -> bool {
         match self {
             WorldEntry::Handle(_) => false,
             WorldEntry::Subtask(_) => false,
@@ -81,11 +70,10 @@ impl Entry for WorldEntry {
         WorldEntry::Handle(handle)
     }
 
-    fn of_end(wanted: &EndType, number: u32) -> Result<WorldEntry, AllocError> {
+    fn of_end(wanted: &usize, number: u32) -> Result<WorldEntry, AllocError> {
         Ok(WorldEntry::End(EndEntry {
-            kind: wanted.kind,
             side: Side::Reader,
-            end_type: wanted.number,
+            end_type: *wanted,
             number,
             is_idle: true,
         }))
@@ -112,9 +100,9 @@ impl EndEntry {
         }
     }
 
-    /// Whether it is the readable end of this type.
+    /// Whether it is the readable end of the type of this number.
     #[tactic(auto, using(crate::proofs::Types::readable_told))]
-    fn is_readable_of(&self, wanted: EndType) -> bool
+    fn is_readable_of(&self, wanted: usize) -> bool
         ensures { IsTrue result ↔ (readable_type self.now.side self.now ≡ Some wanted) }
     {
         self.is_at(Side::Reader) && self.is_of_type(wanted)
@@ -132,23 +120,11 @@ impl EndEntry {
         }
     }
 
-    /// Whether it is an end of this type.
-    pub fn is_of_type(&self, wanted: EndType) -> bool
+    /// Whether it is an end of the type of this number.
+    pub fn is_of_type(&self, wanted: usize) -> bool
         ensures { result ≡ is_of_type wanted self.now }
     {
-        self.is_of_kind(wanted.kind) && self.end_type == wanted.number
-    }
-
-    /// Whether it belongs to a stream or a future, as this says.
-    pub fn is_of_kind(&self, kind: EndKind) -> bool
-        ensures { result ≡ same_kind self.now.kind kind }
-    {
-        match (self.kind, kind) {
-            (EndKind::Stream, EndKind::Stream) => true,
-            (EndKind::Stream, EndKind::Future) => false,
-            (EndKind::Future, EndKind::Stream) => false,
-            (EndKind::Future, EndKind::Future) => true,
-        }
+        self.end_type == wanted
     }
 
     /// The same end, where this says whether it is idle.

@@ -9,7 +9,7 @@ ghost use Rattle.instances.specs.Entries.{of_handle, of_end, lifted_end};
 ghost use Rattle.instances.specs.Instances.{entry_of, view_of, lends_of, given_back, entry_removed};
 ghost use Rattle.instances.specs.Calls.{AddGives, LendGives};
 
-use crate::entry::{EndType, WorldEntry};
+use crate::entry::WorldEntry;
 use crate::instance::Instance;
 use crate::refusal::LendError;
 use res_handles::{
@@ -104,14 +104,14 @@ impl Instance {
         true
     }
 
-    /// Lifts the idle readable end of a type at an index: it leaves the table, and the number of its stream or future is answered. The
+    /// Lifts the idle readable end of the type of a number at an index: it leaves the table, and the number of its stream or future is answered. The
     /// set of which the index is a member is left by `leave_set`.
     ///
     /// # Errors
     ///
     /// `Absent`, `OtherKind`, `OtherType` and `NotIdle`, tested in this order. The instance is as it was.
     #[tactic(auto, using(crate::proofs::Types::tells_apart, crate::proofs::Types::lifted_is))]
-    pub fn lift_end(&mut self, index: u32, wanted: EndType) -> Result<u32, Refusal>
+    pub fn lift_end(&mut self, index: u32, wanted: usize) -> Result<u32, Refusal>
         ensures value { result ≡ lifted_end wanted (entry_of self.old index) }
         ensures exact { MatchResult result (λ _. self.new ≡ entry_removed index self.old) (λ _. self.new ≡ self.old) }
     {
@@ -148,12 +148,12 @@ impl Instance {
         lower_borrow(&mut self.table, resource, rep, home)
     }
 
-    /// Lowers the readable end of the stream or the future of a type and a number: a new entry, whose index is answered.
+    /// Lowers the readable end of the stream or the future of this number and of the type of a number: a new entry, whose index is answered.
     ///
     /// # Errors
     ///
     /// Those of `add`.
-    pub fn lower_end(&mut self, wanted: EndType, number: u32) -> Result<u32, LowerError>
+    pub fn lower_end(&mut self, wanted: usize, number: u32) -> Result<u32, LowerError>
         ensures exact { AddGives (of_end wanted number) self.old result self.new }
         ensures limit { IfOk result (λ index. (1 ≤ index) × (index ≤ most_live)) }
     {

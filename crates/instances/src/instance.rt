@@ -6,7 +6,7 @@ ghost use Rattle.instances.specs.Entries.{subtask_in, set_in, waitable_in, end_i
 ghost use Rattle.instances.specs.declared.entry.WorldEntry.TheVariants as entry;
 ghost use Rattle.instances.specs.Instances.{new_instance, entry_of};
 
-use crate::entry::{EndEntry, EndType, WorldEntry};
+use crate::entry::{EndEntry, WorldEntry};
 use ca_base::Memory;
 use entry_gate::Gate;
 use handle_table::Table;
@@ -101,12 +101,12 @@ impl Instance {
         }
     }
 
-    /// The end of this side and this type at an index.
+    /// The end of this side and the type of this number at an index.
     ///
     /// # Errors
     ///
     /// `Absent`, `OtherKind`, which comes of the other side too, and `OtherType`, tested in this order.
-    pub fn end_at(&self, side: Side, wanted: EndType, index: u32) -> Result<EndEntry, Refusal>
+    pub fn end_at(&self, side: Side, wanted: usize, index: u32) -> Result<EndEntry, Refusal>
         ensures { result ≡ end_in side wanted (entry_of self.now index) }
     {
         match self.entry(index) {
@@ -125,8 +125,8 @@ impl Instance {
     }
 }
 
-/// The end, if it is of this side and this type.
-fn typed_end(side: Side, wanted: EndType, end: EndEntry) -> Result<EndEntry, Refusal>
+/// The end, if it is of this side and the type of this number.
+fn typed_end(side: Side, wanted: usize, end: EndEntry) -> Result<EndEntry, Refusal>
     ensures { result ≡ end_in side wanted (Some (entry.End end)) }
 {
     if !end.is_at(side) {

@@ -21,6 +21,6 @@ mod instance;
 mod refusal;
 mod sets;
 
-pub use entry::{EndEntry, EndType, WorldEntry};
+pub use entry::{EndEntry, WorldEntry};
 pub use instance::Instance;
 pub use refusal::{DropSetError, LendError, SetError};

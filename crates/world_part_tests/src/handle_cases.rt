@@ -1,16 +1,15 @@
 //! Handles and readable ends of an instance that are lifted and lowered.
 //!
 //! `own:1,70` lowers an own handle of resource 1 with the representation 70, `borrow:1,80` a borrow of it for task 9 into an instance
-//! that defines the resources 2 and 3, `home:1,77` into one that defines 3 and 1, `end:50,6` the end of the stream 6 of type 50; `set`
-//! adds a set. `take:1,1` lifts an own handle, `lend:1,1` a borrow, `leave:3,50` an end of a stream, `leaf:3,50` one of a future;
+//! that defines the resources 2 and 3, `home:1,77` into one that defines 3 and 1, `end:50,6` the end of the stream or the future 6 of
+//! type 50; `set` adds a set. `take:1,1` lifts an own handle, `lend:1,1` a borrow, `leave:3,50` an end of type 50;
 //! `back:1` ends a loan, `lends:1` tells the loans, `rep:1,1` and `drop:1,1` are what they say, and `busy:3` says of an end that it is
 //! not idle.
 
 use crate::instance_cases::{Changed, write_added, write_handle};
 use crate::words::{number, pair, refused, write_number, yes_or_no};
-use builtin_kinds::EndKind;
 use cases::{Acts, Answers, acted};
-use instances::{EndType, Instance, LendError};
+use instances::{Instance, LendError};
 use res_handles::{Home, Refusal};
 use std::alloc::{AllocError, Global};
 use std::test::Fail;
@@ -58,32 +57,13 @@ impl Holder {
             "own" => write_added(text, self.changed.instance.lower_own(of, number)),
             "borrow" => self.write_borrow(text, rest, &[2, 3]),
             "home" => self.write_borrow(text, rest, &[3, 1]),
-            "end" => {
-                let wanted = EndType {
-                    kind: EndKind::Stream,
-                    number: of,
-                };
-                write_added(text, self.changed.instance.lower_end(wanted, number))
-            }
+            "end" => write_added(
+                text,
+                self.changed.instance.lower_end(of as usize, number),
+            ),
             "set" => self.changed.write_set(alloc, text),
             _ => text.push_str("no such word"),
         }
-    }
-
-    /// Lifts an end of a stream or a future.
-    fn write_left(
-        &mut self,
-        text: &mut String,
-        kind: EndKind,
-        rest: &str,
-    ) -> Result<(), AllocError> {
-        let (index, number) = pair(rest);
-        write_lifted(
-            text,
-            self.changed
-                .instance
-                .lift_end(index, EndType { kind, number }),
-        )
     }
 
     /// Lifts, drops or reads something.
@@ -107,8 +87,7 @@ impl Holder {
                 Ok(handle) => write_handle(text, handle),
                 Err(why) => text.push_str(refused(why)),
             },
-            "leave" => self.write_left(text, EndKind::Stream, rest),
-            "leaf" => self.write_left(text, EndKind::Future, rest),
+            "leave" => write_lifted(text, self.changed.instance.lift_end(index, of as usize)),
             _ => self.write_lowered(alloc, text, name, rest),
         }
     }

@@ -1,16 +1,14 @@
 //! Entries of an instance, and what stands at an index.
 //!
-//! `sub:7` adds the subtask that task 7 is, `mk` makes a set and adds it, `sr:50,6` and `sw:50,6` add the readable and the writable end
-//! of the stream 6 of type 50, `fr` and `fw` those of a future. `at:1` tells what stands at an index; `s:1`,
-//! `t:1` and `w:1` what is found there where a subtask, a set or a waitable is wanted; `esr:1,50`, `esw`, `efr` and `efw` where the end
-//! of a stream or a future of type 50 is. `rm:1` removes, `busy:1` and `idle:1` say of an end whether it is idle, `all` lists the
+//! `sub:7` adds the subtask that task 7 is, `mk` makes a set and adds it, `r:50,6` and `w:50,6` add the readable and the writable end
+//! of the stream or the future 6 of type 50. `at:1` tells what stands at an index; `s:1`, `t:1` and `m:1` what is found there where a
+//! subtask, a set or a waitable is wanted; `er:1,50` and `ew:1,50` where the readable or the writable end of type 50 is. `rm:1` removes, `busy:1` and `idle:1` say of an end whether it is idle, `all` lists the
 //! indices, `out` takes the table out and tells its length, and `swap` takes it out and puts it back. `fill` adds subtasks until no
 //! more is added, and tells how many.
 
 use crate::words::{number, pair, refused, write_list, write_number, yes_or_no};
-use builtin_kinds::EndKind;
 use cases::{Acts, Answers, acted};
-use instances::{EndEntry, EndType, Instance, WorldEntry};
+use instances::{EndEntry, Instance, WorldEntry};
 use res_handles::{Handle, LowerError, Ownership, Refusal};
 use std::alloc::{AllocError, Global};
 use std::fmt::Write;
@@ -18,12 +16,11 @@ use std::test::Fail;
 use stream_ends::Side;
 
 /// An end of a type and a number, which is idle.
-pub(crate) fn end(kind: EndKind, side: Side, of: &str) -> WorldEntry {
+fn end(side: Side, of: &str) -> WorldEntry {
     let (end_type, number) = pair(of);
     WorldEntry::End(EndEntry {
-        kind,
         side,
-        end_type,
+        end_type: end_type as usize,
         number,
         is_idle: true,
     })
@@ -57,16 +54,12 @@ pub(crate) fn write_handle(text: &mut String, handle: Handle) -> Result<(), Allo
 
 /// Writes an end.
 fn write_end(text: &mut String, end: EndEntry) -> Result<(), AllocError> {
-    let kind = match end.kind {
-        EndKind::Stream => "S",
-        EndKind::Future => "F",
-    };
     let side = match end.side {
         Side::Reader => "readable",
         Side::Writer => "writable",
     };
     let (of, number, idle) = (end.end_type, end.number, yes_or_no(end.is_idle));
-    write!(text, "{side}-{kind}{number}:{of}-{idle}")
+    write!(text, "{side}-{number}:{of}-{idle}")
 }
 
 /// Writes what stands at an index.
@@ -123,41 +116,34 @@ impl Changed {
         }
     }
 
-    /// The end of a stream or a future at an index, of a type.
+    /// The end of a side at an index, of a type.
     fn write_end_at(
         &mut self,
         text: &mut String,
-        kind: EndKind,
         side: Side,
         rest: &str,
     ) -> Result<(), AllocError> {
-        let (index, number) = pair(rest);
-        let wanted = EndType { kind, number };
-        write_found_end(text, self.instance.end_at(side, wanted, index))
+        let (index, wanted) = pair(rest);
+        write_found_end(text, self.instance.end_at(side, wanted as usize, index))
     }
 
     /// Adds an end.
     fn write_new_end(
         &mut self,
         text: &mut String,
-        kind: EndKind,
         side: Side,
         rest: &str,
     ) -> Result<(), AllocError> {
-        write_added(text, self.instance.add(end(kind, side, rest)))
+        write_added(text, self.instance.add(end(side, rest)))
     }
 
     /// What a word says of the end of a stream or a future.
     fn write_ends(&mut self, text: &mut String, name: &str, rest: &str) -> Result<(), AllocError> {
         match name {
-            "sr" => self.write_new_end(text, EndKind::Stream, Side::Reader, rest),
-            "sw" => self.write_new_end(text, EndKind::Stream, Side::Writer, rest),
-            "fr" => self.write_new_end(text, EndKind::Future, Side::Reader, rest),
-            "fw" => self.write_new_end(text, EndKind::Future, Side::Writer, rest),
-            "esr" => self.write_end_at(text, EndKind::Stream, Side::Reader, rest),
-            "esw" => self.write_end_at(text, EndKind::Stream, Side::Writer, rest),
-            "efr" => self.write_end_at(text, EndKind::Future, Side::Reader, rest),
-            "efw" => self.write_end_at(text, EndKind::Future, Side::Writer, rest),
+            "r" => self.write_new_end(text, Side::Reader, rest),
+            "w" => self.write_new_end(text, Side::Writer, rest),
+            "er" => self.write_end_at(text, Side::Reader, rest),
+            "ew" => self.write_end_at(text, Side::Writer, rest),
             _ => text.push_str("no such word"),
         }
     }
@@ -169,7 +155,7 @@ impl Changed {
             "at" => write_entry(text, self.instance.entry(index)),
             "s" => write_found(text, self.instance.subtask_at(index).map(u64::from)),
             "t" => write_found(text, self.instance.set_at(index)),
-            "w" => match self.instance.waitable_at(index) {
+            "m" => match self.instance.waitable_at(index) {
                 Ok(()) => text.push_str("ok"),
                 Err(why) => text.push_str(refused(why)),
             },
