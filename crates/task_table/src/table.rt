@@ -16,7 +16,7 @@ pub struct Tasks {
     /// All of them, by their numbers.
     pub slots: Vec<TaskSlot>,
     /// The numbers of those that have not exited, rising.
-    pub open: Vec<u32>,
+    pub live: Vec<u32>,
     /// The tasks that the script's calls made, in the order of the calls.
     pub calls: Vec<u32>,
 }
@@ -25,12 +25,12 @@ impl Tasks {
     /// No task. It takes no memory.
     pub fn new(alloc: Global) -> Tasks
         ensures slots { result.slots.items ≡ [] }
-        ensures open { result.open.items ≡ [] }
+        ensures live { result.live.items ≡ [] }
         ensures calls { result.calls.items ≡ [] }
     {
         Tasks {
             slots: Vec::new(alloc),
-            open: Vec::new(alloc),
+            live: Vec::new(alloc),
             calls: Vec::new(alloc),
         }
     }
@@ -56,11 +56,11 @@ impl Tasks {
     pub fn add(&mut self, slot: TaskSlot) -> Result<u32, Memory>
         ensures number { IfOk result (λ number. number ≡ length self.old.slots.items) }
         ensures slots { OnOk result (self.new.slots.items ≡ self.old.slots.items ++ slot ∷ []) }
-        ensures open { OnOk result (self.new.open.items ≡ self.old.open.items ++ length self.old.slots.items ∷ []) }
+        ensures live { OnOk result (self.new.live.items ≡ self.old.live.items ++ length self.old.slots.items ∷ []) }
         ensures calls { self.new.calls.items ≡ self.old.calls.items }
     {
         let number = self.next()?;
-        match self.open.push(number) {
+        match self.live.push(number) {
             Ok(()) => {}
             Err(_) => return Err(Memory),
         }
@@ -73,11 +73,11 @@ impl Tasks {
     /// Says that a task has exited. Where it is none of those that have not nothing changes.
     pub fn close(&mut self, task: u32)
         ensures slots { self.new.slots.items ≡ self.old.slots.items }
-        ensures open { self.new.open.items ≡ without task self.old.open.items }
+        ensures live { self.new.live.items ≡ without task self.old.live.items }
         ensures calls { self.new.calls.items ≡ self.old.calls.items }
     {
-        if let Some(at) = place_of(&self.open, task) {
-            self.open.remove(at);
+        if let Some(at) = place_of(&self.live, task) {
+            self.live.remove(at);
         }
     }
 

@@ -14,3 +14,6 @@ then_spent d h f e = ap (λ d. after d f) e
 
 pub then_stuck : {A B : Type 0} (d : Done A) (f : A → Held → Done B) → d ≡ Stuck → after d f ≡ Stuck
 then_stuck d f e = ap (λ d. after d f) e
+
+-- all of them
+pub ruleset thens = (then_gives, then_traps, then_spent, then_stuck)

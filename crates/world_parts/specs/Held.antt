@@ -17,7 +17,7 @@ pub record Held : Type 0 where
   pub memories : List (Option ℕ)
   pub instances : List InstanceView
   pub tasks : List TaskSlot
-  pub open : List ℕ
+  pub live : List ℕ
   pub calls : List ℕ
   pub streams : List Channel
   pub futures : List Channel
@@ -35,7 +35,7 @@ held p = record {
   memories = p.memories.items;
   instances = p.instances.items;
   tasks = p.tasks.slots.items;
-  open = p.tasks.open.items;
+  live = p.tasks.live.items;
   calls = p.tasks.calls.items;
   streams = p.streams.items;
   futures = p.futures.items;

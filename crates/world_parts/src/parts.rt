@@ -117,3 +117,28 @@ pub enum Flow {
     /// Elements are copied.
     Copies(Copying),
 }
+
+/// What gets an event.
+#[derive(Clone, Copy)]
+pub enum Receiver {
+    /// The wait of a task, at a call of this canonical function with this place for the event.
+    InWait {
+        /// The canonical function.
+        canon: u32,
+        /// The place in memory.
+        place: u32,
+    },
+    /// The task's callback.
+    InCallback,
+}
+
+/// What comes of a turn.
+#[derive(Clone, Copy)]
+pub enum Turned {
+    /// Nothing may be done.
+    Ends,
+    /// An item of the script is taken.
+    TakesItem,
+    /// A task goes on.
+    GoesOn,
+}
