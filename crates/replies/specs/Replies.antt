@@ -1,6 +1,6 @@
 -- Calls of canonical functions (Component Model, CanonicalABI.md, "Canonical Definitions"; "Component Instance State": `may_leave`): the line
--- comes first. Whether one may be called is told by `may_leave`, and asked by who calls it. Built-ins of the ends of streams and futures are
--- answered beside, by the numbers of their types.
+-- comes first. Whether one may be called is told by `may_leave`, and asked by who calls it. Built-ins that ask
+-- for an event of a set, and those of the ends of streams and futures, are answered elsewhere.
 use Rattle.std.specs.Prelude.{ℕ, Bool, false, Option, Some, None}
 use Rattle.std.specs.List.{slice_get}
 use Rattle.builtin_kinds.specs.declared.ResourceOp.{ResourceOp}
@@ -29,7 +29,7 @@ use Rattle.world_parts.specs.Calls.{call_begun}
 use Rattle.world_parts.specs.Handles.{resource_new, resource_rep, resource_drop}
 use Rattle.world_parts.specs.Plain.{context_get, context_put, backpressure_set, backpressure_inc, backpressure_dec, task_cancel, task_yield, return_asked}
 use Rattle.world_parts.specs.Subtasks.{subtask_cancel, subtask_drop}
-use Rattle.world_parts.specs.Waits.{set_new, set_drop, waitable_join, set_wait}
+use Rattle.world_parts.specs.Waits.{set_new, set_drop, waitable_join}
 use Rattle.replies.specs.Seen.{seen}
 
 -- all is instantiated
@@ -72,13 +72,13 @@ plain_reply g t at canon plain.WaitableSetNew h = set_new t at h
 plain_reply g t at canon plain.WaitableSetDrop h = set_drop t at h
 plain_reply g t at canon plain.WaitableJoin h = waitable_join t at h
 
--- all of them but those of ends
+-- all of them but those that ask for an event and those of ends
 abbrev pub builtin_reply : Graph → ℕ → ℕ → ℕ → BuiltinKind → Held → Done Flow
 builtin_reply g t at canon (kind.Resource op resource) h = resource_reply g t at canon op resource h
 builtin_reply g t at canon (kind.TaskReturn result options) h = return_asked t h
 builtin_reply g t at canon (kind.Plain op) h = plain_reply g t at canon op h
 builtin_reply g t at canon (kind.Context op slot) h = context_reply t op slot h
-builtin_reply g t at canon (kind.Wait op cancellable memory) h = set_wait (seen g) t at canon op h
+builtin_reply g t at canon (kind.Wait op cancellable memory) h = Stuck
 builtin_reply g t at canon (kind.End of_what element op) h = Stuck
 
 -- the canonical function of a number, which is called

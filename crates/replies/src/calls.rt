@@ -1,7 +1,7 @@
 //! Calls of functions by tasks, and control that is back at their callers.
 
 ghost use Rattle.world_parts.specs.Held.{Does};
-ghost use Rattle.world_parts.specs.Calls.{blocked, blocked_in, call_begun, unlent, all_unlent, given_back, given_back_if, subtask_told, call_resolved, call_open, back_from_call, cancel_resolved, cancel_open, back_from_cancel, back_by, back};
+ghost use Rattle.world_parts.specs.Calls.{call_begun, call_resolved, call_open, back_from_call, cancel_resolved, cancel_open, back_from_cancel, back_by, back};
 ghost use Rattle.replies.specs.Seen.{seen};
 
 use comp_graph::Graph;
@@ -10,44 +10,12 @@ use graph_views::{flag_at, is_async};
 use instances::WorldEntry;
 use std::alloc::Global;
 use task_table::{Called, Callee, Caller, Errand, TaskSlot, Words};
-use tasks::{BlockedAt, TaskEvent};
+use tasks::BlockedAt;
 use trace_show::{BlockReason, Label, TrapName};
-use world_parts::{Flow, Part, Parts, Rest, Stop, number_behind};
+use world_parts::{Flow, Part, Parts, Rest, Stop, block_in, number_behind, tell_subtask};
 
 /// What a call that does not wait answers where it would block.
 const BLOCKED: u64 = 4_294_967_295;
-
-/// Lets a task block, with or without the flag of its canonical function. Control goes to the task before it.
-#[tactic(auto, unfolding(world_parts::specs::Calls::blocked), using(world_parts::proofs::Thens::thens))]
-pub(crate) fn block(
-    parts: &mut Parts,
-    task: u32,
-    why: BlockedAt,
-    flag: bool,
-    reason: BlockReason,
-) -> Part<Flow>
-    ensures { Does (blocked task why flag reason) parts.old result parts.new }
-{
-    parts.advance(task, TaskEvent::Block(why, flag))?;
-    parts.tell(Label::Block { task, reason })?;
-    parts.leave_chain()
-}
-
-/// Lets a task block in the canonical function of a number.
-#[tactic(auto, unfolding(world_parts::specs::Calls::blocked_in), using(world_parts::proofs::Thens::thens))]
-pub(crate) fn block_in(
-    graph: &Graph<'_>,
-    parts: &mut Parts,
-    task: u32,
-    canon: u32,
-    why: BlockedAt,
-    reason: BlockReason,
-) -> Part<Flow>
-    ensures { Does (blocked_in (seen graph.now) task canon why reason) parts.old result parts.new }
-{
-    parts.set_errand(task, Errand::InBuiltin { canon })?;
-    block(parts, task, why, flag_at(graph, canon), reason)
-}
 
 /// A task calls a function of an instance, by the canonical function of a number, and passes words. The trap is `Reentrant`.
 #[tactic(auto, unfolding(world_parts::specs::Calls::call_begun), using(world_parts::proofs::Thens::thens))]
@@ -88,68 +56,6 @@ pub(crate) fn begin_call(
     parts.chain_up(made)?;
     parts.rest = Rest::Arrives;
     Ok(Flow::Rests)
-}
-
-/// A handle of an instance that was lent for the call of a task is given back, with a line.
-fn unlend(parts: &mut Parts, at: usize, callee: u32, handle: u32) -> Part<()>
-    ensures { Does (unlent at callee handle) parts.old result parts.new }
-{
-    parts.end_lend(at, handle)?;
-    let Some(number) = number_behind(at) else {
-        return Err(Stop::Memory);
-    };
-    parts.tell(Label::Unlend {
-        instance: number,
-        handle,
-        task: callee,
-    })
-}
-
-/// Handles of an instance that were lent for the call of a task are given back, in their order.
-fn unlend_all(parts: &mut Parts, at: usize, callee: u32, handles: &[u32]) -> Part<()>
-    ensures { Does (all_unlent at callee handles.now) parts.old result parts.new }
-{
-    for handle in handles {
-        unlend(parts, at, callee, *handle)?;
-    }
-    Ok(())
-}
-
-/// What was lent for the call of a task is given back.
-#[tactic(auto, unfolding(world_parts::specs::Calls::given_back), using(world_parts::proofs::Thens::thens))]
-fn give_back(alloc: Global, parts: &mut Parts, at: usize, callee: u32) -> Part<()>
-    ensures { Does (given_back at callee) parts.old result parts.new }
-{
-    let handles = parts.lends(alloc, callee)?;
-    unlend_all(parts, at, callee, handles.as_slice())
-}
-
-/// The same where the task has resolved.
-fn give_back_if(
-    alloc: Global,
-    parts: &mut Parts,
-    is_over: bool,
-    at: usize,
-    callee: u32,
-) -> Part<()>
-    ensures { Does (given_back_if is_over at callee) parts.old result parts.new }
-{
-    if is_over {
-        give_back(alloc, parts, at, callee)
-    } else {
-        Ok(())
-    }
-}
-
-/// The caller of a task, in this instance, is told the task's state, whose payload is answered. Once it has resolved, what was lent for
-/// the call is given back.
-#[tactic(auto, unfolding(world_parts::specs::Calls::subtask_told), using(world_parts::proofs::Thens::thens))]
-pub(crate) fn tell_subtask(alloc: Global, parts: &mut Parts, at: usize, callee: u32) -> Part<u32>
-    ensures { Does (subtask_told at callee) parts.old result parts.new }
-{
-    let is_over = parts.is_resolved(callee)?;
-    give_back_if(alloc, parts, is_over, at, callee)?;
-    parts.tell_state(callee)
 }
 
 /// Answers the call of a task that has resolved.
@@ -193,10 +99,10 @@ fn call_open(
         parts.answer_one(alloc, task, u64::from(state) + 16 * u64::from(index))
     } else {
         block_in(
-            graph,
             parts,
             task,
             canon,
+            flag_at(graph, canon),
             BlockedAt::Call(callee),
             BlockReason::Call(callee),
         )
@@ -258,10 +164,10 @@ fn cancel_open(
     } else {
         parts.set_awaited(callee, true)?;
         block_in(
-            graph,
             parts,
             task,
             canon,
+            flag_at(graph, canon),
             BlockedAt::Cancel(index),
             BlockReason::Cancel(index),
         )

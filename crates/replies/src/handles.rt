@@ -5,6 +5,7 @@ ghost use Rattle.world_parts.specs.Handles.{resource_new, resource_rep, undestro
 ghost use Rattle.replies.specs.Seen.{seen};
 
 use crate::calls::begin_call;
+use crate::tables::drop_handle;
 use comp_graph::{FuncRef, Graph};
 use entry_gate::Kind;
 use graph_views::resource_at;
@@ -68,7 +69,7 @@ pub(crate) fn resource_drop(
     ensures { Does (resource_drop (seen graph.now) task at canon resource) parts.old result parts.new }
 {
     let index = parts.word(task, 0)?;
-    let handle = parts.drop_handle(at, index, resource)?;
+    let handle = drop_handle(parts, at, index, resource)?;
     match handle.ownership {
         Ownership::Own => destroy(alloc, graph, parts, task, at, canon, handle),
         Ownership::Borrow(by) => {

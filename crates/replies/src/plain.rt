@@ -1,16 +1,16 @@
 //! Built-ins of words of context, of backpressure, and those by which a task resolves and lets others run.
 
 ghost use Rattle.world_parts.specs.Held.{Does};
-ghost use Rattle.world_parts.specs.Plain.{context_get, context_put, backpressure_inc, backpressure_dec, backpressure_set, return_asked, returned, task_cancel, yield_cancelled, task_yield};
+ghost use Rattle.world_parts.specs.Plain.{context_get, context_put, backpressure_inc, backpressure_dec, backpressure_set, return_asked, returned, task_cancel, task_yield};
 ghost use Rattle.replies.specs.Seen.{seen};
 
-use crate::calls::block_in;
+use crate::standing::{lower_pressure, raise_pressure, set_pressure};
 use comp_graph::Graph;
 use graph_views::flag_at;
 use std::alloc::Global;
 use tasks::{BlockedAt, SubtaskState, TaskEvent};
 use trace_show::{BlockReason, Label, TypedValue};
-use world_parts::{Flow, Part, Parts};
+use world_parts::{Flow, Part, Parts, block_in, yield_cancelled};
 
 /// `context.get`: a word of context.
 #[tactic(auto, unfolding(world_parts::specs::Plain::context_get), using(world_parts::proofs::Thens::thens))]
@@ -41,7 +41,7 @@ pub(crate) fn backpressure_inc(
 ) -> Part<Flow>
     ensures { Does (backpressure_inc task at) parts.old result parts.new }
 {
-    parts.raise_pressure(at)?;
+    raise_pressure(parts, at)?;
     parts.answer_none(alloc, task)
 }
 
@@ -55,7 +55,7 @@ pub(crate) fn backpressure_dec(
 ) -> Part<Flow>
     ensures { Does (backpressure_dec task at) parts.old result parts.new }
 {
-    parts.lower_pressure(at)?;
+    lower_pressure(parts, at)?;
     parts.answer_none(alloc, task)
 }
 
@@ -70,7 +70,7 @@ pub(crate) fn backpressure_set(
     ensures { Does (backpressure_set task at) parts.old result parts.new }
 {
     let enabled = parts.word(task, 0)?;
-    parts.set_pressure(at, enabled)?;
+    set_pressure(parts, at, enabled)?;
     parts.answer_none(alloc, task)
 }
 
@@ -104,21 +104,6 @@ pub(crate) fn task_cancel(alloc: Global, parts: &mut Parts, task: u32) -> Part<F
     parts.answer_none(alloc, task)
 }
 
-/// A task is told in `yield` that its cancellation is asked.
-#[tactic(auto, unfolding(world_parts::specs::Plain::yield_cancelled), using(world_parts::proofs::Thens::thens))]
-pub(crate) fn yield_cancelled(alloc: Global, parts: &mut Parts, task: u32) -> Part<Flow>
-    ensures { Does (yield_cancelled task) parts.old result parts.new }
-{
-    parts.advance(task, TaskEvent::ToldCancel)?;
-    parts.tell(Label::Event {
-        task,
-        code: 6,
-        index: 0,
-        payload: 0,
-    })?;
-    parts.answer_one(alloc, task, 1)
-}
-
 /// `yield`
 #[tactic(auto, unfolding(world_parts::specs::Plain::task_yield), using(world_parts::proofs::Thens::thens))]
 pub(crate) fn task_yield(
@@ -134,6 +119,7 @@ pub(crate) fn task_yield(
     if flag_at(graph, canon) && asked {
         yield_cancelled(alloc, parts, task)
     } else {
-        block_in(graph, parts, task, canon, BlockedAt::Yield, BlockReason::Yield)
+        let flag = flag_at(graph, canon);
+        block_in(parts, task, canon, flag, BlockedAt::Yield, BlockReason::Yield)
     }
 }

@@ -11,14 +11,14 @@ use crate::plain::{
     ask_return, backpressure_dec, backpressure_inc, backpressure_set, context_get, context_put,
     task_cancel, task_yield,
 };
+use crate::sets::{set_drop, set_new, waitable_join};
 use crate::subtasks::{subtask_cancel, subtask_drop};
-use crate::waits::{set_drop, set_new, set_wait, waitable_join};
 use builtin_kinds::{ContextOp, PlainBuiltin, ResourceOp};
 use comp_graph::{BuiltinKind, CanonFunc, Graph, Lift};
 use graph_views::{builtin_of, kind_of};
 use std::alloc::Global;
 use task_table::{Callee, TaskSlot};
-use trace_show::{Label, TrapName};
+use trace_show::Label;
 use world_parts::{Flow, Part, Parts, Stop};
 
 /// Whether a task is there and has exited.
@@ -118,7 +118,7 @@ fn plain_reply(
     }
 }
 
-/// A built-in. Those of ends are answered by `channel_new` and its fellows.
+/// A built-in. Those that ask for an event of a set, and those of the ends of streams and futures, are answered elsewhere.
 fn builtin_reply(
     alloc: Global,
     graph: &Graph<'_>,
@@ -141,10 +141,10 @@ fn builtin_reply(
         BuiltinKind::Plain(op) => plain_reply(alloc, graph, parts, task, at, canon, *op),
         BuiltinKind::Context { op, slot } => context_reply(alloc, parts, task, *op, *slot),
         BuiltinKind::Wait {
-            op,
+            op: _,
             cancellable: _,
             memory: _,
-        } => set_wait(alloc, graph, parts, task, at, canon, *op),
+        } => Err(Stop::Stuck),
         BuiltinKind::End {
             kind: _,
             element: _,

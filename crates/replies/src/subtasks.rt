@@ -3,6 +3,7 @@
 ghost use Rattle.world_parts.specs.Held.{Does};
 ghost use Rattle.world_parts.specs.Subtasks.{removed, cancelled_by, cancelled, subtask_asked, subtask_cancel, subtask_drop};
 
+use crate::standing::{is_delivered, request_cancel, was_never_asked};
 use std::alloc::Global;
 use task_table::Errand;
 use tasks::{Asked, SubtaskState};
@@ -47,7 +48,7 @@ fn cancel_by(parts: &mut Parts, case: Asked, task: u32, behind: Rest) -> Part<Fl
 pub(crate) fn cancel(parts: &mut Parts, task: u32, behind: Rest) -> Part<Flow>
     ensures { Does (cancelled task behind) parts.old result parts.new }
 {
-    let case = parts.request_cancel(task)?;
+    let case = request_cancel(parts, task)?;
     cancel_by(parts, case, task, behind)
 }
 
@@ -80,11 +81,11 @@ pub(crate) fn subtask_cancel(parts: &mut Parts, task: u32, at: usize, canon: u32
 {
     let index = parts.word(task, 0)?;
     let callee = parts.subtask_at(at, index)?;
-    let is_delivered = parts.is_delivered(callee)?;
+    let is_delivered = is_delivered(parts, callee)?;
     if is_delivered {
         return Err(Stop::Trap(TrapName::Delivered));
     }
-    let is_unasked = parts.is_unasked(callee)?;
+    let is_unasked = was_never_asked(parts, callee)?;
     if !is_unasked {
         return Err(Stop::Trap(TrapName::Asked));
     }
@@ -98,7 +99,7 @@ pub(crate) fn subtask_drop(alloc: Global, parts: &mut Parts, task: u32, at: usiz
 {
     let index = parts.word(task, 0)?;
     let callee = parts.subtask_at(at, index)?;
-    let is_delivered = parts.is_delivered(callee)?;
+    let is_delivered = is_delivered(parts, callee)?;
     if !is_delivered {
         return Err(Stop::Trap(TrapName::NotDelivered));
     }

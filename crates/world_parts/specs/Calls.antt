@@ -34,9 +34,9 @@ unfoldable pub blocked : ℕ → BlockedAt → Bool → BlockReason → Held →
 blocked t why flag reason h =
     after (happens t (event.Block why flag) h) (λ done k. after (told (line.Block t reason) k) (λ done l. left_chain l))
 
-unfoldable pub blocked_in : Views → ℕ → ℕ → BlockedAt → BlockReason → Held → Done Flow
-blocked_in g t canon why reason h =
-    after (errand_set t (errand.InBuiltin canon) h) (λ done k. blocked t why (g.flag canon) reason k)
+unfoldable pub blocked_in : ℕ → ℕ → Bool → BlockedAt → BlockReason → Held → Done Flow
+blocked_in t canon flag why reason h =
+    after (errand_set t (errand.InBuiltin canon) h) (λ done k. blocked t why flag reason k)
 
 -- A task calls a function, by the canonical function of this number, and passes these words. Instances are counted from 1 in lines.
 unfoldable pub call_begun : ℕ → ℕ → Callee → ℕ → Kind → List ℕ → Held → Done Flow
@@ -76,7 +76,7 @@ unfoldable pub call_open : Views → ℕ → ℕ → ℕ → ℕ → Held → Do
 call_open g t at callee canon h =
     if g.is_async canon
     then after (entry_added at (entry.Subtask callee) h) (λ index k. after (state_told callee k) (λ state l. got t (state + 16 * index ∷ []) l))
-    else blocked_in g t canon (blocked_at.Call callee) (reason.Call callee) h
+    else blocked_in t canon (g.flag canon) (blocked_at.Call callee) (reason.Call callee) h
 
 unfoldable pub back_from_call : Views → ℕ → ℕ → ℕ → ℕ → Held → Done Flow
 back_from_call g t at callee canon h =
@@ -90,7 +90,7 @@ cancel_resolved t at callee h = after (subtask_told at callee h) (λ payload k. 
 unfoldable pub cancel_open : Views → ℕ → ℕ → ℕ → ℕ → Held → Done Flow
 cancel_open g t callee canon index h =
     if g.flag canon then got t (blocked_word ∷ []) h
-    else after (awaited callee true h) (λ done k. blocked_in g t canon (blocked_at.Cancel index) (reason.Cancel index) k)
+    else after (awaited callee true h) (λ done k. blocked_in t canon (g.flag canon) (blocked_at.Cancel index) (reason.Cancel index) k)
 
 unfoldable pub back_from_cancel : Views → ℕ → ℕ → ℕ → ℕ → ℕ → Held → Done Flow
 back_from_cancel g t at callee canon index h =

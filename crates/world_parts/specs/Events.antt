@@ -1,7 +1,7 @@
 -- Events (Component Model, CanonicalABI.md, "Waitable Set State", `canon waitable-set.wait`, `canon lift`; Concurrency.md, "Waitables and Waitable
 -- Sets"): one comes to a task by its line, with its index and its payload: at a wait as eight bytes in memory and the answer, at a
 -- callback as its arguments.
-use Rattle.std.specs.Prelude.{ℕ, ◌+◌, Bool, if◌then◌else◌, List, [], ◌∷◌, ◌++◌, length, Option, Some, None}
+use Rattle.std.specs.Prelude.{ℕ, nat_eq, if◌then◌else◌, List, [], ◌∷◌, ◌++◌, length, Option, Some, None}
 use Rattle.std.specs.List.{slice_get}
 use Rattle.std.specs.Int.{w32, to_le_bytes}
 use Rattle.builtin_kinds.specs.declared.EndKind.{EndKind}
@@ -97,3 +97,10 @@ delivered_among g t at r members h =
 
 unfoldable pub delivers : Views → ℕ → ℕ → Receiver → ℕ → Held → Done Flow
 delivers g t at r set h = delivered_among g t at r (ready g at set h) h
+
+-- The same of a poll, which gets no event where no member is ready.
+unfoldable pub polled : Views → ℕ → ℕ → Receiver → List ℕ → Held → Done Flow
+polled g t at r members h = if nat_eq (length members) 0 then received_none g t r h else delivered_among g t at r members h
+
+unfoldable pub polls : Views → ℕ → ℕ → Receiver → ℕ → Held → Done Flow
+polls g t at r set h = polled g t at r (ready g at set h) h

@@ -1,6 +1,6 @@
 -- Tasks enter, block in their loops, go on and exit (Component Model, CanonicalABI.md, "Task State", `canon lift`, `unpack_callback_result`;
 -- Concurrency.md, "Summary").
-use Rattle.std.specs.Prelude.{ℕ, nat_eq, Bool, ◌&&◌, is_none, if◌then◌else◌, List, [], ◌∷◌, length, Result, Ok, Err}
+use Rattle.std.specs.Prelude.{ℕ, Bool, false, true, is_none, if◌then◌else◌, [], ◌∷◌, Option, Some, None, Result, Ok, Err}
 use Rattle.entry_gate.specs.Callbacks.{callback_of}
 use Rattle.entry_gate.specs.declared.callback.BadCode.{BadCode}
 use Rattle.entry_gate.specs.declared.callback.Next.{Next}
@@ -15,8 +15,6 @@ use Rattle.task_table.specs.declared.errand.Errand.{Errand}
 use Rattle.task_table.specs.declared.errand.Errand.TheVariants as errand
 use Rattle.instances.specs.declared.entry.WorldEntry.{WorldEntry}
 use Rattle.instances.specs.declared.entry.WorldEntry.TheVariants as entry
-use Rattle.std.specs.Prelude.{Option, Some, None, false, true}
-use Rattle.world_parts.specs.Views.{Views}
 use Rattle.trace_show.specs.declared.label.BlockReason.{BlockReason}
 use Rattle.trace_show.specs.declared.label.BlockReason.TheVariants as reason
 use Rattle.trace_show.specs.declared.label.Label.TheVariants as line
@@ -32,8 +30,7 @@ use Rattle.world_parts.specs.Gates.{may_enter, gate_waited, gate_unwaited, gate_
 use Rattle.world_parts.specs.Slots.{instance_of, kind_of, phase_of, resolution_of, errand_of, asked, to_be_told, word_of, happens, errand_set, raised, awaited, result_found, closed}
 use Rattle.world_parts.specs.Calls.{blocked, subtask_told}
 use Rattle.world_parts.specs.Plain.{yield_cancelled}
-use Rattle.world_parts.specs.News.{ready}
-use Rattle.world_parts.specs.Events.{received_none, received_cancel, end_told, delivered_among, delivers}
+use Rattle.world_parts.specs.Events.{end_told}
 
 -- A task that is new enters, or waits to.
 unfoldable pub arrives : Held → Done Flow
@@ -87,44 +84,43 @@ loops_by t at word (Ok (next.Poll set)) h = looped_at_set t at word set (reason.
 unfoldable pub loops : ℕ → ℕ → Held → Done Flow
 loops t word h = after (instance_of t h) (λ at k. loops_by t at word (callback_of word) k)
 
--- A blocked task goes on in its loop, where it has exclusive entry again,
-unfoldable pub loop_polled : Views → ℕ → ℕ → ℕ → Held → Done Flow
-loop_polled g t at set h =
-    if nat_eq (length (ready g at set h)) 0 then received_none g t receiver.InCallback h
-    else delivered_among g t at receiver.InCallback (ready g at set h) h
+-- A blocked task goes on in its loop, where it has exclusive entry again: the event of its cancellation comes, or of a member of the set on
+-- which it waited, or none.
+abbrev pub loop_flow : Bool → Bool → ℕ → Flow
+loop_flow is_asked polls set =
+    if is_asked then flow.HearsCancel receiver.InCallback else
+    if polls then flow.Polls receiver.InCallback set else flow.Delivers receiver.InCallback set
 
-abbrev pub loop_at_set : Views → ℕ → ℕ → Bool → Bool → ℕ → Held → Done Flow
-loop_at_set g t at is_asked polls set h =
-    if is_asked then received_cancel g t receiver.InCallback h else
-    if polls then loop_polled g t at set h else delivers g t at receiver.InCallback set h
+abbrev pub yield_flow : Bool → Flow
+yield_flow is_asked = if is_asked then flow.HearsCancel receiver.InCallback else flow.HearsNone receiver.InCallback
 
-unfoldable pub loop_resumed_at : Views → ℕ → ℕ → Bool → Bool → ℕ → Held → Done Flow
-loop_resumed_at g t at is_asked polls index h =
-    after (set_found at index h) (λ set k. after (set_waited_off at set k) (λ done l. loop_at_set g t at is_asked polls set l))
+unfoldable pub loop_resumed_at : ℕ → Bool → Bool → ℕ → Held → Done Flow
+loop_resumed_at at is_asked polls index h =
+    after (set_found at index h) (λ set k. after (set_waited_off at set k) (λ done l. Gives (loop_flow is_asked polls set) l))
 
-unfoldable pub loop_yielded : Views → ℕ → Bool → Held → Done Flow
-loop_yielded g t is_asked h = if is_asked then received_cancel g t receiver.InCallback h else received_none g t receiver.InCallback h
+abbrev pub loop_resumed_by : ℕ → Bool → Result Next BadCode → Held → Done Flow
+loop_resumed_by at is_asked (Err why) h = Stuck
+loop_resumed_by at is_asked (Ok next.Exit) h = Stuck
+loop_resumed_by at is_asked (Ok next.Yield) h = Gives (yield_flow is_asked) h
+loop_resumed_by at is_asked (Ok (next.Wait index)) h = loop_resumed_at at is_asked false index h
+loop_resumed_by at is_asked (Ok (next.Poll index)) h = loop_resumed_at at is_asked true index h
 
-abbrev pub loop_resumed_by : Views → ℕ → ℕ → Bool → Result Next BadCode → Held → Done Flow
-loop_resumed_by g t at is_asked (Err why) h = Stuck
-loop_resumed_by g t at is_asked (Ok next.Exit) h = Stuck
-loop_resumed_by g t at is_asked (Ok next.Yield) h = loop_yielded g t is_asked h
-loop_resumed_by g t at is_asked (Ok (next.Wait index)) h = loop_resumed_at g t at is_asked false index h
-loop_resumed_by g t at is_asked (Ok (next.Poll index)) h = loop_resumed_at g t at is_asked true index h
-
-unfoldable pub loop_resumed : Views → ℕ → ℕ → ℕ → Held → Done Flow
-loop_resumed g t at word h =
+unfoldable pub loop_resumed : ℕ → ℕ → ℕ → Held → Done Flow
+loop_resumed t at word h =
     after (asked t h) (λ is_asked k. after (happens t event.Go k) (λ done l. after (gate_taken_back at t l) (λ done m.
-    loop_resumed_by g t at is_asked (callback_of word) m)))
+    loop_resumed_by at is_asked (callback_of word) m)))
 
--- and in a built-in, where its cancellation may end the wait.
+-- It goes on in a built-in, where its cancellation may end the wait.
 unfoldable pub yield_resumed : ℕ → Bool → Held → Done Flow
 yield_resumed t told_so h = if told_so then yield_cancelled t h else got t (0 ∷ []) h
 
-unfoldable pub set_resumed : Views → ℕ → ℕ → ℕ → Bool → ℕ → ℕ → Held → Done Flow
-set_resumed g t at canon told_so index place h =
-    after (set_found at index h) (λ set k. after (set_waited_off at set k) (λ done l.
-    if told_so then received_cancel g t (receiver.InWait canon place) l else delivers g t at (receiver.InWait canon place) set l))
+abbrev pub set_flow : Bool → ℕ → ℕ → ℕ → Flow
+set_flow told_so canon place set =
+    if told_so then flow.HearsCancel (receiver.InWait canon place) else flow.Delivers (receiver.InWait canon place) set
+
+unfoldable pub set_resumed : ℕ → ℕ → Bool → ℕ → ℕ → Held → Done Flow
+set_resumed at canon told_so index place h =
+    after (set_found at index h) (λ set k. after (set_waited_off at set k) (λ done l. Gives (set_flow told_so canon place set) l))
 
 unfoldable pub call_resumed : ℕ → ℕ → ℕ → Held → Done Flow
 call_resumed t at callee h = after (result_found callee h) (λ words k. after (subtask_told at callee k) (λ payload l. got t words l))
@@ -144,14 +140,14 @@ copy_resumed_of t at index (Some (entry.End e)) h = after (end_told at index e h
 unfoldable pub copy_resumed : ℕ → ℕ → ℕ → Held → Done Flow
 copy_resumed t at index h = after (entry_found at index h) (λ found k. copy_resumed_of t at index found k)
 
-abbrev pub wait_resumed : Views → ℕ → ℕ → ℕ → Bool → ℕ → BlockedAt → Held → Done Flow
-wait_resumed g t at canon told_so place blocked_at.Entry h = Stuck
-wait_resumed g t at canon told_so place (blocked_at.Loop word) h = Stuck
-wait_resumed g t at canon told_so place blocked_at.Yield h = yield_resumed t told_so h
-wait_resumed g t at canon told_so place (blocked_at.Set index) h = set_resumed g t at canon told_so index place h
-wait_resumed g t at canon told_so place (blocked_at.Call callee) h = call_resumed t at callee h
-wait_resumed g t at canon told_so place (blocked_at.Copy index) h = copy_resumed t at index h
-wait_resumed g t at canon told_so place (blocked_at.Cancel index) h = cancel_resumed t at index h
+abbrev pub wait_resumed : ℕ → ℕ → ℕ → Bool → ℕ → BlockedAt → Held → Done Flow
+wait_resumed t at canon told_so place blocked_at.Entry h = Stuck
+wait_resumed t at canon told_so place (blocked_at.Loop word) h = Stuck
+wait_resumed t at canon told_so place blocked_at.Yield h = yield_resumed t told_so h
+wait_resumed t at canon told_so place (blocked_at.Set index) h = set_resumed at canon told_so index place h
+wait_resumed t at canon told_so place (blocked_at.Call callee) h = call_resumed t at callee h
+wait_resumed t at canon told_so place (blocked_at.Copy index) h = copy_resumed t at index h
+wait_resumed t at canon told_so place (blocked_at.Cancel index) h = cancel_resumed t at index h
 
 -- the place that a wait was called with; no other canonical function has one
 abbrev pub place_of : ℕ → BlockedAt → Held → Done ℕ
@@ -163,33 +159,33 @@ place_of t (blocked_at.Call callee) h = Gives 0 h
 place_of t (blocked_at.Copy index) h = Gives 0 h
 place_of t (blocked_at.Cancel index) h = Gives 0 h
 
-unfoldable pub builtin_resumed : Views → ℕ → ℕ → ℕ → BlockedAt → Held → Done Flow
-builtin_resumed g t at canon why h =
+unfoldable pub builtin_resumed : ℕ → ℕ → ℕ → BlockedAt → Held → Done Flow
+builtin_resumed t at canon why h =
     after (to_be_told t h) (λ told_so k. after (place_of t why k) (λ place l. after (happens t event.Go l) (λ done m.
-    after (errand_set t errand.None m) (λ done n. wait_resumed g t at canon told_so place why n))))
+    after (errand_set t errand.None m) (λ done n. wait_resumed t at canon told_so place why n))))
 
-abbrev pub resumed_in : Views → ℕ → ℕ → BlockedAt → Errand → Held → Done Flow
-resumed_in g t at why errand.None h = Stuck
-resumed_in g t at why (errand.AfterCall callee canon) h = Stuck
-resumed_in g t at why (errand.AfterCancel callee canon index) h = Stuck
-resumed_in g t at why (errand.Begins n) h = Stuck
-resumed_in g t at why (errand.InBuiltin canon) h = builtin_resumed g t at canon why h
+abbrev pub resumed_in : ℕ → ℕ → BlockedAt → Errand → Held → Done Flow
+resumed_in t at why errand.None h = Stuck
+resumed_in t at why (errand.AfterCall callee canon) h = Stuck
+resumed_in t at why (errand.AfterCancel callee canon index) h = Stuck
+resumed_in t at why (errand.Begins n) h = Stuck
+resumed_in t at why (errand.InBuiltin canon) h = builtin_resumed t at canon why h
 
-unfoldable pub resumed_from : Views → ℕ → ℕ → BlockedAt → Held → Done Flow
-resumed_from g t at why h = after (errand_of t h) (λ e k. resumed_in g t at why e k)
+unfoldable pub resumed_from : ℕ → ℕ → BlockedAt → Held → Done Flow
+resumed_from t at why h = after (errand_of t h) (λ e k. resumed_in t at why e k)
 
-abbrev pub resumed_by : Views → ℕ → ℕ → Phase → Held → Done Flow
-resumed_by g t at phase.New h = Stuck
-resumed_by g t at phase.Acting h = Stuck
-resumed_by g t at (phase.Blocked blocked_at.Entry flag) h = Gives flow.Enters h
-resumed_by g t at (phase.Blocked (blocked_at.Loop word) flag) h = loop_resumed g t at word h
-resumed_by g t at (phase.Blocked blocked_at.Yield flag) h = resumed_from g t at blocked_at.Yield h
-resumed_by g t at (phase.Blocked (blocked_at.Set index) flag) h = resumed_from g t at (blocked_at.Set index) h
-resumed_by g t at (phase.Blocked (blocked_at.Call callee) flag) h = resumed_from g t at (blocked_at.Call callee) h
-resumed_by g t at (phase.Blocked (blocked_at.Copy index) flag) h = resumed_from g t at (blocked_at.Copy index) h
-resumed_by g t at (phase.Blocked (blocked_at.Cancel index) flag) h = resumed_from g t at (blocked_at.Cancel index) h
-resumed_by g t at phase.Exited h = Stuck
+abbrev pub resumed_by : ℕ → ℕ → Phase → Held → Done Flow
+resumed_by t at phase.New h = Stuck
+resumed_by t at phase.Acting h = Stuck
+resumed_by t at (phase.Blocked blocked_at.Entry flag) h = Gives flow.Enters h
+resumed_by t at (phase.Blocked (blocked_at.Loop word) flag) h = loop_resumed t at word h
+resumed_by t at (phase.Blocked blocked_at.Yield flag) h = resumed_from t at blocked_at.Yield h
+resumed_by t at (phase.Blocked (blocked_at.Set index) flag) h = resumed_from t at (blocked_at.Set index) h
+resumed_by t at (phase.Blocked (blocked_at.Call callee) flag) h = resumed_from t at (blocked_at.Call callee) h
+resumed_by t at (phase.Blocked (blocked_at.Copy index) flag) h = resumed_from t at (blocked_at.Copy index) h
+resumed_by t at (phase.Blocked (blocked_at.Cancel index) flag) h = resumed_from t at (blocked_at.Cancel index) h
+resumed_by t at phase.Exited h = Stuck
 
 -- The acting task, which was blocked, goes on.
-unfoldable pub resumes : Views → Held → Done Flow
-resumes g h = after (acting h) (λ t k. after (instance_of t k) (λ at l. after (phase_of t l) (λ far m. resumed_by g t at far m)))
+unfoldable pub resumes : Held → Done Flow
+resumes h = after (acting h) (λ t k. after (instance_of t k) (λ at l. after (phase_of t l) (λ far m. resumed_by t at far m)))

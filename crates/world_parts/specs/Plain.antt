@@ -52,4 +52,4 @@ yield_cancelled t h =
 unfoldable pub task_yield : Views → ℕ → ℕ → Held → Done Flow
 task_yield g t canon h =
     after (asked t h) (λ is_asked k.
-    if g.flag canon && is_asked then yield_cancelled t k else blocked_in g t canon blocked_at.Yield reason.Yield k)
+    if g.flag canon && is_asked then yield_cancelled t k else blocked_in t canon (g.flag canon) blocked_at.Yield reason.Yield k)

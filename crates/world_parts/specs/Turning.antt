@@ -106,9 +106,6 @@ taken has_item tasks h =
 unfoldable pub turns_by : Bool → List ℕ → Held → Done Turned
 turns_by has_item tasks h = if nat_eq (count_of has_item tasks) 0 then Gives turned.Ends h else taken has_item tasks h
 
-unfoldable pub turns : Views → Bool → Held → Done Turned
-turns g has_item h = turns_by has_item (able g h) h
-
 -- The script's next call makes a task that runs an export.
 unfoldable pub call_taken : ℕ → ℕ → Kind → List ℕ → List TypedValue → Held → Done Flow
 call_taken export instance kind name args h =

@@ -44,7 +44,7 @@ waitable_join t at h =
 -- Where no member is ready a wait blocks, and a poll gets no event.
 unfoldable pub blocked_at_set : Views → ℕ → ℕ → ℕ → ℕ → ℕ → Held → Done Flow
 blocked_at_set g t at canon index set h =
-    after (set_waited_on at set h) (λ done k. blocked_in g t canon (blocked_at.Set index) (reason.Wait index) k)
+    after (set_waited_on at set h) (λ done k. blocked_in t canon (g.flag canon) (blocked_at.Set index) (reason.Wait index) k)
 
 abbrev pub none_ready : Views → ℕ → ℕ → ℕ → WaitOp → ℕ → ℕ → ℕ → Held → Done Flow
 none_ready g t at canon wait_op.Wait index place set h = blocked_at_set g t at canon index set h

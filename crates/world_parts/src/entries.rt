@@ -1,12 +1,12 @@
 //! What stands in the tables of component instances.
 
 ghost use Rattle.world_parts.specs.Held.{Does};
-ghost use Rattle.world_parts.specs.Entries.{entry_found, subtask_found, set_found, waitable_found, end_found, rep_found, entry_added, entry_removed, handle_dropped, lend_ended, end_idled};
+ghost use Rattle.world_parts.specs.Entries.{entry_found, subtask_found, set_found, end_found, rep_found, entry_added, entry_removed, lend_ended, end_idled};
 
 use crate::names::refusal_name;
 use crate::parts::{Part, Parts, Stop};
 use instances::{EndEntry, WorldEntry};
-use res_handles::{Handle, LowerError};
+use res_handles::LowerError;
 use stream_ends::Side;
 use trace_show::TrapName;
 
@@ -43,19 +43,6 @@ impl Parts {
         };
         match instance.set_at(index) {
             Ok(set) => Ok(set),
-            Err(why) => Err(Stop::Trap(refusal_name(why))),
-        }
-    }
-
-    /// Tests that a subtask or an end stands at an index. The traps are `Absent` and `OtherKind`.
-    pub fn waitable_at(&self, at: usize, index: u32) -> Part<()>
-        ensures { Does (waitable_found at index) self.now result self.now }
-    {
-        let Some(instance) = self.instances.get(at) else {
-            return Err(Stop::Stuck);
-        };
-        match instance.waitable_at(index) {
-            Ok(()) => Ok(()),
             Err(why) => Err(Stop::Trap(refusal_name(why))),
         }
     }
@@ -110,19 +97,6 @@ impl Parts {
         match self.instances[at].remove(index) {
             Some(_) => Ok(()),
             None => Err(Stop::Stuck),
-        }
-    }
-
-    /// Drops the handle of a resource at an index, and answers it. The traps are `Absent`, `OtherKind`, `OtherType` and `Lent`.
-    pub fn drop_handle(&mut self, at: usize, index: u32, resource: u32) -> Part<Handle>
-        ensures { Does (handle_dropped at index resource) self.old result self.new }
-    {
-        if at >= self.instances.len() {
-            return Err(Stop::Stuck);
-        }
-        match self.instances[at].drop_handle(index, resource) {
-            Ok(handle) => Ok(handle),
-            Err(why) => Err(Stop::Trap(refusal_name(why))),
         }
     }
 

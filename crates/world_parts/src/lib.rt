@@ -9,11 +9,13 @@
 //! - `entries`, `sets` and `gates`: component instances: their tables, their sets, and who enters
 //! - `slots` and `slot_edits`: tasks: what is told of one, and what happens to it
 //! - `ends`: streams and futures
+//! - `blocking`: tasks block, and callers of tasks and ends are told
 //! - `feed`: fuel, choices, items, lines, and the chain of running tasks
 //! - `places`: memories
 //! - `names`: the names of traps
 #![tactic(auto, using(crate::proofs::Thens::then_gives, crate::proofs::Thens::then_traps, crate::proofs::Thens::then_spent, crate::proofs::Thens::then_stuck))]
 
+mod blocking;
 mod ends;
 mod entries;
 mod feed;
@@ -25,7 +27,8 @@ mod sets;
 mod slot_edits;
 mod slots;
 
-pub use ends::{Begun, number_behind};
+pub use blocking::{block, block_in, tell_end, tell_subtask, yield_cancelled};
+pub use ends::{number_behind, numbered, place_of};
 pub use feed::same_words;
 pub use names::{refusal_name, set_name, task_name};
 pub use parts::{Copying, Feed, Flow, Part, Parts, Receiver, Rest, Stop, Turned};

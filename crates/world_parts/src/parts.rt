@@ -101,6 +101,20 @@ pub struct Copying {
     pub count: u32,
 }
 
+/// What gets an event.
+#[derive(Clone, Copy)]
+pub enum Receiver {
+    /// The wait of a task, at a call of this canonical function with this place for the event.
+    InWait {
+        /// The canonical function.
+        canon: u32,
+        /// The place in memory.
+        place: u32,
+    },
+    /// The task's callback.
+    InCallback,
+}
+
 /// What is to be done behind a part of a step. Where the run is then stands in `Parts::rest`.
 #[derive(Drop)]
 pub enum Flow {
@@ -116,20 +130,14 @@ pub enum Flow {
     Returns,
     /// Elements are copied.
     Copies(Copying),
-}
-
-/// What gets an event.
-#[derive(Clone, Copy)]
-pub enum Receiver {
-    /// The wait of a task, at a call of this canonical function with this place for the event.
-    InWait {
-        /// The canonical function.
-        canon: u32,
-        /// The place in memory.
-        place: u32,
-    },
-    /// The task's callback.
-    InCallback,
+    /// The event of a ready member of the set of this number comes to the acting task.
+    Delivers(Receiver, u64),
+    /// The same, where a member is ready; else no event comes.
+    Polls(Receiver, u64),
+    /// No event comes to the acting task.
+    HearsNone(Receiver),
+    /// The event comes to the acting task that its cancellation is asked.
+    HearsCancel(Receiver),
 }
 
 /// What comes of a turn.

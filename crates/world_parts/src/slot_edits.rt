@@ -1,12 +1,12 @@
 //! What happens to tasks, and to calls of tasks by others.
 
 ghost use Rattle.world_parts.specs.Held.{Does};
-ghost use Rattle.world_parts.specs.Slots.{happens, cancel_asked, errand_set, words_set, context_set, raised, awaited, state_told, task_made, closed, call_made};
+ghost use Rattle.world_parts.specs.Slots.{happens, errand_set, words_set, context_set, raised, awaited, state_told, task_made, closed};
 
 use crate::names::task_name;
 use crate::parts::{Part, Parts, Stop};
 use task_table::{Errand, EventError, TaskSlot, Words};
-use tasks::{Asked, SubtaskState, TaskEvent};
+use tasks::{SubtaskState, TaskEvent};
 
 impl Parts {
     /// Lets something happen to a task. The traps are those of the task.
@@ -21,22 +21,6 @@ impl Parts {
             Ok(()) => Ok(()),
             Err(EventError::NotNow) => Err(Stop::Stuck),
             Err(EventError::Trap(why)) => Err(Stop::Trap(task_name(why))),
-        }
-    }
-
-    /// Asks that a task be cancelled, which is unresolved and was not asked before, and answers what comes of it.
-    pub fn request_cancel(&mut self, task: u32) -> Part<Asked>
-        ensures { Does (cancel_asked task) self.old result self.new }
-    {
-        let instance = self.instance_of(task)?;
-        let free = self.is_entry_free(instance)?;
-        let at = task as usize;
-        if at >= self.tasks.slots.len() {
-            return Err(Stop::Stuck);
-        }
-        match self.tasks.slots[at].request_cancel(free) {
-            Some(case) => Ok(case),
-            None => Err(Stop::Stuck),
         }
     }
 
@@ -138,13 +122,4 @@ impl Parts {
         Ok(())
     }
 
-    /// Says that a task is that of the script's next call.
-    pub fn count_call(&mut self, task: u32) -> Part<()>
-        ensures { Does (call_made task) self.old result self.new }
-    {
-        match self.tasks.calls.push(task) {
-            Ok(()) => Ok(()),
-            Err(_) => Err(Stop::Memory),
-        }
-    }
 }

@@ -1,16 +1,15 @@
 //! What is told of tasks, and of calls of tasks by others.
 
 ghost use Rattle.std.specs.Prelude.{◌≡◌};
-ghost use Rattle.tasks.specs.Tasks.{is_unasked};
 ghost use Rattle.world_parts.specs.Held.{Does, held};
-ghost use Rattle.world_parts.specs.Slots.{instance_of, kind_of, callee_of, phase_of, resolution_of, errand_of, context_of, asked, unasked, cancellable, resolved, to_be_told, word_of, words_of, payload_found, delivered, lends_found, result_found, next_task, reenters};
+ghost use Rattle.world_parts.specs.Slots.{instance_of, kind_of, callee_of, phase_of, errand_of, context_of, asked, resolved, to_be_told, word_of, words_of, payload_found, lends_found, result_found, next_task, reenters};
 
 use crate::feed::same_words;
 use crate::parts::{Part, Parts, Stop};
 use entry_gate::Kind;
 use std::alloc::Global;
 use task_table::{Callee, Errand, Words};
-use tasks::{Cancellation, Nums, Phase, Resolution};
+use tasks::{Nums, Phase};
 
 impl Parts {
     /// The number of the instance in which a task runs.
@@ -53,16 +52,6 @@ impl Parts {
         }
     }
 
-    /// How a task has resolved, if it has.
-    pub fn resolution_of(&self, task: u32) -> Part<Option<Resolution>>
-        ensures { Does (resolution_of task) self.now result self.now }
-    {
-        match self.tasks.slots.get(task as usize) {
-            Some(slot) => Ok(slot.task.resolution()),
-            None => Err(Stop::Stuck),
-        }
-    }
-
     /// What a task is at.
     pub fn errand_of(&self, task: u32) -> Part<Errand>
         ensures { Does (errand_of task) self.now result self.now }
@@ -89,26 +78,6 @@ impl Parts {
     {
         match self.tasks.slots.get(task as usize) {
             Some(slot) => Ok(slot.is_asked()),
-            None => Err(Stop::Stuck),
-        }
-    }
-
-    /// Whether the cancellation of a task was never asked.
-    pub fn is_unasked(&self, task: u32) -> Part<bool>
-        ensures { Does (unasked task) self.now result self.now }
-    {
-        match self.tasks.slots.get(task as usize) {
-            Some(slot) => Ok(is_unasked(slot.task.cancellation())),
-            None => Err(Stop::Stuck),
-        }
-    }
-
-    /// Whether a task is unresolved, and its cancellation was never asked.
-    pub fn may_cancel(&self, task: u32) -> Part<bool>
-        ensures { Does (cancellable task) self.now result self.now }
-    {
-        match self.tasks.slots.get(task as usize) {
-            Some(slot) => Ok(slot.task.may_cancel()),
             None => Err(Stop::Stuck),
         }
     }
@@ -178,19 +147,6 @@ impl Parts {
         }
     }
 
-    /// Whether the caller of a task was told that it has resolved.
-    pub fn is_delivered(&self, callee: u32) -> Part<bool>
-        ensures { Does (delivered callee) self.now result self.now }
-    {
-        let Some(slot) = self.tasks.slots.get(callee as usize) else {
-            return Err(Stop::Stuck);
-        };
-        match slot.called() {
-            Some(called) => Ok(called.subtask.told().is_over()),
-            None => Err(Stop::Stuck),
-        }
-    }
-
     /// The handles that are lent for the call of a task, in the order of lending.
     pub fn lends(&self, alloc: Global, callee: u32) -> Part<Nums>
         ensures { Does (lends_found callee) self.now result self.now }
@@ -241,13 +197,3 @@ impl Parts {
     }
 }
 
-/// Whether it was never asked.
-fn is_unasked(cancellation: Cancellation) -> bool
-    ensures { result ≡ is_unasked cancellation }
-{
-    match cancellation {
-        Cancellation::NotAsked => true,
-        Cancellation::Asked => false,
-        Cancellation::Delivered => false,
-    }
-}

@@ -2,131 +2,72 @@
 
 ghost use Rattle.std.specs.Prelude.{◌≡◌};
 ghost use Rattle.world_parts.specs.Held.{Does};
-ghost use Rattle.world_parts.specs.Going.{loop_polled, loop_at_set, loop_resumed_at, loop_yielded, loop_resumed_by, loop_resumed, yield_resumed, set_resumed, call_resumed, cancel_resumed, copy_resumed_of, copy_resumed, wait_resumed, place_of, builtin_resumed, resumed_in, resumed_from, resumed_by, resumes};
-ghost use Rattle.replies.specs.Seen.{seen};
+ghost use Rattle.world_parts.specs.Going.{loop_flow, yield_flow, loop_resumed_at, loop_resumed_by, loop_resumed, yield_resumed, set_flow, set_resumed, call_resumed, cancel_resumed, copy_resumed_of, copy_resumed, wait_resumed, place_of, builtin_resumed, resumed_in, resumed_from, resumed_by, resumes};
 
-use crate::calls::tell_subtask;
-use crate::events::{deliver, deliver_among, receive_cancel, receive_none, tell_end};
-use crate::news::ready;
-use crate::plain::yield_cancelled;
-use comp_graph::Graph;
+use crate::gates::take_gate_back;
 use entry_gate::{BadCode, Next, read_callback};
 use instances::WorldEntry;
 use std::alloc::Global;
 use task_table::Errand;
 use tasks::{BlockedAt, Phase, TaskEvent};
-use world_parts::{Flow, Part, Parts, Receiver, Stop};
+use world_parts::{
+    Flow, Part, Parts, Receiver, Stop, tell_end, tell_subtask, yield_cancelled,
+};
 
-/// A task polls a set in its loop.
-#[tactic(auto, unfolding(world_parts::specs::Going::loop_polled), using(world_parts::proofs::Thens::thens))]
-fn poll_in_loop(
-    alloc: Global,
-    graph: &Graph<'_>,
-    parts: &mut Parts,
-    task: u32,
-    at: usize,
-    set: u64,
-) -> Part<Flow>
-    ensures { Does (loop_polled (seen graph.now) task at set) parts.old result parts.new }
+/// What comes to a task that goes on in its loop, where it waited on a set.
+fn loop_flow(is_asked: bool, polls: bool, set: u64) -> Flow
+    ensures { result ≡ loop_flow is_asked polls set }
 {
-    let Ok(members) = ready(alloc, graph, parts, at, set) else {
-        return Err(Stop::Memory);
-    };
-    if members.len() == 0 {
-        receive_none(alloc, graph, parts, task, Receiver::InCallback)
+    if is_asked {
+        return Flow::HearsCancel(Receiver::InCallback);
+    }
+    if polls {
+        Flow::Polls(Receiver::InCallback, set)
     } else {
-        deliver_among(
-            alloc,
-            graph,
-            parts,
-            task,
-            at,
-            Receiver::InCallback,
-            members.as_slice(),
-        )
+        Flow::Delivers(Receiver::InCallback, set)
     }
 }
 
-/// A task goes on in its loop, where it waited on a set.
-fn loop_at_set(
-    alloc: Global,
-    graph: &Graph<'_>,
-    parts: &mut Parts,
-    task: u32,
-    at: usize,
-    is_asked: bool,
-    polls: bool,
-    set: u64,
-) -> Part<Flow>
-    ensures { Does (loop_at_set (seen graph.now) task at is_asked polls set) parts.old result parts.new }
+/// What comes to a task that goes on in its loop, where it let others run.
+fn yield_flow(is_asked: bool) -> Flow
+    ensures { result ≡ yield_flow is_asked }
 {
     if is_asked {
-        return receive_cancel(alloc, graph, parts, task, Receiver::InCallback);
-    }
-    if polls {
-        poll_in_loop(alloc, graph, parts, task, at, set)
+        Flow::HearsCancel(Receiver::InCallback)
     } else {
-        deliver(alloc, graph, parts, task, at, Receiver::InCallback, set)
+        Flow::HearsNone(Receiver::InCallback)
     }
 }
 
 /// A task goes on in its loop, where it waited on the set at an index.
 #[tactic(auto, unfolding(world_parts::specs::Going::loop_resumed_at), using(world_parts::proofs::Thens::thens))]
 fn resume_loop_at(
-    alloc: Global,
-    graph: &Graph<'_>,
     parts: &mut Parts,
-    task: u32,
     at: usize,
     is_asked: bool,
     polls: bool,
     index: u32,
 ) -> Part<Flow>
-    ensures { Does (loop_resumed_at (seen graph.now) task at is_asked polls index) parts.old result parts.new }
+    ensures { Does (loop_resumed_at at is_asked polls index) parts.old result parts.new }
 {
     let set = parts.set_at(at, index)?;
     parts.wait_off(at, set)?;
-    loop_at_set(alloc, graph, parts, task, at, is_asked, polls, set)
-}
-
-/// A task goes on in its loop, where it let others run.
-#[tactic(auto, unfolding(world_parts::specs::Going::loop_yielded), using(world_parts::proofs::Thens::thens))]
-fn resume_loop_yield(
-    alloc: Global,
-    graph: &Graph<'_>,
-    parts: &mut Parts,
-    task: u32,
-    is_asked: bool,
-) -> Part<Flow>
-    ensures { Does (loop_yielded (seen graph.now) task is_asked) parts.old result parts.new }
-{
-    if is_asked {
-        receive_cancel(alloc, graph, parts, task, Receiver::InCallback)
-    } else {
-        receive_none(alloc, graph, parts, task, Receiver::InCallback)
-    }
+    Ok(loop_flow(is_asked, polls, set))
 }
 
 /// A task goes on in its loop, by the word at which it blocked.
 fn resume_loop_by(
-    alloc: Global,
-    graph: &Graph<'_>,
     parts: &mut Parts,
-    task: u32,
     at: usize,
     is_asked: bool,
     next: Result<Next, BadCode>,
 ) -> Part<Flow>
-    ensures { Does (loop_resumed_by (seen graph.now) task at is_asked next) parts.old result parts.new }
+    ensures { Does (loop_resumed_by at is_asked next) parts.old result parts.new }
 {
     match next {
-        Ok(Next::Yield) => resume_loop_yield(alloc, graph, parts, task, is_asked),
-        Ok(Next::Wait(index)) => {
-            resume_loop_at(alloc, graph, parts, task, at, is_asked, false, index)
-        }
-        Ok(Next::Poll(index)) => {
-            resume_loop_at(alloc, graph, parts, task, at, is_asked, true, index)
-        }
+        Ok(Next::Yield) => Ok(yield_flow(is_asked)),
+        Ok(Next::Wait(index)) => resume_loop_at(parts, at, is_asked, false, index),
+        Ok(Next::Poll(index)) => resume_loop_at(parts, at, is_asked, true, index),
         Ok(Next::Exit) => Err(Stop::Stuck),
         Err(_) => Err(Stop::Stuck),
     }
@@ -134,28 +75,13 @@ fn resume_loop_by(
 
 /// A task goes on in its loop, and has exclusive entry again.
 #[tactic(auto, unfolding(world_parts::specs::Going::loop_resumed), using(world_parts::proofs::Thens::thens))]
-fn resume_loop(
-    alloc: Global,
-    graph: &Graph<'_>,
-    parts: &mut Parts,
-    task: u32,
-    at: usize,
-    word: u32,
-) -> Part<Flow>
-    ensures { Does (loop_resumed (seen graph.now) task at word) parts.old result parts.new }
+fn resume_loop(parts: &mut Parts, task: u32, at: usize, word: u32) -> Part<Flow>
+    ensures { Does (loop_resumed task at word) parts.old result parts.new }
 {
     let is_asked = parts.is_asked(task)?;
     parts.advance(task, TaskEvent::Go)?;
-    parts.take_gate_back(at, task)?;
-    resume_loop_by(
-        alloc,
-        graph,
-        parts,
-        task,
-        at,
-        is_asked,
-        read_callback(word),
-    )
+    take_gate_back(parts, at, task)?;
+    resume_loop_by(parts, at, is_asked, read_callback(word))
 }
 
 /// A task goes on behind `yield`.
@@ -170,29 +96,33 @@ fn resume_yield(alloc: Global, parts: &mut Parts, task: u32, told_so: bool) -> P
     }
 }
 
+/// What comes to a task behind a wait on a set.
+fn set_flow(told_so: bool, canon: u32, place: u32, set: u64) -> Flow
+    ensures { result ≡ set_flow told_so canon place set }
+{
+    let receiver = Receiver::InWait { canon, place };
+    if told_so {
+        Flow::HearsCancel(receiver)
+    } else {
+        Flow::Delivers(receiver, set)
+    }
+}
+
 /// A task goes on behind a wait on the set at an index.
 #[tactic(auto, unfolding(world_parts::specs::Going::set_resumed), using(world_parts::proofs::Thens::thens))]
 fn resume_set(
-    alloc: Global,
-    graph: &Graph<'_>,
     parts: &mut Parts,
-    task: u32,
     at: usize,
     canon: u32,
     told_so: bool,
     index: u32,
     place: u32,
 ) -> Part<Flow>
-    ensures { Does (set_resumed (seen graph.now) task at canon told_so index place) parts.old result parts.new }
+    ensures { Does (set_resumed at canon told_so index place) parts.old result parts.new }
 {
     let set = parts.set_at(at, index)?;
     parts.wait_off(at, set)?;
-    let receiver = Receiver::InWait { canon, place };
-    if told_so {
-        receive_cancel(alloc, graph, parts, task, receiver)
-    } else {
-        deliver(alloc, graph, parts, task, at, receiver, set)
-    }
+    Ok(set_flow(told_so, canon, place, set))
 }
 
 /// A task goes on behind a call of a task that has resolved.
@@ -251,7 +181,6 @@ fn resume_copy(alloc: Global, parts: &mut Parts, task: u32, at: usize, index: u3
 /// A task goes on in a built-in, by what it was blocked at.
 fn resume_wait(
     alloc: Global,
-    graph: &Graph<'_>,
     parts: &mut Parts,
     task: u32,
     at: usize,
@@ -260,12 +189,12 @@ fn resume_wait(
     place: u32,
     why: BlockedAt,
 ) -> Part<Flow>
-    ensures { Does (wait_resumed (seen graph.now) task at canon told_so place why) parts.old result parts.new }
+    ensures { Does (wait_resumed task at canon told_so place why) parts.old result parts.new }
 {
     match why {
         BlockedAt::Yield => resume_yield(alloc, parts, task, told_so),
         BlockedAt::Set(index) => {
-            resume_set(alloc, graph, parts, task, at, canon, told_so, index, place)
+            resume_set(parts, at, canon, told_so, index, place)
         }
         BlockedAt::Call(callee) => resume_call(alloc, parts, task, at, callee),
         BlockedAt::Copy(index) => resume_copy(alloc, parts, task, at, index),
@@ -294,37 +223,35 @@ fn place_of(parts: &Parts, task: u32, why: BlockedAt) -> Part<u32>
 #[tactic(auto, unfolding(world_parts::specs::Going::builtin_resumed), using(world_parts::proofs::Thens::thens))]
 fn resume_builtin(
     alloc: Global,
-    graph: &Graph<'_>,
     parts: &mut Parts,
     task: u32,
     at: usize,
     canon: u32,
     why: BlockedAt,
 ) -> Part<Flow>
-    ensures { Does (builtin_resumed (seen graph.now) task at canon why) parts.old result parts.new }
+    ensures { Does (builtin_resumed task at canon why) parts.old result parts.new }
 {
     let told_so = parts.is_to_be_told(task)?;
     let place = place_of(parts, task, why)?;
     parts.advance(task, TaskEvent::Go)?;
     parts.set_errand(task, Errand::None)?;
-    resume_wait(alloc, graph, parts, task, at, canon, told_so, place, why)
+    resume_wait(alloc, parts, task, at, canon, told_so, place, why)
 }
 
 /// A task goes on that is at this.
 fn resume_in(
     alloc: Global,
-    graph: &Graph<'_>,
     parts: &mut Parts,
     task: u32,
     at: usize,
     why: BlockedAt,
     errand: Errand,
 ) -> Part<Flow>
-    ensures { Does (resumed_in (seen graph.now) task at why errand) parts.old result parts.new }
+    ensures { Does (resumed_in task at why errand) parts.old result parts.new }
 {
     match errand {
         Errand::InBuiltin { canon } => {
-            resume_builtin(alloc, graph, parts, task, at, canon, why)
+            resume_builtin(alloc, parts, task, at, canon, why)
         }
         Errand::None => Err(Stop::Stuck),
         Errand::AfterCall {
@@ -344,38 +271,36 @@ fn resume_in(
 #[tactic(auto, unfolding(world_parts::specs::Going::resumed_from), using(world_parts::proofs::Thens::thens))]
 fn resume_from(
     alloc: Global,
-    graph: &Graph<'_>,
     parts: &mut Parts,
     task: u32,
     at: usize,
     why: BlockedAt,
 ) -> Part<Flow>
-    ensures { Does (resumed_from (seen graph.now) task at why) parts.old result parts.new }
+    ensures { Does (resumed_from task at why) parts.old result parts.new }
 {
     let errand = parts.errand_of(task)?;
-    resume_in(alloc, graph, parts, task, at, why, errand)
+    resume_in(alloc, parts, task, at, why, errand)
 }
 
 /// A task goes on, by how far it is.
 fn resume_by(
     alloc: Global,
-    graph: &Graph<'_>,
     parts: &mut Parts,
     task: u32,
     at: usize,
     phase: Phase,
 ) -> Part<Flow>
-    ensures { Does (resumed_by (seen graph.now) task at phase) parts.old result parts.new }
+    ensures { Does (resumed_by task at phase) parts.old result parts.new }
 {
     match phase {
         Phase::Blocked(why, _) => match why {
             BlockedAt::Entry => Ok(Flow::Enters),
-            BlockedAt::Loop(word) => resume_loop(alloc, graph, parts, task, at, word),
-            BlockedAt::Yield => resume_from(alloc, graph, parts, task, at, why),
-            BlockedAt::Set(_) => resume_from(alloc, graph, parts, task, at, why),
-            BlockedAt::Call(_) => resume_from(alloc, graph, parts, task, at, why),
-            BlockedAt::Copy(_) => resume_from(alloc, graph, parts, task, at, why),
-            BlockedAt::Cancel(_) => resume_from(alloc, graph, parts, task, at, why),
+            BlockedAt::Loop(word) => resume_loop(parts, task, at, word),
+            BlockedAt::Yield => resume_from(alloc, parts, task, at, why),
+            BlockedAt::Set(_) => resume_from(alloc, parts, task, at, why),
+            BlockedAt::Call(_) => resume_from(alloc, parts, task, at, why),
+            BlockedAt::Copy(_) => resume_from(alloc, parts, task, at, why),
+            BlockedAt::Cancel(_) => resume_from(alloc, parts, task, at, why),
         },
         Phase::New => Err(Stop::Stuck),
         Phase::Acting => Err(Stop::Stuck),
@@ -385,11 +310,11 @@ fn resume_by(
 
 /// The acting task, which was blocked, goes on.
 #[tactic(auto, unfolding(world_parts::specs::Going::resumes), using(world_parts::proofs::Thens::thens))]
-pub fn resume(alloc: Global, graph: &Graph<'_>, parts: &mut Parts) -> Part<Flow>
-    ensures { Does (resumes (seen graph.now)) parts.old result parts.new }
+pub fn resume(alloc: Global, parts: &mut Parts) -> Part<Flow>
+    ensures { Does resumes parts.old result parts.new }
 {
     let task = parts.acting()?;
     let at = parts.instance_of(task)?;
     let phase = parts.phase_of(task)?;
-    resume_by(alloc, graph, parts, task, at, phase)
+    resume_by(alloc, parts, task, at, phase)
 }

@@ -1,79 +1,21 @@
-//! Built-ins of waitable sets.
+//! Built-ins that ask for an event of a set.
 
 ghost use Rattle.std.specs.Prelude.{◌≡◌};
 ghost use Rattle.tasks.specs.Tasks.{is_sync};
 ghost use Rattle.world_parts.specs.Held.{Does};
-ghost use Rattle.world_parts.specs.Waits.{set_new, set_drop, joined_to, waitable_join, blocked_at_set, none_ready, by_ready, waited, set_wait};
-ghost use Rattle.replies.specs.Seen.{seen};
+ghost use Rattle.world_parts.specs.Waits.{blocked_at_set, none_ready, by_ready, waited, set_wait};
+ghost use Rattle.event_replies.specs.Seen.{seen};
 
-use crate::calls::block_in;
 use crate::events::{deliver_among, receive_cancel, receive_none};
 use crate::news::ready;
 use builtin_kinds::WaitOp;
 use comp_graph::Graph;
 use entry_gate::Kind;
 use graph_views::{flag_at, options_at};
-use instances::WorldEntry;
 use std::alloc::Global;
 use tasks::BlockedAt;
 use trace_show::{BlockReason, TrapName};
-use world_parts::{Flow, Part, Parts, Receiver, Stop};
-
-/// `waitable-set.new`: the trap is `TableFull`.
-#[tactic(auto, unfolding(world_parts::specs::Waits::set_new), using(world_parts::proofs::Thens::thens))]
-pub(crate) fn set_new(alloc: Global, parts: &mut Parts, task: u32, at: usize) -> Part<Flow>
-    ensures { Does (set_new task at) parts.old result parts.new }
-{
-    let set = parts.sets_made(at)?;
-    let index = parts.add_entry(at, WorldEntry::Set(set))?;
-    parts.make_set(alloc, at)?;
-    parts.answer_one(alloc, task, u64::from(index))
-}
-
-/// `waitable-set.drop`: the traps are `Absent`, `OtherKind`, `Members` and `Waiters`.
-#[tactic(auto, unfolding(world_parts::specs::Waits::set_drop), using(world_parts::proofs::Thens::thens))]
-pub(crate) fn set_drop(alloc: Global, parts: &mut Parts, task: u32, at: usize) -> Part<Flow>
-    ensures { Does (set_drop task at) parts.old result parts.new }
-{
-    let index = parts.word(task, 0)?;
-    let set = parts.set_at(at, index)?;
-    parts.drop_set(at, set)?;
-    parts.remove_entry(at, index)?;
-    parts.answer_none(alloc, task)
-}
-
-/// The waitable at an index joins the set at another index, or is in none where that is 0.
-#[tactic(auto, unfolding(world_parts::specs::Waits::joined_to), using(world_parts::proofs::Thens::thens))]
-fn join_to(
-    alloc: Global,
-    parts: &mut Parts,
-    task: u32,
-    at: usize,
-    index: u32,
-    other: u32,
-) -> Part<Flow>
-    ensures { Does (joined_to task at index other) parts.old result parts.new }
-{
-    if other == 0 {
-        parts.leave_set(at, index)?;
-        parts.answer_none(alloc, task)
-    } else {
-        let set = parts.set_at(at, other)?;
-        parts.join(at, index, set)?;
-        parts.answer_none(alloc, task)
-    }
-}
-
-/// `waitable.join`: the traps are `Absent` and `OtherKind`.
-#[tactic(auto, unfolding(world_parts::specs::Waits::waitable_join), using(world_parts::proofs::Thens::thens))]
-pub(crate) fn waitable_join(alloc: Global, parts: &mut Parts, task: u32, at: usize) -> Part<Flow>
-    ensures { Does (waitable_join task at) parts.old result parts.new }
-{
-    let index = parts.word(task, 0)?;
-    let other = parts.word(task, 1)?;
-    parts.waitable_at(at, index)?;
-    join_to(alloc, parts, task, at, index, other)
-}
+use world_parts::{Flow, Part, Parts, Receiver, Stop, block_in};
 
 /// A task blocks at a set.
 #[tactic(auto, unfolding(world_parts::specs::Waits::blocked_at_set), using(world_parts::proofs::Thens::thens))]
@@ -90,10 +32,10 @@ fn block_at_set(
 {
     parts.wait_on(at, set)?;
     block_in(
-        graph,
         parts,
         task,
         canon,
+        flag_at(graph, canon),
         BlockedAt::Set(index),
         BlockReason::Wait(index),
     )
@@ -201,7 +143,7 @@ fn wait(
 
 /// `waitable-set.wait` and `waitable-set.poll`: the traps are `Absent`, `OtherKind`, `Misaligned` and `Bounds`.
 #[tactic(auto, unfolding(world_parts::specs::Waits::set_wait), using(world_parts::proofs::Thens::thens))]
-pub(crate) fn set_wait(
+pub fn set_wait(
     alloc: Global,
     graph: &Graph<'_>,
     parts: &mut Parts,

@@ -3,8 +3,9 @@
 ghost use Rattle.std.specs.Prelude.{◌≡◌};
 ghost use Rattle.world_parts.specs.Held.{Does};
 ghost use Rattle.world_parts.specs.Copies.{new_end, channel_new, is_unwritten, dropped_end, end_drop, copy_given_up, copy_cancel};
-ghost use Rattle.replies.specs.Seen.{seen};
+ghost use Rattle.event_replies.specs.Seen.{seen};
 
+use crate::ends::{drop_end, make_channel};
 use crate::news::copy_is_async;
 use builtin_kinds::EndKind;
 use comp_graph::Graph;
@@ -38,7 +39,7 @@ pub fn channel_new(
 ) -> Part<Flow>
     ensures { Does (channel_new task at kind end_type) parts.old result parts.new }
 {
-    let number = parts.make_channel(kind, end_type)?;
+    let number = make_channel(parts, kind, end_type)?;
     let readable = parts.add_entry(at, new_end(Side::Reader, end_type, number))?;
     let writable = parts.add_entry(at, new_end(Side::Writer, end_type, number))?;
     parts.answer_one(
@@ -63,7 +64,7 @@ fn is_unwritten(kind: EndKind, side: Side, is_done: bool) -> bool
 
 /// The end at an index is dropped, which may be.
 #[tactic(auto, unfolding(world_parts::specs::Copies::dropped_end), using(world_parts::proofs::Thens::thens))]
-fn drop_end(
+fn dropped(
     alloc: Global,
     parts: &mut Parts,
     task: u32,
@@ -77,7 +78,7 @@ fn drop_end(
 {
     parts.leave_set(at, index)?;
     parts.remove_entry(at, index)?;
-    parts.drop_end(kind, side, number)?;
+    drop_end(parts, kind, side, number)?;
     parts.answer_none(alloc, task)
 }
 
@@ -108,7 +109,7 @@ pub fn end_drop(
     if is_unwritten(kind, side, is_done) {
         return Err(Stop::Trap(TrapName::UnwrittenFuture));
     }
-    drop_end(alloc, parts, task, at, index, kind, side, end.number)
+    dropped(alloc, parts, task, at, index, kind, side, end.number)
 }
 
 /// The copy at the end at an index is told, or given up.

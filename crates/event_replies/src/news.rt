@@ -7,7 +7,7 @@ ghost use Rattle.waitables.specs.Sets.{set_at};
 ghost use Rattle.world_parts.specs.Held.{held};
 ghost use Rattle.world_parts.specs.Channels.{channel_of};
 ghost use Rattle.world_parts.specs.News.{slot_news, copy_is_async, channel_news, entry_news, entry_in, news_at, members_in, ready, some_ready, set_number, index_is_ready, slot_is_resolved, task_is_resolved, channel_is_pending, entry_is_pending, entry_is_resolved};
-ghost use Rattle.replies.specs.Seen.{seen};
+ghost use Rattle.event_replies.specs.Seen.{seen};
 
 use ca_base::Memory;
 use channels::Channel;

@@ -3,10 +3,9 @@
 ghost use Rattle.std.specs.Prelude.{◌≡◌, ◌∷◌, [], IfOk};
 ghost use Rattle.std.specs.Option.{option_copied};
 ghost use Rattle.world_parts.specs.Held.{Does};
-ghost use Rattle.world_parts.specs.Events.{event_code, event_bytes, callback_of, callback_started, wait_answered, received, received_none, received_cancel, end_told, subtask_delivered, end_delivered, member_delivered, delivered_among, delivers};
-ghost use Rattle.replies.specs.Seen.{seen};
+ghost use Rattle.world_parts.specs.Events.{event_code, event_bytes, callback_of, callback_started, wait_answered, received, received_none, received_cancel, subtask_delivered, end_delivered, member_delivered, delivered_among, delivers, polled, polls};
+ghost use Rattle.event_replies.specs.Seen.{seen};
 
-use crate::calls::tell_subtask;
 use crate::news::ready;
 use builtin_kinds::EndKind;
 use ca_base::Memory;
@@ -18,7 +17,7 @@ use stream_ends::Side;
 use task_table::Words;
 use tasks::TaskEvent;
 use trace_show::Label;
-use world_parts::{Flow, Part, Parts, Receiver, Rest, Stop};
+use world_parts::{Flow, Part, Parts, Receiver, Rest, Stop, tell_end, tell_subtask};
 
 /// The code of the event of an end.
 fn event_code(kind: EndKind, side: Side) -> u32
@@ -143,7 +142,7 @@ fn receive(
 
 /// No event comes to a task.
 #[tactic(auto, unfolding(world_parts::specs::Events::received_none), using(world_parts::proofs::Thens::thens))]
-pub(crate) fn receive_none(
+pub fn receive_none(
     alloc: Global,
     graph: &Graph<'_>,
     parts: &mut Parts,
@@ -163,7 +162,7 @@ pub(crate) fn receive_none(
 
 /// The event comes to a task that its cancellation is asked.
 #[tactic(auto, unfolding(world_parts::specs::Events::received_cancel), using(world_parts::proofs::Thens::thens))]
-pub(crate) fn receive_cancel(
+pub fn receive_cancel(
     alloc: Global,
     graph: &Graph<'_>,
     parts: &mut Parts,
@@ -180,18 +179,6 @@ pub(crate) fn receive_cancel(
         payload: 0,
     })?;
     receive(alloc, graph, parts, task, receiver, 6, 0, 0)
-}
-
-/// The end at an index is told what came of its copy, and the payload is answered.
-#[tactic(auto, unfolding(world_parts::specs::Events::end_told), using(world_parts::proofs::Thens::thens))]
-pub(crate) fn tell_end(parts: &mut Parts, at: usize, index: u32, end: EndEntry) -> Part<u32>
-    ensures { Does (end_told at index end) parts.old result parts.new }
-{
-    let kind = parts.kind_of_end(end);
-    let payload = parts.conclude(kind, end.side, end.number)?;
-    let is_idle = parts.is_idle(kind, end.side, end.number)?;
-    parts.set_idle(at, index, is_idle)?;
-    Ok(payload)
 }
 
 /// The event of the subtask at an index comes to a task.
@@ -293,7 +280,7 @@ pub(crate) fn deliver_among(
 
 /// The event of a ready member of a set comes to a task.
 #[tactic(auto, unfolding(world_parts::specs::Events::delivers), using(world_parts::proofs::Thens::thens))]
-pub(crate) fn deliver(
+pub fn deliver(
     alloc: Global,
     graph: &Graph<'_>,
     parts: &mut Parts,
@@ -308,4 +295,43 @@ pub(crate) fn deliver(
         return Err(Stop::Memory);
     };
     deliver_among(alloc, graph, parts, task, at, receiver, members.as_slice())
+}
+
+/// The event of one of these members comes to a task, or none where there is no member.
+#[tactic(auto, unfolding(world_parts::specs::Events::polled), using(world_parts::proofs::Thens::thens))]
+fn poll_among(
+    alloc: Global,
+    graph: &Graph<'_>,
+    parts: &mut Parts,
+    task: u32,
+    at: usize,
+    receiver: Receiver,
+    members: &[u32],
+) -> Part<Flow>
+    ensures { Does (polled (seen graph.now) task at receiver members.now) parts.old result parts.new }
+{
+    if members.len() == 0 {
+        receive_none(alloc, graph, parts, task, receiver)
+    } else {
+        deliver_among(alloc, graph, parts, task, at, receiver, members)
+    }
+}
+
+/// The event of a ready member of a set comes to a task, or none where no member is ready.
+#[tactic(auto, unfolding(world_parts::specs::Events::polls), using(world_parts::proofs::Thens::thens))]
+pub fn poll(
+    alloc: Global,
+    graph: &Graph<'_>,
+    parts: &mut Parts,
+    task: u32,
+    at: usize,
+    receiver: Receiver,
+    set: u64,
+) -> Part<Flow>
+    ensures { Does (polls (seen graph.now) task at receiver set) parts.old result parts.new }
+{
+    let Ok(members) = ready(alloc, graph, parts, at, set) else {
+        return Err(Stop::Memory);
+    };
+    poll_among(alloc, graph, parts, task, at, receiver, members.as_slice())
 }

@@ -4,11 +4,11 @@ ghost use Rattle.std.specs.Prelude.{◌≡◌};
 ghost use Rattle.world_parts.specs.Held.{Does};
 ghost use Rattle.world_parts.specs.Going.{arrives, waits_to_enter, unwaited_if, enters, leaves, ending, looped, looped_at_set, loops_by, loops};
 
-use crate::calls::block;
+use crate::gates::{enter_gate, may_enter, resolution_of, wait_at_gate};
 use entry_gate::{BadCode, Next, read_callback};
 use tasks::{BlockedAt, Phase, SubtaskState, TaskEvent};
 use trace_show::{BlockReason, Label, TrapName};
-use world_parts::{Flow, Part, Parts, Rest, Stop};
+use world_parts::{Flow, Part, Parts, Rest, Stop, block};
 
 /// The acting task, which is new, enters, or waits to.
 #[tactic(auto, unfolding(world_parts::specs::Going::arrives), using(world_parts::proofs::Thens::thens))]
@@ -18,11 +18,11 @@ pub fn arrive(parts: &mut Parts) -> Part<Flow>
     let task = parts.acting()?;
     let at = parts.instance_of(task)?;
     let kind = parts.kind_of(task)?;
-    let may = parts.may_enter(at, kind, true)?;
+    let may = may_enter(parts, at, kind, true)?;
     if may {
         return Ok(Flow::Enters);
     }
-    parts.wait_at_gate(at)?;
+    wait_at_gate(parts, at)?;
     block(parts, task, BlockedAt::Entry, false, BlockReason::Entry)
 }
 
@@ -58,7 +58,7 @@ pub fn enter(parts: &mut Parts, task: u32) -> Part<()>
     let kind = parts.kind_of(task)?;
     let phase = parts.phase_of(task)?;
     unwait_if(parts, waits_to_enter(phase), at)?;
-    parts.enter_gate(at, task, kind)?;
+    enter_gate(parts, at, task, kind)?;
     parts.advance(task, TaskEvent::Enter)?;
     parts.raise(task, SubtaskState::Started)?;
     parts.tell(Label::Enter { task })
@@ -83,7 +83,7 @@ pub fn leave(parts: &mut Parts) -> Part<Flow>
 pub fn end(parts: &mut Parts, task: u32) -> Part<Flow>
     ensures { Does (ending task) parts.old result parts.new }
 {
-    let resolution = parts.resolution_of(task)?;
+    let resolution = resolution_of(parts, task)?;
     if resolution.is_none() {
         return Err(Stop::Trap(TrapName::Unresolved));
     }
