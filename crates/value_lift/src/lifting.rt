@@ -16,8 +16,8 @@ use crate::plain::{flags_of, plain_at};
 use crate::texts::string_of;
 use crate::trap::{LiftError, LiftTrap, LiftWhy};
 use ca_base::Seq;
-use ca_types::{Boxed, ValType, Value, Values};
-use laid_types::{NumberedType, aligned};
+use ca_types::{Boxed, ValType, Value, Values, aligned};
+use laid_types::NumberedType;
 use std::alloc::Global;
 
 /// The value that an index tells.

@@ -14,8 +14,8 @@ use crate::asking::{ask, text_in};
 use crate::ends::{LowerError, LowerWhy};
 use crate::plain::{flags_number, put_number, put_plain, put_pointed};
 use crate::room::Room;
-use ca_types::{Boxed, Value};
-use laid_types::{LaidType, aligned};
+use ca_types::{Boxed, Value, aligned};
+use laid_types::LaidType;
 use std::alloc::Global;
 
 /// Stores a text at a new place, and that place and the number of its bytes at a place.
