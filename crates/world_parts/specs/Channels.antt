@@ -63,13 +63,17 @@ end_seen kind side number h = given (channel_at kind number h) (λ c. Gives (end
 abbrev pub idle_seen : EndKind → Side → ℕ → Held → Done Bool
 idle_seen kind side number h = given (channel_at kind number h) (λ c. Gives (is_idle (end_in side c.ends)) h)
 
+-- what an end answers, if it may, and the stream or future then
+abbrev pub answered : {A : Type 0} → Option A → EndKind → ℕ → Channel → Held → Done A
+answered None kind place c h = Stuck
+answered (Some x) kind place c h = Gives x (with_channel kind place c h)
+
 -- A read or write meets the other end.
 abbrev pub offered_at : EndKind → ℕ → Side → By → ℕ → ℕ → ℕ → Held → Done Meet
 offered_at kind place side by canon address size h =
     given (slice_get (channels kind h) place) (λ c.
-    if may_offer side size c.ends
-    then Gives (meet_in side by canon address size c.ends) (with_channel kind place (with_ends (channel.offered side by canon address size c.ends) c) h)
-    else Stuck)
+    answered (if may_offer side size c.ends then Some (meet_in side by canon address size c.ends) else None) kind place
+    (if may_offer side size c.ends then with_ends (channel.offered side by canon address size c.ends) c else c) h)
 
 abbrev pub offered : EndKind → Side → ℕ → By → ℕ → ℕ → ℕ → Held → Done Meet
 offered kind side number by canon address size h = given (place_of number) (λ place. offered_at kind place side by canon address size h)
@@ -86,9 +90,8 @@ copied kind number count h = given (place_of number) (λ place. copied_at kind p
 abbrev pub concluded_at : EndKind → ℕ → Side → Held → Done ℕ
 concluded_at kind place side h =
     given (slice_get (channels kind h) place) (λ c.
-    if is_copying (end_in side c.ends)
-    then Gives (payload_in side c.ends) (with_channel kind place (with_ends (channel.told side c.ends) c) h)
-    else Stuck)
+    answered (if is_copying (end_in side c.ends) then Some (payload_in side c.ends) else None) kind place
+    (if is_copying (end_in side c.ends) then with_ends (channel.told side c.ends) c else c) h)
 
 abbrev pub concluded : EndKind → Side → ℕ → Held → Done ℕ
 concluded kind side number h = given (place_of number) (λ place. concluded_at kind place side h)
