@@ -21,7 +21,7 @@ use world_parts::Parts;
 
 /// Whether the gate of an instance that is there lets a task of this kind enter that waits to.
 fn gate_lets(instance: Option<&Instance>, kind: Kind) -> bool
-    ensures { result ≡ gate_lets (option_copied instance) kind }
+    ensures { result ≡ gate_lets (option_copied instance.entry) kind }
 {
     match instance {
         Some(instance) => instance.may_enter(kind, false),
@@ -31,7 +31,7 @@ fn gate_lets(instance: Option<&Instance>, kind: Kind) -> bool
 
 /// Whether an instance is there, and no task holds exclusive entry to it.
 fn gate_is_free(instance: Option<&Instance>) -> bool
-    ensures { result ≡ gate_is_free (option_copied instance) }
+    ensures { result ≡ gate_is_free (option_copied instance.entry) }
 {
     match instance {
         Some(instance) => instance.is_entry_free(),
@@ -51,7 +51,14 @@ fn loop_is_over(
 {
     match next {
         Ok(Next::Yield) => Ok(true),
-        Ok(Next::Wait(index)) => set_is_over(alloc, graph, parts, slot.instance, index, slot.is_asked()),
+        Ok(Next::Wait(index)) => set_is_over(
+            alloc,
+            graph,
+            parts,
+            slot.instance,
+            index,
+            slot.is_asked(),
+        ),
         Ok(Next::Poll(_)) => Ok(true),
         Ok(Next::Exit) => Ok(false),
         Err(_) => Ok(false),
@@ -124,7 +131,7 @@ fn slot_is_able(
     parts: &Parts,
     slot: Option<&TaskSlot>,
 ) -> Result<bool, Memory>
-    ensures { IfOk result (λ is. is ≡ slot_is_able (seen graph.now) (option_copied slot) (held parts.now)) }
+    ensures { IfOk result (λ is. is ≡ slot_is_able (seen graph.now) (option_copied slot.entry) (held parts.now)) }
 {
     match slot {
         Some(slot) => match slot.task.phase() {

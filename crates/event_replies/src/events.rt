@@ -1,7 +1,6 @@
 //! Events that come to tasks.
 
 ghost use Rattle.std.specs.Prelude.{◌≡◌, ◌∷◌, [], IfOk};
-ghost use Rattle.std.specs.Option.{option_copied};
 ghost use Rattle.world_parts.specs.Held.{Does};
 ghost use Rattle.world_parts.specs.Events.{event_code, event_bytes, callback_of, callback_started, wait_answered, received, received_none, received_cancel, subtask_delivered, end_delivered, member_delivered, delivered_among, delivers, polled, polls};
 ghost use Rattle.event_replies.specs.Seen.{seen};

@@ -32,7 +32,7 @@ fn entry_in(parts: &Parts, at: usize, index: u32) -> Option<WorldEntry>
 
 /// Whether a task that is there has news for its caller.
 fn slot_news(slot: Option<&TaskSlot>) -> bool
-    ensures { result ≡ slot_news (option_copied slot) }
+    ensures { result ≡ slot_news (option_copied slot.entry) }
 {
     match slot {
         Some(slot) => slot.has_news(),
@@ -52,7 +52,7 @@ pub(crate) fn copy_is_async(graph: &Graph<'_>, copy: Option<OpenCopy>) -> bool
 
 /// Whether an end has news.
 fn channel_news(graph: &Graph<'_>, side: Side, channel: Option<&Channel>) -> bool
-    ensures { result ≡ channel_news (seen graph.now) side (option_copied channel) }
+    ensures { result ≡ channel_news (seen graph.now) side (option_copied channel.entry) }
 {
     match channel {
         Some(channel) => channel.pending(side) && copy_is_async(graph, channel.open_copy(side)),
@@ -204,7 +204,7 @@ pub(crate) fn index_is_ready(
 
 /// Whether a task that is there has resolved.
 fn slot_is_resolved(slot: Option<&TaskSlot>) -> bool
-    ensures { result ≡ slot_is_resolved (option_copied slot) }
+    ensures { result ≡ slot_is_resolved (option_copied slot.entry) }
 {
     match slot {
         Some(slot) => slot.is_resolved(),
@@ -221,7 +221,7 @@ pub(crate) fn task_is_resolved(parts: &Parts, task: u32) -> bool
 
 /// Whether what came of the copy at an end is to be told.
 fn channel_is_pending(side: Side, channel: Option<&Channel>) -> bool
-    ensures { result ≡ channel_is_pending side (option_copied channel) }
+    ensures { result ≡ channel_is_pending side (option_copied channel.entry) }
 {
     match channel {
         Some(channel) => channel.pending(side),

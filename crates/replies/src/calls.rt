@@ -43,7 +43,13 @@ pub(crate) fn begin_call(
         },
     )?;
     let called = Called::new(alloc, task, canon, words, made);
-    let slot = TaskSlot::new(alloc, instance as usize, kind, callee, Caller::Guest(called));
+    let slot = TaskSlot::new(
+        alloc,
+        instance as usize,
+        kind,
+        callee,
+        Caller::Guest(called),
+    );
     parts.make_task(slot)?;
     let Some(number) = number_behind(instance as usize) else {
         return Err(Stop::Memory);

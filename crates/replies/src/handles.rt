@@ -96,7 +96,16 @@ fn destroy(
         return Err(Stop::Stuck);
     };
     match resource.destructor {
-        Some(func) => destroy_by(alloc, parts, task, at, canon, handle, resource.instance, func),
+        Some(func) => destroy_by(
+            alloc,
+            parts,
+            task,
+            at,
+            canon,
+            handle,
+            resource.instance,
+            func,
+        ),
         None => not_destroyed(alloc, parts, task, at, resource.instance),
     }
 }
@@ -123,7 +132,16 @@ fn destroy_by(
         return Ok(Flow::Starts(func, words));
     }
     let callee = Callee::Destroys(handle.resource);
-    begin_call(alloc, parts, task, canon, callee, instance, Kind::Sync, words)
+    begin_call(
+        alloc,
+        parts,
+        task,
+        canon,
+        callee,
+        instance,
+        Kind::Sync,
+        words,
+    )
 }
 
 /// Nothing is destroyed, but the resource's instance may not wait for this one.

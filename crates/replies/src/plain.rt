@@ -33,12 +33,7 @@ pub(crate) fn context_put(alloc: Global, parts: &mut Parts, task: u32, number: u
 
 /// `backpressure.inc`: the trap is `PressureLimit`.
 #[tactic(auto, unfolding(world_parts::specs::Plain::backpressure_inc), using(world_parts::proofs::Thens::thens))]
-pub(crate) fn backpressure_inc(
-    alloc: Global,
-    parts: &mut Parts,
-    task: u32,
-    at: usize,
-) -> Part<Flow>
+pub(crate) fn backpressure_inc(alloc: Global, parts: &mut Parts, task: u32, at: usize) -> Part<Flow>
     ensures { Does (backpressure_inc task at) parts.old result parts.new }
 {
     raise_pressure(parts, at)?;
@@ -47,12 +42,7 @@ pub(crate) fn backpressure_inc(
 
 /// `backpressure.dec`: the trap is `PressureZero`.
 #[tactic(auto, unfolding(world_parts::specs::Plain::backpressure_dec), using(world_parts::proofs::Thens::thens))]
-pub(crate) fn backpressure_dec(
-    alloc: Global,
-    parts: &mut Parts,
-    task: u32,
-    at: usize,
-) -> Part<Flow>
+pub(crate) fn backpressure_dec(alloc: Global, parts: &mut Parts, task: u32, at: usize) -> Part<Flow>
     ensures { Does (backpressure_dec task at) parts.old result parts.new }
 {
     lower_pressure(parts, at)?;
@@ -61,12 +51,7 @@ pub(crate) fn backpressure_dec(
 
 /// `backpressure.set`
 #[tactic(auto, unfolding(world_parts::specs::Plain::backpressure_set), using(world_parts::proofs::Thens::thens))]
-pub(crate) fn backpressure_set(
-    alloc: Global,
-    parts: &mut Parts,
-    task: u32,
-    at: usize,
-) -> Part<Flow>
+pub(crate) fn backpressure_set(alloc: Global, parts: &mut Parts, task: u32, at: usize) -> Part<Flow>
     ensures { Does (backpressure_set task at) parts.old result parts.new }
 {
     let enabled = parts.word(task, 0)?;
@@ -120,6 +105,13 @@ pub(crate) fn task_yield(
         yield_cancelled(alloc, parts, task)
     } else {
         let flag = flag_at(graph, canon);
-        block_in(parts, task, canon, flag, BlockedAt::Yield, BlockReason::Yield)
+        block_in(
+            parts,
+            task,
+            canon,
+            flag,
+            BlockedAt::Yield,
+            BlockReason::Yield,
+        )
     }
 }

@@ -23,7 +23,7 @@ use world_parts::{Flow, Part, Parts, Stop};
 
 /// Whether a task is there and has exited.
 fn slot_has_exited(slot: Option<&TaskSlot>) -> bool
-    ensures { result ≡ slot_has_exited (option_copied slot) }
+    ensures { result ≡ slot_has_exited (option_copied slot.entry) }
 {
     match slot {
         Some(slot) => slot.has_exited(),
@@ -178,9 +178,7 @@ pub fn reply(
     ensures { Does (answered graph.now task number canon.now) parts.old result parts.new }
 {
     match canon {
-        CanonFunc::Lower(lower) => {
-            call_lowered(alloc, parts, task, number, &lower.get().lift)
-        }
+        CanonFunc::Lower(lower) => { call_lowered(alloc, parts, task, number, &lower.get().lift) }
         CanonFunc::Builtin(builtin) => builtin_reply(
             alloc,
             graph,

@@ -10,9 +10,7 @@ use instances::WorldEntry;
 use std::alloc::Global;
 use task_table::Errand;
 use tasks::{BlockedAt, Phase, TaskEvent};
-use world_parts::{
-    Flow, Part, Parts, Receiver, Stop, tell_end, tell_subtask, yield_cancelled,
-};
+use world_parts::{Flow, Part, Parts, Receiver, Stop, tell_end, tell_subtask, yield_cancelled};
 
 /// What comes to a task that goes on in its loop, where it waited on a set.
 fn loop_flow(is_asked: bool, polls: bool, set: u64) -> Flow
@@ -193,9 +191,7 @@ fn resume_wait(
 {
     match why {
         BlockedAt::Yield => resume_yield(alloc, parts, task, told_so),
-        BlockedAt::Set(index) => {
-            resume_set(parts, at, canon, told_so, index, place)
-        }
+        BlockedAt::Set(index) => { resume_set(parts, at, canon, told_so, index, place) }
         BlockedAt::Call(callee) => resume_call(alloc, parts, task, at, callee),
         BlockedAt::Copy(index) => resume_copy(alloc, parts, task, at, index),
         BlockedAt::Cancel(index) => resume_cancel(alloc, parts, task, at, index),
@@ -250,9 +246,7 @@ fn resume_in(
     ensures { Does (resumed_in task at why errand) parts.old result parts.new }
 {
     match errand {
-        Errand::InBuiltin { canon } => {
-            resume_builtin(alloc, parts, task, at, canon, why)
-        }
+        Errand::InBuiltin { canon } => { resume_builtin(alloc, parts, task, at, canon, why) }
         Errand::None => Err(Stop::Stuck),
         Errand::AfterCall {
             callee: _,
@@ -269,13 +263,7 @@ fn resume_in(
 
 /// A task goes on that was blocked in a built-in.
 #[tactic(auto, unfolding(world_parts::specs::Going::resumed_from), using(world_parts::proofs::Thens::thens))]
-fn resume_from(
-    alloc: Global,
-    parts: &mut Parts,
-    task: u32,
-    at: usize,
-    why: BlockedAt,
-) -> Part<Flow>
+fn resume_from(alloc: Global, parts: &mut Parts, task: u32, at: usize, why: BlockedAt) -> Part<Flow>
     ensures { Does (resumed_from task at why) parts.old result parts.new }
 {
     let errand = parts.errand_of(task)?;
@@ -283,13 +271,7 @@ fn resume_from(
 }
 
 /// A task goes on, by how far it is.
-fn resume_by(
-    alloc: Global,
-    parts: &mut Parts,
-    task: u32,
-    at: usize,
-    phase: Phase,
-) -> Part<Flow>
+fn resume_by(alloc: Global, parts: &mut Parts, task: u32, at: usize, phase: Phase) -> Part<Flow>
     ensures { Does (resumed_by task at phase) parts.old result parts.new }
 {
     match phase {

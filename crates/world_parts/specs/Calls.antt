@@ -75,7 +75,7 @@ call_resolved g t at callee canon h =
 unfoldable pub call_open : Views → ℕ → ℕ → ℕ → ℕ → Held → Done Flow
 call_open g t at callee canon h =
     if g.is_async canon
-    then after (entry_added at (entry.Subtask callee) h) (λ index k. after (state_told callee k) (λ state l. got t (state + 16 * index ∷ []) l))
+    then after (entry_added at (entry.Subtask callee) h) (λ index k. after (state_told callee k) (λ state l. got t ((state + 16 * index) ∷ []) l))
     else blocked_in t canon (g.flag canon) (blocked_at.Call callee) (reason.Call callee) h
 
 unfoldable pub back_from_call : Views → ℕ → ℕ → ℕ → ℕ → Held → Done Flow

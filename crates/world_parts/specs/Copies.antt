@@ -1,8 +1,6 @@
 -- Streams and futures (Component Model, CanonicalABI.md, `canon stream.new`, `canon stream.{read,write}`, `canon stream.cancel-{read,write}`,
 -- `canon stream.drop-{readable,writable}` and their fellows of futures): what their built-ins do before elements go over.
 use Rattle.std.specs.Prelude.{ℕ, ◌+◌, ◌*◌, ◌%◌, ◌^◌, nat_eq, nat_le, nat_lt, min, Bool, true, false, not, ◌&&◌, if◌then◌else◌, List, [], ◌∷◌, length, Option, Some, None}
-use Rattle.ca_types.specs.declared.types.ValType.{ValType}
-use Rattle.ca_types.specs.Layout.{laid}
 use Rattle.builtin_kinds.specs.declared.EndKind.{EndKind}
 use Rattle.builtin_kinds.specs.declared.EndKind.TheVariants.{Stream, Future}
 use Rattle.stream_ends.specs.declared.side.Side.{Side}

@@ -44,7 +44,7 @@ pub fn number_behind(count: usize) -> Option<u32>
 
 /// Whether a stream or a future is there, and is of the type of a number.
 fn is_of_type(channel: Option<&Channel>, end_type: usize) -> bool
-    ensures { result ≡ is_of_type end_type (option_copied channel) }
+    ensures { result ≡ is_of_type end_type (option_copied channel.entry) }
 {
     match channel {
         Some(channel) => channel.end_type == end_type,

@@ -1,6 +1,6 @@
 //! What a script gives, lines, and the chain of running tasks.
 
-ghost use Rattle.std.specs.Prelude.{◌≡◌, ◌∷◌, [], IfOk};
+ghost use Rattle.std.specs.Prelude.{◌≡◌, ◌<◌, ◌∷◌, [], IfOk};
 ghost use Rattle.world_parts.specs.Held.{Does};
 ghost use Rattle.world_parts.specs.Feed.{told, spent, moved, item_taken, chosen, choice, acting, chained, rest_behind, left_chain, got};
 
