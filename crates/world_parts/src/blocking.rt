@@ -80,13 +80,7 @@ fn give_back(alloc: Global, parts: &mut Parts, at: usize, callee: u32) -> Part<(
 }
 
 /// The same where the task has resolved.
-fn give_back_if(
-    alloc: Global,
-    parts: &mut Parts,
-    is_over: bool,
-    at: usize,
-    callee: u32,
-) -> Part<()>
+fn give_back_if(alloc: Global, parts: &mut Parts, is_over: bool, at: usize, callee: u32) -> Part<()>
     ensures { Does (given_back_if is_over at callee) parts.old result parts.new }
 {
     if is_over {

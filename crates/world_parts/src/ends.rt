@@ -130,5 +130,4 @@ impl Parts {
             None => Err(Stop::Stuck),
         }
     }
-
 }

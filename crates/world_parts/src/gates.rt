@@ -6,7 +6,6 @@ ghost use Rattle.world_parts.specs.Gates.{entry_is_free, gate_unwaited, gate_giv
 use crate::parts::{Part, Parts, Stop};
 
 impl Parts {
-
     /// Whether no task holds exclusive entry to an instance.
     pub fn is_entry_free(&self, at: usize) -> Part<bool>
         ensures { Does (entry_is_free at) self.now result self.now }
@@ -41,5 +40,4 @@ impl Parts {
         self.instances[at].leave(task);
         Ok(())
     }
-
 }

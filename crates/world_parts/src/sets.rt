@@ -7,7 +7,6 @@ use crate::parts::{Part, Parts, Stop};
 use instances::SetError;
 
 impl Parts {
-
     /// Lets a waitable leave the set that it is in, if it is in one.
     pub fn leave_set(&mut self, at: usize, waitable: u32) -> Part<()>
         ensures { Does (set_left at waitable) self.old result self.new }

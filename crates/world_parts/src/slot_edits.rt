@@ -121,5 +121,4 @@ impl Parts {
         self.tasks.close(task);
         Ok(())
     }
-
 }

@@ -196,4 +196,3 @@ impl Parts {
         self.tasks.is_among_callers(task, instance)
     }
 }
-
