@@ -19,15 +19,15 @@ pub enum Ends {
 /// A stream or a future. No call takes memory.
 #[derive(Drop)]
 pub struct Channel {
-    /// The number of its type.
-    pub end_type: u32,
+    /// The number of its type, the whole type of a stream or a future.
+    pub end_type: usize,
     /// Its ends.
     pub ends: Ends,
 }
 
 impl Channel {
     /// A new stream or future of this type.
-    pub fn new(kind: EndKind, end_type: u32) -> Channel
+    pub fn new(kind: EndKind, end_type: usize) -> Channel
         ensures { result ≡ record { end_type = end_type; ends = new_ends kind } }
     {
         let ends = match kind {

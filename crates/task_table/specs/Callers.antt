@@ -1,5 +1,5 @@
 -- Who called a task, and the caller's side of the call (Component Model, CanonicalABI.md, "Subtask State").
-use Rattle.std.specs.Prelude.{◌≡◌, ℕ, Bool, true, false, not, IsTrue, if◌then◌else◌, List, [], Option, Some, None, Result, Ok, Err}
+use Rattle.std.specs.Prelude.{◌≡◌, ℕ, Bool, true, false, not, ◌&&◌, IsTrue, if◌then◌else◌, List, [], Option, Some, None, Result, Ok, Err}
 use Rattle.tasks.specs.Views.{SubtaskView}
 use Rattle.tasks.specs.Subtasks as subtasks
 use Rattle.tasks.specs.Subtasks.{code_of, follows, is_over, has_event, delivered, new_subtask}
@@ -14,7 +14,7 @@ use Rattle.task_table.specs.declared.refusal.LendError.TheVariants.{NoCall, Memo
 
 -- a new call of a task
 abbrev pub new_called : ℕ → ℕ → List ℕ → ℕ → Called
-new_called by canon words callee = record { by = by; canon = canon; words = words; subtask = new_subtask callee; result = [] }
+new_called by canon words callee = record { by = by; canon = canon; words = words; subtask = new_subtask callee; result = []; is_awaited = false }
 
 -- the caller by a number
 abbrev pub caller_view : Caller → views.Caller
@@ -55,11 +55,18 @@ changed f Nobody = Nobody
 changed f (Host call) = Host call
 changed f (Guest called) = Guest (f called)
 
--- a caller is to be told the state
+-- A caller is to be told the state, by a set: no task waits for the subtask directly.
+abbrev pub called_has_news : Called → Bool
+called_has_news called = has_event called.subtask && not called.is_awaited
+
 abbrev pub has_news : Caller → Bool
 has_news Nobody = false
 has_news (Host call) = false
-has_news (Guest called) = has_event called.subtask
+has_news (Guest called) = called_has_news called
+
+-- a task waits for the subtask directly, or not
+abbrev pub awaited : Bool → Called → Called
+awaited is_awaited called = record called { is_awaited = is_awaited }
 
 -- what it is told
 abbrev pub payload_of : Caller → Option ℕ
@@ -79,7 +86,7 @@ may_raise state Nobody = true
 may_raise state (Host call) = true
 may_raise state (Guest called) = follows called.subtask.state state
 
--- a result is kept
+-- a task called: its result is kept, and it may wait for the call
 abbrev pub may_keep : Caller → Bool
 may_keep Nobody = false
 may_keep (Host call) = false

@@ -25,7 +25,7 @@ use Rattle.task_table.specs.declared.refusal.EventError.{EventError}
 use Rattle.task_table.specs.declared.refusal.EventError.TheVariants.{NotNow, Trap}
 use Rattle.task_table.specs.declared.refusal.LendError.{LendError}
 use Rattle.task_table.specs.declared.slot.TaskSlot.{TaskSlot}
-use Rattle.task_table.specs.Callers.{caller_view, raised, told, changed, CallerLends}
+use Rattle.task_table.specs.Callers.{caller_view, raised, told, awaited, changed, CallerLends}
 
 -- a new task
 abbrev pub new_slot : ℕ → Kind → Callee → Caller → TaskSlot
@@ -45,8 +45,11 @@ with_task task slot = record slot { task = task }
 abbrev pub with_caller : Caller → TaskSlot → TaskSlot
 with_caller caller slot = record slot { caller = caller }
 
-abbrev pub at_errand : Errand → List ℕ → TaskSlot → TaskSlot
-at_errand errand words slot = record slot { errand = errand; at_words = words }
+abbrev pub at_errand : Errand → TaskSlot → TaskSlot
+at_errand errand slot = record slot { errand = errand }
+
+abbrev pub at_call : List ℕ → TaskSlot → TaskSlot
+at_call words slot = record slot { at_words = words }
 
 -- Something happens to a task that is in a state for it, or is refused.
 abbrev pub trapped : Option TaskTrap → Result (Unit {0}) EventError
@@ -149,6 +152,9 @@ told_slot slot = with_called told slot
 
 abbrev pub kept_slot : List ℕ → TaskSlot → TaskSlot
 kept_slot words slot = with_called (λ called. record called { result = words }) slot
+
+abbrev pub awaited_slot : Bool → TaskSlot → TaskSlot
+awaited_slot is_awaited slot = with_called (awaited is_awaited) slot
 
 -- A handle is lent for the call of a task.
 abbrev pub LendGives : ℕ → TaskSlot → Result (Unit {0}) LendError → TaskSlot → Type 0

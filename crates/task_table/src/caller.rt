@@ -2,7 +2,7 @@
 
 ghost use Rattle.std.specs.Prelude.{◌≡◌};
 ghost use Rattle.tasks.specs.Subtasks.{code_of, follows};
-ghost use Rattle.task_table.specs.Callers.{caller_view, new_called, raised, told, CalledLends};
+ghost use Rattle.task_table.specs.Callers.{caller_view, new_called, raised, told, called_has_news, CalledLends};
 
 use crate::Words;
 use crate::refusal::LendError;
@@ -22,6 +22,8 @@ pub struct Called {
     pub subtask: Subtask,
     /// The core values of the result, once they are there.
     pub result: Words,
+    /// Whether a task waits for it directly, which keeps its event from the sets.
+    pub is_awaited: bool,
 }
 
 /// Who called a task.
@@ -46,6 +48,7 @@ impl Called {
             words,
             subtask: Subtask::new(alloc, callee),
             result: Words::new(alloc),
+            is_awaited: false,
         }
     }
 
@@ -71,6 +74,13 @@ impl Called {
         } else {
             self.subtask.payload()
         }
+    }
+
+    /// Whether a set may tell its state: it was not told, and no task waits for it directly.
+    pub(crate) fn has_news(&self) -> bool
+        ensures { result ≡ called_has_news self.now }
+    {
+        self.subtask.has_event() && !self.is_awaited
     }
 
     /// Counts a handle as lent, where the call isn't resolved.

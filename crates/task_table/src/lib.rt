@@ -4,6 +4,7 @@
 //! fields. What the calls of a task and of a subtask ask for is tested here, so that no call has a condition.
 //!
 //! - `slot`: a slot
+//! - `table`: all tasks of a run, and those that have not exited
 //! - `caller`: who called the task, and the caller's side of the call
 //! - `errand`: what the task is at
 //! - `refusal`: why something does not happen
@@ -13,12 +14,14 @@ mod caller;
 mod errand;
 mod refusal;
 mod slot;
+mod table;
 
 use ca_base::Seq;
 pub use caller::{Called, Caller};
 pub use errand::{Callee, Errand};
 pub use refusal::{EventError, LendError};
 pub use slot::TaskSlot;
+pub use table::Tasks;
 
 /// A list of core values.
 pub type Words = Seq<u64>;

@@ -5,7 +5,7 @@ ghost use Rattle.std.specs.Option.{option_copied};
 ghost use Rattle.tasks.specs.Tasks.{is_asked, state_of};
 ghost use Rattle.tasks.specs.Subtasks.{is_over};
 ghost use Rattle.task_table.specs.Callers.{called_of, has_news, payload_of, may_raise, may_keep, lends_of};
-ghost use Rattle.task_table.specs.Slots.{new_slot, event_answer, advanced_slot, cancel_answer, cancelled_slot, is_to_be_told, has_exited, waits_directly_at, waits_on, word_waits_on, word_at, with_word, raised_slot, told_slot, kept_slot, LendGives, at_errand};
+ghost use Rattle.task_table.specs.Slots.{new_slot, event_answer, advanced_slot, cancel_answer, cancelled_slot, is_to_be_told, has_exited, waits_directly_at, waits_on, word_waits_on, word_at, with_word, raised_slot, told_slot, kept_slot, awaited_slot, LendGives, at_errand, at_call};
 
 use crate::Words;
 use crate::caller::{Called, Caller};
@@ -172,11 +172,17 @@ impl TaskSlot {
         }
     }
 
-    /// Says what it is at, in a canonical function that was called with these words.
-    pub fn set_errand(&mut self, errand: Errand, words: Words)
-        ensures { self.new ≡ at_errand errand words self.old }
+    /// Says what it is at.
+    pub fn set_errand(&mut self, errand: Errand)
+        ensures { self.new ≡ at_errand errand self.old }
     {
         self.errand = errand;
+    }
+
+    /// Keeps the words of the canonical function at which it is.
+    pub fn set_words(&mut self, words: Words)
+        ensures { self.new ≡ at_call words self.old }
+    {
         self.at_words = words;
     }
 
@@ -191,14 +197,14 @@ impl TaskSlot {
         }
     }
 
-    /// Whether its caller, a task, is to be told its state.
+    /// Whether its caller, a task, is to be told its state by a set: no task waits for it directly.
     pub fn has_news(&self) -> bool
         ensures { result ≡ has_news self.now.caller }
     {
         match &self.caller {
             Caller::Nobody => false,
             Caller::Host(_) => false,
-            Caller::Guest(called) => called.subtask.has_event(),
+            Caller::Guest(called) => called.has_news(),
         }
     }
 
@@ -236,6 +242,21 @@ impl TaskSlot {
             Caller::Nobody => None,
             Caller::Host(_) => None,
             Caller::Guest(called) => Some(called.tell()),
+        }
+    }
+
+    /// Says whether a task waits for its call directly. Where no task called it nothing changes, and the answer is false.
+    pub fn set_awaited(&mut self, is_awaited: bool) -> bool
+        ensures answer { result ≡ may_keep self.old.caller }
+        ensures exact { self.new ≡ awaited_slot is_awaited self.old }
+    {
+        match &mut self.caller {
+            Caller::Nobody => false,
+            Caller::Host(_) => false,
+            Caller::Guest(called) => {
+                called.is_awaited = is_awaited;
+                true
+            }
         }
     }
 

@@ -148,6 +148,7 @@ impl Changed {
             "x" => asked(self.slot.request_cancel(number(rest) == 1)),
             "up" => yes_or_no(self.slot.raise(state_of(number(rest)))),
             "l" => lent(self.slot.add_lend(number(rest))),
+            "await" => yes_or_no(self.slot.set_awaited(number(rest) == 1)),
             _ => self.test(name, rest),
         }
     }
@@ -158,7 +159,8 @@ impl Changed {
             Errand::None => Words::new(alloc),
             _ => words_of(alloc, &[1, 2])?,
         };
-        self.slot.set_errand(errand, words);
+        self.slot.set_errand(errand);
+        self.slot.set_words(words);
         Ok(())
     }
 

@@ -1,0 +1,33 @@
+//! Tests of what is kept of a world, and of how tasks enter, block in their loops, go on and exit: a program that goes through a table of
+//! cases, which are derived by hand from the rules of the machine.
+//!
+//! A case is a line: what happens to a world of two component instances without a script, a word for each act, and the answers. The file
+//! `stdin` names the table, and the file `stdout` has how many cases are in it.
+//!
+//! - `playing`: a world that words change
+//! - `telling`: answers and lines in words
+#![tactic(auto)]
+
+mod playing;
+mod telling;
+
+use cases::{Tables, lines_told, run_tables};
+use playing::Worlds;
+use std::alloc::Global;
+use std::test::Fail;
+
+/// The tables, by the names of their kinds.
+struct AllTables;
+
+impl Tables for AllTables {
+    fn told(alloc: Global, kind: &str, text: &str) -> Result<String, Fail> {
+        match kind {
+            "turns" => lines_told::<Worlds>(alloc, text, " ="),
+            _ => Err(Fail::new("another kind")),
+        }
+    }
+}
+
+fn main(rt: HostRuntime) -> Result<(), Fail> {
+    run_tables::<AllTables>(&rt)
+}
