@@ -33,3 +33,11 @@ pub mod Ordered
 pub mod Unique
 pub mod Calling
 pub mod Callers
+pub mod Unresolved
+pub mod Unborrowed
+pub mod Lent
+pub mod Borrowed
+pub mod known
+pub mod Looping
+pub mod Awaited
+pub mod Picking

@@ -20,3 +20,10 @@ pub mod Acting
 pub mod Unique
 pub mod Called
 pub mod Callers
+pub mod Entering
+pub mod PassedTypes
+pub mod Loans
+pub mod Borrows
+pub mod Loops
+pub mod Subtasks
+pub mod Picked

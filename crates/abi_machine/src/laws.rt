@@ -16,10 +16,17 @@ ghost use Rattle.abi_machine.specs.sound.Copies.{FirstIsCopied, CopiesStay};
 ghost use Rattle.abi_machine.specs.sound.Counts.{FirstAddsUp, CountsStay};
 ghost use Rattle.abi_machine.specs.sound.OpenCopies.{FirstHoldsCopies, CopiesStayHeld};
 ghost use Rattle.abi_machine.specs.sound.Holders.{FirstHasOneHolder, OneHolderStays};
+ghost use Rattle.abi_machine.specs.sound.Loans.{FirstHoldsLoans, LoansStay};
+ghost use Rattle.abi_machine.specs.sound.PassedTypes.{FirstHoldsNoBorrow, NoBorrowStays};
+ghost use Rattle.abi_machine.specs.sound.Borrows.{BorrowsAreGivenBack};
+ghost use Rattle.abi_machine.specs.sound.Loops.{FirstHasLoops, LoopsStay};
+ghost use Rattle.abi_machine.specs.sound.Picked.{FirstIsPicked, PickedStays};
+ghost use Rattle.abi_machine.specs.sound.Subtasks.{FirstHasSubtasks, SubtasksStay};
 
 /// Task 0 instantiates, and runs alone until it has exited; it never runs again, and no other task runs a start function. Control says
 /// what is so: where a turn begins no task runs; elsewhere, but where control is back at a task or the run ends in a trap, the acting task
-/// acts, is new, or may be inside its instance; and what is to be copied has room at the other end. So it is in the first world, and so it stays in every step.
+/// acts, is new, or may be inside its instance; and what is to be copied has room at the other end. A task that is new or waits to enter
+/// has not resolved, and its caller was not told that it has. So it is in the first world, and so it stays in every step.
 pub fn init_runs_alone()
     ensures first { FirstRunsAlone }
     ensures stays { StaysAlone }
@@ -131,4 +138,46 @@ pub fn called_stay()
 pub fn by_canons_stay()
     ensures first { FirstByCanons }
     ensures stays { ByCanonsStay }
+{}
+
+/// Each handle that is lent for a call stands in the table of the instance that calls, until the caller is told that the task has resolved;
+/// from then on none is lent for it. So it is in the first world, and so it stays in every step, where tasks call by canonical functions of
+/// their own instances and the types of results and elements hold no borrow.
+pub fn loans_stay()
+    ensures first { FirstHoldsLoans }
+    ensures stays { LoansStay }
+{}
+
+/// Where the types of results and elements of a graph hold no borrow, neither does that of the result of the function that a task runs, nor
+/// that of the elements of a stream or a future: so it is in the first world, and so it stays in every step.
+pub fn no_borrow_is_passed()
+    ensures first { FirstHoldsNoBorrow }
+    ensures stays { NoBorrowStays }
+{}
+
+/// In each step a task returns, or is cancelled by itself, only where no live borrow handle names it, and a handle leaves its table only
+/// where nothing is lent of it.
+pub fn borrows_are_given_back()
+    ensures { BorrowsAreGivenBack }
+{}
+
+/// The word of a task in its loop says that it yields, waits or polls, and the set that it waits on or polls stands in the table of its
+/// instance: so it is in the first world, and so it stays in every step.
+pub fn loops_stay()
+    ensures first { FirstHasLoops }
+    ensures stays { LoopsStay }
+{}
+
+/// A subtask in a table was called by a canonical function that does not wait, and stands there once. One for which its caller waits in a
+/// call stands in no table, and nothing was told of it; and none that is cancelled is waited for so: so it is in the first world, and so it
+/// stays in every step.
+pub fn subtasks_stay()
+    ensures first { FirstHasSubtasks }
+    ensures stays { SubtasksStay }
+{}
+
+/// Where one of several alternatives was picked, it is there: in the first world, and behind every step.
+pub fn picked_is_there()
+    ensures first { FirstIsPicked }
+    ensures stays { PickedStays }
 {}

@@ -79,6 +79,13 @@ impl Model for Suspended {
 }
 
 impl Suspended {
+    /// For how many words it waits.
+    pub fn count(&self) -> usize
+        ensures { result ≡ self.now.count }
+    {
+        self.count
+    }
+
     /// Lets the stack go before its end.
     pub fn give_up(self) {
         let Suspended { state: _, count: _ } = self;

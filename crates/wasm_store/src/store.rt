@@ -81,6 +81,13 @@ impl Store {
         &self.tables[address]
     }
 
+    /// How many instances there are.
+    pub fn instance_count(&self) -> usize
+        ensures { result ≡ length self.now.instances }
+    {
+        self.instances.len()
+    }
+
     /// The instance at an address.
     pub fn instance(&self, address: usize) -> &ModuleInstance
         requires { address < length self.now.instances }

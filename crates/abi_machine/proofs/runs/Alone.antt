@@ -15,7 +15,6 @@ use Rattle.abi_machine.specs.Control.{Lowers, Starts}
 use Rattle.abi_machine.specs.World.{OfSet, Init, Func, Nobody, Host, ForSet, Acting, InBuiltin, Exited, World, new_task}
 use Rattle.abi_machine.specs.Canons.{defines}
 use Rattle.abi_machine.specs.Pausing.{entries_by}
-use Rattle.abi_machine.specs.Next.{next}
 use Rattle.abi_machine.specs.examples.Parts.{func_type, core_func, asynchronous, run_name, one_call, Shows}
 use Rattle.abi_machine.specs.examples.Sets.{alone, alone_world, waited_alone}
 use Rattle.abi_machine.proofs.Rules.{the_rules}

@@ -1,5 +1,5 @@
 -- A call returns at once.
-use Rattle.std.proofs.Common.{◌≡◌, ◌∙◌, ◌+◌, true, [], ◌∷◌, ◌++◌, replicate, Some, None, refl, ap}
+use Rattle.std.proofs.Common.{◌≡◌, ◌∙◌, true, [], ◌∷◌, ◌++◌, replicate, Some, None, refl, ap}
 use Rattle.wasm_module.specs.declared.instr.Instr.TheVariants.{Drop}
 use Rattle.wasm_module.specs.Expr.{End, Plain}
 use Rattle.wasm_store.specs.Stack.{Running}

@@ -1,5 +1,5 @@
 -- A read is cancelled before anything is copied.
-use Rattle.std.proofs.Common.{◌≡◌, Bool, true, false, [], ◌∷◌, length, Some, None, refl, ap}
+use Rattle.std.proofs.Common.{◌≡◌, Bool, true, false, [], ◌∷◌, Some, None, refl, ap}
 use Rattle.wasm_module.specs.declared.instr.Instr.TheVariants.{Drop}
 use Rattle.wasm_module.specs.declared.instr.Instr.TheVariants as instr
 use Rattle.wasm_module.specs.Expr.{End, Plain}
@@ -26,7 +26,7 @@ use Rattle.abi_machine.specs.Next.{next}
 use Rattle.abi_machine.specs.examples.Parts.{func_type, number, core_at, core_func, one_call, Shows}
 use Rattle.abi_machine.specs.examples.Streams.{cancelled_empty, cancels, streaming, streaming_world}
 use Rattle.abi_machine.proofs.Rules.{the_rules}
-use Rattle.abi_machine.proofs.Walks.{far, walked, stepped, goes_on, shows, leaves}
+use Rattle.abi_machine.proofs.Walks.{far, walked, stepped, goes_on, shows}
 use Rattle.abi_machine.proofs.Layers.{u8_laid, u8_integer, u8_same}
 use Rattle.abi_machine.proofs.Copies.{the_channel, copies_as, cancels_as}
 

@@ -16,7 +16,6 @@ use Rattle.abi_machine.specs.Control.{Runs, Lowers, Starts}
 use Rattle.abi_machine.specs.World.{OfSet, Init, Func, Nobody, Host, Acting, Exited, World, new_task}
 use Rattle.abi_machine.specs.Canons.{defines}
 use Rattle.abi_machine.specs.Pausing.{entries_by}
-use Rattle.abi_machine.specs.Next.{next}
 use Rattle.abi_machine.specs.examples.Parts.{func_type, core_func, Shows}
 use Rattle.abi_machine.specs.examples.Cancelling.{cancelled, cancelling, w_name, waiting, waiting_world}
 use Rattle.abi_machine.proofs.Rules.{the_rules}

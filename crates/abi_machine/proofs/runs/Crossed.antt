@@ -1,5 +1,5 @@
 -- Two tasks wait for each other.
-use Rattle.std.proofs.Common.{◌≡◌, Bool, true, false, [], ◌∷◌, length, Some, None, refl, ap}
+use Rattle.std.proofs.Common.{◌≡◌, Bool, true, false, [], ◌∷◌, Some, None, refl, ap}
 use Rattle.wasm_module.specs.declared.instr.Instr.TheVariants.{Drop}
 use Rattle.wasm_module.specs.declared.instr.Instr.TheVariants as instr
 use Rattle.wasm_module.specs.Expr.{End, Plain}
@@ -28,7 +28,7 @@ use Rattle.abi_machine.specs.Next.{next}
 use Rattle.abi_machine.specs.examples.Parts.{func_type, number, core_at, core_func, asynchronous, Shows}
 use Rattle.abi_machine.specs.examples.Transfers.{crossed, crossing, crossing_world, first_name, first_then_second, second_name}
 use Rattle.abi_machine.proofs.Rules.{the_rules}
-use Rattle.abi_machine.proofs.Walks.{far, walked, stepped, goes_on, shows, leaves, planned}
+use Rattle.abi_machine.proofs.Walks.{far, walked, stepped, goes_on, shows, planned}
 use Rattle.abi_machine.proofs.Layers.{u8_laid, u8_integer, u8_same}
 use Rattle.abi_machine.proofs.Passed.{none_planned}
 use Rattle.abi_machine.proofs.Copies.{the_channel, copies_as}

@@ -1,5 +1,5 @@
 -- A call is waited for.
-use Rattle.std.proofs.Common.{◌≡◌, ◌∙◌, ◌+◌, false, List, [], ◌∷◌, ◌++◌, length, Some, None, refl, ap}
+use Rattle.std.proofs.Common.{◌≡◌, ◌∙◌, false, List, [], ◌∷◌, ◌++◌, length, Some, None, refl, ap}
 use Rattle.std.specs.Prelude.{nat_lt}
 use Rattle.wasm_module.specs.Expr.{End}
 use Rattle.wasm_store.specs.Stack.{Running}
@@ -28,7 +28,7 @@ use Rattle.abi_machine.specs.Next.{next}
 use Rattle.abi_machine.specs.examples.Parts.{func_type, core_func, run_name, Shows}
 use Rattle.abi_machine.specs.examples.Lowering.{doubled, doubling, doubling_script, doubling_world}
 use Rattle.abi_machine.proofs.Rules.{the_rules}
-use Rattle.abi_machine.proofs.Walks.{far, walked, stepped, goes_on, shows, leaves, planned}
+use Rattle.abi_machine.proofs.Walks.{far, walked, stepped, goes_on, shows, planned}
 use Rattle.abi_machine.proofs.Layers.{u32_flat, u32_part, u32_lowered}
 use Rattle.abi_machine.proofs.Passed.{two_passed, result_passed_as, one_planned, two_planned, result_planned}
 use Rattle.abi_machine.proofs.Copies.{entering, has_ended}

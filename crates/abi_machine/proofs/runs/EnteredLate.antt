@@ -1,5 +1,5 @@
 -- A call waits to enter, and has returned when it is told.
-use Rattle.std.proofs.Common.{◌≡◌, ◌∙◌, ◌+◌, true, [], ◌∷◌, ◌++◌, replicate, Some, None, refl, ap}
+use Rattle.std.proofs.Common.{◌≡◌, ◌∙◌, true, [], ◌∷◌, ◌++◌, replicate, Some, None, refl, ap}
 use Rattle.wasm_module.specs.declared.instr.Instr.TheVariants.{Drop}
 use Rattle.wasm_module.specs.declared.instr.Instr.TheVariants as instr
 use Rattle.wasm_module.specs.Expr.{End, Plain}
@@ -30,7 +30,7 @@ use Rattle.abi_machine.specs.Next.{next}
 use Rattle.abi_machine.specs.examples.Parts.{func_type, number, core_func, asynchronous, run_name, Shows}
 use Rattle.abi_machine.specs.examples.Subtasks.{entered_late, held, held_world, hold_name, hold_then_run}
 use Rattle.abi_machine.proofs.Rules.{the_rules}
-use Rattle.abi_machine.proofs.Walks.{far, walked, stepped, goes_on, shows, leaves, planned, the_task, the_func}
+use Rattle.abi_machine.proofs.Walks.{far, walked, stepped, goes_on, shows, planned, the_task, the_func}
 use Rattle.abi_machine.proofs.Layers.{u32_flat, u32_laid, u32_same, u32_part, u32_lowered}
 use Rattle.abi_machine.proofs.Passed.{none_passed, result_passed_as, none_planned, result_placed}
 use Rattle.abi_machine.proofs.Copies.{entering, returning, returns_as}

@@ -14,7 +14,6 @@ use Rattle.abi_machine.specs.Control.{Calls, Lowers, Starts}
 use Rattle.abi_machine.specs.World.{Init, Func, Nobody, Host, Acting, WaitsToEnter, Exited, World, new_task}
 use Rattle.abi_machine.specs.Canons.{defines}
 use Rattle.abi_machine.specs.Pausing.{entries_by}
-use Rattle.abi_machine.specs.Next.{next}
 use Rattle.abi_machine.specs.examples.Parts.{func_type, core_func, asynchronous, Shows}
 use Rattle.abi_machine.specs.examples.Backpressure.{both_calls, f_name, held_back, hold_name, holding, holding_world}
 use Rattle.abi_machine.proofs.Rules.{the_rules}

@@ -1,5 +1,5 @@
 -- A task returns while it has a borrow handle.
-use Rattle.std.proofs.Common.{◌≡◌, ◌∙◌, ◌+◌, true, List, [], ◌∷◌, ◌++◌, length, Some, None, refl, ap}
+use Rattle.std.proofs.Common.{◌≡◌, ◌∙◌, true, List, [], ◌∷◌, ◌++◌, length, Some, None, refl, ap}
 use Rattle.std.specs.Prelude.{nat_lt}
 use Rattle.wasm_module.specs.declared.instr.Instr.TheVariants.{Drop}
 use Rattle.wasm_module.specs.Expr.{End, Plain}
@@ -30,7 +30,7 @@ use Rattle.abi_machine.specs.Next.{next}
 use Rattle.abi_machine.specs.examples.Parts.{func_type, core_func, asynchronous, one_call, Shows}
 use Rattle.abi_machine.specs.examples.Handles.{keeping, keeping_world, kept_borrow}
 use Rattle.abi_machine.proofs.Rules.{the_rules}
-use Rattle.abi_machine.proofs.Walks.{far, walked, stepped, goes_on, shows, leaves, planned}
+use Rattle.abi_machine.proofs.Walks.{far, walked, stepped, goes_on, shows, planned}
 use Rattle.abi_machine.proofs.Layers.{borrow_flat, borrow_part, borrow_lowered}
 use Rattle.abi_machine.proofs.Passed.{one_passed, one_planned}
 use Rattle.abi_machine.proofs.Copies.{entering}

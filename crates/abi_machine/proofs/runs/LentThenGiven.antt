@@ -21,7 +21,7 @@ use Rattle.abi_machine.specs.Next.{next}
 use Rattle.abi_machine.specs.examples.Parts.{func_type, core_func, one_call, Shows}
 use Rattle.abi_machine.specs.examples.Handles.{borrowed, both_world, lent_then_given, owned, passing}
 use Rattle.abi_machine.proofs.Rules.{the_rules}
-use Rattle.abi_machine.proofs.Walks.{far, walked, stepped, goes_on, shows, leaves}
+use Rattle.abi_machine.proofs.Walks.{far, walked, stepped, goes_on, shows}
 use Rattle.abi_machine.proofs.Layers.{own_flat, borrow_flat, own_part, borrow_part}
 use Rattle.abi_machine.proofs.Passed.{two_passed}
 use Rattle.abi_machine.proofs.Copies.{entering}

@@ -1,5 +1,5 @@
 -- A text is passed.
-use Rattle.std.proofs.Common.{◌≡◌, ◌+◌, List, [], ◌∷◌, ◌++◌, length, replicate, codes, Some, None, refl, ap}
+use Rattle.std.proofs.Common.{◌≡◌, List, [], ◌∷◌, ◌++◌, length, replicate, codes, Some, None, refl, ap}
 use Rattle.std.specs.Prelude.{nat_lt}
 use Rattle.wasm_module.specs.Expr.{End}
 use Rattle.wasm_store.specs.Stack.{Running}

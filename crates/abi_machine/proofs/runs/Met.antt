@@ -1,5 +1,5 @@
 -- A write is read in three parts.
-use Rattle.std.proofs.Common.{◌≡◌, ◌∙◌, ◌+◌, ◌*◌, Bool, true, false, [], ◌∷◌, ◌++◌, length, replicate, Some, None, refl, ap}
+use Rattle.std.proofs.Common.{◌≡◌, ◌∙◌, ◌+◌, ◌*◌, Bool, true, false, [], ◌∷◌, ◌++◌, replicate, Some, None, refl, ap}
 use Rattle.wasm_module.specs.declared.instr.Instr.TheVariants.{Drop}
 use Rattle.wasm_module.specs.declared.instr.Instr.TheVariants as instr
 use Rattle.wasm_module.specs.Expr.{End, Plain}
@@ -39,7 +39,7 @@ use Rattle.abi_machine.specs.Next.{next}
 use Rattle.abi_machine.specs.examples.Parts.{func_type, number, core_at, core_func, one_call, Shows}
 use Rattle.abi_machine.specs.examples.Streams.{meets, met, streaming, streaming_world}
 use Rattle.abi_machine.proofs.Rules.{the_rules}
-use Rattle.abi_machine.proofs.Walks.{far, walked, stepped, goes_on, shows, leaves, planned}
+use Rattle.abi_machine.proofs.Walks.{far, walked, stepped, goes_on, shows, planned}
 use Rattle.abi_machine.proofs.Layers.{u8_laid, u8_integer, u8_same, u8_part, u8_lowered}
 use Rattle.abi_machine.proofs.Passed.{elements_by, elements_planned, sized_from}
 use Rattle.abi_machine.proofs.Copies.{the_channel, the_canon, copies_as, moving}

@@ -1,5 +1,5 @@
 -- A write of nothing is displaced by a read.
-use Rattle.std.proofs.Common.{◌≡◌, ◌+◌, Bool, true, false, [], ◌∷◌, ◌++◌, length, replicate, Some, None, refl, ap}
+use Rattle.std.proofs.Common.{◌≡◌, Bool, true, false, [], ◌∷◌, ◌++◌, replicate, Some, None, refl, ap}
 use Rattle.wasm_module.specs.declared.instr.Instr.TheVariants.{Drop}
 use Rattle.wasm_module.specs.declared.instr.Instr.TheVariants as instr
 use Rattle.wasm_module.specs.Expr.{End, Plain}
@@ -27,7 +27,7 @@ use Rattle.abi_machine.specs.Next.{next}
 use Rattle.abi_machine.specs.examples.Parts.{func_type, number, core_at, core_func, one_call, Shows}
 use Rattle.abi_machine.specs.examples.Streams.{nothing_written, streaming, streaming_world, writes_nothing}
 use Rattle.abi_machine.proofs.Rules.{the_rules}
-use Rattle.abi_machine.proofs.Walks.{far, walked, stepped, goes_on, shows, leaves}
+use Rattle.abi_machine.proofs.Walks.{far, walked, stepped, goes_on, shows}
 use Rattle.abi_machine.proofs.Layers.{u8_laid, u8_integer, u8_same}
 use Rattle.abi_machine.proofs.Copies.{the_channel, copies_as}
 

@@ -45,7 +45,7 @@ use Rattle.abi_machine.specs.Next.{next}
 use Rattle.abi_machine.specs.examples.Parts.{func_type, number, core_at, core_func, asynchronous, one_call, Shows}
 use Rattle.abi_machine.specs.examples.Futures.{keeps, promising, promising_world, read_twice, reads_twice}
 use Rattle.abi_machine.proofs.Rules.{the_rules}
-use Rattle.abi_machine.proofs.Walks.{far, walked, stepped, goes_on, shows, leaves, planned}
+use Rattle.abi_machine.proofs.Walks.{far, walked, stepped, goes_on, shows, planned}
 use Rattle.abi_machine.proofs.Layers.{future_flat, u8_laid, u8_integer, u8_same, u8_part, future_part, u8_lowered, future_lowered}
 use Rattle.abi_machine.proofs.Passed.{one_passed, end_passed, elements_by, one_planned, elements_planned, sized_from}
 use Rattle.abi_machine.proofs.Copies.{entering, the_channel, the_canon, copies_as, moving}

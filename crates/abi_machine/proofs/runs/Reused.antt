@@ -24,7 +24,7 @@ use Rattle.abi_machine.specs.Next.{next}
 use Rattle.abi_machine.specs.examples.Parts.{func_type, number, core_func, one_call, Shows}
 use Rattle.abi_machine.specs.examples.Streams.{reused, reuses, streaming, streaming_world}
 use Rattle.abi_machine.proofs.Rules.{the_rules}
-use Rattle.abi_machine.proofs.Walks.{far, walked, stepped, goes_on, shows, leaves}
+use Rattle.abi_machine.proofs.Walks.{far, walked, stepped, goes_on, shows}
 use Rattle.abi_machine.proofs.Layers.{u8_same}
 use Rattle.abi_machine.proofs.Copies.{drops_as}
 

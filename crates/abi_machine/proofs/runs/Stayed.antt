@@ -24,7 +24,7 @@ use Rattle.abi_machine.specs.Next.{next}
 use Rattle.abi_machine.specs.examples.Parts.{func_type, core_func, one_call, Shows}
 use Rattle.abi_machine.specs.examples.Subtasks.{stayed, stays, stays_world}
 use Rattle.abi_machine.proofs.Rules.{the_rules}
-use Rattle.abi_machine.proofs.Walks.{far, walked, stepped, goes_on, shows, leaves, planned}
+use Rattle.abi_machine.proofs.Walks.{far, walked, stepped, goes_on, shows, planned}
 use Rattle.abi_machine.proofs.Passed.{none_passed, none_planned}
 use Rattle.abi_machine.proofs.Copies.{entering}
 

@@ -1,5 +1,5 @@
 -- A child drops a handle of a resource of its caller.
-use Rattle.std.proofs.Common.{◌≡◌, ◌∙◌, ◌+◌, false, List, [], ◌∷◌, ◌++◌, length, Some, None, refl, ap}
+use Rattle.std.proofs.Common.{◌≡◌, ◌∙◌, false, List, [], ◌∷◌, ◌++◌, length, Some, None, refl, ap}
 use Rattle.std.specs.Prelude.{nat_lt}
 use Rattle.wasm_module.specs.Expr.{End}
 use Rattle.wasm_store.specs.Stack.{Running}
@@ -29,7 +29,7 @@ use Rattle.abi_machine.specs.Next.{next}
 use Rattle.abi_machine.specs.examples.Parts.{func_type, core_func, one_call, Shows}
 use Rattle.abi_machine.specs.examples.Handles.{owned, passing, sink_world, sunk}
 use Rattle.abi_machine.proofs.Rules.{the_rules}
-use Rattle.abi_machine.proofs.Walks.{far, walked, stepped, goes_on, shows, leaves, planned}
+use Rattle.abi_machine.proofs.Walks.{far, walked, stepped, goes_on, shows, planned}
 use Rattle.abi_machine.proofs.Layers.{own_flat, own_part, own_lowered}
 use Rattle.abi_machine.proofs.Passed.{one_passed, one_planned}
 use Rattle.abi_machine.proofs.Copies.{entering}

@@ -1,5 +1,5 @@
 -- A write is told that the reader has dropped its end.
-use Rattle.std.proofs.Common.{◌≡◌, ◌∙◌, ◌+◌, Bool, true, false, List, [], ◌∷◌, ◌++◌, length, replicate, Some, None, refl, ap}
+use Rattle.std.proofs.Common.{◌≡◌, ◌∙◌, Bool, true, false, List, [], ◌∷◌, ◌++◌, length, replicate, Some, None, refl, ap}
 use Rattle.std.specs.Prelude.{nat_lt}
 use Rattle.wasm_module.specs.declared.instr.Instr.TheVariants.{Drop}
 use Rattle.wasm_module.specs.declared.instr.Instr.TheVariants as instr
@@ -41,7 +41,7 @@ use Rattle.abi_machine.specs.Next.{next}
 use Rattle.abi_machine.specs.examples.Parts.{func_type, number, core_at, core_func, asynchronous, one_call, Shows}
 use Rattle.abi_machine.specs.examples.Futures.{drops_readable, keeps, promising, promising_world, told_of_drop}
 use Rattle.abi_machine.proofs.Rules.{the_rules}
-use Rattle.abi_machine.proofs.Walks.{far, walked, stepped, goes_on, shows, leaves, planned}
+use Rattle.abi_machine.proofs.Walks.{far, walked, stepped, goes_on, shows, planned}
 use Rattle.abi_machine.proofs.Layers.{future_flat, u8_laid, u8_integer, u8_same, u8_part, future_part, future_lowered}
 use Rattle.abi_machine.proofs.Passed.{one_passed, end_passed, one_planned}
 use Rattle.abi_machine.proofs.Copies.{entering, the_channel, copies_as, drops_as}

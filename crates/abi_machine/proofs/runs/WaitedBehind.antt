@@ -15,7 +15,6 @@ use Rattle.abi_machine.specs.Control.{Runs, Lowers, Starts}
 use Rattle.abi_machine.specs.World.{Init, Func, Nobody, Host, Acting, WaitsToEnter, Exited, World, new_task}
 use Rattle.abi_machine.specs.Canons.{defines}
 use Rattle.abi_machine.specs.Pausing.{entries_by}
-use Rattle.abi_machine.specs.Next.{next}
 use Rattle.abi_machine.specs.examples.Parts.{func_type, core_func, asynchronous, Shows}
 use Rattle.abi_machine.specs.examples.Backpressure.{f_name, hold_name, holding, holding_world, three_calls, waited_behind}
 use Rattle.abi_machine.proofs.Rules.{the_rules}

@@ -1,19 +1,17 @@
 -- What may go on is blocked, and what a cancellation ends or removes.
-use Rattle.std.proofs.Common.{◌≡◌, ℕ, zero, suc, ◌+◌, Bool, true, false, List, [], ◌∷◌, map, refl, sym, ap, ◌∙◌, subst, arith, Option, Some, None, Result, Ok, Err, if◌then◌else◌}
+use Rattle.std.proofs.Common.{◌≡◌, ℕ, suc, ◌+◌, Bool, true, false, List, [], ◌∷◌, map, refl, subst, arith, Option, Some, None, if◌then◌else◌}
 use Rattle.std.specs.Prelude.{IsSome, filter}
 use Rattle.std.specs.List.{slice_get, AllByRecursion}
 use Rattle.entry_gate.specs.declared.kind.Kind.{Kind}
-use Rattle.tasks.specs.declared.event.Asked.{Asked}
 use Rattle.tasks.specs.declared.event.Asked.TheVariants.{Removed, ResumeNow, Pending}
-use Rattle.tasks.specs.declared.event.BlockedAt.{BlockedAt}
 use Rattle.tasks.specs.declared.event.BlockedAt.TheVariants as blocked_at
-use Rattle.tasks.specs.Tasks.{is_cancellable, blocked_case, phase_case}
+use Rattle.tasks.specs.Tasks.{is_cancellable, phase_case}
 use Rattle.comp_graph.specs.Graph.{Graph, Lifted}
 use Rattle.script_reader.specs.declared.script.Item.{Item}
 use Rattle.script_reader.specs.Script.{Script}
-use Rattle.abi_machine.specs.World.{Wait, ForYield, ForSet, ForCall, ForCopy, ForCancel, TaskState, New, Acting, AfterCall, AfterCancel, Begins, WaitsToEnter, InLoop, InBuiltin, Exited, Task, World}
+use Rattle.abi_machine.specs.World.{ForYield, ForSet, ForCall, ForCopy, ForCancel, TaskState, New, Acting, AfterCall, AfterCancel, Begins, WaitsToEnter, InLoop, InBuiltin, Exited, Task, World}
 use Rattle.abi_machine.specs.Reading.{func_of, with_numbers, numbers_of}
-use Rattle.abi_machine.specs.Counting.{passes, blocked_at_of, phase_of}
+use Rattle.abi_machine.specs.Counting.{passes, phase_of}
 use Rattle.abi_machine.specs.Scheduling.{able, is_able_in, is_able, Alternative, Takes, GoesOn, item_first, alternatives}
 use Rattle.abi_machine.specs.sound.Changes.{IsBlocked}
 

@@ -1,17 +1,15 @@
 -- Tasks of a number and the acting one, once a task is changed or one more is made.
-use Rattle.std.proofs.Common.{◌≡◌, ◌⊎◌, inl, inr, ℕ, zero, suc, ◌+◌, true, is_none, List, [], ◌∷◌, ◌++◌, length, refl, sym, ap, ◌∙◌, subst, Bool, false, map, Option, Some, None, if◌then◌else◌}
+use Rattle.std.proofs.Common.{◌≡◌, ◌⊎◌, inl, inr, ℕ, zero, suc, ◌+◌, true, is_none, List, [], ◌∷◌, ◌++◌, length, refl, sym, ap, ◌∙◌, subst, Bool, false, map, Option, Some, if◌then◌else◌}
 use Rattle.std.specs.Prelude.{IsSome, filter}
 use Rattle.std.specs.List.{slice_get}
 use Rattle.entry_gate.specs.Kinds.{needs_entry}
 use Rattle.entry_gate.specs.Stays.{Stay, Inside, holder_of}
-use Rattle.comp_graph.specs.Graph.{Lifted}
 use Rattle.abi_machine.specs.World.{Callee, TaskState, New, Acting, AfterCall, AfterCancel, Begins, WaitsToEnter, InLoop, InBuiltin, Exited, Task}
 use Rattle.abi_machine.specs.Edits.{changed_at}
-use Rattle.abi_machine.specs.Reading.{func_of, kind_of, kind_of_func, is_in, runs_in, with_numbers}
-use Rattle.abi_machine.specs.Gate.{place_of, stay_of, stays_in}
+use Rattle.abi_machine.specs.Reading.{func_of, kind_of_func, is_in, runs_in, with_numbers}
+use Rattle.abi_machine.specs.Gate.{place_of, stay_of}
 use Rattle.abi_machine.specs.sound.Firsts.{TaskIs, FirstIs, IsActingState, IsActing, MayBeInside, IsLetIn}
 use Rattle.abi_machine.specs.sound.Changes.{IsFirst}
-use Rattle.abi_machine.proofs.sound.Lists.{get_front}
 use Rattle.abi_machine.proofs.sound.Found.{some_same, changed_kept, changed_there}
 
 -- The task of a number.

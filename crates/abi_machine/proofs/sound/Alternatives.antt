@@ -1,17 +1,16 @@
 -- Alternatives of a turn: an item is there, and a task that may go on runs a function and may be inside its instance.
 use Rattle.std.proofs.Common.{◌≡◌, ℕ, suc, ◌+◌, Bool, true, false, List, [], ◌∷◌, map, refl, subst, arith, Option, Some, None, if◌then◌else◌}
 use Rattle.std.specs.Prelude.{IsSome, filter}
-use Rattle.std.specs.List.{slice_get, AllByRecursion, find}
+use Rattle.std.specs.List.{slice_get, AllByRecursion}
 use Rattle.comp_graph.specs.Graph.{Graph, Lifted}
 use Rattle.script_reader.specs.declared.script.Item.{Item}
 use Rattle.script_reader.specs.Script.{Script}
 use Rattle.abi_machine.specs.World.{Task, World}
 use Rattle.abi_machine.specs.Reading.{func_of, with_numbers, numbers_of}
 use Rattle.abi_machine.specs.Counting.{passes}
-use Rattle.abi_machine.specs.Scheduling.{able, is_able, Alternative, Takes, GoesOn, item_first, alternatives, task_of_call, is_able_in, is_call_of}
+use Rattle.abi_machine.specs.Scheduling.{able, is_able, Alternative, Takes, GoesOn, item_first, alternatives, is_able_in}
 use Rattle.abi_machine.specs.sound.Changes.{HasFunc}
 use Rattle.abi_machine.specs.sound.Firsts.{IsLetIn}
-use Rattle.abi_machine.proofs.sound.Found.{some_same}
 use Rattle.abi_machine.proofs.sound.Entries.{able_inside}
 
 abbrev pub IsAlternative : Script → World → Alternative → Type 0

@@ -1,14 +1,12 @@
 -- Tasks that were called by canonical functions.
-use Rattle.std.proofs.Common.{◌≡◌, ℕ, List, length, refl, sym, subst, Option, Some}
+use Rattle.std.proofs.Common.{◌≡◌, ℕ, List, length, refl, sym, subst, Some}
 use Rattle.std.specs.Prelude.{IsSome}
-use Rattle.std.specs.List.{slice_get, AllByRecursion}
-use Rattle.comp_graph.specs.declared.graph.CanonFunc.{CanonFunc}
 use Rattle.comp_graph.specs.Graph.{Graph}
 use Rattle.script_reader.specs.Script.{Script}
 use Rattle.tasks.specs.Subtasks.{delivered, with_lend}
 use Rattle.tasks.specs.declared.phase.Cancellation.TheVariants.{Asked}
 use Rattle.tasks.specs.declared.phase.Resolution.TheVariants.{Cancelled}
-use Rattle.abi_machine.specs.World.{Subtask, Caller, Nobody, Host, Guest, New, AfterCall, AfterCancel, Exited, Task, World, new_task}
+use Rattle.abi_machine.specs.World.{Subtask, Caller, Nobody, Host, Guest, New, AfterCall, AfterCancel, Task, World, new_task}
 use Rattle.abi_machine.specs.Edits.{changed_at, caller_changed, by_view}
 use Rattle.abi_machine.specs.Canons.{canon_at}
 use Rattle.abi_machine.specs.sound.Changes.{Change, GoesTo, HasStore, SpendsUnit, UsesPicks, TakesItem, BeginsInstance, AddsEntry, MakesSet, RemovesEntry, RemovesWaitable, LeavesSet, JoinsSet, HasBackpressure, IsCalled, Calls, ComesBack, Acts, Begins, Cancels, Blocks, Exits, IsRemoved, Resolves, IsCancelled, HasWord, HasNewStack, HasStack, LosesStack, IsAnswered, IsTold, IsLent, HasResult, MakesChannel, Offers, Transfers, Concludes, DropsEnd, after, MayCome}

@@ -1,5 +1,5 @@
 -- Tasks that wait for one that they called.
-use Rattle.std.proofs.Common.{◌≡◌, ◌⊎◌, inl, inr, ℕ, zero, suc, List, [], ◌∷◌, ◌++◌, length, refl, sym, ap, ◌∙◌, subst, Option, Some, None}
+use Rattle.std.proofs.Common.{◌≡◌, inl, inr, ℕ, zero, suc, List, [], ◌∷◌, ◌++◌, length, refl, sym, ap, ◌∙◌, subst, Some}
 use Rattle.std.specs.Prelude.{IsSome}
 use Rattle.std.specs.List.{slice_get}
 use Rattle.comp_graph.specs.Graph.{Graph}
@@ -14,8 +14,8 @@ use Rattle.abi_machine.specs.Reading.{subtask_of}
 use Rattle.abi_machine.specs.sound.Changes.{Change, GoesTo, HasStore, SpendsUnit, UsesPicks, TakesItem, BeginsInstance, AddsEntry, MakesSet, RemovesEntry, RemovesWaitable, LeavesSet, JoinsSet, HasBackpressure, IsCalled, Calls, ComesBack, Acts, Begins, Cancels, Blocks, Exits, IsRemoved, Resolves, IsCancelled, HasWord, HasNewStack, HasStack, LosesStack, IsAnswered, IsTold, IsLent, HasResult, MakesChannel, Offers, Transfers, Concludes, DropsEnd, after, IsBlocked, MayCome}
 use Rattle.abi_machine.specs.sound.Acting.{Outline}
 use Rattle.abi_machine.specs.sound.Called.{IsCalledBy, Called, HasCalled, HaveCalled, FirstHasCalled, CalledStay, CalledBy, OneWaits}
-use Rattle.abi_machine.proofs.sound.Lists.{changed_either, more_either, get_front, length_changed}
-use Rattle.abi_machine.proofs.sound.Found.{some_same, changed_kept, some_there}
+use Rattle.abi_machine.proofs.sound.Lists.{more_either, get_front}
+use Rattle.abi_machine.proofs.sound.Found.{some_same, changed_kept}
 use Rattle.abi_machine.proofs.sound.Aside.{channel_kept, made_kept}
 use Rattle.abi_machine.proofs.sound.Chained.{no_first, changed_here, last_there}
 use Rattle.abi_machine.proofs.sound.Outlines.{outline_back}

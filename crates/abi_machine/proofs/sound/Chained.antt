@@ -1,11 +1,11 @@
 -- The chain where a task changes its state, leaves it or comes to it.
-use Rattle.std.proofs.Common.{◌≡◌, ◌≢◌, ◌<◌, ◌⊎◌, inl, inr, ℕ, zero, suc, List, [], ◌∷◌, ◌++◌, length, map, drop, refl, sym, ap, ◌∙◌, subst, arith, Option, Some, None}
+use Rattle.std.proofs.Common.{◌≡◌, ◌≢◌, ◌<◌, ◌⊎◌, inl, inr, ℕ, zero, suc, List, [], ◌∷◌, ◌++◌, length, drop, refl, sym, ap, ◌∙◌, subst, arith, Option, Some}
 use Rattle.std.specs.Prelude.{IsSome}
 use Rattle.std.specs.List.{slice_get}
 use Rattle.abi_machine.specs.World.{TaskState, New, Acting, AfterCall, AfterCancel, Begins, WaitsToEnter, InLoop, InBuiltin, Exited, Task}
 use Rattle.abi_machine.specs.Edits.{changed_at}
 use Rattle.abi_machine.specs.sound.Changes.{IsFirst, IsBlocked}
-use Rattle.abi_machine.specs.sound.Chain.{states_of, IsAt, WaitsFor, IsThere, IsAside, AreUnder, StandOver, IsApart, StandOnce, IsChain}
+use Rattle.abi_machine.specs.sound.Chain.{states_of, WaitsFor, IsThere, IsAside, AreUnder, StandOver, IsApart, IsChain}
 use Rattle.abi_machine.proofs.sound.Lists.{more_either, get_front, within}
 use Rattle.abi_machine.proofs.sound.Found.{some_same, changed_there}
 

@@ -1,5 +1,5 @@
 -- Each step makes changes.
-use Rattle.std.proofs.Common.{◌≡◌, ◌∙◌, List, [], ◌∷◌, ◌++◌, refl, sym, ap, subst}
+use Rattle.std.proofs.Common.{◌≡◌, ◌∙◌, List, [], ◌∷◌, ◌++◌, refl, ap, subst}
 use Rattle.comp_graph.specs.Graph.{Graph}
 use Rattle.script_reader.specs.Script.{Script}
 use Rattle.abi_machine.specs.World.{World}
@@ -7,11 +7,11 @@ use Rattle.abi_machine.specs.sound.Changes.{Change, after, MayCome, behind_all, 
 use Rattle.abi_machine.specs.sound.Stepping.{StepsAreChanges}
 use Rattle.abi_machine.proofs.sound.Alone.{kept_alone}
 
-behind_one : (changes : List Change) (c : Change) (w : World) → after c (behind_all changes w) ≡ behind_all (changes ++ c ∷ []) w
+pub behind_one : (changes : List Change) (c : Change) (w : World) → after c (behind_all changes w) ≡ behind_all (changes ++ c ∷ []) w
 behind_one [] c w = refl
 behind_one (d ∷ changes) c w = behind_one changes c (after d w)
 
-may_one : (g : Graph) (s : Script) (changes : List Change) (c : Change) (w : World) → MayAllCome g s changes w → MayCome g s c (behind_all changes w) → MayAllCome g s (changes ++ c ∷ []) w
+pub may_one : (g : Graph) (s : Script) (changes : List Change) (c : Change) (w : World) → MayAllCome g s changes w → MayCome g s c (behind_all changes w) → MayAllCome g s (changes ++ c ∷ []) w
 may_one g s [] c w all may = (may, tt)
 may_one g s (d ∷ changes) c w all may = (all.0, may_one g s changes c (after d w) all.1 may)
 

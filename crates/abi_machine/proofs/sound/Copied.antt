@@ -1,6 +1,6 @@
 -- Copies under way stay in their ranges.
-use Rattle.std.proofs.Common.{◌≡◌, ◌≤◌, ◌<◌, ◌^◌, ℕ, zero, suc, false, List, [], ◌∷◌, length, refl, sym, ap, ◌∙◌, subst, arith, Option, Some, None}
-use Rattle.std.specs.List.{slice_get, AllByRecursion}
+use Rattle.std.proofs.Common.{◌≡◌, ◌≤◌, ℕ, zero, suc, false, List, length, refl, sym, ap, ◌∙◌, subst, arith, Option, Some, None}
+use Rattle.std.specs.List.{AllByRecursion}
 use Rattle.wasm_store.proofs.Lists.{all_at}
 use Rattle.ca_types.specs.declared.types.ValType.{ValType}
 use Rattle.ca_types.specs.declared.value.Value.{Value}
@@ -21,13 +21,13 @@ use Rattle.comp_graph.specs.Graph.{Graph}
 use Rattle.script_reader.specs.Script.{Script}
 use Rattle.abi_machine.specs.Control.{EndRef}
 use Rattle.abi_machine.specs.World.{Channel, World, new_channel}
-use Rattle.abi_machine.specs.Edits.{changed_at, changed_number, with_channel, channel_made, carried, offered_by, transferred_by, transferred, concluded_by}
-use Rattle.abi_machine.specs.Reading.{numbered, channel_at}
+use Rattle.abi_machine.specs.Edits.{changed_number, with_channel, channel_made, carried, offered_by, transferred_by, transferred, concluded_by}
+use Rattle.abi_machine.specs.Reading.{numbered}
 use Rattle.abi_machine.specs.Counting.{channel_end, end_of}
 use Rattle.abi_machine.specs.sound.Changes.{Change, GoesTo, HasStore, SpendsUnit, UsesPicks, TakesItem, BeginsInstance, AddsEntry, MakesSet, RemovesEntry, RemovesWaitable, LeavesSet, JoinsSet, HasBackpressure, IsCalled, Calls, ComesBack, Acts, Begins, Cancels, Blocks, Exits, IsRemoved, Resolves, IsCancelled, HasWord, HasNewStack, HasStack, LosesStack, IsAnswered, IsTold, IsLent, HasResult, MakesChannel, Offers, Transfers, Concludes, DropsEnd, after}
 use Rattle.abi_machine.specs.sound.Premises.{IsSizeIn, IsCall, Comes}
 use Rattle.abi_machine.specs.sound.Agreeing.{IsDue, IsDueAt, channel_in}
-use Rattle.abi_machine.specs.sound.Copies.{AreCopied, IsCopied, FirstIsCopied, CopiesStay}
+use Rattle.abi_machine.specs.sound.Copies.{IsCopied, FirstIsCopied, CopiesStay}
 use Rattle.abi_machine.proofs.sound.Lists.{all_changed, all_more}
 use Rattle.abi_machine.proofs.sound.Found.{some_same}
 use Rattle.abi_machine.proofs.sound.Numbered.{changed_twice}

@@ -1,7 +1,6 @@
 -- The counts of copies add up, and so they stay.
-use Rattle.std.proofs.Common.{◌≡◌, ◌≤◌, ◌-◌, ◌+◌, ℕ, zero, suc, min, Bool, true, false, nat_lt, List, [], ◌∷◌, ◌++◌, length, refl, sym, ap, ◌∙◌, subst, arith, Option, Some, None, if◌then◌else◌}
+use Rattle.std.proofs.Common.{◌≡◌, ◌-◌, ◌+◌, ℕ, min, Bool, true, false, nat_lt, List, [], ◌++◌, length, refl, sym, ap, ◌∙◌, subst, arith, Option, Some, None, if◌then◌else◌}
 use Rattle.std.proofs.lemmas.List.{length-append}
-use Rattle.std.specs.List.{slice_get, AllByRecursion}
 use Rattle.ca_types.specs.declared.types.ValType.{ValType}
 use Rattle.ca_types.specs.declared.value.Value.{Value}
 use Rattle.builtin_kinds.specs.declared.EndKind.{EndKind}
@@ -16,7 +15,7 @@ use Rattle.stream_ends.specs.declared.stream_end.End.{End}
 use Rattle.stream_ends.specs.declared.meet.Meet.TheVariants.{Copies, Dropped, Displaces, ZeroDone, NothingNow}
 use Rattle.stream_ends.specs.Ends.{EndsView, Ends, end_at, other_side, arranged, new_copy, standing_of, copied_of, leaves, grown}
 use Rattle.stream_ends.specs.Ends as stream_ends
-use Rattle.stream_ends.specs.Meeting.{Meeting, met, met_at, met_offer, met_full, room_meet, is_empty_pair, with_offer, made_done, after_copy}
+use Rattle.stream_ends.specs.Meeting.{Meeting, met, met_offer, met_full, room_meet, is_empty_pair, with_offer, made_done, after_copy}
 use Rattle.stream_ends.specs.Closed.{closing, closed_at_once, closed_as, closed_from, new_ends}
 use Rattle.stream_ends.specs.Closed as stream
 use Rattle.stream_ends.specs.Runs.{passed}
@@ -30,13 +29,12 @@ use Rattle.comp_graph.specs.Graph.{Graph}
 use Rattle.script_reader.specs.Script.{Script}
 use Rattle.abi_machine.specs.Control.{EndRef}
 use Rattle.abi_machine.specs.World.{Channel, World, new_channel}
-use Rattle.abi_machine.specs.Edits.{changed_number, with_channel, channel_made, carried, offered_by, transferred_by, transferred, concluded_by}
-use Rattle.abi_machine.specs.Reading.{numbered}
+use Rattle.abi_machine.specs.Edits.{with_channel, channel_made, carried, offered_by, transferred_by, transferred, concluded_by}
 use Rattle.abi_machine.specs.sound.Changes.{Change, GoesTo, HasStore, SpendsUnit, UsesPicks, TakesItem, BeginsInstance, AddsEntry, MakesSet, RemovesEntry, RemovesWaitable, LeavesSet, JoinsSet, HasBackpressure, IsCalled, Calls, ComesBack, Acts, Begins, Cancels, Blocks, Exits, IsRemoved, Resolves, IsCancelled, HasWord, HasNewStack, HasStack, LosesStack, IsAnswered, IsTold, IsLent, HasResult, MakesChannel, Offers, Transfers, Concludes, DropsEnd, after}
 use Rattle.abi_machine.specs.sound.Premises.{IsSizeIn, IsCall, Comes}
 use Rattle.abi_machine.specs.sound.Agreeing.{IsDue, IsDueAt, channel_in}
 use Rattle.abi_machine.specs.sound.Copies.{IsCopied}
-use Rattle.abi_machine.specs.sound.Counts.{AddsUp, AddUp, CountsAddUp, FirstAddsUp, CountsStay}
+use Rattle.abi_machine.specs.sound.Counts.{AddsUp, CountsAddUp, FirstAddsUp, CountsStay}
 use Rattle.abi_machine.proofs.sound.Lists.{all_more}
 use Rattle.abi_machine.proofs.sound.Copied.{IsSoundOf, numbered_changed, sound_there, end_there, due_there, channel_twice, copied_kept}
 use Rattle.abi_machine.proofs.sound.Meetings.{bare_is}

@@ -1,5 +1,5 @@
 -- That elements are to go over is due: the offer that stands has room for them, and as many are lifted as were counted.
-use Rattle.std.proofs.Common.{◌≡◌, ◌≤◌, ℕ, zero, suc, ◌+◌, ◌-◌, ◌*◌, min, Bool, true, false, ◌==◌, nat_lt, List, [], ◌∷◌, ◌++◌, length, map, replicate, refl, sym, ◌∙◌, subst, arith, Option, Some, None, Result, Ok, Err, if◌then◌else◌}
+use Rattle.std.proofs.Common.{◌≡◌, ◌≤◌, ℕ, zero, suc, ◌+◌, ◌-◌, ◌*◌, min, Bool, true, false, ◌==◌, nat_lt, List, [], ◌∷◌, ◌++◌, length, map, replicate, refl, ◌∙◌, subst, arith, Option, Some, None, Ok, Err, if◌then◌else◌}
 use Rattle.std.proofs.lemmas.Bool.Decides.{nat_tests}
 use Rattle.std.proofs.lemmas.List.{length-map, length-replicate}
 use Rattle.std.proofs.Math.Nat.{min-le_left}
@@ -25,7 +25,7 @@ use Rattle.abi_machine.specs.Reading.{channel_at}
 use Rattle.abi_machine.specs.Counting.{channel_end, end_of}
 use Rattle.abi_machine.specs.Lifting.{Kept, Came, by_world}
 use Rattle.abi_machine.specs.Passing.{elements_lifted}
-use Rattle.abi_machine.specs.Copying.{Met, Moves, stream_met, future_met, met_by, other_offer}
+use Rattle.abi_machine.specs.Copying.{Moves, stream_met, future_met, met_by, other_offer}
 use Rattle.abi_machine.specs.sound.Agreeing.{FitsIn, IsDueAt, channel_in}
 use Rattle.abi_machine.proofs.sound.Lists.{length_more}
 

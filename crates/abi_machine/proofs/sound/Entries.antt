@@ -1,9 +1,9 @@
 -- What tests of tasks tell: how far a cancellation is, whether a task has resolved, and whether one may be inside its instance.
-use Rattle.std.proofs.Common.{◌≡◌, ◌⊎◌, inl, inr, ℕ, Bool, true, false, not, ◌&&◌, ◌||◌, is_none, nat_eq, List, refl, sym, ap, ◌∙◌, subst, Option, Some, None, if◌then◌else◌}
+use Rattle.std.proofs.Common.{◌≡◌, inl, inr, ℕ, Bool, true, false, not, ◌&&◌, ◌||◌, is_none, nat_eq, List, refl, sym, ap, ◌∙◌, subst, Option, Some, None, if◌then◌else◌}
 use Rattle.std.specs.List.{slice_get}
-use Rattle.entry_gate.specs.Gates.{GateView, is_free, may_enter}
+use Rattle.entry_gate.specs.Gates.{is_free, may_enter}
 use Rattle.entry_gate.specs.Kinds.{needs_entry}
-use Rattle.entry_gate.specs.Stays.{Inside, holder_of}
+use Rattle.entry_gate.specs.Stays.{holder_of}
 use Rattle.tasks.specs.declared.event.Asked.{Asked}
 use Rattle.tasks.specs.declared.event.Asked.TheVariants.{Removed, ResumeNow, Pending}
 use Rattle.tasks.specs.declared.phase.Cancellation.{Cancellation}

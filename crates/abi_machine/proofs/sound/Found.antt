@@ -1,41 +1,41 @@
 -- What is known of what a step has looked up.
-use Rattle.std.proofs.Common.{◌≡◌, ◌<◌, ◌≤◌, ◌⊎◌, inl, inr, ℕ, zero, suc, ◌+◌, ◌-◌, Bool, true, false, nat_eq, nat_lt, nat_le, List, [], ◌∷◌, length, map, refl, sym, ap, ◌∙◌, subst, arith, Option, Some, None, Result, Ok, Err, if◌then◌else◌}
+use Rattle.std.proofs.Common.{◌≡◌, ◌≤◌, ◌⊎◌, inl, inr, ℕ, zero, suc, ◌+◌, ◌-◌, Bool, true, false, nat_eq, nat_le, List, [], ◌∷◌, refl, sym, ap, ◌∙◌, subst, arith, Option, Some, None, Result, Ok, Err, if◌then◌else◌}
 use Rattle.std.proofs.lemmas.Bool.Decides.{nat_tests}
 use Rattle.std.specs.Prelude.{IsSome}
 use Rattle.std.specs.Option.{option_map}
-use Rattle.std.specs.Prelude.{filter}
-use Rattle.std.specs.List.{slice_get, find, AllByRecursion}
+use Rattle.std.specs.List.{slice_get, find}
 use Rattle.wasm_store.proofs.Lists.{found_there}
 use Rattle.handle_table.specs.History.{Event}
 use Rattle.ca_types.specs.declared.types.ValType.{ValType}
 use Rattle.builtin_kinds.specs.declared.EndKind.{EndKind}
 use Rattle.builtin_kinds.specs.declared.EndKind.TheVariants.{Stream, Future}
 use Rattle.res_handles.specs.declared.handle.Handle.{Handle}
-use Rattle.res_handles.specs.declared.entry.EntryView.{EntryView}
+use Rattle.res_handles.specs.declared.handle.Ownership.{Ownership}
+use Rattle.res_handles.specs.declared.handle.Ownership.TheVariants.{Own, Borrow}
 use Rattle.res_handles.specs.declared.refusal.Refusal.{Refusal}
-use Rattle.res_handles.specs.Refusals.{handle_in, own_in, dropped_in, that_is, owned, unlent}
-use Rattle.waitables.specs.Sets.{SetView, drop_answer, is_none}
+use Rattle.res_handles.specs.declared.refusal.Refusal.TheVariants.{OtherType, Lent}
+use Rattle.res_handles.specs.Refusals.{of_resource, handle_in, own_in, dropped_in, that_is, owned, owned_by, unlent}
+use Rattle.waitables.specs.Sets.{SetView, drop_answer}
 use Rattle.stream_ends.specs.declared.side.Side.{Side}
 use Rattle.stream_ends.specs.declared.side.Side.TheVariants.{Reader, Writer}
-use Rattle.comp_graph.specs.Graph.{Graph, Lifted}
+use Rattle.comp_graph.specs.Graph.{Lifted}
 use Rattle.stream_ends.specs.declared.open_copy.OpenCopy.{OpenCopy}
-use Rattle.script_reader.specs.declared.script.Item.{Item}
-use Rattle.script_reader.specs.Script.{Script}
 use Rattle.trace_show.specs.declared.trap.TrapName.{TrapName}
 use Rattle.abi_machine.specs.Traps.{renamed}
 use Rattle.abi_machine.specs.LoweringOver.{New, NewOwn, NewBorrow, NewEnd}
 use Rattle.abi_machine.specs.Control.{EndRef}
-use Rattle.abi_machine.specs.World.{Entry, OwnHandle, BorrowHandle, OfSubtask, OfSet, OfEnd, Inst, Callee, Caller, AfterCancel, Channel, Task, World}
+use Rattle.abi_machine.specs.World.{Entry, OwnHandle, BorrowHandle, OfSubtask, OfSet, OfEnd, Inst, Callee, AfterCancel, Task, World}
 use Rattle.abi_machine.specs.Edits.{changed_at, with_table, added, entry_added, with_channel, offered_by, offered, control_behind}
-use Rattle.abi_machine.specs.Reading.{table_in, table_of, entry_at, acting, func_of, task_at, subtask_of, may_leave, with_numbers, numbers_of}
-use Rattle.abi_machine.specs.Counting.{passes, entry_view, view_at, end_view}
+use Rattle.abi_machine.specs.Reading.{table_in, table_of, entry_at, acting, func_of, task_at, subtask_of, may_leave, with_numbers}
+use Rattle.abi_machine.specs.Counting.{lends_of, entry_view, view_at, end_view}
 use Rattle.abi_machine.specs.Finding.{subtask_in, subtask_at, set_in, set_at, waitable_in, waitable_at, end_in, end_at}
 use Rattle.abi_machine.specs.Lifting as lifting
 use Rattle.abi_machine.specs.Pausing.{entry_of}
-use Rattle.abi_machine.specs.Scheduling.{able, is_able_in, is_able, Alternative, Takes, GoesOn, item_first, alternatives, task_of_call, is_call_of}
+use Rattle.abi_machine.specs.Scheduling.{task_of_call, is_call_of}
 use Rattle.entry_gate.specs.Gates.{set_pressure}
 use Rattle.abi_machine.specs.replies.Pressure.{most_backpressure}
 use Rattle.abi_machine.specs.sound.Changes.{IsWaitable, Stands, IsLeft, IsGuest, IsAdded, IsFirst, HasFunc, IsCancelling, FirstCancels}
+use Rattle.abi_machine.specs.sound.Premises.{IsHandle, IsFree}
 use Rattle.abi_machine.specs.sound.Controls.{Says}
 
 pub ok_same : {A E : Type 0} {x y : A} → (let r : Result A E = Ok x in r) ≡ Ok y → x ≡ y
@@ -198,10 +198,14 @@ end_is_no_handle : (w : World) (e : EndRef) (side : Side) (resource : ℕ) (x : 
 end_is_no_handle w e Reader resource x h = cc
 end_is_no_handle w e Writer resource x h = cc
 
-pub handle_left : (w : World) (i index resource : ℕ) (x : Handle) → handle_in (view_at w i index) resource ≡ Ok x → Stands w i index (IsLeft w i)
-handle_left w i index resource x h = by (entry_at w i index) refl h
+that_ok : (test : Handle → Result Handle Refusal) (r : Result Handle Refusal) (x : Handle) → that_is test r ≡ Ok x → (y : Handle) × (r ≡ Ok y) × (test y ≡ Ok x)
+that_ok test (Ok y) x h = (y, refl, h)
+that_ok test (Err why) x h = cc
+
+pub handle_stands : (w : World) (i index resource : ℕ) (x : Handle) → handle_in (view_at w i index) resource ≡ Ok x → Stands w i index IsHandle
+handle_stands w i index resource x h = by (entry_at w i index) refl h
   where
-    by : (o : Option Entry) → entry_at w i index ≡ o → handle_in (option_map (entry_view w i index) o) resource ≡ Ok x → Stands w i index (IsLeft w i)
+    by : (o : Option Entry) → entry_at w i index ≡ o → handle_in (option_map (entry_view w i index) o) resource ≡ Ok x → Stands w i index IsHandle
     by None e k = cc
     by (Some (OwnHandle of_type rep)) e k = (OwnHandle of_type rep, e, tt)
     by (Some (BorrowHandle of_type rep task)) e k = (BorrowHandle of_type rep task, e, tt)
@@ -209,15 +213,50 @@ handle_left w i index resource x h = by (entry_at w i index) refl h
     by (Some (OfSet set)) e k = cc
     by (Some (OfEnd r)) e k = absurd (end_is_no_handle w r r.side resource x k)
 
-that_ok : (test : Handle → Result Handle Refusal) (r : Result Handle Refusal) (x : Handle) → that_is test r ≡ Ok x → (y : Handle) × (r ≡ Ok y)
-that_ok test (Ok y) x h = (y, refl)
-that_ok test (Err why) x h = cc
+-- A handle that is dropped, or lifted as own: nothing is lent of it.
+of_resource_is : (b : Bool) (x y : Handle) → (let r : Result Handle Refusal = if b then Ok x else Err OtherType in r) ≡ Ok y → x ≡ y
+of_resource_is true x y e = ok_same e
+of_resource_is false x y e = cc
 
-pub own_left : (w : World) (i index resource : ℕ) (x : Handle) → own_in (view_at w i index) resource ≡ Ok x → Stands w i index (IsLeft w i)
-own_left w i index resource x h = let y = that_ok owned (handle_in (view_at w i index) resource) x h in handle_left w i index resource y.0 y.1
+unlent_if : (b : Bool) (x y : Handle) → (let r : Result Handle Refusal = if b then Ok x else Err Lent in r) ≡ Ok y → b ≡ true
+unlent_if true x y e = refl
+unlent_if false x y e = cc
 
-pub dropped_left : (w : World) (i index resource : ℕ) (x : Handle) → dropped_in (view_at w i index) resource ≡ Ok x → Stands w i index (IsLeft w i)
-dropped_left w i index resource x h = let y = that_ok unlent (handle_in (view_at w i index) resource) x h in handle_left w i index resource y.0 y.1
+none_lent : (x y : Handle) → unlent x ≡ Ok y → x.lends ≡ 0
+none_lent x y e = (let none : nat_eq x.lends 0 ≡ true = unlent_if (nat_eq x.lends 0) x y e in grind (arith, nat_tests))
+
+none_owned : (o : Ownership) (x y : Handle) → owned_by o x ≡ Ok y → x.lends ≡ 0
+none_owned Own x y e = none_lent x y e
+none_owned (Borrow task) x y e = cc
+
+handle_free : (w : World) (i index resource : ℕ) (x : Handle) → handle_in (view_at w i index) resource ≡ Ok x → x.lends ≡ 0 → Stands w i index (IsFree w i index)
+handle_free w i index resource x h none = by (entry_at w i index) refl h
+  where
+    seen_as : ℕ → ℕ → Ownership → Handle
+    seen_as of_type rep o = record { resource = of_type; rep = rep; lends = lends_of w i index; ownership = o }
+
+    no_lends : (of_type rep : ℕ) (o : Ownership) → of_resource resource (seen_as of_type rep o) ≡ Ok x → lends_of w i index ≡ 0
+    no_lends of_type rep o k = ap (λ (y : Handle). y.lends) (of_resource_is (nat_eq of_type resource) (seen_as of_type rep o) x k) ∙ none
+
+    by : (o : Option Entry) → entry_at w i index ≡ o → handle_in (option_map (entry_view w i index) o) resource ≡ Ok x → Stands w i index (IsFree w i index)
+    by None e k = cc
+    by (Some (OwnHandle of_type rep)) e k = (OwnHandle of_type rep, e, (tt, no_lends of_type rep Own k))
+    by (Some (BorrowHandle of_type rep task)) e k = (BorrowHandle of_type rep task, e, (tt, no_lends of_type rep (Borrow task) k))
+    by (Some (OfSubtask callee)) e k = cc
+    by (Some (OfSet set)) e k = cc
+    by (Some (OfEnd r)) e k = absurd (end_is_no_handle w r r.side resource x k)
+
+pub own_free : (w : World) (i index resource : ℕ) (x : Handle) → own_in (view_at w i index) resource ≡ Ok x → Stands w i index (IsFree w i index)
+own_free w i index resource x h =
+    let y = that_ok owned (handle_in (view_at w i index) resource) x h in handle_free w i index resource y.0 y.1 (none_owned y.0.ownership y.0 x y.2)
+
+pub dropped_free : (w : World) (i index resource : ℕ) (x : Handle) → dropped_in (view_at w i index) resource ≡ Ok x → Stands w i index (IsFree w i index)
+dropped_free w i index resource x h =
+    let y = that_ok unlent (handle_in (view_at w i index) resource) x h in handle_free w i index resource y.0 y.1 (none_lent y.0 x y.2)
+
+-- what is free may leave
+pub left_where_free : (w : World) (i index : ℕ) → Stands w i index (IsFree w i index) → Stands w i index (IsLeft w i)
+left_where_free w i index h = (h.0, h.1, h.2.0)
 
 pub lifted_end_stands : (w : World) (i index : ℕ) (kind : EndKind) (element : Option ValType) (x : ℕ) → lifting.end_seen (view_at w i index) kind element w i index ≡ Ok x
     → Stands w i index IsWaitable

@@ -1,9 +1,9 @@
 -- At most one task of an instance holds exclusive entry, and so it stays.
-use Rattle.std.proofs.Common.{◌≡◌, ◌⊎◌, inl, inr, ℕ, zero, suc, ◌+◌, Bool, true, false, ◌&&◌, nat_eq, is_none, List, [], ◌∷◌, ◌++◌, length, refl, sym, ap, ◌∙◌, subst, arith, Option, Some, None, if◌then◌else◌}
+use Rattle.std.proofs.Common.{◌≡◌, ◌⊎◌, inl, inr, ℕ, zero, suc, ◌+◌, Bool, true, false, ◌&&◌, is_none, List, [], ◌∷◌, ◌++◌, length, refl, sym, ap, ◌∙◌, subst, arith, Option, Some, None, if◌then◌else◌}
 use Rattle.std.proofs.lemmas.Bool.Decides.{nat_tests}
 use Rattle.std.specs.List.{slice_get}
 use Rattle.entry_gate.specs.Kinds.{needs_entry}
-use Rattle.entry_gate.specs.Stays.{Stay, Inside, is_inside, holds, holder_of}
+use Rattle.entry_gate.specs.Stays.{Stay, is_inside, holds, holder_of}
 use Rattle.comp_graph.specs.Graph.{Graph, Lifted}
 use Rattle.script_reader.specs.Script.{Script}
 use Rattle.abi_machine.specs.World.{Callee, Init, Host, Guest, TaskState, New, Acting, AfterCall, AfterCancel, WaitsToEnter, InLoop, InBuiltin, Exited, Task, World, new_task}
@@ -16,8 +16,7 @@ use Rattle.abi_machine.specs.sound.Changes.{Change, GoesTo, HasStore, SpendsUnit
 use Rattle.abi_machine.specs.sound.Premises.{BlocksFrom, Comes}
 use Rattle.abi_machine.specs.sound.Holders.{IsHolder, HaveOneHolder, FirstHasOneHolder, OneHolderStays}
 use Rattle.abi_machine.proofs.sound.Lists.{more_either}
-use Rattle.abi_machine.proofs.sound.Found.{some_same}
-use Rattle.abi_machine.proofs.sound.Acted.{one_task, acting_inside, stays_from, in_front, front_is}
+use Rattle.abi_machine.proofs.sound.Acted.{one_task, acting_inside, stays_from, front_is}
 use Rattle.abi_machine.proofs.sound.Entries.{left_true, right_true}
 use Rattle.abi_machine.proofs.sound.Aside.{channel_kept, made_kept}
 use Rattle.abi_machine.proofs.sound.Alone.{kept_so}

@@ -1,8 +1,8 @@
 -- Histories of tables stay.
-use Rattle.std.proofs.Common.{◌≡◌, ◌<◌, ℕ, List, [], ◌∷◌, ◌++◌, refl, sym, subst, Option, Some, None}
+use Rattle.std.proofs.Common.{◌≡◌, ◌<◌, ℕ, List, [], ◌∷◌, ◌++◌, refl, sym, subst, Option, Some}
 use Rattle.std.specs.Prelude.{IsSome}
-use Rattle.std.specs.List.{slice_get, AllByRecursion}
-use Rattle.handle_table.specs.History.{Event, Remove, IsHistory, live, live_count, most_live}
+use Rattle.std.specs.List.{slice_get}
+use Rattle.handle_table.specs.History.{Remove, IsHistory, live, live_count, most_live}
 use Rattle.comp_graph.specs.Graph.{Graph}
 use Rattle.script_reader.specs.Script.{Script}
 use Rattle.waitables.specs.Sets as sets

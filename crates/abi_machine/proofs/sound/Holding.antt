@@ -1,20 +1,20 @@
 -- The end of each copy under way stands in a table, and so it stays.
-use Rattle.std.proofs.Common.{◌≡◌, ◌≢◌, ◌⊎◌, inl, inr, ℕ, zero, suc, Bool, true, false, nat_lt, List, [], ◌∷◌, ◌++◌, length, refl, sym, ap, ◌∙◌, subst, Option, Some, None, if◌then◌else◌}
+use Rattle.std.proofs.Common.{◌≡◌, ◌⊎◌, inl, inr, ℕ, zero, suc, nat_lt, List, [], ◌∷◌, ◌++◌, length, refl, sym, ap, ◌∙◌, subst, Option, Some, None}
 use Rattle.std.specs.Prelude.{IsSome}
-use Rattle.std.specs.List.{slice_get, AllByRecursion}
+use Rattle.std.specs.List.{slice_get}
 use Rattle.wasm_store.proofs.Lists.{all_at}
-use Rattle.handle_table.specs.History.{Event, Remove, IsHistory, live}
+use Rattle.handle_table.specs.History.{Event, IsHistory, live}
 use Rattle.builtin_kinds.specs.declared.EndKind.{EndKind}
 use Rattle.builtin_kinds.specs.declared.EndKind.TheVariants.{Stream, Future}
 use Rattle.stream_ends.specs.declared.side.Side.{Side}
 use Rattle.stream_ends.specs.declared.side.Side.TheVariants.{Reader, Writer}
 use Rattle.stream_ends.specs.declared.open_copy.By.{By}
-use Rattle.stream_ends.specs.declared.open_copy.CopyEvent.TheVariants.{Completed as EventCompleted, Dropped as OtherDropped}
+use Rattle.stream_ends.specs.declared.open_copy.CopyEvent.TheVariants.{Dropped as OtherDropped}
 use Rattle.stream_ends.specs.declared.open_copy.OpenCopy.{OpenCopy}
 use Rattle.stream_ends.specs.declared.stream_end.End.{End}
 use Rattle.stream_ends.specs.declared.meet.Meet.TheVariants.{Dropped, Displaces, ZeroDone}
 use Rattle.stream_ends.specs.Ends.{EndsView, Ends, end_at, other_side, standing_of, replaced, leaves, hears_of_drop, grown}
-use Rattle.stream_ends.specs.Meeting.{Meeting, met, met_at, met_offer, met_full, room_meet, is_empty_pair, with_offer, made_done, standing_side, changed, after_dropping}
+use Rattle.stream_ends.specs.Meeting.{Meeting, met, met_offer, met_full, room_meet, is_empty_pair, with_offer, made_done, standing_side, changed, after_dropping}
 use Rattle.stream_ends.specs.Ends as stream
 use Rattle.stream_ends.proofs.Meetings.{if_holds, standing_is}
 use Rattle.future_ends.specs.declared.meet.Meet.TheVariants as future_case
@@ -26,7 +26,7 @@ use Rattle.ca_types.specs.declared.value.Value.{Value}
 use Rattle.comp_graph.specs.Graph.{Graph}
 use Rattle.script_reader.specs.Script.{Script}
 use Rattle.abi_machine.specs.Control.{EndRef}
-use Rattle.abi_machine.specs.World.{Entry, OwnHandle, BorrowHandle, OfSubtask, OfSet, OfEnd, Inst, Host, Guest, New, AfterCall, Task, Channel, World, first_world, new_inst, new_task, new_channel}
+use Rattle.abi_machine.specs.World.{Entry, OfSet, OfEnd, Inst, Host, Guest, New, AfterCall, Task, Channel, World, first_world, new_inst, new_task, new_channel}
 use Rattle.abi_machine.specs.Edits.{changed_at, changed_number, with_channel, channel_made, carried, offered_by, offered, transferred_by, transferred, concluded_by}
 use Rattle.abi_machine.specs.Canons.{canon_at}
 use Rattle.abi_machine.specs.Reading.{table_in, entry_at, numbered}
@@ -290,7 +290,7 @@ task_held : (g : Graph) (w : World) (t : ℕ) (f : Task → Task) → HoldsCopie
 task_held g w t f h = tasks_held g w (changed_at t f w.tasks) (λ n k. there_changed w.tasks t n f k) h
 
 -- what stands in a table where an instance is changed
-live_changed : (insts : List Inst) (i : ℕ) (f : Inst → Inst) (j index : ℕ) (x : Entry)
+pub live_changed : (insts : List Inst) (i : ℕ) (f : Inst → Inst) (j index : ℕ) (x : Entry)
     → ((inst : Inst) → j ≡ i → slice_get insts i ≡ Some inst → live inst.table index ≡ Some x → live (f inst).table index ≡ Some x) → live (table_in (slice_get insts j)) index ≡ Some x
     → live (table_in (slice_get (changed_at i f insts) j)) index ≡ Some x
 live_changed insts i f j index x keeps there = by_inst (slice_get insts j) refl there
@@ -384,7 +384,7 @@ held_kept g s (AddsEntry i entry) w may h = insts_held g w _ (add_keeps g w i en
 held_kept g s (MakesSet i set) w may h =
     insts_held g w _ (both_keep g w (after (AddsEntry i (OfSet set)) w).insts _ (add_keeps g w i (OfSet set) h.0) (tables_keep g (after (AddsEntry i (OfSet set)) w) i _ (λ x. refl))) h.1
 held_kept g s (RemovesEntry i index) w may h =
-    insts_held g w _ (remove_keeps g w i index may.0 may.1 (λ e c copy there under same. left_apart w i may.0 e may.2 same)) h.1
+    insts_held g w _ (remove_keeps g w i index may.0 may.1 (λ e c copy there under same. left_apart w i may.0 e may.2.0 same)) h.1
 held_kept g s (RemovesWaitable i index) w may h =
     insts_held g w _
     (both_keep g w (after (RemovesEntry i index) w).insts _

@@ -1,9 +1,9 @@
 -- Members of sets stay members.
-use Rattle.std.proofs.Common.{◌≡◌, ◌≢◌, ◌<◌, ◌≤◌, ◌⊎◌, inl, inr, ℕ, zero, suc, ◌+◌, Bool, true, false, not, nat_eq, nat_lt, List, [], ◌∷◌, ◌++◌, length, map, refl, sym, ap, ◌∙◌, subst, arith, Option, Some, None, if◌then◌else◌}
+use Rattle.std.proofs.Common.{◌≡◌, ◌≢◌, ◌≤◌, ◌⊎◌, inl, inr, ℕ, zero, suc, ◌+◌, Bool, true, false, not, nat_eq, List, [], ◌∷◌, ◌++◌, refl, sym, ap, ◌∙◌, subst, arith, Option, Some, None, if◌then◌else◌}
 use Rattle.std.proofs.lemmas.Bool.Decides.{nat_tests}
-use Rattle.std.specs.Prelude.{IsSome, ◌==◌}
+use Rattle.std.specs.Prelude.{◌==◌}
 use Rattle.std.specs.List.{slice_get, AllByRecursion}
-use Rattle.handle_table.specs.History.{Event, Add, Remove, IsHistory, live, next_index}
+use Rattle.handle_table.specs.History.{Event, Remove, IsHistory, live, next_index}
 use Rattle.handle_table.proofs.Freed.{not_live}
 use Rattle.waitables.specs.Sets.{without}
 use Rattle.waitables.specs.Sets as views
@@ -16,7 +16,7 @@ use Rattle.abi_machine.specs.sound.Changes.{Change, GoesTo, HasStore, SpendsUnit
 use Rattle.abi_machine.specs.sound.Tables.{HaveHistories}
 use Rattle.abi_machine.specs.sound.Members.{IsMember, times, times_in, HasMembers, HaveMembers, FirstHasMembers, MembersStay}
 use Rattle.abi_machine.proofs.sound.Lists.{all_changed, all_more, all_as}
-use Rattle.abi_machine.proofs.sound.Numbered.{added_either, changed_twice}
+use Rattle.abi_machine.proofs.sound.Numbered.{changed_twice}
 use Rattle.abi_machine.proofs.sound.Histories.{histories_kept}
 use Rattle.abi_machine.proofs.sound.Sets.{left_sets, left_is, joined_is}
 use Rattle.abi_machine.proofs.sound.Alone.{kept_alone}

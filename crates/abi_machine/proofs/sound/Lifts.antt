@@ -1,7 +1,8 @@
--- What lifting keeps of what it goes on with, where counting a value and using an index keep it.
-use Rattle.std.proofs.Common.{◌≡◌, ◌+◌, ◌*◌, ℕ, zero, suc, Bool, true, false, if◌then◌else◌, List, [], ◌∷◌, ◌++◌, map, length, refl, sym, subst, Option, Some, None, Result, Ok, Err}
+-- What lifting keeps of what it goes on with, where counting a value and using an index keep it. A borrow is used only where the type holds
+-- one.
+use Rattle.std.proofs.Common.{◌≡◌, ◌∙◌, ◌+◌, ◌*◌, ◌||◌, ℕ, zero, suc, Bool, true, false, if◌then◌else◌, List, [], ◌∷◌, ◌++◌, map, length, refl, sym, subst, Option, Some, None, Result, Ok, Err}
 use Rattle.std.specs.Prelude.{◌==◌}
-use Rattle.std.specs.List.{slice_get, AllByRecursion}
+use Rattle.std.specs.List.{AllByRecursion}
 use Rattle.std.specs.Int.{Width, w8, w32}
 use Rattle.ca_types.specs.declared.types.ValType.{ValType, roll-ValType}
 use Rattle.ca_types.specs.declared.types.Case.{Case}
@@ -10,16 +11,18 @@ use Rattle.ca_types.specs.declared.types.ValType.TheOpen as F
 use Rattle.ca_types.specs.declared.types.ValType.TheViews.{roll-Case, roll-Field}
 use Rattle.ca_types.specs.declared.types.ValType.TheFolds.{ind-ValType, map-ValType, map-Case, map-Field, fold-Case, fold-Field, fold-roll-ValType}
 use Rattle.ca_types.proofs.Folds.{held, fold_case, fold_field}
+use Rattle.ca_types.specs.Ends.{some_true, part_true, end_case, end_field}
+use Rattle.laid_types.specs.Handles.{borrow_step, has_borrow}
 use Rattle.ca_types.specs.declared.value.Value.{Value}
 use Rattle.value_lift.specs.declared.trap.LiftTrap.{LiftTrap}
 use Rattle.value_lift.specs.declared.trap.LiftWhy.TheVariants.{Bounds}
 use Rattle.value_lift.specs.Answers.{trap}
 use Rattle.value_lift.specs.Bytes.{number, is_inside, is_aligned, bytes_at, width_of}
-use Rattle.value_lift.specs.Pieces.{part_in, plain_of, text_of, flags_of}
+use Rattle.value_lift.specs.Pieces.{part_in, plain_of, text_of}
 use Rattle.value_lift.specs.Lifting.{low}
 use Rattle.std.specs.Prelude.{nat_lt}
 use Rattle.ca_types.specs.Layout.{tag_size, aligned}
-use Rattle.abi_machine.specs.LiftingOver.{Use, Ledger, Came, Part, CasePart, FieldPart, What, in_fields, in_cases, behind_tag, case_by, field_by}
+use Rattle.abi_machine.specs.LiftingOver.{Use, Ledger, Came, Part, CasePart, FieldPart, What, AnOwn, ABorrow, AnEnd, in_fields, in_cases, behind_tag, case_by, field_by}
 use Rattle.abi_machine.specs.LiftingOver as over
 
 -- what something that was lifted leaves, and what it stops with
@@ -31,8 +34,30 @@ abbrev pub Spent : {S T : Type 0} → (S → Type 0) → (T → Type 0) → Resu
 Spent P Q (Ok s) = P s
 Spent P Q (Err fault) = Q fault
 
-module _ {S T : Type 0} (l : Ledger S T) (P : S → Type 0) (Q : T → Type 0) (spends : (many place : ℕ) (s : S) → P s → Spent P Q (l.spend many place s))
-    (stops : (fault : LiftTrap) (s : S) → P s → Q (l.stop fault s)) (takes : (u : Use) (s : S) → P s → Leaves P Q (l.take u s)) where
+-- A borrow is used where this holds.
+abbrev pub IsUsed : Type 0 → What → Type 0
+IsUsed B (AnOwn resource) = Unit {0}
+IsUsed B (ABorrow resource) = B
+IsUsed B (AnEnd kind element) = Unit {0}
+
+-- one of several
+left_one : (a b : Bool) → a ≡ true → (a || b) ≡ true
+left_one true b e = refl
+left_one false b e = cc
+
+right_one : (a b : Bool) → b ≡ true → (a || b) ≡ true
+right_one true b e = refl
+right_one false b e = e
+
+-- cases and fields, and whether they hold a borrow
+abbrev case_borrow : Case → Bool
+case_borrow c = fold-Case Bool Bool Bool borrow_step end_case end_field c
+
+abbrev field_borrow : Field → Bool
+field_borrow f = fold-Field Bool Bool Bool borrow_step end_case end_field f
+
+module _ {S T : Type 0} (l : Ledger S T) (P : S → Type 0) (Q : T → Type 0) (B : Type 0) (spends : (many place : ℕ) (s : S) → P s → Spent P Q (l.spend many place s))
+    (stops : (fault : LiftTrap) (s : S) → P s → Q (l.stop fault s)) (takes : (u : Use) (s : S) → IsUsed B u.what → P s → Leaves P Q (l.take u s)) where
   after_leaves : {A B : Type 0} (c : Came S T A) (f : A → S → Came S T B) → Leaves P Q c → ((x : A) (s : S) → P s → Leaves P Q (f x s)) → Leaves P Q (over.after c f)
   after_leaves (Ok x) f h more = more x.0 x.1 h
   after_leaves (Err fault) f h more = h
@@ -95,15 +120,15 @@ module _ {S T : Type 0} (l : Ledger S T) (P : S → Type 0) (Q : T → Type 0) (
       after_leaves (e.lift memory (place + aligned end e.laid.align) s) _ (h.0.0 memory (place + aligned end e.laid.align) s p)
       (λ v t q. fields_leave memory place (before ++ v ∷ []) (aligned end e.laid.align + e.laid.size) parts t h.1 q)
 
-  payload_leaves : (e : Option (Part S T)) (memory : List ℕ) (place : ℕ) (s : S) → LiftsAny e → P s → Leaves P Q (over.payload_of l e memory place s)
-  payload_leaves None memory place s h p = p
-  payload_leaves (Some e) memory place s h p = made_leaves _ (e.lift memory place s) (h.0 memory place s p)
+  payload_uses : (e : Option (Part S T)) (memory : List ℕ) (place : ℕ) (s : S) → LiftsAny e → P s → Leaves P Q (over.payload_of l e memory place s)
+  payload_uses None memory place s h p = p
+  payload_uses (Some e) memory place s h p = made_leaves _ (e.lift memory place s) (h.0 memory place s p)
 
   case_leaves : (count : ℕ) (parts : List (Option (Part S T))) (memory : List ℕ) (place : ℕ) (s : S) → AllByRecursion LiftsAny parts → P s
       → Leaves P Q (over.case_of l count parts memory place s)
   case_leaves count parts memory place s h p =
       let n = number (width_of (tag_size count)) place memory in
-      chosen_leaves n count place s _ p (payload_leaves (part_in parts n) memory (place + behind_tag count parts) s (part_lifts parts n h) p)
+      chosen_leaves n count place s _ p (payload_uses (part_in parts n) memory (place + behind_tag count parts) s (part_lifts parts n h) p)
 
   word_fields_leave : (memory words : List ℕ) (before : List Value) (at : ℕ) (parts : List (Part S T)) (s : S) → AllByRecursion Lifts parts → P s
       → Leaves P Q (over.word_fields_from l memory words before at parts s)
@@ -112,18 +137,18 @@ module _ {S T : Type 0} (l : Ledger S T) (P : S → Type 0) (Q : T → Type 0) (
       after_leaves (e.lift_words memory words at s) _ (h.0.1 memory words at s p)
       (λ v t q. word_fields_leave memory words (before ++ v ∷ []) (at + length e.flat) parts t h.1 q)
 
-  word_payload_leaves : (e : Option (Part S T)) (memory words : List ℕ) (at : ℕ) (s : S) → LiftsAny e → P s → Leaves P Q (over.word_payload_of l e memory words at s)
-  word_payload_leaves None memory words at s h p = p
-  word_payload_leaves (Some e) memory words at s h p = made_leaves _ (e.lift_words memory words at s) (h.1 memory words at s p)
+  word_payload_uses : (e : Option (Part S T)) (memory words : List ℕ) (at : ℕ) (s : S) → LiftsAny e → P s → Leaves P Q (over.word_payload_of l e memory words at s)
+  word_payload_uses None memory words at s h p = p
+  word_payload_uses (Some e) memory words at s h p = made_leaves _ (e.lift_words memory words at s) (h.1 memory words at s p)
 
   word_case_leaves : (count : ℕ) (parts : List (Option (Part S T))) (memory words : List ℕ) (at : ℕ) (s : S) → AllByRecursion LiftsAny parts → P s
       → Leaves P Q (over.word_case_of l count parts memory words at s)
   word_case_leaves count parts memory words at s h p =
       chosen_leaves (low w32 at words) count at s _ p
-      (word_payload_leaves (part_in parts (low w32 at words)) memory words (at + 1) s (part_lifts parts (low w32 at words) h) p)
+      (word_payload_uses (part_in parts (low w32 at words)) memory words (at + 1) s (part_lifts parts (low w32 at words) h) p)
 
-  taken_leaves : (what : What) (make : ℕ → Value) (index place : ℕ) (s : S) → P s → Leaves P Q (over.taken l what make index place s)
-  taken_leaves what make index place s p = made_leaves make _ (takes (record { what = what; index = index; place = place }) s p)
+  taken_leaves : (what : What) (make : ℕ → Value) (index place : ℕ) (s : S) → IsUsed B what → P s → Leaves P Q (over.taken l what make index place s)
+  taken_leaves what make index place s used p = made_leaves make _ (takes (record { what = what; index = index; place = place }) s used p)
 
   -- Types by their outer layer.
 
@@ -137,6 +162,7 @@ module _ {S T : Type 0} (l : Ledger S T) (P : S → Type 0) (Q : T → Type 0) (
   Holds (F.Variant cases) = AllByRecursion LiftsAny (in_cases cases)
   Holds (F.Option e) = Lifts e
   Holds (F.Result ok err) = LiftsAny ok × LiftsAny err
+  Holds (F.Borrow resource) = B
   Holds other = Unit {0}
 
   plain_leaves : (y : Layer) (w : Width) (n : Width → ℕ) (place : ℕ) (s : S) → P s → Leaves P Q (over.uncounted l s (plain_of y w n place))
@@ -153,10 +179,10 @@ module _ {S T : Type 0} (l : Ledger S T) (P : S → Type 0) (Q : T → Type 0) (
   layer_leaves (F.Option e) h memory place s p = case_leaves 2 (None ∷ Some e ∷ []) memory place s (tt, (h, tt)) p
   layer_leaves (F.Result ok err) h memory place s p = case_leaves 2 (ok ∷ err ∷ []) memory place s (h.0, (h.1, tt)) p
   layer_leaves (F.Flags labels) h memory place s p = p
-  layer_leaves (F.Own resource) h memory place s p = taken_leaves _ _ (number w32 place memory) place s p
-  layer_leaves (F.Borrow resource) h memory place s p = taken_leaves _ _ (number w32 place memory) place s p
-  layer_leaves (F.Stream element) h memory place s p = taken_leaves _ _ (number w32 place memory) place s p
-  layer_leaves (F.Future element) h memory place s p = taken_leaves _ _ (number w32 place memory) place s p
+  layer_leaves (F.Own resource) h memory place s p = taken_leaves _ _ (number w32 place memory) place s tt p
+  layer_leaves (F.Borrow resource) h memory place s p = taken_leaves _ _ (number w32 place memory) place s h p
+  layer_leaves (F.Stream element) h memory place s p = taken_leaves _ _ (number w32 place memory) place s tt p
+  layer_leaves (F.Future element) h memory place s p = taken_leaves _ _ (number w32 place memory) place s tt p
   layer_leaves F.Bool h memory place s p = plain_leaves F.Bool w8 (λ w. number w place memory) place s p
   layer_leaves F.S8 h memory place s p = plain_leaves F.S8 w8 (λ w. number w place memory) place s p
   layer_leaves F.U8 h memory place s p = plain_leaves F.U8 w8 (λ w. number w place memory) place s p
@@ -178,10 +204,10 @@ module _ {S T : Type 0} (l : Ledger S T) (P : S → Type 0) (Q : T → Type 0) (
   word_layer_leaves (F.Option e) h memory words at s p = word_case_leaves 2 (None ∷ Some e ∷ []) memory words at s (tt, (h, tt)) p
   word_layer_leaves (F.Result ok err) h memory words at s p = word_case_leaves 2 (ok ∷ err ∷ []) memory words at s (h.0, (h.1, tt)) p
   word_layer_leaves (F.Flags labels) h memory words at s p = p
-  word_layer_leaves (F.Own resource) h memory words at s p = taken_leaves _ _ (low w32 at words) at s p
-  word_layer_leaves (F.Borrow resource) h memory words at s p = taken_leaves _ _ (low w32 at words) at s p
-  word_layer_leaves (F.Stream element) h memory words at s p = taken_leaves _ _ (low w32 at words) at s p
-  word_layer_leaves (F.Future element) h memory words at s p = taken_leaves _ _ (low w32 at words) at s p
+  word_layer_leaves (F.Own resource) h memory words at s p = taken_leaves _ _ (low w32 at words) at s tt p
+  word_layer_leaves (F.Borrow resource) h memory words at s p = taken_leaves _ _ (low w32 at words) at s h p
+  word_layer_leaves (F.Stream element) h memory words at s p = taken_leaves _ _ (low w32 at words) at s tt p
+  word_layer_leaves (F.Future element) h memory words at s p = taken_leaves _ _ (low w32 at words) at s tt p
   word_layer_leaves F.Bool h memory words at s p = plain_leaves F.Bool w32 (λ w. low w at words) at s p
   word_layer_leaves F.S8 h memory words at s p = plain_leaves F.S8 w32 (λ w. low w at words) at s p
   word_layer_leaves F.U8 h memory words at s p = plain_leaves F.U8 w32 (λ w. low w at words) at s p
@@ -208,13 +234,13 @@ module _ {S T : Type 0} (l : Ledger S T) (P : S → Type 0) (Q : T → Type 0) (
   field_part f = fold-Field (Part S T) (CasePart S T) (FieldPart S T) (over.part_step l) case_by field_by f
 
   abbrev IsLifted : ValType → Type 0
-  IsLifted t = Lifts (over.part l t)
+  IsLifted t = (has_borrow t ≡ true → B) → Lifts (over.part l t)
 
   abbrev IsLiftedCase : Case → Type 0
-  IsLiftedCase c = LiftsAny (case_part c).payload
+  IsLiftedCase c = (case_borrow c ≡ true → B) → LiftsAny (case_part c).payload
 
   abbrev IsLiftedField : Field → Type 0
-  IsLiftedField f = Lifts (field_part f).part
+  IsLiftedField f = (field_borrow f ≡ true → B) → Lifts (field_part f).part
 
   abbrev OfType : Type 0
   OfType = (t : ValType) × IsLifted t
@@ -231,71 +257,82 @@ module _ {S T : Type 0} (l : Ledger S T) (P : S → Type 0) (Q : T → Type 0) (
   abbrev parts : F.ValType-F ValType Case Field → Layer
   parts y = map-ValType ValType Case Field (Part S T) (CasePart S T) (FieldPart S T) (over.part l) case_part field_part y
 
-  fields_hold : (fields : List OfField) → AllByRecursion Lifts (in_fields (map field_part (map (λ (e : OfField). e.0) fields)))
-  fields_hold [] = tt
-  fields_hold (e ∷ fields) = (e.1, fields_hold fields)
+  abbrev bools : F.ValType-F ValType Case Field → F.ValType-F Bool Bool Bool
+  bools y = map-ValType ValType Case Field Bool Bool Bool has_borrow case_borrow field_borrow y
 
-  places_hold : (types : List OfType) → AllByRecursion Lifts (map (over.part l) (map (λ (e : OfType). e.0) types))
-  places_hold [] = tt
-  places_hold (e ∷ types) = (e.1, places_hold types)
+  fields_hold : (fields : List OfField) → (some_true (map field_borrow (map (λ (e : OfField). e.0) fields)) ≡ true → B)
+      → AllByRecursion Lifts (in_fields (map field_part (map (λ (e : OfField). e.0) fields)))
+  fields_hold [] may = tt
+  fields_hold (e ∷ fields) may = (e.1 (λ k. may (left_one (field_borrow e.0) _ k)), fields_hold fields (λ k. may (right_one (field_borrow e.0) _ k)))
 
-  cases_hold : (cases : List OfCase) → AllByRecursion LiftsAny (in_cases (map case_part (map (λ (e : OfCase). e.0) cases)))
-  cases_hold [] = tt
-  cases_hold (e ∷ cases) = (e.1, cases_hold cases)
+  places_hold : (types : List OfType) → (some_true (map has_borrow (map (λ (e : OfType). e.0) types)) ≡ true → B)
+      → AllByRecursion Lifts (map (over.part l) (map (λ (e : OfType). e.0) types))
+  places_hold [] may = tt
+  places_hold (e ∷ types) may = (e.1 (λ k. may (left_one (has_borrow e.0) _ k)), places_hold types (λ k. may (right_one (has_borrow e.0) _ k)))
 
-  holds : (y : F.ValType-F OfType OfCase OfField) → Holds (parts (layer y))
-  holds (F.List e) = e.1
-  holds (F.Record fields) = fields_hold fields
-  holds (F.Tuple types) = places_hold types
-  holds (F.Variant cases) = cases_hold cases
-  holds (F.Option e) = e.1
-  holds (F.Result None None) = (tt, tt)
-  holds (F.Result None (Some e)) = (tt, e.1)
-  holds (F.Result (Some o) None) = (o.1, tt)
-  holds (F.Result (Some o) (Some e)) = (o.1, e.1)
-  holds F.Bool = tt
-  holds F.S8 = tt
-  holds F.U8 = tt
-  holds F.S16 = tt
-  holds F.U16 = tt
-  holds F.S32 = tt
-  holds F.U32 = tt
-  holds F.S64 = tt
-  holds F.U64 = tt
-  holds F.Char = tt
-  holds F.String = tt
-  holds (F.Flags labels) = tt
-  holds (F.Enum labels) = tt
-  holds (F.Own n) = tt
-  holds (F.Borrow n) = tt
-  holds (F.Stream e) = tt
-  holds (F.Future e) = tt
+  cases_hold : (cases : List OfCase) → (some_true (map case_borrow (map (λ (e : OfCase). e.0) cases)) ≡ true → B)
+      → AllByRecursion LiftsAny (in_cases (map case_part (map (λ (e : OfCase). e.0) cases)))
+  cases_hold [] may = tt
+  cases_hold (e ∷ cases) may = (e.1 (λ k. may (left_one (case_borrow e.0) _ k)), cases_hold cases (λ k. may (right_one (case_borrow e.0) _ k)))
+
+  holds : (y : F.ValType-F OfType OfCase OfField) → (borrow_step (bools (layer y)) ≡ true → B) → Holds (parts (layer y))
+  holds (F.List e) may = e.1 may
+  holds (F.Record fields) may = fields_hold fields may
+  holds (F.Tuple types) may = places_hold types may
+  holds (F.Variant cases) may = cases_hold cases may
+  holds (F.Option e) may = e.1 may
+  holds (F.Result None None) may = (tt, tt)
+  holds (F.Result None (Some e)) may = (tt, e.1 (λ k. may k))
+  holds (F.Result (Some o) None) may = (o.1 (λ k. may (left_one (has_borrow o.0) false k)), tt)
+  holds (F.Result (Some o) (Some e)) may =
+      (o.1 (λ k. may (left_one (has_borrow o.0) (has_borrow e.0) k)), e.1 (λ k. may (right_one (has_borrow o.0) (has_borrow e.0) k)))
+  holds F.Bool may = tt
+  holds F.S8 may = tt
+  holds F.U8 may = tt
+  holds F.S16 may = tt
+  holds F.U16 may = tt
+  holds F.S32 may = tt
+  holds F.U32 may = tt
+  holds F.S64 may = tt
+  holds F.U64 may = tt
+  holds F.Char may = tt
+  holds F.String may = tt
+  holds (F.Flags labels) may = tt
+  holds (F.Enum labels) may = tt
+  holds (F.Own n) may = tt
+  holds (F.Borrow n) may = may refl
+  holds (F.Stream e) may = tt
+  holds (F.Future e) may = tt
 
   type_lifts : (y : F.ValType-F OfType OfCase OfField) → IsLifted (roll-ValType (layer y))
-  type_lifts y =
+  type_lifts y may =
       subst Lifts (sym (fold-roll-ValType (Part S T) (CasePart S T) (FieldPart S T) (over.part_step l) case_by field_by (layer y)))
-      (step_lifts (parts (layer y)) (holds y))
+      (step_lifts (parts (layer y)) (holds y (λ k. may (fold-roll-ValType Bool Bool Bool borrow_step end_case end_field (layer y) ∙ k))))
 
   abbrev case_of_layer : F.Case-F OfType OfCase OfField → Case
   case_of_layer y = roll-Case (map-Case OfType OfCase OfField ValType Case Field (λ e. e.0) (λ e. e.0) (λ e. e.0) y)
 
-  payload_lifts : (y : F.Case-F OfType OfCase OfField) → LiftsAny (held (over.part l) (case_of_layer y).payload)
+  payload_lifts : (y : F.Case-F OfType OfCase OfField) → (part_true (held has_borrow (case_of_layer y).payload) ≡ true → B)
+      → LiftsAny (held (over.part l) (case_of_layer y).payload)
   payload_lifts y =
-      elim y.payload as (λ p. LiftsAny (held (over.part l) (case_of_layer (record { label = y.label; payload = p })).payload)) [
-        | Some e ↦ e.1
-        | None ↦ tt
+      elim y.payload as (λ p. (part_true (held has_borrow (case_of_layer (record { label = y.label; payload = p })).payload) ≡ true → B)
+      → LiftsAny (held (over.part l) (case_of_layer (record { label = y.label; payload = p })).payload)) [
+        | Some e ↦ (λ may. e.1 may)
+        | None ↦ (λ may. tt)
       ]
 
   case_lifts : (y : F.Case-F OfType OfCase OfField) → IsLiftedCase (case_of_layer y)
-  case_lifts y =
-      subst (λ (p : CasePart S T). LiftsAny p.payload) (sym (fold_case (Part S T) (CasePart S T) (FieldPart S T) (over.part_step l) case_by field_by (case_of_layer y))) (payload_lifts y)
+  case_lifts y may =
+      subst (λ (p : CasePart S T). LiftsAny p.payload) (sym (fold_case (Part S T) (CasePart S T) (FieldPart S T) (over.part_step l) case_by field_by (case_of_layer y)))
+      (payload_lifts y (λ k. may (fold_case Bool Bool Bool borrow_step end_case end_field (case_of_layer y) ∙ k)))
 
   abbrev field_of_layer : F.Field-F OfType OfCase OfField → Field
   field_of_layer y = roll-Field (map-Field OfType OfCase OfField ValType Case Field (λ e. e.0) (λ e. e.0) (λ e. e.0) y)
 
   field_lifts : (y : F.Field-F OfType OfCase OfField) → IsLiftedField (field_of_layer y)
-  field_lifts y =
-      subst (λ (p : FieldPart S T). Lifts p.part) (sym (fold_field (Part S T) (CasePart S T) (FieldPart S T) (over.part_step l) case_by field_by (field_of_layer y))) (y.val_type.1)
+  field_lifts y may =
+      subst (λ (p : FieldPart S T). Lifts p.part) (sym (fold_field (Part S T) (CasePart S T) (FieldPart S T) (over.part_step l) case_by field_by (field_of_layer y)))
+      (y.val_type.1 (λ k. may (fold_field Bool Bool Bool borrow_step end_case end_field (field_of_layer y) ∙ k)))
 
   pub all_lift : (t : ValType) → IsLifted t
   all_lift =
@@ -306,13 +343,25 @@ module _ {S T : Type 0} (l : Ledger S T) (P : S → Type 0) (Q : T → Type 0) (
 
   -- A value at a place, values one after the other, and a value in core values.
 
-  pub load_leaves : (t : ValType) (memory : List ℕ) (place : ℕ) (s : S) → P s → Leaves P Q (over.load_by l t memory place s)
-  load_leaves t memory place s p =
+  pub load_uses : (t : ValType) → (has_borrow t ≡ true → B) → (memory : List ℕ) (place : ℕ) (s : S) → P s → Leaves P Q (over.load_by l t memory place s)
+  load_uses t may memory place s p =
       either_leaves (is_aligned place (over.part l t).laid.align) _ _
-      (either_leaves (is_inside place (over.part l t).laid.size memory) _ _ ((all_lift t).0 memory place s p) (stops _ s p)) (stops _ s p)
+      (either_leaves (is_inside place (over.part l t).laid.size memory) _ _ ((all_lift t may).0 memory place s p) (stops _ s p)) (stops _ s p)
+
+  pub load_list_uses : (t : ValType) → (has_borrow t ≡ true → B) → (memory : List ℕ) (place count : ℕ) (s : S) → P s → Leaves P Q (over.load_list_by l t memory place count s)
+  load_list_uses t may memory place count s p = either_leaves (count == 0) _ _ p (list_leaves (over.part l t) place count memory place s (all_lift t may) p)
+
+  pub lift_flat_uses : (t : ValType) → (has_borrow t ≡ true → B) → (memory words : List ℕ) (s : S) → P s → Leaves P Q (over.lift_flat_by l t memory words s)
+  lift_flat_uses t may memory words s p = (all_lift t may).1 memory words 0 s p
+
+-- The same where it does not matter what a type holds.
+module _ {S T : Type 0} (l : Ledger S T) (P : S → Type 0) (Q : T → Type 0) (spends : (many place : ℕ) (s : S) → P s → Spent P Q (l.spend many place s))
+    (stops : (fault : LiftTrap) (s : S) → P s → Q (l.stop fault s)) (takes : (u : Use) (s : S) → P s → Leaves P Q (l.take u s)) where
+  pub load_leaves : (t : ValType) (memory : List ℕ) (place : ℕ) (s : S) → P s → Leaves P Q (over.load_by l t memory place s)
+  load_leaves t memory place s p = load_uses l P Q (Unit {0}) spends stops (λ u s used p. takes u s p) t (λ b. tt) memory place s p
 
   pub load_list_leaves : (t : ValType) (memory : List ℕ) (place count : ℕ) (s : S) → P s → Leaves P Q (over.load_list_by l t memory place count s)
-  load_list_leaves t memory place count s p = either_leaves (count == 0) _ _ p (list_leaves (over.part l t) place count memory place s (all_lift t) p)
+  load_list_leaves t memory place count s p = load_list_uses l P Q (Unit {0}) spends stops (λ u s used p. takes u s p) t (λ b. tt) memory place count s p
 
   pub lift_flat_leaves : (t : ValType) (memory words : List ℕ) (s : S) → P s → Leaves P Q (over.lift_flat_by l t memory words s)
-  lift_flat_leaves t memory words s p = (all_lift t).1 memory words 0 s p
+  lift_flat_leaves t memory words s p = lift_flat_uses l P Q (Unit {0}) spends stops (λ u s used p. takes u s p) t (λ b. tt) memory words s p

@@ -1,14 +1,13 @@
 -- Limits stay.
-use Rattle.std.proofs.Common.{◌≡◌, ◌<◌, ◌≤◌, ◌⊎◌, inl, inr, ℕ, zero, suc, ◌+◌, Bool, true, false, ◌&&◌, nat_lt, List, [], ◌∷◌, length, refl, sym, ap, subst, arith, Option, Some, None, if◌then◌else◌}
+use Rattle.std.proofs.Common.{◌≡◌, ◌<◌, ◌≤◌, ◌⊎◌, inl, inr, ℕ, ◌+◌, Bool, true, false, ◌&&◌, nat_lt, List, length, refl, sym, subst, arith, Option, Some, if◌then◌else◌}
 use Rattle.std.proofs.lemmas.Bool.Decides.{nat_tests}
-use Rattle.std.specs.Prelude.{IsSome}
 use Rattle.std.specs.List.{slice_get, AllByRecursion}
 use Rattle.choices.specs.Choosing.{is_choice}
-use Rattle.choices.specs.Drawing.{Drawn, drawn, uses_one}
+use Rattle.choices.specs.Drawing.{Drawn, drawn}
 use Rattle.comp_graph.specs.Graph.{Graph}
 use Rattle.script_reader.specs.Script.{Script}
 use Rattle.abi_machine.specs.World.{Inst, World, new_inst}
-use Rattle.abi_machine.specs.Edits.{changed_at, with_channel}
+use Rattle.abi_machine.specs.Edits.{changed_at}
 use Rattle.abi_machine.specs.Reading.{backpressure_in}
 use Rattle.abi_machine.specs.Choosing.{picks_of}
 use Rattle.abi_machine.specs.replies.Pressure.{most_backpressure}

@@ -1,5 +1,5 @@
 -- What reads and writes leave of both ends: counts in their ranges, and one offer that stands. Nothing is asked of whether an end is dropped.
-use Rattle.std.proofs.Common.{◌≡◌, ◌≤◌, ◌<◌, ◌^◌, ◌-◌, ℕ, Bool, true, false, is_some, nat_lt, List, [], ◌∷◌, refl, sym, ap, ◌∙◌, subst, arith, Option, Some, None, if◌then◌else◌}
+use Rattle.std.proofs.Common.{◌≡◌, ◌≤◌, ◌<◌, ◌^◌, ℕ, true, false, is_some, nat_lt, refl, sym, ap, ◌∙◌, subst, arith, Option, Some, None, if◌then◌else◌}
 use Rattle.builtin_kinds.specs.declared.EndKind.{EndKind}
 use Rattle.builtin_kinds.specs.declared.EndKind.TheVariants.{Stream, Future}
 use Rattle.stream_ends.specs.declared.side.Side.{Side}
@@ -8,7 +8,7 @@ use Rattle.stream_ends.specs.declared.open_copy.By.{By}
 use Rattle.stream_ends.specs.declared.open_copy.OpenCopy.{OpenCopy}
 use Rattle.stream_ends.specs.declared.stream_end.End.{End}
 use Rattle.stream_ends.specs.declared.meet.Meet.TheVariants.{Dropped, Displaces, ZeroDone}
-use Rattle.stream_ends.specs.Ends.{EndsView, no_end, end_at, other_side, arranged, new_copy, standing_of, room_of, leaves}
+use Rattle.stream_ends.specs.Ends.{EndsView, no_end, end_at, other_side, new_copy, standing_of, room_of, leaves}
 use Rattle.stream_ends.specs.Meeting.{Meeting, met, met_at, met_offer, met_full, room_meet, is_empty_pair, with_offer, made_done, after, stands, standing_side, after_copy, EndSound, Sound}
 use Rattle.stream_ends.proofs.Meetings.{if_holds, none_sound, Gone, leaves_gone, Keeps, one_turned}
 use Rattle.stream_ends.proofs.Keeping.{grown_sound}
@@ -16,7 +16,7 @@ use Rattle.future_ends.specs.declared.meet.Meet.TheVariants as future_case
 use Rattle.future_ends.specs.Meeting as future
 use Rattle.future_ends.proofs.Meetings as future_meetings
 use Rattle.future_ends.proofs.Keeping.{copied_from_sound}
-use Rattle.abi_machine.specs.sound.Agreeing.{FitsIn, IsDue}
+use Rattle.abi_machine.specs.sound.Agreeing.{IsDue}
 
 -- Streams: a call at an end that is not done and has no copy.
 

@@ -1,18 +1,16 @@
 -- Numbers name what is there, and stay so.
-use Rattle.std.proofs.Common.{◌≡◌, ◌<◌, ◌≤◌, ◌⊎◌, inl, inr, ℕ, zero, suc, ◌+◌, Bool, true, false, nat_eq, List, [], ◌∷◌, ◌++◌, length, map, drop, refl, sym, ap, ◌∙◌, subst, arith, Option, Some, None, if◌then◌else◌}
+use Rattle.std.proofs.Common.{◌≡◌, ◌<◌, ◌≤◌, ◌⊎◌, inl, inr, ℕ, zero, suc, Bool, true, false, nat_eq, List, [], ◌∷◌, ◌++◌, length, drop, refl, sym, ap, ◌∙◌, subst, arith, Option, Some, None, if◌then◌else◌}
 use Rattle.std.specs.Prelude.{IsSome}
 use Rattle.std.specs.List.{slice_get, AllByRecursion}
-use Rattle.std.proofs.lemmas.List.{length-map}
-use Rattle.handle_table.specs.History.{Event, Add, Remove, live, next_index}
+use Rattle.handle_table.specs.History.{Remove, live, next_index}
 use Rattle.comp_graph.specs.Graph.{Graph}
 use Rattle.script_reader.specs.Script.{Script}
 use Rattle.waitables.specs.Sets as sets
-use Rattle.tasks.specs.declared.phase.Cancellation.TheVariants.{NotAsked}
-use Rattle.abi_machine.specs.World.{Entry, OwnHandle, BorrowHandle, OfSubtask, OfSet, OfEnd, Inst, Callee, Init, Subtask, Caller, Nobody, Host, Guest, TaskState, New, Acting, AfterCall, Task, World, new_inst, new_task}
+use Rattle.abi_machine.specs.World.{Entry, OwnHandle, BorrowHandle, OfSubtask, OfSet, OfEnd, Inst, Callee, Init, Subtask, Caller, Nobody, Host, Guest, New, Acting, AfterCall, Task, World, new_inst, new_task}
 use Rattle.abi_machine.specs.Edits.{changed_at, added, by_views, caller_changed}
-use Rattle.abi_machine.specs.Reading.{table_in, sets_in, func_of, subtask_of}
+use Rattle.abi_machine.specs.Reading.{sets_in, func_of, subtask_of}
 use Rattle.abi_machine.specs.sound.Changes.{Change, GoesTo, HasStore, SpendsUnit, UsesPicks, TakesItem, BeginsInstance, AddsEntry, MakesSet, RemovesEntry, RemovesWaitable, LeavesSet, JoinsSet, HasBackpressure, IsCalled, Calls, ComesBack, Acts, Begins, Cancels, Blocks, Exits, IsRemoved, Resolves, IsCancelled, HasWord, HasNewStack, HasStack, LosesStack, IsAnswered, IsTold, IsLent, HasResult, MakesChannel, Offers, Transfers, Concludes, DropsEnd, after, IsGuest, IsAdded, MayCome}
-use Rattle.abi_machine.specs.sound.Numbers.{IsCallerBefore, IsCalledAs, Each, IsNamed, NamesWhatIsThere, AreNumbered, IsNumbered, FirstNumbered, StaysNumbered}
+use Rattle.abi_machine.specs.sound.Numbers.{IsCallerBefore, IsCalledAs, IsNamed, NamesWhatIsThere, AreNumbered, IsNumbered, FirstNumbered, StaysNumbered}
 use Rattle.abi_machine.proofs.sound.Lists.{all_changed, all_more, all_as, changed_either, more_either, get_front, there_front, there_last, within, length_changed, length_more}
 use Rattle.abi_machine.proofs.sound.Found.{there_changed, guest_changed}
 use Rattle.abi_machine.proofs.sound.Sets.{left_sets, left_is, joined_is}
@@ -184,7 +182,7 @@ insts_changed tasks i f insts keeps h = all_changed (NamesWhatIsThere tasks) i f
 leaves_chain : (tasks : List Task) (insts : List Inst) (chain : List ℕ) → AreNumbered tasks insts chain → AreNumbered tasks insts (drop 1 chain)
 leaves_chain tasks insts chain h = with_chain tasks insts chain (drop 1 chain) h (drop_running tasks chain h.running)
 
-numbered : (g : Graph) (s : Script) (c : Change) (w : World) → MayCome g s c w → IsNumbered w → IsNumbered (after c w)
+pub numbered : (g : Graph) (s : Script) (c : Change) (w : World) → MayCome g s c w → IsNumbered w → IsNumbered (after c w)
 numbered g s BeginsInstance w may h =
     with_entries w.tasks w.insts _ w.chain h (all_more (NamesWhatIsThere w.tasks) w.insts new_inst h.entries (λ index entry e. cc))
 numbered g s (AddsEntry i entry) w may h =

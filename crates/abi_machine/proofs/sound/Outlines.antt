@@ -1,13 +1,12 @@
 -- Outlines of tasks: what tasks do, their states and their stacks.
-use Rattle.std.proofs.Common.{◌≡◌, ◌⊎◌, inl, inr, ℕ, zero, suc, Bool, true, false, List, [], ◌∷◌, ◌++◌, length, refl, sym, ap, ◌∙◌, subst, Option, Some, None}
+use Rattle.std.proofs.Common.{◌≡◌, inl, inr, ℕ, zero, suc, Bool, true, List, [], ◌∷◌, ◌++◌, refl, sym, ap, ◌∙◌, subst, Option, Some}
 use Rattle.std.specs.Prelude.{IsSome}
 use Rattle.std.specs.List.{slice_get}
 use Rattle.wasm_store.specs.Stack.{Stack}
 use Rattle.abi_machine.specs.World.{Callee, TaskState, New, Acting, AfterCall, AfterCancel, Begins, WaitsToEnter, InLoop, InBuiltin, Exited, Task, World}
 use Rattle.abi_machine.specs.Edits.{changed_at, answered_stacks}
 use Rattle.abi_machine.specs.Reading.{task_at}
-use Rattle.abi_machine.specs.sound.Changes.{IsFirst}
-use Rattle.abi_machine.specs.sound.Acting.{Outline, outline_of, outlines_of, HasStacks, WaitsWith, StandsBy, HaveStacks, IsActing, RunsIn, IsRunning, ActsAs, OneActs}
+use Rattle.abi_machine.specs.sound.Acting.{Outline, outline_of, outlines_of, WaitsWith, StandsBy, HaveStacks, IsActing, RunsIn, IsRunning, ActsAs}
 use Rattle.abi_machine.proofs.sound.Lists.{more_either}
 use Rattle.abi_machine.proofs.sound.Found.{some_same, changed_there}
 use Rattle.abi_machine.proofs.sound.Chained.{no_first, changed_here}

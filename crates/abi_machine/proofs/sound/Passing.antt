@@ -1,6 +1,5 @@
 -- What is written to streams and futures is what is read.
-use Rattle.std.proofs.Common.{◌≡◌, ℕ, zero, suc, List, [], ◌∷◌, ◌++◌, refl, ap, Option}
-use Rattle.std.specs.List.{AllByRecursion}
+use Rattle.std.proofs.Common.{◌≡◌, ℕ, zero, suc, List, ◌++◌, refl, ap, Option}
 use Rattle.ca_types.specs.declared.types.ValType.{ValType}
 use Rattle.ca_types.specs.declared.value.Value.{Value}
 use Rattle.builtin_kinds.specs.declared.EndKind.{EndKind}
@@ -8,7 +7,7 @@ use Rattle.builtin_kinds.specs.declared.EndKind.TheVariants.{Stream, Future}
 use Rattle.comp_graph.specs.Graph.{Graph}
 use Rattle.script_reader.specs.Script.{Script}
 use Rattle.abi_machine.specs.World.{Channel, World, new_channel}
-use Rattle.abi_machine.specs.Edits.{changed_at, changed_number, with_channel, channel_made, carried}
+use Rattle.abi_machine.specs.Edits.{changed_number, with_channel, channel_made, carried}
 use Rattle.abi_machine.specs.sound.Changes.{Change, GoesTo, HasStore, SpendsUnit, UsesPicks, TakesItem, BeginsInstance, AddsEntry, MakesSet, RemovesEntry, RemovesWaitable, LeavesSet, JoinsSet, HasBackpressure, IsCalled, Calls, ComesBack, Acts, Begins, Cancels, Blocks, Exits, IsRemoved, Resolves, IsCancelled, HasWord, HasNewStack, HasStack, LosesStack, IsAnswered, IsTold, IsLent, HasResult, MakesChannel, Offers, Transfers, Concludes, DropsEnd, after, MayCome}
 use Rattle.abi_machine.specs.sound.Passed.{HoldNothing, HoldsNothing, FirstHoldsNothing, NothingIsHeld}
 use Rattle.abi_machine.proofs.sound.Lists.{all_changed, all_more}

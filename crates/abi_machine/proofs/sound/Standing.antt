@@ -1,6 +1,5 @@
 -- The chain and the acting task behind each change.
-use Rattle.std.proofs.Common.{◌≡◌, ◌≢◌, ℕ, true, false, List, [], ◌∷◌, ◌++◌, length, drop, refl, sym, ap, ◌∙◌, subst, Option, Some, None}
-use Rattle.std.specs.Prelude.{IsSome}
+use Rattle.std.proofs.Common.{◌≡◌, ◌≢◌, ℕ, true, false, List, [], ◌∷◌, length, drop, refl, sym, ap, ◌∙◌, subst, Some}
 use Rattle.std.specs.List.{slice_get}
 use Rattle.tasks.specs.declared.phase.Cancellation.TheVariants.{Asked}
 use Rattle.tasks.specs.declared.phase.Resolution.TheVariants.{Cancelled}

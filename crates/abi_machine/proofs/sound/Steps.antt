@@ -1,10 +1,11 @@
 -- Each step makes changes, each where it may come: what every change keeps, every step keeps.
-use Rattle.std.proofs.Common.{◌≡◌, inl, ℕ, ◌+◌, true, List, [], ◌∷◌, length, refl, sym, ◌∙◌, subst, Option}
+use Rattle.std.proofs.Common.{◌≡◌, inl, inr, ℕ, ◌+◌, true, List, [], ◌∷◌, length, refl, sym, ◌∙◌, subst, Option}
 use Rattle.std.specs.Prelude.{IsSome, is_none}
 use Rattle.std.specs.List.{slice_get, AllByRecursion}
 use Rattle.wasm_store.proofs.Lists.{all_at}
 use Rattle.tasks.specs.Tasks.{may_cancel}
-use Rattle.comp_graph.specs.Graph.{Graph, func_named}
+use Rattle.laid_types.specs.Handles.{held_borrow}
+use Rattle.comp_graph.specs.Graph.{Graph, Lifted, func_named}
 use Rattle.script_reader.specs.declared.script.Item.{Item}
 use Rattle.script_reader.specs.declared.script.Item.TheVariants as item
 use Rattle.script_reader.specs.Script.{Script}
@@ -27,7 +28,7 @@ use Rattle.abi_machine.proofs.sound.Acted.{new_first}
 use Rattle.abi_machine.proofs.sound.Entries.{left_true, right_true, unasked_is, none_resolved}
 use Rattle.abi_machine.proofs.sound.turns.Keeping.{Invariant, Keeps, given_keeps, behind_keeps, either_keeps, goes, charged_keeps, chosen_keeps}
 use Rattle.abi_machine.proofs.sound.Alternatives.{IsAlternative, all_alternatives}
-use Rattle.abi_machine.proofs.sound.Found.{call_is}
+use Rattle.abi_machine.proofs.sound.Found.{some_same, call_is}
 use Rattle.abi_machine.proofs.sound.turns.Moving.{leaving_keeps, running_keeps, instantiating_keeps}
 use Rattle.abi_machine.proofs.sound.turns.Waking.{arriving_keeps, delivering_keeps, resuming_keeps, cancelled_keeps, back_keeps}
 use Rattle.abi_machine.proofs.sound.turns.Nesting.{nested_keeps, lowers_keeps}
@@ -42,7 +43,7 @@ module _ {g : Graph} {s : Script} (inv : Invariant g s) where
       given_keeps inv (func_named g call.name) _ (λ f e.
       let c : Change = IsCalled (Func f) (calls_taken s w + 1) call.values in
       goes inv Arrives (after c (item_taken w)) (new_first w.tasks w.chain (new_task (Func f) (Host (calls_taken s w + 1) call.values) IsNew) refl)
-      (inv.stays c (item_taken w) (refl, idle) taken))
+      (inv.stays c (item_taken w) (refl, idle, λ b. inr (call.name, f, e, subst (λ (x : Lifted). held_borrow x.func_type.result ≡ true) (sym (some_same b.1)) b.2)) taken))
   item_keeps (item.Cancel call) w idle taken =
       given_keeps inv (task_of_call call w) _ (λ found e.
       behind_keeps inv (line.Cancel call ∷ []) _

@@ -1,13 +1,11 @@
 -- What callers were told is so, and stays so.
-use Rattle.std.proofs.Common.{◌≡◌, ◌≤◌, ℕ, Bool, true, false, List, [], ◌∷◌, ◌++◌, length, refl, sym, ap, ◌∙◌, subst, arith, Option, Some, None, if◌then◌else◌}
-use Rattle.std.specs.List.{slice_get, AllByRecursion}
+use Rattle.std.proofs.Common.{◌≡◌, ◌≤◌, ℕ, Bool, true, false, List, refl, sym, ◌∙◌, subst, arith, Option, Some, None, if◌then◌else◌}
 use Rattle.tasks.specs.declared.phase.Cancellation.{Cancellation}
 use Rattle.tasks.specs.declared.phase.Cancellation.TheVariants as cancellation
 use Rattle.tasks.specs.declared.phase.Phase.{Phase}
 use Rattle.tasks.specs.declared.phase.Phase.TheVariants as phase
 use Rattle.tasks.specs.declared.phase.Resolution.{Resolution}
 use Rattle.tasks.specs.declared.phase.Resolution.TheVariants.{Returned, Cancelled}
-use Rattle.tasks.specs.declared.event.BlockedAt.{BlockedAt}
 use Rattle.tasks.specs.declared.subtask_state.SubtaskState.{SubtaskState}
 use Rattle.tasks.specs.declared.subtask_state.SubtaskState.TheVariants.{Starting, Started, CancelledBeforeStarted, CancelledBeforeReturned}
 use Rattle.tasks.specs.Subtasks.{code_of, is_over, delivered, with_lend}
@@ -16,9 +14,8 @@ use Rattle.comp_graph.specs.Graph.{Graph}
 use Rattle.script_reader.specs.Script.{Script}
 use Rattle.abi_machine.specs.World.{Callee, Subtask, Caller, Nobody, Host, Guest, Wait, ForYield, ForSet, ForCall, ForCopy, ForCancel, TaskState, New, Acting, AfterCall, AfterCancel, WaitsToEnter, InLoop, InBuiltin, Exited, Task, World, new_task}
 use Rattle.abi_machine.specs.World as world
-use Rattle.abi_machine.specs.Edits.{changed_at, caller_changed, by_view}
+use Rattle.abi_machine.specs.Edits.{caller_changed, by_view}
 use Rattle.abi_machine.specs.Counting.{phase_of, subtask_state}
-use Rattle.abi_machine.specs.sound.Firsts.{TaskIs}
 use Rattle.abi_machine.specs.sound.Changes.{Change, GoesTo, HasStore, SpendsUnit, UsesPicks, TakesItem, BeginsInstance, AddsEntry, MakesSet, RemovesEntry, RemovesWaitable, LeavesSet, JoinsSet, HasBackpressure, IsCalled, Calls, ComesBack, Acts, Begins, Cancels, Blocks, Exits, IsRemoved, Resolves, IsCancelled, HasWord, HasNewStack, HasStack, LosesStack, IsAnswered, IsTold as TellsState, IsLent, HasResult, MakesChannel, Offers, Transfers, Concludes, DropsEnd, after, IsBlocked}
 use Rattle.abi_machine.specs.sound.Premises.{BlocksFrom, IsUnasked, IsRemovable, MayResolve, MayResolveTo, MayBecome, Comes}
 use Rattle.abi_machine.specs.sound.Told.{IsToldOf, IsToldAt, WasTold, IsTold, AreTold, FirstIsTold, ToldStays}
@@ -235,7 +232,7 @@ told_kept g s (IsRemoved t) w may h =
     resolves_told x Cancelled removable.1 (λ same asked. not_asked x.cancellation removable.2 asked) k) h)
 told_kept g s (Resolves t resolution) w may h =
     all_changed IsTold t _ w.tasks
-    (λ x e k. let resolves : MayResolve resolution x = one_task w.tasks t (MayResolve resolution) x e may in resolves_told x resolution resolves.1 (may_resolve resolution x resolves.2) k) h
+    (λ x e k. let resolves : MayResolve resolution x = one_task w.tasks t (MayResolve resolution) x e may.0 in resolves_told x resolution resolves.1 (may_resolve resolution x resolves.2) k) h
 told_kept g s (IsCancelled t c) w may h = all_changed IsTold t _ w.tasks (λ x e k. becomes_told x c (one_task w.tasks t (MayBecome c) x e may) k) h
 told_kept g s (TellsState t state) w may h =
     all_changed IsTold t _ w.tasks

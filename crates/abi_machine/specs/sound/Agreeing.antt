@@ -7,7 +7,7 @@ use Rattle.builtin_kinds.specs.declared.EndKind.TheVariants.{Stream, Future}
 use Rattle.stream_ends.specs.declared.side.Side.{Side}
 use Rattle.stream_ends.specs.declared.open_copy.OpenCopy.{OpenCopy}
 use Rattle.stream_ends.specs.Ends.{EndsView, other_side, end_at, standing_of}
-use Rattle.abi_machine.specs.Control.{EndRef, Then, Starts, Resolves, Transfers, Lowering, Behind, InLowering, BeforeLeaving, Control, Free, Chosen, Instantiates, Runs, Calls, Arrives, Lowers, Quiet, Goes, Resumes, Delivers, Leaves}
+use Rattle.abi_machine.specs.Control.{EndRef, Then, Starts, Resolves, Transfers, Behind, InLowering, BeforeLeaving, Control, Free, Chosen, Instantiates, Runs, Calls, Arrives, Lowers, Quiet, Goes, Resumes, Delivers, Leaves}
 use Rattle.abi_machine.specs.World.{New, Channel, Task, World}
 use Rattle.abi_machine.specs.Reading.{numbered}
 use Rattle.abi_machine.specs.sound.Firsts.{FirstIs, IsActing, MayBeInside}

@@ -1,6 +1,6 @@
 -- Task 0 (Component Model, Concurrency.md, "Summary"; Explainer.md, "Instance Definitions"): it instantiates, and runs alone until it has
 -- exited; it never runs again, and no other task runs a start function. What control says of the chain, of the acting task and of a copy
--- that is half done is so.
+-- that is half done is so. A task that has not entered has not resolved.
 use Rattle.std.specs.Prelude.{◌≡◌, ◌≤◌, ℕ, suc, List, [], ◌∷◌, Some}
 use Rattle.std.specs.List.{slice_get, AllByRecursion}
 use Rattle.comp_graph.specs.Graph.{Graph}
@@ -11,6 +11,7 @@ use Rattle.abi_machine.specs.Turn.{Steps}
 use Rattle.abi_machine.specs.Next.{next}
 use Rattle.abi_machine.specs.sound.Controls.{Says}
 use Rattle.abi_machine.specs.sound.Agreeing.{Agrees}
+use Rattle.abi_machine.specs.sound.Entering.{EnterUnresolved}
 
 -- the chain, by the state of task 0
 abbrev pub IsInitial : TaskState → List ℕ → Type 0
@@ -31,7 +32,7 @@ pub record InitRunsAlone (tasks : List Task) (chain : List ℕ) : Type 0 where
   pub others : (n : ℕ) (task : Task) → slice_get tasks (suc n) ≡ Some task → StartsNothing task.state
 
 abbrev pub RunsAlone : World → Type 0
-RunsAlone w = InitRunsAlone w.tasks w.chain × Says w.control w.chain × Agrees w.control w
+RunsAlone w = InitRunsAlone w.tasks w.chain × Says w.control w.chain × Agrees w.control w × EnterUnresolved w.tasks
 
 -- So it is in the first world, and so it stays.
 abbrev pub FirstRunsAlone : Type 0

@@ -1,6 +1,6 @@
 -- What numbers name (Component Model, CanonicalABI.md, "Task State", "Subtask State" and "Waitable Set State"): tasks by the tasks that called
 -- them, tasks of the chain, and subtasks and sets of tables.
-use Rattle.std.specs.Prelude.{◌≡◌, ◌<◌, ℕ, zero, suc, List, length, Option, Some, IsSome}
+use Rattle.std.specs.Prelude.{◌≡◌, ◌<◌, ℕ, zero, suc, List, length, Some, IsSome}
 use Rattle.std.specs.List.{slice_get, AllByRecursion}
 use Rattle.handle_table.specs.History.{live}
 use Rattle.comp_graph.specs.Graph.{Graph}

@@ -46,7 +46,7 @@ use Rattle.abi_machine.specs.Control.{EndRef, Replies, InWait, Back, Doomed}
 use Rattle.abi_machine.specs.World.{Entry, OwnHandle, OfSet, OfEnd, Func, Subtask, ForYield, ForSet, TaskState, New, Acting, AfterCall, AfterCancel, Begins, WaitsToEnter, InLoop, InBuiltin, Exited, Task, World}
 use Rattle.abi_machine.specs.Edits.{entry_added, entry_removed, left_set, in_state, resolved, joined, concluded, end_dropped, set_made, channel_made}
 use Rattle.abi_machine.specs.Canons.{func_address, memory_of, bytes_of, canon_at, options_at, builtin_of, lifted_of, resource_at}
-use Rattle.abi_machine.specs.Reading.{table_of, sets_in, backpressure_of, acting, func_of, task_at, is_reentrant, may_leave, channels}
+use Rattle.abi_machine.specs.Reading.{table_of, sets_in, backpressure_of, acting, func_of, is_reentrant, may_leave, channels}
 use Rattle.abi_machine.specs.Counting.{passes, view_at, task_view, has_resolved, end_of, payload_of, ready}
 use Rattle.abi_machine.specs.Finding.{subtask_at, set_at, waitable_at, end_at}
 use Rattle.abi_machine.specs.Turn.{Turn, silent, unless, replied, blocked, with_entry}
@@ -66,11 +66,11 @@ use Rattle.abi_machine.specs.replies.Pressure.{most_backpressure, pressure_inc_t
 use Rattle.abi_machine.specs.replies.Waiting.{set_new_turn, none_ready, by_ready, event_size, event_align, is_cancelled, event_turn, wait_turn, view_of_set, set_drop_turn, joins, join_turn}
 use Rattle.abi_machine.specs.replies.Streams.{end_ref, both_indices, ends_added, channel_new_turn, placed_well, max_length, copy_turn, is_async_copy, copy_cancel_turn, is_unwritten, end_drop_turn}
 use Rattle.abi_machine.specs.Reply.{resource_turn, plain_turn, side_of, copy_size, end_turn, builtin_turn, reply, exempt_turn, allowed, calling_turn}
-use Rattle.abi_machine.specs.sound.Changes.{AddsEntry, MakesSet, RemovesEntry, RemovesWaitable, LeavesSet, JoinsSet, HasBackpressure, Cancels, Resolves as IsResolved, HasWord, MakesChannel, Concludes, DropsEnd, after, IsWaitable, Stands, IsFirst}
+use Rattle.abi_machine.specs.sound.Changes.{AddsEntry, MakesSet, RemovesEntry, RemovesWaitable, LeavesSet, JoinsSet, HasBackpressure, Cancels, Resolves as IsResolved, HasWord, MakesChannel, Concludes, DropsEnd, after, IsWaitable, Stands}
 use Rattle.abi_machine.specs.sound.Initial.{StartsNothing}
 use Rattle.abi_machine.specs.sound.Acting.{Outline, outlines_of, HasStacks, WaitsWith, IsActing, RunsIn, IsRunning, IsCalling, OneActs}
 use Rattle.abi_machine.proofs.sound.Lifted.{result_keeps}
-use Rattle.abi_machine.proofs.sound.Found.{some_same, renamed_ok, dropped_left, waitable_stands, end_stands, subtask_stands, set_stands, set_empty, set_few, inc_few, dec_few}
+use Rattle.abi_machine.proofs.sound.Found.{some_same, renamed_ok, dropped_free, left_where_free, waitable_stands, end_stands, subtask_stands, set_stands, set_empty, set_few, inc_few, dec_few}
 use Rattle.abi_machine.proofs.sound.Alone.{Alone, free_left}
 use Rattle.abi_machine.proofs.sound.Outlines.{outline_back, Is, as_is, state_first, acting_waits}
 use Rattle.abi_machine.proofs.sound.Standing.{steady}
@@ -100,7 +100,7 @@ runs_acting (InLoop word) o same r stacks never = absurd r
 runs_acting (InBuiltin number words wait) o same r stacks never = absurd r
 runs_acting Exited o same r stacks never = absurd r
 
-acts_free : (w : World) (t : ℕ) → Alone w → may_leave w ≡ true → Is IsRunning t w → Is (IsActing true) t w
+pub acts_free : (w : World) (t : ℕ) → Alone w → may_leave w ≡ true → Is IsRunning t w → Is (IsActing true) t w
 acts_free w t alone free r =
     let x = outline_back w.tasks t r.1.0 r.1.1 in (
       r.0,
@@ -136,7 +136,7 @@ module _ {g : Graph} {s : Script} (ord : Order g s) where
       let answer : Result Handle TrapName = renamed refusal_name (dropped_in (view_at w i (slice_index words 0)) resource) in
       refused_keeps ord t answer w (λ x. dropped g t i number words x x.ownership (entry_removed i (slice_index words 0) w)) (h.0, h.1.0) (λ x e.
       dropped_keeps t i number words x x.ownership (entry_removed i (slice_index words 0) w) known free
-      (still ord true t (RemovesEntry i (slice_index words 0)) w (dropped_left w i (slice_index words 0) resource x (renamed_ok refusal_name (dropped_in (view_at w i (slice_index words 0)) resource) x e)) tt tt h))
+      (still ord true t (RemovesEntry i (slice_index words 0)) w (left_where_free w i (slice_index words 0) (dropped_free w i (slice_index words 0) resource x (renamed_ok refusal_name (dropped_in (view_at w i (slice_index words 0)) resource) x e))) tt tt h))
 
   return_keeps : (t : ℕ) (task : Task) (i : ℕ) (result : Option ValType) (options : Options) (words : List ℕ) (w : World) → Held ord true t w → Keeps ord (return_turn g t task i result options words w)
   unfolding return_turn return_checked
@@ -146,7 +146,7 @@ module _ {g : Graph} {s : Script} (ord : Order g s) where
       fault_keeps ord t task_name (asking_fault (task_view g w t task)) w _ (h.0, h.1.0) (given_keeps ord (func_of task.callee) _ (λ f e.
       unless_keeps ord t (not (same_held result f.func_type.result)) trap.WrongResult w (unless t (apart f) trap.WrongOptions w answers) (h.0, h.1.0) (λ j.
       unless_keeps ord t (apart f) trap.WrongOptions w answers (h.0, h.1.0) (λ k.
-      resolves_keeps ord t task Replies _ (result_keeps (Held ord true t) (removes ord true t) (waits ord true t) (lends ord true t) i t _ result options words w h)))))
+      resolves_keeps ord t task Replies _ (result_keeps i t (Held ord true t) (Unit {0}) (removes ord true t) (waits ord true t) (lends ord true t i t) _ result (λ b. tt) options words w h)))))
 
   task_cancel_keeps : (t : ℕ) (task : Task) (w : World) → Held ord true t w → Keeps ord (task_cancel_turn g t task w)
   unfolding task_cancel_turn

@@ -1,5 +1,5 @@
 -- What a turn makes of the acting task and keeps: steps by their kinds, answers, blocked tasks and what is lifted.
-use Rattle.std.proofs.Common.{◌≡◌, ◌<◌, ◌⊎◌, inr, ℕ, ◌+◌, Bool, true, false, nat_lt, List, [], ◌∷◌, ◌++◌, length, drop, refl, sym, ap, ◌∙◌, subst, arith, Option, Some, None, Result, Ok, Err, if◌then◌else◌}
+use Rattle.std.proofs.Common.{◌≡◌, ◌<◌, ◌⊎◌, inr, ℕ, ◌+◌, Bool, true, false, nat_lt, List, [], ◌∷◌, ◌++◌, length, drop, refl, sym, ◌∙◌, subst, arith, Option, Some, None, Result, Ok, Err, if◌then◌else◌}
 use Rattle.std.proofs.lemmas.Bool.Decides.{nat_tests}
 use Rattle.std.specs.Prelude.{IsSome}
 use Rattle.std.specs.List.{slice_get}
@@ -23,8 +23,8 @@ use Rattle.abi_machine.specs.Reading.{table_of, acting, func_of, may_leave}
 use Rattle.abi_machine.specs.Lifting.{Kept, Stopped, Came, once_lifted}
 use Rattle.abi_machine.specs.Choosing.{picks_of, chosen}
 use Rattle.abi_machine.specs.Turn.{Turn, Steps, Ends, Stuck, doomed, behind, given, unless_refused, unless, unless_fault, goes_on_with, blocked, charged, with_entry}
-use Rattle.abi_machine.specs.sound.Premises.{IsTaken}
-use Rattle.abi_machine.specs.sound.Changes.{Change, GoesTo, SpendsUnit, UsesPicks, RemovesEntry, RemovesWaitable, Calls, ComesBack, Cancels, Blocks, IsRemoved, IsCancelled, Exits, HasNewStack, HasStack, LosesStack, IsAnswered, IsLent, after, Stands, IsLeft, IsFirst, HasFunc, IsBlocked, MayCome}
+use Rattle.abi_machine.specs.sound.Premises.{IsHandle, IsFree, IsTaken}
+use Rattle.abi_machine.specs.sound.Changes.{Change, GoesTo, SpendsUnit, UsesPicks, RemovesEntry, RemovesWaitable, Calls, ComesBack, Cancels, Blocks, IsRemoved, IsCancelled, Exits, HasNewStack, HasStack, LosesStack, IsAnswered, IsLent, after, Stands, IsFirst, HasFunc, IsBlocked, MayCome}
 use Rattle.abi_machine.specs.sound.Chain.{states_of, WaitsFor, AreUnder, IsChained}
 use Rattle.abi_machine.specs.sound.Acting.{Outline, outline_of, outlines_of, HasStacks, WaitsWith, StandsBy, HaveStacks, IsActing, IsRunning, IsNew, IsWaitingFor, OneActs, ActsBy}
 use Rattle.abi_machine.proofs.sound.Lifts.{Leaves as LeavesWith}
@@ -227,14 +227,14 @@ module _ {g : Graph} {s : Script} (ord : Order g s) where
 
   -- Lifting.
 
-  pub removes : (b : Bool) (t i index : ℕ) (w : World) → Stands w i index (IsLeft w i) → Held b t w → Held b t (entry_removed i index w)
-  removes b t i index w may h = still b t (RemovesEntry i index) w may tt tt h
+  pub removes : (b : Bool) (t i index : ℕ) (w : World) → Stands w i index (IsFree w i index) → Held b t w → Held b t (entry_removed i index w)
+  removes b t i index w may h = still b t (RemovesEntry i index) w (may.0, may.1, may.2.0) tt tt h
 
   pub waits : (b : Bool) (t i index : ℕ) (w : World) → Stands w i index (IsTaken w) → Held b t w → Held b t (left_set i index (entry_removed i index w))
   waits b t i index w may h = still b t (RemovesWaitable i index) w (may.0, may.1, may.2.0) tt tt h
 
-  pub lends : (b : Bool) (t callee index : ℕ) (w : World) → Held b t w → Held b t (lent callee index w)
-  lends b t callee index w h = still b t (IsLent callee index) w tt tt tt h
+  pub lends : (b : Bool) (t i callee index : ℕ) (w : World) → Unit {0} → Stands w i index IsHandle → Held b t w → Held b t (lent callee index w)
+  lends b t i callee index w used there h = still b t (IsLent callee index) w tt tt tt h
 
   abbrev pub KeptSo : Bool → ℕ → Kept → Type 0
   KeptSo b t k = Held b t k.world

@@ -1,5 +1,5 @@
 -- Reads and writes, nested code and lowerings keep the order of tasks.
-use Rattle.std.proofs.Common.{◌≡◌, ◌<◌, inl, ℕ, Bool, true, false, not, nat_eq, nat_lt, List, [], ◌∷◌, length, refl, sym, ap, ◌∙◌, subst, Option, Some, None, Result, Ok, Err, if◌then◌else◌}
+use Rattle.std.proofs.Common.{◌≡◌, ◌<◌, inl, ℕ, Bool, true, false, nat_eq, nat_lt, List, [], ◌∷◌, length, refl, sym, ap, ◌∙◌, subst, Option, Some, None, Result, Ok, Err, if◌then◌else◌}
 use Rattle.std.specs.Prelude.{slice_index}
 use Rattle.wasm_store.specs.Store.{found_at}
 use Rattle.wasm_store.specs.Stack.{Stack}
@@ -33,8 +33,8 @@ use Rattle.abi_machine.specs.Copying.{blocked_word, completed, Met, AtOnce, Move
 use Rattle.abi_machine.specs.Nested.{HostedTurn, On, EndsIn, TrapsBy, CallsHost, NoRule, hosted_next, nested_ended, answered_in_place, answered_or_refused, calls_host, hosted, nested_turn}
 use Rattle.abi_machine.specs.Lowering.{started, lowered, paused, left_by, settled_turn, lowers_turn}
 use Rattle.abi_machine.specs.replies.Context.{Exempt, Answers, rep_answered, context_answer, exempt_kind, exempt_of}
-use Rattle.abi_machine.specs.sound.Changes.{HasStore, AddsEntry, HasWord, HasResult, Offers, Transfers as IsTransferred, after, IsFirst, MayCome}
-use Rattle.abi_machine.specs.sound.Acting.{Outline, outlines_of, WaitsWith, IsActing, OneActs, FollowsFor, LowersFor, BehindFor, stacked_then, stacked_behind}
+use Rattle.abi_machine.specs.sound.Changes.{HasStore, AddsEntry, HasWord, HasResult, Offers, Transfers as IsTransferred, after, IsFirst}
+use Rattle.abi_machine.specs.sound.Acting.{outlines_of, WaitsWith, IsActing, OneActs, FollowsFor, LowersFor, BehindFor, stacked_then, stacked_behind}
 use Rattle.abi_machine.proofs.sound.Lifted.{elements_keep}
 use Rattle.abi_machine.proofs.sound.Found.{ok_same, some_same, table_kept, added_once, entry_is_added, free_offered}
 use Rattle.abi_machine.proofs.sound.Outlines.{as_is, acting_waits}
@@ -81,7 +81,7 @@ module _ (K : World → Type 0) (adds : (i t : ℕ) (entry : New) (w : World) �
           (more (Some (next_index (table_of w i))) (entry_added i (entry_of t entry) w) (adds i t entry w (less (live_count (table_of w i)) most_live e) h)))
       by false e = more None w h
 
-  settled_leaves : (i t : ℕ) (plan : Plan) (bytes : List ℕ) (w : World) → K w → K (with_table i (λ before. (settle t plan bytes (table_of w i)).table) w)
+  pub settled_leaves : (i t : ℕ) (plan : Plan) (bytes : List ℕ) (w : World) → K w → K (with_table i (λ before. (settle t plan bytes (table_of w i)).table) w)
   settled_leaves i t (Gives words) bytes w h = subst K (sym (table_kept i w)) h
   settled_leaves i t (Fails why) bytes w h = subst K (sym (table_kept i w)) h
   settled_leaves i t (Asks ask k) bytes w h = subst K (sym (table_kept i w)) h
@@ -98,7 +98,7 @@ module _ {g : Graph} {s : Script} (ord : Order g s) where
   moved_by_keeps t e call read write reading writing count None w h = (goes ord _ w h.0, ((t, h.1), (h.1.0, tt)))
   moved_by_keeps t e call read write reading writing count (Some element) w h =
       came_keeps ord true t (elements_written t write writing count element w) (λ values later. elements_read g t e call.length read reading element values later)
-      (elements_keep (Held ord true t) (removes ord true t) (waits ord true t) (lends ord true t) (inst_of_canon writing) t element _ _ count w h) (λ values v i. (goes ord _ v i.0, ((t, i.1), (i.1.0, tt))))
+      (elements_keep (inst_of_canon writing) t (Held ord true t) (Unit {0}) (removes ord true t) (waits ord true t) (lends ord true t (inst_of_canon writing) t) element (λ b. tt) _ _ count w h) (λ values v i. (goes ord _ v i.0, ((t, i.1), (i.1.0, tt))))
 
   elements_moved_keep : (t : ℕ) (e : EndRef) (call : OpenCopy) (count : ℕ) (element : Option ValType) (offer : OpenCopy) (w : World) → Held ord true t w → Keeps ord (elements_moved g t e call count element offer w)
   unfolding elements_moved

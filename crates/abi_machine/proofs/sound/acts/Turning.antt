@@ -1,5 +1,5 @@
 -- Each turn keeps the order of tasks, and leaves the acting task as control says.
-use Rattle.std.proofs.Common.{◌≡◌, ◌⊎◌, inl, inr, ℕ, true, List, [], ◌∷◌, length, refl, sym, ap, ◌∙◌, subst, Option, Some, None}
+use Rattle.std.proofs.Common.{◌≡◌, ◌⊎◌, inl, inr, ℕ, true, List, [], ◌∷◌, length, refl, sym, ap, ◌∙◌, subst, Option}
 use Rattle.std.specs.Prelude.{IsSome}
 use Rattle.std.specs.List.{slice_get, AllByRecursion}
 use Rattle.wasm_store.proofs.Lists.{all_at}
@@ -14,11 +14,11 @@ use Rattle.trace_show.specs.declared.trap.TrapName.{TrapName}
 use Rattle.abi_machine.specs.declared.run_end.RunEnd.TheVariants.{Trapped}
 use Rattle.abi_machine.specs.Control.{Control, Free, Chosen, Instantiates, Runs, Arrives, Lowers, Quiet, Back, Goes as GoesOn, Resumes, Delivers, Leaves, Doomed}
 use Rattle.abi_machine.specs.Control as control
-use Rattle.abi_machine.specs.World.{Func, Host, New, Task, World, new_task}
+use Rattle.abi_machine.specs.World.{Func, Host, New, World, new_task}
 use Rattle.abi_machine.specs.Edits.{with_control, item_taken, chained}
 use Rattle.abi_machine.specs.Reading.{acting, unfinished}
 use Rattle.abi_machine.specs.Counting.{task_view}
-use Rattle.abi_machine.specs.Turn.{Turn, Steps, Ends, silent}
+use Rattle.abi_machine.specs.Turn.{Steps, Ends, silent}
 use Rattle.abi_machine.specs.Cancelling.{cancelled_turn}
 use Rattle.abi_machine.specs.Scheduling.{Alternative, Takes, GoesOn as GoesOnTask, alternatives, call_taken, cancel_taken, task_of_call, item_turn, gone, going_turn, alternative_turn, end_by, one_of, free_turn, chosen_turn}
 use Rattle.abi_machine.specs.Next.{next_by}

@@ -31,12 +31,12 @@ use Rattle.abi_machine.specs.Calling.{call_begun, called_by, Told, subtask_told,
 use Rattle.abi_machine.specs.Delivering.{number_of, event_line, event_put, callback_started, received, nothing_told, cancel_told, received_none, received_cancel, end_told, entry_delivered, member_delivered, members_turn, delivering_turn, is_to_be_told, yield_cancelled, told_payload, told_result, wait_resumed, set_polled, next_resumed, loop_resumed, resumed, resuming_turn}
 use Rattle.abi_machine.specs.Cancelling.{asked_turn, cancelled_turn, first_of, cancel_open, back_from_cancel, back_to, back_turn}
 use Rattle.abi_machine.specs.Copying.{blocked_word}
-use Rattle.abi_machine.specs.sound.Changes.{Change, HasStore, AddsEntry, Calls, ComesBack, Acts, Cancels, IsRemoved, IsCancelled, IsTold, Concludes, after, IsGuest, IsFirst, HasFunc, IsBlocked}
-use Rattle.abi_machine.specs.sound.Acting.{IsNew as IsNewOne, Outline, outline_of, outlines_of, HasStacks, WaitsWith, StandsBy, IsActing, IsCalling, WasBlocked, OneActs, stacked_receiver}
+use Rattle.abi_machine.specs.sound.Changes.{Change, HasStore, AddsEntry, Calls, ComesBack, Acts, Cancels, IsRemoved, IsCancelled, IsTold, Concludes, after, IsGuest, HasFunc, IsBlocked}
+use Rattle.abi_machine.specs.sound.Acting.{IsNew as IsNewOne, Outline, outline_of, outlines_of, WaitsWith, StandsBy, IsActing, IsCalling, OneActs, stacked_receiver}
 use Rattle.abi_machine.proofs.sound.Lifted.{arguments_keep}
-use Rattle.abi_machine.proofs.sound.Found.{guest_changed, func_changed, changed_there, acting_there, acting_first, acting_is, acting_func}
+use Rattle.abi_machine.proofs.sound.Found.{guest_changed, func_changed, changed_there, acting_first, acting_is, acting_func}
 use Rattle.abi_machine.proofs.sound.Able.{resumed_blocked, removed_waits}
-use Rattle.abi_machine.proofs.sound.Outlines.{outline_there, Is, as_is, is_what, is_there, state_first, acting_waits}
+use Rattle.abi_machine.proofs.sound.Outlines.{outline_there, Is, as_is, is_there, state_first, acting_waits}
 use Rattle.abi_machine.proofs.sound.Standing.{steady, first_back, first_asks}
 use Rattle.abi_machine.proofs.sound.acts.Keeping.{IsIn, Order, acts_at, acts_by, new_acts, waits_stacked, Keeps, Held, still, given_keeps, behind_keeps, either_keeps, goes, unless_keeps, chosen_keeps, on_keeps, blocked_keeps, waited_keeps, entry_keeps, acting_stack_keeps, removes, waits, lends, came_keeps}
 
@@ -54,7 +54,7 @@ module _ {g : Graph} {s : Script} (ord : Order g s) where
   called_keeps t f (Guest subtask) w h =
       given_keeps ord (canon_at g subtask.canon) _ (λ c e.
       came_keeps ord false t (arguments_passed t f subtask c w) (λ v later. with_arguments g t f v later)
-      (arguments_keep (Held ord false t) (removes ord false t) (waits ord false t) (lends ord false t) (inst_of_canon c) t (options_of_canon c).is_async f.func_type _ subtask.words w h)
+      (arguments_keep (inst_of_canon c) t (Held ord false t) (Unit {0}) (removes ord false t) (waits ord false t) (lends ord false t (inst_of_canon c) t) (options_of_canon c).is_async f.func_type (λ b. tt) _ subtask.words w h)
       (λ v later i. (goes ord _ later i.0, ((t, i.1), (i.1.0, tt)))))
 
   entered_keeps : (t : ℕ) (task : Task) (f : Lifted) (w : World) → Is (WaitsWith false) t w → ord.Holds w → Keeps ord (entered g t task f w)

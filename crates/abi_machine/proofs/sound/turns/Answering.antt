@@ -37,7 +37,7 @@ use Rattle.comp_graph.specs.declared.graph.BuiltinKind.{BuiltinKind}
 use Rattle.comp_graph.specs.declared.graph.BuiltinKind.TheVariants as builtin
 use Rattle.comp_graph.specs.declared.graph.EndOp.{EndOp}
 use Rattle.comp_graph.specs.declared.graph.EndOp.TheVariants as end_op
-use Rattle.comp_graph.specs.Graph.{Graph, Lifted}
+use Rattle.comp_graph.specs.Graph.{Graph, Lifted, passed_value}
 use Rattle.script_reader.specs.Script.{Script}
 use Rattle.trace_show.specs.declared.label.Label.TheVariants as line
 use Rattle.trace_show.specs.declared.label.BlockReason.TheVariants as reason
@@ -46,9 +46,9 @@ use Rattle.trace_show.specs.declared.trap.TrapName.TheVariants as trap
 use Rattle.abi_machine.specs.Traps.{task_name, renamed, refusal_name, set_name}
 use Rattle.abi_machine.specs.LiftingOver.{made}
 use Rattle.abi_machine.specs.Control.{EndRef, Replies, InWait, Back, Doomed}
-use Rattle.abi_machine.specs.World.{Entry, OwnHandle, OfSet, OfEnd, Func, Subtask, ForYield, ForSet, AfterCancel, InBuiltin, Task, Channel, World}
+use Rattle.abi_machine.specs.World.{Entry, OwnHandle, OfSet, OfEnd, Func, Destroys, Subtask, ForYield, ForSet, AfterCancel, InBuiltin, Task, Channel, World}
 use Rattle.abi_machine.specs.Edits.{entry_added, entry_removed, left_set, in_state, resolved, told, joined, concluded, end_dropped, set_made, channel_made}
-use Rattle.abi_machine.specs.Canons.{func_address, memory_of, bytes_of, canon_at, options_at, flag_at, builtin_of, lifted_of, resource_at}
+use Rattle.abi_machine.specs.Canons.{func_address, memory_of, bytes_of, canon_at, options_at, flag_at, builtin_of, lifted_of, resource_at, destructor_of}
 use Rattle.abi_machine.specs.Reading.{table_of, sets_in, backpressure_of, acting, func_of, task_at, kind_of, is_reentrant, may_leave, channel_at, channels, numbered}
 use Rattle.abi_machine.specs.Counting.{passes, view_at, task_view, has_resolved, end_of, payload_of, ready, channel_end}
 use Rattle.abi_machine.specs.Finding.{subtask_at, set_at, waitable_at, end_at}
@@ -70,7 +70,8 @@ use Rattle.abi_machine.specs.replies.Waiting.{set_new_turn, none_ready, by_ready
 use Rattle.abi_machine.specs.replies.Streams.{end_ref, both_indices, ends_added, channel_new_turn, placed_well, max_length, copy_turn, is_async_copy, copy_cancel_turn, is_unwritten, end_drop_turn}
 use Rattle.abi_machine.specs.Reply.{resource_turn, plain_turn, side_of, copy_size, end_turn, builtin_turn, reply, exempt_turn, allowed, calling_turn}
 use Rattle.abi_machine.specs.sound.Changes.{AddsEntry, MakesSet, RemovesEntry, RemovesWaitable, LeavesSet, JoinsSet, HasBackpressure, Cancels, Resolves as IsResolved, HasWord, MakesChannel, Concludes, DropsEnd, after, IsWaitable, Stands}
-use Rattle.abi_machine.specs.sound.Premises.{IsSizeIn}
+use Rattle.laid_types.specs.Handles.{held_borrow}
+use Rattle.abi_machine.specs.sound.Premises.{IsSizeIn, passed_type, GraphPassesBorrow}
 use Rattle.tasks.specs.declared.event.TaskTrap.{TaskTrap}
 use Rattle.tasks.specs.declared.event.TaskTrap.TheVariants.{SyncTask, NotAsked as NeverTold}
 use Rattle.tasks.specs.Views.{TaskView}
@@ -78,12 +79,12 @@ use Rattle.stream_ends.specs.declared.stream_end.End.{End}
 use Rattle.builtin_kinds.specs.declared.EndKind.TheVariants.{Stream, Future}
 use Rattle.abi_machine.specs.sound.Firsts.{TaskIs, IsActing}
 use Rattle.abi_machine.specs.sound.Changes.{IsFirst}
-use Rattle.abi_machine.proofs.sound.Found.{renamed_ok, acting_first, acting_is, now_cancels, dropped_left, waitable_stands, set_stands, set_empty, set_few, inc_few, dec_few}
+use Rattle.abi_machine.proofs.sound.Found.{some_same, renamed_ok, acting_first, acting_is, now_cancels, dropped_free, waitable_stands, set_stands, set_empty, set_few, inc_few, dec_few}
 use Rattle.abi_machine.proofs.sound.Takeable.{subtask_taken, end_found}
 use Rattle.abi_machine.proofs.sound.Acted.{one_task, first_at, changed_where}
 use Rattle.abi_machine.proofs.sound.Entries.{right_true, not_false, asked_is, told_is, unasked_is, unresolved_is}
-use Rattle.abi_machine.proofs.sound.turns.Keeping.{Invariant, Keeps, Acted, given_keeps, behind_keeps, either_keeps, stay, acts, goes, goes_on, refused_keeps, unless_keeps, fault_keeps, on_keeps, blocked_keeps, entry_keeps, new_stack_keeps}
-use Rattle.abi_machine.proofs.sound.turns.Moving.{ActsLike, acts_like, no_fault, result_comes, resolves_keeps}
+use Rattle.abi_machine.proofs.sound.turns.Keeping.{Invariant, Keeps, Acted, given_keeps, behind_keeps, either_keeps, stay, goes, goes_on, refused_keeps, unless_keeps, fault_keeps, on_keeps, blocked_keeps, entry_keeps, new_stack_keeps}
+use Rattle.abi_machine.proofs.sound.turns.Moving.{ActsLike, acts_like, no_fault, no_borrows, result_comes, resolves_keeps}
 use Rattle.abi_machine.proofs.sound.turns.Waking.{IsToCancel, call_keeps, with_keeps, none_keeps, cancel_keeps, yielded_keeps, cancelled_keeps}
 use Rattle.abi_machine.proofs.sound.turns.Nesting.{exempt_keeps, meets_keeps}
 
@@ -96,10 +97,10 @@ no_cancel_if true told o e = cc
 no_cancel_if false true o e = (refl, e)
 no_cancel_if false false o e = cc
 
-no_cancel_fault : (v : TaskView) → cancel_fault v ≡ None → (v.cancellation ≡ cancellation.Delivered) × (v.resolution ≡ None)
+no_cancel_fault : (v : TaskView) → cancel_fault v ≡ None → (v.cancellation ≡ cancellation.Delivered) × (v.resolution ≡ None) × (v.borrows ≡ 0)
 no_cancel_fault v e =
     let free = no_cancel_if (is_sync v.kind) (is_told v.cancellation) (resolving_fault v) e in
-    (told_is v.cancellation free.0, no_fault v free.1)
+    (told_is v.cancellation free.0, no_fault v free.1, no_borrows v free.1)
 
 not_copying : (o : Option OpenCopy) → is_some o ≡ false → o ≡ None
 not_copying None e = refl
@@ -119,6 +120,10 @@ end_same w v e streams futures = ap (channel_end e.side) (by e.kind)
     by : (kind : EndKind) → channel_at v kind e.number ≡ channel_at w kind e.number
     by Stream = ap (λ (l : List Channel). numbered l e.number) streams
     by Future = ap (λ (l : List Channel). numbered l e.number) futures
+
+-- A destructor has no result.
+no_result : (i : ℕ) (ref : FuncRef) (f : Lifted) → (let o : Option Lifted = Some (destructor_of i ref) in o) ≡ Some f → held_borrow f.func_type.result ≡ true → ⊥
+no_result i ref f e b = (let none : held_borrow (destructor_of i ref).func_type.result ≡ true = subst (λ (x : Lifted). held_borrow x.func_type.result ≡ true) (sym (some_same e)) b in cc)
 
 -- The task that another one begins to cancel.
 to_cancel : (w : World) (t callee number : ℕ) (words : List ℕ) (task : Task) → task_at w callee ≡ Some task → TaskIs w.tasks t IsActing → task.resolution ≡ None → task.cancellation ≡ cancellation.NotAsked
@@ -148,7 +153,7 @@ module _ {g : Graph} {s : Script} (inv : Invariant g s) where
       unless_keeps inv t (not (nat_eq r.instance i) && is_reentrant w r.instance t) trap.Reentrant w (replied t [] w) h (λ e. on_keeps inv t [] w h)
   destroyed_keeps t i number words resource r (Some ref) rep w there first free h =
       either_keeps inv (nat_eq r.instance i) _ _ (λ e. given_keeps inv (found_at w.store.funcs (func_address w.store ref)) _ (λ function j. new_stack_keeps inv t _ w h))
-      (λ e. call_keeps inv t number words _ _ (rep ∷ []) w refl there first free h)
+      (λ e. call_keeps inv t number words (Destroys resource (destructor_of r.instance ref)) (destructor_of r.instance ref) (rep ∷ []) w refl (λ b. absurd (no_result r.instance ref b.0 b.1 b.2)) there first free h)
 
   dropped_keeps : (t i number : ℕ) (words : List ℕ) (x : Handle) (o : Ownership) (w : World) → IsSome (task_at w t) → IsFirst t w.chain → may_leave w ≡ true → Acted inv w → Keeps inv (dropped g t i number words x o w)
   unfolding dropped
@@ -161,17 +166,18 @@ module _ {g : Graph} {s : Script} (inv : Invariant g s) where
       let answer : Result Handle TrapName = renamed refusal_name (dropped_in (view_at w i (slice_index words 0)) resource) in
       refused_keeps inv t answer w (λ x. dropped g t i number words x x.ownership (entry_removed i (slice_index words 0) w)) h (λ x e.
       dropped_keeps t i number words x x.ownership (entry_removed i (slice_index words 0) w) there first free
-      (stay inv (RemovesEntry i (slice_index words 0)) w tt (dropped_left w i (slice_index words 0) resource x (renamed_ok refusal_name (dropped_in (view_at w i (slice_index words 0)) resource) x e)) h))
+      (stay inv (RemovesEntry i (slice_index words 0)) w tt (dropped_free w i (slice_index words 0) resource x (renamed_ok refusal_name (dropped_in (view_at w i (slice_index words 0)) resource) x e)) h))
 
-  return_keeps : (t : ℕ) (task : Task) (i : ℕ) (result : Option ValType) (options : Options) (words : List ℕ) (w : World) → ActsLike t task w → Acted inv w → Keeps inv (return_turn g t task i result options words w)
+  return_keeps : (t : ℕ) (task : Task) (i : ℕ) (result : Option ValType) (options : Options) (words : List ℕ) (w : World) → (held_borrow result ≡ true → GraphPassesBorrow g) → ActsLike t task w → Acted inv w
+      → Keeps inv (return_turn g t task i result options words w)
   unfolding return_turn return_checked
-  return_keeps t task i result options words w like h =
+  return_keeps t task i result options words w returns like h =
       let answers : Turn = resolves g t task Replies (result_passed i t flat_param_limit result options words w) in
       let apart : Lifted → Bool = λ f. not (same_address (memory_of w.store options) (memory_of w.store f.options)) in
       fault_keeps inv t task_name (asking_fault (task_view g w t task)) w _ h (λ none. given_keeps inv (func_of task.callee) _ (λ f e.
       unless_keeps inv t (not (same_held result f.func_type.result)) trap.WrongResult w (unless t (apart f) trap.WrongOptions w answers) h (λ j.
       unless_keeps inv t (apart f) trap.WrongOptions w answers h (λ k.
-      resolves_keeps inv t task Replies _ (result_comes inv i t _ task result options words w h like)))))
+      resolves_keeps inv t task Replies _ (result_comes inv i t _ task result options words w (λ v l b. inl (returns b)) h like)))))
 
   task_cancel_keeps : (t : ℕ) (task : Task) (w : World) → slice_get w.tasks t ≡ Some task → IsFirst t w.chain → Acted inv w → Keeps inv (task_cancel_turn g t task w)
   unfolding task_cancel_turn
@@ -179,7 +185,7 @@ module _ {g : Graph} {s : Script} (inv : Invariant g s) where
       fault_keeps inv t task_name (cancel_fault (task_view g w t task)) w _ h (λ none.
       let free = no_cancel_fault (task_view g w t task) none in
       on_keeps inv t [] (resolved t Cancelled w)
-      (stay inv (IsResolved t Cancelled) w tt (task, there, (one_task w.tasks t IsActing task there (first_at w.tasks w.chain t IsActing first h.1), free.1, free.0)) h))
+      (stay inv (IsResolved t Cancelled) w tt ((task, there, (one_task w.tasks t IsActing task there (first_at w.tasks w.chain t IsActing first h.1), free.1, free.0)), free.2) h))
 
   yield_keeps : (t : ℕ) (task : Task) (number : ℕ) (cancellable : Bool) (words : List ℕ) (w : World) → slice_get w.tasks t ≡ Some task → IsFirst t w.chain → may_leave w ≡ true → Acted inv w → Keeps inv (yield_turn t task number cancellable words w)
   unfolding yield_turn
@@ -225,7 +231,7 @@ module _ {g : Graph} {s : Script} (inv : Invariant g s) where
       refused_keeps inv t (set_at w i index) w _ h (λ set e.
       refused_keeps inv t (renamed set_name (drop_answer (view_of_set w i index set))) w (λ done. replied t [] (entry_removed i index w)) h (λ done f.
       on_keeps inv t [] (entry_removed i index w)
-      (stay inv (RemovesEntry i index) w tt (OfSet set, set_stands w i index set e, set_empty (view_of_set w i index set) done (renamed_ok set_name (drop_answer (view_of_set w i index set)) done f)) h)))
+      (stay inv (RemovesEntry i index) w tt (OfSet set, set_stands w i index set e, (set_empty (view_of_set w i index set) done (renamed_ok set_name (drop_answer (view_of_set w i index set)) done f), tt)) h)))
 
   joins_keeps : (t i index other : ℕ) (w : World) → Stands w i index IsWaitable → Acted inv w → Keeps inv (joins t i index other w)
   unfolding joins
@@ -238,11 +244,11 @@ module _ {g : Graph} {s : Script} (inv : Invariant g s) where
   unfolding join_turn
   join_keeps t i index other w h = refused_keeps inv t (waitable_at w i index) w _ h (λ there e. joins_keeps t i index other w (waitable_stands w i index there e) h)
 
-  new_ends_keep : (t i : ℕ) (kind : EndKind) (element : Option ValType) (w : World) → Acted inv w → Keeps inv (channel_new_turn t i kind element w)
+  new_ends_keep : (t i : ℕ) (kind : EndKind) (element : Option ValType) (w : World) → (held_borrow element ≡ true → GraphPassesBorrow g) → Acted inv w → Keeps inv (channel_new_turn t i kind element w)
   unfolding channel_new_turn ends_added
-  new_ends_keep t i kind element w h =
+  new_ends_keep t i kind element w passes h =
       let v : World = channel_made kind element w in
-      let j : Acted inv v = stay inv (MakesChannel kind element) w tt tt h in
+      let j : Acted inv v = stay inv (MakesChannel kind element) w tt passes h in
       let readable : Entry = OfEnd (end_ref kind (length (channels kind w) + 1) Reader) in
       let writable : Entry = OfEnd (end_ref kind (length (channels kind w) + 1) Writer) in
       let both : ℕ → World → Turn = λ first u. with_entry t i writable u (λ second x. replied t (both_indices first second ∷ []) x) in
@@ -365,26 +371,26 @@ module _ {g : Graph} {s : Script} (inv : Invariant g s) where
   plain_keeps t task i number plain.WaitableSetDrop words w there first free h = set_drop_keeps t i (slice_index words 0) w h
   plain_keeps t task i number plain.WaitableJoin words w there first free h = join_keeps t i (slice_index words 0) (slice_index words 1) w h
 
-  ends_keep : (t i number : ℕ) (kind : EndKind) (element : Option ValType) (op : EndOp) (words : List ℕ) (w : World) → IsSome (canon_at g number) → IsSome (task_at w t) → IsFirst t w.chain → may_leave w ≡ true → Acted inv w → Keeps inv (end_turn g t i number kind element op words w)
+  ends_keep : (t i number : ℕ) (kind : EndKind) (element : Option ValType) (op : EndOp) (words : List ℕ) (w : World) → (held_borrow element ≡ true → GraphPassesBorrow g) → IsSome (canon_at g number) → IsSome (task_at w t) → IsFirst t w.chain → may_leave w ≡ true → Acted inv w → Keeps inv (end_turn g t i number kind element op words w)
   unfolding end_turn
-  ends_keep t i number kind element end_op.New words w made there first free h = new_ends_keep t i kind element w h
-  ends_keep t i number kind element (end_op.Copy side options) words w made there first free h = copy_keeps t i number kind (side_of side) element options words (copy_size kind words) w made (size_fits kind words) there first free h
-  ends_keep t i number kind element (end_op.Cancel side is_async) words w made there first free h = copy_cancel_keeps t i kind (side_of side) element (slice_index words 0) w h
-  ends_keep t i number kind element (end_op.Drop side) words w made there first free h = end_drop_keeps t i kind (side_of side) element (slice_index words 0) w h
+  ends_keep t i number kind element end_op.New words w passes made there first free h = new_ends_keep t i kind element w passes h
+  ends_keep t i number kind element (end_op.Copy side options) words w passes made there first free h = copy_keeps t i number kind (side_of side) element options words (copy_size kind words) w made (size_fits kind words) there first free h
+  ends_keep t i number kind element (end_op.Cancel side is_async) words w passes made there first free h = copy_cancel_keeps t i kind (side_of side) element (slice_index words 0) w h
+  ends_keep t i number kind element (end_op.Drop side) words w passes made there first free h = end_drop_keeps t i kind (side_of side) element (slice_index words 0) w h
 
-  builtin_keeps : (t : ℕ) (task : Task) (i number : ℕ) (b : BuiltinKind) (words : List ℕ) (w : World) → IsSome (canon_at g number) → slice_get w.tasks t ≡ Some task → IsFirst t w.chain → may_leave w ≡ true → Acted inv w → Keeps inv (builtin_turn g t task i number b words w)
+  builtin_keeps : (t : ℕ) (task : Task) (i number : ℕ) (b : BuiltinKind) (words : List ℕ) (w : World) → (held_borrow (passed_value b) ≡ true → GraphPassesBorrow g) → IsSome (canon_at g number) → slice_get w.tasks t ≡ Some task → IsFirst t w.chain → may_leave w ≡ true → Acted inv w → Keeps inv (builtin_turn g t task i number b words w)
   unfolding builtin_turn
-  builtin_keeps t task i number (builtin.Resource op resource) words w made there first free h = resource_keeps t i number op resource words w (is_there w.tasks t task there) first free h
-  builtin_keeps t task i number (builtin.TaskReturn result options) words w made there first free h = return_keeps t task i result options words w (acts_like t task w first there) h
-  builtin_keeps t task i number (builtin.Plain op) words w made there first free h = plain_keeps t task i number op words w there first free h
-  builtin_keeps t task i number (builtin.Context op slot) words w made there first free h = tt
-  builtin_keeps t task i number (builtin.Wait op cancellable memory) words w made there first free h = wait_turn_keeps t task i op number words w there first free h
-  builtin_keeps t task i number (builtin.End of_what element op) words w made there first free h = ends_keep t i number of_what element op words w made (is_there w.tasks t task there) first free h
+  builtin_keeps t task i number (builtin.Resource op resource) words w returns made there first free h = resource_keeps t i number op resource words w (is_there w.tasks t task there) first free h
+  builtin_keeps t task i number (builtin.TaskReturn result options) words w returns made there first free h = return_keeps t task i result options words w returns (acts_like t task w first there) h
+  builtin_keeps t task i number (builtin.Plain op) words w returns made there first free h = plain_keeps t task i number op words w there first free h
+  builtin_keeps t task i number (builtin.Context op slot) words w returns made there first free h = tt
+  builtin_keeps t task i number (builtin.Wait op cancellable memory) words w returns made there first free h = wait_turn_keeps t task i op number words w there first free h
+  builtin_keeps t task i number (builtin.End of_what element op) words w returns made there first free h = ends_keep t i number of_what element op words w returns made (is_there w.tasks t task there) first free h
 
-  reply_keeps : (t : ℕ) (task : Task) (number : ℕ) (c : CanonFunc) (words : List ℕ) (w : World) → IsSome (canon_at g number) → slice_get w.tasks t ≡ Some task → IsFirst t w.chain → may_leave w ≡ true → Acted inv w → Keeps inv (reply g t task number c words w)
+  reply_keeps : (t : ℕ) (task : Task) (number : ℕ) (c : CanonFunc) (words : List ℕ) (w : World) → (held_borrow (passed_type c) ≡ true → GraphPassesBorrow g) → IsSome (canon_at g number) → slice_get w.tasks t ≡ Some task → IsFirst t w.chain → may_leave w ≡ true → Acted inv w → Keeps inv (reply g t task number c words w)
   unfolding reply
-  reply_keeps t task number (canon.Lower l) words w made there first free h = call_keeps inv t number words (Func (lifted_of l)) (lifted_of l) words w refl (is_there w.tasks t task there) first free h
-  reply_keeps t task number (canon.Builtin b) words w made there first free h = builtin_keeps t task b.instance number b.kind words w made there first free h
+  reply_keeps t task number (canon.Lower l) words w returns made there first free h = call_keeps inv t number words (Func (lifted_of l)) (lifted_of l) words w refl (λ b. returns (subst (λ (x : Lifted). held_borrow x.func_type.result ≡ true) (sym (some_same b.1)) b.2)) (is_there w.tasks t task there) first free h
+  reply_keeps t task number (canon.Builtin b) words w returns made there first free h = builtin_keeps t task b.instance number b.kind words w returns made there first free h
 
   exempted_keeps : (t : ℕ) (r : Result Answers TrapName) (w : World) → ((answer : Answers) → r ≡ Ok answer → Acted inv answer.world) → Acted inv w → Keeps inv (exempt_turn t r w)
   unfolding exempt_turn
@@ -402,5 +408,5 @@ module _ {g : Graph} {s : Script} (inv : Invariant g s) where
           exempted_keeps a.0 (exempt w) w (λ answer j. exempt_keeps (Acted inv) (λ t slot word v k. stay inv (HasWord t slot word) v tt tt k) a.0 words c exempt f w answer j h) h
       by a e c i None f =
           either_keeps inv (may_leave w) _ _
-          (λ j. reply_keeps a.0 a.1 number c words w (subst (λ (o : Option CanonFunc). IsSome o) (sym i) refl) (acting_is w a e) (acting_first w a e) j h)
+          (λ j. reply_keeps a.0 a.1 number c words w (λ b. inl (number, c, i, b)) (subst (λ (o : Option CanonFunc). IsSome o) (sym i) refl) (acting_is w a e) (acting_first w a e) j h)
           (λ j. goes_on inv (Doomed a.0 trap.CannotLeave) w tt h)

@@ -25,20 +25,22 @@ use Rattle.abi_machine.specs.Choosing.{picks_of, chosen}
 use Rattle.abi_machine.specs.Turn.{Turn, Steps, Ends, Stuck, doomed, behind, given, unless_refused, unless, unless_fault, goes_on_with, blocked, charged, with_entry}
 use Rattle.abi_machine.specs.sound.Firsts.{TaskIs, IsActing, MayBeInside}
 use Rattle.abi_machine.specs.sound.Changes.{IsFirst}
-use Rattle.abi_machine.specs.sound.Changes.{Change, GoesTo, HasStore, SpendsUnit, UsesPicks, TakesItem, BeginsInstance, AddsEntry, MakesSet, RemovesEntry, RemovesWaitable, LeavesSet, JoinsSet, HasBackpressure, IsCalled, Calls, ComesBack, Acts, Begins as IsBegun, Cancels, Blocks, Exits, IsRemoved, Resolves, IsCancelled, HasWord, HasNewStack, HasStack, LosesStack, IsAnswered, IsTold, IsLent, HasResult, MakesChannel, Offers, Transfers, Concludes, DropsEnd, after, Stands, IsLeft, HasFunc, IsBlocked}
-use Rattle.abi_machine.specs.sound.Premises.{IsTaken, BlocksFrom, Comes}
+use Rattle.abi_machine.specs.sound.Changes.{Change, GoesTo, HasStore, SpendsUnit, UsesPicks, TakesItem, BeginsInstance, AddsEntry, MakesSet, RemovesEntry, RemovesWaitable, LeavesSet, JoinsSet, HasBackpressure, IsCalled, Calls, ComesBack, Acts, Begins as IsBegun, Cancels, Blocks, Exits, IsRemoved, Resolves, IsCancelled, HasWord, HasNewStack, HasStack, LosesStack, IsAnswered, IsTold, IsLent, HasResult, MakesChannel, Offers, Transfers, Concludes, DropsEnd, after, Stands, HasFunc, IsBlocked}
+use Rattle.abi_machine.specs.sound.Premises.{IsFree, IsTaken, MayBeLent, BlocksFrom, Comes}
+use Rattle.abi_machine.specs.sound.Entering.{EntersUnresolved}
 use Rattle.abi_machine.specs.sound.Agreeing.{FirstActs, Agrees}
 use Rattle.abi_machine.proofs.sound.Lifts.{Leaves as LeavesWith}
 use Rattle.abi_machine.proofs.sound.Takeable.{behind_agrees}
 use Rattle.abi_machine.proofs.sound.Acted.{now_is, first_still, first_now}
 use Rattle.abi_machine.proofs.sound.Aside.{channel_kept, made_kept}
 
--- what every change keeps, where task 0 instantiates, and a task that runs a start function runs alone
+-- what every change keeps, where task 0 instantiates, a task that runs a start function runs alone, and one that has not entered has not resolved
 pub record Invariant (g : Graph) (s : Script) : Type 1 where
   pub Holds : World → Type 0
   pub stays : (c : Change) (w : World) → Comes g s c w → Holds w → Holds (after c w)
   pub there : (w : World) → Holds w → TaskIs w.tasks 0 (λ task. task.callee ≡ Init)
   pub alone : (w : World) (t : ℕ) (task : Task) (n : ℕ) → Holds w → IsFirst t w.chain → slice_get w.tasks t ≡ Some task → task.state ≡ Begins n → w.chain ≡ 0 ∷ []
+  pub enters : (w : World) (t : ℕ) (task : Task) → Holds w → slice_get w.tasks t ≡ Some task → EntersUnresolved task
 
 pub less : (a b : ℕ) → nat_lt a b ≡ true → a < b
 less a b h = grind (arith, nat_tests)
@@ -207,14 +209,14 @@ module _ {g : Graph} {s : Script} (inv : Invariant g s) where
 
   -- Lifting, with what else it leaves alone.
 
-  pub removes : (i index : ℕ) (w : World) → Stands w i index (IsLeft w i) → Acted w → Acted (entry_removed i index w)
+  pub removes : (i index : ℕ) (w : World) → Stands w i index (IsFree w i index) → Acted w → Acted (entry_removed i index w)
   removes i index w may h = stay (RemovesEntry i index) w tt may h
 
   pub waits : (i index : ℕ) (w : World) → Stands w i index (IsTaken w) → Acted w → Acted (left_set i index (entry_removed i index w))
   waits i index w may h = stay (RemovesWaitable i index) w tt may h
 
-  pub lends : (callee index : ℕ) (w : World) → Acted w → Acted (lent callee index w)
-  lends callee index w h = stay (IsLent callee index) w tt tt h
+  pub lends : (callee index : ℕ) (w : World) → MayBeLent g w callee index → Acted w → Acted (lent callee index w)
+  lends callee index w may h = stay (IsLent callee index) w tt may h
 
   pub came_keeps : {A : Type 0} (P : World → Type 0) (t : ℕ) (came : Came A) (more : A → World → Turn) → ((w : World) → P w → Acted w)
       → LeavesWith (λ (k : Kept). P k.world) (λ (stop : Stopped). P stop.world) came → ((x : A) (k : Kept) → came ≡ Ok (x, k) → P k.world → Keeps (more x k.world)) → Keeps (once_lifted t came more)

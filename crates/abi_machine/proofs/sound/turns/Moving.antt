@@ -1,5 +1,6 @@
 -- How tasks resolve and exit, the moves of core functions, and instantiation keep what every change keeps.
-use Rattle.std.proofs.Common.{◌≡◌, inl, inr, ℕ, ◌+◌, Bool, nat_lt, List, [], ◌∷◌, drop, refl, sym, ap, ◌∙◌, subst, Option, Some, None, Result, Ok, Err, if◌then◌else◌}
+use Rattle.std.proofs.Common.{◌≡◌, inl, inr, ℕ, ◌+◌, Bool, true, false, nat_lt, List, [], ◌∷◌, drop, refl, sym, ap, ◌∙◌, subst, Option, Some, None, Result, Ok, Err, if◌then◌else◌, arith}
+use Rattle.std.proofs.lemmas.Bool.Decides.{nat_tests}
 use Rattle.std.specs.Prelude.{IsSome, is_none, is_some}
 use Rattle.std.specs.List.{slice_get}
 use Rattle.wasm_store.specs.Store.{found_at}
@@ -42,14 +43,15 @@ use Rattle.abi_machine.specs.Looping.{next_turn, looping_turn}
 use Rattle.abi_machine.specs.CoreSteps.{costs, func_ended, stack_ended, ended_over, moved, running_turn}
 use Rattle.abi_machine.specs.Instantiating.{started_up, made as core_made, action_turn, instantiating_turn}
 use Rattle.abi_machine.specs.sound.Changes.{HasStore, BeginsInstance, Begins as IsBegun, Exits, Resolves as IsResolved, HasStack, LosesStack, after, HasFunc}
-use Rattle.abi_machine.specs.sound.Premises.{MayResolve}
+use Rattle.laid_types.specs.Handles.{held_borrow}
+use Rattle.abi_machine.specs.sound.Premises.{MayResolve, HasBorrowResult, PassBorrow}
 use Rattle.tasks.specs.declared.event.TaskTrap.TheVariants.{Resolved, BorrowLives}
 use Rattle.tasks.specs.declared.phase.Resolution.{Resolution}
 use Rattle.tasks.specs.Views.{TaskView}
 use Rattle.abi_machine.specs.sound.Firsts.{TaskIs, IsActing, MayBeInside}
 use Rattle.abi_machine.specs.sound.Changes.{IsFirst}
 use Rattle.abi_machine.proofs.sound.Lifts.{Leaves as LeavesWith}
-use Rattle.abi_machine.proofs.sound.Found.{acting_first, acting_is, func_changed, some_there}
+use Rattle.abi_machine.proofs.sound.Found.{acting_first, acting_is, func_changed}
 use Rattle.abi_machine.proofs.sound.Takeable.{behind_agrees}
 use Rattle.abi_machine.proofs.sound.Acted.{still_is, now_is, is_as, one_task, first_at, first_now, acting_inside}
 use Rattle.abi_machine.proofs.sound.Lifted.{result_keeps}
@@ -57,18 +59,29 @@ use Rattle.abi_machine.proofs.sound.turns.Keeping.{Invariant, HasActing, Keeps, 
 
 -- what a task keeps while something is lifted for it
 abbrev pub IsLike : Task → Task → Type 0
-IsLike task x = (x.resolution ≡ task.resolution) × (x.cancellation ≡ task.cancellation)
+IsLike task x = (x.resolution ≡ task.resolution) × (x.cancellation ≡ task.cancellation) × (x.callee ≡ task.callee)
 
 -- it acts, and is still like this task
 abbrev pub ActsLike : ℕ → Task → World → Type 0
 ActsLike t task w = IsFirst t w.chain × TaskIs w.tasks t (IsLike task)
 
 pub acts_like : (t : ℕ) (task : Task) (w : World) → IsFirst t w.chain → slice_get w.tasks t ≡ Some task → ActsLike t task w
-acts_like t task w first there = (first, (task, there, (refl, refl)))
+acts_like t task w first there = (first, (task, there, (refl, refl, refl)))
 
 is_unresolved : (o : Option Resolution) (borrows : Bool) → (if is_some o then Some Resolved else (if borrows then Some BorrowLives else None)) ≡ None → o ≡ None
 is_unresolved None borrows e = refl
 is_unresolved (Some r) borrows e = cc
+
+none_borrowed : (o : Option Resolution) (borrows : Bool) → (if is_some o then Some Resolved else (if borrows then Some BorrowLives else None)) ≡ None → borrows ≡ false
+none_borrowed None true e = cc
+none_borrowed None false e = refl
+none_borrowed (Some r) borrows e = cc
+
+none_more : (n : ℕ) → nat_lt 0 n ≡ false → n ≡ 0
+none_more n e = grind (arith, nat_tests)
+
+pub no_borrows : (v : TaskView) → resolving_fault v ≡ None → v.borrows ≡ 0
+no_borrows v e = none_more v.borrows (none_borrowed v.resolution (nat_lt 0 v.borrows) e)
 
 -- Where nothing keeps a task from resolving it has not resolved.
 pub no_fault : (v : TaskView) → resolving_fault v ≡ None → v.resolution ≡ None
@@ -97,11 +110,13 @@ module _ {g : Graph} {s : Script} (inv : Invariant g s) where
   abbrev pub WhileLifted : ℕ → Task → World → Type 0
   WhileLifted t task w = Acted inv w × ActsLike t task w
 
-  pub result_comes : (i t limit : ℕ) (task : Task) (type : Option ValType) (options : Options) (words : List ℕ) (w : World) → Acted inv w → ActsLike t task w
+  pub result_comes : (i t limit : ℕ) (task : Task) (type : Option ValType) (options : Options) (words : List ℕ) (w : World)
+      → ((v : World) → ActsLike t task v → held_borrow type ≡ true → PassBorrow g v) → Acted inv w → ActsLike t task w
       → LeavesWith (λ (k : Kept). WhileLifted t task k.world) (λ (stop : Stopped). WhileLifted t task stop.world) (result_passed i t limit type options words w)
-  result_comes i t limit task type options words w h like =
-      result_keeps (WhileLifted t task) (λ j index v may k. (removes inv j index v may k.0, k.1)) (λ j index v may k. (waits inv j index v may k.0, k.1))
-      (λ callee index v k. (lends inv callee index v k.0, (k.1.0, still_is v.tasks callee t _ (IsLike task) (λ x l. l) k.1.1))) i t limit type options words w (h, like)
+  result_comes i t limit task type options words w passes h like =
+      result_keeps i t (WhileLifted t task) (held_borrow type ≡ true) (λ j index v may k. (removes inv j index v may k.0, k.1)) (λ j index v may k. (waits inv j index v may k.0, k.1))
+      (λ index v used there k. (lends inv t index v (i, there, inr (passes v k.1 used)) k.0, (k.1.0, still_is v.tasks t t _ (IsLike task) (λ x l. l) k.1.1)))
+      limit type (λ b. b) options words w (h, like)
 
   resolvable : (t : ℕ) (task : Task) (w : World) → HasActing w → ActsLike t task w → task.resolution ≡ None → TaskIs w.tasks t (MayResolve Returned)
   resolvable t task w works like none =
@@ -113,7 +128,7 @@ module _ {g : Graph} {s : Script} (inv : Invariant g s) where
       fault_keeps inv t task_name (resolving_fault (task_view g w t task)) w _ i.0 (λ none.
       behind_keeps inv (line.Return t result ∷ []) (passed_on g t task.caller follows result (resolved t Returned w))
       (passed_keeps t task.caller follows result (resolved t Returned w)
-      (stay inv (IsResolved t Returned) w tt (resolvable t task w i.0.1 i.1 (no_fault (task_view g w t task) none)) i.0)))
+      (stay inv (IsResolved t Returned) w tt (resolvable t task w i.0.1 i.1 (no_fault (task_view g w t task) none), no_borrows (task_view g w t task) none) i.0)))
 
   pub resolves_keeps : (t : ℕ) (task : Task) (follows : After) (came : Came (Option TypedValue))
       → LeavesWith (λ (k : Kept). WhileLifted t task k.world) (λ (stop : Stopped). WhileLifted t task stop.world) came → Keeps inv (resolves g t task follows came)
@@ -148,11 +163,16 @@ module _ {g : Graph} {s : Script} (inv : Invariant g s) where
   looping_keeps t task i [] w first runs h = tt
   looping_keeps t task i (word ∷ words) w first runs h = next_keeps t task i word (callback_of word) w first runs h
 
-  func_keeps : (t : ℕ) (task : Task) (f : Lifted) (kind : Kind) (words : List ℕ) (w : World) → ActsLike t task w → HasFunc w.tasks t → Acted inv w → Keeps inv (func_ended g t task f kind words w)
+  result_borrowed : (t : ℕ) (task : Task) (f : Lifted) (w : World) → func_of task.callee ≡ Some f → ActsLike t task w → held_borrow f.func_type.result ≡ true → PassBorrow g w
+  result_borrowed t task f w is like b = inr (inl (t, is_as w.tasks t (IsLike task) HasBorrowResult (λ x k. (f, ap func_of k.2 ∙ is, b)) like.1))
+
+  func_keeps : (t : ℕ) (task : Task) (f : Lifted) (kind : Kind) (words : List ℕ) (w : World) → func_of task.callee ≡ Some f → ActsLike t task w → HasFunc w.tasks t → Acted inv w
+      → Keeps inv (func_ended g t task f kind words w)
   unfolding func_ended returning_turn
-  func_keeps t task f Sync words w like runs h = resolves_keeps t task (Finishes words) _ (result_comes f.instance t _ task f.func_type.result f.options words w h like)
-  func_keeps t task f Stackful words w like runs h = ending_keeps t task w h
-  func_keeps t task f Callback words w like runs h = looping_keeps t task f.instance words w like.0 runs h
+  func_keeps t task f Sync words w is like runs h =
+      resolves_keeps t task (Finishes words) _ (result_comes f.instance t _ task f.func_type.result f.options words w (λ v l b. result_borrowed t task f v is l b) h like)
+  func_keeps t task f Stackful words w is like runs h = ending_keeps t task w h
+  func_keeps t task f Callback words w is like runs h = looping_keeps t task f.instance words w like.0 runs h
 
   stack_keeps : (t : ℕ) (task : Task) (state : TaskState) (words : List ℕ) (w : World) → ActsLike t task w → (IsSome (func_of task.callee) → HasFunc w.tasks t)
       → ((n : ℕ) → state ≡ Begins n → w.chain ≡ 0 ∷ []) → Acted inv w → Keeps inv (stack_ended g t task state words w)
@@ -160,7 +180,7 @@ module _ {g : Graph} {s : Script} (inv : Invariant g s) where
   stack_keeps t task (Begins n) words w like runs alone h =
       goes inv (Instantiates n) (in_state t Acting w) (alone n refl) (acts inv t w (like.0, is_as w.tasks t IsActing (MayBeInside w.tasks) (λ x k. inl (acting_inside x k)) (first_at w.tasks w.chain t IsActing like.0 h.1)) h.0).0
   stack_keeps t task Acting words w like runs alone h =
-      given_keeps inv (func_of task.callee) _ (λ f e. func_keeps t task f (kind_of task) words w like (runs (subst (λ (o : Option Lifted). IsSome o) (sym e) refl)) h)
+      given_keeps inv (func_of task.callee) _ (λ f e. func_keeps t task f (kind_of task) words w e like (runs (subst (λ (o : Option Lifted). IsSome o) (sym e) refl)) h)
   stack_keeps t task IsNew words w like runs alone h = tt
   stack_keeps t task (AfterCall callee number others) words w like runs alone h = tt
   stack_keeps t task (AfterCancel callee number others) words w like runs alone h = tt
@@ -181,7 +201,7 @@ module _ {g : Graph} {s : Script} (inv : Invariant g s) where
       goes_on inv Runs (after (HasStack t k) (with_store store w)) tt (stay inv (HasStack t k) (with_store store w) tt tt (stay inv (HasStore store) w tt tt h))
   move_keeps t task (core.Calls address words k) w first there alone h = goes_on inv (control.Calls address words) (after (HasStack t k) w) tt (stay inv (HasStack t k) w tt tt h)
   move_keeps t task (core.Ends words) w first there alone h =
-      over_keeps t task (drop 1 task.stacks) words (after (LosesStack t) w) (first, still_is w.tasks t t (λ x. record x { stacks = drop 1 x.stacks }) (IsLike task) (λ x k. k) (task, there, (refl, refl)))
+      over_keeps t task (drop 1 task.stacks) words (after (LosesStack t) w) (first, still_is w.tasks t t (λ x. record x { stacks = drop 1 x.stacks }) (IsLike task) (λ x k. k) (task, there, (refl, refl, refl)))
       (λ some. func_changed w.tasks t t (λ x. record x { stacks = drop 1 x.stacks }) (λ x. refl) (task, there, some)) alone (stay inv (LosesStack t) w tt tt h)
   move_keeps t task (Traps why) w first there alone h = goes_on inv (Doomed t (core_name why)) w tt h
   move_keeps t task core.Stuck w first there alone h = tt

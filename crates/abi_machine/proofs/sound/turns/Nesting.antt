@@ -1,5 +1,5 @@
 -- Reads and writes, nested code and lowerings keep what every change keeps.
-use Rattle.std.proofs.Common.{◌≡◌, inl, ℕ, Bool, true, false, nat_eq, nat_lt, List, [], ◌∷◌, length, refl, sym, ap, ◌∙◌, subst, Option, Some, None, Result, Ok, Err, if◌then◌else◌}
+use Rattle.std.proofs.Common.{◌≡◌, inl, inr, ℕ, Bool, true, false, nat_eq, nat_lt, List, [], ◌∷◌, length, refl, sym, ap, ◌∙◌, subst, Option, Some, None, Result, Ok, Err, if◌then◌else◌}
 use Rattle.std.specs.Prelude.{slice_index}
 use Rattle.wasm_store.specs.Store.{found_at}
 use Rattle.wasm_store.specs.Stack.{Stack}
@@ -34,7 +34,8 @@ use Rattle.abi_machine.specs.Nested.{HostedTurn, On, EndsIn, TrapsBy, CallsHost,
 use Rattle.abi_machine.specs.Lowering.{started, lowered, paused, left_by, settled_turn, lowers_turn}
 use Rattle.abi_machine.specs.replies.Context.{Exempt, Answers, rep_answered, context_answer, exempt_kind, exempt_of}
 use Rattle.abi_machine.specs.sound.Changes.{HasStore, AddsEntry, HasWord, HasResult, Offers, Transfers as IsTransferred, after}
-use Rattle.abi_machine.specs.sound.Premises.{IsCall}
+use Rattle.laid_types.specs.Handles.{has_borrow, held_borrow}
+use Rattle.abi_machine.specs.sound.Premises.{HaveBorrowElement, IsCall}
 use Rattle.abi_machine.specs.sound.Agreeing.{IsDueAt, IsDueBehind, IsDueAfter}
 use Rattle.abi_machine.specs.sound.Firsts.{IsActing}
 use Rattle.abi_machine.specs.sound.Changes.{IsFirst}
@@ -42,7 +43,7 @@ use Rattle.abi_machine.proofs.sound.Found.{ok_same, some_same, first_offered, fr
 use Rattle.abi_machine.proofs.sound.Acted.{first_at}
 use Rattle.abi_machine.proofs.sound.Lifted.{elements_keep}
 use Rattle.abi_machine.proofs.sound.turns.Keeping.{Invariant, less, Keeps, Acted, given_keeps, behind_keeps, either_keeps, stay, goes, goes_on, unless_keeps, charged_keeps, on_keeps, blocked_keeps, new_stack_keeps, removes, waits, lends, came_keeps}
-use Rattle.abi_machine.proofs.sound.Due.{met_fits, due_at, lifted_long, values_long, units_long}
+use Rattle.abi_machine.proofs.sound.Due.{met_fits, channel_is, due_at, lifted_long, values_long, units_long}
 use Rattle.abi_machine.proofs.sound.turns.Moving.{finished_keeps}
 
 -- What is answered also where the instance may not be left keeps what words of context keep.
@@ -78,20 +79,25 @@ module _ {g : Graph} {s : Script} (inv : Invariant g s) where
   abbrev IsMoving : EndRef → ℕ → World → Type 0
   IsMoving e count w = Acted inv w × IsDueAt e count w.streams w.futures
 
-  moved_by_keeps : (t : ℕ) (e : EndRef) (call read write : OpenCopy) (reading writing : CanonFunc) (count : ℕ) (element : Option ValType) (w : World) → IsMoving e count w
+  -- and what holds while they are lifted
+  abbrev WhileMoving : EndRef → ℕ → Option ValType → World → Type 0
+  WhileMoving e count element w = IsMoving e count w × (held_borrow element ≡ true → HaveBorrowElement w.streams w.futures)
+
+  moved_by_keeps : (t : ℕ) (e : EndRef) (call read write : OpenCopy) (reading writing : CanonFunc) (count : ℕ) (element : Option ValType) (w : World) → WhileMoving e count element w
       → Keeps inv (moved_by g t e call read write reading writing count element w)
   unfolding moved_by elements_written elements_read
   moved_by_keeps t e call read write reading writing count None w h =
-      goes inv _ w (h.0.1, subst (λ (n : ℕ). IsDueAt e n w.streams w.futures) (sym (units_long count None)) h.1) h.0.0
+      goes inv _ w (h.0.0.1, subst (λ (n : ℕ). IsDueAt e n w.streams w.futures) (sym (units_long count None)) h.0.1) h.0.0.0
   moved_by_keeps t e call read write reading writing count (Some element) w h =
-      came_keeps inv (IsMoving e count) t (elements_written t write writing count element w) (λ values later. elements_read g t e call.length read reading element values later) (λ v k. k.0)
-      (elements_keep (IsMoving e count) (λ i index v may k. (removes inv i index v may k.0, k.1)) (λ i index v may k. (waits inv i index v may k.0, k.1))
-      (λ callee index v k. (lends inv callee index v k.0, k.1)) (inst_of_canon writing) t element _ _ count w h)
+      came_keeps inv (WhileMoving e count (Some element)) t (elements_written t write writing count element w) (λ values later. elements_read g t e call.length read reading element values later) (λ v k. k.0.0)
+      (elements_keep (inst_of_canon writing) t (WhileMoving e count (Some element)) (has_borrow element ≡ true)
+      (λ i index v may k. ((removes inv i index v may k.0.0, k.0.1), k.1)) (λ i index v may k. ((waits inv i index v may k.0.0, k.0.1), k.1))
+      (λ index v used there k. ((lends inv t index v (inst_of_canon writing, there, inr (inr (inr (k.1 used)))) k.0.0, k.0.1), k.1)) element (λ b. b) _ _ count w h)
       (λ values k comes i.
       goes inv _ k.world
-      (i.0.1, subst (λ (n : ℕ). IsDueAt e n k.world.streams k.world.futures) (sym (values_long values count (lifted_long (inst_of_canon writing) t element _ _ count w values k comes))) i.1) i.0.0)
+      (i.0.0.1, subst (λ (n : ℕ). IsDueAt e n k.world.streams k.world.futures) (sym (values_long values count (lifted_long (inst_of_canon writing) t element _ _ count w values k comes))) i.0.1) i.0.0.0)
 
-  elements_moved_keep : (t : ℕ) (e : EndRef) (call : OpenCopy) (count : ℕ) (element : Option ValType) (offer : OpenCopy) (w : World) → IsMoving e count w → Keeps inv (elements_moved g t e call count element offer w)
+  elements_moved_keep : (t : ℕ) (e : EndRef) (call : OpenCopy) (count : ℕ) (element : Option ValType) (offer : OpenCopy) (w : World) → WhileMoving e count element w → Keeps inv (elements_moved g t e call count element offer w)
   unfolding elements_moved
   elements_moved_keep t e call count element offer w h =
       given_keeps inv (canon_at g (read_of e.side call offer).canon) _ (λ reading i. given_keeps inv (canon_at g (write_of e.side call offer).canon) _ (λ writing j.
@@ -103,7 +109,8 @@ module _ {g : Graph} {s : Script} (inv : Invariant g s) where
   meeting_keeps t e call words index c (AtOnce payload) w there meets may first free h = on_keeps inv t (payload ∷ []) (offered e call w) (stay inv (Offers e call) w tt may h)
   meeting_keeps t e call words index c (Moves count) w there meets may first free h =
       given_keeps inv (other_offer e.side c.ends.view) _ (λ offer i.
-      elements_moved_keep t e call count _ offer w (h, due_at w e c count offer there may.quiet i (met_fits e.kind e.side call c.ends.view count offer meets i)))
+      elements_moved_keep t e call count c.element offer w
+      ((h, due_at w e c count offer there may.quiet i (met_fits e.kind e.side call c.ends.view count offer meets i)), λ b. (e.kind, e.number, c, channel_is e.kind e.number w ∙ there, b)))
   meeting_keeps t e call words index c OfferStands w there meets may first free h =
       let k : Acted inv (offered e call w) = stay inv (Offers e call) w tt may h in
       either_keeps inv (options_at g call.canon).is_async _ _ (λ i. on_keeps inv t (blocked_word ∷ []) (offered e call w) k)

@@ -12,6 +12,7 @@ use Rattle.tasks.specs.declared.event.Asked.{Asked}
 use Rattle.tasks.specs.declared.event.Asked.TheVariants.{Removed, ResumeNow, Pending}
 use Rattle.tasks.specs.declared.phase.Cancellation.TheVariants as cancellation
 use Rattle.tasks.specs.Tasks.{cancel_case, is_asked}
+use Rattle.tasks.specs.Subtasks.{with_lend}
 use Rattle.comp_graph.specs.Graph.{Graph, Lifted}
 use Rattle.script_reader.specs.Script.{Script}
 use Rattle.trace_show.specs.declared.label.Label.TheVariants as line
@@ -19,7 +20,7 @@ use Rattle.trace_show.specs.declared.label.BlockReason.TheVariants as reason
 use Rattle.trace_show.specs.declared.trap.TrapName.TheVariants as trap
 use Rattle.abi_machine.specs.Control.{EndRef, Receiver, InWait, InCallback, EventCode, Control, Arrives, Goes as GoesOn, Resumes, Delivers}
 use Rattle.abi_machine.specs.World.{Entry, OwnHandle, BorrowHandle, OfSubtask, OfSet, OfEnd, Callee, Subtask, Caller, Nobody, Host, Guest, Wait, ForYield, ForSet, ForCall, ForCopy, ForCancel, TaskState, New as IsNew, Acting, AfterCall, AfterCancel, Begins, WaitsToEnter, InLoop, InBuiltin, Exited, Task, World, new_task}
-use Rattle.abi_machine.specs.Edits.{entry_added, in_state, with_cancellation, told, concluded}
+use Rattle.abi_machine.specs.Edits.{entry_added, in_state, with_cancellation, caller_changed, by_view, told, concluded}
 use Rattle.abi_machine.specs.Canons.{func_address, canon_at, options_of_canon, inst_of_canon, options_at, flag_at}
 use Rattle.abi_machine.specs.Reading.{table_of, entry_at, acting, func_of, task_at, subtask_of, is_reentrant, may_leave}
 use Rattle.abi_machine.specs.Counting.{task_view, has_resolved, subtask_state, state_of, payload_of, ready, phase_of}
@@ -32,13 +33,14 @@ use Rattle.abi_machine.specs.Delivering.{number_of, event_line, event_put, callb
 use Rattle.abi_machine.specs.Cancelling.{asked_turn, cancelled_turn, first_of, cancel_open, back_from_cancel, back_to, back_turn}
 use Rattle.abi_machine.specs.Copying.{blocked_word}
 use Rattle.abi_machine.specs.sound.Changes.{Change, HasStore, AddsEntry, Calls, ComesBack, IsRemoved, IsCancelled, IsTold, Concludes, after, IsGuest, HasFunc, FirstCancels}
-use Rattle.abi_machine.specs.sound.Premises.{IsUnasked, IsRemovable}
+use Rattle.abi_machine.specs.sound.Premises.{IsUnasked, IsRemovable, IsOpenCall, IsOpenOf, GraphPassesBorrow, ReturnsBorrow}
+use Rattle.abi_machine.specs.sound.Entering.{HasNotEntered, IsUntold}
 use Rattle.abi_machine.specs.sound.Agreeing.{Agrees}
 use Rattle.entry_gate.specs.Stays.{Inside}
 use Rattle.abi_machine.specs.sound.Firsts.{TaskIs, IsActing, IsActingState, MayBeInside, IsLetIn}
 use Rattle.abi_machine.specs.sound.Changes.{IsFirst}
 use Rattle.abi_machine.proofs.sound.Found.{guest_changed, acting_first, acting_is, acting_func, func_changed, cancels_changed}
-use Rattle.abi_machine.proofs.sound.Acted.{still_is, is_as, first_at, let_in_still, new_first}
+use Rattle.abi_machine.proofs.sound.Acted.{still_is, is_as, one_task, first_at, let_in_still, new_first}
 use Rattle.abi_machine.proofs.sound.Entries.{left_true, asked_is, told_behind, enters_inside, resumes_inside, removed_waits, inside_alike}
 use Rattle.abi_machine.proofs.sound.Lifted.{arguments_keep}
 use Rattle.abi_machine.proofs.sound.turns.Keeping.{Invariant, Keeps, Acted, given_keeps, behind_keeps, either_keeps, stay, acts, goes, goes_on, unless_keeps, chosen_keeps, on_keeps, blocked_keeps, entry_keeps, new_stack_keeps, removes, waits, lends, came_keeps}
@@ -48,44 +50,66 @@ abbrev pub IsToCancel : ℕ → Task → World → Type 0
 IsToCancel t task w =
     TaskIs w.tasks t (λ x. (x.callee ≡ task.callee) × (x.resolution ≡ None) × (x.cancellation ≡ cancellation.NotAsked) × ((x.state ≡ task.state) ⊎ IsActing task))
 
+-- A call is open still where a handle is lent for it.
+open_lent : (number handle t : ℕ) (c : Caller) → IsOpenCall number c → IsOpenCall number (caller_changed (λ subtask. by_view (with_lend handle) t subtask.told subtask) c)
+open_lent number handle t Nobody h = h
+open_lent number handle t (Host call values) h = h
+open_lent number handle t (Guest subtask) h = h
+
 module _ {g : Graph} {s : Script} (inv : Invariant g s) where
   -- Tasks enter.
 
-  called_keeps : (t : ℕ) (f : Lifted) (caller : Caller) (w : World) → Acted inv w → Keeps inv (arguments_turn g t f caller w)
-  unfolding arguments_turn with_arguments arguments_passed
-  called_keeps t f Nobody w h = tt
-  called_keeps t f (Host call values) w h = goes inv _ w (h.1, tt) h.0
-  called_keeps t f (Guest subtask) w h =
-      given_keeps inv (canon_at g subtask.canon) _ (λ c e.
-      came_keeps inv (Acted inv) t (arguments_passed t f subtask c w) (λ v later. with_arguments g t f v later) (λ v k. k)
-      (arguments_keep (Acted inv) (removes inv) (waits inv) (lends inv) (inst_of_canon c) t (options_of_canon c).is_async f.func_type _ subtask.words w h)
-      (λ v k comes i. goes inv _ k.world (i.1, tt) i.0))
+  -- what holds while the arguments of a call are lifted
+  abbrev Enters : ℕ → ℕ → World → Type 0
+  Enters t number w = Acted inv w × TaskIs w.tasks t (IsOpenOf number)
 
-  entered_keeps : (t : ℕ) (task : Task) (f : Lifted) (w : World) → IsFirst t w.chain → IsLetIn w.tasks t → inv.Holds w → Keeps inv (entered g t task f w)
+  called_keeps : (t : ℕ) (f : Lifted) (caller : Caller) (w : World) → TaskIs w.tasks t (λ x. x.caller ≡ caller) → IsUntold caller → Acted inv w → Keeps inv (arguments_turn g t f caller w)
+  unfolding arguments_turn with_arguments arguments_passed
+  called_keeps t f Nobody w own untold h = tt
+  called_keeps t f (Host call values) w own untold h = goes inv _ w (h.1, tt) h.0
+  called_keeps t f (Guest subtask) w own untold h =
+      given_keeps inv (canon_at g subtask.canon) _ (λ c e.
+      came_keeps inv (Enters t subtask.canon) t (arguments_passed t f subtask c w) (λ v later. with_arguments g t f v later) (λ v k. k.0)
+      (arguments_keep (inst_of_canon c) t (Enters t subtask.canon) (Unit {0}) (λ j index v may k. (removes inv j index v may k.0, k.1)) (λ j index v may k. (waits inv j index v may k.0, k.1))
+      (λ index v used there k. (
+        lends inv t index v (inst_of_canon c, there, inl (subtask.canon, c, e, refl, k.1)) k.0,
+        still_is v.tasks t t _ (IsOpenOf subtask.canon) (λ x l. open_lent subtask.canon index t x.caller l) k.1,
+      ))
+      (options_of_canon c).is_async f.func_type (λ b. tt) _ subtask.words w
+      (h, is_as w.tasks t (λ x. x.caller ≡ Guest subtask) (IsOpenOf subtask.canon) (λ x k. subst (IsOpenCall subtask.canon) (sym k) (refl, untold)) own))
+      (λ v k comes i. goes inv _ k.world (i.0.1, tt) i.0.0))
+
+  entered_keeps : (t : ℕ) (task : Task) (f : Lifted) (w : World) → IsFirst t w.chain → IsLetIn w.tasks t → slice_get w.tasks t ≡ Some task → HasNotEntered task.state → inv.Holds w
+      → Keeps inv (entered g t task f w)
   unfolding entered
-  entered_keeps t task f w first lets h =
-      behind_keeps inv (line.Enter t ∷ []) (arguments_turn g t f task.caller (in_state t Acting w)) (called_keeps t f task.caller (in_state t Acting w) (acts inv t w (first, lets) h))
+  entered_keeps t task f w first lets there new h =
+      behind_keeps inv (line.Enter t ∷ []) (arguments_turn g t f task.caller (in_state t Acting w))
+      (called_keeps t f task.caller (in_state t Acting w) (still_is w.tasks t t (λ x. record x { state = Acting }) (λ x. x.caller ≡ task.caller) (λ x k. k) (task, there, refl))
+      (inv.enters w t task h there new).1 (acts inv t w (first, lets) h))
 
   pub arriving_keeps : (w : World) → Agrees Arrives w → inv.Holds w → Keeps inv (arriving_turn g w)
   unfolding arriving_turn
   arriving_keeps w says h =
       given_keeps inv (acting w) _ (λ a e. given_keeps inv (func_of a.1.callee) _ (λ f i.
       either_keeps inv (may_arrive w f.instance a.1) (entered g a.0 a.1 f w) (blocked a.0 WaitsToEnter reason.Entry w)
-      (λ j. entered_keeps a.0 a.1 f w (acting_first w a e) (a.1, acting_is w a e, enters_inside w a.1 f true i j) h)
+      (λ j.
+      entered_keeps a.0 a.1 f w (acting_first w a e) (a.1, acting_is w a e, enters_inside w a.1 f true i j) (acting_is w a e)
+      (subst HasNotEntered
+      (sym (one_task w.tasks a.0 (λ task. task.state ≡ IsNew) a.1 (acting_is w a e) (first_at w.tasks w.chain a.0 (λ task. task.state ≡ IsNew) (acting_first w a e) says))) tt) h)
       (λ j.
       blocked_keeps inv a.0 WaitsToEnter reason.Entry w (acting_first w a e) tt (inr (acting_func w a f e i))
       (first_at w.tasks w.chain a.0 (λ task. task.state ≡ IsNew) (acting_first w a e) says) h)))
 
   -- Tasks call and are told.
 
-  pub call_keeps : (t number : ℕ) (words : List ℕ) (callee : Callee) (f : Lifted) (passed : List ℕ) (w : World) → func_of callee ≡ Some f → IsSome (task_at w t) → IsFirst t w.chain → may_leave w ≡ true → Acted inv w
+  pub call_keeps : (t number : ℕ) (words : List ℕ) (callee : Callee) (f : Lifted) (passed : List ℕ) (w : World) → func_of callee ≡ Some f → (ReturnsBorrow callee → GraphPassesBorrow g) → IsSome (task_at w t) → IsFirst t w.chain → may_leave w ≡ true → Acted inv w
       → Keeps inv (call_begun t number words callee f passed w)
   unfolding call_begun
-  call_keeps t number words callee f passed w runs there first free h =
+  call_keeps t number words callee f passed w runs passes there first free h =
       unless_keeps inv t (is_reentrant w f.instance t) trap.Reentrant w _ h (λ e.
       let c : Change = Calls number callee (called_by t number passed) words in
       goes inv Arrives (after c w) (new_first _ w.chain (new_task callee (Guest (called_by t number passed)) IsNew) refl)
-      (inv.stays c w (subst (λ (o : Option Lifted). IsSome o) (sym runs) refl, there, first, free, first_at w.tasks w.chain t IsActing first h.1, (refl, refl)) h.0))
+      (inv.stays c w (subst (λ (o : Option Lifted). IsSome o) (sym runs) refl, there, first, free, first_at w.tasks w.chain t IsActing first h.1, (refl, refl), passes) h.0))
 
   subtask_keeps : (i callee : ℕ) (task : Task) (subtask : Subtask) (w : World) → TaskIs w.tasks callee (λ x. subtask_state task ≡ subtask_state x) → Acted inv w
       → Acted inv (subtask_told i callee task subtask w).world
@@ -218,29 +242,29 @@ module _ {g : Graph} {s : Script} (inv : Invariant g s) where
   asked_still t task w there e =
       still_is w.tasks t t (λ x. record x { state = Acting }) (λ x. x.cancellation ≡ cancellation.Asked) (λ x k. k) (task, there, asked_is task.cancellation e)
 
-  resumed_keeps : (t : ℕ) (task : Task) (f : Lifted) (state : TaskState) (w : World) → IsFirst t w.chain → IsLetIn w.tasks t → slice_get w.tasks t ≡ Some task → inv.Holds w
+  resumed_keeps : (t : ℕ) (task : Task) (f : Lifted) (state : TaskState) (w : World) → task.state ≡ state → IsFirst t w.chain → IsLetIn w.tasks t → slice_get w.tasks t ≡ Some task → inv.Holds w
       → Keeps inv (resumed g t task f state w)
   unfolding resumed loop_resumed
-  resumed_keeps t task f WaitsToEnter w first lets there h = entered_keeps t task f w first lets h
-  resumed_keeps t task f (InLoop word) w first lets there h =
+  resumed_keeps t task f WaitsToEnter w is first lets there h = entered_keeps t task f w first lets there (subst HasNotEntered (sym is) tt) h
+  resumed_keeps t task f (InLoop word) w is first lets there h =
       let i : Acted inv (in_state t Acting w) = acts inv t w (first, lets) h in
       either_keeps inv (is_asked task.cancellation) _ _ (λ e. cancel_keeps t f InCallback (in_state t Acting w) (asked_still t task w there e) i)
       (λ e. loop_keeps t f (callback_of word) (in_state t Acting w) i)
-  resumed_keeps t task f (InBuiltin number words wait) w first lets there h =
+  resumed_keeps t task f (InBuiltin number words wait) w is first lets there h =
       wait_keeps t f (is_to_be_told g number wait task w f.instance) number words wait (in_state t Acting w)
       (λ e. asked_still t task w there (left_true (is_asked task.cancellation) _ e)) (acts inv t w (first, lets) h)
-  resumed_keeps t task f IsNew w first lets there h = tt
-  resumed_keeps t task f Acting w first lets there h = tt
-  resumed_keeps t task f (AfterCall callee number words) w first lets there h = tt
-  resumed_keeps t task f (AfterCancel callee number words) w first lets there h = tt
-  resumed_keeps t task f (Begins n) w first lets there h = tt
-  resumed_keeps t task f Exited w first lets there h = tt
+  resumed_keeps t task f IsNew w is first lets there h = tt
+  resumed_keeps t task f Acting w is first lets there h = tt
+  resumed_keeps t task f (AfterCall callee number words) w is first lets there h = tt
+  resumed_keeps t task f (AfterCancel callee number words) w is first lets there h = tt
+  resumed_keeps t task f (Begins n) w is first lets there h = tt
+  resumed_keeps t task f Exited w is first lets there h = tt
 
   pub resuming_keeps : (w : World) → Agrees Resumes w → inv.Holds w → Keeps inv (resuming_turn g w)
   unfolding resuming_turn
   resuming_keeps w says h =
       given_keeps inv (acting w) _ (λ a e. given_keeps inv (func_of a.1.callee) _ (λ f i.
-      resumed_keeps a.0 a.1 f a.1.state w (acting_first w a e) (first_at w.tasks w.chain a.0 (MayBeInside w.tasks) (acting_first w a e) says) (acting_is w a e) h))
+      resumed_keeps a.0 a.1 f a.1.state w refl (acting_first w a e) (first_at w.tasks w.chain a.0 (MayBeInside w.tasks) (acting_first w a e) says) (acting_is w a e) h))
 
   -- Cancellation.
 

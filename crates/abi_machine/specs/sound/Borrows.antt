@@ -1,0 +1,29 @@
+-- Borrows (Component Model, CanonicalABI.md, "Task State": `Task.return_`, `Task.cancel`; `canon resource.drop`, `lift_own`): where a task resolves
+-- by itself no live borrow handle names it, and a handle leaves its table only where nothing is lent of it.
+use Rattle.std.specs.Prelude.{◌≡◌, List, [], ◌∷◌}
+use Rattle.comp_graph.specs.Graph.{Graph}
+use Rattle.script_reader.specs.Script.{Script}
+use Rattle.trace_show.specs.declared.label.Label.{Label}
+use Rattle.abi_machine.specs.World.{World}
+use Rattle.abi_machine.specs.Counting.{borrows_of}
+use Rattle.abi_machine.specs.Turn.{Steps}
+use Rattle.abi_machine.specs.Next.{next}
+use Rattle.abi_machine.specs.sound.Initial.{RunsAlone}
+use Rattle.abi_machine.specs.sound.Changes.{Change, RemovesEntry, Resolves, after, behind_all, Stands, MayAllCome}
+use Rattle.abi_machine.specs.sound.Premises.{IsUnlent}
+
+-- where a change comes
+abbrev pub GivesBack : Change → World → Type 0
+GivesBack (RemovesEntry i index) w = Stands w i index (IsUnlent w i index)
+GivesBack (Resolves t resolution) w = borrows_of w t ≡ 0
+GivesBack change w = Unit {0}
+
+abbrev pub AllGiveBack : List Change → World → Type 0
+AllGiveBack [] w = Unit {0}
+AllGiveBack (change ∷ changes) w = GivesBack change w × AllGiveBack changes (after change w)
+
+-- So it is in every step.
+abbrev pub BorrowsAreGivenBack : Type 0
+BorrowsAreGivenBack =
+    (g : Graph) (s : Script) (w v : World) (labels : List Label) → RunsAlone w → next g s w ≡ Steps labels v
+    → (changes : List Change) × MayAllCome g s changes w × AllGiveBack changes w × (v ≡ behind_all changes w)
