@@ -43,3 +43,4 @@ pub mod Awaited
 pub mod Picking
 pub mod own
 pub mod Owning
+pub mod SetWaiting

@@ -28,3 +28,4 @@ pub mod Loops
 pub mod Subtasks
 pub mod Picked
 pub mod Owners
+pub mod SetWaits

@@ -22,6 +22,7 @@ ghost use Rattle.abi_machine.specs.sound.Borrows.{BorrowsAreGivenBack};
 ghost use Rattle.abi_machine.specs.sound.Loops.{FirstHasLoops, LoopsStay};
 ghost use Rattle.abi_machine.specs.sound.Owners.{FirstIsOwn, OwnStays};
 ghost use Rattle.abi_machine.specs.sound.Picked.{FirstIsPicked, PickedStays};
+ghost use Rattle.abi_machine.specs.sound.SetWaits.{FirstHasSets, SetsStay};
 ghost use Rattle.abi_machine.specs.sound.Subtasks.{FirstHasSubtasks, SubtasksStay};
 
 /// Task 0 instantiates, and runs alone until it has exited; it never runs again, and no other task runs a start function. Control says
@@ -189,4 +190,11 @@ pub fn picked_is_there()
 pub fn definitions_stay_apart()
     ensures first { FirstIsOwn }
     ensures stays { OwnStays }
+{}
+
+/// Where a task waits in a canonical function on a set, the set stands in the table of the component instance whose function it runs: so it is
+/// in the first world, and so it stays in every step, where definitions stay apart.
+pub fn set_waits_stay()
+    ensures first { FirstHasSets }
+    ensures stays { SetsStay }
 {}

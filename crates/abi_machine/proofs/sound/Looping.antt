@@ -39,14 +39,14 @@ one_passes : (b : Bool) (n : ℕ) → b ≡ true → (if b then 1 else 0) + n �
 one_passes true n e h = omega (arith, h)
 one_passes false n e h = cc
 
-none_passes : (test : Task → Bool) (tasks : List Task) (t : ℕ) (task : Task) → slice_get tasks t ≡ Some task → test task ≡ true → count_by test tasks ≡ 0 → ⊥
+pub none_passes : (test : Task → Bool) (tasks : List Task) (t : ℕ) (task : Task) → slice_get tasks t ≡ Some task → test task ≡ true → count_by test tasks ≡ 0 → ⊥
 none_passes test [] t task there passes none = cc
 none_passes test (x ∷ tasks) zero task there passes none =
     one_passes (test x) (count_by test tasks) (ap test (some_same there) ∙ passes) (sym (sum_by-cons (λ (y : Task). if test y then 1 else 0) x tasks) ∙ none)
 none_passes test (x ∷ tasks) (suc t) task there passes none =
     none_passes test tasks t task there passes (let both : (if test x then 1 else 0) + count_by test tasks ≡ 0 = sym (sum_by-cons (λ (y : Task). if test y then 1 else 0) x tasks) ∙ none in omega (arith, both))
 
-equal : (n : ℕ) → nat_eq n n ≡ true
+pub equal : (n : ℕ) → nat_eq n n ≡ true
 equal n = grind (arith, nat_tests)
 
 -- What a callback answered goes on where the sets that it names stay.
@@ -108,14 +108,14 @@ begun_stays tasks insts h = sets_stay tasks insts (insts ++ new_inst ∷ []) (λ
     by j index set (Some inst) k l = subst (λ (o : Option Inst). live (table_in o) index ≡ Some (OfSet set)) (sym (get_front insts new_inst j inst k)) l
 
 -- An entry is removed: no set, or one on which no task waits.
-abbrev IsGone : World → ℕ → ℕ → Type 0
+abbrev pub IsGone : World → ℕ → ℕ → Type 0
 IsGone w i gone = (set : ℕ) → entry_at w i gone ≡ Some (OfSet set) → waiters_of w i gone ≡ 0
 
-runs_here : (i j : ℕ) (o : Option Lifted) (f : Lifted) → o ≡ Some f → f.instance ≡ i → is_in i o ≡ true
+pub runs_here : (i j : ℕ) (o : Option Lifted) (f : Lifted) → o ≡ Some f → f.instance ≡ i → is_in i o ≡ true
 runs_here i j o f e at =
     ap (is_in i) e ∙ (ap (λ (n : ℕ). nat_eq n i) at ∙ equal i)
 
-waits_here : (b c : Bool) → b ≡ true → c ≡ true → (b && c) ≡ true
+pub waits_here : (b c : Bool) → b ≡ true → c ≡ true → (b && c) ≡ true
 waits_here b c e k = ap (λ (x : Bool). x && c) e ∙ k
 
 removed_stays : (w : World) (i gone : ℕ) → IsGone w i gone → HaveLoops w.tasks w.insts → HaveLoops w.tasks (after (RemovesEntry i gone) w).insts
@@ -134,7 +134,7 @@ removed_stays w i gone unwaited h =
 waitable_is_no_set : (entry : Entry) (set : ℕ) → IsWaitable entry → entry ≡ OfSet set → ⊥
 waitable_is_no_set entry set h e = subst IsWaitable e h
 
-waitable_gone : (w : World) (i gone : ℕ) → Stands w i gone IsWaitable → IsGone w i gone
+pub waitable_gone : (w : World) (i gone : ℕ) → Stands w i gone IsWaitable → IsGone w i gone
 waitable_gone w i gone h set e = absurd (waitable_is_no_set h.0 set h.2 (some_same (sym h.1 ∙ e)))
 
 -- Tasks that are changed, so that what is said of them holds, and one more.

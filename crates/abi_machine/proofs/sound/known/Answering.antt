@@ -82,7 +82,7 @@ use Rattle.abi_machine.proofs.sound.own.Belonging.{ref_starts, canon_apart, cano
 use Rattle.abi_machine.proofs.sound.own.Tasks.{calls_here, IsOfFunc}
 use Rattle.abi_machine.proofs.sound.known.Handles.{IsHandle, handle_is_left, handle_unwaited, dropped_found, set_none_wait, subtask_there}
 use Rattle.abi_machine.proofs.sound.known.Unawaited.{standing_unawaited}
-use Rattle.abi_machine.proofs.sound.known.Keeping.{Facts, CallsItsOwn, Walk, Keeps, Held, still, given_keeps, behind_keeps, either_keeps, goes, refused_keeps, unless_keeps, fault_keeps, runs_keeps, on_keeps, blocked_keeps, entry_keeps, acting_stack_keeps, removes, waits, lends}
+use Rattle.abi_machine.proofs.sound.known.Keeping.{Facts, BlocksAs, CallsItsOwn, Walk, Keeps, Held, still, given_keeps, behind_keeps, either_keeps, goes, refused_keeps, unless_keeps, fault_keeps, runs_keeps, on_keeps, blocked_keeps, entry_keeps, acting_stack_keeps, removes, waits, lends}
 use Rattle.abi_machine.proofs.sound.known.Moving.{resolves_keeps}
 use Rattle.abi_machine.proofs.sound.known.Waking.{call_keeps, with_keeps, none_keeps, cancel_keeps, yielded_keeps, acting_cancelled_keeps}
 use Rattle.abi_machine.proofs.sound.acts.Nesting.{exempt_leaves}
@@ -160,30 +160,30 @@ module _ {g : Graph} {s : Script} (walk : Walk g s) where
       entry_keeps walk t i (OfSet set) w (λ index v. replied t (index ∷ []) (set_made i v)) (h.0, h.1.0) (λ few.
       on_keeps walk t (next_index (table_of w i) ∷ []) (set_made i (entry_added i (OfSet set) w)) (still walk true t (MakesSet i set) w (few, refl) tt (λ apart. tt) tt h))
 
-  none_ready_keeps : (t : ℕ) (f : Lifted) (op : WaitOp) (number : ℕ) (words : List ℕ) (w : World) → may_leave w ≡ true → (walk.Apart → CallsItsOwn g number t w) → Is (IsOfFunc f) t w → Held walk true t w → Keeps walk (none_ready g t f op number words w)
+  none_ready_keeps : (t : ℕ) (f : Lifted) (op : WaitOp) (number : ℕ) (words : List ℕ) (w : World) → may_leave w ≡ true → BlocksAs g t (InBuiltin number words (ForSet (slice_index words 0))) w → (walk.Apart → CallsItsOwn g number t w) → Is (IsOfFunc f) t w → Held walk true t w → Keeps walk (none_ready g t f op number words w)
   unfolding none_ready
-  none_ready_keeps t f wait_op.Poll number words w free calls mine h = none_keeps walk t f (InWait number words) w mine h
-  none_ready_keeps t f wait_op.Wait number words w free calls mine h =
-      blocked_keeps walk t (InBuiltin number words (ForSet (slice_index words 0))) (reason.Wait (slice_index words 0)) w h.1.0 tt (inl free) tt calls (as_is (IsActing true) (WaitsWith true) t w (acting_waits true) h.1) h.0
+  none_ready_keeps t f wait_op.Poll number words w free there calls mine h = none_keeps walk t f (InWait number words) w mine h
+  none_ready_keeps t f wait_op.Wait number words w free there calls mine h =
+      blocked_keeps walk t (InBuiltin number words (ForSet (slice_index words 0))) (reason.Wait (slice_index words 0)) w h.1.0 tt (inl free) there calls (as_is (IsActing true) (WaitsWith true) t w (acting_waits true) h.1) h.0
 
-  by_ready_keeps : (t : ℕ) (f : Lifted) (op : WaitOp) (number : ℕ) (words : List ℕ) (set : ℕ) (members : List ℕ) (w : World) → may_leave w ≡ true → (walk.Apart → CallsItsOwn g number t w) → Is (IsOfFunc f) t w → Held walk true t w → Keeps walk (by_ready g t f op number words set members w)
+  by_ready_keeps : (t : ℕ) (f : Lifted) (op : WaitOp) (number : ℕ) (words : List ℕ) (set : ℕ) (members : List ℕ) (w : World) → may_leave w ≡ true → BlocksAs g t (InBuiltin number words (ForSet (slice_index words 0))) w → (walk.Apart → CallsItsOwn g number t w) → Is (IsOfFunc f) t w → Held walk true t w → Keeps walk (by_ready g t f op number words set members w)
   unfolding by_ready
-  by_ready_keeps t f op number words set [] w free calls mine h = none_ready_keeps t f op number words w free calls mine h
-  by_ready_keeps t f op number words set (index ∷ members) w free calls mine h = (goes walk _ w h.0, tt, (t, h.1))
+  by_ready_keeps t f op number words set [] w free there calls mine h = none_ready_keeps t f op number words w free there calls mine h
+  by_ready_keeps t f op number words set (index ∷ members) w free there calls mine h = (goes walk _ w h.0, tt, (t, h.1))
 
-  event_keeps : (t : ℕ) (task : Task) (f : Lifted) (i : ℕ) (op : WaitOp) (number : ℕ) (words : List ℕ) (set : ℕ) (w : World) → may_leave w ≡ true → (walk.Apart → CallsItsOwn g number t w) → Is (IsOfFunc f) t w → Held walk true t w → Keeps walk (event_turn g t task f i op number words set w)
+  event_keeps : (t : ℕ) (task : Task) (f : Lifted) (i : ℕ) (op : WaitOp) (number : ℕ) (words : List ℕ) (set : ℕ) (w : World) → may_leave w ≡ true → BlocksAs g t (InBuiltin number words (ForSet (slice_index words 0))) w → (walk.Apart → CallsItsOwn g number t w) → Is (IsOfFunc f) t w → Held walk true t w → Keeps walk (event_turn g t task f i op number words set w)
   unfolding event_turn
-  event_keeps t task f i op number words set w free calls mine h =
+  event_keeps t task f i op number words set w free there calls mine h =
       let answers : Turn = if is_cancelled g task number then received_cancel g t f (InWait number words) w else by_ready g t f op number words set (ready w i set) w in
       let outside : Bool = not (nat_le (slice_index words 1 + event_size) (length (bytes_of w.store (memory_of w.store (options_at g number))))) in
       unless_keeps walk t (not (nat_eq (slice_index words 1 % event_align) 0)) trap.Misaligned w (unless t outside trap.Bounds w answers) (h.0, h.1.0) (λ j.
       unless_keeps walk t outside trap.Bounds w answers (h.0, h.1.0) (λ k.
-      either_keeps walk (is_cancelled g task number) (received_cancel g t f (InWait number words) w) (by_ready g t f op number words set (ready w i set) w) (λ e. cancel_keeps walk t f (InWait number words) w mine h) (λ e. by_ready_keeps t f op number words set (ready w i set) w free calls mine h)))
+      either_keeps walk (is_cancelled g task number) (received_cancel g t f (InWait number words) w) (by_ready g t f op number words set (ready w i set) w) (λ e. cancel_keeps walk t f (InWait number words) w mine h) (λ e. by_ready_keeps t f op number words set (ready w i set) w free there calls mine h)))
 
-  wait_turn_keeps : (t : ℕ) (task : Task) (i : ℕ) (op : WaitOp) (number : ℕ) (words : List ℕ) (w : World) → may_leave w ≡ true → (walk.Apart → CallsItsOwn g number t w) → Is (λ o. o ≡ outline_of task) t w → Held walk true t w → Keeps walk (wait_turn g t task i op number words w)
+  wait_turn_keeps : (t : ℕ) (task : Task) (i : ℕ) (op : WaitOp) (number : ℕ) (words : List ℕ) (w : World) → may_leave w ≡ true → owner_of_canon g number ≡ Some i → (walk.Apart → CallsItsOwn g number t w) → Is (λ o. o ≡ outline_of task) t w → Held walk true t w → Keeps walk (wait_turn g t task i op number words w)
   unfolding wait_turn
-  wait_turn_keeps t task i op number words w free calls is h =
-      refused_keeps walk t (set_at w i (slice_index words 0)) w _ (h.0, h.1.0) (λ set e. given_keeps walk (func_of task.callee) _ (λ f j. event_keeps t task f i op number words set w free calls (as_is (λ (o : Outline). o ≡ outline_of task) (IsOfFunc f) t w (λ o k. ap (λ (x : Outline). func_of x.callee) k ∙ j) is) h))
+  wait_turn_keeps t task i op number words w free here calls is h =
+      refused_keeps walk t (set_at w i (slice_index words 0)) w _ (h.0, h.1.0) (λ set e. given_keeps walk (func_of task.callee) _ (λ f j. event_keeps t task f i op number words set w free (i, here, (set, set_stands w i (slice_index words 0) set e)) calls (as_is (λ (o : Outline). o ≡ outline_of task) (IsOfFunc f) t w (λ o k. ap (λ (x : Outline). func_of x.callee) k ∙ j) is) h))
 
   set_drop_keeps : (t i index : ℕ) (w : World) → Held walk true t w → Keeps walk (set_drop_turn t i index w)
   unfolding set_drop_turn
@@ -326,7 +326,7 @@ module _ {g : Graph} {s : Script} (walk : Walk g s) where
   builtin_keeps t task i number (builtin.TaskReturn result options) words w facts known free here calls is h = return_keeps t task i result options words w h
   builtin_keeps t task i number (builtin.Plain op) words w facts known free here calls is h = plain_keeps t task i number op words w facts free calls h
   builtin_keeps t task i number (builtin.Context op slot) words w facts known free here calls is h = tt
-  builtin_keeps t task i number (builtin.Wait op cancellable memory) words w facts known free here calls is h = wait_turn_keeps t task i op number words w free calls is h
+  builtin_keeps t task i number (builtin.Wait op cancellable memory) words w facts known free here calls is h = wait_turn_keeps t task i op number words w free here calls is h
   builtin_keeps t task i number (builtin.End of_what element op) words w facts known free here calls is h = ends_keep t i number of_what element op words w free calls h
 
   reply_keeps : (t : ℕ) (task : Task) (number : ℕ) (c : CanonFunc) (words : List ℕ) (w : World) → (walk.Given → Facts g w) → canon_at g number ≡ Some c → IsSome (canon_at g number) → may_leave w ≡ true

@@ -17,10 +17,10 @@ use Rattle.trace_show.specs.declared.trap.TrapName.TheVariants as trap
 use Rattle.abi_machine.specs.declared.run_end.RunEnd.TheVariants.{Fuel}
 use Rattle.abi_machine.specs.Control.{Control, Chosen, Instantiates, Runs, Lowers, Quiet, Doomed}
 use Rattle.abi_machine.specs.Control as control
-use Rattle.abi_machine.specs.World.{Entry, OfSubtask, OfSet, ForCall, TaskState, Acting, AfterCall, Begins, WaitsToEnter, InLoop, InBuiltin, Task, World}
+use Rattle.abi_machine.specs.World.{Entry, OfSubtask, OfSet, ForSet, ForCall, TaskState, Acting, AfterCall, Begins, WaitsToEnter, InLoop, InBuiltin, Task, World}
 use Rattle.abi_machine.specs.Edits.{with_control, entry_added, entry_removed, left_set, unit_spent, in_state, control_behind, answered_stacks, lent}
 use Rattle.abi_machine.specs.Canons.{canon_at, options_at}
-use Rattle.abi_machine.specs.Reading.{table_of, entry_at, func_of, may_leave}
+use Rattle.abi_machine.specs.Reading.{table_in, table_of, entry_at, func_of, may_leave}
 use Rattle.abi_machine.specs.Counting.{waiters_of}
 use Rattle.abi_machine.specs.Lifting.{Kept, Stopped, Came, once_lifted}
 use Rattle.abi_machine.specs.Choosing.{picks_of, chosen}
@@ -30,10 +30,10 @@ use Rattle.abi_machine.specs.sound.Changes.{Change, GoesTo, SpendsUnit, HasStore
 use Rattle.abi_machine.specs.sound.Chain.{IsChained}
 use Rattle.abi_machine.specs.sound.Acting.{outlines_of, HasStacks, WaitsWith, StandsBy, HaveStacks, IsActing, IsRunning, OneActs, ActsBy}
 use Rattle.abi_machine.specs.sound.Called.{HaveCalled}
-use Rattle.abi_machine.specs.sound.Loops.{LoopsIn}
+use Rattle.abi_machine.specs.sound.Loops.{HasSetAt, LoopsIn}
 use Rattle.abi_machine.specs.sound.Subtasks.{StandsNowhere, CallIs, IsAsync, IsUnawaited, AreSubtasks}
 use Rattle.abi_machine.specs.sound.Picked.{IsPicked}
-use Rattle.abi_machine.specs.sound.Owners.{IsApart, HasCanons, AreOwned, IsMadeUpTo, IsLiftedApart, IsOwnStack, CallsOwn, IsTaskOwn, IsControlOwn, IsOwnWorld}
+use Rattle.abi_machine.specs.sound.Owners.{owner_of_canon, IsApart, HasCanons, AreOwned, IsMadeUpTo, IsLiftedApart, IsOwnStack, CallsOwn, IsTaskOwn, IsControlOwn, IsOwnWorld}
 use Rattle.abi_machine.proofs.sound.Lifts.{Leaves as LeavesWith}
 use Rattle.abi_machine.proofs.sound.Alone.{Alone}
 use Rattle.abi_machine.proofs.sound.Numbered.{changed_twice}
@@ -54,6 +54,7 @@ IsNewEntry g w (OfSubtask callee) = CallIs w.tasks callee (IsAsync g) × IsUnawa
 IsNewEntry g w entry = Unit {0}
 
 abbrev pub BlocksAs : Graph → ℕ → TaskState → World → Type 0
+BlocksAs g t (InBuiltin number words (ForSet index)) w = (i : ℕ) × (owner_of_canon g number ≡ Some i) × HasSetAt (table_in (slice_get w.insts i)) index
 BlocksAs g t (InBuiltin number words (ForCall callee)) w = Is (IsIn (AfterCall callee number words)) t w × ((options_at g number).is_async ≡ false)
 BlocksAs g t (InLoop word) w = Is (λ o. LoopsIn w.insts (func_of o.callee) word) t w
 BlocksAs g t state w = Unit {0}
