@@ -78,7 +78,14 @@ fn world(alloc: Global) -> Result<Parts, Fail> {
     };
     parts.instances.push(Instance::new(alloc))?;
     parts.instances.push(Instance::new(alloc))?;
-    let _first = make(alloc, &mut parts, 0, Kind::Sync, Callee::Init, Caller::Nobody);
+    let _first = make(
+        alloc,
+        &mut parts,
+        0,
+        Kind::Sync,
+        Callee::Init,
+        Caller::Nobody,
+    );
     let _entered = parts.advance(0, TaskEvent::Enter);
     let _exited = parts.advance(0, TaskEvent::Exit);
     let _closed = parts.close(0);

@@ -33,8 +33,9 @@ fn type_answer(
         Kind::Doubled => size_told(alloc, count, t),
         Kind::DoubledValue => loaded(alloc, t, &[1, 2, 3, 4], 0, LiftOf::Value),
         Kind::Passed => passed_told(alloc, t, rest),
-        Kind::Aligned | Kind::Large | Kind::WithTable(_) | Kind::Entered(_) =>
-            Err(Fail::new("no type")),
+        Kind::Aligned | Kind::Large | Kind::WithTable(_) | Kind::Entered(_) => Err(Fail::new(
+            "no type",
+        )),
     }
 }
 

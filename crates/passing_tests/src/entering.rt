@@ -204,7 +204,15 @@ pub(crate) fn entered_told(alloc: Global, lowers: Lowers, line: &str) -> Result<
     let Some(t) = types.numbered(number) else {
         return Err(Fail::new("no type"));
     };
-    let outcome = entered(alloc, lowers, &mut room, &mut table, &home, given.values, &t)?;
+    let outcome = entered(
+        alloc,
+        lowers,
+        &mut room,
+        &mut table,
+        &home,
+        given.values,
+        &t,
+    )?;
     let mut text = told(alloc, outcome.as_str(), &room)?;
     text.push_str(" ;")?;
     write_table(&mut text, &table, slots.split_whitespace().count())?;

@@ -36,7 +36,10 @@ fn error_told(alloc: Global, error: LowerError<u32>) -> Result<String, Fail> {
 }
 
 /// The text of a store.
-pub(crate) fn store_told(alloc: Global, stored: Result<(), LowerError<u32>>) -> Result<String, Fail> {
+pub(crate) fn store_told(
+    alloc: Global,
+    stored: Result<(), LowerError<u32>>,
+) -> Result<String, Fail> {
     match stored {
         Ok(()) => Ok(String::from_str(alloc, "stored")?),
         Err(error) => error_told(alloc, error),
@@ -44,7 +47,10 @@ pub(crate) fn store_told(alloc: Global, stored: Result<(), LowerError<u32>>) -> 
 }
 
 /// The text of a place.
-pub(crate) fn place_told(alloc: Global, placed: Result<u32, LowerError<u32>>) -> Result<String, Fail> {
+pub(crate) fn place_told(
+    alloc: Global,
+    placed: Result<u32, LowerError<u32>>,
+) -> Result<String, Fail> {
     match placed {
         Ok(place) => Ok(format!(in alloc; "at {place}")?),
         Err(error) => error_told(alloc, error),
@@ -61,7 +67,10 @@ fn words_text(alloc: Global, words: &[u64]) -> Result<String, Fail> {
 }
 
 /// The text of core values, or of why there are none.
-pub(crate) fn words_told(alloc: Global, lowered: Result<Words, LowerError<u32>>) -> Result<String, Fail> {
+pub(crate) fn words_told(
+    alloc: Global,
+    lowered: Result<Words, LowerError<u32>>,
+) -> Result<String, Fail> {
     match lowered {
         Ok(words) => words_text(alloc, words.as_slice()),
         Err(error) => error_told(alloc, error),

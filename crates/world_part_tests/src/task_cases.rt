@@ -44,13 +44,7 @@ impl Run {
     /// Who calls by these words.
     fn caller(&self, alloc: Global, name: &str, by: u32) -> Caller {
         match name {
-            "by" => Caller::Guest(Called::new(
-                alloc,
-                by,
-                0,
-                Words::new(alloc),
-                self.next(),
-            )),
+            "by" => Caller::Guest(Called::new(alloc, by, 0, Words::new(alloc), self.next())),
             "host" => Caller::Host(1),
             _ => Caller::Nobody,
         }
