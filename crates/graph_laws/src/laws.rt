@@ -61,7 +61,8 @@ pub fn calls_are_sound()
     ensures { CallsAreSound }
 {}
 
-/// A component whose graph has more than synchronous functions has a first item that is a built-in, or a lift or a lower with `async`.
+/// A component whose graph has more than synchronous functions has a first item that is a built-in, or a lift or a lower with
+/// `async` or `callback`.
 pub fn other_items_are_found()
     ensures { OtherItemsAreFound }
 {}

@@ -2,12 +2,13 @@
 //! Definitions"): definitions and laws, without a body.
 //!
 //! The laws of `canonical_machine` ask two things of a graph: that it is sound, and that core definitions stay in the component
-//! instance that makes them. `specs/Laws` says of every linked graph that it has both. Of the modules of the component it asks that they
+//! instance that makes them. `specs/Laws` says of every linked graph that it has the second, and of one whose functions are
+//! all synchronous that it has both. Of the modules of the component it asks that they
 //! are typed, that their memories are in range, and that their data are bytes; modules that are read of bytes are so.
 //!
 //! Of a script they ask that its values are of the types that they are passed for. `specs/Counted` says which types a function of such
 //! a graph passes: the labels of flags, variants and enums are counted, and there is no handle and no end. So a script that is read for
-//! the graph's exports is sound, and the graph passes no handle and no end.
+//! the exports of such a graph is sound, and the graph passes no handle and no end.
 //!
 //! - `laws`: what holds of every linked graph, and of the modules that are read
 //! - `examples`: a component that is linked, and its graph

@@ -1,5 +1,5 @@
--- Items of functions without `async` (Component Model, Explainer.md, "Canonical Definitions" and "Canonical Built-ins"), and the first
--- item of a component that is more: a built-in, or a lift or a lower with `async`.
+-- Items of functions without `async` and `callback` (Component Model, Explainer.md, "Canonical Definitions" and "Canonical Built-ins"),
+-- and the first item of a component that is more: a built-in, or a lift or a lower with `async` or `callback`.
 use Rattle.std.specs.Prelude.{ℕ, zero, suc, Bool, true, false, cond, List, [], ◌∷◌, Option, Some, None}
 use Rattle.std.specs.List.{list_all}
 use Rattle.std.specs.Option.{option_or}

@@ -87,8 +87,9 @@ fn first_among(depth: usize, items: &[Placed<Item>]) -> Option<usize>
     None
 }
 
-/// The place of the first item of a component, in file order, that is a built-in, or a lift or a lower with `async` (Component Model,
-/// Explainer.md, "Canonical Definitions" and "Canonical Built-ins"), those of the components that stand in it among them.
+/// The place of the first item of a component, in file order, that is a built-in, or a lift or a lower with `async` or `callback`
+/// (Component Model, Explainer.md, "Canonical Definitions" and "Canonical Built-ins"), those of the components that stand in it among
+/// them; none where there is no such item.
 pub fn first_not_sync(component: &Component) -> Option<usize>
     ensures { result ≡ sync.first_not_sync component.now }
 {

@@ -1,7 +1,7 @@
 -- What a call of the program answers, from the command that its words lead to and what the files hold: a constructor for each row of the
--- statuses. In this order they are decided: words that are no command; the component file; its linking; for `run` whether all functions of
--- the graph are synchronous, as those that are run; the script file, which is asked for behind such a graph alone; and the run. What a run has for the output is the text of its trace, and behind it the
--- text of what its last world leaves, where that is asked for.
+-- statuses. In this order they are decided: words that are no command; the component file; its linking; for `run` whether all functions
+-- of the graph are synchronous, as those that are run; the script file, which is asked for behind such a graph alone; and the run. What
+-- a run has for the output is the text of its trace, and behind it the text of what its last world leaves, where that is asked for.
 use Rattle.std.specs.Prelude.{◌≡◌, ℕ, Bool, true, if◌then◌else◌, List, [], ◌++◌, Option, Some, None}
 use Rattle.ca_base.specs.declared.refusal.Refusal.{Refusal}
 use Rattle.part_reader.specs.declared.fault.ComponentWhy.{ComponentWhy}
