@@ -9,8 +9,8 @@ use Rattle.abi_machine.specs.Counting.{borrows_of}
 use Rattle.abi_machine.specs.Turn.{Steps}
 use Rattle.abi_machine.specs.Next.{next}
 use Rattle.abi_machine.specs.sound.Initial.{RunsAlone}
-use Rattle.abi_machine.specs.sound.Changes.{Change, RemovesEntry, Resolves, after, behind_all, Stands, MayAllCome}
-use Rattle.abi_machine.specs.sound.Premises.{IsUnlent}
+use Rattle.abi_machine.specs.sound.Changes.{Change, RemovesEntry, Resolves, after, behind_all, Stands}
+use Rattle.abi_machine.specs.sound.Premises.{IsUnlent, Comes}
 
 -- where a change comes
 abbrev pub GivesBack : Change → World → Type 0
@@ -22,8 +22,13 @@ abbrev pub AllGiveBack : List Change → World → Type 0
 AllGiveBack [] w = Unit {0}
 AllGiveBack (change ∷ changes) w = GivesBack change w × AllGiveBack changes (after change w)
 
+-- Changes come one behind the other, each only where its own premises hold: what was told and lent, asked and cancelled, where it comes.
+abbrev pub AllCome : Graph → Script → List Change → World → Type 0
+AllCome g s [] w = Unit {0}
+AllCome g s (change ∷ changes) w = Comes g s change w × AllCome g s changes (after change w)
+
 -- So it is in every step.
 abbrev pub BorrowsAreGivenBack : Type 0
 BorrowsAreGivenBack =
     (g : Graph) (s : Script) (w v : World) (labels : List Label) → RunsAlone w → next g s w ≡ Steps labels v
-    → (changes : List Change) × MayAllCome g s changes w × AllGiveBack changes w × (v ≡ behind_all changes w)
+    → (changes : List Change) × AllCome g s changes w × AllGiveBack changes w × (v ≡ behind_all changes w)
