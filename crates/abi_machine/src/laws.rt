@@ -163,16 +163,16 @@ pub fn borrows_are_given_back()
     ensures { BorrowsAreGivenBack }
 {}
 
-/// The word of a task in its loop says that it yields, waits or polls, and the set that it waits on or polls stands in the table of its
-/// instance: so it is in the first world, and so it stays in every step.
+/// The word of a task in its loop says that it yields, waits or polls, and where it waits or polls a set stands at that index in the table
+/// of its instance: so it is in the first world, and so it stays in every step.
 pub fn loops_stay()
     ensures first { FirstHasLoops }
     ensures stays { LoopsStay }
 {}
 
 /// A subtask in a table was called by a canonical function that does not wait, and stands there once. One for which its caller waits in a
-/// call stands in no table, and nothing was told of it; and none that is cancelled is waited for so: so it is in the first world, and so it
-/// stays in every step.
+/// call stands in no table, and nothing was told of it; and while a task cancels a subtask, no call waits for that one: so it is in the
+/// first world, and so it stays in every step.
 pub fn subtasks_stay()
     ensures first { FirstHasSubtasks }
     ensures stays { SubtasksStay }
