@@ -37,3 +37,4 @@ pub mod Unresolved
 pub mod Unborrowed
 pub mod Lent
 pub mod Borrowed
+pub mod OnePlace

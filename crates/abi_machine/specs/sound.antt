@@ -24,3 +24,5 @@ pub mod Entering
 pub mod PassedTypes
 pub mod Loans
 pub mod Borrows
+pub mod EndPlaces
+pub mod Writers
