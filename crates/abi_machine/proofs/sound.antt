@@ -37,4 +37,8 @@ pub mod Unresolved
 pub mod Unborrowed
 pub mod Lent
 pub mod Borrowed
+pub mod known
+pub mod Looping
+pub mod Awaited
+pub mod Picking
 pub mod OnePlace

@@ -24,5 +24,8 @@ pub mod Entering
 pub mod PassedTypes
 pub mod Loans
 pub mod Borrows
+pub mod Loops
+pub mod Subtasks
+pub mod Picked
 pub mod EndPlaces
 pub mod Writers

@@ -19,6 +19,9 @@ ghost use Rattle.abi_machine.specs.sound.Holders.{FirstHasOneHolder, OneHolderSt
 ghost use Rattle.abi_machine.specs.sound.Loans.{FirstHoldsLoans, LoansStay};
 ghost use Rattle.abi_machine.specs.sound.PassedTypes.{FirstHoldsNoBorrow, NoBorrowStays};
 ghost use Rattle.abi_machine.specs.sound.Borrows.{BorrowsAreGivenBack};
+ghost use Rattle.abi_machine.specs.sound.Loops.{FirstHasLoops, LoopsStay};
+ghost use Rattle.abi_machine.specs.sound.Picked.{FirstIsPicked, PickedStays};
+ghost use Rattle.abi_machine.specs.sound.Subtasks.{FirstHasSubtasks, SubtasksStay};
 ghost use Rattle.abi_machine.specs.sound.Writers.{FirstHasWriters, WritersStayInOnePlace};
 
 /// Task 0 instantiates, and runs alone until it has exited; it never runs again, and no other task runs a start function. Control says
@@ -157,6 +160,27 @@ pub fn no_borrow_is_passed()
 /// where nothing is lent of it.
 pub fn borrows_are_given_back()
     ensures { BorrowsAreGivenBack }
+{}
+
+/// The word of a task in its loop says that it yields, waits or polls, and the set that it waits on or polls stands in the table of its
+/// instance: so it is in the first world, and so it stays in every step.
+pub fn loops_stay()
+    ensures first { FirstHasLoops }
+    ensures stays { LoopsStay }
+{}
+
+/// A subtask in a table was called by a canonical function that does not wait, and stands there once. One for which its caller waits in a
+/// call stands in no table, and nothing was told of it; and none that is cancelled is waited for so: so it is in the first world, and so it
+/// stays in every step.
+pub fn subtasks_stay()
+    ensures first { FirstHasSubtasks }
+    ensures stays { SubtasksStay }
+{}
+
+/// Where one of several alternatives was picked, it is there: in the first world, and behind every step.
+pub fn picked_is_there()
+    ensures first { FirstIsPicked }
+    ensures stays { PickedStays }
 {}
 
 /// A writable end of a stream or a future stands in one table at most, at one index, and is of one that was made: so it is in the first

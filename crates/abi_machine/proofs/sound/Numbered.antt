@@ -182,7 +182,7 @@ insts_changed tasks i f insts keeps h = all_changed (NamesWhatIsThere tasks) i f
 leaves_chain : (tasks : List Task) (insts : List Inst) (chain : List ℕ) → AreNumbered tasks insts chain → AreNumbered tasks insts (drop 1 chain)
 leaves_chain tasks insts chain h = with_chain tasks insts chain (drop 1 chain) h (drop_running tasks chain h.running)
 
-numbered : (g : Graph) (s : Script) (c : Change) (w : World) → MayCome g s c w → IsNumbered w → IsNumbered (after c w)
+pub numbered : (g : Graph) (s : Script) (c : Change) (w : World) → MayCome g s c w → IsNumbered w → IsNumbered (after c w)
 numbered g s BeginsInstance w may h =
     with_entries w.tasks w.insts _ w.chain h (all_more (NamesWhatIsThere w.tasks) w.insts new_inst h.entries (λ index entry e. cc))
 numbered g s (AddsEntry i entry) w may h =

@@ -100,7 +100,7 @@ runs_acting (InLoop word) o same r stacks never = absurd r
 runs_acting (InBuiltin number words wait) o same r stacks never = absurd r
 runs_acting Exited o same r stacks never = absurd r
 
-acts_free : (w : World) (t : ℕ) → Alone w → may_leave w ≡ true → Is IsRunning t w → Is (IsActing true) t w
+pub acts_free : (w : World) (t : ℕ) → Alone w → may_leave w ≡ true → Is IsRunning t w → Is (IsActing true) t w
 acts_free w t alone free r =
     let x = outline_back w.tasks t r.1.0 r.1.1 in (
       r.0,

@@ -50,24 +50,24 @@ use Rattle.abi_machine.proofs.sound.Outlines.{outline_there, Is, as_is, state_fi
 use Rattle.abi_machine.proofs.sound.acts.Keeping.{Order, is_first, acts_at, acts_by, left_acts, Keeps, Held, still, given_keeps, behind_keeps, goes, refused_keeps, unless_keeps, fault_keeps, charged_keeps, runs_keeps, on_keeps, blocked_keeps, new_stack_keeps, removes, waits, lends, KeptSo, StoppedSo, came_keeps}
 
 -- the acting task does this, in this state and with these stacks
-abbrev IsLeftAs : Callee → TaskState → List Stack → Outline → Type 0
+abbrev pub IsLeftAs : Callee → TaskState → List Stack → Outline → Type 0
 IsLeftAs callee state stacks o = (o.callee ≡ callee) × (o.state ≡ state) × (o.stacks ≡ stacks)
 
-left_runs : (callee : Callee) (state : TaskState) (stacks : List Stack) → RunsIn state callee → (o : Outline) → IsLeftAs callee state stacks o → RunsIn o.state o.callee
+pub left_runs : (callee : Callee) (state : TaskState) (stacks : List Stack) → RunsIn state callee → (o : Outline) → IsLeftAs callee state stacks o → RunsIn o.state o.callee
 left_runs callee state stacks r o h = subst (λ (c : Callee). RunsIn o.state c) (sym h.0) (subst (λ (x : TaskState). RunsIn x callee) (sym h.1) r)
 
 is_running : (w : World) (t : ℕ) (task : Task) → Is (λ o. o ≡ outline_of task) t w → RunsIn task.state task.callee → Is InTask t w
 is_running w t task a r = as_is (λ o. o ≡ outline_of task) InTask t w (λ o e. subst InTask (sym e) r) a
 
-may_stack : (t : ℕ) (task : Task) (w : World) → Is (λ o. o ≡ outline_of task) t w → RunsIn task.state task.callee → Is MayHaveStacks t w
+pub may_stack : (t : ℕ) (task : Task) (w : World) → Is (λ o. o ≡ outline_of task) t w → RunsIn task.state task.callee → Is MayHaveStacks t w
 may_stack t task w a r = as_is InTask MayHaveStacks t w runs_may (is_running w t task a r)
 
 -- with another stack
-stacked_again : (t : ℕ) (task : Task) (k : Stack) (w : World) → Is (λ o. o ≡ outline_of task) t w → RunsIn task.state task.callee → Is IsRunning t (after (HasStack t k) w)
+pub stacked_again : (t : ℕ) (task : Task) (k : Stack) (w : World) → Is (λ o. o ≡ outline_of task) t w → RunsIn task.state task.callee → Is IsRunning t (after (HasStack t k) w)
 stacked_again t task k w a r = stacks_first IsRunning InTask w t (λ stacks. k ∷ drop 1 stacks) (λ o i. (i, refl)) (is_running w t task a r)
 
 -- the task that is looked up runs
-runs_now : (w : World) (a : ℕ × Task) → acting w ≡ Some a → OneActs IsRunning (outlines_of w.tasks) w.chain → RunsIn a.1.state a.1.callee
+pub runs_now : (w : World) (a : ℕ × Task) → acting w ≡ Some a → OneActs IsRunning (outlines_of w.tasks) w.chain → RunsIn a.1.state a.1.callee
 runs_now w a e o =
     let r : Is IsRunning a.0 w = acts_at IsRunning w a e o in
     let same : r.1.0 ≡ outline_of a.1 = some_same (sym r.1.1 ∙ outline_there w.tasks a.0 a.1 (acting_is w a e)) in

@@ -81,7 +81,7 @@ module _ (K : World → Type 0) (adds : (i t : ℕ) (entry : New) (w : World) �
           (more (Some (next_index (table_of w i))) (entry_added i (entry_of t entry) w) (adds i t entry w (less (live_count (table_of w i)) most_live e) h)))
       by false e = more None w h
 
-  settled_leaves : (i t : ℕ) (plan : Plan) (bytes : List ℕ) (w : World) → K w → K (with_table i (λ before. (settle t plan bytes (table_of w i)).table) w)
+  pub settled_leaves : (i t : ℕ) (plan : Plan) (bytes : List ℕ) (w : World) → K w → K (with_table i (λ before. (settle t plan bytes (table_of w i)).table) w)
   settled_leaves i t (Gives words) bytes w h = subst K (sym (table_kept i w)) h
   settled_leaves i t (Fails why) bytes w h = subst K (sym (table_kept i w)) h
   settled_leaves i t (Asks ask k) bytes w h = subst K (sym (table_kept i w)) h

@@ -1,0 +1,11 @@
+pub mod Handles
+pub mod Lifting
+pub mod Unawaited
+pub mod Picking
+pub mod Keeping
+pub mod Moving
+pub mod Waking
+pub mod Nesting
+pub mod Answering
+pub mod Turning
+pub mod Beside

@@ -1,0 +1,225 @@
+-- What a turn makes of the acting task and keeps, where what held at its start is known: steps by their kinds, answers, blocked tasks and what is
+-- lifted.
+use Rattle.std.proofs.Common.{◌≡◌, ◌<◌, ◌⊎◌, inr, ℕ, ◌+◌, Bool, true, false, nat_lt, List, [], ◌∷◌, ◌++◌, length, drop, refl, sym, ap, ◌∙◌, subst, arith, Option, Some, None, Result, Ok, Err, if◌then◌else◌}
+use Rattle.std.proofs.lemmas.Bool.Decides.{nat_tests}
+use Rattle.std.specs.Prelude.{IsSome}
+use Rattle.std.specs.List.{slice_get}
+use Rattle.wasm_store.specs.Stack.{Stack}
+use Rattle.choices.specs.Drawing.{drawn, drawn_answer}
+use Rattle.handle_table.specs.History.{live_count, most_live, next_index}
+use Rattle.tasks.specs.declared.phase.Cancellation.TheVariants.{Asked}
+use Rattle.tasks.specs.declared.subtask_state.SubtaskState.TheVariants.{Starting}
+use Rattle.comp_graph.specs.Graph.{Graph}
+use Rattle.script_reader.specs.Script.{Script}
+use Rattle.trace_show.specs.declared.label.Label.{Label}
+use Rattle.trace_show.specs.declared.label.BlockReason.{BlockReason}
+use Rattle.trace_show.specs.declared.trap.TrapName.{TrapName}
+use Rattle.trace_show.specs.declared.trap.TrapName.TheVariants as trap
+use Rattle.abi_machine.specs.declared.run_end.RunEnd.{RunEnd}
+use Rattle.abi_machine.specs.declared.run_end.RunEnd.TheVariants.{Trapped, Fuel}
+use Rattle.abi_machine.specs.Control.{Control, Runs, Doomed}
+use Rattle.abi_machine.specs.World.{Entry, OwnHandle, BorrowHandle, OfSubtask, OfSet, OfEnd, ForCall, TaskState, New, Acting, AfterCall, AfterCancel, Begins, WaitsToEnter, InLoop, InBuiltin, Exited, Task, World}
+use Rattle.abi_machine.specs.Edits.{with_control, entry_added, entry_removed, left_set, unit_spent, in_state, control_behind, answered_stacks, lent}
+use Rattle.abi_machine.specs.Canons.{canon_at, options_at}
+use Rattle.abi_machine.specs.Reading.{table_of, entry_at, acting, func_of, may_leave}
+use Rattle.abi_machine.specs.Counting.{waiters_of}
+use Rattle.abi_machine.specs.Lifting.{Kept, Stopped, Came, once_lifted}
+use Rattle.abi_machine.specs.Choosing.{picks_of, chosen}
+use Rattle.abi_machine.specs.Turn.{Turn, Steps, Ends, Stuck, doomed, behind, given, unless_refused, unless, unless_fault, goes_on_with, blocked, charged, with_entry}
+use Rattle.abi_machine.specs.sound.Premises.{IsTaken}
+use Rattle.abi_machine.specs.sound.Changes.{Change, GoesTo, SpendsUnit, UsesPicks, AddsEntry, RemovesEntry, RemovesWaitable, Calls, ComesBack, Cancels, Blocks, IsRemoved, IsCancelled, Exits, HasNewStack, HasStack, LosesStack, IsAnswered, IsTold, IsLent, after, Stands, IsFirst, HasFunc, IsBlocked, MayCome}
+use Rattle.abi_machine.specs.sound.Chain.{states_of, WaitsFor, AreUnder, IsChained}
+use Rattle.abi_machine.specs.sound.Acting.{Outline, outline_of, outlines_of, HasStacks, WaitsWith, StandsBy, HaveStacks, IsActing, IsRunning, IsNew, IsWaitingFor, OneActs, ActsBy}
+use Rattle.abi_machine.specs.sound.Called.{HaveCalled}
+use Rattle.abi_machine.specs.sound.Loops.{LoopsIn}
+use Rattle.abi_machine.specs.sound.Subtasks.{StandsNowhere, CallIs, IsAsync, IsUnawaited, AreSubtasks}
+use Rattle.abi_machine.specs.sound.Picked.{IsPicked}
+use Rattle.abi_machine.proofs.sound.Lifts.{Leaves as LeavesWith}
+use Rattle.abi_machine.proofs.sound.Found.{some_same, acting_first, acting_is}
+use Rattle.abi_machine.proofs.sound.Alone.{Alone}
+use Rattle.abi_machine.proofs.sound.Numbered.{changed_twice}
+use Rattle.abi_machine.proofs.sound.Chained.{state_set, state_back, last_there, left_under}
+use Rattle.abi_machine.proofs.sound.Outlines.{outline_there, Is, as_is, stacks_first, answered_some, MayHaveStacks, Runs as InTask, runs_may, acting_runs, acting_running}
+use Rattle.abi_machine.proofs.sound.Standing.{IsSteady, steady}
+use Rattle.abi_machine.proofs.sound.acts.Keeping.{IsIn, is_first, acts_at, acts_by, new_acts, left_acts, IsUntrapped, waits_stacked, less}
+use Rattle.abi_machine.proofs.sound.known.Handles.{IsHandle, handle_is_left, handle_unwaited}
+
+-- What else is known where a change comes. A set that is removed is waited on by no task; and where what held at the start of the turn is given, a
+-- subtask that is added to a table was called by a canonical function that does not wait, and no task waits in a call for one that is told or
+-- cancelled.
+abbrev pub NoneWaits : World → ℕ → ℕ → Type 0
+NoneWaits w i index = (set : ℕ) → entry_at w i index ≡ Some (OfSet set) → waiters_of w i index ≡ 0
+
+abbrev pub IsNewEntry : Graph → World → Entry → Type 0
+IsNewEntry g w (OfSubtask callee) = CallIs w.tasks callee (IsAsync g) × IsUnawaited w.tasks callee × StandsNowhere w.insts callee
+IsNewEntry g w entry = Unit {0}
+
+abbrev pub BlocksAs : Graph → ℕ → TaskState → World → Type 0
+BlocksAs g t (InBuiltin number words (ForCall callee)) w = Is (IsIn (AfterCall callee number words)) t w × ((options_at g number).is_async ≡ false)
+BlocksAs g t (InLoop word) w = Is (λ o. LoopsIn w.insts (func_of o.callee) word) t w
+BlocksAs g t state w = Unit {0}
+
+abbrev pub Besides : Type 0 → Graph → Change → World → Type 0
+Besides F g (ComesBack t) w = ⊥
+Besides F g (IsRemoved t) w = ⊥
+Besides F g (Calls number callee subtask words) w = (subtask.canon ≡ number) × Is (WaitsWith true) subtask.by w × IsSome (canon_at g number) × (subtask.told ≡ Starting)
+Besides F g (Cancels t callee number words) w = Is (WaitsWith true) t w × IsSome (slice_get w.tasks callee) × (F → IsUnawaited w.tasks callee)
+Besides F g (Blocks t state) w = BlocksAs g t state w × Is (StandsBy state) t w
+Besides F g (Exits t) w = Is (λ o. HasStacks false o.stacks) t w
+Besides F g (HasNewStack t k) w = Is MayHaveStacks t w
+Besides F g (HasStack t k) w = Is MayHaveStacks t w
+Besides F g (LosesStack t) w = Is MayHaveStacks t w
+Besides F g (IsAnswered t words) w = Is MayHaveStacks t w
+Besides F g (AddsEntry i entry) w = F → IsNewEntry g w entry
+Besides F g (RemovesEntry i index) w = NoneWaits w i index
+Besides F g (IsTold t state) w = F → IsUnawaited w.tasks t
+Besides F g change w = Unit {0}
+
+-- what is known of the start of a turn, of tasks that wait for others and of subtasks
+pub record Facts (g : Graph) (w : World) : Type 0 where
+  pub called : HaveCalled w.tasks
+  pub subtasks : AreSubtasks g w.tasks w.insts
+
+-- What every change keeps beside the order of tasks. A task that comes back, and one that is removed, was blocked: where no task runs, and where the
+-- acting task cancels it.
+pub record Walk (g : Graph) (s : Script) : Type 1 where
+  pub Given : Type 0
+  pub Holds : World → Type 0
+  pub alone : (w : World) → Holds w → Alone w
+  pub chained : (w : World) → Holds w → IsChained w
+  pub stacked : (w : World) → Holds w → HaveStacks (outlines_of w.tasks)
+  pub stays : (c : Change) (w : World) → MayCome g s c w → Besides Given g c w → Holds w → Holds (after c w)
+  pub comes : (t : ℕ) (w : World) (task : Task) → slice_get w.tasks t ≡ Some task → IsSome (func_of task.callee) → IsBlocked task.state → w.chain ≡ [] → Holds w → Holds (after (ComesBack t) w)
+  pub removed : (t : ℕ) (w : World) (task : Task) → slice_get w.tasks t ≡ Some task → IsSome (func_of task.callee) → task.state ≡ WaitsToEnter → w.chain ≡ [] → Holds w → Holds (after (IsRemoved t) w)
+  pub comes_asked : (t callee number : ℕ) (words : List ℕ) (w : World) (task : Task) → Is (IsActing true) t w → may_leave w ≡ true → slice_get w.tasks callee ≡ Some task → IsSome (func_of task.callee)
+      → IsBlocked task.state → (Given → IsUnawaited w.tasks callee) → Holds w → Holds (after (ComesBack callee) (after (IsCancelled callee Asked) (after (Cancels t callee number words) w)))
+  pub removed_asked : (t callee number : ℕ) (words : List ℕ) (w : World) (task : Task) → Is (IsActing true) t w → may_leave w ≡ true → slice_get w.tasks callee ≡ Some task → IsSome (func_of task.callee)
+      → task.state ≡ WaitsToEnter → (Given → IsUnawaited w.tasks callee) → Holds w → Holds (after (IsRemoved callee) (after (Cancels t callee number words) w))
+
+-- no choice
+pub behind_picked : (g : Graph) (s : Script) (chain : List ℕ) (w : World) → IsPicked g s (control_behind chain) w
+behind_picked g s [] w = tt
+behind_picked g s (t ∷ below) w = tt
+
+module _ {g : Graph} {s : Script} (walk : Walk g s) where
+  -- a turn whose step leaves it so
+  abbrev pub Keeps : Turn → Type 0
+  Keeps (Steps labels v) = walk.Holds v × IsPicked g s v.control v × ActsBy v.control (outlines_of v.tasks) v.chain
+  Keeps (Ends end) = IsUntrapped end
+  Keeps Stuck = Unit {0}
+
+  -- where a task acts, with a stack or without
+  abbrev pub Held : Bool → ℕ → World → Type 0
+  Held b t w = walk.Holds w × Is (IsActing b) t w
+
+  pub still : (b : Bool) (t : ℕ) (c : Change) (w : World) → MayCome g s c w → Besides walk.Given g c w → IsSteady c → Held b t w → Held b t (after c w)
+  still b t c w may besides is h = (walk.stays c w may besides h.0, steady (IsActing b) t c w is h.1)
+
+  -- where it is the first of the chain
+  abbrev pub Leads : ℕ → World → Type 0
+  Leads t w = walk.Holds w × IsFirst t w.chain
+
+  pub given_keeps : {A : Type 0} (o : Option A) (f : A → Turn) → ((x : A) → o ≡ Some x → Keeps (f x)) → Keeps (given o f)
+  given_keeps None f h = tt
+  given_keeps (Some x) f h = h x refl
+
+  pub behind_keeps : (lines : List Label) (t : Turn) → Keeps t → Keeps (behind lines t)
+  behind_keeps lines (Steps labels v) h = h
+  behind_keeps lines (Ends end) h = h
+  behind_keeps lines Stuck h = tt
+
+  pub either_keeps : (b : Bool) (t u : Turn) → (b ≡ true → Keeps t) → (b ≡ false → Keeps u) → Keeps (if b then t else u)
+  either_keeps true t u h i = h refl
+  either_keeps false t u h i = i refl
+
+  pub goes : (c : Control) (w : World) → walk.Holds w → walk.Holds (with_control c w)
+  goes c w h = walk.stays (GoesTo c) w tt tt h
+
+  pub refused_keeps : {A : Type 0} (t : ℕ) (r : Result A TrapName) (w : World) (f : A → Turn) → Leads t w → ((x : A) → r ≡ Ok x → Keeps (f x)) → Keeps (unless_refused t r w f)
+  refused_keeps t (Err why) w f h more = (goes (Doomed t why) w h.0, tt, h.1)
+  refused_keeps t (Ok x) w f h more = more x refl
+
+  pub unless_keeps : (t : ℕ) (b : Bool) (why : TrapName) (w : World) (more : Turn) → Leads t w → (b ≡ false → Keeps more) → Keeps (unless t b why w more)
+  unless_keeps t true why w more h keeps = (goes (Doomed t why) w h.0, tt, h.1)
+  unless_keeps t false why w more h keeps = keeps refl
+
+  pub fault_keeps : {F : Type 0} (t : ℕ) (name : F → TrapName) (o : Option F) (w : World) (more : Turn) → Leads t w → Keeps more → Keeps (unless_fault t name o w more)
+  fault_keeps t name None w more h keeps = keeps
+  fault_keeps t name (Some fault) w more h keeps = (goes (Doomed t (name fault)) w h.0, tt, h.1)
+
+  pub charged_keeps : (costs : Bool) (w : World) (f : World → Turn) → walk.Holds w → ((units : ℕ) → walk.Holds (record w { units = units }) → Keeps (f (record w { units = units }))) → Keeps (charged costs s w f)
+  charged_keeps false w f h keeps = keeps w.units h
+  charged_keeps true w f h keeps =
+      either_keeps (nat_lt w.units s.fuel) (f (unit_spent w)) (Ends Fuel) (λ e. keeps (w.units + 1) (walk.stays SpendsUnit w (less w.units s.fuel e) tt h)) (λ e. tt)
+
+  pub chosen_keeps : (count : ℕ) (c : ℕ → Control) (w : World) → ((k : ℕ) → ActsBy (c k) (outlines_of w.tasks) w.chain)
+      → IsPicked g s (c (drawn_answer count (picks_of s w))) (with_control (c (drawn_answer count (picks_of s w))) (after (UsesPicks (drawn count (picks_of s w)).used) w)) → walk.Holds w → Keeps (chosen s count c w)
+  unfolding chosen
+  chosen_keeps count c w says picked h = (
+    goes (c (drawn_answer count (picks_of s w))) (after (UsesPicks (drawn count (picks_of s w)).used) w) (walk.stays (UsesPicks (drawn count (picks_of s w)).used) w (count, refl) tt h),
+    picked,
+    says (drawn_answer count (picks_of s w)),
+  )
+
+  -- The acting task goes on with an answer, or on a further stack.
+  pub runs_keeps : (t : ℕ) (words : List ℕ) (w : World) → walk.Holds w → Is IsRunning t w → walk.Holds (goes_on_with t words w) × Unit {0} × OneActs IsRunning (outlines_of (goes_on_with t words w).tasks) w.chain
+  runs_keeps t words w h r = (
+    goes Runs (after (IsAnswered t words) w) (walk.stays (IsAnswered t words) w tt (as_is IsRunning MayHaveStacks t w (λ o k. runs_may o k.0) r) h),
+    tt,
+    (t, stacks_first IsRunning IsRunning w t (answered_stacks words) (λ o k. (k.0, answered_some words o.stacks k.1)) r),
+  )
+
+  pub on_keeps : (t : ℕ) (words : List ℕ) (w : World) → Held true t w → walk.Holds (goes_on_with t words w) × Unit {0} × OneActs IsRunning (outlines_of (goes_on_with t words w).tasks) w.chain
+  on_keeps t words w h = runs_keeps t words w h.0 (as_is (IsActing true) IsRunning t w acting_running h.1)
+
+  pub new_stack_keeps : (t : ℕ) (k : Stack) (w : World) → walk.Holds w → Is InTask t w
+      → walk.Holds (with_control Runs (after (HasNewStack t k) w)) × Unit {0} × OneActs IsRunning (outlines_of (after (HasNewStack t k) w).tasks) w.chain
+  new_stack_keeps t k w h r = (
+    goes Runs (after (HasNewStack t k) w) (walk.stays (HasNewStack t k) w tt (as_is InTask MayHaveStacks t w runs_may r) h),
+    tt,
+    (t, stacks_first IsRunning InTask w t (λ stacks. k ∷ stacks) (λ o i. (i, refl)) r),
+  )
+
+  pub acting_stack_keeps : (b : Bool) (t : ℕ) (k : Stack) (w : World) → Held b t w → walk.Holds (with_control Runs (after (HasNewStack t k) w)) × Unit {0} × OneActs IsRunning (outlines_of (after (HasNewStack t k) w).tasks) w.chain
+  acting_stack_keeps b t k w h = new_stack_keeps t k w h.0 (as_is (IsActing b) InTask t w (acting_runs b) h.1)
+
+  pub blocked_keeps : (t : ℕ) (state : TaskState) (reason : BlockReason) (w : World) → IsFirst t w.chain → IsBlocked state → (may_leave w ≡ true) ⊎ HasFunc w.tasks t → BlocksAs g t state w → Is (StandsBy state) t w → walk.Holds w → Keeps (blocked t state reason w)
+  blocked_keeps t state reason w first is may known stacks h =
+      (goes (control_behind (drop 1 w.chain)) (after (Blocks t state) w) (walk.stays (Blocks t state) w (first, is, may) (known, stacks) h), behind_picked g s (drop 1 w.chain) (with_control (control_behind (drop 1 w.chain)) (after (Blocks t state) w)), left_acts w t state first (walk.chained w h))
+
+  -- one that waits for a task that it called
+  pub waited_keeps : (t callee number : ℕ) (words : List ℕ) (reason : BlockReason) (w : World) → Is (IsIn (AfterCall callee number words)) t w → (options_at g number).is_async ≡ false → HasFunc w.tasks t → walk.Holds w
+      → Keeps (blocked t (InBuiltin number words (ForCall callee)) reason (in_state t Acting w))
+  waited_keeps t callee number words reason w a sync runs h =
+      let state : TaskState = InBuiltin number words (ForCall callee) in
+      let behind : Control = control_behind (drop 1 w.chain) in
+      subst (λ (all : List Task). walk.Holds (let v : World = record w { tasks = all; chain = drop 1 w.chain; control = behind } in v) × IsPicked g s behind (let v : World = record w { tasks = all; chain = drop 1 w.chain; control = behind } in v) × ActsBy behind (outlines_of all) (drop 1 w.chain))
+      (sym (changed_twice t (λ task. record task { state = Acting }) (λ task. record task { state = state }) w.tasks))
+      (goes behind (after (Blocks t state) w) (walk.stays (Blocks t state) w (a.0, tt, inr runs) ((a, sync), waits_stacked w t callee number words a (walk.stacked w h)) h), behind_picked g s (drop 1 w.chain) (with_control behind (after (Blocks t state) w)), left_acts w t state a.0 (walk.chained w h))
+
+  pub entry_keeps : (t i : ℕ) (entry : Entry) (w : World) (more : ℕ → World → Turn) → Leads t w
+      → (live_count (table_of w i) < most_live → Keeps (more (next_index (table_of w i)) (entry_added i entry w))) → Keeps (with_entry t i entry w more)
+  entry_keeps t i entry w more h keeps =
+      either_keeps (nat_lt (live_count (table_of w i)) most_live) (more (next_index (table_of w i)) (entry_added i entry w)) (doomed t trap.TableFull w)
+      (λ e. keeps (less (live_count (table_of w i)) most_live e)) (λ e. (goes (Doomed t trap.TableFull) w h.0, tt, h.1))
+
+  -- Lifting.
+
+  pub removes : (b : Bool) (t i index : ℕ) (w : World) → Stands w i index IsHandle → Held b t w → Held b t (entry_removed i index w)
+  removes b t i index w may h = still b t (RemovesEntry i index) w (handle_is_left w i index may) (handle_unwaited w i index may) tt h
+
+  pub waits : (b : Bool) (t i index : ℕ) (w : World) → Stands w i index (IsTaken w) → Held b t w → Held b t (left_set i index (entry_removed i index w))
+  waits b t i index w may h = still b t (RemovesWaitable i index) w (may.0, may.1, may.2.0) tt tt h
+
+  pub lends : (b : Bool) (t callee index : ℕ) (w : World) → Held b t w → Held b t (lent callee index w)
+  lends b t callee index w h = still b t (IsLent callee index) w tt tt tt h
+
+  abbrev pub KeptSo : Bool → ℕ → Kept → Type 0
+  KeptSo b t k = Held b t k.world
+
+  abbrev pub StoppedSo : Bool → ℕ → Stopped → Type 0
+  StoppedSo b t stop = Held b t stop.world
+
+  pub came_keeps : {A : Type 0} (b : Bool) (t : ℕ) (came : Came A) (more : A → World → Turn) → LeavesWith (KeptSo b t) (StoppedSo b t) came → ((x : A) (w : World) → Held b t w → Keeps (more x w)) → Keeps (once_lifted t came more)
+  came_keeps b t (Ok x) more h keeps = behind_keeps x.1.lines (more x.0 x.1.world) (keeps x.0 x.1.world h)
+  came_keeps b t (Err stop) more h keeps = (goes (Doomed t stop.why) stop.world h.0, tt, h.1.0)

@@ -1,0 +1,213 @@
+-- How tasks resolve and exit, the moves of core functions, and instantiation keep what each change keeps.
+use Rattle.std.proofs.Common.{◌≡◌, inr, ℕ, ◌+◌, Bool, true, false, List, [], ◌∷◌, drop, refl, sym, ap, ◌∙◌, subst, Option, Some, None, Result, Ok, Err}
+use Rattle.std.specs.Prelude.{IsSome, is_none}
+use Rattle.std.specs.List.{slice_get}
+use Rattle.wasm_store.specs.Store.{found_at}
+use Rattle.wasm_store.specs.Stack.{Stack}
+use Rattle.wasm_store.specs.Step.{Move, Goes, Traps}
+use Rattle.wasm_store.specs.Step as core
+use Rattle.wasm_store.specs.Instantiation.{External, Instantiation, Makes, instance_of, instantiated, start_call}
+use Rattle.wasm_store.specs.Instantiation as core_instance
+use Rattle.entry_gate.specs.Callbacks.{callback_of}
+use Rattle.entry_gate.specs.declared.kind.Kind.{Kind}
+use Rattle.entry_gate.specs.declared.kind.Kind.TheVariants.{Sync, Callback, Stackful}
+use Rattle.entry_gate.specs.declared.callback.BadCode.{BadCode}
+use Rattle.entry_gate.specs.declared.callback.Next.{Next}
+use Rattle.entry_gate.specs.declared.callback.Next.TheVariants as next
+use Rattle.tasks.specs.declared.phase.Resolution.TheVariants.{Returned}
+use Rattle.tasks.specs.Tasks.{resolving_fault}
+use Rattle.comp_graph.specs.declared.graph.Action.{Action}
+use Rattle.comp_graph.specs.declared.graph.Action.TheVariants.{Begin, Make}
+use Rattle.comp_graph.specs.declared.graph.FuncRef.{FuncRef}
+use Rattle.comp_graph.specs.Graph.{CoreMake, Graph, Lifted}
+use Rattle.script_reader.specs.Script.{Script}
+use Rattle.trace_show.specs.declared.label.Label.TheVariants as line
+use Rattle.trace_show.specs.declared.label.BlockReason.{BlockReason}
+use Rattle.trace_show.specs.declared.label.BlockReason.TheVariants as reason
+use Rattle.trace_show.specs.declared.trap.TrapName.TheVariants as trap
+use Rattle.trace_show.specs.declared.typed.TypedValue.{TypedValue}
+use Rattle.abi_machine.specs.Traps.{core_name, task_name}
+use Rattle.abi_machine.specs.Control.{After, Replies, Finishes, Free, Instantiates, Runs, Leaves, Doomed}
+use Rattle.abi_machine.specs.Control as control
+use Rattle.abi_machine.specs.World.{Inst, Callee, Caller, Nobody, Host, Guest, TaskState, New as IsNew, Acting, AfterCall, AfterCancel, Begins, WaitsToEnter, InLoop, InBuiltin, Exited, Task, World}
+use Rattle.abi_machine.specs.Edits.{with_control, with_store, in_state, resolved, control_behind}
+use Rattle.abi_machine.specs.Canons.{func_address, canon_at, externals}
+use Rattle.abi_machine.specs.Reading.{table_in, table_of, acting, func_of, kind_of}
+use Rattle.abi_machine.specs.Counting.{task_view}
+use Rattle.abi_machine.specs.Finding.{set_at}
+use Rattle.abi_machine.specs.Lifting.{Came}
+use Rattle.abi_machine.specs.Turn.{blocked}
+use Rattle.abi_machine.specs.Returning.{post_return, finished, passed_to, passed_on, resolves_to, resolves, returning_turn, ending_turn, leaving_turn}
+use Rattle.abi_machine.specs.Looping.{next_turn, looping_turn}
+use Rattle.abi_machine.specs.CoreSteps.{costs, func_ended, stack_ended, ended_over, moved, running_turn}
+use Rattle.abi_machine.specs.Instantiating.{started_up, made as core_made, action_turn, instantiating_turn}
+use Rattle.abi_machine.specs.sound.Changes.{HasStore, BeginsInstance, Acts, Begins as IsBegun, Exits, Resolves as IsResolved, HasStack, LosesStack, after, IsFirst, HasFunc}
+use Rattle.abi_machine.specs.sound.Acting.{Outline, outline_of, outlines_of, HasStacks, WaitsWith, StandsBy, IsStarting, IsActing, RunsIn, IsRunning, OneActs, stacked_after}
+use Rattle.abi_machine.specs.sound.Loops.{GoesOnBy, LoopsIn}
+use Rattle.abi_machine.proofs.sound.Lifts.{Leaves as LeavesWith}
+use Rattle.abi_machine.proofs.sound.known.Lifting.{result_keeps}
+use Rattle.abi_machine.proofs.sound.Found.{some_same, func_changed, acting_first, acting_is, set_stands}
+use Rattle.abi_machine.proofs.sound.Outlines.{outline_there, Is, as_is, is_there, state_first, stacks_first, MayHaveStacks, Runs as InTask, runs_may, acting_waits}
+use Rattle.abi_machine.proofs.sound.acts.Keeping.{IsIn, is_first, acts_at, acts_by, left_acts}
+use Rattle.abi_machine.proofs.sound.acts.Moving.{IsLeftAs, left_runs, may_stack, stacked_again, runs_now}
+use Rattle.abi_machine.proofs.sound.known.Keeping.{Walk, Keeps, Held, still, given_keeps, behind_keeps, goes, refused_keeps, unless_keeps, fault_keeps, charged_keeps, runs_keeps, on_keeps, blocked_keeps, behind_picked, new_stack_keeps, removes, waits, lends, KeptSo, StoppedSo, came_keeps}
+
+-- a task whose function it is goes on in its loop by what the word says
+loops_by : (insts : List Inst) (f : Lifted) (word : ℕ) (r : Result Next BadCode) (o : Option Lifted) → callback_of word ≡ r → GoesOnBy (table_in (slice_get insts f.instance)) r → o ≡ Some f → LoopsIn insts o word
+loops_by insts f word r o e h k =
+    subst (λ (x : Option Lifted). LoopsIn insts x word) (sym k) (subst (GoesOnBy (table_in (slice_get insts f.instance))) (sym e) h)
+
+loops_now : (t : ℕ) (f : Lifted) (word : ℕ) (r : Result Next BadCode) (w : World) → callback_of word ≡ r → Is (λ o. func_of o.callee ≡ Some f) t w → GoesOnBy (table_of w f.instance) r
+    → Is (λ o. LoopsIn w.insts (func_of o.callee) word) t w
+loops_now t f word r w e own h = as_is (λ o. func_of o.callee ≡ Some f) (λ o. LoopsIn w.insts (func_of o.callee) word) t w (λ o k. loops_by w.insts f word r (func_of o.callee) e h k) own
+
+module _ {g : Graph} {s : Script} (walk : Walk g s) where
+  -- Tasks resolve and exit.
+
+  pub finished_keeps : (follows : After) (w : World) → walk.Holds w → OneActs (IsActing (stacked_after follows)) (outlines_of w.tasks) w.chain → Keeps walk (finished follows w)
+  unfolding finished post_return
+  finished_keeps Replies w h o = given_keeps walk (acting w) _ (λ a e. on_keeps walk a.0 [] w (h, acts_at (IsActing true) w a e o))
+  finished_keeps (Finishes ended) w h o = given_keeps walk (acting w) _ (λ a e. given_keeps walk (func_of a.1.callee) _ (λ f i. by a f f.options.post_return (acting_first w a e)))
+    where
+      by : (a : ℕ × Task) (f : Lifted) (r : Option FuncRef) → IsFirst a.0 w.chain → Keeps walk (post_return a.0 f ended r w)
+      by a f None first = (goes walk Leaves w h, tt, o)
+      by a f (Some ref) first = given_keeps walk (found_at w.store.funcs (func_address w.store ref)) _ (λ function e. (goes walk _ w h, tt, (o, first, tt)))
+
+  passed_keeps : (t : ℕ) (caller : Caller) (follows : After) (result : Option TypedValue) (w : World) → Held walk (stacked_after follows) t w → Keeps walk (passed_on g t caller follows result w)
+  unfolding passed_on passed_to
+  passed_keeps t Nobody follows result w h = finished_keeps follows w h.0 (t, h.1)
+  passed_keeps t (Host call values) follows result w h = finished_keeps follows w h.0 (t, h.1)
+  passed_keeps t (Guest subtask) follows None w h = finished_keeps follows w h.0 (t, h.1)
+  passed_keeps t (Guest subtask) follows (Some result) w h = given_keeps walk (canon_at g subtask.canon) _ (λ c e. (goes walk _ w h.0, tt, ((t, h.1), (h.1.0, h.1.0))))
+
+  pub resolves_keeps : (t : ℕ) (task : Task) (follows : After) (came : Came (Option TypedValue)) → LeavesWith (KeptSo walk (stacked_after follows) t) (StoppedSo walk (stacked_after follows) t) came
+      → Keeps walk (resolves g t task follows came)
+  unfolding resolves resolves_to
+  resolves_keeps t task follows came h =
+      let b : Bool = stacked_after follows in
+      came_keeps walk b t came (λ result w. resolves_to g t task follows result w) h (λ result w i.
+      fault_keeps walk t task_name (resolving_fault (task_view g w t task)) w _ (i.0, i.1.0)
+      (behind_keeps walk (line.Return t result ∷ []) (passed_on g t task.caller follows result (resolved t Returned w)) (passed_keeps t task.caller follows result (resolved t Returned w) (still walk b t (IsResolved t Returned) w tt tt tt i))))
+
+  ending_keeps : (t : ℕ) (task : Task) (w : World) → Held walk false t w → Keeps walk (ending_turn t task w)
+  unfolding ending_turn
+  ending_keeps t task w h = unless_keeps walk t (is_none task.resolution) trap.Unresolved w _ (h.0, h.1.0) (λ e. (goes walk Leaves w h.0, tt, (t, h.1)))
+
+  pub leaving_keeps : (w : World) → walk.Holds w → OneActs (IsActing false) (outlines_of w.tasks) w.chain → Keeps walk (leaving_turn w)
+  unfolding leaving_turn
+  leaving_keeps w h o =
+      given_keeps walk (acting w) _ (λ a e. (
+        goes walk (control_behind (drop 1 w.chain)) (after (Exits a.0) w)
+            (walk.stays (Exits a.0) w (acting_first w a e) (as_is (IsActing false) (λ x. HasStacks false x.stacks) a.0 w (λ x k. k.2) (acts_at (IsActing false) w a e o)) h),
+        behind_picked g s (drop 1 w.chain) (with_control (control_behind (drop 1 w.chain)) (after (Exits a.0) w)),
+        left_acts w a.0 Exited (acting_first w a e) (walk.chained w h),
+      ))
+
+  -- Core functions make moves.
+
+  -- A task blocks in its loop.
+  looped_keeps : (t word : ℕ) (why : BlockReason) (w : World) → HasFunc w.tasks t → Is (λ o. LoopsIn w.insts (func_of o.callee) word) t w → Held walk false t w → Keeps walk (blocked t (InLoop word) why w)
+  looped_keeps t word why w runs loops h = blocked_keeps walk t (InLoop word) why w h.1.0 tt (inr runs) loops (as_is (IsActing false) (WaitsWith false) t w (acting_waits false) h.1) h.0
+
+  next_keeps : (t : ℕ) (task : Task) (f : Lifted) (word : ℕ) (r : Result Next BadCode) (w : World) → callback_of word ≡ r → HasFunc w.tasks t → Is (λ o. func_of o.callee ≡ Some f) t w → Held walk false t w
+      → Keeps walk (next_turn t task f.instance word r w)
+  unfolding next_turn
+  next_keeps t task f word (Err why) w e runs own h = (goes walk (Doomed t trap.BadCode) w h.0, tt, h.1.0)
+  next_keeps t task f word (Ok next.Exit) w e runs own h = ending_keeps t task w h
+  next_keeps t task f word (Ok next.Yield) w e runs own h = looped_keeps t word reason.Yield w runs (loops_now t f word (Ok next.Yield) w e own tt) h
+  next_keeps t task f word (Ok (next.Wait set)) w e runs own h =
+      refused_keeps walk t (set_at w f.instance set) w _ (h.0, h.1.0)
+      (λ number i. looped_keeps t word (reason.Wait set) w runs (loops_now t f word (Ok (next.Wait set)) w e own (number, set_stands w f.instance set number i)) h)
+  next_keeps t task f word (Ok (next.Poll set)) w e runs own h =
+      refused_keeps walk t (set_at w f.instance set) w _ (h.0, h.1.0)
+      (λ number i. looped_keeps t word (reason.Poll set) w runs (loops_now t f word (Ok (next.Poll set)) w e own (number, set_stands w f.instance set number i)) h)
+
+  looping_keeps : (t : ℕ) (task : Task) (f : Lifted) (words : List ℕ) (w : World) → HasFunc w.tasks t → Is (λ o. func_of o.callee ≡ Some f) t w → Held walk false t w → Keeps walk (looping_turn t task f.instance words w)
+  unfolding looping_turn
+  looping_keeps t task f [] w runs own h = tt
+  looping_keeps t task f (word ∷ words) w runs own h = next_keeps t task f word (callback_of word) w refl runs own h
+
+  func_keeps : (t : ℕ) (task : Task) (f : Lifted) (kind : Kind) (words : List ℕ) (w : World) → HasFunc w.tasks t → Is (λ o. func_of o.callee ≡ Some f) t w → Held walk false t w → Keeps walk (func_ended g t task f kind words w)
+  unfolding func_ended returning_turn
+  func_keeps t task f Sync words w runs own h =
+      resolves_keeps t task (Finishes words) _ (result_keeps (Held walk false t) (removes walk false t) (waits walk false t) (lends walk false t) f.instance t _ f.func_type.result f.options words w h)
+  func_keeps t task f Stackful words w runs own h = ending_keeps t task w h
+  func_keeps t task f Callback words w runs own h = looping_keeps t task f words w runs own h
+
+  stack_keeps : (t : ℕ) (task : Task) (state : TaskState) (words : List ℕ) (w : World) → Is (IsLeftAs task.callee state []) t w → RunsIn state task.callee → (IsSome (func_of task.callee) → HasFunc w.tasks t) → walk.Holds w
+      → Keeps walk (stack_ended g t task state words w)
+  unfolding stack_ended
+  stack_keeps t task (Begins n) words w a r runs h =
+      (goes walk (Instantiates n) (in_state t Acting w) (walk.stays (Acts t) w a.0 tt h), tt, (t, state_first IsStarting (IsLeftAs task.callee (Begins n) []) w t Acting (λ o k. (refl, k.2)) a))
+  stack_keeps t task Acting words w a r runs h =
+      given_keeps walk (func_of task.callee) _ (λ f e. func_keeps t task f (kind_of task) words w (runs r) (as_is (IsLeftAs task.callee Acting []) (λ o. func_of o.callee ≡ Some f) t w (λ o k. ap func_of k.0 ∙ e) a)
+      (h, as_is (IsLeftAs task.callee Acting []) (IsActing false) t w (λ o k. (subst (λ (c : Callee). IsSome (func_of c)) (sym k.0) r, k.1, k.2)) a))
+  stack_keeps t task IsNew words w a r runs h = tt
+  stack_keeps t task (AfterCall callee number others) words w a r runs h = tt
+  stack_keeps t task (AfterCancel callee number others) words w a r runs h = tt
+  stack_keeps t task WaitsToEnter words w a r runs h = tt
+  stack_keeps t task (InLoop word) words w a r runs h = tt
+  stack_keeps t task (InBuiltin number others wait) words w a r runs h = tt
+  stack_keeps t task Exited words w a r runs h = tt
+
+  over_keeps : (t : ℕ) (task : Task) (stacks : List Stack) (words : List ℕ) (w : World) → Is (IsLeftAs task.callee task.state stacks) t w → RunsIn task.state task.callee
+      → (IsSome (func_of task.callee) → HasFunc w.tasks t) → walk.Holds w → Keeps walk (ended_over g t task stacks words w)
+  unfolding ended_over
+  over_keeps t task [] words w a r runs h = stack_keeps t task task.state words w a r runs h
+  over_keeps t task (k ∷ under) words w a r runs h =
+      runs_keeps walk t [] w h
+      (as_is (IsLeftAs task.callee task.state (k ∷ under)) IsRunning t w
+      (λ o l. (left_runs task.callee task.state (k ∷ under) r o l, subst (λ (all : List Stack). IsSome (slice_get all 0)) (sym l.2) refl)) a)
+
+  move_keeps : (t : ℕ) (task : Task) (m : Move) (w : World) → slice_get w.tasks t ≡ Some task → Is (λ o. o ≡ outline_of task) t w → RunsIn task.state task.callee → walk.Holds w → Keeps walk (moved g t task m w)
+  unfolding moved
+  move_keeps t task (Goes paid store k) w there a r h = (
+    goes walk Runs (after (HasStack t k) (with_store store w)) (walk.stays (HasStack t k) (with_store store w) tt (may_stack t task w a r) (walk.stays (HasStore store) w tt tt h)),
+    tt,
+    (t, stacked_again t task k w a r),
+  )
+  move_keeps t task (core.Calls address words k) w there a r h =
+      (goes walk (control.Calls address words) (after (HasStack t k) w) (walk.stays (HasStack t k) w tt (may_stack t task w a r) h), tt, (t, stacked_again t task k w a r))
+  move_keeps t task (core.Ends words) w there a r h =
+      over_keeps t task (drop 1 task.stacks) words (after (LosesStack t) w)
+      (stacks_first (IsLeftAs task.callee task.state (drop 1 task.stacks)) (λ o. o ≡ outline_of task) w t (λ stacks. drop 1 stacks)
+      (λ o e. (ap (λ (x : Outline). x.callee) e, ap (λ (x : Outline). x.state) e, ap (λ (x : Outline). drop 1 x.stacks) e)) a) r
+      (λ some. func_changed w.tasks t t (λ x. record x { stacks = drop 1 x.stacks }) (λ x. refl) (task, there, some)) (walk.stays (LosesStack t) w tt (may_stack t task w a r) h)
+  move_keeps t task (Traps why) w there a r h = (goes walk (Doomed t (core_name why)) w h, tt, a.0)
+  move_keeps t task core.Stuck w there a r h = tt
+
+  pub running_keeps : (w : World) → walk.Holds w → OneActs IsRunning (outlines_of w.tasks) w.chain → Keeps walk (running_turn g s w)
+  unfolding running_turn
+  running_keeps w h o =
+      given_keeps walk (acting w) _ (λ a e. given_keeps walk (slice_get a.1.stacks 0) _ (λ k i.
+      charged_keeps walk (costs k (core.next w.store k)) w (λ v. moved g a.0 a.1 (core.next w.store k) v) h (λ units j.
+      move_keeps a.0 a.1 (core.next w.store k) (record w { units = units }) (acting_is w a e) (acts_by w a e) (runs_now w a e o) j)))
+
+  -- Task 0 instantiates.
+
+  first_of_one : (w : World) → w.chain ≡ 0 ∷ [] → IsFirst 0 w.chain
+  first_of_one w one = ap (λ (l : List ℕ). slice_get l 0) one
+
+  start_keeps : (n : ℕ) (k : Option Stack) (w : World) → w.chain ≡ 0 ∷ [] → walk.Holds w → OneActs IsStarting (outlines_of w.tasks) w.chain → Keeps walk (started_up n k w)
+  unfolding started_up
+  start_keeps n None w one h o = (goes walk (Instantiates n) w h, tt, o)
+  start_keeps n (Some k) w one h o =
+      new_stack_keeps walk 0 k (in_state 0 (Begins n) w) (walk.stays (IsBegun n) w (first_of_one w one) tt h) (state_first InTask IsStarting w 0 (Begins n) (λ x i. tt) (is_first IsStarting w 0 (first_of_one w one) o))
+
+  core_keeps : (n : ℕ) (c : CoreMake) (imports : List External) (r : Instantiation) (w : World) → w.chain ≡ 0 ∷ [] → walk.Holds w → OneActs IsStarting (outlines_of w.tasks) w.chain → Keeps walk (core_made n c imports r w)
+  unfolding core_made
+  core_keeps n c imports (core_instance.SegmentBounds store) w one h o = (goes walk (Doomed 0 trap.SegmentBounds) (with_store store w) (walk.stays (HasStore store) w tt tt h), tt, first_of_one w one)
+  core_keeps n c imports (Makes store) w one h o =
+      start_keeps (n + 1) (start_call c.of_module (instance_of c.of_module imports w.store) store) (with_store store w) one (walk.stays (HasStore store) w tt tt h) o
+
+  action_keeps : (n : ℕ) (a : Option Action) (w : World) → w.chain ≡ 0 ∷ [] → walk.Holds w → OneActs IsStarting (outlines_of w.tasks) w.chain → Keeps walk (action_turn g n a w)
+  unfolding action_turn
+  action_keeps n None w one h o = (goes walk Free (after (Exits 0) w) (walk.stays (Exits 0) w (first_of_one w one) (as_is IsStarting (λ x. HasStacks false x.stacks) 0 w (λ x k. k.1) (is_first IsStarting w 0 (first_of_one w one) o)) h), tt, ap (λ (l : List ℕ). drop 1 l) one)
+  action_keeps n (Some (Begin number)) w one h o = (goes walk (Instantiates (n + 1)) (after BeginsInstance w) (walk.stays BeginsInstance w tt tt h), tt, o)
+  action_keeps n (Some (Make number)) w one h o =
+      given_keeps walk (slice_get g.cores number) _ (λ c e. given_keeps walk (externals w.store c.imports) _ (λ imports i.
+      core_keeps n c imports (instantiated c.of_module imports w.store) w one h o))
+
+  pub instantiating_keeps : (n : ℕ) (w : World) → w.chain ≡ 0 ∷ [] → walk.Holds w → OneActs IsStarting (outlines_of w.tasks) w.chain → Keeps walk (instantiating_turn g n w)
+  unfolding instantiating_turn
+  instantiating_keeps n w one h o = action_keeps n (slice_get g.plan n) w one h o

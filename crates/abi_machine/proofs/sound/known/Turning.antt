@@ -1,0 +1,121 @@
+-- Each turn keeps what each change keeps, and what is picked is there.
+use Rattle.std.proofs.Common.{◌≡◌, ◌⊎◌, inl, inr, ℕ, true, List, [], ◌∷◌, length, refl, sym, ap, ◌∙◌, subst, Option, Some, None}
+use Rattle.std.specs.Prelude.{IsSome}
+use Rattle.std.specs.List.{slice_get, AllByRecursion}
+use Rattle.wasm_store.proofs.Lists.{all_at}
+use Rattle.tasks.specs.Tasks.{may_cancel}
+use Rattle.comp_graph.specs.Graph.{Graph, func_named}
+use Rattle.script_reader.specs.declared.script.Item.{Item}
+use Rattle.script_reader.specs.declared.script.Item.TheVariants as item
+use Rattle.script_reader.specs.Script.{Script}
+use Rattle.trace_show.specs.declared.label.Label.{Label}
+use Rattle.trace_show.specs.declared.label.Label.TheVariants as line
+use Rattle.trace_show.specs.declared.trap.TrapName.{TrapName}
+use Rattle.abi_machine.specs.declared.run_end.RunEnd.TheVariants.{Trapped}
+use Rattle.abi_machine.specs.Control.{Control, Free, Chosen, Instantiates, Runs, Arrives, Lowers, Quiet, Back, Goes as GoesOn, Resumes, Delivers, Leaves, Doomed}
+use Rattle.abi_machine.specs.Control as control
+use Rattle.abi_machine.specs.World.{Func, Host, New, Task, World, new_task}
+use Rattle.abi_machine.specs.Edits.{with_control, item_taken, chained}
+use Rattle.abi_machine.specs.Reading.{acting, unfinished}
+use Rattle.abi_machine.specs.Counting.{task_view}
+use Rattle.abi_machine.specs.Turn.{Turn, Steps, Ends, silent}
+use Rattle.abi_machine.specs.Cancelling.{cancelled_turn}
+use Rattle.choices.specs.Drawing.{drawn}
+use Rattle.abi_machine.specs.Choosing.{picks_of}
+use Rattle.abi_machine.specs.Scheduling.{Alternative, Takes, GoesOn as GoesOnTask, alternatives, call_taken, cancel_taken, task_of_call, item_turn, gone, going_turn, alternative_turn, end_by, one_of, free_turn, chosen_turn}
+use Rattle.abi_machine.specs.Next.{next_by}
+use Rattle.abi_machine.specs.Next as machine
+use Rattle.abi_machine.specs.sound.Changes.{Change, TakesItem, IsCalled, ComesBack, after}
+use Rattle.abi_machine.specs.sound.Controls.{Says}
+use Rattle.abi_machine.specs.sound.Acting.{outline_of, outlines_of, WasBlocked, OneActs, ActsBy}
+use Rattle.abi_machine.proofs.sound.Found.{call_is}
+use Rattle.abi_machine.proofs.sound.Able.{MayBeDone, all_may}
+use Rattle.abi_machine.proofs.sound.Outlines.{outline_there}
+use Rattle.abi_machine.proofs.sound.acts.Keeping.{IsUntrapped, new_acts}
+use Rattle.abi_machine.specs.sound.Picked.{IsPicked}
+use Rattle.abi_machine.proofs.sound.acts.Turning.{IsUndoomed, doomed_or_not}
+use Rattle.abi_machine.proofs.sound.known.Picking.{picked_there}
+use Rattle.abi_machine.proofs.sound.known.Keeping.{Facts, Walk, Keeps, given_keeps, behind_keeps, either_keeps, goes, charged_keeps, chosen_keeps}
+use Rattle.abi_machine.proofs.sound.known.Moving.{leaving_keeps, running_keeps, instantiating_keeps}
+use Rattle.abi_machine.proofs.sound.known.Waking.{arriving_keeps, delivering_keeps, resuming_keeps, back_keeps, idle_cancelled_keeps}
+use Rattle.abi_machine.proofs.sound.known.Nesting.{nested_keeps, lowers_keeps}
+use Rattle.abi_machine.proofs.sound.known.Answering.{calling_keeps}
+
+end_untrapped : (tasks : List ℕ) → IsUntrapped (end_by tasks)
+end_untrapped [] = tt
+end_untrapped (t ∷ tasks) = tt
+
+module _ {g : Graph} {s : Script} (walk : Walk g s) where
+  -- Turns of the scheduler.
+
+  item_keeps : (i : Item) (w : World) → w.chain ≡ [] → walk.Holds (item_taken w) → Keeps walk (item_turn g s i w)
+  unfolding item_turn call_taken cancel_taken
+  item_keeps (item.Call call) w idle taken =
+      given_keeps walk (func_named g call.name) _ (λ f e.
+      let c : Change = IsCalled (Func f) _ call.values in
+      (goes walk Arrives (after c (item_taken w)) (walk.stays c (item_taken w) (refl, idle) tt taken), tt, new_acts w.tasks w.chain (new_task (Func f) (Host _ call.values) New) refl))
+  item_keeps (item.Cancel call) w idle taken =
+      given_keeps walk (task_of_call call w) _ (λ found e.
+      behind_keeps walk (line.Cancel call ∷ []) _
+      (either_keeps walk (may_cancel (task_view g (item_taken w) found.0 found.1)) (cancelled_turn g found.0 found.1 Free (item_taken w)) (silent Free (item_taken w))
+      (λ f. idle_cancelled_keeps walk found.0 found.1 (item_taken w) (call_is call w found e) idle taken) (λ f. (goes walk Free (item_taken w) taken, tt, idle))))
+
+  gone_keeps : (t : ℕ) (w : World) → walk.Holds w → OneActs WasBlocked (outlines_of w.tasks) w.chain → Keeps walk (gone t w)
+  unfolding gone
+  gone_keeps t w h o = (goes walk Resumes w h, tt, o)
+
+  alternative_keeps : (a : Alternative) (w : World) → MayBeDone s w a → w.chain ≡ [] → walk.Holds w → Keeps walk (alternative_turn g s a w)
+  unfolding alternative_turn
+  alternative_keeps (Takes i) w there idle h =
+      charged_keeps walk true w (λ v. item_turn g s i v) h (λ units j. item_keeps i (record w { units = units }) idle (walk.stays TakesItem (record w { units = units }) (subst (λ (o : Option Item). IsSome o) (sym there) refl) tt j))
+  alternative_keeps (GoesOnTask t) w there idle h =
+      charged_keeps walk true w (λ v. gone t (chained t v)) h (λ units j. gone_keeps t (after (ComesBack t) (record w { units = units }))
+      (walk.comes t (record w { units = units }) there.0 there.1 there.2.0 there.2.1 idle j) (t, (refl, (outline_of there.0, outline_there w.tasks t there.0 there.1, there.2.1))))
+
+  one_keeps : (all : List Alternative) (w : World) → alternatives g s w ≡ all → AllByRecursion (MayBeDone s w) all → w.chain ≡ [] → walk.Holds w → Keeps walk (one_of g s all w)
+  unfolding one_of
+  one_keeps [] w same are idle h = end_untrapped (unfinished w)
+  one_keeps (a ∷ []) w same are idle h = alternative_keeps a w are.0 idle h
+  one_keeps (a ∷ other ∷ others) w same are idle h =
+      chosen_keeps walk (length (a ∷ other ∷ others)) Chosen w (λ k. idle)
+      (picked_there g s w (drawn (length (a ∷ other ∷ others)) (picks_of s w)).used Free a (other ∷ others) (picks_of s w) same) h
+
+  free_keeps : (w : World) → w.chain ≡ [] → walk.Holds w → Keeps walk (free_turn g s w)
+  unfolding free_turn
+  free_keeps w idle h = one_keeps (alternatives g s w) w refl (all_may g s w) idle h
+
+  chosen_turn_keeps : (k : ℕ) (w : World) → w.chain ≡ [] → walk.Holds w → Keeps walk (chosen_turn g s k w)
+  unfolding chosen_turn
+  chosen_turn_keeps k w idle h = given_keeps walk (slice_get (alternatives g s w) k) _ (λ a e. alternative_keeps a w (all_at (MayBeDone s w) (alternatives g s w) k a (all_may g s w) e) idle h)
+
+  going_keeps : (w : World) → walk.Holds w → OneActs WasBlocked (outlines_of w.tasks) w.chain → Keeps walk (going_turn s w)
+  unfolding going_turn
+  going_keeps w h o = given_keeps walk (acting w) _ (λ a e. charged_keeps walk true w (λ v. gone a.0 v) h (λ units j. gone_keeps a.0 (record w { units = units }) j o))
+
+  -- The machine.
+
+  pub each_keeps : (w : World) (c : Control) → (walk.Given → Facts g w) → IsUndoomed c → Says c w.chain → ActsBy c (outlines_of w.tasks) w.chain → walk.Holds w → Keeps walk (next_by g s w c)
+  each_keeps w Free facts undoomed says o h = free_keeps w says h
+  each_keeps w (Chosen k) facts undoomed says o h = chosen_turn_keeps k w says h
+  each_keeps w (Instantiates n) facts undoomed says o h = instantiating_keeps walk n w says h o
+  each_keeps w Runs facts undoomed says o h = running_keeps walk w h o
+  each_keeps w (control.Calls number words) facts undoomed says o h = calling_keeps walk number words w facts h o
+  each_keeps w Arrives facts undoomed says o h = arriving_keeps walk w h o
+  each_keeps w (Lowers l plan) facts undoomed says o h = lowers_keeps walk l plan w h o.0 o.1
+  each_keeps w (Quiet n b) facts undoomed says o h = nested_keeps walk n b w h o.0 o.1 o.2
+  each_keeps w Back facts undoomed says o h = back_keeps walk w facts h
+  each_keeps w GoesOn facts undoomed says o h = going_keeps w h o
+  each_keeps w Resumes facts undoomed says o h = resuming_keeps walk w facts h
+  each_keeps w (Delivers set receiver pick) facts undoomed says o h = delivering_keeps walk set receiver pick w facts h o
+  each_keeps w Leaves facts undoomed says o h = leaving_keeps walk w h o
+  each_keeps w (Doomed t why) facts undoomed says o h = absurd undoomed
+
+  pub step_known : (w v : World) (labels : List Label) → (walk.Given → Facts g w) → Says w.control w.chain → ActsBy w.control (outlines_of w.tasks) w.chain → walk.Holds w → machine.next g s w ≡ Steps labels v
+      → walk.Holds v × IsPicked g s v.control v × ActsBy v.control (outlines_of v.tasks) v.chain
+  step_known w v labels facts says o h e = elim (doomed_or_not w.control) [
+    | inl undoomed ↦ subst (Keeps walk) e (each_keeps (with_control Free w) w.control (λ given. record { called = (facts given).called; subtasks = (facts given).subtasks }) undoomed says o (goes walk Free w h))
+    | inr d ↦ absurd (never d.0 d.1 (ap (λ (c : Control). next_by g s (with_control Free w) c) (sym d.2) ∙ e))
+  ]
+    where
+      never : (t : ℕ) (why : TrapName) → next_by g s (with_control Free w) (Doomed t why) ≡ Steps labels v → ⊥
+      never t why i = cc
