@@ -44,3 +44,4 @@ pub mod Picking
 pub mod own
 pub mod Owning
 pub mod SetWaiting
+pub mod OnePlace

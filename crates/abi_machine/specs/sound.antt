@@ -29,3 +29,5 @@ pub mod Subtasks
 pub mod Picked
 pub mod Owners
 pub mod SetWaits
+pub mod EndPlaces
+pub mod Writers

@@ -24,11 +24,12 @@ ghost use Rattle.abi_machine.specs.sound.Owners.{FirstIsOwn, OwnStays};
 ghost use Rattle.abi_machine.specs.sound.Picked.{FirstIsPicked, PickedStays};
 ghost use Rattle.abi_machine.specs.sound.SetWaits.{FirstHasSets, SetsStay};
 ghost use Rattle.abi_machine.specs.sound.Subtasks.{FirstHasSubtasks, SubtasksStay};
+ghost use Rattle.abi_machine.specs.sound.Writers.{FirstHasWriters, WritersStayInOnePlace};
 
 /// Task 0 instantiates, and runs alone until it has exited; it never runs again, and no other task runs a start function. Control says
 /// what is so: where a turn begins no task runs; elsewhere, but where control is back at a task or the run ends in a trap, the acting task
 /// acts, is new, or may be inside its instance; and what is to be copied has room at the other end. A task that is new or waits to enter
-/// has not resolved, and its caller was not told that it has. So it is in the first world, and so it stays in every step.
+/// has not resolved, and its caller was not told that it has; a writable end stands in one place. So it is in the first world, and so it stays in every step.
 pub fn init_runs_alone()
     ensures first { FirstRunsAlone }
     ensures stays { StaysAlone }
@@ -197,4 +198,11 @@ pub fn definitions_stay_apart()
 pub fn set_waits_stay()
     ensures first { FirstHasSets }
     ensures stays { SetsStay }
+{}
+
+/// A writable end of a stream or a future stands in one table at most, at one index, and is of one that was made: so it is in the first
+/// world, and so it stays in every step.
+pub fn writers_stay_in_one_place()
+    ensures first { FirstHasWriters }
+    ensures stays { WritersStayInOnePlace }
 {}

@@ -1,5 +1,5 @@
 -- Task 0 runs alone until it has exited, and never again.
-use Rattle.std.proofs.Common.{◌≡◌, ◌<◌, ◌≤◌, ◌⊎◌, inl, inr, ℕ, zero, suc, true, List, [], ◌∷◌, ◌++◌, length, drop, refl, sym, ap, ◌∙◌, subst, arith, Option, Some}
+use Rattle.std.proofs.Common.{◌≡◌, ◌<◌, ◌≤◌, ◌⊎◌, inl, inr, ℕ, zero, suc, true, List, [], ◌∷◌, ◌++◌, length, drop, refl, sym, ap, ◌∙◌, subst, arith, Option, Some, None}
 use Rattle.std.specs.Prelude.{IsSome}
 use Rattle.std.specs.List.{slice_get, AllByRecursion}
 use Rattle.wasm_store.proofs.Lists.{all_at}
@@ -8,7 +8,7 @@ use Rattle.comp_graph.specs.Graph.{Graph}
 use Rattle.script_reader.specs.Script.{Script}
 use Rattle.abi_machine.specs.Control.{Control, Free, Chosen, Instantiates, Runs, Arrives, Lowers, Quiet, Back, Goes, Resumes, Delivers, Leaves, Doomed}
 use Rattle.abi_machine.specs.Control as control
-use Rattle.abi_machine.specs.World.{Callee, Init, Subtask, Host, Guest, TaskState, New, Acting, AfterCall, AfterCancel, WaitsToEnter, InLoop, InBuiltin, Exited, Task, World, new_task}
+use Rattle.abi_machine.specs.World.{OfEnd, Callee, Init, Subtask, Host, Guest, TaskState, New, Acting, AfterCall, AfterCancel, WaitsToEnter, InLoop, InBuiltin, Exited, Task, World, new_task}
 use Rattle.abi_machine.specs.World as world
 use Rattle.abi_machine.specs.Edits.{changed_at}
 use Rattle.abi_machine.specs.Reading.{func_of, has_exited, is_instantiated}
@@ -18,6 +18,8 @@ use Rattle.abi_machine.specs.sound.Firsts.{TaskIs}
 use Rattle.abi_machine.specs.sound.Agreeing.{Agrees}
 use Rattle.abi_machine.specs.sound.Controls.{Says}
 use Rattle.abi_machine.specs.sound.Entering.{EntersUnresolved, EnterUnresolved}
+use Rattle.abi_machine.specs.sound.EndPlaces.{WritersStand, WritersStandOnce}
+use Rattle.abi_machine.specs.sound.Writers.{FirstHasWriters, WritersStayInOnePlace}
 use Rattle.abi_machine.specs.sound.Initial.{IsInitial, StartsNothing, InitRunsAlone, RunsAlone, FirstRunsAlone, StaysAlone}
 use Rattle.trace_show.specs.declared.label.Label.{Label}
 use Rattle.abi_machine.specs.Turn.{Steps}
@@ -26,6 +28,7 @@ use Rattle.abi_machine.proofs.sound.Lists.{changed_either, more_either, get_fron
 use Rattle.abi_machine.proofs.sound.Found.{some_same, changed_there}
 use Rattle.abi_machine.proofs.sound.Aside.{channel_kept, made_kept}
 use Rattle.abi_machine.proofs.sound.Unresolved.{unresolved_kept}
+use Rattle.abi_machine.proofs.sound.OnePlace.{writers_kept}
 use Rattle.abi_machine.proofs.sound.turns.Keeping.{Invariant}
 use Rattle.abi_machine.proofs.sound.Steps.{step_keeps}
 
@@ -318,7 +321,7 @@ comes_may g s SpendsUnit w may = may
 comes_may g s (UsesPicks picks) w may = may
 comes_may g s TakesItem w may = may
 comes_may g s BeginsInstance w may = tt
-comes_may g s (AddsEntry i entry) w may = may
+comes_may g s (AddsEntry i entry) w may = (may.0, may.1)
 comes_may g s (MakesSet i set) w may = may
 comes_may g s (RemovesEntry i index) w may = (may.0, may.1, may.2.0)
 comes_may g s (RemovesWaitable i index) w may = (may.0, may.1, may.2.0)
@@ -367,43 +370,55 @@ agrees_says (Delivers set receiver pick) w h = tt
 agrees_says Leaves w h = tt
 agrees_says (Doomed t why) w h = tt
 
+first_writers : WritersStand [] [] []
+first_writers = record { once = λ i index j other e side a b. (let clash : None ≡ Some (OfEnd e) = a in cc); made = λ i index e side a. (let clash : None ≡ Some (OfEnd e) = a in cc) }
+
 pub first_runs_alone : FirstRunsAlone
-first_runs_alone g = (record { init = new_task Init world.Nobody Acting; there = refl; instantiates = refl; alone = refl; others = others_none g }, refl, refl, (λ new. absurd new, tt))
+first_runs_alone g = (record { init = new_task Init world.Nobody Acting; there = refl; instantiates = refl; alone = refl; others = others_none g }, refl, refl, (λ new. absurd new, tt), first_writers)
 
 init_there : (w : World) → Alone w → TaskIs w.tasks 0 (λ task. task.callee ≡ Init)
 init_there w h = (h.init, h.there, h.instantiates)
 
 -- what every change keeps by itself
 abbrev IsAlone : World → Type 0
-IsAlone w = Alone w × EnterUnresolved w.tasks
+IsAlone w = Alone w × EnterUnresolved w.tasks × WritersStandOnce w
 
 abbrev alone_by_itself : (g : Graph) (s : Script) → Invariant g s
 alone_by_itself g s = record {
   Holds = IsAlone;
-  stays = λ c u may k. (stands_alone g s c u (comes_may g s c u may) k.0, unresolved_kept g s c u may k.1);
+  stays = λ c u may k. (stands_alone g s c u (comes_may g s c u may) k.0, unresolved_kept g s c u may k.1, writers_kept g s c u may k.2);
   there = λ u k. init_there u k.0;
   alone = λ u t task n k. begins_alone u t task n k.0;
   enters = λ u t task k there. all_at EntersUnresolved u.tasks t task k.1 there;
+  writers = λ u k. k.2;
 }
 
 pub stays_alone : StaysAlone
 stays_alone g s w v labels h e =
-    let k : IsAlone v × Agrees v.control v = step_keeps (alone_by_itself g s) w v labels h.2 (h.0, h.3) e in
-    (k.0.0, agrees_says v.control v k.1, k.1, k.0.1)
+    let k : IsAlone v × Agrees v.control v = step_keeps (alone_by_itself g s) w v labels h.2 (h.0, h.3, h.4) e in
+    (k.0.0, agrees_says v.control v k.1, k.1, k.0.1, k.0.2)
+
+-- So writable ends stay in one place.
+pub first_has_writers : FirstHasWriters
+first_has_writers g = first_writers
+
+pub writers_stay : WritersStayInOnePlace
+writers_stay g s w v labels h e = (stays_alone g s w v labels h e).4
 
 -- What every change keeps stays, beside task 0.
 abbrev beside_alone : (g : Graph) (s : Script) (K : World → Type 0) → ((c : Change) (w : World) → Comes g s c w → K w → K (after c w)) → Invariant g s
 beside_alone g s K keep = record {
-  Holds = λ u. Alone u × EnterUnresolved u.tasks × K u;
-  stays = λ c u may k. (stands_alone g s c u (comes_may g s c u may) k.0, unresolved_kept g s c u may k.1, keep c u may k.2);
+  Holds = λ u. Alone u × EnterUnresolved u.tasks × WritersStandOnce u × K u;
+  stays = λ c u may k. (stands_alone g s c u (comes_may g s c u may) k.0, unresolved_kept g s c u may k.1, writers_kept g s c u may k.2, keep c u may k.3);
   there = λ u k. init_there u k.0;
   alone = λ u t task n k. begins_alone u t task n k.0;
   enters = λ u t task k there. all_at EntersUnresolved u.tasks t task k.1 there;
+  writers = λ u k. k.2;
 }
 
 pub kept_so : (g : Graph) (s : Script) (K : World → Type 0) → ((c : Change) (w : World) → Comes g s c w → K w → K (after c w)) → (w v : World) (labels : List Label) → RunsAlone w → K w
     → next g s w ≡ Steps labels v → K v
-kept_so g s K keep w v labels alone h e = (step_keeps (beside_alone g s K keep) w v labels alone.2 (alone.0, alone.3, h) e).0.2
+kept_so g s K keep w v labels alone h e = (step_keeps (beside_alone g s K keep) w v labels alone.2 (alone.0, alone.3, alone.4, h) e).0.3
 
 pub kept_alone : (g : Graph) (s : Script) (K : World → Type 0) → ((c : Change) (w : World) → MayCome g s c w → K w → K (after c w)) → (w v : World) (labels : List Label) → RunsAlone w → K w
     → next g s w ≡ Steps labels v → K v

@@ -32,6 +32,7 @@ use Rattle.abi_machine.specs.replies.Streams.{max_length}
 use Rattle.abi_machine.specs.sound.Changes.{Change, SpendsUnit, UsesPicks, TakesItem, AddsEntry, MakesSet, RemovesEntry, RemovesWaitable, JoinsSet, HasBackpressure, IsCalled, Calls, ComesBack, Acts, Begins, Cancels, Blocks, Exits, IsRemoved, Resolves, IsCancelled, IsTold, IsLent, MakesChannel, Offers, Transfers, DropsEnd, IsWaitable, Stands, IsLeft, IsAdded, IsFirst, HasFunc, FirstCancels, IsBlocked}
 use Rattle.abi_machine.specs.sound.Firsts.{TaskIs, IsActing, IsLetIn}
 use Rattle.abi_machine.specs.sound.Agreeing.{IsDueAt, channel_in}
+use Rattle.abi_machine.specs.sound.EndPlaces.{IsFreshEnd}
 
 -- One that is to wait until it may enter is new, and any other one acts before it blocks.
 abbrev pub BlocksFrom : TaskState → Task → Type 0
@@ -160,7 +161,7 @@ abbrev pub Comes : Graph → Script → Change → World → Type 0
 Comes g s SpendsUnit w = w.units < s.fuel
 Comes g s (UsesPicks picks) w = (count : ℕ) × (picks ≡ (drawn count (picks_of s w)).used)
 Comes g s TakesItem w = IsSome (slice_get s.items w.taken)
-Comes g s (AddsEntry i entry) w = (live_count (table_of w i) < most_live) × IsAdded w.tasks entry
+Comes g s (AddsEntry i entry) w = (live_count (table_of w i) < most_live) × IsAdded w.tasks entry × IsFreshEnd w entry
 Comes g s (MakesSet i set) w = (live_count (table_of w i) < most_live) × (set ≡ length (sets_in (slice_get w.insts i)))
 Comes g s (RemovesEntry i index) w = Stands w i index (IsFree w i index)
 Comes g s (RemovesWaitable i index) w = Stands w i index (IsTaken w)

@@ -80,6 +80,7 @@ use Rattle.builtin_kinds.specs.declared.EndKind.TheVariants.{Stream, Future}
 use Rattle.abi_machine.specs.sound.Firsts.{TaskIs, IsActing}
 use Rattle.abi_machine.specs.sound.Changes.{IsFirst}
 use Rattle.abi_machine.proofs.sound.Found.{some_same, renamed_ok, acting_first, acting_is, now_cancels, dropped_free, waitable_stands, set_stands, set_empty, set_few, inc_few, dec_few}
+use Rattle.abi_machine.proofs.sound.OnePlace.{new_is_made, new_nowhere}
 use Rattle.abi_machine.proofs.sound.Takeable.{subtask_taken, end_found}
 use Rattle.abi_machine.proofs.sound.Acted.{one_task, first_at, changed_where}
 use Rattle.abi_machine.proofs.sound.Entries.{right_true, not_false, asked_is, told_is, unasked_is, unresolved_is}
@@ -144,7 +145,7 @@ module _ {g : Graph} {s : Script} (inv : Invariant g s) where
   unfolding resource_new_turn
   new_handle_keeps t i resource rep w h =
       entry_keeps inv t i (OwnHandle resource rep) w (λ index v. replied t (index ∷ []) v) h (λ few.
-      on_keeps inv t (next_index (table_of w i) ∷ []) (entry_added i (OwnHandle resource rep) w) (stay inv (AddsEntry i (OwnHandle resource rep)) w tt (few, tt) h))
+      on_keeps inv t (next_index (table_of w i) ∷ []) (entry_added i (OwnHandle resource rep) w) (stay inv (AddsEntry i (OwnHandle resource rep)) w tt (few, tt, tt) h))
 
   destroyed_keeps : (t i number : ℕ) (words : List ℕ) (resource : ℕ) (r : Resource) (destructor : Option FuncRef) (rep : ℕ) (w : World) → IsSome (task_at w t) → IsFirst t w.chain → may_leave w ≡ true → Acted inv w
       → Keeps inv (destroyed t i number words resource r destructor rep w)
@@ -254,9 +255,9 @@ module _ {g : Graph} {s : Script} (inv : Invariant g s) where
       let both : ℕ → World → Turn = λ first u. with_entry t i writable u (λ second x. replied t (both_indices first second ∷ []) x) in
       entry_keeps inv t i readable v both j (λ few.
       let u : World = entry_added i readable v in
-      let k : Acted inv u = stay inv (AddsEntry i readable) v tt (few, tt) j in
+      let k : Acted inv u = stay inv (AddsEntry i readable) v tt (few, tt, inl refl) j in
       entry_keeps inv t i writable u (λ second x. replied t (both_indices (next_index (table_of v i)) second ∷ []) x) k (λ more.
-      on_keeps inv t (both_indices (next_index (table_of v i)) (next_index (table_of u i)) ∷ []) (entry_added i writable u) (stay inv (AddsEntry i writable) u tt (more, tt) k)))
+      on_keeps inv t (both_indices (next_index (table_of v i)) (next_index (table_of u i)) ∷ []) (entry_added i writable u) (stay inv (AddsEntry i writable) u tt (more, tt, inr (new_is_made i kind element w, new_nowhere i kind element w (inv.writers w h.0))) k)))
 
   placed_keeps : (t : ℕ) (bytes : List ℕ) (element : Option ValType) (place size : ℕ) (w : World) (more : Turn) → Acted inv w → Keeps inv more → Keeps inv (placed_well t bytes element place size w more)
   unfolding placed_well

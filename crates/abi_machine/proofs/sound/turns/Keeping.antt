@@ -28,6 +28,7 @@ use Rattle.abi_machine.specs.sound.Changes.{IsFirst}
 use Rattle.abi_machine.specs.sound.Changes.{Change, GoesTo, HasStore, SpendsUnit, UsesPicks, TakesItem, BeginsInstance, AddsEntry, MakesSet, RemovesEntry, RemovesWaitable, LeavesSet, JoinsSet, HasBackpressure, IsCalled, Calls, ComesBack, Acts, Begins as IsBegun, Cancels, Blocks, Exits, IsRemoved, Resolves, IsCancelled, HasWord, HasNewStack, HasStack, LosesStack, IsAnswered, IsTold, IsLent, HasResult, MakesChannel, Offers, Transfers, Concludes, DropsEnd, after, Stands, HasFunc, IsBlocked}
 use Rattle.abi_machine.specs.sound.Premises.{IsFree, IsTaken, MayBeLent, BlocksFrom, Comes}
 use Rattle.abi_machine.specs.sound.Entering.{EntersUnresolved}
+use Rattle.abi_machine.specs.sound.EndPlaces.{WritersStandOnce}
 use Rattle.abi_machine.specs.sound.Agreeing.{FirstActs, Agrees}
 use Rattle.abi_machine.proofs.sound.Lifts.{Leaves as LeavesWith}
 use Rattle.abi_machine.proofs.sound.Takeable.{behind_agrees}
@@ -41,6 +42,7 @@ pub record Invariant (g : Graph) (s : Script) : Type 1 where
   pub there : (w : World) → Holds w → TaskIs w.tasks 0 (λ task. task.callee ≡ Init)
   pub alone : (w : World) (t : ℕ) (task : Task) (n : ℕ) → Holds w → IsFirst t w.chain → slice_get w.tasks t ≡ Some task → task.state ≡ Begins n → w.chain ≡ 0 ∷ []
   pub enters : (w : World) (t : ℕ) (task : Task) → Holds w → slice_get w.tasks t ≡ Some task → EntersUnresolved task
+  pub writers : (w : World) → Holds w → WritersStandOnce w
 
 pub less : (a b : ℕ) → nat_lt a b ≡ true → a < b
 less a b h = grind (arith, nat_tests)

@@ -43,6 +43,7 @@ use Rattle.abi_machine.proofs.sound.Found.{ok_same, some_same, first_offered, fr
 use Rattle.abi_machine.proofs.sound.Acted.{first_at}
 use Rattle.abi_machine.proofs.sound.Lifted.{elements_keep}
 use Rattle.abi_machine.proofs.sound.turns.Keeping.{Invariant, less, Keeps, Acted, given_keeps, behind_keeps, either_keeps, stay, goes, goes_on, unless_keeps, charged_keeps, on_keeps, blocked_keeps, new_stack_keeps, removes, waits, lends, came_keeps}
+use Rattle.abi_machine.proofs.sound.OnePlace.{entry_is_fresh}
 use Rattle.abi_machine.proofs.sound.Due.{met_fits, channel_is, due_at, lifted_long, values_long, units_long}
 use Rattle.abi_machine.proofs.sound.turns.Moving.{finished_keeps}
 
@@ -195,7 +196,7 @@ module _ {g : Graph} {s : Script} (inv : Invariant g s) where
           (λ table same.
           subst (λ (x : List (Event Entry)). WithDue follows (with_table i (λ before. (settle t (k (Some (next_index (table_of w i)))) bytes x).table) (entry_added i (entry_of t entry) w))) same
           (more (Some (next_index (table_of w i))) (entry_added i (entry_of t entry) w)
-          (stay inv (AddsEntry i (entry_of t entry)) w tt (less (live_count (table_of w i)) most_live e, entry_is_added w.tasks t entry) h.0, h.1)))
+          (stay inv (AddsEntry i (entry_of t entry)) w tt (less (live_count (table_of w i)) most_live e, entry_is_added w.tasks t entry, entry_is_fresh w t entry) h.0, h.1)))
       by false e = more None w h
 
   settled_keeps : (follows : Then) (i t : ℕ) (plan : Plan) (bytes : List ℕ) (w : World) → WithDue follows w → WithDue follows (with_table i (λ before. (settle t plan bytes (table_of w i)).table) w)

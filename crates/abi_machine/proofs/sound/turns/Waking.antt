@@ -125,7 +125,7 @@ module _ {g : Graph} {s : Script} (inv : Invariant g s) where
   open_keeps t i callee task true number words w guest is first runs h =
       entry_keeps inv t i (OfSubtask callee) w (λ index v. replied t (call_state task index ∷ []) (told callee (subtask_state task) v)) h (λ few.
       on_keeps inv t (call_state task (next_index (table_of w i)) ∷ []) (told callee (subtask_state task) (entry_added i (OfSubtask callee) w))
-      (stay inv (IsTold callee (subtask_state task)) (entry_added i (OfSubtask callee) w) tt is (stay inv (AddsEntry i (OfSubtask callee)) w tt (few, guest) h)))
+      (stay inv (IsTold callee (subtask_state task)) (entry_added i (OfSubtask callee) w) tt is (stay inv (AddsEntry i (OfSubtask callee)) w tt (few, guest, tt) h)))
   open_keeps t i callee task false number words w guest is first runs h =
       blocked_keeps inv t (InBuiltin number words (ForCall callee)) (reason.Call callee) w first tt (inr runs) (first_at w.tasks w.chain t IsActing first h.1) h.0
 

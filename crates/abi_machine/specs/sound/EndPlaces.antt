@@ -1,0 +1,35 @@
+-- Writable ends (Component Model, CanonicalABI.md, "Stream State" and "Future State", `canon stream.new`, `lift_stream`): each stands in one table at
+-- most, at one index, and is of a stream or a future that was made. Only readable ends are passed.
+use Rattle.std.specs.Prelude.{◌≡◌, ◌≤◌, ◌⊎◌, ℕ, List, length, Some}
+use Rattle.std.specs.List.{slice_get}
+use Rattle.handle_table.specs.History.{live}
+use Rattle.builtin_kinds.specs.declared.EndKind.{EndKind}
+use Rattle.builtin_kinds.specs.declared.EndKind.TheVariants.{Stream, Future}
+use Rattle.stream_ends.specs.declared.side.Side.TheVariants.{Reader, Writer}
+use Rattle.abi_machine.specs.Control.{EndRef}
+use Rattle.abi_machine.specs.World.{Entry, OfEnd, Inst, Channel, World}
+use Rattle.abi_machine.specs.Reading.{table_in}
+
+-- An end stands at an index of the table of an instance; or in none.
+abbrev pub EndStandsAt : List Inst → ℕ → ℕ → EndRef → Type 0
+EndStandsAt insts i index e = live (table_in (slice_get insts i)) index ≡ Some (OfEnd e)
+
+abbrev pub EndStandsNowhere : List Inst → EndRef → Type 0
+EndStandsNowhere insts e = (i index : ℕ) → EndStandsAt insts i index e → ⊥
+
+-- how many streams, or futures, were made
+abbrev pub made_count : EndKind → List Channel → List Channel → ℕ
+made_count Stream streams futures = length streams
+made_count Future streams futures = length futures
+
+pub record WritersStand (insts : List Inst) (streams futures : List Channel) : Type 0 where
+  pub once : (i index j other : ℕ) (e : EndRef) → e.side ≡ Writer → EndStandsAt insts i index e → EndStandsAt insts j other e → (i ≡ j) × (index ≡ other)
+  pub made : (i index : ℕ) (e : EndRef) → e.side ≡ Writer → EndStandsAt insts i index e → e.number ≤ made_count e.kind streams futures
+
+abbrev pub WritersStandOnce : World → Type 0
+WritersStandOnce w = WritersStand w.insts w.streams w.futures
+
+-- An end that is added is readable, or of what was made, and stands nowhere.
+abbrev pub IsFreshEnd : World → Entry → Type 0
+IsFreshEnd w (OfEnd e) = (e.side ≡ Reader) ⊎ ((e.number ≤ made_count e.kind w.streams w.futures) × EndStandsNowhere w.insts e)
+IsFreshEnd w entry = Unit {0}
