@@ -1,0 +1,5 @@
+pub mod Givens
+pub mod Imports
+pub mod Making
+pub mod Nested
+pub mod Words

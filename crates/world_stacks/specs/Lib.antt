@@ -1,0 +1,11 @@
+pub mod Views
+pub mod Piles
+pub mod Over
+pub mod Names
+pub mod Addresses
+pub mod Starting
+pub mod Moving
+pub mod Running
+pub mod Instantiating
+pub mod Exempt
+pub mod PostReturns
