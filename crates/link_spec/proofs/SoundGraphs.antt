@@ -13,7 +13,7 @@ use Rattle.comp_tree.specs.declared.items.Item.{Item, out-Item}
 use Rattle.comp_tree.specs.declared.items.Component.{Component}
 use Rattle.link_spec.specs.Definitions.{Closure, AFunc, AnInstance, Exports, EmptyInstance, WithExport}
 use Rattle.link_spec.specs.Spaces.{CoreMake, Spaces, Linking, new_spaces, with_definition}
-use Rattle.link_spec.specs.Linked.{Begins, begun, exports_or, exports_at, with_instance, Links, leads_by_making, leads_by_instance, no_items, item_links, root_begun, Callable, funcs_behind, callables, export_of, lift_of, graph_of, IsLinked}
+use Rattle.link_spec.specs.Linked.{Begins, begun, exports_or, exports_at, with_instance, Links, leads_by_making, leads_by_instance, no_items, item_links, root_begun, Callable, funcs_behind, callables, export_of, lift_of, IsLinked}
 use Rattle.link_spec.specs.Distinct.{HasDistinctLabels}
 use Rattle.link_spec.specs.Shallow.{HasShallowTypes}
 use Rattle.link_spec.specs.Standing.{StandsIn, stands_behind}

@@ -28,8 +28,9 @@ pub enum LinkWhy {
     /// Options", "Flattening", `canon lift`, `canon lower` and the built-ins).
     #[error("a canonical function cannot be made of what it is given")]
     Canon,
-    /// There are more than 256 component instances, more than 256 core instances, or more than 32 value types in one another.
-    #[error("there are more instances, or more types in one another, than may be")]
+    /// There are more than 256 component instances, more than 256 core instances, or more than 32 value types in one another; or the
+    /// component is linked, and the item is the first one that `run` does not carry out.
+    #[error("there are more instances, or more types in one another, than may be, or what the item makes is not run")]
     Limit,
 }
 

@@ -37,12 +37,8 @@ pub(crate) fn put_number<R, B: Beside<R>>(
     if size <= 1 {
         put(room, beside, place, &((number % 256) as u8).to_le_bytes());
     } else if size <= 2 {
-        put(
-            room,
-            beside,
-            place,
-            &((number % 65_536) as u16).to_le_bytes(),
-        );
+        let low = (number % 65_536) as u16;
+        put(room, beside, place, &low.to_le_bytes());
     } else {
         put(room, beside, place, &number.to_le_bytes());
     }

@@ -103,23 +103,10 @@ pub(crate) fn list_in<R, B: Beside<R>>(
     };
     let laid = element.laid();
     let count = values.len();
-    let place = ask(
-        alloc,
-        room,
-        beside,
-        count,
-        laid.align(),
-        count as u128 * laid.size(),
-    )?;
-    store_elements(
-        alloc,
-        room,
-        beside,
-        home,
-        u64::from(place),
-        values,
-        &element,
-    )?;
+    let bytes = count as u128 * laid.size();
+    let place = ask(alloc, room, beside, count, laid.align(), bytes)?;
+    let at = u64::from(place);
+    store_elements(alloc, room, beside, home, at, values, &element)?;
     Ok(place)
 }
 
@@ -235,13 +222,8 @@ fn store_layer<R, B: Beside<R>>(
         ),
         Value::Flags(flags) => {
             let laid = t.laid();
-            put_number(
-                room,
-                beside,
-                place,
-                laid.align(),
-                flags_number(flags.as_slice()),
-            );
+            let number = flags_number(flags.as_slice());
+            put_number(room, beside, place, laid.align(), number);
             Ok(())
         }
         Value::Own(handle) => store_index(room, beside, home, place, NewEntry::Own(*handle), t),

@@ -46,9 +46,8 @@ impl Parts {
         let tables = tables_of(alloc, tree.tables.as_slice())?;
         let memories = memories_of(alloc, tree.memories.as_slice())?;
         let globals = globals_of(alloc, store, tree.globals.as_slice(), imports)?;
-        let instance = instance_with(alloc, store, tree, imports, types)?;
         let mut instances = Vec::new(alloc);
-        instances.push(instance)?;
+        instances.push(instance_with(alloc, store, tree, imports, types)?)?;
         Ok(Parts {
             functions,
             tables,
@@ -84,13 +83,12 @@ fn function_with(
 ) -> Result<FunctionInstance, AllocError>
     ensures { IfOk result (λ f. function_of f ≡ own_function types.value instance func.now) }
 {
-    let code = Code::of(alloc, &func.body)?;
     Ok(FunctionInstance::Own(OwnFunction {
         types,
         type_index: func.type_index as usize,
         instance,
         locals: func.locals.copied(alloc)?,
-        code: Rc::new(alloc, code)?,
+        code: Rc::new(alloc, Code::of(alloc, &func.body)?)?,
     }))
 }
 
@@ -109,10 +107,9 @@ fn tables_of(alloc: Global, types: &[TableType]) -> Result<Vec<TableInstance>, A
 fn table_with(alloc: Global, table_type: &TableType) -> Result<TableInstance, AllocError>
     ensures { IfOk result (λ t. table_of t ≡ new_table table_type.now) }
 {
-    let limits = table_type.limits();
     Ok(TableInstance {
-        entries: Vec::from_elem(alloc, None, limits.min as usize)?,
-        max: limits.max,
+        entries: Vec::from_elem(alloc, None, table_type.limits().min as usize)?,
+        max: table_type.limits().max,
     })
 }
 

@@ -1,6 +1,5 @@
 use Rattle.std.proofs.Common.{◌≡◌, ◌∙◌, refl, sym, ap, true, Option, Some}
 use Rattle.std.specs.Option.{option_map}
-use Rattle.comp_graph.specs.declared.graph.BuiltinKind.{BuiltinKind}
 use Rattle.link_spec.specs.declared.fault.LinkWhy.TheVariants as why
 use Rattle.link_spec.specs.Items.{is_builtin_there, builtin_of, builtin_made}
 use Rattle.link_spec.specs.Computed.{Outcome, Makes, builtin_outcome}
