@@ -7,12 +7,12 @@ use res_handles::Home;
 use std::alloc::Global;
 
 /// What stands beside a room while values are lowered, and enters handles and ends: the table of handles of the component instance, or
-/// nothing.
+/// nothing. It asks the room for places, so that a room may be asked by one that shows it the table.
 ///
 /// Contracts see the state of both, `state`, and of it what is said of rooms: `memory`, `answers`, `wrote` and, for a task and where the
 /// types of ends are told by their numbers among these, `adds`. `entering` says how a plan goes on with the index of what is new, by the
 /// resources that the instance defines.
-pub(crate) trait Beside<R> {
+pub trait Beside<R> {
     ghost use Rattle.std.specs.Prelude.{◌≡◌, ◌+◌, ◌≤◌, ◌^◌, ◌++◌, ℕ, List, length, take, drop, Option, Result};
     ghost use Rattle.ca_types.specs.declared.types.ValType.{ValType};
     ghost use Rattle.value_lower.specs.declared.ends.RoomEnd.{RoomEnd};

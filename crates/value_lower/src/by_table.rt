@@ -12,8 +12,13 @@ use laid_types::NumberedType;
 use res_handles::{Entry, Home, lower_borrow, lower_end, lower_own};
 use std::alloc::Global;
 
-/// Lowers what is told by an index into a table.
-fn lower_entry<E: Entry<EndType = usize> + Drop>(
+/// Enters what is told by an index into a table, and answers the index (Component Model, CanonicalABI.md, `lower_own`, `lower_borrow`,
+/// `lower_stream` and `lower_future`). A borrow of a resource that the instance defines is its representation and no entry.
+///
+/// # Errors
+///
+/// `TableFull` where 65,535 entries are live, and `Memory`. The table has the entries that it had.
+pub fn lower_entry<E: Entry<EndType = usize> + Drop>(
     handles: &mut Table<E>,
     home: &Home<'_>,
     entry: NewEntry,

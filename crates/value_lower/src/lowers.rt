@@ -21,9 +21,8 @@ use std::alloc::Global;
 /// Stores a value at a place (Component Model, CanonicalABI.md, "Storing"). Padding, and the bytes that a payload leaves over, stay as
 /// they are.
 ///
-/// Handles and ends go into the table of the component instance whose memory this is, and their indices stand in the value. A borrow of
-/// a resource that the instance defines is its representation and no entry; any other counts for the task of `home`. An end is told by
-/// the number of its type in the table of types.
+/// Handles and ends go into the table of the instance whose memory this is, and their indices stand in the value. A borrow of a resource
+/// that the instance defines is its representation; any other counts for the task of `home`. An end is told by its type's number.
 ///
 /// # Errors
 ///
@@ -99,10 +98,7 @@ pub fn lower_placed<R: Room, E: Entry<EndType = usize> + Drop>(
 ///
 /// # Errors
 ///
-/// From left to right, of each text and list: `Bounds` where its bytes or elements are 2^32 or more, or its elements have 2^32
-/// bytes or more, before anything is asked for; the end of the realloc where that gives no place; `Misaligned` where the place is no
-/// multiple of the alignment; `Bounds` where not all bytes are inside the memory as it is then; and of each handle and end `TableFull`
-/// where 65,535 entries are live. What was stored and entered before stays.
+/// As for `store`, of each text, list, handle and end. What was stored and entered before stays.
 pub fn lower_flat<R: Room, E: Entry<EndType = usize> + Drop>(
     alloc: Global,
     room: &mut R,

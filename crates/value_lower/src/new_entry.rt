@@ -9,7 +9,7 @@ use ca_types::Handle;
 
 /// What is entered for a value that is told by an index.
 #[derive(Clone, Copy)]
-pub(crate) enum NewEntry {
+pub enum NewEntry {
     /// An own handle.
     Own(Handle),
     /// A handle that is lowered as a borrow.
@@ -20,7 +20,7 @@ pub(crate) enum NewEntry {
 
 impl NewEntry {
     /// The number of what it is.
-    pub(crate) fn number(self) -> u32
+    pub fn number(self) -> u32
         ensures { (t : ValType) → result ≡ number_of (new_of self t) }
     {
         match self {

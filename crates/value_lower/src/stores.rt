@@ -15,8 +15,8 @@ use laid_types::NumberedType;
 use res_handles::Home;
 use std::alloc::Global;
 
-/// Stores a value at a place.
-pub(crate) fn store_by<R, B: Beside<R>>(
+/// Stores a value at a place, as `store`, with what stands beside the room.
+pub fn store_by<R, B: Beside<R>>(
     alloc: Global,
     room: &mut R,
     beside: &mut B,
@@ -33,8 +33,8 @@ pub(crate) fn store_by<R, B: Beside<R>>(
     store_value(alloc, room, beside, home, u64::from(place), value, t)
 }
 
-/// Stores values of a type one after the other from a place on.
-pub(crate) fn store_list_by<R, B: Beside<R>>(
+/// Stores values of a type one after the other from a place on, as `store_list`, with what stands beside the room.
+pub fn store_list_by<R, B: Beside<R>>(
     alloc: Global,
     room: &mut R,
     beside: &mut B,
@@ -60,8 +60,8 @@ pub(crate) fn store_list_by<R, B: Beside<R>>(
     store_elements(alloc, room, beside, home, u64::from(place), values, t)
 }
 
-/// Stores a value at a new place, and answers the place.
-pub(crate) fn lower_placed_by<R, B: Beside<R>>(
+/// Stores a value at a new place, and answers the place, as `lower_placed`, with what stands beside the room.
+pub fn lower_placed_by<R, B: Beside<R>>(
     alloc: Global,
     room: &mut R,
     beside: &mut B,

@@ -234,8 +234,8 @@ fn push_value<R, B: Beside<R>>(
     push_layer(alloc, room, beside, home, words, value, t)
 }
 
-/// The core values that stand for a value, whose texts and lists go into the room.
-pub(crate) fn lower_flat_by<R, B: Beside<R>>(
+/// The core values that stand for a value, as `lower_flat` answers them, with what stands beside the room.
+pub fn lower_flat_by<R, B: Beside<R>>(
     alloc: Global,
     room: &mut R,
     beside: &mut B,
