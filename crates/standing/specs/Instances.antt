@@ -4,15 +4,13 @@
 use Rattle.std.specs.Prelude.{◌≡◌, ℕ, List, map, Option, Some}
 use Rattle.std.specs.List.{slice_get}
 use Rattle.ca_types.specs.declared.types.ValType.{ValType}
-use Rattle.ca_types.specs.declared.types.ValType.TheViews as types
 use Rattle.handle_table.specs.Alike.{StandsBy}
 use Rattle.builtin_kinds.specs.declared.EndKind.{EndKind}
-use Rattle.builtin_kinds.specs.declared.EndKind.TheVariants.{Stream, Future}
 use Rattle.res_handles.specs.declared.handle.Handle.{Handle}
 use Rattle.res_handles.specs.declared.handle.Ownership.{Ownership}
 use Rattle.res_handles.specs.declared.handle.Ownership.TheVariants.{Own, Borrow}
 use Rattle.waitables.specs.Sets.{SetView}
-use Rattle.comp_graph.specs.Graph.{Graph}
+use Rattle.comp_graph.specs.Graph.{Graph, ends_type}
 use Rattle.instances.specs.declared.entry.EndEntry.{EndEntry}
 use Rattle.instances.specs.declared.entry.WorldEntry.{WorldEntry}
 use Rattle.instances.specs.declared.entry.WorldEntry.TheVariants as entry
@@ -20,14 +18,9 @@ use Rattle.instances.specs.Instances.{InstanceView}
 use Rattle.abi_machine.specs.Control.{EndRef}
 use Rattle.abi_machine.specs.World.{Entry, OwnHandle, BorrowHandle, OfSubtask, OfSet, OfEnd, Inst}
 
--- the type of streams, or of futures, of elements
-abbrev pub end_type_of : EndKind → Option ValType → ValType
-end_type_of Stream element = types.Stream element
-end_type_of Future element = types.Future element
-
 -- The type of this number is one of streams, or of futures.
 abbrev pub IsOfKind : Graph → EndKind → ℕ → Type 0
-IsOfKind g kind number = (element : Option ValType) × (slice_get g.end_types number ≡ Some (end_type_of kind element))
+IsOfKind g kind number = (element : Option ValType) × (slice_get g.end_types number ≡ Some (ends_type kind element))
 
 -- the entry of a handle, and that of an end
 abbrev pub owned_as : ℕ → ℕ → Ownership → Entry

@@ -1,29 +1,27 @@
 -- What is kept of a world stands for a world (Component Model, CanonicalABI.md; Concurrency.md, "Summary"): field by field, so that a change
 -- of one field says nothing of the others. Of what was written to streams and futures, and of what was removed from tables, nothing is kept.
-use Rattle.std.specs.Prelude.{◌≡◌, ℕ, ◌+◌, List, [], ◌∷◌, ◌++◌, map}
+use Rattle.std.specs.Prelude.{◌≡◌, ℕ, ◌+◌, List, [], ◌∷◌, ◌++◌, map, Some}
 use Rattle.std.specs.List.{slice_get, AllZip}
-use Rattle.std.specs.Prelude.{Some}
 use Rattle.wasm_store.specs.Store.{Store}
 use Rattle.wasm_store.specs.Stack.{Stack}
 use Rattle.builtin_kinds.specs.declared.EndKind.{EndKind}
 use Rattle.builtin_kinds.specs.declared.EndKind.TheVariants.{Stream, Future}
 use Rattle.choices.specs.Drawing as choices
-use Rattle.comp_graph.specs.Graph.{Graph}
+use Rattle.comp_graph.specs.Graph.{Graph, ends_type}
 use Rattle.script_reader.specs.Script.{Script}
 use Rattle.channels.specs.declared.channel.Channel as kept
 use Rattle.channels.specs.Channels.{kind_of, view_of}
 use Rattle.instances.specs.Instances.{InstanceView}
 use Rattle.task_table.specs.declared.slot.TaskSlot.{TaskSlot}
-use Rattle.task_table.specs.declared.errand.Errand.{Errand}
 use Rattle.world_parts.specs.Held.{Held}
 use Rattle.abi_machine.specs.World.{Inst, Task, Channel, World}
-use Rattle.standing.specs.Instances.{end_type_of, InstStands}
+use Rattle.standing.specs.Instances.{InstStands}
 use Rattle.standing.specs.Tasks.{TaskStands}
 
 -- A stream or a future.
 pub record ChannelStands (g : Graph) (kind : EndKind) (c : kept.Channel) (a : Channel) : Type 0 where
   pub of : kind_of c.ends ≡ kind
-  pub typed : slice_get g.end_types c.end_type ≡ Some (end_type_of kind a.element)
+  pub typed : slice_get g.end_types c.end_type ≡ Some (ends_type kind a.element)
   pub ends : view_of c.ends ≡ a.ends.view
 
 -- The chain is kept with the acting task last.

@@ -1,7 +1,7 @@
 -- Tasks (Component Model, CanonicalABI.md, "Task State" and "Subtask State"): what is kept of one stands for one of the machine. How many
 -- borrow handles it has, the state that its caller sees and whether a task waits for it directly are kept beside it, and are not said here.
-use Rattle.std.specs.Prelude.{◌≡◌, ℕ, ◌+◌, nat_eq, List, [], ◌∷◌, Option, Some, None, filter_map}
-use Rattle.std.specs.List.{slice_get}
+use Rattle.std.specs.Prelude.{◌≡◌, ℕ, List, Option, Some, None}
+use Rattle.std.specs.List.{filter_map}
 use Rattle.std.specs.Option.{option_map}
 use Rattle.ca_types.specs.declared.value.Value.{Value}
 use Rattle.comp_graph.specs.declared.graph.CanonFunc.{CanonFunc}

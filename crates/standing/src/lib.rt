@@ -11,4 +11,4 @@
 
 mod laws;
 
-pub use laws::{changes_stand, first_stands, found_alike};
+pub use laws::{changes_stand, first_stands, found_alike, instances_stand};
