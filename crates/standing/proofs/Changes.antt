@@ -1,5 +1,5 @@
 -- What is changed of what is kept is changed of the world for which it stands.
-use Rattle.std.proofs.Common.{◌≡◌, ◌≤◌, ℕ, zero, suc, ◌-◌, ◌+◌, Bool, true, false, if◌then◌else◌, List, [], ◌∷◌, ◌++◌, length, take, drop, refl, sym, ap, ◌∙◌, subst, arith, Some}
+use Rattle.std.proofs.Common.{◌≡◌, ◌≤◌, ℕ, zero, suc, ◌-◌, ◌+◌, Bool, true, false, if◌then◌else◌, List, [], ◌∷◌, ◌++◌, length, take, drop, refl, sym, ap, ◌∙◌, subst, arith}
 use Rattle.std.specs.List.{slice_get, AllZip}
 use Rattle.wasm_store.specs.Stack.{Stack}
 use Rattle.choices.specs.Choosing as picks
@@ -10,12 +10,12 @@ use Rattle.script_reader.specs.Script.{Script}
 use Rattle.instances.specs.Instances.{InstanceView, new_instance}
 use Rattle.task_table.specs.declared.slot.TaskSlot.{TaskSlot}
 use Rattle.world_parts.specs.Held.{Held}
-use Rattle.abi_machine.specs.World.{Inst, Task, World, new_inst, first_world}
+use Rattle.abi_machine.specs.World.{Task, World, new_inst, first_world}
 use Rattle.abi_machine.specs.Edits.{changed_at, answered_stacks}
 use Rattle.abi_machine.specs.Choosing.{picks_of}
 use Rattle.standing.specs.Instances.{InstStands}
 use Rattle.standing.specs.Tasks.{TaskStands}
-use Rattle.standing.specs.Stands.{backwards, stacks_of, FieldsStand, Stands}
+use Rattle.standing.specs.Stands.{backwards, Stands}
 use Rattle.standing.specs.First.{first_slot, FirstStands}
 use Rattle.standing.specs.Edits.{InstancesChange, RefusalsChangeNothing, InstancesBegin, TasksChange, TasksAreMade, StacksAreAnswered, TasksComeToTheChain, TasksLeaveTheChain, ActingIsAlike, FuelIsAlike, UnitsAreSpent, ItemsAreTaken, PicksAreAlike, PicksAreUsed, StoresChange}
 use Rattle.standing.proofs.Lists.{both_changed, both_more, set_same, map_kept, map_changed, map_more}
@@ -24,18 +24,21 @@ use Rattle.standing.proofs.Feeds.{last_acts, without_last, left_alike, one_spent
 
 -- the first world
 first_task : (g : Graph) (s : Script) (instance : ℕ) → AllZip (TaskStands g s) (first_slot instance ∷ []) (first_world g).tasks
-first_task g s instance = (record {
-  does = refl;
-  place = tt;
-  lifted = refl;
-  called = tt;
-  seen = refl;
-  far = refl;
-  at = refl;
-  resolved = refl;
-  cancelled = refl;
-  words = refl;
-}, tt)
+first_task g s instance = (
+  record {
+    does = refl;
+    place = tt;
+    lifted = refl;
+    called = tt;
+    seen = refl;
+    far = refl;
+    at = refl;
+    resolved = refl;
+    cancelled = refl;
+    words = refl;
+  },
+  tt,
+)
 
 pub first_stands : FirstStands
 first_stands g s instance = record {

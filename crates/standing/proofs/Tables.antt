@@ -1,20 +1,16 @@
 -- What is changed of a component instance is changed of the one for which it stands.
-use Rattle.std.proofs.Common.{◌≡◌, ◌<◌, ℕ, zero, suc, Bool, true, false, nat_lt, List, [], ◌∷◌, ◌++◌, map, length, slice_set, slice_index_or, refl, sym, ap, ◌∙◌, subst, arith, Option, Some, None, get_or, set}
-use Rattle.std.specs.Prelude.{IsSome}
+use Rattle.std.proofs.Common.{◌≡◌, ℕ, zero, suc, nat_lt, List, [], ◌∷◌, ◌++◌, map, length, slice_set, slice_index_or, refl, sym, ap, ◌∙◌, subst, Option, Some, None, set}
 use Rattle.std.proofs.lemmas.Bool.{ltb-true}
 use Rattle.std.proofs.lemmas.List.{map-set, set-get_or}
-use Rattle.handle_table.specs.History.{Event, Remove, slots_of, live, next_in, next_index, live_count, most_live}
-use Rattle.handle_table.specs.Slots.{Slots, with_slot, with_entry, count, next_of, entry_at, slots_after}
-use Rattle.handle_table.specs.Alike.{SlotAlike, SlotsAlike, Alike, StandsBy}
+use Rattle.handle_table.specs.History.{Event, slots_of, next_in, next_index, most_live}
+use Rattle.handle_table.specs.Slots.{Slots, with_slot, count, next_of, entry_at, slots_after}
+use Rattle.handle_table.specs.Alike.{SlotAlike, SlotsAlike, StandsBy}
 use Rattle.handle_table.proofs.Alike.{slot_shown, count_shown, added_stands, removed_stands}
 use Rattle.handle_table.proofs.Histories.{shows_next}
 use Rattle.waitables.specs.Sets.{SetView, no_set, set_at, set_without, set_with_last, left, joined, with_waiters}
-use Rattle.entry_gate.specs.Gates.{GateView, with_pressure}
 use Rattle.comp_graph.specs.Graph.{Graph}
-use Rattle.instances.specs.declared.entry.WorldEntry.{WorldEntry}
-use Rattle.instances.specs.Instances.{InstanceView, new_instance, with_sets, with_gate, entry_of, entry_added, entry_removed, entry_changed}
-use Rattle.abi_machine.specs.World.{Entry, Inst, new_inst}
-use Rattle.abi_machine.specs.Edits as world
+use Rattle.instances.specs.Instances.{new_instance}
+use Rattle.abi_machine.specs.World.{new_inst}
 use Rattle.abi_machine.specs.Edits.{set_view, by_views}
 use Rattle.abi_machine.proofs.sound.Found.{some_same}
 use Rattle.standing.specs.Instances.{EntryStands, members_of, InstStands}

@@ -1,10 +1,10 @@
 -- What is changed of what is kept is changed of the world (Component Model, CanonicalABI.md, "Component Instance State", "Table State", "Waitable
 -- Set State", "Task State"; Concurrency.md, "Summary"): each change keeps that the one stands for the other.
-use Rattle.std.specs.Prelude.{◌≡◌, ◌<◌, ℕ, ◌+◌, ◌-◌, true, nat_lt, List, [], ◌∷◌, ◌++◌, length, take, Option, Some, IsSome}
-use Rattle.std.specs.List.{slice_get, AllZip}
+use Rattle.std.specs.Prelude.{◌≡◌, ℕ, ◌+◌, ◌-◌, true, nat_lt, List, [], ◌∷◌, ◌++◌, length, take, Some, IsSome}
+use Rattle.std.specs.List.{slice_get}
 use Rattle.wasm_store.specs.Store.{Store}
 use Rattle.wasm_store.specs.Stack.{Stack}
-use Rattle.handle_table.specs.History.{Add, Remove, live, next_index, live_count, most_live}
+use Rattle.handle_table.specs.History.{Remove, live, next_index, live_count, most_live}
 use Rattle.handle_table.specs.Slots.{count, next_of}
 use Rattle.handle_table.specs.Alike.{SlotAlike}
 use Rattle.waitables.specs.Sets as waitable
@@ -19,8 +19,7 @@ use Rattle.task_table.specs.declared.slot.TaskSlot.{TaskSlot}
 use Rattle.world_parts.specs.Held.{Held}
 use Rattle.world_parts.specs.Entries.{with_instance}
 use Rattle.world_parts.specs.Slots.{with_task}
-use Rattle.abi_machine.specs.Control.{Control}
-use Rattle.abi_machine.specs.World.{Entry, Inst, Task, World, new_inst}
+use Rattle.abi_machine.specs.World.{Entry, Inst, Task, World}
 use Rattle.abi_machine.specs.Edits as world
 use Rattle.abi_machine.specs.Edits.{changed_at, with_inst, by_views, with_store, unit_spent, item_taken, picked, instance_begun, answered_stacks, answered}
 use Rattle.abi_machine.specs.Choosing.{picks_of}

@@ -1,4 +1,4 @@
-//! What stands, and what agrees.
+//! What stands.
 
 ghost use Rattle.standing.specs.First.{FirstStands};
 ghost use Rattle.standing.specs.Edits.{InstancesChange, RefusalsChangeNothing, InstancesBegin, EntriesAreAlike, NextIsAlike, RoomIsAlike, EntriesAreAdded, EntriesAreRemoved, EntriesStayAlike, SetsAreMade, WaitablesLeave, WaitablesJoin, WaitersAreNotSaid, PressureChanges, EntryIsNotSaid, TasksChange, TasksAreMade, StacksAreAnswered, TasksComeToTheChain, TasksLeaveTheChain, ActingIsAlike, FuelIsAlike, UnitsAreSpent, ItemsAreTaken, PicksAreAlike, PicksAreUsed, StoresChange};

@@ -3,10 +3,9 @@
 //!
 //! `abi_machine` has the machine, whose worlds keep all that ever was; `world_parts` has what code keeps, and what each of its parts does,
 //! as plain functions. `specs/Stands` says when what is kept stands for a world, field by field, over `specs/Instances` and `specs/Tasks`.
-//! `specs/Edits` says that each change of what is kept is the change of the world of the same name, and `specs/Agreeing` what it means
-//! that a part does what the machine does: the same lines, the same trap, no rule where there is none, and what follows.
+//! `specs/Edits` says that each change of what is kept is the change of the world of the same name.
 //!
-//! - `laws`: what stands, and what agrees
+//! - `laws`: what stands
 #![tactic(auto)]
 
 mod laws;
