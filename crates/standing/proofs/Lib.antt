@@ -1,0 +1,4 @@
+pub mod Lists
+pub mod Tables
+pub mod Feeds
+pub mod Changes

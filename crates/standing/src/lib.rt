@@ -1,0 +1,13 @@
+//! What is kept of a world, and the worlds of the machine of asynchronous calls (Component Model, CanonicalABI.md; Concurrency.md,
+//! "Summary"): definitions and laws, without a body.
+//!
+//! `abi_machine` has the machine, whose worlds keep all that ever was; `world_parts` has what code keeps, and what each of its parts does,
+//! as plain functions. `specs/Stands` says when what is kept stands for a world, field by field, over `specs/Instances` and `specs/Tasks`.
+//! `specs/Edits` says that each change of what is kept is the change of the world of the same name.
+//!
+//! - `laws`: what stands
+#![tactic(auto)]
+
+mod laws;
+
+pub use laws::{changes_stand, first_stands, found_alike, instances_stand};
