@@ -48,3 +48,4 @@ pub mod OwnCalling
 pub mod CopyEdits
 pub mod Entered
 pub mod OnePlace
+pub mod TypedMoves

@@ -33,3 +33,4 @@ pub mod OwnCallers
 pub mod Entered
 pub mod EndPlaces
 pub mod Writers
+pub mod TypedStacks

@@ -25,6 +25,13 @@ ghost use Rattle.abi_machine.specs.sound.Owners.{FirstIsOwn, OwnStays};
 ghost use Rattle.abi_machine.specs.sound.Picked.{FirstIsPicked, PickedStays};
 ghost use Rattle.abi_machine.specs.sound.SetWaits.{FirstHasSets, SetsStay};
 ghost use Rattle.abi_machine.specs.sound.Subtasks.{FirstHasSubtasks, SubtasksStay};
+ghost use Rattle.abi_machine.specs.sound.TypedStacks.{
+  AnswersAreTyped,
+  FirstTyped,
+  MovesStayTyped,
+  NestedMovesStayTyped,
+  StayTypedLater,
+};
 ghost use Rattle.abi_machine.specs.sound.Writers.{FirstHasWriters, WritersStayInOnePlace};
 
 /// Task 0 instantiates, and runs alone until it has exited; it never runs again, and no other task runs a start function. Control says
@@ -215,4 +222,17 @@ pub fn set_waits_stay()
 pub fn writers_stay_in_one_place()
     ensures first { FirstHasWriters }
     ensures stays { WritersStayInOnePlace }
+{}
+
+/// The store is typed, functions of the host are the graph's canonical functions, each task that waits in one goes on typed with words of
+/// its results, and the stack of the acting task, or of nested code, is typed where it makes moves, and has given words of the parameters
+/// where it has called a canonical function. So it is in the first world, and so it stays where the acting task's stack makes moves and goes
+/// on to make some or calls a canonical function, and where nested code makes moves. An acting task that waits in a canonical function goes
+/// on typed with words of its results. What waits typed in a store waits typed in each one that extends it.
+pub fn core_moves_stay_typed()
+    ensures first { FirstTyped }
+    ensures moves { MovesStayTyped }
+    ensures nested { NestedMovesStayTyped }
+    ensures answers { AnswersAreTyped }
+    ensures later { StayTypedLater }
 {}

@@ -131,8 +131,7 @@ module _ {g : Graph} {s : Script} (inv : Invariant g s) where
   meeting_keeps t e call words index c (AtOnce payload) w there meets may first free h = on_keeps inv t (payload ∷ []) (offered e call w) (stay inv (Offers e call) w tt may h)
   meeting_keeps t e call words index c (Moves count) w there meets may first free h =
       given_keeps inv (other_offer e.side c.ends.view) _ (λ offer i.
-      elements_moved_keep t e call count c.element offer w
-      (
+      elements_moved_keep t e call count c.element offer w (
         (h, due_at w e c count offer there may.quiet i (met_fits e.kind e.side call c.ends.view count offer meets i)),
         (λ b. (e.kind, e.number, c, channel_is e.kind e.number w ∙ there, b)),
         reader_entered w e c call offer (inv.entered w h.0) (channel_is e.kind e.number w ∙ there) i (called_entered g w e call may),
