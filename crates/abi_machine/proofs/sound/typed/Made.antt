@@ -68,7 +68,7 @@ leaves_behind s m imports st typed range match =
     let t : Store = allocated m imports s in
     let i : Instance = instance_of m imports s in
     let begin : Behind t t = (store_same t, allocated_typed s m imports st typed range match) in
-    let data : (u v : Store) (d : DataSegment) → Unit {0} → Behind t u → data_written i u d ≡ Some v → Behind t v =
+    let bytes : (u v : Store) (d : DataSegment) → Unit {0} → Behind t u → data_written i u d ≡ Some v → Behind t v =
     λ u v d any h e.
     (let k : Behind u v = into_memory_typed u v (init_value u i.globals d.offset) d.bytes (memory_at d.memory i u) (slice_get i.memories d.memory) h.1 refl e in (further t u v h.0 k.0, k.1)) in
     let element : (u v : Store) (d : ElementSegment) → ElementTyped m d → Behind t u → element_written i u d ≡ Some v → Behind t v =
@@ -76,7 +76,7 @@ leaves_behind s m imports st typed range match =
     (let k : Behind u v = into_table_typed u v (init_value u i.globals d.offset) (map (λ index. slice_get i.funcs index) d.funcs) (table_at d.table i u) (slice_get i.tables d.table) h.1 refl
     (entries_typed s m imports u typed match h.0 d.funcs own.2) e in (further t u v h.0 k.0, k.1)) in
     written_leaves (Behind t) (ElementTyped m) (element_written i) element (λ u. all_written (data_written i) m.data_segments u IsMade)
-    (λ u h. written_leaves (Behind t) (λ (d : DataSegment). Unit {0}) (data_written i) data IsMade (λ v k. k) m.data_segments (all_true m.data_segments) u h) m.element_segments typed.element_segments t begin
+    (λ u h. written_leaves (Behind t) (λ (d : DataSegment). Unit {0}) (data_written i) bytes IsMade (λ v k. k) m.data_segments (all_true m.data_segments) u h) m.element_segments typed.element_segments t begin
 
 -- Its functions are its own.
 
