@@ -9,7 +9,6 @@ use Rattle.ca_types.specs.declared.value.Value.{Value}
 use Rattle.handle_table.specs.History.{Event, live, next_index, slots_up_to, slots_of, greatest}
 use Rattle.builtin_kinds.specs.declared.EndKind.{EndKind}
 use Rattle.builtin_kinds.specs.declared.EndKind.TheVariants.{Stream, Future}
-use Rattle.stream_ends.specs.declared.side.Side.{Side}
 use Rattle.stream_ends.specs.declared.open_copy.By.{By}
 use Rattle.stream_ends.specs.declared.open_copy.OpenCopy.{OpenCopy}
 use Rattle.stream_ends.specs.Ends.{end_at}
@@ -22,7 +21,7 @@ use Rattle.abi_machine.specs.LoweringOver as lowering
 use Rattle.abi_machine.specs.Control.{EndRef, Behind, InLowering, BeforeLeaving}
 use Rattle.abi_machine.specs.World.{Entry, OwnHandle, BorrowHandle, OfSubtask, OfSet, OfEnd, Inst, Init, Subtask, Caller, Nobody, Host, Guest, TaskState, New, Acting, AfterCall, AfterCancel, WaitsToEnter, InLoop, InBuiltin, Exited, Task, Channel, World, first_world, new_inst, new_task}
 use Rattle.abi_machine.specs.World as world
-use Rattle.abi_machine.specs.Edits.{changed_at, added, with_channel, channel_made, carried, offered_by, transferred_by, caller_changed, by_view}
+use Rattle.abi_machine.specs.Edits.{changed_at, added, with_channel, channel_made, carried, offered_by, caller_changed, by_view}
 use Rattle.abi_machine.specs.Reading.{table_in}
 use Rattle.abi_machine.specs.Counting.{borrows_for, borrows_of}
 use Rattle.abi_machine.specs.Pausing.{entry_of}
@@ -34,7 +33,6 @@ use Rattle.abi_machine.specs.sound.Agreeing.{channel_in, LowersForEntered}
 use Rattle.abi_machine.specs.sound.Entering.{HasNotEntered, IsBehindEntry, HasEntered}
 use Rattle.abi_machine.specs.sound.Entered.{NamesEntered, IsByEntered, AreEntered, HaveEntered}
 use Rattle.abi_machine.proofs.sound.Lists.{all_changed, all_more, all_as, more_either, get_front}
-use Rattle.abi_machine.proofs.sound.Found.{some_same}
 use Rattle.abi_machine.proofs.sound.Acted.{still_is, is_as, one_task, changed_where}
 use Rattle.abi_machine.proofs.sound.Unresolved.{acting_entered}
 use Rattle.abi_machine.proofs.sound.OnePlace.{table_back, AddsNone, remove_none, none_same, added_so}

@@ -28,10 +28,9 @@ use Rattle.trace_show.specs.declared.label.Label.{Label}
 use Rattle.trace_show.specs.declared.label.Label.TheVariants as line
 use Rattle.trace_show.specs.declared.typed.TypedValue.{TypedValue}
 use Rattle.trace_show.specs.declared.trap.TrapName.{TrapName}
-use Rattle.trace_show.specs.declared.trap.TrapName.TheVariants as trap
 use Rattle.abi_machine.specs.declared.run_end.RunEnd.TheVariants.{Fuel}
 use Rattle.abi_machine.specs.Traps.{core_name, task_name}
-use Rattle.abi_machine.specs.Control.{HostedState, Going, AtCall, Nested, Behind, InLowering, BeforeLeaving, Control, Finishes, Free, Runs, Quiet}
+use Rattle.abi_machine.specs.Control.{HostedState, Going, AtCall, Nested, Behind, InLowering, BeforeLeaving, Control, Finishes, Free, Quiet}
 use Rattle.abi_machine.specs.World.{Callee, Caller, Nobody, Host, Guest, TaskState, New, Acting, AfterCall, AfterCancel, Begins, WaitsToEnter, InLoop, InBuiltin, Exited, Task, World, first_world}
 use Rattle.abi_machine.specs.Edits.{changed_at, with_control, with_store, unit_spent, control_behind, resolved, answered_stacks, unstacked}
 use Rattle.abi_machine.specs.Canons.{canon_at, func_address}
@@ -39,20 +38,20 @@ use Rattle.abi_machine.specs.Reading.{acting, func_of, kind_of}
 use Rattle.abi_machine.specs.Counting.{task_view}
 use Rattle.abi_machine.specs.Finding.{set_at}
 use Rattle.abi_machine.specs.Lifting.{Came, once_lifted}
-use Rattle.abi_machine.specs.Turn.{Turn, Steps, Ends, Stuck, silent, doomed, behind, given, unless_refused, unless, unless_fault, goes_on_with, charged}
+use Rattle.abi_machine.specs.Turn.{Turn, Steps, Ends, Stuck, silent, doomed, behind, given, unless_refused, unless_fault, charged}
 use Rattle.abi_machine.specs.Returning.{finished, post_return, passed_on, passed_to, resolves_to, resolves, returning_turn, ending_turn}
 use Rattle.abi_machine.specs.Looping.{next_turn, looping_turn}
 use Rattle.abi_machine.specs.CoreSteps.{costs, func_ended, stack_ended, ended_over, moved, running_turn}
 use Rattle.abi_machine.specs.Nested.{hosted_move, hosted_next, nested_ended, hosted, nested_turn}
 use Rattle.abi_machine.specs.Next.{next_by}
 use Rattle.abi_machine.specs.sound.Changes.{IsFirst}
-use Rattle.abi_machine.specs.sound.Firsts.{FirstIs, TaskIs}
+use Rattle.abi_machine.specs.sound.Firsts.{FirstIs}
 use Rattle.abi_machine.specs.sound.Acting.{outline_of, outlines_of, RunsIn, IsRunning, OneActs, ActsBy}
-use Rattle.abi_machine.specs.sound.TypedStacks.{gives, IsWaiting, WaitBelow, TopIs, RunsTyped, WaitsTyped, CallsTyped, StandsTyped, StandTyped, HostedTyped, ActsTyped, HostsAreCanons, AreTyped, IsTyped, IsOfStack, nested_results, FirstTyped, MovesStayTyped, NestedMovesStayTyped, AnswersAreTyped, StayTypedLater}
+use Rattle.abi_machine.specs.sound.TypedStacks.{gives, IsWaiting, WaitBelow, TopIs, RunsTyped, WaitsTyped, StandsTyped, StandTyped, HostedTyped, ActsTyped, HostsAreCanons, IsTyped, IsOfStack, nested_results, FirstTyped, MovesStayTyped, NestedMovesStayTyped, AnswersAreTyped, StayTypedLater}
 use Rattle.abi_machine.proofs.sound.Lists.{all_changed, all_as}
 use Rattle.abi_machine.proofs.sound.Found.{some_same, changed_there, acting_first, acting_is}
 use Rattle.abi_machine.proofs.sound.Acted.{one_task, first_at}
-use Rattle.abi_machine.proofs.sound.Outlines.{Is, outline_there, is_what}
+use Rattle.abi_machine.proofs.sound.Outlines.{outline_there, is_what}
 use Rattle.abi_machine.proofs.sound.acts.Keeping.{acts_at}
 use Rattle.abi_machine.proofs.sound.own.Moved.{IsOnward, MoveKeeps, next_keeps}
 
