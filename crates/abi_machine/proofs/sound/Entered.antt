@@ -9,7 +9,6 @@ use Rattle.ca_types.specs.declared.value.Value.{Value}
 use Rattle.handle_table.specs.History.{Event, live, next_index, slots_up_to, slots_of, greatest}
 use Rattle.builtin_kinds.specs.declared.EndKind.{EndKind}
 use Rattle.builtin_kinds.specs.declared.EndKind.TheVariants.{Stream, Future}
-use Rattle.stream_ends.specs.declared.side.Side.{Side}
 use Rattle.stream_ends.specs.declared.open_copy.By.{By}
 use Rattle.stream_ends.specs.declared.open_copy.OpenCopy.{OpenCopy}
 use Rattle.stream_ends.specs.Ends.{end_at}
@@ -22,7 +21,7 @@ use Rattle.abi_machine.specs.LoweringOver as lowering
 use Rattle.abi_machine.specs.Control.{EndRef, Behind, InLowering, BeforeLeaving}
 use Rattle.abi_machine.specs.World.{Entry, OwnHandle, BorrowHandle, OfSubtask, OfSet, OfEnd, Inst, Init, Subtask, Caller, Nobody, Host, Guest, TaskState, New, Acting, AfterCall, AfterCancel, WaitsToEnter, InLoop, InBuiltin, Exited, Task, Channel, World, first_world, new_inst, new_task}
 use Rattle.abi_machine.specs.World as world
-use Rattle.abi_machine.specs.Edits.{changed_at, added, with_channel, channel_made, carried, offered_by, transferred_by, caller_changed, by_view}
+use Rattle.abi_machine.specs.Edits.{changed_at, added, with_channel, channel_made, carried, offered_by, caller_changed, by_view}
 use Rattle.abi_machine.specs.Reading.{table_in}
 use Rattle.abi_machine.specs.Counting.{borrows_for, borrows_of}
 use Rattle.abi_machine.specs.Pausing.{entry_of}
@@ -34,7 +33,6 @@ use Rattle.abi_machine.specs.sound.Agreeing.{channel_in, LowersForEntered}
 use Rattle.abi_machine.specs.sound.Entering.{HasNotEntered, IsBehindEntry, HasEntered}
 use Rattle.abi_machine.specs.sound.Entered.{NamesEntered, IsByEntered, AreEntered, HaveEntered}
 use Rattle.abi_machine.proofs.sound.Lists.{all_changed, all_more, all_as, more_either, get_front}
-use Rattle.abi_machine.proofs.sound.Found.{some_same}
 use Rattle.abi_machine.proofs.sound.Acted.{still_is, is_as, one_task, changed_where}
 use Rattle.abi_machine.proofs.sound.Unresolved.{acting_entered}
 use Rattle.abi_machine.proofs.sound.OnePlace.{table_back, AddsNone, remove_none, none_same, added_so}
@@ -316,16 +314,15 @@ first_entered g = record {
 -- No borrow handle names a task that waits to enter.
 
 count_more : {A : Type 0} (test : A → Bool) (xs : List A) (x : A) → count_by test (xs ++ x ∷ []) ≡ count_by test xs + (if test x then 1 else 0)
-count_more test [] x = by (test x)
-  where
-    by : (b : Bool) → (if b then 1 else 0) ≡ 0 + (if b then 1 else 0)
-    by true = refl
-    by false = refl
+count_more test [] x = refl
 count_more test (y ∷ xs) x =
-    let longer = count_more test xs x in
-    let front : count_by test (y ∷ xs ++ x ∷ []) ≡ (if test y then 1 else 0) + count_by test (xs ++ x ∷ []) = sum_by-cons (λ (z : _). if test z then 1 else 0) y (xs ++ x ∷ []) in
-    let back : count_by test (y ∷ xs) ≡ (if test y then 1 else 0) + count_by test xs = sum_by-cons (λ (z : _). if test z then 1 else 0) y xs in
-    omega (arith, longer, front, back)
+    let a : ℕ = if test y then 1 else 0 in
+    let b : ℕ = count_by test xs in
+    let c : ℕ = if test x then 1 else 0 in
+    let front : count_by test (y ∷ (xs ++ x ∷ [])) ≡ a + count_by test (xs ++ x ∷ []) = sum_by-cons (λ (z : _). if test z then 1 else 0) y (xs ++ x ∷ []) in
+    let back : count_by test (y ∷ xs) ≡ a + b = sum_by-cons (λ (z : _). if test z then 1 else 0) y xs in
+    let regroup : a + (b + c) ≡ (a + b) + c = omega arith in
+    front ∙ (ap (λ (n : ℕ). a + n) (count_more test xs x) ∙ (regroup ∙ ap (λ (n : ℕ). n + c) (sym back)))
 
 unnamed : (tasks : List Task) (t : ℕ) → (HasEntered tasks t → ⊥) → (o : Option Entry) → ((x : Entry) → o ≡ Some x → NamesEntered tasks x) → borrows_for t o ≡ false
 unnamed tasks t out None h = refl
@@ -339,18 +336,17 @@ unnamed tasks t out (Some (OfSubtask callee)) h = refl
 unnamed tasks t out (Some (OfSet set)) h = refl
 unnamed tasks t out (Some (OfEnd e)) h = refl
 
-none_counted : (b : Bool) → b ≡ false → (if b then 1 else 0) ≡ 0
-none_counted true e = cc
-none_counted false e = refl
+none_counted : (b : Bool) (n : ℕ) → b ≡ false → n + (if b then 1 else 0) ≡ n
+none_counted true n e = cc
+none_counted false n e = (let same : n + 0 ≡ n = omega arith in same)
 
 none_up_to : (tasks : List Task) (t : ℕ) → (HasEntered tasks t → ⊥) → (table : List (Event Entry)) → ((index : ℕ) (x : Entry) → live table index ≡ Some x → NamesEntered tasks x) → (n : ℕ)
     → count_by (borrows_for t) (slots_up_to table n) ≡ 0
 none_up_to tasks t out table h zero = refl
 none_up_to tasks t out table h (suc n) =
-    let before = none_up_to tasks t out table h n in
-    let last : (if borrows_for t (live table (suc n)) then 1 else 0) ≡ 0 = none_counted (borrows_for t (live table (suc n))) (unnamed tasks t out (live table (suc n)) (h (suc n))) in
-    let all = count_more (borrows_for t) (slots_up_to table n) (live table (suc n)) in
-    omega (arith, before, last, all)
+    let last : borrows_for t (live table (suc n)) ≡ false = unnamed tasks t out (live table (suc n)) (h (suc n)) in
+    count_more (borrows_for t) (slots_up_to table n) (live table (suc n))
+    ∙ (none_counted (borrows_for t (live table (suc n))) (count_by (borrows_for t) (slots_up_to table n)) last ∙ none_up_to tasks t out table h n)
 
 none_in : (tasks : List Task) (t : ℕ) → (HasEntered tasks t → ⊥) → (insts : List Inst) → ((i index : ℕ) (x : Entry) → live (table_in (slice_get insts i)) index ≡ Some x → NamesEntered tasks x)
     → sum_by (λ inst. count_by (borrows_for t) (slots_of inst.table)) insts ≡ 0

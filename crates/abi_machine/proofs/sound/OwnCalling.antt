@@ -1,7 +1,6 @@
 -- Tasks are called by canonical functions of their callers' component instances, and so they are in every step.
 use Rattle.std.proofs.Common.{◌≡◌, ℕ, true, List, [], ◌∷◌, ◌++◌, length, refl, sym, ap, ◌∙◌, subst, Option, Some}
 use Rattle.std.specs.Prelude.{IsSome}
-use Rattle.std.specs.List.{slice_get}
 use Rattle.tasks.specs.Subtasks.{delivered, with_lend}
 use Rattle.tasks.specs.declared.phase.Resolution.TheVariants.{Cancelled}
 use Rattle.comp_graph.specs.Graph.{Graph, Lifted}

@@ -1,7 +1,7 @@
 -- How tasks are called (Component Model, CanonicalABI.md, `canon lower`, `canon resource.drop`): a task that another one called was called by one
 -- that is there, by a canonical function that the component instance made whose function that one runs.
 use Rattle.std.specs.Prelude.{◌≡◌, ℕ, List, Some}
-use Rattle.std.specs.List.{slice_get, AllByRecursion}
+use Rattle.std.specs.List.{AllByRecursion}
 use Rattle.comp_graph.specs.Graph.{Graph, Lifted}
 use Rattle.script_reader.specs.Script.{Script}
 use Rattle.trace_show.specs.declared.label.Label.{Label}
