@@ -49,3 +49,4 @@ pub mod CopyEdits
 pub mod Entered
 pub mod OnePlace
 pub mod TypedMoves
+pub mod typed

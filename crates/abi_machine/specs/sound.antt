@@ -34,3 +34,4 @@ pub mod Entered
 pub mod EndPlaces
 pub mod Writers
 pub mod TypedStacks
+pub mod MadeInstances

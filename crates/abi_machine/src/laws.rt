@@ -28,6 +28,7 @@ ghost use Rattle.abi_machine.specs.sound.Subtasks.{FirstHasSubtasks, SubtasksSta
 ghost use Rattle.abi_machine.specs.sound.TypedStacks.{
   AnswersAreTyped,
   FirstTyped,
+  InstantiationStaysTyped,
   MovesStayTyped,
   NestedMovesStayTyped,
   StayTypedLater,
@@ -226,11 +227,13 @@ pub fn writers_stay_in_one_place()
 
 /// The store is typed, functions of the host are the graph's canonical functions, each task that waits in one goes on typed with words of
 /// its results, and the stack of the acting task, or of nested code, is typed where it makes moves, and has given words of the parameters
-/// where it has called a canonical function. So it is in the first world, and so it stays where the acting task's stack makes moves and goes
-/// on to make some or calls a canonical function, and where nested code makes moves. An acting task that waits in a canonical function goes
-/// on typed with words of its results. What waits typed in a store waits typed in each one that extends it.
+/// where it has called a canonical function; and the core instances that were made are the graph's, and have what their modules say. So it is
+/// in the first world, and so it stays where core instances are made, where the acting task's stack makes moves and goes on to make some,
+/// calls a canonical function, or was that of a start function, and where nested code makes moves. An acting task that waits in a canonical function goes
+/// on typed with words of its results. What waits typed in a store waits typed in each one that extends it with the same core instances.
 pub fn core_moves_stay_typed()
     ensures first { FirstTyped }
+    ensures instances { InstantiationStaysTyped }
     ensures moves { MovesStayTyped }
     ensures nested { NestedMovesStayTyped }
     ensures answers { AnswersAreTyped }

@@ -1,7 +1,8 @@
 -- Typed stacks (Core 2.0, the appendix on soundness; Component Model, CanonicalABI.md, "Flattening", `canon lift`, `canon resource.drop`): in a typed
 -- store the acting task's stack is typed where it makes moves, each task that waits in a canonical function goes on with words of that
--- one's results, and what is called is given words of its parameters. So it is of nested code.
-use Rattle.std.specs.Prelude.{◌≡◌, ℕ, List, [], ◌∷◌, Some}
+-- one's results, and what is called is given words of its parameters. So it is of nested code. The core instances that were made are the
+-- graph's, and have what their modules say.
+use Rattle.std.specs.Prelude.{◌≡◌, ℕ, true, List, [], ◌∷◌, Some}
 use Rattle.std.specs.List.{slice_get, AllByRecursion}
 use Rattle.wasm_module.specs.declared.types.ValType.{ValType}
 use Rattle.wasm_module.specs.declared.types.FuncType.{FuncType}
@@ -15,14 +16,18 @@ use Rattle.comp_graph.specs.Needs.{lift_type, realloc_type}
 use Rattle.comp_graph.specs.Graph.{Graph, canon_type}
 use Rattle.script_reader.specs.Script.{Script}
 use Rattle.trace_show.specs.declared.label.Label.{Label}
-use Rattle.abi_machine.specs.Control.{HostedState, Going, AtCall, Nested, Behind, InLowering, BeforeLeaving, Control, Runs, Calls, Quiet}
-use Rattle.abi_machine.specs.World.{Callee, Init, Func, Destroys, TaskState, AfterCall, AfterCancel, InBuiltin, Task, World, first_world}
+use Rattle.abi_machine.specs.Control.{HostedState, Going, AtCall, Nested, Behind, InLowering, BeforeLeaving, Control, Instantiates, Runs, Calls, Quiet}
+use Rattle.abi_machine.specs.World.{Callee, Init, Func, Destroys, TaskState, AfterCall, AfterCancel, Begins, InBuiltin, Task, World, first_world}
 use Rattle.abi_machine.specs.Canons.{canon_at}
+use Rattle.abi_machine.specs.Reading.{is_instantiated}
 use Rattle.abi_machine.specs.Turn.{goes_on_with, Steps}
 use Rattle.abi_machine.specs.Next.{next}
 use Rattle.abi_machine.specs.sound.Changes.{IsFirst}
 use Rattle.abi_machine.specs.sound.Firsts.{FirstIs, TaskIs}
+use Rattle.abi_machine.specs.sound.Initial.{RunsAlone}
 use Rattle.abi_machine.specs.sound.Acting.{IsOrdered}
+use Rattle.abi_machine.specs.sound.Owners.{HasCanons}
+use Rattle.abi_machine.specs.sound.MadeInstances.{IsTypedGraph, WereMade, WereMadeSoFar}
 
 -- what the core function of a task gives; and its stack over others, which is that of a destructor
 abbrev pub core_results : Callee → List ValType
@@ -63,6 +68,7 @@ abbrev pub StandsTyped : Graph → Store → TaskState → Task → Type 0
 StandsTyped g s (AfterCall callee number words) task = WaitsTyped g s number task
 StandsTyped g s (AfterCancel callee number words) task = WaitsTyped g s number task
 StandsTyped g s (InBuiltin number words wait) task = WaitsTyped g s number task
+StandsTyped g s (Begins n) task = WereMadeSoFar g s n
 StandsTyped g s state task = Unit {0}
 
 abbrev pub StandTyped : Graph → Store → List Task → Type 0
@@ -79,6 +85,7 @@ HostedTyped g s results (AtCall number words k) =
     (c : CanonFunc) × (canon_at g number ≡ Some c) × AreWords (canon_type c).params words × IsWaiting s (canon_type c).results results k
 
 abbrev pub ActsTyped : Graph → Control → Store → List Task → List ℕ → Type 0
+ActsTyped g (Instantiates n) s tasks chain = WereMadeSoFar g s n
 ActsTyped g Runs s tasks chain = FirstIs tasks chain (RunsTyped s)
 ActsTyped g (Calls number words) s tasks chain = FirstIs tasks chain (CallsTyped g s number words)
 ActsTyped g (Quiet n b) s tasks chain = HostedTyped g s (nested_results b) n.state
@@ -90,22 +97,29 @@ HostsAreCanons g s = (address : ℕ) (type : FuncType) → slice_get s.funcs add
 
 pub record AreTyped (g : Graph) (control : Control) (s : Store) (tasks : List Task) (chain : List ℕ) : Type 0 where
   pub store : StoreTyped s
+  pub canons : HasCanons g s
   pub hosts : HostsAreCanons g s
+  pub made : is_instantiated tasks ≡ true → WereMade s g.cores
   pub stand : StandTyped g s tasks
   pub acts : ActsTyped g control s tasks chain
 
 abbrev pub IsTyped : Graph → World → Type 0
 IsTyped g w = AreTyped g w.control w.store w.tasks w.chain
 
--- So it is in the first world, and so it stays where the acting task's stack makes moves and goes on to make some, or calls a canonical
--- function.
+-- So it is in the first world, and so it stays where core instances are made, and where the acting task's stack makes moves and goes on to
+-- make some, calls a canonical function, or was that of a start function.
 abbrev pub IsOfStack : Control → Type 0
 IsOfStack Runs = Unit {0}
 IsOfStack (Calls number words) = Unit {0}
+IsOfStack (Instantiates n) = Unit {0}
 IsOfStack control = ⊥
 
 abbrev pub FirstTyped : Type 0
-FirstTyped = (g : Graph) → IsTyped g (first_world g)
+FirstTyped = (g : Graph) → IsTypedGraph g → IsTyped g (first_world g)
+
+abbrev pub InstantiationStaysTyped : Type 0
+InstantiationStaysTyped =
+    (g : Graph) (s : Script) (w v : World) (labels : List Label) (n : ℕ) → IsTypedGraph g → w.control ≡ Instantiates n → RunsAlone w → IsOrdered w → IsTyped g w → next g s w ≡ Steps labels v → IsTyped g v
 
 abbrev pub MovesStayTyped : Type 0
 MovesStayTyped =
@@ -122,6 +136,6 @@ AnswersAreTyped =
     (g : Graph) (w : World) (t number : ℕ) (c : CanonFunc) (words : List ℕ) → IsFirst t w.chain → TaskIs w.tasks t (WaitsTyped g w.store number) → canon_at g number ≡ Some c
     → AreWords (canon_type c).results words → FirstIs (goes_on_with t words w).tasks w.chain (RunsTyped w.store)
 
--- What stands typed in a store stands typed in each store that extends it.
+-- What stands typed in a store stands typed in each store that extends it, with the same core instances.
 abbrev pub StayTypedLater : Type 0
-StayTypedLater = (g : Graph) (s t : Store) (tasks : List Task) → Extends s t → StandTyped g s tasks → StandTyped g t tasks
+StayTypedLater = (g : Graph) (s t : Store) (tasks : List Task) → Extends s t → t.instances ≡ s.instances → StandTyped g s tasks → StandTyped g t tasks
