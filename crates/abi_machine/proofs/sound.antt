@@ -44,4 +44,9 @@ pub mod Picking
 pub mod own
 pub mod Owning
 pub mod SetWaiting
+pub mod OwnCalling
+pub mod CopyEdits
+pub mod Entered
 pub mod OnePlace
+pub mod TypedMoves
+pub mod typed

@@ -29,5 +29,9 @@ pub mod Subtasks
 pub mod Picked
 pub mod Owners
 pub mod SetWaits
+pub mod OwnCallers
+pub mod Entered
 pub mod EndPlaces
 pub mod Writers
+pub mod TypedStacks
+pub mod MadeInstances

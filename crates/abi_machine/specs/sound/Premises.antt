@@ -33,6 +33,8 @@ use Rattle.abi_machine.specs.sound.Changes.{Change, SpendsUnit, UsesPicks, Takes
 use Rattle.abi_machine.specs.sound.Firsts.{TaskIs, IsActing, IsLetIn}
 use Rattle.abi_machine.specs.sound.Agreeing.{IsDueAt, channel_in}
 use Rattle.abi_machine.specs.sound.EndPlaces.{IsFreshEnd}
+use Rattle.abi_machine.specs.sound.Entering.{HasEntered}
+use Rattle.abi_machine.specs.sound.Entered.{NamesEntered}
 
 -- One that is to wait until it may enter is new, and any other one acts before it blocks.
 abbrev pub BlocksFrom : TaskState → Task → Type 0
@@ -150,6 +152,7 @@ pub record IsCall (g : Graph) (w : World) (e : EndRef) (call : OpenCopy) : Type 
   pub index : ℕ
   pub is : call ≡ new_copy (by.Task task) canon place size
   pub acts : IsSome (slice_get w.tasks task)
+  pub entered : HasEntered w.tasks task
   pub made : IsSome (canon_at g canon)
   pub fits : IsSizeIn e.kind size
   pub held : entry_at w inst index ≡ Some (OfEnd e)
@@ -161,7 +164,7 @@ abbrev pub Comes : Graph → Script → Change → World → Type 0
 Comes g s SpendsUnit w = w.units < s.fuel
 Comes g s (UsesPicks picks) w = (count : ℕ) × (picks ≡ (drawn count (picks_of s w)).used)
 Comes g s TakesItem w = IsSome (slice_get s.items w.taken)
-Comes g s (AddsEntry i entry) w = (live_count (table_of w i) < most_live) × IsAdded w.tasks entry × IsFreshEnd w entry
+Comes g s (AddsEntry i entry) w = (live_count (table_of w i) < most_live) × IsAdded w.tasks entry × IsFreshEnd w entry × NamesEntered w.tasks entry
 Comes g s (MakesSet i set) w = (live_count (table_of w i) < most_live) × (set ≡ length (sets_in (slice_get w.insts i)))
 Comes g s (RemovesEntry i index) w = Stands w i index (IsFree w i index)
 Comes g s (RemovesWaitable i index) w = Stands w i index (IsTaken w)
@@ -177,7 +180,7 @@ Comes g s (Begins n) w = IsFirst 0 w.chain × TaskIs w.tasks 0 (λ task. task.ca
 Comes g s (Cancels t callee number words) w = IsFirst t w.chain × (may_leave w ≡ true) × TaskIs w.tasks t IsActing
 Comes g s (Blocks t state) w = IsFirst t w.chain × IsBlocked state × ((may_leave w ≡ true) ⊎ HasFunc w.tasks t) × TaskIs w.tasks t (BlocksFrom state)
 Comes g s (Exits t) w = IsFirst t w.chain
-Comes g s (IsRemoved t) w = HasFunc w.tasks t × TaskIs w.tasks t IsRemovable
+Comes g s (IsRemoved t) w = HasFunc w.tasks t × TaskIs w.tasks t IsRemovable × (borrows_of w t ≡ 0)
 Comes g s (Resolves t resolution) w = TaskIs w.tasks t (MayResolve resolution) × (borrows_of w t ≡ 0)
 Comes g s (IsCancelled t cancellation) w = TaskIs w.tasks t (MayBecome cancellation)
 Comes g s (IsTold t state) w = TaskIs w.tasks t (λ task. state ≡ subtask_state task)

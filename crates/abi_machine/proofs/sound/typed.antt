@@ -1,0 +1,4 @@
+pub mod Limits
+pub mod Imports
+pub mod Made
+pub mod Instantiating
