@@ -34,6 +34,13 @@ few_there s memory bytes typed within lent =
 pub none_there : (s : Store) (memory : ℕ) → length s.memories ≤ memory → 0 ≡ length (bytes_in memory s)
 none_there s memory past = sym (ap (λ (o : Option MemoryState). length (bytes_of o)) (slice_get_past s.memories memory past))
 
+pub bytes_there : (s : Store) (memory : ℕ) (bytes : List ℕ) → memory < length s.memories → ((m : MemoryState) → slice_get s.memories memory ≡ Some m → bytes ≡ m.bytes)
+    → bytes ≡ bytes_in memory s
+bytes_there s memory bytes within lent = let found = item s.memories memory within in lent found.0 found.1 ∙ sym (ap bytes_of found.1)
+
+pub bytes_not_there : (s : Store) (memory : ℕ) → length s.memories ≤ memory → [] ≡ bytes_in memory s
+bytes_not_there s memory past = sym (ap bytes_of (slice_get_past s.memories memory past))
+
 pub none_put : (s : Store) (memory : ℕ) (bytes : List ℕ) → length s.memories ≤ memory → s ≡ with_bytes_in memory bytes s
 none_put s memory bytes past = sym (ap (λ (o : Option MemoryState). rewritten_at memory bytes o s) (slice_get_past s.memories memory past))
 

@@ -6,6 +6,17 @@ ghost use Rattle.copy_engine.specs.Nested.{bytes_in, with_bytes_in};
 
 use wasm_store::Store;
 
+/// The bytes of the memory at an address: none where no memory is there.
+pub(crate) fn bytes_of(store: &Store, memory: usize) -> &[u8]
+    ensures { result.now ≡ bytes_in memory store.now }
+{
+    if memory < store.memory_count() {
+        store.memory(memory)
+    } else {
+        &[]
+    }
+}
+
 /// How many bytes the memory at an address has: none where no memory is there.
 pub(crate) fn size_in(store: &Store, memory: usize) -> u64
     ensures value { result ≡ length (bytes_in memory store.now) }

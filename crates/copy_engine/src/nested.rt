@@ -62,7 +62,7 @@ pub(crate) fn realloc_in(store: &Store, realloc: Option<usize>) -> Option<usize>
 }
 
 /// The one word of a list.
-fn only_word(words: &Words) -> u32
+pub(crate) fn only_word(words: &Words) -> u32
     requires { (word : ℕ) × (words.now ≡ word ∷ []) × (word < 2 ^ 32) }
     ensures { words.now ≡ result ∷ [] }
 {
