@@ -33,7 +33,7 @@ use Rattle.abi_machine.specs.sound.Premises.{Comes}
 use Rattle.abi_machine.specs.sound.Owners.{HasCanons}
 use Rattle.abi_machine.specs.sound.MadeInstances.{WereMade}
 use Rattle.abi_machine.specs.sound.GraphFuncs.{IsExported, IsLowered, IsDestructor, IsOfGraph, HaveCallees}
-use Rattle.abi_machine.specs.sound.Callees.{FirstHasCallees, CalleesStay, IsUsedGraph, CoreThere, AreCoreThere, FunctionsAreThere}
+use Rattle.abi_machine.specs.sound.Callees.{FirstHasCallees, CalleesStay, IsUsedGraph, CoreThere, AreCoreThere, FunctionsAreThere, DestructorsAreThere}
 use Rattle.abi_machine.proofs.Layers.{u32_flat}
 use Rattle.abi_machine.proofs.sound.Lists.{all_changed, all_more, all_as}
 use Rattle.abi_machine.proofs.sound.Found.{some_same}
@@ -264,3 +264,8 @@ functions_are_there g s tasks t task f used canons made callees there runs =
           if_map (λ (r : FuncRef). core_type g.cores g.canons r ≡ Some callback_type) (λ (r : FuncRef). CoreThere s r callback_type) f.options.callback
           (λ r e. core_there g s r callback_type canons made e) h.callback;
     }
+
+pub destructors_are_there : DestructorsAreThere
+destructors_are_there g s number r used canons made e =
+    if_map (λ (f : FuncRef). core_type g.cores g.canons f ≡ Some needs.destructor_type) (λ (f : FuncRef). CoreThere s f needs.destructor_type) r.destructor
+    (λ f h. core_there g s f needs.destructor_type canons made h) (resource_there g number r (all_there used.made).destructors e)

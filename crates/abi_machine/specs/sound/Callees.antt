@@ -9,11 +9,13 @@ use Rattle.wasm_store.specs.Store.{Function, type_of, Store}
 use Rattle.ca_types.specs.declared.exports.Export.{Export}
 use Rattle.comp_graph.specs.declared.graph.FuncRef.{FuncRef}
 use Rattle.comp_graph.specs.Needs.{lift_type, post_return_type, callback_type}
+use Rattle.comp_graph.specs.Needs as needs
+use Rattle.comp_graph.specs.declared.graph.Resource.{Resource}
 use Rattle.comp_graph.specs.Graph.{Graph, Lifted, IsLiftThere, AreMade}
 use Rattle.script_reader.specs.Script.{Script}
 use Rattle.trace_show.specs.declared.label.Label.{Label}
 use Rattle.abi_machine.specs.World.{Task, World, first_world}
-use Rattle.abi_machine.specs.Canons.{func_address}
+use Rattle.abi_machine.specs.Canons.{func_address, resource_at}
 use Rattle.abi_machine.specs.Reading.{func_of}
 use Rattle.abi_machine.specs.Turn.{Steps}
 use Rattle.abi_machine.specs.Next.{next}
@@ -51,3 +53,8 @@ abbrev pub FunctionsAreThere : Type 0
 FunctionsAreThere =
     (g : Graph) (s : Store) (tasks : List Task) (t : ℕ) (task : Task) (f : Lifted) → IsUsedGraph g → HasCanons g s → WereMade s g.cores → HaveCallees g tasks → slice_get tasks t ≡ Some task
     → func_of task.callee ≡ Some f → AreCoreThere s f
+
+-- And so is the destructor of a resource, a function of one i32.
+abbrev pub DestructorsAreThere : Type 0
+DestructorsAreThere =
+    (g : Graph) (s : Store) (number : ℕ) (r : Resource) → IsUsedGraph g → HasCanons g s → WereMade s g.cores → resource_at g number ≡ Some r → IfSome r.destructor (λ f. CoreThere s f needs.destructor_type)
