@@ -50,3 +50,4 @@ pub mod Entered
 pub mod OnePlace
 pub mod TypedMoves
 pub mod typed
+pub mod Callees

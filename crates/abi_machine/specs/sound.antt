@@ -35,3 +35,6 @@ pub mod EndPlaces
 pub mod Writers
 pub mod TypedStacks
 pub mod MadeInstances
+pub mod GraphFuncs
+pub mod Callees
+pub mod TypedGoing

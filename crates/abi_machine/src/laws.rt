@@ -25,6 +25,8 @@ ghost use Rattle.abi_machine.specs.sound.Owners.{FirstIsOwn, OwnStays};
 ghost use Rattle.abi_machine.specs.sound.Picked.{FirstIsPicked, PickedStays};
 ghost use Rattle.abi_machine.specs.sound.SetWaits.{FirstHasSets, SetsStay};
 ghost use Rattle.abi_machine.specs.sound.Subtasks.{FirstHasSubtasks, SubtasksStay};
+ghost use Rattle.abi_machine.specs.sound.Callees.{FirstHasCallees, CalleesStay, FunctionsAreThere, DestructorsAreThere};
+ghost use Rattle.abi_machine.specs.sound.TypedGoing.{MovesAreTyped, NestedMovesAreTyped, CallbacksGiveWords, InstancesAreMakeable};
 ghost use Rattle.abi_machine.specs.sound.TypedStacks.{
   AnswersAreTyped,
   FirstTyped,
@@ -238,4 +240,24 @@ pub fn core_moves_stay_typed()
     ensures nested { NestedMovesStayTyped }
     ensures answers { AnswersAreTyped }
     ensures later { StayTypedLater }
+{}
+
+/// A task runs the function of an export of the graph, one that is lowered in it, or a destructor of its resources: so it is in the first
+/// world, and so it stays in every step. Where all core instances were made, the core function of what a task runs, its post-return and its
+/// callback are in the store, of the types that lifting gives them, and so are the destructors of the graph's resources.
+pub fn callees_stay()
+    ensures first { FirstHasCallees }
+    ensures stays { CalleesStay }
+    ensures functions { FunctionsAreThere }
+    ensures destructors { DestructorsAreThere }
+{}
+
+/// In a typed world the next move of the acting task's stack, and of nested code, is typed: a rule applies, what is called is given words of
+/// its parameters, and what ends gives words of its results. Those of a function that is lifted with a callback are one i32. The core
+/// instance that the plan makes next is one of the graph's, and what it imports has addresses and is what its module asks for.
+pub fn typed_code_goes_on()
+    ensures moves { MovesAreTyped }
+    ensures nested { NestedMovesAreTyped }
+    ensures callbacks { CallbacksGiveWords }
+    ensures instances { InstancesAreMakeable }
 {}

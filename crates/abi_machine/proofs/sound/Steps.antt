@@ -43,7 +43,7 @@ module _ {g : Graph} {s : Script} (inv : Invariant g s) where
       given_keeps inv (func_named g call.name) _ (λ f e.
       let c : Change = IsCalled (Func f) (calls_taken s w + 1) call.values in
       goes inv Arrives (after c (item_taken w)) (new_first w.tasks w.chain (new_task (Func f) (Host (calls_taken s w + 1) call.values) IsNew) refl)
-      (inv.stays c (item_taken w) (refl, idle, λ b. inr (call.name, f, e, subst (λ (x : Lifted). held_borrow x.func_type.result ≡ true) (sym (some_same b.1)) b.2)) taken))
+      (inv.stays c (item_taken w) (refl, idle, (λ b. inr (call.name, f, e, subst (λ (x : Lifted). held_borrow x.func_type.result ≡ true) (sym (some_same b.1)) b.2)), inl (call.name, e)) taken))
   item_keeps (item.Cancel call) w idle taken =
       given_keeps inv (task_of_call call w) _ (λ found e.
       behind_keeps inv (line.Cancel call ∷ []) _

@@ -139,7 +139,7 @@ acts_instantiated zero (x ∷ tasks) e = cc
 acts_instantiated (suc t) (x ∷ tasks) e = e
 
 -- what is known of the acting stack
-top_of : (P : List ValType → Stack → Type 0) (s : Store) (callee : Callee) (stacks : List Stack) (k : Stack) → TopIs P s callee stacks → slice_get stacks 0 ≡ Some k
+pub top_of : (P : List ValType → Stack → Type 0) (s : Store) (callee : Callee) (stacks : List Stack) (k : Stack) → TopIs P s callee stacks → slice_get stacks 0 ≡ Some k
     → P (gives callee (drop 1 stacks)) k × WaitBelow s callee (drop 1 stacks)
 top_of P s callee [] k h e = absurd h
 top_of P s callee (x ∷ under) k h e = (subst (P (gives callee under)) (some_same e) h.0, h.1)

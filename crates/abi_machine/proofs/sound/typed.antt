@@ -2,3 +2,4 @@ pub mod Limits
 pub mod Imports
 pub mod Made
 pub mod Instantiating
+pub mod Going

@@ -35,6 +35,7 @@ use Rattle.abi_machine.specs.sound.Agreeing.{IsDueAt, channel_in}
 use Rattle.abi_machine.specs.sound.EndPlaces.{IsFreshEnd}
 use Rattle.abi_machine.specs.sound.Entering.{HasEntered}
 use Rattle.abi_machine.specs.sound.Entered.{NamesEntered}
+use Rattle.abi_machine.specs.sound.GraphFuncs.{IsOfGraph}
 
 -- One that is to wait until it may enter is new, and any other one acts before it blocks.
 abbrev pub BlocksFrom : TaskState → Task → Type 0
@@ -170,10 +171,10 @@ Comes g s (RemovesEntry i index) w = Stands w i index (IsFree w i index)
 Comes g s (RemovesWaitable i index) w = Stands w i index (IsTaken w)
 Comes g s (JoinsSet i index set) w = Stands w i index IsWaitable × ((other : ℕ) × (entry_at w i other ≡ Some (OfSet set)))
 Comes g s (HasBackpressure i backpressure) w = (backpressure ≤ most_backpressure) ⊎ (backpressure ≤ backpressure_of w i)
-Comes g s (IsCalled callee call values) w = IsSome (func_of callee) × (w.chain ≡ []) × (ReturnsBorrow callee → GraphPassesBorrow g)
+Comes g s (IsCalled callee call values) w = IsSome (func_of callee) × (w.chain ≡ []) × (ReturnsBorrow callee → GraphPassesBorrow g) × IsOfGraph g callee
 Comes g s (Calls number callee subtask words) w =
     IsSome (func_of callee) × IsSome (task_at w subtask.by) × IsFirst subtask.by w.chain × (may_leave w ≡ true) × TaskIs w.tasks subtask.by IsActing
-    × IsNewSubtask subtask × (ReturnsBorrow callee → GraphPassesBorrow g)
+    × IsNewSubtask subtask × (ReturnsBorrow callee → GraphPassesBorrow g) × IsOfGraph g callee
 Comes g s (ComesBack t) w = HasFunc w.tasks t × ((w.chain ≡ []) ⊎ FirstCancels w.tasks w.chain)
 Comes g s (Acts t) w = IsFirst t w.chain × IsLetIn w.tasks t
 Comes g s (Begins n) w = IsFirst 0 w.chain × TaskIs w.tasks 0 (λ task. task.callee ≡ Init)

@@ -34,6 +34,7 @@ use Rattle.abi_machine.specs.Cancelling.{asked_turn, cancelled_turn, first_of, c
 use Rattle.abi_machine.specs.Copying.{blocked_word}
 use Rattle.abi_machine.specs.sound.Changes.{Change, HasStore, AddsEntry, Calls, ComesBack, IsRemoved, IsCancelled, IsTold, Concludes, after, IsGuest, HasFunc, FirstCancels}
 use Rattle.abi_machine.specs.sound.Premises.{IsUnasked, IsRemovable, IsOpenCall, IsOpenOf, GraphPassesBorrow, ReturnsBorrow}
+use Rattle.abi_machine.specs.sound.GraphFuncs.{IsOfGraph}
 use Rattle.abi_machine.specs.sound.Entering.{HasNotEntered, IsUntold, IsBehindEntry, HasEntered}
 use Rattle.abi_machine.specs.sound.Agreeing.{Agrees}
 use Rattle.entry_gate.specs.Stays.{Inside}
@@ -104,14 +105,14 @@ module _ {g : Graph} {s : Script} (inv : Invariant g s) where
 
   -- Tasks call and are told.
 
-  pub call_keeps : (t number : ℕ) (words : List ℕ) (callee : Callee) (f : Lifted) (passed : List ℕ) (w : World) → func_of callee ≡ Some f → (ReturnsBorrow callee → GraphPassesBorrow g) → IsSome (task_at w t) → IsFirst t w.chain → may_leave w ≡ true → Acted inv w
+  pub call_keeps : (t number : ℕ) (words : List ℕ) (callee : Callee) (f : Lifted) (passed : List ℕ) (w : World) → func_of callee ≡ Some f → (ReturnsBorrow callee → GraphPassesBorrow g) → IsOfGraph g callee → IsSome (task_at w t) → IsFirst t w.chain → may_leave w ≡ true → Acted inv w
       → Keeps inv (call_begun t number words callee f passed w)
   unfolding call_begun
-  call_keeps t number words callee f passed w runs passes there first free h =
+  call_keeps t number words callee f passed w runs passes named there first free h =
       unless_keeps inv t (is_reentrant w f.instance t) trap.Reentrant w _ h (λ e.
       let c : Change = Calls number callee (called_by t number passed) words in
       goes inv Arrives (after c w) (new_first _ w.chain (new_task callee (Guest (called_by t number passed)) IsNew) refl)
-      (inv.stays c w (subst (λ (o : Option Lifted). IsSome o) (sym runs) refl, there, first, free, first_at w.tasks w.chain t IsActing first h.1, (refl, refl), passes) h.0))
+      (inv.stays c w (subst (λ (o : Option Lifted). IsSome o) (sym runs) refl, there, first, free, first_at w.tasks w.chain t IsActing first h.1, (refl, refl), passes, named) h.0))
 
   subtask_keeps : (i callee : ℕ) (task : Task) (subtask : Subtask) (w : World) → TaskIs w.tasks callee (λ x. subtask_state task ≡ subtask_state x) → Acted inv w
       → Acted inv (subtask_told i callee task subtask w).world
