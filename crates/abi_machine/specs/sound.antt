@@ -31,3 +31,5 @@ pub mod Owners
 pub mod SetWaits
 pub mod EndPlaces
 pub mod Writers
+pub mod Guests
+pub mod GoingOn
