@@ -51,3 +51,6 @@ pub mod OnePlace
 pub mod TypedMoves
 pub mod typed
 pub mod Callees
+pub mod Guests
+pub mod nexts
+pub mod Reached

@@ -38,3 +38,5 @@ pub mod MadeInstances
 pub mod GraphFuncs
 pub mod Callees
 pub mod TypedGoing
+pub mod Guests
+pub mod GoingOn
