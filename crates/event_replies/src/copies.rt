@@ -13,7 +13,7 @@ use instances::{EndEntry, WorldEntry};
 use std::alloc::Global;
 use stream_ends::Side;
 use trace_show::TrapName;
-use world_parts::{Flow, Part, Parts, Stop};
+use world_parts::{Flow, Part, Parts, Stop, word_in};
 
 /// An end of a new stream or future.
 fn new_end(side: Side, end_type: usize, number: u32) -> WorldEntry
@@ -93,10 +93,13 @@ pub fn end_drop(
     kind: EndKind,
     side: Side,
     end_type: usize,
+    words: &[u64],
 ) -> Part<Flow>
-    ensures { Does (end_drop task at kind side end_type) parts.old result parts.new }
+    ensures { Does (end_drop task at kind side end_type words.now) parts.old result parts.new }
 {
-    let index = parts.word(task, 0)?;
+    let Some(index) = word_in(words, 0) else {
+        return Err(Stop::Stuck);
+    };
     let end = parts.end_at(at, side, end_type, index)?;
     let Some(channel) = parts.channel(kind, end.number) else {
         return Err(Stop::Stuck);
@@ -143,10 +146,13 @@ pub fn copy_cancel(
     kind: EndKind,
     side: Side,
     end_type: usize,
+    words: &[u64],
 ) -> Part<Flow>
-    ensures { Does (copy_cancel (seen graph.now) task at kind side end_type) parts.old result parts.new }
+    ensures { Does (copy_cancel (seen graph.now) task at kind side end_type words.now) parts.old result parts.new }
 {
-    let index = parts.word(task, 0)?;
+    let Some(index) = word_in(words, 0) else {
+        return Err(Stop::Stuck);
+    };
     let end = parts.end_at(at, side, end_type, index)?;
     let Some(channel) = parts.channel(kind, end.number) else {
         return Err(Stop::Stuck);
