@@ -4,7 +4,7 @@ use comp_graph::{BuiltinKind, CanonFunc, Graph};
 use event_replies::{deliver, poll, receive_cancel, receive_none, set_wait};
 use replies::{begin, reply};
 use std::alloc::Global;
-use world_parts::{Flow, Part, Parts, Stop};
+use world_parts::{Flow, Part, Parts, Stop, same_words};
 
 /// Answers a call of the canonical function of a number, whose line is told.
 fn answer(
@@ -42,6 +42,10 @@ pub fn call(
     let Some(canon) = graph.canons().get(number as usize) else {
         return Err(Stop::Stuck);
     };
+    let Ok(kept) = same_words(alloc, words) else {
+        return Err(Stop::Memory);
+    };
+    parts.set_words(task, kept)?;
     begin(alloc, parts, task, canon, words)?;
     answer(alloc, graph, parts, task, number, canon, words)
 }
@@ -65,12 +69,7 @@ fn hear(
 }
 
 /// Lets an event come to the acting task, where one is to.
-pub fn follow(
-    alloc: Global,
-    graph: &Graph<'_>,
-    parts: &mut Parts,
-    came: Part<Flow>,
-) -> Part<Flow> {
+pub fn follow(alloc: Global, graph: &Graph<'_>, parts: &mut Parts, came: Part<Flow>) -> Part<Flow> {
     let flow = came?;
     let Ok(task) = parts.acting() else {
         return Ok(flow);

@@ -50,12 +50,7 @@ fn begin(alloc: Global, parts: &mut Parts) -> Part<()> {
 }
 
 /// Makes all of the graph's plan.
-fn make_all(
-    alloc: Global,
-    graph: &Graph<'_>,
-    parts: &mut Parts,
-    stacks: &mut Stacks,
-) -> Part<()> {
+fn make_all(alloc: Global, graph: &Graph<'_>, parts: &mut Parts, stacks: &mut Stacks) -> Part<()> {
     for _action in 0..ACTIONS {
         match parts.rest {
             Rest::Instantiates(number) => instantiate(alloc, graph, parts, stacks, number)?,

@@ -126,7 +126,12 @@ struct Played<'g> {
 
 impl<'g> Played<'g> {
     /// A call of a canonical function: its number, and its words.
-    fn write_call(&mut self, alloc: Global, rest: &str, text: &mut String) -> Result<(), AllocError> {
+    fn write_call(
+        &mut self,
+        alloc: Global,
+        rest: &str,
+        text: &mut String,
+    ) -> Result<(), AllocError> {
         let (canon, words) = rest.split_once(',').unwrap_or((rest, ""));
         let words = words_of(alloc, words)?;
         let came = call(alloc, self.graph, &mut self.parts, number(canon), &words);
@@ -134,7 +139,12 @@ impl<'g> Played<'g> {
     }
 
     /// A task goes on.
-    fn write_going(&mut self, alloc: Global, name: &str, text: &mut String) -> Result<(), AllocError> {
+    fn write_going(
+        &mut self,
+        alloc: Global,
+        name: &str,
+        text: &mut String,
+    ) -> Result<(), AllocError> {
         let came = match name {
             "back" => back(alloc, self.graph, &mut self.parts),
             _ => resume(alloc, &mut self.parts),
@@ -160,7 +170,12 @@ impl<'g> Played<'g> {
     }
 
     /// A handle comes into the table of instance 0.
-    fn write_handle(&mut self, name: &str, rest: &str, text: &mut String) -> Result<(), AllocError> {
+    fn write_handle(
+        &mut self,
+        name: &str,
+        rest: &str,
+        text: &mut String,
+    ) -> Result<(), AllocError> {
         let (resource, rep) = pair(rest);
         let made = match name {
             "own" => add_handle(&mut self.parts, resource, rep, 0, Ownership::Own),
@@ -171,7 +186,12 @@ impl<'g> Played<'g> {
     }
 
     /// A task is made, and enters.
-    fn write_run(&mut self, alloc: Global, rest: &str, text: &mut String) -> Result<(), AllocError> {
+    fn write_run(
+        &mut self,
+        alloc: Global,
+        rest: &str,
+        text: &mut String,
+    ) -> Result<(), AllocError> {
         let (kind, instance) = rest.split_once(',').unwrap_or((rest, ""));
         let made = run(alloc, &mut self.parts, number(instance), kind_of(kind));
         write_made(text, made)
@@ -194,7 +214,13 @@ impl<'g> Played<'g> {
     }
 
     /// What is told or given.
-    fn write_other(&mut self, alloc: Global, name: &str, rest: &str, text: &mut String) -> Result<(), AllocError> {
+    fn write_other(
+        &mut self,
+        alloc: Global,
+        name: &str,
+        rest: &str,
+        text: &mut String,
+    ) -> Result<(), AllocError> {
         match name {
             "said" => self.write_said(alloc, text),
             "rest" => text.push_str(rest_name(self.parts.rest)),

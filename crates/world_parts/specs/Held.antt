@@ -1,5 +1,5 @@
 -- What is kept of a world, field by field, and what a part of a step comes to (Component Model, Concurrency.md, "Summary").
-use Rattle.std.specs.Prelude.{◌≡◌, ⊥, ℕ, Bool, if◌then◌else◌, List, Option, Some, None, Result, Ok, Err}
+use Rattle.std.specs.Prelude.{◌≡◌, ℕ, Bool, if◌then◌else◌, List, Option, Some, None, Result, Ok, Err}
 use Rattle.wasm_store.specs.Store.{Store}
 use Rattle.instances.specs.Instances.{InstanceView}
 use Rattle.task_table.specs.declared.slot.TaskSlot.{TaskSlot}
