@@ -41,7 +41,7 @@ fn slot_news(slot: Option<&TaskSlot>) -> bool
 }
 
 /// Whether a copy is one of a call that did not wait.
-pub(crate) fn copy_is_async(graph: &Graph<'_>, copy: Option<OpenCopy>) -> bool
+fn copy_is_async(graph: &Graph<'_>, copy: Option<OpenCopy>) -> bool
     ensures { result ≡ copy_is_async (seen graph.now) copy }
 {
     match copy {

@@ -80,9 +80,7 @@ fn resource_reply(
 {
     match op {
         ResourceOp::New => resource_new(alloc, parts, task, at, resource, words),
-        ResourceOp::Drop => {
-            resource_drop(alloc, graph, parts, task, at, canon, resource, words)
-        }
+        ResourceOp::Drop => { resource_drop(alloc, graph, parts, task, at, canon, resource, words) }
         ResourceOp::Rep => resource_rep(alloc, parts, task, at, resource, words),
     }
 }
@@ -122,7 +120,9 @@ fn plain_reply(
         PlainBuiltin::BackpressureSet => backpressure_set(alloc, parts, task, at, words),
         PlainBuiltin::BackpressureInc => backpressure_inc(alloc, parts, task, at),
         PlainBuiltin::BackpressureDec => backpressure_dec(alloc, parts, task, at),
-        PlainBuiltin::SubtaskCancel { is_async: _ } => subtask_cancel(parts, task, at, canon, words),
+        PlainBuiltin::SubtaskCancel { is_async: _ } => subtask_cancel(
+            parts, task, at, canon, words,
+        ),
         PlainBuiltin::SubtaskDrop => subtask_drop(alloc, parts, task, at, words),
         PlainBuiltin::Yield { cancellable: _ } => task_yield(alloc, graph, parts, task, canon),
         PlainBuiltin::WaitableSetNew => set_new(alloc, parts, task, at),
