@@ -1,11 +1,12 @@
 //! Which tasks can go on.
 
 ghost use Rattle.std.specs.Prelude.{◌≡◌, ◌||◌, IfOk, filter};
+ghost use Rattle.std.specs.List.{list_any};
 ghost use Rattle.std.specs.Option.{option_copied};
 ghost use Rattle.tasks.specs.declared.event.BlockedAt.TheVariants as blocked_at;
 ghost use Rattle.world_parts.specs.Held.{held};
 ghost use Rattle.world_parts.specs.News.{index_is_ready};
-ghost use Rattle.world_parts.specs.Turning.{gate_lets, gate_is_free, loop_is_over, wait_is_over, slot_is_able, is_able, able};
+ghost use Rattle.world_parts.specs.Turning.{gate_lets, gate_is_free, loop_is_over, wait_is_over, slot_is_able, is_able, lets_in, candidates, able};
 ghost use Rattle.event_replies.specs.Seen.{seen};
 
 use crate::news::{index_is_ready, is_pending_at, is_resolved_at, task_is_resolved};
@@ -14,6 +15,7 @@ use comp_graph::Graph;
 use entry_gate::{BadCode, Kind, Next, read_callback};
 use instances::Instance;
 use std::alloc::Global;
+use std::collections::BTreeSet;
 use task_table::TaskSlot;
 use tasks::{BlockedAt, Phase};
 use waitables::Nums;
@@ -175,9 +177,50 @@ fn able_among(
     Ok(able)
 }
 
+/// Whether the gate of an instance lets a task in that waits for exclusive entry.
+fn lets_in(instance: &Instance) -> bool
+    ensures { result ≡ lets_in instance.now }
+{
+    instance.has_waiting() && instance.may_enter(Kind::Sync, false)
+}
+
+/// Whether the gate of one of these instances does.
+fn any_lets_in(instances: &[Instance]) -> bool
+    ensures { result ≡ list_any lets_in instances.now }
+{
+    for instance in instances {
+        if lets_in(instance) {
+            return true;
+        }
+    }
+    false
+}
+
+/// These numbers as a list.
+fn list_of(alloc: Global, numbers: &BTreeSet<u32>) -> Result<Nums, Memory>
+    ensures { IfOk result (λ list. list ≡ numbers.now.keys) }
+{
+    let list = numbers.iter().copied().collect(alloc)?;
+    Ok(Nums::from_vec(list))
+}
+
+/// The tasks that are looked at: where no gate lets one in that waits for exclusive entry, none that does.
+fn candidates(alloc: Global, parts: &Parts) -> Result<Nums, Memory>
+    ensures { IfOk result (λ tasks. tasks ≡ candidates (held parts.now)) }
+{
+    if any_lets_in(&parts.instances) {
+        list_of(alloc, &parts.tasks.live)
+    } else {
+        list_of(alloc, &parts.tasks.watched)
+    }
+}
+
 /// The tasks that can go on, by rising number. Those that have exited are not looked at.
 pub fn able(alloc: Global, graph: &Graph<'_>, parts: &Parts) -> Result<Nums, Memory>
     ensures { IfOk result (λ tasks. tasks ≡ able (seen graph.now) (held parts.now)) }
 {
-    able_among(alloc, graph, parts, &parts.tasks.live)
+    match candidates(alloc, parts) {
+        Ok(tasks) => able_among(alloc, graph, parts, tasks.as_slice()),
+        Err(_) => Err(Memory),
+    }
 }

@@ -6,7 +6,7 @@ ghost use Rattle.std.specs.List.{slice_get, list_any};
 ghost use Rattle.waitables.specs.Sets.{set_at};
 ghost use Rattle.world_parts.specs.Held.{held};
 ghost use Rattle.world_parts.specs.Channels.{channel_of};
-ghost use Rattle.world_parts.specs.News.{slot_news, copy_is_async, channel_news, entry_news, entry_in, news_at, members_in, ready, some_ready, set_number, index_is_ready, slot_is_resolved, task_is_resolved, channel_is_pending, entry_is_pending, entry_is_resolved};
+ghost use Rattle.world_parts.specs.News.{slot_news, copy_is_async, channel_news, entry_news, entry_in, news_at, members_in, ready, some_ready, index_is_ready, slot_is_resolved, task_is_resolved, channel_is_pending, entry_is_pending, entry_is_resolved};
 ghost use Rattle.event_replies.specs.Seen.{seen};
 
 use ca_base::Memory;
@@ -18,7 +18,7 @@ use std::alloc::Global;
 use stream_ends::{OpenCopy, Side};
 use task_table::TaskSlot;
 use waitables::Nums;
-use world_parts::Parts;
+use world_parts::{Parts, set_number};
 
 /// What stands at an index of the table of an instance, where the instance is there.
 fn entry_in(parts: &Parts, at: usize, index: u32) -> Option<WorldEntry>
@@ -41,7 +41,7 @@ fn slot_news(slot: Option<&TaskSlot>) -> bool
 }
 
 /// Whether a copy is one of a call that did not wait.
-pub(crate) fn copy_is_async(graph: &Graph<'_>, copy: Option<OpenCopy>) -> bool
+fn copy_is_async(graph: &Graph<'_>, copy: Option<OpenCopy>) -> bool
     ensures { result ≡ copy_is_async (seen graph.now) copy }
 {
     match copy {
@@ -173,19 +173,6 @@ fn some_ready(
     }
 }
 
-/// The number of the set that an entry is.
-fn set_in(entry: Option<WorldEntry>) -> Option<u64>
-    ensures { result ≡ set_number entry }
-{
-    match entry {
-        Some(WorldEntry::Set(set)) => Some(set),
-        Some(WorldEntry::Handle(_)) => None,
-        Some(WorldEntry::Subtask(_)) => None,
-        Some(WorldEntry::End(_)) => None,
-        None => None,
-    }
-}
-
 /// Whether a member of the set at an index is ready.
 pub(crate) fn index_is_ready(
     alloc: Global,
@@ -196,7 +183,7 @@ pub(crate) fn index_is_ready(
 ) -> Result<bool, Memory>
     ensures { IfOk result (λ is. is ≡ index_is_ready (seen graph.now) at index (held parts.now)) }
 {
-    match set_in(entry_in(parts, at, index)) {
+    match set_number(entry_in(parts, at, index)) {
         Some(set) => some_ready(alloc, graph, parts, at, set),
         None => Ok(false),
     }

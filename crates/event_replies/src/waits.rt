@@ -15,7 +15,7 @@ use graph_views::{flag_at, options_at};
 use std::alloc::Global;
 use tasks::BlockedAt;
 use trace_show::{BlockReason, TrapName};
-use world_parts::{Flow, Part, Parts, Receiver, Stop, block_in};
+use world_parts::{Flow, Part, Parts, Receiver, Stop, block_in, word_in};
 
 /// A task blocks at a set.
 #[tactic(auto, unfolding(world_parts::specs::Waits::blocked_at_set), using(world_parts::proofs::Thens::thens))]
@@ -151,11 +151,16 @@ pub fn set_wait(
     at: usize,
     canon: u32,
     op: WaitOp,
+    words: &[u64],
 ) -> Part<Flow>
-    ensures { Does (set_wait (seen graph.now) task at canon op) parts.old result parts.new }
+    ensures { Does (set_wait (seen graph.now) task at canon op words.now) parts.old result parts.new }
 {
-    let index = parts.word(task, 0)?;
-    let place = parts.word(task, 1)?;
+    let Some(index) = word_in(words, 0) else {
+        return Err(Stop::Stuck);
+    };
+    let Some(place) = word_in(words, 1) else {
+        return Err(Stop::Stuck);
+    };
     let set = parts.set_at(at, index)?;
     if place % 4 != 0 {
         return Err(Stop::Trap(TrapName::Misaligned));

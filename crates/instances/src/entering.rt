@@ -24,6 +24,13 @@ impl Instance {
         self.gate.is_free()
     }
 
+    /// Whether a task waits to enter.
+    pub fn has_waiting(&self) -> bool
+        ensures { result ≡ nat_lt 0 self.now.gate.waiting }
+    {
+        self.gate.waiting() > 0
+    }
+
     /// A task begins to wait to enter. `Memory` comes where 2^64 - 1 tasks wait, and the instance is as it was.
     pub fn wait(&mut self) -> Result<(), Memory>
         ensures { MatchResult result (λ _. self.new ≡ with_gate (with_wait self.old.gate) self.old) (λ _. (self.old.gate.waiting + 1 ≡ 2 ^ 64) × (self.new ≡ self.old)) }

@@ -15,7 +15,7 @@ use std::alloc::Global;
 use task_table::{Callee, Words};
 use tasks::TaskEvent;
 use trace_show::TrapName;
-use world_parts::{Flow, Part, Parts, Rest, Stop};
+use world_parts::{Flow, Part, Parts, Rest, Stop, word_in};
 
 /// `resource.new`: a new own handle of a resource. The trap is `TableFull`.
 #[tactic(auto, unfolding(world_parts::specs::Handles::resource_new), using(world_parts::proofs::Thens::thens))]
@@ -25,10 +25,13 @@ pub(crate) fn resource_new(
     task: u32,
     at: usize,
     resource: u32,
+    words: &[u64],
 ) -> Part<Flow>
-    ensures { Does (resource_new task at resource) parts.old result parts.new }
+    ensures { Does (resource_new task at resource words.now) parts.old result parts.new }
 {
-    let rep = parts.word(task, 0)?;
+    let Some(rep) = word_in(words, 0) else {
+        return Err(Stop::Stuck);
+    };
     let handle = Handle {
         resource,
         rep,
@@ -47,10 +50,13 @@ pub(crate) fn resource_rep(
     task: u32,
     at: usize,
     resource: u32,
+    words: &[u64],
 ) -> Part<Flow>
-    ensures { Does (resource_rep task at resource) parts.old result parts.new }
+    ensures { Does (resource_rep task at resource words.now) parts.old result parts.new }
 {
-    let index = parts.word(task, 0)?;
+    let Some(index) = word_in(words, 0) else {
+        return Err(Stop::Stuck);
+    };
     let rep = parts.rep_at(at, index, resource)?;
     parts.answer_one(alloc, task, u64::from(rep))
 }
@@ -65,10 +71,13 @@ pub(crate) fn resource_drop(
     at: usize,
     canon: u32,
     resource: u32,
+    words: &[u64],
 ) -> Part<Flow>
-    ensures { Does (resource_drop (seen graph.now) task at canon resource) parts.old result parts.new }
+    ensures { Does (resource_drop (seen graph.now) task at canon resource words.now) parts.old result parts.new }
 {
-    let index = parts.word(task, 0)?;
+    let Some(index) = word_in(words, 0) else {
+        return Err(Stop::Stuck);
+    };
     let handle = drop_handle(parts, at, index, resource)?;
     match handle.ownership {
         Ownership::Own => destroy(alloc, graph, parts, task, at, canon, handle),

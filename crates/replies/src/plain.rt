@@ -10,7 +10,7 @@ use graph_views::flag_at;
 use std::alloc::Global;
 use tasks::{BlockedAt, SubtaskState, TaskEvent};
 use trace_show::{BlockReason, Label, TypedValue};
-use world_parts::{Flow, Part, Parts, block_in, yield_cancelled};
+use world_parts::{Flow, Part, Parts, Stop, block_in, word_in, yield_cancelled};
 
 /// `context.get`: a word of context.
 #[tactic(auto, unfolding(world_parts::specs::Plain::context_get), using(world_parts::proofs::Thens::thens))]
@@ -23,10 +23,18 @@ pub(crate) fn context_get(alloc: Global, parts: &mut Parts, task: u32, number: u
 
 /// `context.set`: a word of context is another.
 #[tactic(auto, unfolding(world_parts::specs::Plain::context_put), using(world_parts::proofs::Thens::thens))]
-pub(crate) fn context_put(alloc: Global, parts: &mut Parts, task: u32, number: u32) -> Part<Flow>
-    ensures { Does (context_put task number) parts.old result parts.new }
+pub(crate) fn context_put(
+    alloc: Global,
+    parts: &mut Parts,
+    task: u32,
+    number: u32,
+    words: &[u64],
+) -> Part<Flow>
+    ensures { Does (context_put task number words.now) parts.old result parts.new }
 {
-    let word = parts.word(task, 0)?;
+    let Some(word) = word_in(words, 0) else {
+        return Err(Stop::Stuck);
+    };
     parts.set_context_word(task, number, word)?;
     parts.answer_none(alloc, task)
 }
@@ -51,10 +59,18 @@ pub(crate) fn backpressure_dec(alloc: Global, parts: &mut Parts, task: u32, at: 
 
 /// `backpressure.set`
 #[tactic(auto, unfolding(world_parts::specs::Plain::backpressure_set), using(world_parts::proofs::Thens::thens))]
-pub(crate) fn backpressure_set(alloc: Global, parts: &mut Parts, task: u32, at: usize) -> Part<Flow>
-    ensures { Does (backpressure_set task at) parts.old result parts.new }
+pub(crate) fn backpressure_set(
+    alloc: Global,
+    parts: &mut Parts,
+    task: u32,
+    at: usize,
+    words: &[u64],
+) -> Part<Flow>
+    ensures { Does (backpressure_set task at words.now) parts.old result parts.new }
 {
-    let enabled = parts.word(task, 0)?;
+    let Some(enabled) = word_in(words, 0) else {
+        return Err(Stop::Stuck);
+    };
     set_pressure(parts, at, enabled)?;
     parts.answer_none(alloc, task)
 }

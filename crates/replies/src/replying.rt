@@ -19,7 +19,7 @@ use graph_views::{builtin_of, kind_of};
 use std::alloc::Global;
 use task_table::{Callee, TaskSlot};
 use trace_show::Label;
-use world_parts::{Flow, Part, Parts, Stop};
+use world_parts::{Flow, Part, Parts, Stop, same_words};
 
 /// Whether a task is there and has exited.
 fn slot_has_exited(slot: Option<&TaskSlot>) -> bool
@@ -39,11 +39,19 @@ pub fn may_leave(parts: &Parts) -> bool
 }
 
 /// A task calls the function that the canonical function of a number lowers. The trap is `Reentrant`.
-#[tactic(auto, unfolding(crate::specs::Replies::lowered), using(world_parts::proofs::Thens::thens))]
-fn call_lowered(alloc: Global, parts: &mut Parts, task: u32, canon: u32, lift: &Lift) -> Part<Flow>
-    ensures { Does (lowered task canon lift.now) parts.old result parts.new }
+fn call_lowered(
+    alloc: Global,
+    parts: &mut Parts,
+    task: u32,
+    canon: u32,
+    lift: &Lift,
+    words: &[u64],
+) -> Part<Flow>
+    ensures { Does (lowered task canon lift.now words.now) parts.old result parts.new }
 {
-    let words = parts.words(alloc, task)?;
+    let Ok(passed) = same_words(alloc, words) else {
+        return Err(Stop::Memory);
+    };
     begin_call(
         alloc,
         parts,
@@ -52,7 +60,7 @@ fn call_lowered(alloc: Global, parts: &mut Parts, task: u32, canon: u32, lift: &
         Callee::Lowered(canon),
         lift.instance,
         kind_of(&lift.options),
-        words,
+        passed,
     )
 }
 
@@ -66,13 +74,14 @@ fn resource_reply(
     canon: u32,
     op: ResourceOp,
     resource: u32,
+    words: &[u64],
 ) -> Part<Flow>
-    ensures { Does (resource_reply graph.now task at canon op resource) parts.old result parts.new }
+    ensures { Does (resource_reply graph.now task at canon op resource words.now) parts.old result parts.new }
 {
     match op {
-        ResourceOp::New => resource_new(alloc, parts, task, at, resource),
-        ResourceOp::Drop => resource_drop(alloc, graph, parts, task, at, canon, resource),
-        ResourceOp::Rep => resource_rep(alloc, parts, task, at, resource),
+        ResourceOp::New => resource_new(alloc, parts, task, at, resource, words),
+        ResourceOp::Drop => { resource_drop(alloc, graph, parts, task, at, canon, resource, words) }
+        ResourceOp::Rep => resource_rep(alloc, parts, task, at, resource, words),
     }
 }
 
@@ -83,12 +92,13 @@ fn context_reply(
     task: u32,
     op: ContextOp,
     number: u32,
+    words: &[u64],
 ) -> Part<Flow>
-    ensures { Does (context_reply task op number) parts.old result parts.new }
+    ensures { Does (context_reply task op number words.now) parts.old result parts.new }
 {
     match op {
         ContextOp::Get => context_get(alloc, parts, task, number),
-        ContextOp::Set => context_put(alloc, parts, task, number),
+        ContextOp::Set => context_put(alloc, parts, task, number, words),
     }
 }
 
@@ -101,20 +111,23 @@ fn plain_reply(
     at: usize,
     canon: u32,
     op: PlainBuiltin,
+    words: &[u64],
 ) -> Part<Flow>
-    ensures { Does (plain_reply graph.now task at canon op) parts.old result parts.new }
+    ensures { Does (plain_reply graph.now task at canon op words.now) parts.old result parts.new }
 {
     match op {
         PlainBuiltin::TaskCancel => task_cancel(alloc, parts, task),
-        PlainBuiltin::BackpressureSet => backpressure_set(alloc, parts, task, at),
+        PlainBuiltin::BackpressureSet => backpressure_set(alloc, parts, task, at, words),
         PlainBuiltin::BackpressureInc => backpressure_inc(alloc, parts, task, at),
         PlainBuiltin::BackpressureDec => backpressure_dec(alloc, parts, task, at),
-        PlainBuiltin::SubtaskCancel { is_async: _ } => subtask_cancel(parts, task, at, canon),
-        PlainBuiltin::SubtaskDrop => subtask_drop(alloc, parts, task, at),
+        PlainBuiltin::SubtaskCancel { is_async: _ } => subtask_cancel(
+            parts, task, at, canon, words,
+        ),
+        PlainBuiltin::SubtaskDrop => subtask_drop(alloc, parts, task, at, words),
         PlainBuiltin::Yield { cancellable: _ } => task_yield(alloc, graph, parts, task, canon),
         PlainBuiltin::WaitableSetNew => set_new(alloc, parts, task, at),
-        PlainBuiltin::WaitableSetDrop => set_drop(alloc, parts, task, at),
-        PlainBuiltin::WaitableJoin => waitable_join(alloc, parts, task, at),
+        PlainBuiltin::WaitableSetDrop => set_drop(alloc, parts, task, at, words),
+        PlainBuiltin::WaitableJoin => waitable_join(alloc, parts, task, at, words),
     }
 }
 
@@ -127,19 +140,20 @@ fn builtin_reply(
     at: usize,
     canon: u32,
     kind: &BuiltinKind,
+    words: &[u64],
 ) -> Part<Flow>
-    ensures { Does (builtin_reply graph.now task at canon kind.now) parts.old result parts.new }
+    ensures { Does (builtin_reply graph.now task at canon kind.now words.now) parts.old result parts.new }
 {
     match kind {
         BuiltinKind::Resource { op, resource } => {
-            resource_reply(alloc, graph, parts, task, at, canon, *op, *resource)
+            resource_reply(alloc, graph, parts, task, at, canon, *op, *resource, words)
         }
         BuiltinKind::TaskReturn {
             result: _,
             options: _,
         } => ask_return(parts, task),
-        BuiltinKind::Plain(op) => plain_reply(alloc, graph, parts, task, at, canon, *op),
-        BuiltinKind::Context { op, slot } => context_reply(alloc, parts, task, *op, *slot),
+        BuiltinKind::Plain(op) => plain_reply(alloc, graph, parts, task, at, canon, *op, words),
+        BuiltinKind::Context { op, slot } => context_reply(alloc, parts, task, *op, *slot, words),
         BuiltinKind::Wait {
             op: _,
             cancellable: _,
@@ -153,12 +167,19 @@ fn builtin_reply(
     }
 }
 
-/// A canonical function is called by the acting task: its line.
-#[tactic(auto, unfolding(crate::specs::Replies::begun), using(world_parts::proofs::Thens::thens))]
-pub fn begin(alloc: Global, parts: &mut Parts, task: u32, canon: &CanonFunc) -> Part<()>
-    ensures { Does (begun task canon.now) parts.old result parts.new }
+/// A canonical function is called with words by code that runs for a task: its line.
+pub fn begin(
+    alloc: Global,
+    parts: &mut Parts,
+    task: u32,
+    canon: &CanonFunc,
+    words: &[u64],
+) -> Part<()>
+    ensures { Does (begun task canon.now words.now) parts.old result parts.new }
 {
-    let words = parts.words(alloc, task)?;
+    let Ok(words) = same_words(alloc, words) else {
+        return Err(Stop::Memory);
+    };
     parts.tell(Label::Do {
         task,
         builtin: builtin_of(canon),
@@ -166,7 +187,7 @@ pub fn begin(alloc: Global, parts: &mut Parts, task: u32, canon: &CanonFunc) -> 
     })
 }
 
-/// A canonical function of a number is answered, whose line is told.
+/// A canonical function of a number is answered, which is called with words and whose line is told.
 pub fn reply(
     alloc: Global,
     graph: &Graph<'_>,
@@ -174,11 +195,14 @@ pub fn reply(
     task: u32,
     number: u32,
     canon: &CanonFunc,
+    words: &[u64],
 ) -> Part<Flow>
-    ensures { Does (answered graph.now task number canon.now) parts.old result parts.new }
+    ensures { Does (answered graph.now task number canon.now words.now) parts.old result parts.new }
 {
     match canon {
-        CanonFunc::Lower(lower) => { call_lowered(alloc, parts, task, number, &lower.get().lift) }
+        CanonFunc::Lower(lower) => {
+            call_lowered(alloc, parts, task, number, &lower.get().lift, words)
+        }
         CanonFunc::Builtin(builtin) => builtin_reply(
             alloc,
             graph,
@@ -187,6 +211,7 @@ pub fn reply(
             builtin.instance as usize,
             number,
             &builtin.kind,
+            words,
         ),
     }
 }

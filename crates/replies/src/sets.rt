@@ -6,7 +6,7 @@ ghost use Rattle.world_parts.specs.Waits.{set_new, set_drop, joined_to, waitable
 use crate::tables::{drop_set, join, make_set, sets_made, waitable_at};
 use instances::WorldEntry;
 use std::alloc::Global;
-use world_parts::{Flow, Part, Parts};
+use world_parts::{Flow, Part, Parts, Stop, word_in};
 
 /// `waitable-set.new`: the trap is `TableFull`.
 #[tactic(auto, unfolding(world_parts::specs::Waits::set_new), using(world_parts::proofs::Thens::thens))]
@@ -21,10 +21,18 @@ pub(crate) fn set_new(alloc: Global, parts: &mut Parts, task: u32, at: usize) ->
 
 /// `waitable-set.drop`: the traps are `Absent`, `OtherKind`, `Members` and `Waiters`.
 #[tactic(auto, unfolding(world_parts::specs::Waits::set_drop), using(world_parts::proofs::Thens::thens))]
-pub(crate) fn set_drop(alloc: Global, parts: &mut Parts, task: u32, at: usize) -> Part<Flow>
-    ensures { Does (set_drop task at) parts.old result parts.new }
+pub(crate) fn set_drop(
+    alloc: Global,
+    parts: &mut Parts,
+    task: u32,
+    at: usize,
+    words: &[u64],
+) -> Part<Flow>
+    ensures { Does (set_drop task at words.now) parts.old result parts.new }
 {
-    let index = parts.word(task, 0)?;
+    let Some(index) = word_in(words, 0) else {
+        return Err(Stop::Stuck);
+    };
     let set = parts.set_at(at, index)?;
     drop_set(parts, at, set)?;
     parts.remove_entry(at, index)?;
@@ -55,11 +63,21 @@ fn join_to(
 
 /// `waitable.join`: the traps are `Absent` and `OtherKind`.
 #[tactic(auto, unfolding(world_parts::specs::Waits::waitable_join), using(world_parts::proofs::Thens::thens))]
-pub(crate) fn waitable_join(alloc: Global, parts: &mut Parts, task: u32, at: usize) -> Part<Flow>
-    ensures { Does (waitable_join task at) parts.old result parts.new }
+pub(crate) fn waitable_join(
+    alloc: Global,
+    parts: &mut Parts,
+    task: u32,
+    at: usize,
+    words: &[u64],
+) -> Part<Flow>
+    ensures { Does (waitable_join task at words.now) parts.old result parts.new }
 {
-    let index = parts.word(task, 0)?;
-    let other = parts.word(task, 1)?;
+    let Some(index) = word_in(words, 0) else {
+        return Err(Stop::Stuck);
+    };
+    let Some(other) = word_in(words, 1) else {
+        return Err(Stop::Stuck);
+    };
     waitable_at(parts, at, index)?;
     join_to(alloc, parts, task, at, index, other)
 }

@@ -2,7 +2,7 @@
 
 ghost use Rattle.std.specs.Prelude.{◌≡◌};
 ghost use Rattle.tasks.specs.Tasks.{is_unasked};
-ghost use Rattle.world_parts.specs.Held.{Does, held};
+ghost use Rattle.world_parts.specs.Held.{Does, Tells, held};
 ghost use Rattle.world_parts.specs.Gates.{pressure_raised, pressure_lowered, pressure_set};
 ghost use Rattle.world_parts.specs.Slots.{delivered, unasked, cancellable, cancel_asked, call_made};
 ghost use Rattle.world_parts.specs.Channels.{numbered};
@@ -50,7 +50,7 @@ pub(crate) fn set_pressure(parts: &mut Parts, at: usize, enabled: u32) -> Part<(
 
 /// Whether the caller of a task was told that it has resolved.
 pub(crate) fn is_delivered(parts: &Parts, callee: u32) -> Part<bool>
-    ensures { Does (delivered callee) parts.now result parts.now }
+    ensures { Tells (delivered callee) parts.now result }
 {
     let Some(slot) = parts.tasks.slots.get(callee as usize) else {
         return Err(Stop::Stuck);
@@ -63,7 +63,7 @@ pub(crate) fn is_delivered(parts: &Parts, callee: u32) -> Part<bool>
 
 /// Whether the cancellation of a task was never asked.
 pub(crate) fn was_never_asked(parts: &Parts, task: u32) -> Part<bool>
-    ensures { Does (unasked task) parts.now result parts.now }
+    ensures { Tells (unasked task) parts.now result }
 {
     match parts.tasks.slots.get(task as usize) {
         Some(slot) => Ok(is_unasked(slot.task.cancellation())),
@@ -84,7 +84,7 @@ fn is_unasked(cancellation: Cancellation) -> bool
 
 /// Whether a task is unresolved, and its cancellation was never asked.
 pub(crate) fn may_cancel(parts: &Parts, task: u32) -> Part<bool>
-    ensures { Does (cancellable task) parts.now result parts.now }
+    ensures { Tells (cancellable task) parts.now result }
 {
     match parts.tasks.slots.get(task as usize) {
         Some(slot) => Ok(slot.task.may_cancel()),

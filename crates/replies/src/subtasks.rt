@@ -8,7 +8,7 @@ use std::alloc::Global;
 use task_table::Errand;
 use tasks::{Asked, SubtaskState};
 use trace_show::{Label, TrapName};
-use world_parts::{Flow, Part, Parts, Rest, Stop};
+use world_parts::{Flow, Part, Parts, Rest, Stop, word_in};
 
 /// A task that waits to enter resolves and exits, since it is cancelled. The run is then at `behind`.
 #[tactic(auto, unfolding(world_parts::specs::Subtasks::removed), using(world_parts::proofs::Thens::thens))]
@@ -76,10 +76,18 @@ fn ask_subtask(parts: &mut Parts, task: u32, callee: u32, canon: u32, index: u32
 
 /// `subtask.cancel`: the traps are `Absent`, `OtherKind`, `Delivered` and `Asked`.
 #[tactic(auto, unfolding(world_parts::specs::Subtasks::subtask_cancel), using(world_parts::proofs::Thens::thens))]
-pub(crate) fn subtask_cancel(parts: &mut Parts, task: u32, at: usize, canon: u32) -> Part<Flow>
-    ensures { Does (subtask_cancel task at canon) parts.old result parts.new }
+pub(crate) fn subtask_cancel(
+    parts: &mut Parts,
+    task: u32,
+    at: usize,
+    canon: u32,
+    words: &[u64],
+) -> Part<Flow>
+    ensures { Does (subtask_cancel task at canon words.now) parts.old result parts.new }
 {
-    let index = parts.word(task, 0)?;
+    let Some(index) = word_in(words, 0) else {
+        return Err(Stop::Stuck);
+    };
     let callee = parts.subtask_at(at, index)?;
     let is_delivered = is_delivered(parts, callee)?;
     if is_delivered {
@@ -94,10 +102,18 @@ pub(crate) fn subtask_cancel(parts: &mut Parts, task: u32, at: usize, canon: u32
 
 /// `subtask.drop`: the traps are `Absent`, `OtherKind` and `NotDelivered`.
 #[tactic(auto, unfolding(world_parts::specs::Subtasks::subtask_drop), using(world_parts::proofs::Thens::thens))]
-pub(crate) fn subtask_drop(alloc: Global, parts: &mut Parts, task: u32, at: usize) -> Part<Flow>
-    ensures { Does (subtask_drop task at) parts.old result parts.new }
+pub(crate) fn subtask_drop(
+    alloc: Global,
+    parts: &mut Parts,
+    task: u32,
+    at: usize,
+    words: &[u64],
+) -> Part<Flow>
+    ensures { Does (subtask_drop task at words.now) parts.old result parts.new }
 {
-    let index = parts.word(task, 0)?;
+    let Some(index) = word_in(words, 0) else {
+        return Err(Stop::Stuck);
+    };
     let callee = parts.subtask_at(at, index)?;
     let is_delivered = is_delivered(parts, callee)?;
     if !is_delivered {

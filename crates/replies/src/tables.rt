@@ -1,6 +1,6 @@
 //! Handles, waitables and sets in the tables of component instances.
 
-ghost use Rattle.world_parts.specs.Held.{Does};
+ghost use Rattle.world_parts.specs.Held.{Does, Tells};
 ghost use Rattle.world_parts.specs.Entries.{handle_dropped, waitable_found, sets_made, set_made, set_joined, set_dropped};
 
 use instances::{DropSetError, SetError};
@@ -23,7 +23,7 @@ pub(crate) fn drop_handle(parts: &mut Parts, at: usize, index: u32, resource: u3
 
 /// Tests that a subtask or an end stands at an index. The traps are `Absent` and `OtherKind`.
 pub(crate) fn waitable_at(parts: &Parts, at: usize, index: u32) -> Part<()>
-    ensures { Does (waitable_found at index) parts.now result parts.now }
+    ensures { Tells (waitable_found at index) parts.now result }
 {
     let Some(instance) = parts.instances.get(at) else {
         return Err(Stop::Stuck);
@@ -36,7 +36,7 @@ pub(crate) fn waitable_at(parts: &Parts, at: usize, index: u32) -> Part<()>
 
 /// How many sets were made in an instance.
 pub(crate) fn sets_made(parts: &Parts, at: usize) -> Part<u64>
-    ensures { Does (sets_made at) parts.now result parts.now }
+    ensures { Tells (sets_made at) parts.now result }
 {
     match parts.instances.get(at) {
         Some(instance) => Ok(instance.sets_made()),

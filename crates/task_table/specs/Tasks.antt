@@ -1,21 +1,21 @@
 -- All tasks of a run (Component Model, CanonicalABI.md, "Task State"; Concurrency.md, "Summary"): those that have not exited, and who called
 -- whom.
 use Rattle.std.specs.Prelude.{ℕ, zero, suc, nat_eq, Bool, true, false, ◌||◌, List, Option, Some, None}
-use Rattle.std.specs.List.{slice_get, position, remove}
+use Rattle.std.specs.List.{slice_get}
+use Rattle.std.specs.Ordering.{nat_cmp}
+use Rattle.std.specs.BTreeMap.{is_at}
+use Rattle.std.specs.BTreeSet.{insert_key}
+use Rattle.std.specs.Set.{remove_key}
 use Rattle.task_table.specs.declared.caller.Caller.{Caller}
 use Rattle.task_table.specs.declared.caller.Caller.TheVariants.{Nobody, Host, Guest}
 use Rattle.task_table.specs.declared.slot.TaskSlot.{TaskSlot}
 
--- where a task stands first among numbers, and the numbers without it
-abbrev pub place_of : ℕ → List ℕ → Option ℕ
-place_of task tasks = position (λ other. nat_eq other task) tasks
-
-abbrev pub without_at : Option ℕ → List ℕ → List ℕ
-without_at None tasks = tasks
-without_at (Some at) tasks = remove tasks at
+-- rising numbers with a task among them, and without it
+abbrev pub with_number : ℕ → List ℕ → List ℕ
+with_number task tasks = insert_key nat_cmp tasks task
 
 abbrev pub without : ℕ → List ℕ → List ℕ
-without task tasks = without_at (place_of task tasks) tasks
+without task tasks = remove_key (is_at (nat_cmp task)) tasks
 
 -- the task that called
 abbrev pub by_of : Caller → Option ℕ

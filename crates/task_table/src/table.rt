@@ -1,22 +1,25 @@
 //! All tasks of a run.
 
-ghost use Rattle.std.specs.Prelude.{◌≡◌, ◌<◌, nat_eq, [], ◌∷◌, ◌++◌, length, Some, IfOk, IfSome, OnOk};
+ghost use Rattle.std.specs.Prelude.{◌≡◌, [], ◌∷◌, ◌++◌, length, Some, IfOk, OnOk};
 ghost use Rattle.std.specs.List.{slice_get};
 ghost use Rattle.std.specs.Option.{option_copied};
-ghost use Rattle.task_table.specs.Tasks.{place_of, without, by_of, is_among_callers};
+ghost use Rattle.task_table.specs.Tasks.{with_number, without, by_of, is_among_callers};
 
 use crate::caller::Caller;
 use crate::slot::TaskSlot;
 use ca_base::Memory;
 use std::alloc::Global;
+use std::collections::BTreeSet;
 
-/// The tasks of a run.
+/// The tasks of a run. What is added to or taken from a set of numbers costs about the logarithm of their count.
 #[derive(Drop)]
 pub struct Tasks {
     /// All of them, by their numbers.
     pub slots: Vec<TaskSlot>,
-    /// The numbers of those that have not exited, rising.
-    pub live: Vec<u32>,
+    /// The numbers of those that have not exited.
+    pub live: BTreeSet<u32>,
+    /// Those of them that do not wait for exclusive entry: where no gate lets one that does in, no other can go on.
+    pub watched: BTreeSet<u32>,
     /// The tasks that the script's calls made, in the order of the calls.
     pub calls: Vec<u32>,
 }
@@ -25,12 +28,14 @@ impl Tasks {
     /// No task. It takes no memory.
     pub fn new(alloc: Global) -> Tasks
         ensures slots { result.slots.items ≡ [] }
-        ensures live { result.live.items ≡ [] }
+        ensures live { result.live.keys ≡ [] }
+        ensures watched { result.watched.keys ≡ [] }
         ensures calls { result.calls.items ≡ [] }
     {
         Tasks {
             slots: Vec::new(alloc),
-            live: Vec::new(alloc),
+            live: BTreeSet::new(alloc),
+            watched: BTreeSet::new(alloc),
             calls: Vec::new(alloc),
         }
     }
@@ -56,14 +61,13 @@ impl Tasks {
     pub fn add(&mut self, slot: TaskSlot) -> Result<u32, Memory>
         ensures number { IfOk result (λ number. number ≡ length self.old.slots.items) }
         ensures slots { OnOk result (self.new.slots.items ≡ self.old.slots.items ++ slot ∷ []) }
-        ensures live { OnOk result (self.new.live.items ≡ self.old.live.items ++ length self.old.slots.items ∷ []) }
+        ensures live { OnOk result (self.new.live.keys ≡ with_number (length self.old.slots.items) self.old.live.keys) }
+        ensures watched { OnOk result (self.new.watched.keys ≡ with_number (length self.old.slots.items) self.old.watched.keys) }
         ensures calls { self.new.calls.items ≡ self.old.calls.items }
     {
         let number = self.next()?;
-        match self.live.push(number) {
-            Ok(()) => {}
-            Err(_) => return Err(Memory),
-        }
+        put(&mut self.live, number)?;
+        put(&mut self.watched, number)?;
         match self.slots.push(slot) {
             Ok(()) => Ok(number),
             Err(_) => Err(Memory),
@@ -73,12 +77,33 @@ impl Tasks {
     /// Says that a task has exited. Where it is none of those that have not nothing changes.
     pub fn close(&mut self, task: u32)
         ensures slots { self.new.slots.items ≡ self.old.slots.items }
-        ensures live { self.new.live.items ≡ without task self.old.live.items }
+        ensures live { self.new.live.keys ≡ without task self.old.live.keys }
+        ensures watched { self.new.watched.keys ≡ without task self.old.watched.keys }
         ensures calls { self.new.calls.items ≡ self.old.calls.items }
     {
-        if let Some(at) = place_of(&self.live, task) {
-            self.live.remove(at);
-        }
+        self.live.remove(&task);
+        self.watched.remove(&task);
+    }
+
+    /// Says that a task waits for exclusive entry.
+    pub fn park(&mut self, task: u32)
+        ensures slots { self.new.slots.items ≡ self.old.slots.items }
+        ensures live { self.new.live.keys ≡ self.old.live.keys }
+        ensures watched { self.new.watched.keys ≡ without task self.old.watched.keys }
+        ensures calls { self.new.calls.items ≡ self.old.calls.items }
+    {
+        self.watched.remove(&task);
+    }
+
+    /// Says that a task does not wait for exclusive entry any more. After `Memory` all is as it was.
+    pub fn unpark(&mut self, task: u32) -> Result<(), Memory>
+        ensures slots { self.new.slots.items ≡ self.old.slots.items }
+        ensures live { self.new.live.keys ≡ self.old.live.keys }
+        ensures watched { OnOk result (self.new.watched.keys ≡ with_number task self.old.watched.keys) }
+        ensures calls { self.new.calls.items ≡ self.old.calls.items }
+    {
+        put(&mut self.watched, task)?;
+        Ok(())
     }
 
     /// Whether the instance is that of the task, or of one that called it, or called its caller, and so on.
@@ -102,19 +127,12 @@ impl Tasks {
     }
 }
 
-/// Where a task stands first among numbers.
-fn place_of(tasks: &[u32], task: u32) -> Option<usize>
-    ensures value { result ≡ place_of task tasks.now }
-    ensures there { IfSome result (λ at. at < length tasks.now) }
+/// Adds a number, where it is not there. After `Memory` all is as it was.
+fn put(numbers: &mut BTreeSet<u32>, task: u32) -> Result<(), Memory>
+    ensures { OnOk result (numbers.new.keys ≡ with_number task numbers.old.keys) }
 {
-    tasks.iter().position(|other| is_same(*other, task))
-}
-
-/// Whether two numbers are the same.
-fn is_same(other: u32, task: u32) -> bool
-    ensures { result ≡ nat_eq other task }
-{
-    other == task
+    numbers.insert(task)?;
+    Ok(())
 }
 
 impl TaskSlot {

@@ -1,6 +1,6 @@
 //! Who enters a component instance.
 
-ghost use Rattle.world_parts.specs.Held.{Does};
+ghost use Rattle.world_parts.specs.Held.{Does, Tells};
 ghost use Rattle.world_parts.specs.Gates.{may_enter, gate_waited, gate_entered, gate_taken_back};
 ghost use Rattle.world_parts.specs.Slots.{resolution_of};
 
@@ -10,7 +10,7 @@ use world_parts::{Part, Parts, Stop};
 
 /// Whether a task of this kind may enter an instance: one that waits, or a newcomer.
 pub(crate) fn may_enter(parts: &Parts, at: usize, kind: Kind, newcomer: bool) -> Part<bool>
-    ensures { Does (may_enter at kind newcomer) parts.now result parts.now }
+    ensures { Tells (may_enter at kind newcomer) parts.now result }
 {
     match parts.instances.get(at) {
         Some(instance) => Ok(instance.may_enter(kind, newcomer)),
@@ -55,7 +55,7 @@ pub(crate) fn take_gate_back(parts: &mut Parts, at: usize, task: u32) -> Part<()
 
 /// How a task has resolved, if it has.
 pub(crate) fn resolution_of(parts: &Parts, task: u32) -> Part<Option<Resolution>>
-    ensures { Does (resolution_of task) parts.now result parts.now }
+    ensures { Tells (resolution_of task) parts.now result }
 {
     match parts.tasks.slots.get(task as usize) {
         Some(slot) => Ok(slot.task.resolution()),

@@ -2,7 +2,7 @@
 
 ghost use Rattle.std.specs.Prelude.{◌≡◌};
 ghost use Rattle.world_parts.specs.Held.{Does};
-ghost use Rattle.world_parts.specs.Going.{arrives, waits_to_enter, unwaited_if, enters, leaves, ending, looped, looped_at_set, loops_by, loops};
+ghost use Rattle.world_parts.specs.Going.{arrives, waits_to_enter, unwaited, unwaited_if, enters, leaves, ending, looped, looped_at_set, loops_by, loops};
 
 use crate::gates::{enter_gate, may_enter, resolution_of, wait_at_gate};
 use entry_gate::{BadCode, Next, read_callback};
@@ -23,6 +23,7 @@ pub fn arrive(parts: &mut Parts) -> Part<Flow>
         return Ok(Flow::Enters);
     }
     wait_at_gate(parts, at)?;
+    parts.park(task, kind)?;
     block(parts, task, BlockedAt::Entry, false, BlockReason::Entry)
 }
 
@@ -39,11 +40,19 @@ fn waits_to_enter(phase: Phase) -> bool
 }
 
 /// A task that waited at the gate waits no longer.
-fn unwait_if(parts: &mut Parts, waits: bool, at: usize) -> Part<()>
-    ensures { Does (unwaited_if waits at) parts.old result parts.new }
+fn unwait(parts: &mut Parts, task: u32, at: usize) -> Part<()>
+    ensures { Does (unwaited task at) parts.old result parts.new }
+{
+    parts.unwait_at_gate(at)?;
+    parts.unpark(task)
+}
+
+/// The same where it waited.
+fn unwait_if(parts: &mut Parts, waits: bool, task: u32, at: usize) -> Part<()>
+    ensures { Does (unwaited_if waits task at) parts.old result parts.new }
 {
     if waits {
-        parts.unwait_at_gate(at)
+        unwait(parts, task, at)
     } else {
         Ok(())
     }
@@ -57,7 +66,7 @@ pub fn enter(parts: &mut Parts, task: u32) -> Part<()>
     let at = parts.instance_of(task)?;
     let kind = parts.kind_of(task)?;
     let phase = parts.phase_of(task)?;
-    unwait_if(parts, waits_to_enter(phase), at)?;
+    unwait_if(parts, waits_to_enter(phase), task, at)?;
     enter_gate(parts, at, task, kind)?;
     parts.advance(task, TaskEvent::Enter)?;
     parts.raise(task, SubtaskState::Started)?;

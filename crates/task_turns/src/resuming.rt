@@ -1,7 +1,7 @@
 //! Tasks that were blocked go on.
 
 ghost use Rattle.std.specs.Prelude.{◌≡◌};
-ghost use Rattle.world_parts.specs.Held.{Does};
+ghost use Rattle.world_parts.specs.Held.{Does, Tells};
 ghost use Rattle.world_parts.specs.Going.{loop_flow, yield_flow, loop_resumed_at, loop_resumed_by, loop_resumed, yield_resumed, set_flow, set_resumed, call_resumed, cancel_resumed, copy_resumed_of, copy_resumed, wait_resumed, place_of, builtin_resumed, resumed_in, resumed_from, resumed_by, resumes};
 
 use crate::gates::take_gate_back;
@@ -48,7 +48,7 @@ fn resume_loop_at(
 ) -> Part<Flow>
     ensures { Does (loop_resumed_at at is_asked polls index) parts.old result parts.new }
 {
-    let set = parts.set_at(at, index)?;
+    let set = parts.known_set(at, index)?;
     parts.wait_off(at, set)?;
     Ok(loop_flow(is_asked, polls, set))
 }
@@ -118,7 +118,7 @@ fn resume_set(
 ) -> Part<Flow>
     ensures { Does (set_resumed at canon told_so index place) parts.old result parts.new }
 {
-    let set = parts.set_at(at, index)?;
+    let set = parts.known_set(at, index)?;
     parts.wait_off(at, set)?;
     Ok(set_flow(told_so, canon, place, set))
 }
@@ -138,7 +138,7 @@ fn resume_call(alloc: Global, parts: &mut Parts, task: u32, at: usize, callee: u
 fn resume_cancel(alloc: Global, parts: &mut Parts, task: u32, at: usize, index: u32) -> Part<Flow>
     ensures { Does (cancel_resumed task at index) parts.old result parts.new }
 {
-    let callee = parts.subtask_at(at, index)?;
+    let callee = parts.known_subtask(at, index)?;
     parts.set_awaited(callee, false)?;
     let payload = tell_subtask(alloc, parts, at, callee)?;
     parts.answer_one(alloc, task, u64::from(payload))
@@ -202,7 +202,7 @@ fn resume_wait(
 
 /// The place that a wait was called with, 0 of anything else.
 fn place_of(parts: &Parts, task: u32, why: BlockedAt) -> Part<u32>
-    ensures { Does (place_of task why) parts.now result parts.now }
+    ensures { Tells (place_of task why) parts.now result }
 {
     match why {
         BlockedAt::Set(_) => parts.word(task, 1),

@@ -1,8 +1,9 @@
 //! The tasks of a run.
 //!
 //! `new:1` makes a task in instance 1 that nobody called, `host:1` one that the script called, `by:2,0` one in instance 2 that task 0
-//! called; `x:1` lets task 1 exit, and `live` tells those that have not; `in:2,1` asks whether instance 1 is that of task 2 or of one of
-//! its callers.
+//! called; `x:1` lets task 1 exit, and `live` tells those that have not; `park:1` and `unpark:1` say that task 1 waits for exclusive entry,
+//! or does so no more, and `watched` tells those that have not exited and don't; `in:2,1` asks whether instance 1 is that of task 2 or of
+//! one of its callers.
 
 use crate::words::{number, pair, write_list, write_number, yes_or_no};
 use cases::{Acts, Answers, acted};
@@ -60,7 +61,22 @@ impl Acts for Run {
         text: &mut String,
     ) -> Result<(), Fail> {
         match name {
-            "live" => write_list(text, &self.tasks.live)?,
+            "live" => {
+                let live = self.tasks.live.iter().copied().collect(alloc)?;
+                write_list(text, &live)?;
+            }
+            "watched" => {
+                let watched = self.tasks.watched.iter().copied().collect(alloc)?;
+                write_list(text, &watched)?;
+            }
+            "park" => {
+                self.tasks.park(number(rest));
+                text.push_str("ok")?;
+            }
+            "unpark" => {
+                let unparked = self.tasks.unpark(number(rest)).is_ok();
+                text.push_str(yes_or_no(unparked))?;
+            }
             "x" => {
                 self.tasks.close(number(rest));
                 text.push_str("ok")?;

@@ -26,7 +26,7 @@ use Rattle.world_parts.specs.declared.parts.Flow.TheVariants as flow
 use Rattle.world_parts.specs.Held.{Held, Done, Gives, Traps, Stuck, after, given}
 use Rattle.world_parts.specs.Feed.{got}
 use Rattle.world_parts.specs.Entries.{end_found, entry_added, entry_removed, end_idled, set_left}
-use Rattle.world_parts.specs.Slots.{word_of}
+use Rattle.world_parts.specs.Slots.{word_in}
 use Rattle.world_parts.specs.Channels.{channel_at, channel_made, idle_seen, offered, concluded, end_dropped}
 use Rattle.world_parts.specs.Places.{memory_of, bytes_at}
 use Rattle.world_parts.specs.Calls.{blocked_word, blocked_in}
@@ -60,10 +60,10 @@ drop_tested t at index kind side number e h =
     if is_copying e then Traps trap.Busy h else
     if is_unwritten kind side e.done then Traps trap.UnwrittenFuture h else dropped_end t at index kind side number h
 
-unfoldable pub end_drop : ℕ → ℕ → EndKind → Side → ℕ → Held → Done Flow
-end_drop t at kind side type h =
-    after (word_of t 0 h) (λ index k. after (end_found at side type index k) (λ e l. given (channel_at kind e.number l) (λ c.
-    drop_tested t at index kind side e.number (end_in side c.ends) l)))
+unfoldable pub end_drop : ℕ → ℕ → EndKind → Side → ℕ → List ℕ → Held → Done Flow
+end_drop t at kind side type words h =
+    given (word_in words 0) (λ index. after (end_found at side type index h) (λ e k. given (channel_at kind e.number k) (λ c.
+    drop_tested t at index kind side e.number (end_in side c.ends) k)))
 
 -- The copy of a call that did not wait is told, or given up.
 unfoldable pub copy_given_up : ℕ → ℕ → ℕ → EndKind → Side → ℕ → Held → Done Flow
@@ -71,7 +71,7 @@ copy_given_up t at index kind side number h =
     after (concluded kind side number h) (λ payload k. after (idle_seen kind side number k) (λ is_idle l.
     after (end_idled at index is_idle l) (λ done m. got t (payload ∷ []) m)))
 
-unfoldable pub copy_cancel : Views → ℕ → ℕ → EndKind → Side → ℕ → Held → Done Flow
-copy_cancel g t at kind side type h =
-    after (word_of t 0 h) (λ index k. after (end_found at side type index k) (λ e l. given (channel_at kind e.number l) (λ c.
-    if not (copy_is_async g (end_in side c.ends).copy) then Traps trap.NotCopying l else copy_given_up t at index kind side e.number l)))
+unfoldable pub copy_cancel : Views → ℕ → ℕ → EndKind → Side → ℕ → List ℕ → Held → Done Flow
+copy_cancel g t at kind side type words h =
+    given (word_in words 0) (λ index. after (end_found at side type index h) (λ e k. given (channel_at kind e.number k) (λ c.
+    if not (copy_is_async g (end_in side c.ends).copy) then Traps trap.NotCopying k else copy_given_up t at index kind side e.number k)))

@@ -11,6 +11,7 @@ use Rattle.stream_ends.specs.declared.side.Side.{Side}
 use Rattle.waitables.specs.Sets.{no_set, joined, left, waited_on, waited_off}
 use Rattle.instances.specs.declared.entry.EndEntry.{EndEntry}
 use Rattle.instances.specs.declared.entry.WorldEntry.{WorldEntry}
+use Rattle.instances.specs.declared.entry.WorldEntry.TheVariants as entry
 use Rattle.instances.specs.declared.refusal.DropSetError.{DropSetError}
 use Rattle.instances.specs.declared.refusal.DropSetError.TheVariants as drop_error
 use Rattle.instances.specs.Entries.{subtask_in, set_in, waitable_in, end_in, any_end_in}
@@ -38,6 +39,28 @@ subtask_found at index h = given (slice_get h.instances at) (λ i. named (subtas
 
 abbrev pub set_found : ℕ → ℕ → Held → Done ℕ
 set_found at index h = given (slice_get h.instances at) (λ i. named (set_in (entry_of i index)) h)
+
+-- what is known to stand at an index: a subtask, a set
+abbrev pub subtask_number : Option WorldEntry → Option ℕ
+subtask_number None = None
+subtask_number (Some (entry.Handle x)) = None
+subtask_number (Some (entry.Subtask callee)) = Some callee
+subtask_number (Some (entry.Set set)) = None
+subtask_number (Some (entry.End e)) = None
+
+abbrev pub set_number : Option WorldEntry → Option ℕ
+set_number None = None
+set_number (Some (entry.Handle x)) = None
+set_number (Some (entry.Subtask callee)) = None
+set_number (Some (entry.Set set)) = Some set
+set_number (Some (entry.End e)) = None
+
+abbrev pub subtask_known : ℕ → ℕ → Held → Done ℕ
+subtask_known at index h =
+    given (slice_get h.instances at) (λ i. given (subtask_number (entry_of i index)) (λ callee. Gives callee h))
+
+abbrev pub set_known : ℕ → ℕ → Held → Done ℕ
+set_known at index h = given (slice_get h.instances at) (λ i. given (set_number (entry_of i index)) (λ set. Gives set h))
 
 abbrev pub waitable_found : ℕ → ℕ → Held → Done (Unit {0})
 waitable_found at index h = given (slice_get h.instances at) (λ i. named (waitable_in (entry_of i index)) h)

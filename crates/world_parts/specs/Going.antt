@@ -25,9 +25,9 @@ use Rattle.world_parts.specs.declared.parts.Flow.{Flow}
 use Rattle.world_parts.specs.declared.parts.Flow.TheVariants as flow
 use Rattle.world_parts.specs.Held.{Held, Done, Gives, Traps, Stuck, after}
 use Rattle.world_parts.specs.Feed.{told, at_rest, acting, left_chain, got}
-use Rattle.world_parts.specs.Entries.{entry_found, subtask_found, set_found, set_waited_on, set_waited_off}
+use Rattle.world_parts.specs.Entries.{entry_found, subtask_known, set_found, set_known, set_waited_on, set_waited_off}
 use Rattle.world_parts.specs.Gates.{may_enter, gate_waited, gate_unwaited, gate_entered, gate_given_up, gate_taken_back}
-use Rattle.world_parts.specs.Slots.{instance_of, kind_of, phase_of, resolution_of, errand_of, asked, to_be_told, word_of, happens, errand_set, raised, awaited, result_found, closed}
+use Rattle.world_parts.specs.Slots.{instance_of, kind_of, phase_of, resolution_of, errand_of, asked, to_be_told, word_of, happens, errand_set, raised, awaited, result_found, closed, parked, unparked}
 use Rattle.world_parts.specs.Calls.{blocked, subtask_told}
 use Rattle.world_parts.specs.Plain.{yield_cancelled}
 use Rattle.world_parts.specs.Events.{end_told}
@@ -37,7 +37,7 @@ unfoldable pub arrives : Held → Done Flow
 arrives h =
     after (acting h) (λ t k. after (instance_of t k) (λ at l. after (kind_of t l) (λ kind m. after (may_enter at kind true m) (λ may n.
     if may then Gives flow.Enters n else
-    after (gate_waited at n) (λ done o. blocked t blocked_at.Entry false reason.Entry o)))))
+    after (gate_waited at n) (λ done o. after (parked t kind o) (λ done p. blocked t blocked_at.Entry false reason.Entry p))))))
 
 -- A task enters: one that waited to waits no longer. Behind it its arguments are lifted.
 abbrev pub waits_to_enter : Phase → Bool
@@ -46,12 +46,15 @@ waits_to_enter phase.Acting = false
 waits_to_enter (phase.Blocked why flag) = true
 waits_to_enter phase.Exited = false
 
-abbrev pub unwaited_if : Bool → ℕ → Held → Done (Unit {0})
-unwaited_if waits at h = if waits then gate_unwaited at h else Gives tt h
+abbrev pub unwaited : ℕ → ℕ → Held → Done (Unit {0})
+unwaited t at h = after (gate_unwaited at h) (λ done k. unparked t k)
+
+abbrev pub unwaited_if : Bool → ℕ → ℕ → Held → Done (Unit {0})
+unwaited_if waits t at h = if waits then unwaited t at h else Gives tt h
 
 unfoldable pub enters : ℕ → Held → Done (Unit {0})
 enters t h =
-    after (instance_of t h) (λ at k. after (kind_of t k) (λ kind l. after (phase_of t l) (λ far m. after (unwaited_if (waits_to_enter far) at m) (λ done n.
+    after (instance_of t h) (λ at k. after (kind_of t k) (λ kind l. after (phase_of t l) (λ far m. after (unwaited_if (waits_to_enter far) t at m) (λ done n.
     after (gate_entered at t kind n) (λ done o. after (happens t event.Enter o) (λ done p. after (raised t state.Started p) (λ done q.
     told (line.Enter t) q)))))))
 
@@ -96,7 +99,7 @@ yield_flow is_asked = if is_asked then flow.HearsCancel receiver.InCallback else
 
 unfoldable pub loop_resumed_at : ℕ → Bool → Bool → ℕ → Held → Done Flow
 loop_resumed_at at is_asked polls index h =
-    after (set_found at index h) (λ set k. after (set_waited_off at set k) (λ done l. Gives (loop_flow is_asked polls set) l))
+    after (set_known at index h) (λ set k. after (set_waited_off at set k) (λ done l. Gives (loop_flow is_asked polls set) l))
 
 abbrev pub loop_resumed_by : ℕ → Bool → Result Next BadCode → Held → Done Flow
 loop_resumed_by at is_asked (Err why) h = Stuck
@@ -120,14 +123,14 @@ set_flow told_so canon place set =
 
 unfoldable pub set_resumed : ℕ → ℕ → Bool → ℕ → ℕ → Held → Done Flow
 set_resumed at canon told_so index place h =
-    after (set_found at index h) (λ set k. after (set_waited_off at set k) (λ done l. Gives (set_flow told_so canon place set) l))
+    after (set_known at index h) (λ set k. after (set_waited_off at set k) (λ done l. Gives (set_flow told_so canon place set) l))
 
 unfoldable pub call_resumed : ℕ → ℕ → ℕ → Held → Done Flow
 call_resumed t at callee h = after (result_found callee h) (λ words k. after (subtask_told at callee k) (λ payload l. got t words l))
 
 unfoldable pub cancel_resumed : ℕ → ℕ → ℕ → Held → Done Flow
 cancel_resumed t at index h =
-    after (subtask_found at index h) (λ callee k. after (awaited callee false k) (λ done l.
+    after (subtask_known at index h) (λ callee k. after (awaited callee false k) (λ done l.
     after (subtask_told at callee l) (λ payload m. got t (payload ∷ []) m)))
 
 abbrev pub copy_resumed_of : ℕ → ℕ → ℕ → Option WorldEntry → Held → Done Flow

@@ -1,7 +1,7 @@
 -- Resources (Component Model, CanonicalABI.md, `canon resource.new`, `canon resource.rep` and `canon resource.drop`): a new own handle, what a
 -- handle stands for, and the drop of a handle, which runs the destructor where it owns what it names: in the resource's own instance on a
 -- further stack of the task, else by a call.
-use Rattle.std.specs.Prelude.{ℕ, nat_eq, not, ◌&&◌, if◌then◌else◌, [], ◌∷◌, Option, Some, None}
+use Rattle.std.specs.Prelude.{ℕ, nat_eq, not, ◌&&◌, if◌then◌else◌, List, [], ◌∷◌, Option, Some, None}
 use Rattle.entry_gate.specs.declared.kind.Kind.TheVariants.{Sync}
 use Rattle.tasks.specs.declared.event.TaskEvent.TheVariants as event
 use Rattle.task_table.specs.declared.errand.Callee.TheVariants as callee
@@ -20,15 +20,16 @@ use Rattle.world_parts.specs.declared.parts.Flow.TheVariants as flow
 use Rattle.world_parts.specs.Held.{Held, Done, Gives, Traps, after, given}
 use Rattle.world_parts.specs.Feed.{at_rest, got}
 use Rattle.world_parts.specs.Entries.{entry_added, handle_dropped, rep_found}
-use Rattle.world_parts.specs.Slots.{word_of, happens, reenters}
+use Rattle.world_parts.specs.Slots.{word_in, happens, reenters}
 use Rattle.world_parts.specs.Calls.{call_begun}
 
-unfoldable pub resource_new : ℕ → ℕ → ℕ → Held → Done Flow
-resource_new t at resource h =
-    after (word_of t 0 h) (λ rep k. after (entry_added at (entry.Handle (own_handle resource rep)) k) (λ index l. got t (index ∷ []) l))
+unfoldable pub resource_new : ℕ → ℕ → ℕ → List ℕ → Held → Done Flow
+resource_new t at resource words h =
+    given (word_in words 0) (λ rep. after (entry_added at (entry.Handle (own_handle resource rep)) h) (λ index k. got t (index ∷ []) k))
 
-unfoldable pub resource_rep : ℕ → ℕ → ℕ → Held → Done Flow
-resource_rep t at resource h = after (word_of t 0 h) (λ index k. after (rep_found at index resource k) (λ rep l. got t (rep ∷ []) l))
+unfoldable pub resource_rep : ℕ → ℕ → ℕ → List ℕ → Held → Done Flow
+resource_rep t at resource words h =
+    given (word_in words 0) (λ index. after (rep_found at index resource h) (λ rep k. got t (rep ∷ []) k))
 
 -- What an own handle names is destroyed. Without a destructor nothing is, but also then the instance of the resource must not wait for this
 -- one.
@@ -52,6 +53,6 @@ abbrev pub dropped : Views → ℕ → ℕ → ℕ → Handle → Ownership → 
 dropped g t at canon x Own h = destroyed g t at canon x h
 dropped g t at canon x (Borrow task) h = after (happens task event.Unborrow h) (λ done k. got t [] k)
 
-unfoldable pub resource_drop : Views → ℕ → ℕ → ℕ → ℕ → Held → Done Flow
-resource_drop g t at canon resource h =
-    after (word_of t 0 h) (λ index k. after (handle_dropped at index resource k) (λ x l. dropped g t at canon x x.ownership l))
+unfoldable pub resource_drop : Views → ℕ → ℕ → ℕ → ℕ → List ℕ → Held → Done Flow
+resource_drop g t at canon resource words h =
+    given (word_in words 0) (λ index. after (handle_dropped at index resource h) (λ x k. dropped g t at canon x x.ownership k))

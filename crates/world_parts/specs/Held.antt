@@ -11,13 +11,15 @@ use Rattle.world_parts.specs.declared.parts.Parts.{Parts}
 use Rattle.world_parts.specs.declared.parts.Stop.{Stop}
 use Rattle.world_parts.specs.declared.parts.Stop.TheVariants as stop
 
--- The fields of what is kept, in the order of what is kept. The acting task stands last in the chain.
+-- The fields of what is kept, in the order of what is kept: of the tasks by their numbers those that have not exited, and of these those that
+-- do not wait for exclusive entry, both rising; and the tasks that the script's calls made. The acting task stands last in the chain.
 pub record Held : Type 0 where
   pub store : Store
   pub memories : List (Option ℕ)
   pub instances : List InstanceView
   pub tasks : List TaskSlot
   pub live : List ℕ
+  pub watched : List ℕ
   pub calls : List ℕ
   pub streams : List Channel
   pub futures : List Channel
@@ -35,7 +37,8 @@ held p = record {
   memories = p.memories.items;
   instances = p.instances.items;
   tasks = p.tasks.slots.items;
-  live = p.tasks.live.items;
+  live = p.tasks.live.keys;
+  watched = p.tasks.watched.keys;
   calls = p.tasks.calls.items;
   streams = p.streams.items;
   futures = p.futures.items;
@@ -67,10 +70,18 @@ abbrev pub given : {A B : Type 0} → Option A → (A → Done B) → Done B
 given None f = Stuck
 given (Some x) f = f x
 
--- The code comes to what the part does. Of want of memory nothing is said.
+-- The code comes to what the part does. Of want of memory nothing is said: what was told in that step is not handed on.
 abbrev pub Does : {A : Type 0} → (Held → Done A) → Parts → Result A Stop → Parts → Type 0
 Does f old (Ok x) new = f (held old) ≡ Gives x (held new)
 Does f old (Err (stop.Trap why)) new = f (held old) ≡ Traps why (held new)
 Does f old (Err stop.NoFuel) new = f (held old) ≡ Spent (held new)
 Does f old (Err stop.Stuck) new = f (held old) ≡ Stuck
 Does f old (Err stop.Memory) new = Unit {0}
+
+-- The same of code that changes nothing and takes no memory.
+abbrev pub Tells : {A : Type 0} → (Held → Done A) → Parts → Result A Stop → Type 0
+Tells f now (Ok x) = f (held now) ≡ Gives x (held now)
+Tells f now (Err (stop.Trap why)) = f (held now) ≡ Traps why (held now)
+Tells f now (Err stop.NoFuel) = f (held now) ≡ Spent (held now)
+Tells f now (Err stop.Stuck) = f (held now) ≡ Stuck
+Tells f now (Err stop.Memory) = ⊥

@@ -19,6 +19,7 @@ use Rattle.instances.specs.declared.entry.WorldEntry.TheVariants as entry
 use Rattle.instances.specs.Instances.{InstanceView, entry_of}
 use Rattle.world_parts.specs.Views.{Views}
 use Rattle.world_parts.specs.Held.{Held}
+use Rattle.world_parts.specs.Entries.{set_number}
 use Rattle.world_parts.specs.Channels.{channel_of}
 
 -- what stands at an index of the table of an instance, and the members of a set
@@ -63,13 +64,6 @@ ready g at set h = filter (news_at g h at) (members_in (slice_get h.instances at
 
 abbrev pub some_ready : Views → ℕ → ℕ → Held → Bool
 some_ready g at set h = list_any (news_at g h at) (members_in (slice_get h.instances at) set)
-
-abbrev pub set_number : Option WorldEntry → Option ℕ
-set_number None = None
-set_number (Some (entry.Handle x)) = None
-set_number (Some (entry.Subtask callee)) = None
-set_number (Some (entry.Set set)) = Some set
-set_number (Some (entry.End e)) = None
 
 abbrev pub set_is_ready : Views → ℕ → Option ℕ → Held → Bool
 set_is_ready g at None h = false

@@ -1,6 +1,6 @@
 -- Words of context, backpressure, and how a task resolves and lets others run (Component Model, CanonicalABI.md, `canon context.get`, `canon
 -- context.set`, `canon backpressure.set`, `canon backpressure.{inc,dec}`, `canon task.return`, `canon task.cancel` and `canon yield`).
-use Rattle.std.specs.Prelude.{ℕ, Bool, ◌&&◌, if◌then◌else◌, [], ◌∷◌, Option}
+use Rattle.std.specs.Prelude.{ℕ, Bool, ◌&&◌, if◌then◌else◌, List, [], ◌∷◌, Option}
 use Rattle.tasks.specs.declared.event.BlockedAt.TheVariants as blocked_at
 use Rattle.tasks.specs.declared.event.TaskEvent.TheVariants as event
 use Rattle.tasks.specs.declared.subtask_state.SubtaskState.TheVariants as state
@@ -10,17 +10,17 @@ use Rattle.trace_show.specs.declared.label.Label.TheVariants as line
 use Rattle.trace_show.specs.declared.typed.TypedValue.{TypedValue}
 use Rattle.world_parts.specs.declared.parts.Flow.{Flow}
 use Rattle.world_parts.specs.declared.parts.Flow.TheVariants as flow
-use Rattle.world_parts.specs.Held.{Held, Done, Gives, after}
+use Rattle.world_parts.specs.Held.{Held, Done, Gives, after, given}
 use Rattle.world_parts.specs.Feed.{told, got}
 use Rattle.world_parts.specs.Gates.{pressure_raised, pressure_lowered, pressure_set}
-use Rattle.world_parts.specs.Slots.{word_of, context_of, context_set, asked, happens, raised}
+use Rattle.world_parts.specs.Slots.{word_in, context_of, context_set, asked, happens, raised}
 use Rattle.world_parts.specs.Calls.{blocked_in}
 
 unfoldable pub context_get : ℕ → ℕ → Held → Done Flow
 context_get t number h = after (context_of t number h) (λ word k. got t (word ∷ []) k)
 
-unfoldable pub context_put : ℕ → ℕ → Held → Done Flow
-context_put t number h = after (word_of t 0 h) (λ word k. after (context_set t number word k) (λ done l. got t [] l))
+unfoldable pub context_put : ℕ → ℕ → List ℕ → Held → Done Flow
+context_put t number words h = given (word_in words 0) (λ word. after (context_set t number word h) (λ done k. got t [] k))
 
 unfoldable pub backpressure_inc : ℕ → ℕ → Held → Done Flow
 backpressure_inc t at h = after (pressure_raised at h) (λ done k. got t [] k)
@@ -28,8 +28,8 @@ backpressure_inc t at h = after (pressure_raised at h) (λ done k. got t [] k)
 unfoldable pub backpressure_dec : ℕ → ℕ → Held → Done Flow
 backpressure_dec t at h = after (pressure_lowered at h) (λ done k. got t [] k)
 
-unfoldable pub backpressure_set : ℕ → ℕ → Held → Done Flow
-backpressure_set t at h = after (word_of t 0 h) (λ enabled k. after (pressure_set at enabled k) (λ done l. got t [] l))
+unfoldable pub backpressure_set : ℕ → ℕ → List ℕ → Held → Done Flow
+backpressure_set t at words h = given (word_in words 0) (λ enabled. after (pressure_set at enabled h) (λ done k. got t [] k))
 
 -- `task.return` is not for tasks that are lifted without `async`. Behind it the result is lifted, and then the task resolves by its line.
 unfoldable pub return_asked : ℕ → Held → Done Flow

@@ -2,8 +2,9 @@
 -- it, and what it and its caller keep.
 use Rattle.std.specs.Prelude.{ℕ, ◌+◌, ◌^◌, nat_lt, Bool, if◌then◌else◌, List, [], ◌∷◌, ◌++◌, length, slice_set, Option, Some, None, Result, Ok, Err}
 use Rattle.std.specs.List.{slice_get}
+use Rattle.std.specs.Option.{option_and_then}
 use Rattle.entry_gate.specs.declared.kind.Kind.{Kind}
-use Rattle.entry_gate.specs.Gates.{is_free}
+use Rattle.entry_gate.specs.Kinds.{needs_entry}
 use Rattle.tasks.specs.declared.event.TaskEvent.{TaskEvent}
 use Rattle.tasks.specs.declared.event.Asked.{Asked}
 use Rattle.tasks.specs.declared.phase.Phase.{Phase}
@@ -17,8 +18,8 @@ use Rattle.task_table.specs.declared.refusal.EventError.{EventError}
 use Rattle.task_table.specs.declared.refusal.EventError.TheVariants as event_error
 use Rattle.task_table.specs.declared.slot.TaskSlot.{TaskSlot}
 use Rattle.task_table.specs.Callers.{called_of, payload_of, may_raise, may_keep}
-use Rattle.task_table.specs.Slots.{event_answer, advanced_slot, cancel_answer, cancelled_slot, is_to_be_told, word_at, with_word, at_errand, at_call, raised_slot, awaited_slot, told_slot}
-use Rattle.task_table.specs.Tasks.{without, is_among_callers}
+use Rattle.task_table.specs.Slots.{event_answer, advanced_slot, cancel_answer, cancelled_slot, is_to_be_told, word_at, with_word, at_errand, at_call, raised_slot, awaited_slot, told_slot, kept_slot}
+use Rattle.task_table.specs.Tasks.{with_number, without, is_among_callers}
 use Rattle.world_parts.specs.Names.{task_name}
 use Rattle.world_parts.specs.Held.{Held, Done, Gives, Traps, Stuck, after, given}
 use Rattle.world_parts.specs.Gates.{entry_is_free}
@@ -66,13 +67,16 @@ abbrev pub to_be_told : ℕ → Held → Done Bool
 to_be_told t h =
     after (instance_of t h) (λ at k. after (entry_is_free at k) (λ free l. given (slice_get l.tasks t) (λ slot. Gives (is_to_be_told free slot.task) l)))
 
--- a word of the call at which a task is, where it is a 32-bit one
+-- a word of a call, where it is a 32-bit one
 abbrev pub small : ℕ → Option ℕ
 small word = if nat_lt word (2 ^ 32) then Some word else None
 
+abbrev pub word_in : List ℕ → ℕ → Option ℕ
+word_in words number = option_and_then small (slice_get words number)
+
+-- The words of the call at which a task is, and one of them. Code that runs for it while it is blocked calls with other words.
 abbrev pub word_of : ℕ → ℕ → Held → Done ℕ
-word_of t number h =
-    given (slice_get h.tasks t) (λ slot. given (slice_get slot.at_words number) (λ word. given (small word) (λ x. Gives x h)))
+word_of t number h = given (slice_get h.tasks t) (λ slot. given (word_in slot.at_words number) (λ word. Gives word h))
 
 abbrev pub words_of : ℕ → Held → Done (List ℕ)
 words_of t h = given (slice_get h.tasks t) (λ slot. Gives slot.at_words h)
@@ -120,10 +124,14 @@ lends_found t h = given (slice_get h.tasks t) (λ slot. given (called_of slot.ca
 abbrev pub result_found : ℕ → Held → Done (List ℕ)
 result_found t h = given (slice_get h.tasks t) (λ slot. given (called_of slot.caller) (λ called. Gives called.result h))
 
--- Its state rises, is waited for directly or not, and is told.
+-- Its state rises, its result is kept, and its state is waited for directly or not, and is told.
 abbrev pub raised : ℕ → SubtaskState → Held → Done (Unit {0})
 raised t state h =
     given (slice_get h.tasks t) (λ slot. if may_raise state slot.caller then Gives tt (with_task t (raised_slot state slot) h) else Stuck)
+
+abbrev pub result_kept : ℕ → List ℕ → Held → Done (Unit {0})
+result_kept t words h =
+    given (slice_get h.tasks t) (λ slot. if may_keep slot.caller then Gives tt (with_task t (kept_slot words slot) h) else Stuck)
 
 abbrev pub awaited : ℕ → Bool → Held → Done (Unit {0})
 awaited t is_awaited h =
@@ -136,15 +144,24 @@ told_by (Some payload) t slot h = Gives payload (with_task t slot h)
 abbrev pub state_told : ℕ → Held → Done ℕ
 state_told t h = given (slice_get h.tasks t) (λ slot. told_by (payload_of slot.caller) t (told_slot slot) h)
 
--- The number of the next task. A task is made, one has exited, and one is that of the script's next call.
+-- The number of the next task. A task is made, one has exited, one waits for exclusive entry or does so no more, and one is that of the script's
+-- next call.
 abbrev pub next_task : Held → Done ℕ
 next_task h = Gives (length h.tasks) h
 
 abbrev pub task_made : TaskSlot → Held → Done ℕ
-task_made slot h = Gives (length h.tasks) (record h { tasks = h.tasks ++ slot ∷ []; live = h.live ++ length h.tasks ∷ [] })
+task_made slot h =
+    Gives (length h.tasks)
+    (record h { tasks = h.tasks ++ slot ∷ []; live = with_number (length h.tasks) h.live; watched = with_number (length h.tasks) h.watched })
 
 abbrev pub closed : ℕ → Held → Done (Unit {0})
-closed t h = Gives tt (record h { live = without t h.live })
+closed t h = Gives tt (record h { live = without t h.live; watched = without t h.watched })
+
+abbrev pub parked : ℕ → Kind → Held → Done (Unit {0})
+parked t kind h = if needs_entry kind then Gives tt (record h { watched = without t h.watched }) else Gives tt h
+
+abbrev pub unparked : ℕ → Held → Done (Unit {0})
+unparked t h = Gives tt (record h { watched = with_number t h.watched })
 
 abbrev pub call_made : ℕ → Held → Done (Unit {0})
 call_made t h = Gives tt (record h { calls = h.calls ++ t ∷ [] })

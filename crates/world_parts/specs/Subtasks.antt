@@ -1,6 +1,6 @@
 -- Cancellation of tasks, and subtasks that leave the table (Component Model, CanonicalABI.md, `canon subtask.cancel` and `canon subtask.drop`;
 -- Concurrency.md, "Cancellation").
-use Rattle.std.specs.Prelude.{ℕ, not, if◌then◌else◌, []}
+use Rattle.std.specs.Prelude.{ℕ, not, if◌then◌else◌, List, []}
 use Rattle.tasks.specs.declared.event.Asked.{Asked}
 use Rattle.tasks.specs.declared.event.Asked.TheVariants as asking
 use Rattle.tasks.specs.declared.subtask_state.SubtaskState.TheVariants as state
@@ -11,11 +11,11 @@ use Rattle.world_parts.specs.declared.parts.Rest.{Rest}
 use Rattle.world_parts.specs.declared.parts.Rest.TheVariants as rest
 use Rattle.world_parts.specs.declared.parts.Flow.{Flow}
 use Rattle.world_parts.specs.declared.parts.Flow.TheVariants as flow
-use Rattle.world_parts.specs.Held.{Held, Done, Gives, Traps, after}
+use Rattle.world_parts.specs.Held.{Held, Done, Gives, Traps, after, given}
 use Rattle.world_parts.specs.Feed.{told, at_rest, chained, got}
 use Rattle.world_parts.specs.Entries.{subtask_found, set_left, entry_removed}
 use Rattle.world_parts.specs.Gates.{gate_unwaited}
-use Rattle.world_parts.specs.Slots.{instance_of, word_of, delivered, unasked, resolved, errand_set, raised, cancel_asked, closed}
+use Rattle.world_parts.specs.Slots.{instance_of, word_in, delivered, unasked, resolved, errand_set, raised, cancel_asked, closed}
 
 -- A task that waits to enter is cancelled at once: it resolves, and exits.
 unfoldable pub removed : ℕ → Rest → Held → Done Flow
@@ -39,14 +39,14 @@ subtask_asked t callee canon index h =
     after (errand_set t (errand.AfterCancel callee canon index) h) (λ done k. after (resolved callee k) (λ is_over l.
     if is_over then Gives flow.Rests (at_rest rest.Back l) else cancelled callee rest.Back l))
 
-unfoldable pub subtask_cancel : ℕ → ℕ → ℕ → Held → Done Flow
-subtask_cancel t at canon h =
-    after (word_of t 0 h) (λ index k. after (subtask_found at index k) (λ callee l. after (delivered callee l) (λ is_delivered m.
-    if is_delivered then Traps trap.Delivered m else
-    after (unasked callee m) (λ is_unasked n. if not is_unasked then Traps trap.Asked n else subtask_asked t callee canon index n))))
+unfoldable pub subtask_cancel : ℕ → ℕ → ℕ → List ℕ → Held → Done Flow
+subtask_cancel t at canon words h =
+    given (word_in words 0) (λ index. after (subtask_found at index h) (λ callee k. after (delivered callee k) (λ is_delivered l.
+    if is_delivered then Traps trap.Delivered l else
+    after (unasked callee l) (λ is_unasked m. if not is_unasked then Traps trap.Asked m else subtask_asked t callee canon index m))))
 
-unfoldable pub subtask_drop : ℕ → ℕ → Held → Done Flow
-subtask_drop t at h =
-    after (word_of t 0 h) (λ index k. after (subtask_found at index k) (λ callee l. after (delivered callee l) (λ is_delivered m.
-    if not is_delivered then Traps trap.NotDelivered m else
-    after (set_left at index m) (λ done n. after (entry_removed at index n) (λ done o. got t [] o)))))
+unfoldable pub subtask_drop : ℕ → ℕ → List ℕ → Held → Done Flow
+subtask_drop t at words h =
+    given (word_in words 0) (λ index. after (subtask_found at index h) (λ callee k. after (delivered callee k) (λ is_delivered l.
+    if not is_delivered then Traps trap.NotDelivered l else
+    after (set_left at index l) (λ done m. after (entry_removed at index m) (λ done n. got t [] n)))))

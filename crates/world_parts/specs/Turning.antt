@@ -1,7 +1,8 @@
 -- Turns (Component Model, Concurrency.md, "Summary"): which tasks can go on, what is chosen, and the script's items.
-use Rattle.std.specs.Prelude.{ℕ, ◌+◌, ◌-◌, nat_eq, Bool, true, false, ◌&&◌, ◌||◌, if◌then◌else◌, List, [], ◌∷◌, ◌++◌, length, filter, Option, Some, None, Result, Ok, Err}
-use Rattle.std.specs.List.{slice_get}
+use Rattle.std.specs.Prelude.{ℕ, ◌+◌, ◌-◌, nat_eq, nat_lt, Bool, true, false, ◌&&◌, ◌||◌, if◌then◌else◌, List, [], ◌∷◌, ◌++◌, length, filter, Option, Some, None, Result, Ok, Err}
+use Rattle.std.specs.List.{slice_get, list_any}
 use Rattle.entry_gate.specs.declared.kind.Kind.{Kind}
+use Rattle.entry_gate.specs.declared.kind.Kind.TheVariants.{Sync}
 use Rattle.entry_gate.specs.Gates as gate
 use Rattle.entry_gate.specs.Gates.{is_free}
 use Rattle.entry_gate.specs.Callbacks.{callback_of}
@@ -74,9 +75,16 @@ slot_is_able g (Some slot) h = phase_is_able g slot slot.task.phase h
 abbrev pub is_able : Views → Held → ℕ → Bool
 is_able g h t = slot_is_able g (slice_get h.tasks t) h
 
--- the able tasks, by their numbers; those that have exited are not looked at
+-- The able tasks, by their numbers. Those that have exited are not looked at, and those that wait for exclusive entry only where a gate lets
+-- one of them in.
+abbrev pub lets_in : InstanceView → Bool
+lets_in i = nat_lt 0 i.gate.waiting && gate.may_enter Sync false i.gate
+
+abbrev pub candidates : Held → List ℕ
+candidates h = if list_any lets_in h.instances then h.live else h.watched
+
 abbrev pub able : Views → Held → List ℕ
-able g h = filter (is_able g h) h.live
+able g h = filter (is_able g h) (candidates h)
 
 -- A task goes on, by its line, which costs a unit.
 unfoldable pub gone : ℕ → Held → Done Turned

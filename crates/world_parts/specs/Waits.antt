@@ -11,10 +11,10 @@ use Rattle.trace_show.specs.declared.label.BlockReason.TheVariants as reason
 use Rattle.trace_show.specs.declared.trap.TrapName.TheVariants as trap
 use Rattle.world_parts.specs.declared.parts.Receiver.TheVariants as receiver
 use Rattle.world_parts.specs.declared.parts.Flow.{Flow}
-use Rattle.world_parts.specs.Held.{Held, Done, Traps, after}
+use Rattle.world_parts.specs.Held.{Held, Done, Traps, after, given}
 use Rattle.world_parts.specs.Feed.{got}
 use Rattle.world_parts.specs.Entries.{set_found, waitable_found, entry_added, entry_removed, sets_made, set_made, set_joined, set_left, set_dropped, set_waited_on}
-use Rattle.world_parts.specs.Slots.{word_of, kind_of, asked}
+use Rattle.world_parts.specs.Slots.{word_in, kind_of, asked}
 use Rattle.world_parts.specs.Places.{memory_of, bytes_at}
 use Rattle.world_parts.specs.Calls.{blocked_in}
 use Rattle.world_parts.specs.News.{ready}
@@ -26,10 +26,10 @@ set_new t at h =
     after (sets_made at h) (λ set k. after (entry_added at (entry.Set set) k) (λ index l.
     after (set_made at l) (λ number m. got t (index ∷ []) m)))
 
-unfoldable pub set_drop : ℕ → ℕ → Held → Done Flow
-set_drop t at h =
-    after (word_of t 0 h) (λ index k. after (set_found at index k) (λ set l. after (set_dropped at set l) (λ done m.
-    after (entry_removed at index m) (λ done n. got t [] n))))
+unfoldable pub set_drop : ℕ → ℕ → List ℕ → Held → Done Flow
+set_drop t at words h =
+    given (word_in words 0) (λ index. after (set_found at index h) (λ set k. after (set_dropped at set k) (λ done l.
+    after (entry_removed at index l) (λ done m. got t [] m))))
 
 -- The waitable at an index leaves its set, and joins the one at another index, where this is not 0.
 unfoldable pub joined_to : ℕ → ℕ → ℕ → ℕ → Held → Done Flow
@@ -37,9 +37,10 @@ joined_to t at index other h =
     if nat_eq other 0 then after (set_left at index h) (λ done k. got t [] k)
     else after (set_found at other h) (λ set k. after (set_joined at index set k) (λ done l. got t [] l))
 
-unfoldable pub waitable_join : ℕ → ℕ → Held → Done Flow
-waitable_join t at h =
-    after (word_of t 0 h) (λ index k. after (word_of t 1 k) (λ other l. after (waitable_found at index l) (λ there m. joined_to t at index other m)))
+unfoldable pub waitable_join : ℕ → ℕ → List ℕ → Held → Done Flow
+waitable_join t at words h =
+    given (word_in words 0) (λ index. given (word_in words 1) (λ other.
+    after (waitable_found at index h) (λ there k. joined_to t at index other k)))
 
 -- Where no member is ready a wait blocks, and a poll gets no event.
 unfoldable pub blocked_at_set : Views → ℕ → ℕ → ℕ → ℕ → ℕ → Held → Done Flow
@@ -62,9 +63,9 @@ waited g t at canon op index place set h =
     if g.flag canon && not (is_sync kind) && is_asked then received_cancel g t (receiver.InWait canon place) l
     else by_ready g t at canon op index place set (ready g at set l) l))
 
-unfoldable pub set_wait : Views → ℕ → ℕ → ℕ → WaitOp → Held → Done Flow
-set_wait g t at canon op h =
-    after (word_of t 0 h) (λ index k. after (word_of t 1 k) (λ place l. after (set_found at index l) (λ set m.
-    if not (nat_eq (place % 4) 0) then Traps trap.Misaligned m else
-    if nat_lt (length (bytes_at (memory_of (g.options canon) m) m.store)) (place + 8) then Traps trap.Bounds m else
-    waited g t at canon op index place set m)))
+unfoldable pub set_wait : Views → ℕ → ℕ → ℕ → WaitOp → List ℕ → Held → Done Flow
+set_wait g t at canon op words h =
+    given (word_in words 0) (λ index. given (word_in words 1) (λ place. after (set_found at index h) (λ set k.
+    if not (nat_eq (place % 4) 0) then Traps trap.Misaligned k else
+    if nat_lt (length (bytes_at (memory_of (g.options canon) k) k.store)) (place + 8) then Traps trap.Bounds k else
+    waited g t at canon op index place set k)))

@@ -3,7 +3,7 @@
 ghost use Rattle.std.specs.Prelude.{◌≡◌, ◌+◌, IfSome};
 ghost use Rattle.builtin_kinds.specs.declared.EndKind.TheVariants.{Stream, Future};
 ghost use Rattle.std.specs.Option.{option_copied};
-ghost use Rattle.world_parts.specs.Held.{Does, held};
+ghost use Rattle.world_parts.specs.Held.{Does, Tells, held};
 ghost use Rattle.world_parts.specs.Channels.{place_of, numbered, is_of_type, channel_at, channel_of, kind_of_end, idle_seen, concluded, concluded_at};
 
 use crate::parts::{Part, Parts, Stop};
@@ -84,7 +84,7 @@ impl Parts {
 
     /// Whether a read or write may begin at an end.
     pub fn is_idle(&self, kind: EndKind, side: Side, number: u32) -> Part<bool>
-        ensures { Does (idle_seen kind side number) self.now result self.now }
+        ensures { Tells (idle_seen kind side number) self.now result }
     {
         match self.channel(kind, number) {
             Some(channel) => Ok(channel.is_idle(side)),

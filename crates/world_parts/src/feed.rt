@@ -1,7 +1,7 @@
 //! What a script gives, lines, and the chain of running tasks.
 
 ghost use Rattle.std.specs.Prelude.{◌≡◌, ◌<◌, ◌∷◌, [], IfOk};
-ghost use Rattle.world_parts.specs.Held.{Does};
+ghost use Rattle.world_parts.specs.Held.{Does, Tells};
 ghost use Rattle.world_parts.specs.Feed.{told, spent, moved, item_taken, chosen, choice, acting, chained, rest_behind, left_chain, got};
 
 use crate::parts::{Flow, Part, Parts, Rest, Stop};
@@ -93,7 +93,7 @@ impl Parts {
 
     /// The acting task.
     pub fn acting(&self) -> Part<u32>
-        ensures { Does acting self.now result self.now }
+        ensures { Tells acting self.now result }
     {
         match self.chain.last() {
             Some(task) => Ok(*task),

@@ -1,6 +1,6 @@
 //! Exclusive entry to component instances.
 
-ghost use Rattle.world_parts.specs.Held.{Does};
+ghost use Rattle.world_parts.specs.Held.{Does, Tells};
 ghost use Rattle.world_parts.specs.Gates.{entry_is_free, gate_unwaited, gate_given_up};
 
 use crate::parts::{Part, Parts, Stop};
@@ -8,7 +8,7 @@ use crate::parts::{Part, Parts, Stop};
 impl Parts {
     /// Whether no task holds exclusive entry to an instance.
     pub fn is_entry_free(&self, at: usize) -> Part<bool>
-        ensures { Does (entry_is_free at) self.now result self.now }
+        ensures { Tells (entry_is_free at) self.now result }
     {
         match self.instances.get(at) {
             Some(instance) => Ok(instance.is_entry_free()),

@@ -29,6 +29,8 @@ mod slots;
 
 pub use blocking::{block, block_in, tell_end, tell_subtask, yield_cancelled};
 pub use ends::{number_behind, numbered, place_of};
+pub use entries::set_number;
 pub use feed::same_words;
 pub use names::{refusal_name, set_name, task_name};
 pub use parts::{Copying, Feed, Flow, Part, Parts, Receiver, Rest, Stop, Turned};
+pub use slots::word_in;

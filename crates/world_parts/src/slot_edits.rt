@@ -1,10 +1,11 @@
 //! What happens to tasks, and to calls of tasks by others.
 
 ghost use Rattle.world_parts.specs.Held.{Does};
-ghost use Rattle.world_parts.specs.Slots.{happens, errand_set, words_set, context_set, raised, awaited, state_told, task_made, closed};
+ghost use Rattle.world_parts.specs.Slots.{happens, errand_set, words_set, context_set, raised, result_kept, awaited, state_told, task_made, closed, parked, unparked};
 
 use crate::names::task_name;
 use crate::parts::{Part, Parts, Stop};
+use entry_gate::Kind;
 use task_table::{Errand, EventError, TaskSlot, Words};
 use tasks::{SubtaskState, TaskEvent};
 
@@ -75,6 +76,21 @@ impl Parts {
         }
     }
 
+    /// Keeps the core values of the result of a task for its caller, which is a task.
+    pub fn keep_result(&mut self, task: u32, words: Words) -> Part<()>
+        ensures { Does (result_kept task words) self.old result self.new }
+    {
+        let at = task as usize;
+        if at >= self.tasks.slots.len() {
+            return Err(Stop::Stuck);
+        }
+        if self.tasks.slots[at].keep_result(words) {
+            Ok(())
+        } else {
+            Err(Stop::Stuck)
+        }
+    }
+
     /// Says whether a task waits directly for the call of a task.
     pub fn set_awaited(&mut self, callee: u32, is_awaited: bool) -> Part<()>
         ensures { Does (awaited callee is_awaited) self.old result self.new }
@@ -120,5 +136,27 @@ impl Parts {
     {
         self.tasks.close(task);
         Ok(())
+    }
+
+    /// Says that a task of this kind waits to enter.
+    pub fn park(&mut self, task: u32, kind: Kind) -> Part<()>
+        ensures { Does (parked task kind) self.old result self.new }
+    {
+        if kind.needs_entry() {
+            self.tasks.park(task);
+            Ok(())
+        } else {
+            Ok(())
+        }
+    }
+
+    /// Says that a task does not wait to enter any more.
+    pub fn unpark(&mut self, task: u32) -> Part<()>
+        ensures { Does (unparked task) self.old result self.new }
+    {
+        match self.tasks.unpark(task) {
+            Ok(()) => Ok(()),
+            Err(_) => Err(Stop::Memory),
+        }
     }
 }

@@ -1,8 +1,8 @@
 //! What is told of tasks, and of calls of tasks by others.
 
 ghost use Rattle.std.specs.Prelude.{◌≡◌};
-ghost use Rattle.world_parts.specs.Held.{Does, held};
-ghost use Rattle.world_parts.specs.Slots.{instance_of, kind_of, callee_of, phase_of, errand_of, context_of, asked, resolved, to_be_told, word_of, words_of, payload_found, lends_found, result_found, next_task, reenters};
+ghost use Rattle.world_parts.specs.Held.{Does, Tells, held};
+ghost use Rattle.world_parts.specs.Slots.{instance_of, kind_of, callee_of, phase_of, errand_of, context_of, asked, resolved, to_be_told, word_in, word_of, words_of, payload_found, lends_found, result_found, next_task, reenters};
 
 use crate::feed::same_words;
 use crate::parts::{Part, Parts, Stop};
@@ -11,10 +11,22 @@ use std::alloc::Global;
 use task_table::{Callee, Errand, Words};
 use tasks::{Nums, Phase};
 
+/// A word of a call, where it is there and a 32-bit one.
+pub fn word_in(words: &[u64], number: usize) -> Option<u32>
+    ensures { result ≡ word_in words.now number }
+{
+    let word = *words.get(number)?;
+    if word < 4_294_967_296 {
+        Some(word as u32)
+    } else {
+        None
+    }
+}
+
 impl Parts {
     /// The number of the instance in which a task runs.
     pub fn instance_of(&self, task: u32) -> Part<usize>
-        ensures { Does (instance_of task) self.now result self.now }
+        ensures { Tells (instance_of task) self.now result }
     {
         match self.tasks.slots.get(task as usize) {
             Some(slot) => Ok(slot.instance),
@@ -24,7 +36,7 @@ impl Parts {
 
     /// The kind of a task.
     pub fn kind_of(&self, task: u32) -> Part<Kind>
-        ensures { Does (kind_of task) self.now result self.now }
+        ensures { Tells (kind_of task) self.now result }
     {
         match self.tasks.slots.get(task as usize) {
             Some(slot) => Ok(slot.task.kind()),
@@ -34,7 +46,7 @@ impl Parts {
 
     /// What a task runs.
     pub fn callee_of(&self, task: u32) -> Part<Callee>
-        ensures { Does (callee_of task) self.now result self.now }
+        ensures { Tells (callee_of task) self.now result }
     {
         match self.tasks.slots.get(task as usize) {
             Some(slot) => Ok(slot.callee),
@@ -44,7 +56,7 @@ impl Parts {
 
     /// How far a task is.
     pub fn phase_of(&self, task: u32) -> Part<Phase>
-        ensures { Does (phase_of task) self.now result self.now }
+        ensures { Tells (phase_of task) self.now result }
     {
         match self.tasks.slots.get(task as usize) {
             Some(slot) => Ok(slot.task.phase()),
@@ -54,7 +66,7 @@ impl Parts {
 
     /// What a task is at.
     pub fn errand_of(&self, task: u32) -> Part<Errand>
-        ensures { Does (errand_of task) self.now result self.now }
+        ensures { Tells (errand_of task) self.now result }
     {
         match self.tasks.slots.get(task as usize) {
             Some(slot) => Ok(slot.errand),
@@ -64,7 +76,7 @@ impl Parts {
 
     /// One of the two words of context of a task: the first one for 0, else the second one.
     pub fn context_word(&self, task: u32, number: u32) -> Part<u32>
-        ensures { Does (context_of task number) self.now result self.now }
+        ensures { Tells (context_of task number) self.now result }
     {
         match self.tasks.slots.get(task as usize) {
             Some(slot) => Ok(slot.context_word(number)),
@@ -74,7 +86,7 @@ impl Parts {
 
     /// Whether the cancellation of a task is asked, and it was not told so.
     pub fn is_asked(&self, task: u32) -> Part<bool>
-        ensures { Does (asked task) self.now result self.now }
+        ensures { Tells (asked task) self.now result }
     {
         match self.tasks.slots.get(task as usize) {
             Some(slot) => Ok(slot.is_asked()),
@@ -84,7 +96,7 @@ impl Parts {
 
     /// Whether a task has resolved.
     pub fn is_resolved(&self, task: u32) -> Part<bool>
-        ensures { Does (resolved task) self.now result self.now }
+        ensures { Tells (resolved task) self.now result }
     {
         match self.tasks.slots.get(task as usize) {
             Some(slot) => Ok(slot.is_resolved()),
@@ -94,7 +106,7 @@ impl Parts {
 
     /// Whether the cancellation of a task is asked and ends the wait in which it is.
     pub fn is_to_be_told(&self, task: u32) -> Part<bool>
-        ensures { Does (to_be_told task) self.now result self.now }
+        ensures { Tells (to_be_told task) self.now result }
     {
         let at = self.instance_of(task)?;
         let free = self.is_entry_free(at)?;
@@ -106,18 +118,14 @@ impl Parts {
 
     /// A word of the call at which a task is.
     pub fn word(&self, task: u32, number: usize) -> Part<u32>
-        ensures { Does (word_of task number) self.now result self.now }
+        ensures { Tells (word_of task number) self.now result }
     {
         let Some(slot) = self.tasks.slots.get(task as usize) else {
             return Err(Stop::Stuck);
         };
-        let Some(word) = slot.at_words.as_slice().get(number).copied() else {
-            return Err(Stop::Stuck);
-        };
-        if word < 4_294_967_296 {
-            Ok(word as u32)
-        } else {
-            Err(Stop::Stuck)
+        match word_in(slot.at_words.as_slice(), number) {
+            Some(word) => Ok(word),
+            None => Err(Stop::Stuck),
         }
     }
 
@@ -136,7 +144,7 @@ impl Parts {
 
     /// The state of a subtask, as it is told: that of the call of a task by another one.
     pub fn payload(&self, callee: u32) -> Part<u32>
-        ensures { Does (payload_found callee) self.now result self.now }
+        ensures { Tells (payload_found callee) self.now result }
     {
         let Some(slot) = self.tasks.slots.get(callee as usize) else {
             return Err(Stop::Stuck);
