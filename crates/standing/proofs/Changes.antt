@@ -17,8 +17,8 @@ use Rattle.standing.specs.Instances.{InstStands}
 use Rattle.standing.specs.Tasks.{TaskStands}
 use Rattle.standing.specs.Stands.{backwards, Stands}
 use Rattle.standing.specs.First.{first_slot, FirstStands}
-use Rattle.standing.specs.Edits.{InstancesChange, RefusalsChangeNothing, InstancesBegin, TasksChange, TasksAreMade, StacksAreAnswered, TasksComeToTheChain, TasksLeaveTheChain, ActingIsAlike, FuelIsAlike, UnitsAreSpent, ItemsAreTaken, PicksAreAlike, PicksAreUsed, StoresChange}
-use Rattle.standing.proofs.Lists.{both_changed, both_more, set_same, map_kept, map_changed, map_more}
+use Rattle.standing.specs.Edits.{InstancesChange, InstancesStay, RefusalsChangeNothing, InstancesBegin, TasksChange, TasksAreMade, StacksAreAnswered, TasksComeToTheChain, TasksLeaveTheChain, ActingIsAlike, FuelIsAlike, UnitsAreSpent, ItemsAreTaken, PicksAreAlike, PicksAreUsed, StoresChange}
+use Rattle.standing.proofs.Lists.{both_changed, left_changed, both_more, set_same, map_kept, map_changed, map_more}
 use Rattle.standing.proofs.Tables.{new_stands}
 use Rattle.standing.proofs.Feeds.{last_acts, without_last, left_alike, one_spent, picked_alike}
 
@@ -59,6 +59,20 @@ pub instances_change : InstancesChange
 instances_change g s h stacks w at x y f is keeps st = record {
   same_store = st.same_store;
   are_instances = both_changed (InstStands g) h.instances w.insts at x y f is keeps st.are_instances;
+  are_tasks = st.are_tasks;
+  are_streams = st.are_streams;
+  are_futures = st.are_futures;
+  same_chain = st.same_chain;
+  fuel = st.fuel;
+  drawn = st.drawn;
+  as_taken = st.as_taken;
+  same_stacks = st.same_stacks;
+}
+
+pub instances_stay : InstancesStay
+instances_stay g s h stacks w at x y is keeps st = record {
+  same_store = st.same_store;
+  are_instances = left_changed (InstStands g) h.instances w.insts at x y is keeps st.are_instances;
   are_tasks = st.are_tasks;
   are_streams = st.are_streams;
   are_futures = st.are_futures;

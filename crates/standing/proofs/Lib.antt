@@ -2,3 +2,11 @@ pub mod Lists
 pub mod Tables
 pub mod Feeds
 pub mod Changes
+pub mod Found
+pub mod Agreeing
+pub mod Answering
+pub mod Going
+pub mod Blocking
+pub mod Leaving
+pub mod States
+pub mod Joining

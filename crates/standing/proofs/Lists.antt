@@ -45,6 +45,14 @@ both_changed R (a ∷ xs) [] n x z f e k h = absurd h
 both_changed R (a ∷ xs) (b ∷ ys) zero x z f e k h = (k b refl (subst (λ u. R u b) (some_same e) h.0), h.1)
 both_changed R (a ∷ xs) (b ∷ ys) (suc n) x z f e k h = (h.0, both_changed R xs ys n x z f e k h.1)
 
+-- An item of the first alone is changed.
+pub left_changed : {A B : Type 0} (R : A → B → Type 0) (xs : List A) (ys : List B) (n : ℕ) (x z : A)
+    → slice_get xs n ≡ Some x → ((y : B) → R x y → R z y) → AllZip R xs ys → AllZip R (slice_set xs n z) ys
+left_changed R [] ys n x z e k h = absurd (cc)
+left_changed R (a ∷ xs) [] n x z e k h = absurd h
+left_changed R (a ∷ xs) (b ∷ ys) zero x z e k h = (k b (subst (λ u. R u b) (some_same e) h.0), h.1)
+left_changed R (a ∷ xs) (b ∷ ys) (suc n) x z e k h = (h.0, left_changed R xs ys n x z e k h.1)
+
 -- What is written back as it was.
 pub set_same : {A : Type 0} (xs : List A) (n : ℕ) (x : A) → slice_get xs n ≡ Some x → slice_set xs n x ≡ xs
 set_same [] n x e = refl

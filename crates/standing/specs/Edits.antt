@@ -27,12 +27,18 @@ use Rattle.standing.specs.Instances.{EntryStands, InstStands}
 use Rattle.standing.specs.Tasks.{TaskStands}
 use Rattle.standing.specs.Stands.{Stands}
 
--- Component instances: one is changed; a refused call writes back what it looked at; one begins.
+-- Component instances: one is changed, or of it only what is not said; a refused call writes back what it looked at; one begins.
 abbrev pub InstancesChange : Type 0
 InstancesChange =
     (g : Graph) (s : Script) (h : Held) (stacks : List (List Stack)) (w : World) (at : ℕ) (x y : InstanceView) (f : Inst → Inst)
     → slice_get h.instances at ≡ Some x → ((a : Inst) → slice_get w.insts at ≡ Some a → InstStands g x a → InstStands g y (f a)) → Stands g s h stacks w
     → Stands g s (with_instance at y h) stacks (with_inst at f w)
+
+abbrev pub InstancesStay : Type 0
+InstancesStay =
+    (g : Graph) (s : Script) (h : Held) (stacks : List (List Stack)) (w : World) (at : ℕ) (x y : InstanceView)
+    → slice_get h.instances at ≡ Some x → ((a : Inst) → InstStands g x a → InstStands g y a) → Stands g s h stacks w
+    → Stands g s (with_instance at y h) stacks w
 
 abbrev pub RefusalsChangeNothing : Type 0
 RefusalsChangeNothing =

@@ -3,3 +3,7 @@ pub mod Tasks
 pub mod Stands
 pub mod First
 pub mod Edits
+pub mod Agreeing
+pub mod Replies
+pub mod Rows
+pub mod Marks

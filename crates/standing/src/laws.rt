@@ -1,7 +1,10 @@
-//! What stands.
+//! What stands, and what agrees.
 
 ghost use Rattle.standing.specs.First.{FirstStands};
-ghost use Rattle.standing.specs.Edits.{InstancesChange, RefusalsChangeNothing, InstancesBegin, EntriesAreAlike, NextIsAlike, RoomIsAlike, EntriesAreAdded, EntriesAreRemoved, EntriesStayAlike, SetsAreMade, WaitablesLeave, WaitablesJoin, WaitersAreNotSaid, PressureChanges, EntryIsNotSaid, TasksChange, TasksAreMade, StacksAreAnswered, TasksComeToTheChain, TasksLeaveTheChain, ActingIsAlike, FuelIsAlike, UnitsAreSpent, ItemsAreTaken, PicksAreAlike, PicksAreUsed, StoresChange};
+ghost use Rattle.standing.specs.Edits.{InstancesChange, InstancesStay, RefusalsChangeNothing, InstancesBegin, EntriesAreAlike, NextIsAlike, RoomIsAlike, EntriesAreAdded, EntriesAreRemoved, EntriesStayAlike, SetsAreMade, WaitablesLeave, WaitablesJoin, WaitersAreNotSaid, PressureChanges, EntryIsNotSaid, TasksChange, TasksAreMade, StacksAreAnswered, TasksComeToTheChain, TasksLeaveTheChain, ActingIsAlike, FuelIsAlike, UnitsAreSpent, ItemsAreTaken, PicksAreAlike, PicksAreUsed, StoresChange};
+ghost use Rattle.standing.specs.Replies.{ContextIsRead, ContextIsSet, RepIsRead, HandleIsMade, PressureRises, PressureFalls, PressureIsSet, SetIsMade, WaitableIsJoined, SubtaskIsDropped};
+ghost use Rattle.standing.specs.Rows.{TaskGoesOn, ActingGoesOn, TaskEnds, TaskExits, TaskYields};
+ghost use Rattle.standing.specs.Marks.{StatesChange, StatesAreMade, NewIsMarked, StatesRise, StatesStay, BlockedStays, GoingStays, TellingStays, KeepingStays, AwaitingStays, EnteredIsStarted, ReturnedIsReturned, CancelledIsCancelled};
 
 /// What is kept before a graph is instantiated stands for the first world.
 pub fn first_stands()
@@ -37,6 +40,7 @@ pub fn instances_stand()
 /// and what a script gives. A refused call writes back what it looked at.
 pub fn changes_stand()
     ensures instances { InstancesChange }
+    ensures stay { InstancesStay }
     ensures refused { RefusalsChangeNothing }
     ensures begun { InstancesBegin }
     ensures tasks { TasksChange }
@@ -48,4 +52,47 @@ pub fn changes_stand()
     ensures taken { ItemsAreTaken }
     ensures picked { PicksAreUsed }
     ensures stores { StoresChange }
+{}
+
+/// Built-ins that answer at once do what the machine does: words of context, what a handle stands for, a new handle, backpressure, a new set,
+/// a waitable that joins one, and a subtask that leaves the table.
+pub fn built_ins_agree()
+    ensures context { ContextIsRead }
+    ensures context_set { ContextIsSet }
+    ensures rep { RepIsRead }
+    ensures handle { HandleIsMade }
+    ensures rises { PressureRises }
+    ensures falls { PressureFalls }
+    ensures pressure { PressureIsSet }
+    ensures set { SetIsMade }
+    ensures joined { WaitableIsJoined }
+    ensures subtask { SubtaskIsDropped }
+{}
+
+/// A task goes on by its line, comes to its end, exits, and lets others run as the machine does: with a unit of fuel where that costs one, with the
+/// same traps, and off the chain where it blocks.
+pub fn tasks_agree()
+    ensures goes_on { TaskGoesOn }
+    ensures acting { ActingGoesOn }
+    ensures ends { TaskEnds }
+    ensures exits { TaskExits }
+    ensures yields { TaskYields }
+{}
+
+/// The state of a subtask that is kept for its caller is that of its task: so it is of a new task, so it stays where the two rise together,
+/// and so it stays in every other change.
+pub fn states_marked()
+    ensures changed { StatesChange }
+    ensures made { StatesAreMade }
+    ensures new { NewIsMarked }
+    ensures rises { StatesRise }
+    ensures stays { StatesStay }
+    ensures blocked { BlockedStays }
+    ensures going { GoingStays }
+    ensures told { TellingStays }
+    ensures kept { KeepingStays }
+    ensures awaited { AwaitingStays }
+    ensures entered { EnteredIsStarted }
+    ensures returned { ReturnedIsReturned }
+    ensures cancelled { CancelledIsCancelled }
 {}

@@ -3,11 +3,16 @@
 //!
 //! `abi_machine` has the machine, whose worlds keep all that ever was; `world_parts` has what code keeps, and what each of its parts does,
 //! as plain functions. `specs/Stands` says when what is kept stands for a world, field by field, over `specs/Instances` and `specs/Tasks`.
-//! `specs/Edits` says that each change of what is kept is the change of the world of the same name.
+//! `specs/Edits` says that each change of what is kept is the change of the world of the same name, `specs/Agreeing` what it means that a part
+//! does what the machine does: the same lines, the same trap, no rule where there is none, and what follows; and `specs/Replies` and
+//! `specs/Rows` that built-ins and tasks do. `specs/Marks` has what is kept beside all that, and follows from it.
 //!
-//! - `laws`: what stands
+//! - `laws`: what stands, and what agrees
 #![tactic(auto)]
 
 mod laws;
 
-pub use laws::{changes_stand, first_stands, found_alike, instances_stand};
+pub use laws::{
+    built_ins_agree, changes_stand, first_stands, found_alike, instances_stand, states_marked,
+    tasks_agree,
+};

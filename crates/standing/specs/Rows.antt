@@ -1,0 +1,59 @@
+-- How tasks go on, come to their end and let others run (Component Model, CanonicalABI.md, "Task State", `canon yield`; Concurrency.md, "Summary"):
+-- what is kept does what the machine does.
+use Rattle.std.specs.Prelude.{◌≡◌, ℕ, List, Some, IsSome}
+use Rattle.std.specs.List.{slice_get}
+use Rattle.wasm_store.specs.Stack.{Stack}
+use Rattle.comp_graph.specs.Graph.{Graph, Lifted}
+use Rattle.script_reader.specs.Script.{Script}
+use Rattle.world_parts.specs.declared.parts.Flow.{Flow}
+use Rattle.world_parts.specs.declared.parts.Flow.TheVariants as flow
+use Rattle.world_parts.specs.Held.{Held, Done, Gives, after}
+use Rattle.world_parts.specs.Views.{Views}
+use Rattle.world_parts.specs.Going.{ending, leaves}
+use Rattle.world_parts.specs.Turning.{gone, goes}
+use Rattle.world_parts.specs.Plain.{task_yield}
+use Rattle.abi_machine.specs.World.{Acting, Task, World}
+use Rattle.abi_machine.specs.Canons.{flag_at}
+use Rattle.abi_machine.specs.Reading.{func_of}
+use Rattle.abi_machine.specs.Returning.{ending_turn, leaving_turn}
+use Rattle.abi_machine.specs.Scheduling.{GoesOn, alternative_turn, going_turn}
+use Rattle.abi_machine.specs.replies.Tasks.{yield_turn}
+use Rattle.standing.specs.Stands.{Stands}
+use Rattle.standing.specs.Agreeing.{Agrees}
+
+-- a part that leaves nothing to be done in its step
+abbrev pub resting : {A : Type 0} → Done A → Done Flow
+resting d = after d (λ x k. Gives flow.Rests k)
+
+-- A task that was blocked comes to the chain by its line, which costs a unit; and so does the acting one, which a cancellation woke.
+abbrev pub TaskGoesOn : Type 0
+TaskGoesOn =
+    (g : Graph) (s : Script) (h : Held) (stacks : List (List Stack)) (w : World) (t : ℕ) → Stands g s h stacks w
+    → Agrees g s t h.labels stacks (resting (gone t h)) (alternative_turn g s (GoesOn t) w)
+
+abbrev pub ActingGoesOn : Type 0
+ActingGoesOn =
+    (g : Graph) (s : Script) (h : Held) (stacks : List (List Stack)) (w : World) (t : ℕ) (task : Task)
+    → slice_get w.chain 0 ≡ Some t → slice_get w.tasks t ≡ Some task → Stands g s h stacks w
+    → Agrees g s t h.labels stacks (resting (goes h)) (going_turn s w)
+
+-- A task that is lifted with `async` comes to its end.
+abbrev pub TaskEnds : Type 0
+TaskEnds =
+    (g : Graph) (s : Script) (h : Held) (stacks : List (List Stack)) (w : World) (t : ℕ) (task : Task)
+    → slice_get w.tasks t ≡ Some task → Stands g s h stacks w → Agrees g s t h.labels stacks (ending t h) (ending_turn t task w)
+
+-- The acting task, which has resolved, exits.
+abbrev pub TaskExits : Type 0
+TaskExits =
+    (g : Graph) (s : Script) (h : Held) (stacks : List (List Stack)) (w : World) (t : ℕ) (task : Task) (f : Lifted)
+    → slice_get w.chain 0 ≡ Some t → slice_get w.tasks t ≡ Some task → task.state ≡ Acting → IsSome task.resolution → func_of task.callee ≡ Some f
+    → IsSome (slice_get w.insts f.instance) → Stands g s h stacks w
+    → Agrees g s t h.labels stacks (leaves h) (leaving_turn w)
+
+-- The acting task lets others run, or is told its cancellation.
+abbrev pub TaskYields : Type 0
+TaskYields =
+    (g : Graph) (s : Script) (v : Views) (h : Held) (stacks : List (List Stack)) (w : World) (t canon : ℕ) (task : Task) (words : List ℕ)
+    → v.flag canon ≡ flag_at g canon → slice_get w.chain 0 ≡ Some t → slice_get w.tasks t ≡ Some task → task.state ≡ Acting → Stands g s h stacks w
+    → Agrees g s t h.labels stacks (task_yield v t canon h) (yield_turn t task canon (flag_at g canon) words w)
