@@ -49,18 +49,18 @@ after_after (Spent h) f k = refl
 after_after kept.Stuck f k = refl
 
 -- A unit is spent where one is left.
-pub on_spent : (g : Graph) (s : Script) (t : ℕ) (before : List Label) (stacks : List (List Stack)) (h : Held) (w : World) (G : Unit {0} → Held → Done Flow) (F : World → Turn)
-    → Stands g s h stacks w
-    → (Stands g s (record h { left = h.left - 1 }) stacks (unit_spent w) → Agrees g s t before stacks (G tt (record h { left = h.left - 1 })) (F (unit_spent w)))
+pub on_spent : (g : Graph) (s : Script) (t : ℕ) (before : List Label) (stacks from : List (List Stack)) (h : Held) (w : World) (G : Unit {0} → Held → Done Flow) (F : World → Turn)
+    → Stands g s h from w
+    → (Stands g s (record h { left = h.left - 1 }) from (unit_spent w) → Agrees g s t before stacks (G tt (record h { left = h.left - 1 })) (F (unit_spent w)))
     → Agrees g s t before stacks (after (spent h) G) (charged true s w F)
-on_spent g s t before stacks h w G F st more =
+on_spent g s t before stacks from h w G F st more =
     turn_as g s t before stacks (after (spent h) G) (charged true s w F) (if nat_lt 0 h.left then F (unit_spent w) else Ends Fuel)
-    (ap (λ (b : Bool). if b then F (unit_spent w) else Ends Fuel) (sym (fuel_is_alike g s h stacks w st))) (by (nat_lt 0 h.left) refl)
+    (ap (λ (b : Bool). if b then F (unit_spent w) else Ends Fuel) (sym (fuel_is_alike g s h from w st))) (by (nat_lt 0 h.left) refl)
   where
     by : (b : Bool) → nat_lt 0 h.left ≡ b
         → Agrees g s t before stacks (after (if b then Gives tt (record h { left = h.left - 1 }) else Spent (record h { left = h.left - 1 })) G)
         (if b then F (unit_spent w) else Ends Fuel)
-    by true e = more (units_are_spent g s h stacks w e st)
+    by true e = more (units_are_spent g s h from w e st)
     by false e = refl
 
 pub task_goes_on : TaskGoesOn
@@ -68,7 +68,7 @@ unfolding kept_turns.gone alternative_turn gone
 task_goes_on g s h stacks w t st =
     done_as g s t h.labels stacks _ _ _
     (after_after (spent h) (λ done k. after (told (line.Go t) k) (λ done l. after (chained t l) (λ done m. Gives turned.GoesOn (at_rest rest.Resumes m)))) (λ x k. Gives flow.Rests k))
-    (on_spent g s t h.labels stacks h w
+    (on_spent g s t h.labels stacks stacks h w
     (λ done k. after (after (told (line.Go t) k) (λ done l. after (chained t l) (λ done m. Gives turned.GoesOn (at_rest rest.Resumes m)))) (λ x k. Gives flow.Rests k))
     (λ v. gone t (world.chained t v)) st
     (λ now. record {
@@ -93,7 +93,7 @@ acting_goes_on g s h stacks w t task first there st =
     (sym (acting_is_alike g s h stacks w st ∙ first))
     (done_as g s t h.labels stacks _ _ _
     (after_after (spent h) (λ done l. after (told (line.Go t) l) (λ done m. Gives tt (at_rest rest.Resumes m))) (λ (x : Unit {0}) k. Gives flow.Rests k))
-    (on_spent g s t h.labels stacks h w (λ done l. after (after (told (line.Go t) l) (λ done m. Gives tt (at_rest rest.Resumes m))) (λ (x : Unit {0}) k. Gives flow.Rests k))
+    (on_spent g s t h.labels stacks stacks h w (λ done l. after (after (told (line.Go t) l) (λ done m. Gives tt (at_rest rest.Resumes m))) (λ (x : Unit {0}) k. Gives flow.Rests k))
     (λ v. gone t v) st
     (λ now. record { lines = line.Go t ∷ []; world = unit_spent w; stands = now; told = refl; ends = refl }))))
 

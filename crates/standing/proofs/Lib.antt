@@ -10,3 +10,4 @@ pub mod Blocking
 pub mod Leaving
 pub mod States
 pub mod Joining
+pub mod Taking

@@ -3,7 +3,7 @@
 ghost use Rattle.standing.specs.First.{FirstStands};
 ghost use Rattle.standing.specs.Edits.{InstancesChange, InstancesStay, RefusalsChangeNothing, InstancesBegin, EntriesAreAlike, NextIsAlike, RoomIsAlike, EntriesAreAdded, EntriesAreRemoved, EntriesStayAlike, SetsAreMade, WaitablesLeave, WaitablesJoin, WaitersAreNotSaid, PressureChanges, EntryIsNotSaid, TasksChange, TasksAreMade, StacksAreAnswered, TasksComeToTheChain, TasksLeaveTheChain, ActingIsAlike, FuelIsAlike, UnitsAreSpent, ItemsAreTaken, PicksAreAlike, PicksAreUsed, StoresChange};
 ghost use Rattle.standing.specs.Replies.{ContextIsRead, ContextIsSet, RepIsRead, HandleIsMade, PressureRises, PressureFalls, PressureIsSet, SetIsMade, WaitableIsJoined, SubtaskIsDropped};
-ghost use Rattle.standing.specs.Rows.{TaskGoesOn, ActingGoesOn, TaskEnds, TaskExits, TaskYields};
+ghost use Rattle.standing.specs.Rows.{CallIsTaken, TaskGoesOn, ActingGoesOn, TaskEnds, TaskExits, TaskYields};
 ghost use Rattle.standing.specs.Marks.{StatesChange, StatesAreMade, NewIsMarked, StatesRise, StatesStay, BlockedStays, GoingStays, TellingStays, KeepingStays, AwaitingStays, EnteredIsStarted, ReturnedIsReturned, CancelledIsCancelled};
 
 /// What is kept before a graph is instantiated stands for the first world.
@@ -69,9 +69,10 @@ pub fn built_ins_agree()
     ensures subtask { SubtaskIsDropped }
 {}
 
-/// A task goes on by its line, comes to its end, exits, and lets others run as the machine does: with a unit of fuel where that costs one, with the
+/// A task is made for the script's next call, goes on by its line, comes to its end, exits, and lets others run as the machine does: with a unit of fuel where that costs one, with the
 /// same traps, and off the chain where it blocks.
 pub fn tasks_agree()
+    ensures taken { CallIsTaken }
     ensures goes_on { TaskGoesOn }
     ensures acting { ActingGoesOn }
     ensures ends { TaskEnds }
