@@ -1,0 +1,4 @@
+pub mod Seen
+pub mod Reads
+pub mod Moves
+pub mod Replies
