@@ -3,7 +3,7 @@ use Rattle.std.proofs.Common.{◌≡◌, ◌∙◌, ℕ, Bool, true, false, ◌&
 use Rattle.std.specs.List.{slice_get}
 use Rattle.ca_types.specs.declared.types.ValType.{ValType}
 use Rattle.laid_types.specs.Layers.{tree_of}
-use Rattle.comp_graph.specs.Graph.{builtin_type, passed_value}
+use Rattle.comp_graph.specs.Graph.{builtin_type, numbered_value}
 use Rattle.comp_graph.specs.Needs.{task_return_needs_memory}
 use Rattle.comp_graph.specs.Passed.{MayBeAt}
 use Rattle.comp_graph.specs.declared.graph.BuiltinKind.{BuiltinKind}
@@ -36,8 +36,8 @@ module _ (values : List ValType) (is_there : Bool) (options : List CanonOption) 
   returns_some number held serves made result type is at h s k typed p =
       let same : held ≡ type = h ∙ type_is values number type at in
       let kind : made.kind ≡ builtin.TaskReturn type (options_of given) = k ∙ ap (λ (t : Option ValType). builtin.TaskReturn t (options_of given)) same in
-      let passes : MayBeAt values made.passed (passed_value made.kind) =
-      subst (λ (n : Option ℕ). MayBeAt values n (passed_value made.kind)) (sym p) (subst (λ (x : BuiltinKind). MayBeAt values number (passed_value x)) (sym kind) at) in
+      let passes : MayBeAt values made.passed (numbered_value made.kind) =
+      subst (λ (n : Option ℕ). MayBeAt values n (numbered_value made.kind)) (sym p) (subst (λ (x : BuiltinKind). MayBeAt values number (numbered_value x)) (sym kind) at) in
       rw is (record {
         is_there = refl;
         means = ap Some kind;

@@ -3,16 +3,17 @@
 use Rattle.std.specs.Prelude.{◌≡◌, List, IfSome}
 use Rattle.std.specs.Option.{option_map}
 use Rattle.ca_types.specs.declared.types.ValType.{ValType}
-use Rattle.comp_graph.specs.Graph.{builtin_type, passed_value}
+use Rattle.comp_graph.specs.Graph.{builtin_type, numbered_value}
 use Rattle.comp_graph.specs.Passed.{MayBeAt}
 use Rattle.link_spec.specs.Builtins.{BuiltinMeaning}
 use Rattle.canon_types.specs.declared.builtins.Built.{Built}
 use Rattle.canon_types.specs.declared.builtins.BuiltinMeant.{BuiltinMeant}
 
--- The type is that of the built-in as a core function, and the number is that of the type of the values that it passes, if it passes some.
+-- The type is that of the built-in as a core function, and the number is that of the type of its result, or of the ends that it is of, if
+-- it has one.
 pub record IsBuilt (values : List ValType) (b : Built) : Type 0 where
   pub typed : b.core_type ≡ builtin_type b.kind
-  pub passes : MayBeAt values b.passed (passed_value b.kind)
+  pub passes : MayBeAt values b.passed (numbered_value b.kind)
 
 -- A built-in comes to what is defined.
 pub record IsBuiltinMeaning (values : List ValType) (m : BuiltinMeant) (meaning : BuiltinMeaning) : Type 0 where

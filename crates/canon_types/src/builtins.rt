@@ -27,7 +27,7 @@ pub struct Built {
     pub kind: BuiltinKind,
     /// The type of its core function.
     pub core_type: CoreFuncType,
-    /// The number, among types of values, of the type of its result or of its elements, if it has one.
+    /// The number, among types of values, of the type of its result, or of the ends that it is of, if it has one.
     pub passed: Option<u32>,
 }
 
