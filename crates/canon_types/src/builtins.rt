@@ -128,9 +128,7 @@ pub fn wait_builtin(
 }
 
 /// A type as a tree that is shared, if there is one. It fails only where there are as many owners as can be counted.
-fn shared_type(
-    val_type: &Option<LaidType<'_>>,
-) -> Result<Option<Shared<ValType>>, AllocError>
+fn shared_type(val_type: &Option<LaidType<'_>>) -> Result<Option<Shared<ValType>>, AllocError>
     ensures { IfOk result (λ t. t ≡ val_type.now) }
 {
     match val_type {

@@ -32,7 +32,7 @@ use crate::used::can_be_used;
 use builtin_kinds::WaitOp;
 use ca_base::MemoryOr;
 use canon_types::{
-    BuiltinMeant, Built, context_builtin, held_type, no_builtin, plain_builtin, return_builtin,
+    Built, BuiltinMeant, context_builtin, held_type, no_builtin, plain_builtin, return_builtin,
     return_needs_memory, stand_once, wait_builtin,
 };
 use comp_graph::CoreRef;
@@ -145,11 +145,7 @@ fn returning(
 }
 
 /// Whether the type is there that a built-in returns, and what its options name.
-fn return_is_there(
-    scope: &Scope<'_>,
-    returned: Option<ValTypeRef>,
-    options: &[CanonOption],
-) -> bool
+fn return_is_there(scope: &Scope<'_>, returned: Option<ValTypeRef>, options: &[CanonOption]) -> bool
     ensures { (t : Table) (w : World) (s : Spaces) → IsScope t w scope.now s → result ≡ (value_types.held_within (length s.types) returned && are_options_there s options.now) }
 {
     held_within(scope.size(Sort::Type), returned) && scope.are_there(options)
