@@ -22,7 +22,7 @@ returns-clause-found c =
     (λ (o : Option (Option ℕ)). (bases : List Exports) (l : Linking) (s : Spaces) → IsAt bases k c.args.n l s → IsFoundAs (MayBeAt values) o (close_held (map Some s.types) c.args.val_type))
     (λ o h bases l s at.
     let scope = scope_is bases k c.args.n l s c.index.result.now c.index.ensures c.requires at in
-    h s.types (subst (λ (refs : List TypeRef). AllZip (IsType k.types) refs s.types) (sym c.as_slice-own.ensures) scope.types))
+    h s.types (subst (λ (refs : List TypeRef). AllZip (IsType k.types) refs s.types) (sym c.as_slice-own.ensures.value) scope.types))
     c.held_value.ensures.ok
 
 pub returns-clause-at : goal.returns-clause-at
