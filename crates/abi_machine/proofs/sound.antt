@@ -45,3 +45,4 @@ pub mod own
 pub mod Owning
 pub mod SetWaiting
 pub mod OnePlace
+pub mod nexts

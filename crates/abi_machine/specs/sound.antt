@@ -31,3 +31,4 @@ pub mod Owners
 pub mod SetWaits
 pub mod EndPlaces
 pub mod Writers
+pub mod GoingOn

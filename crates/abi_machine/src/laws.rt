@@ -25,6 +25,7 @@ ghost use Rattle.abi_machine.specs.sound.Picked.{FirstIsPicked, PickedStays};
 ghost use Rattle.abi_machine.specs.sound.SetWaits.{FirstHasSets, SetsStay};
 ghost use Rattle.abi_machine.specs.sound.Subtasks.{FirstHasSubtasks, SubtasksStay};
 ghost use Rattle.abi_machine.specs.sound.Writers.{FirstHasWriters, WritersStayInOnePlace};
+ghost use Rattle.abi_machine.specs.sound.GoingOn.{WorldsGoOn};
 
 /// Task 0 instantiates, and runs alone until it has exited; it never runs again, and no other task runs a start function. Control says
 /// what is so: where a turn begins no task runs; elsewhere, but where control is back at a task or the run ends in a trap, the acting task
@@ -205,4 +206,11 @@ pub fn set_waits_stay()
 pub fn writers_stay_in_one_place()
     ensures first { FirstHasWriters }
     ensures stays { WritersStayInOnePlace }
+{}
+
+/// In a world of which holds what is kept a step comes next, or the end, where what the rule of its control looks up besides is there: items
+/// of the script, what a core instance imports, core functions and moves of typed stacks, a function that gives places where one is asked for,
+/// and what a blocked task waits for.
+pub fn worlds_go_on()
+    ensures { WorldsGoOn }
 {}
