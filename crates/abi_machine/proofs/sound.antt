@@ -45,4 +45,6 @@ pub mod own
 pub mod Owning
 pub mod SetWaiting
 pub mod OnePlace
+pub mod Guests
 pub mod nexts
+pub mod Reached

@@ -31,4 +31,5 @@ pub mod Owners
 pub mod SetWaits
 pub mod EndPlaces
 pub mod Writers
+pub mod Guests
 pub mod GoingOn

@@ -25,7 +25,8 @@ ghost use Rattle.abi_machine.specs.sound.Picked.{FirstIsPicked, PickedStays};
 ghost use Rattle.abi_machine.specs.sound.SetWaits.{FirstHasSets, SetsStay};
 ghost use Rattle.abi_machine.specs.sound.Subtasks.{FirstHasSubtasks, SubtasksStay};
 ghost use Rattle.abi_machine.specs.sound.Writers.{FirstHasWriters, WritersStayInOnePlace};
-ghost use Rattle.abi_machine.specs.sound.GoingOn.{WorldsGoOn};
+ghost use Rattle.abi_machine.specs.sound.GoingOn.{WorldsGoOn, ReachedStand, ReachedGoOn};
+ghost use Rattle.abi_machine.specs.sound.Guests.{FirstWaitsAs, WaitsAsStay};
 
 /// Task 0 instantiates, and runs alone until it has exited; it never runs again, and no other task runs a start function. Control says
 /// what is so: where a turn begins no task runs; elsewhere, but where control is back at a task or the run ends in a trap, the acting task
@@ -208,9 +209,18 @@ pub fn writers_stay_in_one_place()
     ensures stays { WritersStayInOnePlace }
 {}
 
+/// A task that cancels another one cancels one that a task called, and a task in its loop runs a function with a callback: so it is in the
+/// first world, and so it stays in every step.
+pub fn waits_stay()
+    ensures first { FirstWaitsAs }
+    ensures stays { WaitsAsStay }
+{}
+
 /// In a world of which holds what is kept a step comes next, or the end, where what the rule of its control looks up besides is there: items
 /// of the script, what a core instance imports, core functions and moves of typed stacks, a function that gives places where one is asked for,
-/// and what a blocked task waits for.
+/// and what a blocked task waits for. What is kept holds of each world that a run reaches, where definitions stay apart.
 pub fn worlds_go_on()
-    ensures { WorldsGoOn }
+    ensures each { WorldsGoOn }
+    ensures stand { ReachedStand }
+    ensures reached { ReachedGoOn }
 {}

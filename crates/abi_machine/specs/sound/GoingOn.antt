@@ -9,7 +9,6 @@ use Rattle.wasm_store.specs.Stack.{Stack}
 use Rattle.wasm_store.specs.Step.{Move, Goes as GoesBy, Traps}
 use Rattle.wasm_store.specs.Step as core
 use Rattle.entry_gate.specs.declared.kind.Kind.TheVariants.{Callback}
-use Rattle.entry_gate.specs.Callbacks.{callback_of}
 use Rattle.builtin_kinds.specs.declared.ResourceOp.{ResourceOp}
 use Rattle.builtin_kinds.specs.declared.ResourceOp.TheVariants as resource_op
 use Rattle.value_lower.specs.Plan.{Ask}
@@ -24,10 +23,11 @@ use Rattle.comp_graph.specs.Graph.{CoreMake, Graph, Lifted, func_named}
 use Rattle.script_reader.specs.declared.script.Item.{Item}
 use Rattle.script_reader.specs.declared.script.Item.TheVariants as item
 use Rattle.script_reader.specs.Script.{Script}
+use Rattle.trace_show.specs.declared.label.Label.{Label}
 use Rattle.abi_machine.specs.LoweringOver.{Plan}
-use Rattle.abi_machine.specs.Control.{Lowering, HostedState, Going, AtCall, Nested, Behind, InLowering, BeforeLeaving, Receiver, InWait, InCallback, Control, Free, Chosen, Instantiates, Runs, Calls, Lowers, Quiet, Back, Resumes, Delivers}
-use Rattle.abi_machine.specs.World.{Wait, ForSet, ForCopy, ForCancel, TaskState, AfterCancel, InLoop, InBuiltin, Task, World}
-use Rattle.abi_machine.specs.Edits.{with_control, in_state}
+use Rattle.abi_machine.specs.Control.{Lowering, HostedState, Going, AtCall, Nested, Behind, InLowering, BeforeLeaving, Receiver, InWait, InCallback, Control, Free, Chosen, Instantiates, Runs, Calls, Lowers, Quiet, Resumes, Delivers}
+use Rattle.abi_machine.specs.World.{Wait, ForSet, ForCopy, ForCancel, TaskState, InBuiltin, Task, World, first_world}
+use Rattle.abi_machine.specs.Edits.{with_control}
 use Rattle.abi_machine.specs.Canons.{func_address, externals, bytes_of, canon_at, resource_at}
 use Rattle.abi_machine.specs.Reading.{table_of, func_of, kind_of}
 use Rattle.abi_machine.specs.Counting.{ready}
@@ -36,8 +36,10 @@ use Rattle.abi_machine.specs.Pausing.{Paused, Words, Failed, Asked, settle}
 use Rattle.abi_machine.specs.Turn.{Turn, Steps, Ends, Stuck}
 use Rattle.abi_machine.specs.Scheduling.{task_of_call, alternatives}
 use Rattle.abi_machine.specs.Next.{next}
-use Rattle.abi_machine.specs.sound.Changes.{IsFirst, IsGuest}
+use Rattle.abi_machine.specs.Run.{Reaches}
+use Rattle.abi_machine.specs.sound.Changes.{IsFirst}
 use Rattle.abi_machine.specs.sound.Initial.{RunsAlone}
+use Rattle.abi_machine.specs.sound.Tables.{HaveHistories}
 use Rattle.abi_machine.specs.sound.Numbers.{IsNumbered}
 use Rattle.abi_machine.specs.sound.Acting.{IsOrdered}
 use Rattle.abi_machine.specs.sound.Called.{HaveCalled}
@@ -45,7 +47,8 @@ use Rattle.abi_machine.specs.sound.Callers.{AreByCanons}
 use Rattle.abi_machine.specs.sound.OpenCopies.{HoldsCopies}
 use Rattle.abi_machine.specs.sound.Loops.{HaveLoops}
 use Rattle.abi_machine.specs.sound.SetWaits.{HaveSets}
-use Rattle.abi_machine.specs.sound.Owners.{IsOwnWorld, IsControlOwn}
+use Rattle.abi_machine.specs.sound.Guests.{WaitAs}
+use Rattle.abi_machine.specs.sound.Owners.{IsApart, IsOwnWorld, IsControlOwn}
 
 -- a step or the end
 abbrev pub HasNext : Turn → Type 0
@@ -128,22 +131,13 @@ NamesThere g (canon.Builtin b) = NamesResource g b.kind
 abbrev pub IsCallable : Graph → ℕ → Type 0
 IsCallable g number = (c : CanonFunc) × (canon_at g number ≡ Some c) × NamesThere g c
 
--- A task cancels one that another task called.
-abbrev pub CancelsGuest : List Task → TaskState → Type 0
-CancelsGuest tasks (AfterCancel callee number words) = IsGuest tasks callee
-CancelsGuest tasks state = Unit {0}
-
-abbrev pub CancelGuests : List Task → Type 0
-CancelGuests tasks = (t : ℕ) (task : Task) → slice_get tasks t ≡ Some task → CancelsGuest tasks task.state
-
--- What a blocked task waits for stands at its index; and one in its loop has a callback.
+-- What a blocked task waits for stands at its index.
 abbrev pub WaitsThere : World → ℕ → Wait → Type 0
 WaitsThere w i (ForCopy index) = IsSome (found_end w i index)
 WaitsThere w i (ForCancel index) = IsSome (found_subtask w i index)
 WaitsThere w i wait = Unit {0}
 
 abbrev pub ResumesAt : World → Lifted → TaskState → Type 0
-ResumesAt w f (InLoop word) = IsSome f.options.callback
 ResumesAt w f (InBuiltin number words wait) = WaitsThere w f.instance wait
 ResumesAt w f state = Unit {0}
 
@@ -166,10 +160,12 @@ DeliversThere set receiver pick w =
 -- What is kept, of which the rules are fed.
 pub record IsStanding (g : Graph) (w : World) : Type 0 where
   pub alone : RunsAlone w
+  pub histories : HaveHistories w.insts
   pub ordered : IsOrdered w
   pub numbered : IsNumbered w
   pub called : HaveCalled w.tasks
   pub by_canons : AreByCanons g w.tasks
+  pub waits : WaitAs w.tasks
   pub copies : HoldsCopies g w
   pub loops : HaveLoops w.tasks w.insts
   pub sets : HaveSets w.tasks w.insts
@@ -185,7 +181,6 @@ IsFed g s Runs w = RunsOn w × HaveFuncs w.store w.tasks
 IsFed g s (Calls number words) w = IsCallable g number × HasDestructors g w.store
 IsFed g s (Lowers l plan) w = AsksOf l plan w × HaveFuncs w.store w.tasks
 IsFed g s (Quiet n b) w = HostedOn b w.store n.state
-IsFed g s Back w = CancelGuests w.tasks
 IsFed g s Resumes w = ResumesThere w × HaveFuncs w.store w.tasks
 IsFed g s (Delivers set receiver pick) w = DeliversThere set receiver pick w × HaveFuncs w.store w.tasks
 IsFed g s control w = Unit {0}
@@ -193,3 +188,11 @@ IsFed g s control w = Unit {0}
 -- Then a step comes next, or the end.
 abbrev pub WorldsGoOn : Type 0
 WorldsGoOn = (g : Graph) (s : Script) (w : World) → IsStanding g w → IsFed g s w.control (with_control Free w) → HasNext (next g s w)
+
+-- What is kept holds of each world that is reached, where definitions stay apart. So none of these is stuck.
+abbrev pub ReachedStand : Type 0
+ReachedStand = (g : Graph) (s : Script) (steps : List (List Label)) (w : World) → IsApart g → Reaches g s (first_world g) steps w → IsStanding g w
+
+abbrev pub ReachedGoOn : Type 0
+ReachedGoOn =
+    (g : Graph) (s : Script) (steps : List (List Label)) (w : World) → IsApart g → Reaches g s (first_world g) steps w → IsFed g s w.control (with_control Free w) → HasNext (next g s w)

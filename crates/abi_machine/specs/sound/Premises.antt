@@ -6,6 +6,7 @@ use Rattle.ca_types.specs.declared.types.ValType.{ValType}
 use Rattle.laid_types.specs.Handles.{held_borrow}
 use Rattle.handle_table.specs.History.{live_count, most_live}
 use Rattle.choices.specs.Drawing.{drawn}
+use Rattle.entry_gate.specs.declared.kind.Kind.TheVariants.{Callback}
 use Rattle.tasks.specs.declared.phase.Resolution.{Resolution}
 use Rattle.tasks.specs.declared.phase.Resolution.TheVariants.{Returned, Cancelled}
 use Rattle.tasks.specs.declared.phase.Cancellation.{Cancellation}
@@ -22,21 +23,22 @@ use Rattle.script_reader.specs.Script.{Script}
 use Rattle.builtin_kinds.specs.declared.EndKind.{EndKind}
 use Rattle.builtin_kinds.specs.declared.EndKind.TheVariants.{Stream, Future}
 use Rattle.abi_machine.specs.Control.{EndRef}
-use Rattle.abi_machine.specs.World.{Entry, OwnHandle, BorrowHandle, OfSubtask, OfSet, OfEnd, Callee, Init, Subtask, Caller, Nobody, Host, Guest, TaskState, New, WaitsToEnter, Task, Channel, World}
+use Rattle.abi_machine.specs.World.{Entry, OwnHandle, BorrowHandle, OfSubtask, OfSet, OfEnd, Callee, Init, Subtask, Caller, Nobody, Host, Guest, TaskState, New, WaitsToEnter, InLoop, Task, Channel, World}
 use Rattle.abi_machine.specs.Canons.{inst_of_canon, canon_at}
-use Rattle.abi_machine.specs.Reading.{table_of, entry_at, sets_in, backpressure_of, func_of, task_at, may_leave}
+use Rattle.abi_machine.specs.Reading.{table_of, entry_at, sets_in, backpressure_of, func_of, kind_of, task_at, may_leave}
 use Rattle.abi_machine.specs.Counting.{lends_of, borrows_of, subtask_state, end_of}
 use Rattle.abi_machine.specs.Choosing.{picks_of}
 use Rattle.abi_machine.specs.replies.Pressure.{most_backpressure}
 use Rattle.abi_machine.specs.replies.Streams.{max_length}
-use Rattle.abi_machine.specs.sound.Changes.{Change, SpendsUnit, UsesPicks, TakesItem, AddsEntry, MakesSet, RemovesEntry, RemovesWaitable, JoinsSet, HasBackpressure, IsCalled, Calls, ComesBack, Acts, Begins, Cancels, Blocks, Exits, IsRemoved, Resolves, IsCancelled, IsTold, IsLent, MakesChannel, Offers, Transfers, DropsEnd, IsWaitable, Stands, IsLeft, IsAdded, IsFirst, HasFunc, FirstCancels, IsBlocked}
+use Rattle.abi_machine.specs.sound.Changes.{Change, SpendsUnit, UsesPicks, TakesItem, AddsEntry, MakesSet, RemovesEntry, RemovesWaitable, JoinsSet, HasBackpressure, IsCalled, Calls, ComesBack, Acts, Begins, Cancels, Blocks, Exits, IsRemoved, Resolves, IsCancelled, IsTold, IsLent, MakesChannel, Offers, Transfers, DropsEnd, IsWaitable, Stands, IsLeft, IsAdded, IsFirst, IsGuest, HasFunc, FirstCancels, IsBlocked}
 use Rattle.abi_machine.specs.sound.Firsts.{TaskIs, IsActing, IsLetIn}
 use Rattle.abi_machine.specs.sound.Agreeing.{IsDueAt, channel_in}
 use Rattle.abi_machine.specs.sound.EndPlaces.{IsFreshEnd}
 
--- One that is to wait until it may enter is new, and any other one acts before it blocks.
+-- One that is to wait until it may enter is new, and any other one acts before it blocks. One that blocks in its loop has a callback.
 abbrev pub BlocksFrom : TaskState → Task → Type 0
 BlocksFrom WaitsToEnter task = task.state ≡ New
+BlocksFrom (InLoop word) task = IsActing task × (kind_of task ≡ Callback)
 BlocksFrom state task = IsActing task
 
 -- A task has not resolved, and that it be cancelled was not asked.
@@ -174,7 +176,7 @@ Comes g s (Calls number callee subtask words) w =
 Comes g s (ComesBack t) w = HasFunc w.tasks t × ((w.chain ≡ []) ⊎ FirstCancels w.tasks w.chain)
 Comes g s (Acts t) w = IsFirst t w.chain × IsLetIn w.tasks t
 Comes g s (Begins n) w = IsFirst 0 w.chain × TaskIs w.tasks 0 (λ task. task.callee ≡ Init)
-Comes g s (Cancels t callee number words) w = IsFirst t w.chain × (may_leave w ≡ true) × TaskIs w.tasks t IsActing
+Comes g s (Cancels t callee number words) w = IsFirst t w.chain × (may_leave w ≡ true) × TaskIs w.tasks t IsActing × IsGuest w.tasks callee
 Comes g s (Blocks t state) w = IsFirst t w.chain × IsBlocked state × ((may_leave w ≡ true) ⊎ HasFunc w.tasks t) × TaskIs w.tasks t (BlocksFrom state)
 Comes g s (Exits t) w = IsFirst t w.chain
 Comes g s (IsRemoved t) w = HasFunc w.tasks t × TaskIs w.tasks t IsRemovable

@@ -110,12 +110,12 @@ worlds_go_on g s w h fed = by w.control h.ordered.2 h.alone.2 h.control_own fed
     by Arrives acts tells own fed = arriving_next g v h.ordered.1 acts caller
     by (Lowers l plan) acts tells own fed = lowers_next g l plan (stacked_then l.next) v acts.0 own tells.1 fed.0 fed.1
     by (Quiet n b) acts tells own fed = nested_next g s n b v own.0 fed
-    by Back acts tells own fed = back_next g v h.ordered.1 acts h.called fed
+    by Back acts tells own fed = back_next g v h.ordered.1 acts h.called h.waits
     by GoesOn acts tells own fed = going_next s WasBlocked v acts
     by Resumes acts tells own fed =
         resuming_next g v h.ordered.1 acts caller h.numbered.entries
         (λ t task f first at runs.
-        resumable g v t task f at runs (h.called t task at) (h.loops t task at) (λ index waits. h.sets t index task f at runs waits) (fed.1 t task f at runs) (fed.0 t task f first at runs))
+        resumable g v t task f at runs (h.called t task at) (h.waits t task at) (h.loops t task at) (λ index waits. h.sets t index task f at runs waits) (fed.1 t task f at runs) (fed.0 t task f first at runs))
     by (Delivers set receiver pick) acts tells own fed = delivering_next g s set receiver pick (IsActing (stacked_receiver receiver)) v acts (λ o p. p.0) h.numbered.entries fed.0 fed.1
     by Leaves acts tells own fed = leaving_next (IsActing false) v acts
     by (Doomed t why) acts tells own fed = tt

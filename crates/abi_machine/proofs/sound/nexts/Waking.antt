@@ -1,6 +1,6 @@
 -- What comes next where tasks enter, are called, go on, and get events.
 use Rattle.std.proofs.Common.{◌≡◌, ◌∙◌, ℕ, Bool, true, false, not, ◌&&◌, ◌||◌, ◌==◌, arith, List, [], ◌∷◌, length, refl, sym, ap, subst, Option, Some, None, Result, Ok, Err, if◌then◌else◌}
-use Rattle.std.specs.Prelude.{IsSome, IfSome, filter}
+use Rattle.std.specs.Prelude.{IsSome, IfSome, filter, is_some}
 use Rattle.std.proofs.lemmas.Bool.Decides.{nat_tests}
 use Rattle.std.specs.Option.{unwrap_or}
 use Rattle.std.specs.List.{slice_get, range_with_len, AllByRecursion}
@@ -13,6 +13,9 @@ use Rattle.entry_gate.specs.declared.callback.Next.{Next}
 use Rattle.entry_gate.specs.declared.callback.Next.TheVariants as next
 use Rattle.handle_table.specs.History.{Event, live, greatest}
 use Rattle.tasks.specs.Tasks.{is_asked}
+use Rattle.entry_gate.specs.declared.kind.Kind.{Kind}
+use Rattle.entry_gate.specs.declared.kind.Kind.TheVariants.{Sync, Callback, Stackful}
+use Rattle.comp_graph.specs.declared.graph.Options.{Options}
 use Rattle.comp_graph.specs.declared.graph.FuncRef.{FuncRef}
 use Rattle.comp_graph.specs.Graph.{Graph, Lifted}
 use Rattle.script_reader.specs.Script.{Script}
@@ -21,8 +24,8 @@ use Rattle.trace_show.specs.declared.label.BlockReason.TheVariants as reason
 use Rattle.abi_machine.specs.Control.{EndRef, EventCode, SubtaskEvent, Receiver, InWait, InCallback, Goes as GoesOn, Delivers}
 use Rattle.abi_machine.specs.World.{Entry, OwnHandle, BorrowHandle, OfSubtask, OfSet, OfEnd, Inst, Callee, Subtask, Caller, Nobody, Host, Guest, Wait, ForYield, ForSet, ForCall, ForCopy, ForCancel, TaskState, New as IsNew, Acting, AfterCall, AfterCancel, Begins, WaitsToEnter, InLoop, InBuiltin, Exited, Task, World}
 use Rattle.abi_machine.specs.Edits.{changed_at, in_state}
-use Rattle.abi_machine.specs.Canons.{func_address, canon_at, options_at, flag_at}
-use Rattle.abi_machine.specs.Reading.{table_of, table_in, entry_at, members_of, acting, func_of, task_at, subtask_of, is_reentrant}
+use Rattle.abi_machine.specs.Canons.{func_address, canon_at, options_at, flag_at, kind_of_options}
+use Rattle.abi_machine.specs.Reading.{table_of, table_in, entry_at, members_of, acting, func_of, kind_of_func, task_at, subtask_of, is_reentrant}
 use Rattle.abi_machine.specs.Counting.{has_resolved, entry_has_event, has_news, news_of, ready}
 use Rattle.abi_machine.specs.Gate.{may_arrive}
 use Rattle.abi_machine.specs.Finding.{set_in, set_number, accepted, found_subtask, found_end}
@@ -37,7 +40,8 @@ use Rattle.abi_machine.specs.sound.Called.{Called, HasCalled, HaveCalled}
 use Rattle.abi_machine.specs.sound.Numbers.{IsNamed, NamesWhatIsThere}
 use Rattle.abi_machine.specs.sound.Loops.{HasSetAt, GoesOnBy, LoopsIn, LoopsSo}
 use Rattle.abi_machine.specs.sound.SetWaits.{WaitsOnSet}
-use Rattle.abi_machine.specs.sound.GoingOn.{HasNext, IsFuncThere, AreFuncsThere, HaveFuncs, CancelsGuest, WaitsThere, ResumesAt, HasReceiver, IsReadyAt, DeliversThere}
+use Rattle.abi_machine.specs.sound.Guests.{WaitsAs, WaitAs}
+use Rattle.abi_machine.specs.sound.GoingOn.{HasNext, IsFuncThere, AreFuncsThere, HaveFuncs, WaitsThere, ResumesAt, HasReceiver, IsReadyAt, DeliversThere}
 use Rattle.abi_machine.proofs.sound.Lists.{all_as}
 use Rattle.abi_machine.proofs.sound.Found.{guest_changed}
 use Rattle.abi_machine.proofs.sound.known.Handles.{found_subtask_there}
@@ -93,21 +97,21 @@ cancel_open_next g t number words w = either_next (flag_at g number) _ _ (λ e. 
 called_guest : (tasks : List Task) (t number callee : ℕ) → Called tasks t number callee → IsGuest tasks callee
 called_guest tasks t number callee h = (h.0, h.1, subst (λ (o : Option Subtask). IsSome o) (sym h.2.1) refl)
 
-back_to_next : (g : Graph) (t i : ℕ) (state : TaskState) (w : World) → IsWaitingFor state → HasCalled w.tasks t state → CancelsGuest w.tasks state → HasNext (back_to g t i state w)
+back_to_next : (g : Graph) (t i : ℕ) (callee : Callee) (state : TaskState) (w : World) → IsWaitingFor state → HasCalled w.tasks t state → WaitsAs w.tasks callee state → HasNext (back_to g t i state w)
 unfolding back_to back_from_call back_from_cancel call_resolved told_payload
-back_to_next g t i (AfterCall callee number words) w waits called guest =
+back_to_next g t i of_task (AfterCall callee number words) w waits called guest =
     subtask_next w callee _ (called_guest w.tasks t number callee called)
     (λ task subtask there guest. either_next (has_resolved task) _ _ (λ e. tt) (λ e. open_next t i callee task (options_at g number).is_async number words (in_state t Acting w)))
-back_to_next g t i (AfterCancel callee number words) w waits called guest =
+back_to_next g t i of_task (AfterCancel callee number words) w waits called guest =
     subtask_next (in_state t Acting w) callee _ (guest_changed w.tasks t callee (λ x. record x { state = Acting }) (λ x h. h) guest)
     (λ task subtask there guest. either_next (has_resolved task) _ _ (λ e. tt) (λ e. cancel_open_next g t number words (in_state t Acting w)))
-back_to_next g t i IsNew w waits called guest = absurd waits
-back_to_next g t i Acting w waits called guest = absurd waits
-back_to_next g t i (Begins n) w waits called guest = absurd waits
-back_to_next g t i WaitsToEnter w waits called guest = absurd waits
-back_to_next g t i (InLoop word) w waits called guest = absurd waits
-back_to_next g t i (InBuiltin number words wait) w waits called guest = absurd waits
-back_to_next g t i Exited w waits called guest = absurd waits
+back_to_next g t i of_task IsNew w waits called guest = absurd waits
+back_to_next g t i of_task Acting w waits called guest = absurd waits
+back_to_next g t i of_task (Begins n) w waits called guest = absurd waits
+back_to_next g t i of_task WaitsToEnter w waits called guest = absurd waits
+back_to_next g t i of_task (InLoop word) w waits called guest = absurd waits
+back_to_next g t i of_task (InBuiltin number words wait) w waits called guest = absurd waits
+back_to_next g t i of_task Exited w waits called guest = absurd waits
 
 waiting_runs : (state : TaskState) (o : Outline) → IsWaitingFor state → StandsBy state o → IsSome (func_of o.callee)
 waiting_runs (AfterCall callee number words) o waits h = h.0
@@ -121,11 +125,11 @@ waiting_runs (InBuiltin number words wait) o waits h = absurd waits
 waiting_runs Exited o waits h = absurd waits
 
 pub back_next : (g : Graph) (w : World) → HaveStacks (outlines_of w.tasks) → OneActs IsCalling (outlines_of w.tasks) w.chain → HaveCalled w.tasks
-    → ((t : ℕ) (task : Task) → slice_get w.tasks t ≡ Some task → CancelsGuest w.tasks task.state) → HasNext (back_turn g w)
+    → WaitAs w.tasks → HasNext (back_turn g w)
 unfolding back_turn
 back_next g w stacked acts called guests =
     func_next IsCalling w _ acts (λ t task there waits. waiting_runs task.state (outline_of task) waits (stands_by w t task stacked there))
-    (λ t task f first there waits runs. back_to_next g t f.instance task.state w waits (called t task there) (guests t task there))
+    (λ t task f first there waits runs. back_to_next g t f.instance task.callee task.state w waits (called t task there) (guests t task there))
 
 -- Events.
 
@@ -328,10 +332,19 @@ blocked_runs (AfterCancel callee number words) o blocked h = absurd blocked
 blocked_runs (Begins n) o blocked h = absurd blocked
 blocked_runs Exited o blocked h = absurd blocked
 
+-- a function of this kind has a callback
+callback_if : (is_async some : Bool) → (if is_async then (if some then Callback else Stackful) else Sync) ≡ Callback → some ≡ true
+callback_if true true e = refl
+callback_if true false e = cc
+callback_if false some e = cc
+
+pub has_callback : (options : Options) → kind_of_options options ≡ Callback → IsSome options.callback
+has_callback options e = callback_if options.is_async (is_some options.callback) e
+
 -- what a blocked task waits for is there, by what is kept and what else is asked
-pub resumable : (g : Graph) (w : World) (t : ℕ) (task : Task) (f : Lifted) → slice_get w.tasks t ≡ Some task → func_of task.callee ≡ Some f → HasCalled w.tasks t task.state → LoopsSo w.insts task.callee task.state
+pub resumable : (g : Graph) (w : World) (t : ℕ) (task : Task) (f : Lifted) → slice_get w.tasks t ≡ Some task → func_of task.callee ≡ Some f → HasCalled w.tasks t task.state → WaitsAs w.tasks task.callee task.state → LoopsSo w.insts task.callee task.state
     → ((index : ℕ) → WaitsOnSet task index → HasSetAt (table_in (slice_get w.insts f.instance)) index) → AreFuncsThere w.store f → ResumesAt w f task.state → IsResumable w f task.state
-resumable g w t task f there runs called loops sets funcs at = by task.state refl called loops at
+resumable g w t task f there runs called waits loops sets funcs at = by task.state refl called waits loops at
   where
     waits_by : (number : ℕ) (words : List ℕ) (wait : Wait) → task.state ≡ InBuiltin number words wait → HasCalled w.tasks t (InBuiltin number words wait) → WaitsThere w f.instance wait → IsAwaited w f.instance wait
     waits_by number words ForYield e called at = tt
@@ -340,16 +353,17 @@ resumable g w t task f there runs called loops sets funcs at = by task.state ref
     waits_by number words (ForCopy index) e called at = at
     waits_by number words (ForCancel index) e called at = at
 
-    by : (state : TaskState) → task.state ≡ state → HasCalled w.tasks t state → LoopsSo w.insts task.callee state → ResumesAt w f state → IsResumable w f state
-    by (InLoop word) e called loops at = (subst (λ (o : Option Lifted). LoopsIn w.insts o word) runs loops, (at, funcs.callback))
-    by (InBuiltin number words wait) e called loops at = waits_by number words wait e called at
-    by WaitsToEnter e called loops at = tt
-    by IsNew e called loops at = tt
-    by Acting e called loops at = tt
-    by (AfterCall callee number words) e called loops at = tt
-    by (AfterCancel callee number words) e called loops at = tt
-    by (Begins n) e called loops at = tt
-    by Exited e called loops at = tt
+    by : (state : TaskState) → task.state ≡ state → HasCalled w.tasks t state → WaitsAs w.tasks task.callee state → LoopsSo w.insts task.callee state → ResumesAt w f state → IsResumable w f state
+    by (InLoop word) e called waits loops at =
+        (subst (λ (o : Option Lifted). LoopsIn w.insts o word) runs loops, (has_callback f.options (subst (λ (o : Option Lifted). kind_of_func o ≡ Callback) runs waits), funcs.callback))
+    by (InBuiltin number words wait) e called waits loops at = waits_by number words wait e called at
+    by WaitsToEnter e called waits loops at = tt
+    by IsNew e called waits loops at = tt
+    by Acting e called waits loops at = tt
+    by (AfterCall callee number words) e called waits loops at = tt
+    by (AfterCancel callee number words) e called waits loops at = tt
+    by (Begins n) e called waits loops at = tt
+    by Exited e called waits loops at = tt
 
 pub resuming_next : (g : Graph) (w : World) → HaveStacks (outlines_of w.tasks) → OneActs WasBlocked (outlines_of w.tasks) w.chain
     → ((t : ℕ) (task : Task) → slice_get w.tasks t ≡ Some task → IsSome (func_of task.callee) → HasCaller g task.caller) → AllByRecursion (NamesWhatIsThere w.tasks) w.insts

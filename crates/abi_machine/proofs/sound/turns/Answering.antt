@@ -332,7 +332,7 @@ module _ {g : Graph} {s : Script} (inv : Invariant g s) where
       unless_keeps inv t (is_over subtask.told) trap.Delivered w (unasked callee task) h (λ j.
       unless_keeps inv t (not (is_unasked task.cancellation)) trap.Asked w (asks callee task) h (λ k.
       let v : World = asking callee in
-      let l : inv.Holds v = inv.stays (Cancels t callee number words) w (first, free, first_at w.tasks w.chain t IsActing first h.1) h.0 in
+      let l : inv.Holds v = inv.stays (Cancels t callee number words) w (first, free, first_at w.tasks w.chain t IsActing first h.1, (task, there, subst (λ (o : Option Subtask). IsSome o) (sym guest) refl)) h.0 in
       either_keeps inv (has_resolved task) (silent Back v) (cancelled_turn g callee task Back v) (λ f. goes inv Back v tt l)
       (λ f.
       cancelled_keeps inv callee task Back v

@@ -31,10 +31,10 @@ use Rattle.trace_show.specs.declared.typed.TypedValue.{TypedValue}
 use Rattle.abi_machine.specs.Traps.{core_name, task_name}
 use Rattle.abi_machine.specs.Control.{After, Replies, Finishes, Free, Instantiates, Runs, Leaves, Doomed}
 use Rattle.abi_machine.specs.Control as control
-use Rattle.abi_machine.specs.World.{Init, Caller, Nobody, Host, Guest, TaskState, New as IsNew, Acting, AfterCall, AfterCancel, Begins, WaitsToEnter, InLoop, InBuiltin, Exited, Task, World}
+use Rattle.abi_machine.specs.World.{Callee, Init, Caller, Nobody, Host, Guest, TaskState, New as IsNew, Acting, AfterCall, AfterCancel, Begins, WaitsToEnter, InLoop, InBuiltin, Exited, Task, World}
 use Rattle.abi_machine.specs.Edits.{with_store, in_state, resolved, control_behind}
 use Rattle.abi_machine.specs.Canons.{func_address, canon_at, externals}
-use Rattle.abi_machine.specs.Reading.{acting, func_of, kind_of}
+use Rattle.abi_machine.specs.Reading.{acting, func_of, kind_of, kind_of_func}
 use Rattle.abi_machine.specs.Counting.{task_view}
 use Rattle.abi_machine.specs.Finding.{set_at}
 use Rattle.abi_machine.specs.Lifting.{Kept, Stopped, Came}
@@ -44,7 +44,7 @@ use Rattle.abi_machine.specs.CoreSteps.{costs, func_ended, stack_ended, ended_ov
 use Rattle.abi_machine.specs.Instantiating.{started_up, made as core_made, action_turn, instantiating_turn}
 use Rattle.abi_machine.specs.sound.Changes.{HasStore, BeginsInstance, Begins as IsBegun, Exits, Resolves as IsResolved, HasStack, LosesStack, after, HasFunc}
 use Rattle.laid_types.specs.Handles.{held_borrow}
-use Rattle.abi_machine.specs.sound.Premises.{MayResolve, HasBorrowResult, PassBorrow}
+use Rattle.abi_machine.specs.sound.Premises.{BlocksFrom, MayResolve, HasBorrowResult, PassBorrow}
 use Rattle.tasks.specs.declared.event.TaskTrap.TheVariants.{Resolved, BorrowLives}
 use Rattle.tasks.specs.declared.phase.Resolution.{Resolution}
 use Rattle.tasks.specs.Views.{TaskView}
@@ -148,31 +148,36 @@ module _ {g : Graph} {s : Script} (inv : Invariant g s) where
 
   -- Core functions make moves.
 
-  next_keeps : (t : ℕ) (task : Task) (i word : ℕ) (r : Result Next BadCode) (w : World) → IsFirst t w.chain → HasFunc w.tasks t → Acted inv w → Keeps inv (next_turn t task i word r w)
-  unfolding next_turn
-  next_keeps t task i word (Err why) w first runs h = goes_on inv (Doomed t trap.BadCode) w tt h
-  next_keeps t task i word (Ok next.Exit) w first runs h = ending_keeps t task w h
-  next_keeps t task i word (Ok next.Yield) w first runs h = blocked_keeps inv t (InLoop word) reason.Yield w first tt (inr runs) (first_at w.tasks w.chain t IsActing first h.1) h.0
-  next_keeps t task i word (Ok (next.Wait set)) w first runs h =
-      refused_keeps inv t (set_at w i set) w _ h (λ number e. blocked_keeps inv t (InLoop word) (reason.Wait set) w first tt (inr runs) (first_at w.tasks w.chain t IsActing first h.1) h.0)
-  next_keeps t task i word (Ok (next.Poll set)) w first runs h =
-      refused_keeps inv t (set_at w i set) w _ h (λ number e. blocked_keeps inv t (InLoop word) (reason.Poll set) w first tt (inr runs) (first_at w.tasks w.chain t IsActing first h.1) h.0)
+  -- a task that acts and has a callback
+  blocks_looped : (t word : ℕ) (w : World) → IsFirst t w.chain → TaskIs w.tasks t (λ x. kind_of x ≡ Callback) → Acted inv w → TaskIs w.tasks t (BlocksFrom (InLoop word))
+  blocks_looped t word w first looped h = (looped.0, looped.1, (one_task w.tasks t IsActing looped.0 looped.1 (first_at w.tasks w.chain t IsActing first h.1), looped.2))
 
-  looping_keeps : (t : ℕ) (task : Task) (i : ℕ) (words : List ℕ) (w : World) → IsFirst t w.chain → HasFunc w.tasks t → Acted inv w → Keeps inv (looping_turn t task i words w)
+  next_keeps : (t : ℕ) (task : Task) (i word : ℕ) (r : Result Next BadCode) (w : World) → IsFirst t w.chain → HasFunc w.tasks t → TaskIs w.tasks t (λ x. kind_of x ≡ Callback) → Acted inv w → Keeps inv (next_turn t task i word r w)
+  unfolding next_turn
+  next_keeps t task i word (Err why) w first runs looped h = goes_on inv (Doomed t trap.BadCode) w tt h
+  next_keeps t task i word (Ok next.Exit) w first runs looped h = ending_keeps t task w h
+  next_keeps t task i word (Ok next.Yield) w first runs looped h = blocked_keeps inv t (InLoop word) reason.Yield w first tt (inr runs) (blocks_looped t word w first looped h) h.0
+  next_keeps t task i word (Ok (next.Wait set)) w first runs looped h =
+      refused_keeps inv t (set_at w i set) w _ h (λ number e. blocked_keeps inv t (InLoop word) (reason.Wait set) w first tt (inr runs) (blocks_looped t word w first looped h) h.0)
+  next_keeps t task i word (Ok (next.Poll set)) w first runs looped h =
+      refused_keeps inv t (set_at w i set) w _ h (λ number e. blocked_keeps inv t (InLoop word) (reason.Poll set) w first tt (inr runs) (blocks_looped t word w first looped h) h.0)
+
+  looping_keeps : (t : ℕ) (task : Task) (i : ℕ) (words : List ℕ) (w : World) → IsFirst t w.chain → HasFunc w.tasks t → TaskIs w.tasks t (λ x. kind_of x ≡ Callback) → Acted inv w → Keeps inv (looping_turn t task i words w)
   unfolding looping_turn
-  looping_keeps t task i [] w first runs h = tt
-  looping_keeps t task i (word ∷ words) w first runs h = next_keeps t task i word (callback_of word) w first runs h
+  looping_keeps t task i [] w first runs looped h = tt
+  looping_keeps t task i (word ∷ words) w first runs looped h = next_keeps t task i word (callback_of word) w first runs looped h
 
   result_borrowed : (t : ℕ) (task : Task) (f : Lifted) (w : World) → func_of task.callee ≡ Some f → ActsLike t task w → held_borrow f.func_type.result ≡ true → PassBorrow g w
   result_borrowed t task f w is like b = inr (inl (t, is_as w.tasks t (IsLike task) HasBorrowResult (λ x k. (f, ap func_of k.2 ∙ is, b)) like.1))
 
-  func_keeps : (t : ℕ) (task : Task) (f : Lifted) (kind : Kind) (words : List ℕ) (w : World) → func_of task.callee ≡ Some f → ActsLike t task w → HasFunc w.tasks t → Acted inv w
+  func_keeps : (t : ℕ) (task : Task) (f : Lifted) (kind : Kind) (words : List ℕ) (w : World) → kind_of task ≡ kind → func_of task.callee ≡ Some f → ActsLike t task w → HasFunc w.tasks t → Acted inv w
       → Keeps inv (func_ended g t task f kind words w)
   unfolding func_ended returning_turn
-  func_keeps t task f Sync words w is like runs h =
+  func_keeps t task f Sync words w kind is like runs h =
       resolves_keeps t task (Finishes words) _ (result_comes f.instance t _ task f.func_type.result f.options words w (λ v l b. result_borrowed t task f v is l b) h like)
-  func_keeps t task f Stackful words w is like runs h = ending_keeps t task w h
-  func_keeps t task f Callback words w is like runs h = looping_keeps t task f.instance words w like.0 runs h
+  func_keeps t task f Stackful words w kind is like runs h = ending_keeps t task w h
+  func_keeps t task f Callback words w kind is like runs h =
+      looping_keeps t task f.instance words w like.0 runs (is_as w.tasks t (IsLike task) (λ x. kind_of x ≡ Callback) (λ x k. ap (λ (c : Callee). kind_of_func (func_of c)) k.2 ∙ kind) like.1) h
 
   stack_keeps : (t : ℕ) (task : Task) (state : TaskState) (words : List ℕ) (w : World) → ActsLike t task w → (IsSome (func_of task.callee) → HasFunc w.tasks t)
       → ((n : ℕ) → state ≡ Begins n → w.chain ≡ 0 ∷ []) → Acted inv w → Keeps inv (stack_ended g t task state words w)
@@ -180,7 +185,7 @@ module _ {g : Graph} {s : Script} (inv : Invariant g s) where
   stack_keeps t task (Begins n) words w like runs alone h =
       goes inv (Instantiates n) (in_state t Acting w) (alone n refl) (acts inv t w (like.0, is_as w.tasks t IsActing (MayBeInside w.tasks) (λ x k. inl (acting_inside x k)) (first_at w.tasks w.chain t IsActing like.0 h.1)) h.0).0
   stack_keeps t task Acting words w like runs alone h =
-      given_keeps inv (func_of task.callee) _ (λ f e. func_keeps t task f (kind_of task) words w e like (runs (subst (λ (o : Option Lifted). IsSome o) (sym e) refl)) h)
+      given_keeps inv (func_of task.callee) _ (λ f e. func_keeps t task f (kind_of task) words w refl e like (runs (subst (λ (o : Option Lifted). IsSome o) (sym e) refl)) h)
   stack_keeps t task IsNew words w like runs alone h = tt
   stack_keeps t task (AfterCall callee number others) words w like runs alone h = tt
   stack_keeps t task (AfterCancel callee number others) words w like runs alone h = tt
