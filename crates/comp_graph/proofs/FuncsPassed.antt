@@ -13,7 +13,13 @@ use Rattle.comp_graph.specs.declared.graph.Builtin.{Builtin}
 use Rattle.comp_graph.specs.declared.graph.CanonFunc.{CanonFunc}
 use Rattle.comp_graph.specs.declared.graph.CanonFunc.TheVariants as canon_func
 use Rattle.comp_graph.specs.declared.graph.Lower.{Lower}
-use Rattle.comp_graph.specs.Graph.{is_lower, passed_value}
+use Rattle.builtin_kinds.specs.declared.EndKind.{EndKind}
+use Rattle.builtin_kinds.specs.declared.EndKind.TheVariants as end_kind
+use Rattle.ca_types.specs.declared.types.ValType.TheViews.{outs-Stream, outs-Future}
+use Rattle.laid_types.specs.Parts.{part_at, parts_case}
+use Rattle.comp_graph.specs.declared.graph.EndOp.{EndOp}
+use Rattle.comp_graph.specs.declared.graph.BuiltinKind.TheVariants as builtin
+use Rattle.comp_graph.specs.Graph.{is_lower, numbered_value, passed_value}
 use Rattle.comp_graph.specs.Passed.{TypeTable, params_type, MayBeAt, IsNumbered, ArePassed, HaveNumbers, HasCanonType, AreCanonTypes}
 
 pub may_be_read : {A : Type 0} (values : List A) (number : Option ℕ) (type : Option A) → MayBeAt values number type → option_and_then (λ n. slice_get values n) number ≡ type
@@ -97,9 +103,9 @@ lower_passed types numbers canons at func passed h same told l is =
     let one : h.lower ≡ l = cc in
     told l.func_type (ap (slice_get types.funcs) same ∙ h.typed ∙ ap (λ (l : Lower). Some l.func_type) one)
 
--- The number of a built-in is that of the type of its result or of its elements, where it has one.
+-- The number of a built-in is that of the type of its result, or of the ends that it is of, where it has one.
 pub built_at : (types : TypeTable) (numbers : List (Option ℕ)) (canons : List CanonFunc) (at : ℕ) (number : Option ℕ) (b : Builtin) → AreCanonTypes types numbers canons
-    → slice_get numbers at ≡ Some number → slice_get canons at ≡ Some (canon_func.Builtin b) → MayBeAt types.values number (passed_value b.kind)
+    → slice_get numbers at ≡ Some number → slice_get canons at ≡ Some (canon_func.Builtin b) → MayBeAt types.values number (numbered_value b.kind)
 built_at types [] [] at number b h is there = cc
 built_at types [] (c ∷ canons) at number b h is there = absurd h
 built_at types (n ∷ numbers) [] at number b h is there = absurd h
@@ -107,3 +113,12 @@ built_at types (n ∷ numbers) (c ∷ canons) zero number b h is there =
     subst (λ (number : Option ℕ). HasCanonType types number (canon_func.Builtin b)) (let same : n ≡ number = cc in same)
     (subst (λ (c : CanonFunc). HasCanonType types n c) (let same : c ≡ canon_func.Builtin b = cc in same) h.0)
 built_at types (n ∷ numbers) (c ∷ canons) (suc at) number b h is there = built_at types numbers canons at number b h.1 is there
+
+first_part : {parts others : List (Option ValType)} → parts ≡ others → option_and_then (λ (part : Option ValType). part) (slice_get parts 0) ≡ option_and_then (λ (part : Option ValType). part) (slice_get others 0)
+first_part {parts} {others} same = ap (λ (all : List (Option ValType)). option_and_then (λ (part : Option ValType). part) (slice_get all 0)) same
+
+-- The elements of ends are the one part of their type.
+pub element_read : (kind : EndKind) (element : Option ValType) (op : EndOp)
+    → option_and_then (λ (t : ValType). part_at t 0) (numbered_value (builtin.End kind element op)) ≡ passed_value (builtin.End kind element op)
+element_read end_kind.Stream element op = first_part (ap parts_case (outs-Stream element))
+element_read end_kind.Future element op = first_part (ap parts_case (outs-Future element))

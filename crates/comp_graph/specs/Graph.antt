@@ -21,7 +21,6 @@ use Rattle.comp_graph.specs.declared.graph.Options.{Options}
 use Rattle.comp_graph.specs.declared.graph.Lift.{Lift}
 use Rattle.comp_graph.specs.declared.graph.Lower.{Lower}
 use Rattle.comp_graph.specs.declared.graph.Resource.{Resource}
-use Rattle.comp_graph.specs.declared.graph.Builtin.{Builtin}
 use Rattle.comp_graph.specs.declared.graph.BuiltinKind.{BuiltinKind}
 use Rattle.comp_graph.specs.declared.graph.BuiltinKind.TheVariants as builtin
 use Rattle.comp_graph.specs.declared.graph.EndOp.{EndOp}
@@ -37,6 +36,7 @@ use Rattle.builtin_kinds.specs.declared.EndKind.TheVariants as end_kind
 use Rattle.builtin_kinds.specs.declared.EndSide.{EndSide}
 use Rattle.builtin_kinds.specs.declared.EndSide.TheVariants as end_side
 use Rattle.ca_types.specs.declared.types.ValType.{ValType}
+use Rattle.ca_types.specs.declared.types.ValType.TheViews as val_type
 use Rattle.laid_types.specs.Lists.{held_list}
 use Rattle.wasm_module.specs.declared.types.ValType.TheVariants.{I64}
 use Rattle.comp_graph.specs.declared.graph.CanonFunc.{CanonFunc}
@@ -155,6 +155,17 @@ abbrev pub passed_value : BuiltinKind → Option ValType
 passed_value (builtin.TaskReturn result options) = result
 passed_value (builtin.End kind element op) = element
 passed_value other = None
+
+-- the type of the ends of a stream or a future of these elements, as a type of values
+abbrev pub ends_type : EndKind → Option ValType → ValType
+ends_type end_kind.Stream element = val_type.Stream element
+ends_type end_kind.Future element = val_type.Future element
+
+-- the type by whose number it is known what a built-in passes: that of its result, or of the ends that it is of
+abbrev pub numbered_value : BuiltinKind → Option ValType
+numbered_value (builtin.TaskReturn result options) = result
+numbered_value (builtin.End kind element op) = Some (ends_type kind element)
+numbered_value other = None
 
 -- the type of a core function, where it is there: that which its module gives it, or what makes it
 abbrev pub core_type : List CoreMake → List CanonFunc → FuncRef → Option core.FuncType

@@ -11,7 +11,7 @@ use Rattle.comp_graph.specs.declared.graph.CanonFunc.{CanonFunc}
 use Rattle.comp_graph.specs.declared.func_types.NumberedFunc.{NumberedFunc}
 use Rattle.comp_graph.specs.declared.func_types.PassedTypes.{PassedTypes}
 use Rattle.comp_graph.specs.declared.graph.CanonFunc.TheVariants as canon_func
-use Rattle.comp_graph.specs.Graph.{passed_value}
+use Rattle.comp_graph.specs.Graph.{numbered_value}
 
 -- the type of arguments
 abbrev pub params_type : FuncType → ValType
@@ -45,11 +45,11 @@ pub record TypeTable : Type 0 where
   pub funcs : List FuncType
   pub values : List ValType
 
--- The number of what a core function of the Canonical ABI passes: the type of the function that it calls, or of the result or the
--- elements of a built-in, where it has one.
+-- The number that a core function of the Canonical ABI has: of the type of the function that it calls, or of the result of a built-in,
+-- or of the ends that it is of, where it has one.
 abbrev pub HasCanonType : TypeTable → Option ℕ → CanonFunc → Type 0
 HasCanonType types number (canon_func.Lower l) = MayBeAt types.funcs number (Some l.func_type)
-HasCanonType types number (canon_func.Builtin b) = MayBeAt types.values number (passed_value b.kind)
+HasCanonType types number (canon_func.Builtin b) = MayBeAt types.values number (numbered_value b.kind)
 
 abbrev pub AreCanonTypes : TypeTable → List (Option ℕ) → List CanonFunc → Type 0
 AreCanonTypes types numbers canons = AllZip (HasCanonType types) numbers canons

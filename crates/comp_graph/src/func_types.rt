@@ -4,6 +4,8 @@ ghost use Rattle.std.specs.Prelude.{◌≡◌, ◌<◌, ℕ, length, map, Some};
 ghost use Rattle.std.specs.List.{slice_get};
 ghost use Rattle.std.specs.Option.{option_and_then};
 ghost use Rattle.ca_types.specs.declared.types.FuncType.{FuncType};
+ghost use Rattle.laid_types.specs.Parts.{part_at};
+ghost use Rattle.laid_types.specs.SameTypes.{AreDistinct};
 ghost use Rattle.comp_graph.specs.Passed.{IsNumbered, AreNumbered, ArePassed, HaveNumbers};
 
 use ca_base::Seq;
@@ -32,7 +34,8 @@ pub struct PassedTypes<'a> {
     pub returned: Option<LaidType<'a>>,
 }
 
-/// Function types, and the table of the types of what is passed, each laid out once. Contracts see both; a type's number is its place.
+/// Function types, and the table of the types of what is passed, each laid out once: no type of values stands twice in it, so types
+/// are the same exactly where their numbers are. Contracts see both; a type's number is its place.
 #[derive(Drop)]
 pub struct FuncTypes {
     values: LaidTypes,
@@ -44,6 +47,7 @@ impl Model for FuncTypes {
     ghost use Rattle.std.specs.Coded.{codes};
     ghost use Rattle.ca_types.specs.contracts.types.FuncType as func_type;
     ghost use Rattle.ca_types.specs.contracts.types.ValType as val_type;
+    ghost use Rattle.laid_types.specs.SameTypes.{AreDistinct};
     ghost use Rattle.comp_graph.specs.Passed.{AreNumbered};
     ghost use Rattle.comp_graph.specs.Passed as passed;
 
@@ -53,13 +57,14 @@ impl Model for FuncTypes {
 
     ghost view = { λ t. record { funcs = map (λ f. f.func_type) t.funcs.items; values = t.values } };
 
-    ghost invariant = { λ t. AreNumbered t.values t.funcs.items };
+    ghost invariant = { λ t. AreDistinct t.values × AreNumbered t.values t.funcs.items };
 }
 
 impl FuncTypes {
     /// These function types, each with its numbers in the table of types of values.
     pub fn new(values: LaidTypes, funcs: Vec<NumberedFunc>) -> FuncTypes
-        requires { AreNumbered values funcs.items }
+        requires distinct { AreDistinct values }
+        requires numbered { AreNumbered values funcs.items }
         ensures { result ≡ record { funcs = map (λ f. f.func_type) funcs.items; values = values } }
     {
         FuncTypes { values, funcs }
@@ -70,6 +75,23 @@ impl FuncTypes {
         ensures { result ≡ length self.now.funcs }
     {
         self.funcs.len()
+    }
+
+    /// The table of the types of what is passed.
+    pub fn values(&self) -> &LaidTypes
+        ensures value { result.now ≡ self.now.values }
+        ensures distinct { AreDistinct self.now.values }
+    {
+        &self.values
+    }
+
+    /// The function type of this number, which is there, with its numbers in the table of types of values.
+    pub fn func(&self, number: usize) -> &NumberedFunc
+        requires { number < length self.now.funcs }
+        ensures value { slice_get self.now.funcs number ≡ Some result.now.func_type }
+        ensures numbers { IsNumbered self.now.values result.now }
+    {
+        &self.funcs[number]
     }
 
     /// The types of what functions of the type of this number pass.
@@ -120,6 +142,16 @@ fn value_of(values: &LaidTypes, number: Option<u32>) -> Option<LaidType<'_>>
     }
 }
 
+/// The type of the elements of the ends of a type, if they hold anything.
+pub(crate) fn element_of(ends: Option<LaidType<'_>>) -> Option<LaidType<'_>>
+    ensures { result ≡ option_and_then (λ t. part_at t 0) ends.entry }
+{
+    match ends {
+        Some(ends) => ends.part(0),
+        None => None,
+    }
+}
+
 /// The types of what the function passes whose type has the number at this place.
 pub(crate) fn passed_at<'a>(types: &'a FuncTypes, numbers: &[u32], at: usize) -> PassedTypes<'a>
     requires there { at < length numbers.now }
@@ -143,8 +175,8 @@ pub struct GraphTypes {
     /// The table.
     pub types: FuncTypes,
     /// Of each core function that the Canonical ABI makes, in order of making: the number of the type of the function that it calls,
-    /// among function types; of a built-in the number of the type of its result or of its elements, among types of values, if it has
-    /// one.
+    /// among function types; of a built-in the number of the type of its result, or of the type of the ends that it is of, among types
+    /// of values, if it has one.
     pub canons: Seq<Option<u32>>,
     /// The number of the type of each function that can be called, in order.
     pub exports: Seq<u32>,

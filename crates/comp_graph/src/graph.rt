@@ -7,10 +7,10 @@ ghost use Rattle.comp_graph.specs.declared.graph.Builtin.{Builtin};
 ghost use Rattle.comp_graph.specs.declared.graph.Lower.{Lower};
 ghost use Rattle.comp_graph.specs.declared.graph.CanonFunc.TheVariants as canon_func;
 ghost use Rattle.comp_graph.specs.Graph as graphs;
-ghost use Rattle.comp_graph.specs.Graph.{core_instance_limit, instance_limit, is_lower, passed_value};
+ghost use Rattle.comp_graph.specs.Graph.{core_instance_limit, instance_limit, is_lower, numbered_value, passed_value};
 ghost use Rattle.comp_graph.specs.Passed.{AreCanonTypes, AreExportTypes, ArePassed, types_at};
 
-use crate::func_types::{GraphTypes, PassedTypes, number_at, passed_at};
+use crate::func_types::{GraphTypes, PassedTypes, element_of, number_at, passed_at};
 use builtin_kinds::{ContextOp, EndKind, EndSide, PlainBuiltin, ResourceOp, WaitOp};
 use ca_base::Seq;
 use ca_types::{Boxed, Exports, FuncType, Shared, ValType};
@@ -387,6 +387,15 @@ impl<'a> Graph<'a> {
         self.lifts.as_slice()[number]
     }
 
+    /// The types of what functions and built-ins pass: the table of types, and which of them each one has.
+    pub fn types(&self) -> &GraphTypes
+        ensures canons { AreCanonTypes result.now.types result.now.canons self.now.canons }
+        ensures exports { AreExportTypes result.now.types.funcs result.now.exports self.now.exports }
+        ensures ends { types_at result.now.types.values result.now.ends ≡ self.now.end_types }
+    {
+        &self.types
+    }
+
     /// The types of what the export of this number passes, which is there.
     pub fn export_types(&self, number: usize) -> PassedTypes<'_>
         requires { number < length self.now.exports }
@@ -413,7 +422,38 @@ impl<'a> Graph<'a> {
         requires { number < length self.now.canons }
         ensures { (b : Builtin) → slice_get self.now.canons number ≡ Some (canon_func.Builtin b) → result ≡ passed_value b.kind }
     {
+        let value = self.numbered(number);
+        match canon_at(self.canons.as_slice(), number) {
+            CanonFunc::Builtin(builtin) => passed_of(&builtin.kind, value),
+            CanonFunc::Lower(_) => None,
+        }
+    }
+
+    /// The type of the result of the built-in of this number, or of the ends that it is of, if it has one.
+    fn numbered(&self, number: usize) -> Option<LaidType<'_>>
+        requires { number < length self.now.canons }
+        ensures { (b : Builtin) → slice_get self.now.canons number ≡ Some (canon_func.Builtin b) → result ≡ numbered_value b.kind }
+    {
         let number = number_at(self.types.canons.as_slice(), number);
         self.types.types.value(number)
+    }
+}
+
+/// The core function of a number that is there, of those that the Canonical ABI makes.
+fn canon_at(canons: &[CanonFunc], number: usize) -> &CanonFunc
+    requires { number < length canons.now }
+    ensures { slice_get canons.now number ≡ Some result.now }
+{
+    &canons[number]
+}
+
+/// The type of the result or of the elements of a built-in, of the type by whose number it is known.
+fn passed_of<'a>(kind: &BuiltinKind, value: Option<LaidType<'a>>) -> Option<LaidType<'a>>
+    requires { value ≡ numbered_value kind.now }
+    ensures { result ≡ passed_value kind.now }
+{
+    match kind {
+        BuiltinKind::End { .. } => element_of(value),
+        _ => value,
     }
 }

@@ -5,7 +5,7 @@ use Rattle.wasm_module.specs.declared.module.ModuleTree.{ModuleTree}
 use Rattle.comp_graph.specs.declared.graph.CanonFunc.{CanonFunc}
 use Rattle.comp_graph.specs.declared.graph.CanonFunc.TheVariants as canon_func
 use Rattle.comp_graph.specs.Closed.{Closed}
-use Rattle.comp_graph.specs.Graph.{passed_value}
+use Rattle.comp_graph.specs.Graph.{numbered_value}
 use Rattle.comp_graph.specs.Passed.{TypeTable, MayBeAt, HasCanonType, AreCanonTypes}
 use Rattle.link_spec.specs.Definitions.{Lifted, Closure, Exports}
 use Rattle.link_spec.specs.Spaces.{Spaces}
@@ -38,7 +38,7 @@ may_stay xs ys stay (Some n) (Some x) h = stay n x h
 
 canon_stays : (t u : Table) → Grows t u → (n : Option ℕ) (f : CanonFunc) → HasCanonType (type_table t) n f → HasCanonType (type_table u) n f
 canon_stays t u g n (canon_func.Lower l) h = may_stay t.funcs u.funcs g.funcs n (Some l.func_type) h
-canon_stays t u g n (canon_func.Builtin b) h = may_stay t.values u.values g.values n (passed_value b.kind) h
+canon_stays t u g n (canon_func.Builtin b) h = may_stay t.values u.values g.values n (numbered_value b.kind) h
 
 pub canons_stay : (t u : Table) → Grows t u → (numbers : List (Option ℕ)) (canons : List CanonFunc) → AreCanonTypes (type_table t) numbers canons → AreCanonTypes (type_table u) numbers canons
 canons_stay t u g = zips_weaker (HasCanonType (type_table t)) (HasCanonType (type_table u)) (canon_stays t u g)

@@ -413,6 +413,7 @@ impl<'a> Types<'a> {
     pub fn into_func_types(self) -> FuncTypes
         ensures { result ≡ record { funcs = self.entry.funcs; values = self.entry.values } }
     {
+        self.values.are_apart();
         FuncTypes::new(self.values.into_laid(), self.numbered)
     }
 }

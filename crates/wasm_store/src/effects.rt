@@ -16,8 +16,7 @@ use ca_base::Memory;
 use wasm_module::Instr;
 
 impl Store {
-    /// Makes an instruction of an instance over locals and operands, the last one at the end. The answer is its trap, where it
-    /// traps.
+    /// Makes an instruction of an instance over locals and operands, the last one at the end. The answer is its trap, if any.
     ///
     /// `Memory` comes where memory runs out, and then the store is as it was. Nothing is said of locals and operands then.
     pub fn effect(

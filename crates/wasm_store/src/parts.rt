@@ -46,8 +46,9 @@ impl Parts {
         let tables = tables_of(alloc, tree.tables.as_slice())?;
         let memories = memories_of(alloc, tree.memories.as_slice())?;
         let globals = globals_of(alloc, store, tree.globals.as_slice(), imports)?;
+        let instance = instance_with(alloc, store, tree, imports, types)?;
         let mut instances = Vec::new(alloc);
-        instances.push(instance_with(alloc, store, tree, imports, types)?)?;
+        instances.push(instance)?;
         Ok(Parts {
             functions,
             tables,

@@ -67,14 +67,14 @@ list_in-returns-in_err-store_elements-clause-follows g t c = λ k.
     let size = c.size.ensures ∙ ap (λ (u : ValType). min (laid u).size (2 ^ 64)) c.laid-laid.ensures in
     let plan : Plan = asked (length all) c.align.result (length all * c.size.result) (elements_at enter e all k) in
     let whole : Plan = list_in (part_at c.args.t.now.val_type 0) (map (lowered enter) all) k in
-    let rest : Plan = elements_from e c.from.result (map (lowered enter) all) (k c.in_ok-place.place) in
+    let rest : Plan = elements_from e c.from-at.result (map (lowered enter) all) (k c.in_ok-place.place) in
     rw (p.1, p.2)
     (stops rooms {A = Unit {0}} whole rest (λ x. k c.in_ok-place.place) k start (g.B.Beside.state c.ask.new.room c.args.beside.now) (g.B.Beside.state c.store_elements.new.room c.store_elements.new.beside) c.in_err-store_elements.field-0.0
     (λ came after f.
     same rooms whole plan start (list_asked enter (part_at c.args.t.now.val_type 0) e all c.align.result c.size.result k there align size) came after
     (c.in_ok-place.ensures.follows c.args.home.now.task c.args.t.now.types (elements_at enter e all k) came after
     (same rooms (elements_at enter e all k c.in_ok-place.place) rest (g.B.Beside.state c.ask.new.room c.args.beside.now)
-    (ap (λ (n : ℕ). elements_from e n (map (lowered enter) all) (k c.in_ok-place.place)) (sym c.from.ensures)) came after f)))
+    (ap (λ (n : ℕ). elements_from e n (map (lowered enter) all) (k c.in_ok-place.place)) (sym c.from-at.ensures)) came after f)))
     (runs_among g.B.Beside.memory g.B.Beside.answers g.B.Beside.wrote (g.B.Beside.adds c.args.home.now.task) c.in-Some.element.types c.args.t.now.types among {A = Unit {0}} rest (λ x. k c.in_ok-place.place) (g.B.Beside.state c.ask.new.room c.args.beside.now) (g.B.Beside.state c.store_elements.new.room c.store_elements.new.beside)
     (Err c.in_err-store_elements.field-0.0) (c.in_err-store_elements.ensures.follows (k c.in_ok-place.place))))
 
@@ -91,11 +91,11 @@ list_in-returns-clause-follows g t c = λ k came after f.
     let size = c.size.ensures ∙ ap (λ (u : ValType). min (laid u).size (2 ^ 64)) c.laid-laid.ensures in
     let plan : Plan = asked (length all) c.align.result (length all * c.size.result) (elements_at enter e all k) in
     let whole : Plan = list_in (part_at c.args.t.now.val_type 0) (map (lowered enter) all) k in
-    let rest : Plan = elements_from e c.from.result (map (lowered enter) all) (k c.in_ok-place.place) in
+    let rest : Plan = elements_from e c.from-at.result (map (lowered enter) all) (k c.in_ok-place.place) in
     same rooms whole plan start (list_asked enter (part_at c.args.t.now.val_type 0) e all c.align.result c.size.result k there align size) came after
     (c.in_ok-place.ensures.follows c.args.home.now.task c.args.t.now.types (elements_at enter e all k) came after
     (same rooms (elements_at enter e all k c.in_ok-place.place) rest (g.B.Beside.state c.ask.new.room c.args.beside.now)
-    (ap (λ (n : ℕ). elements_from e n (map (lowered enter) all) (k c.in_ok-place.place)) (sym c.from.ensures)) came after
+    (ap (λ (n : ℕ). elements_from e n (map (lowered enter) all) (k c.in_ok-place.place)) (sym c.from-at.ensures)) came after
     (leads_among g.B.Beside.memory g.B.Beside.answers g.B.Beside.wrote (g.B.Beside.adds c.args.home.now.task) c.in-Some.element.types c.args.t.now.types among rest (k c.in_ok-place.place) (g.B.Beside.state c.ask.new.room c.args.beside.now) (g.B.Beside.state c.store_elements.new.room c.store_elements.new.beside)
     (c.in_ok-store_elements.ensures.follows (k c.in_ok-place.place)) came after f)))
 
@@ -458,10 +458,10 @@ store_layer-returns-in-Flags-clause-follows g t c = λ k came after f.
     let flags = c.in-Flags.flags in
     let h = by_layers type c.args.value.now (V.Flags flags) c.requires.fits (out_flags c.args.value.now flags c.in-Flags.is) in
     let s = flags_size type flags h in
-    same rooms (store_case enter (layer_of enter c.args.value.now) type c.args.place k) (Put c.args.place (number_bytes c.align.result c.flags_number.result) k) start
+    same rooms (store_case enter (layer_of enter c.args.value.now) type c.args.place k) (Put c.args.place (number_bytes c.align.result c.flags_number-number.result) k) start
     (ap (λ (w : V.Value-F Lowered). store_case enter w type c.args.place k) (layer_flags enter c.args.value.now flags c.in-Flags.is)
     ∙ ap (λ (n : ℕ). Put c.args.place (number_bytes n (flags_number flags)) k) (sym (c.align.ensures.value ∙ ap (λ (u : ValType). (laid u).align) c.laid-laid.ensures ∙ s.1))
-    ∙ ap (λ (n : ℕ). Put c.args.place (number_bytes c.align.result n) k) (sym (c.flags_number.ensures ∙ ap flags_number c.as_slice-in-Flags.ensures))) came after
+    ∙ ap (λ (n : ℕ). Put c.args.place (number_bytes c.align.result n) k) (sym (c.flags_number-number.ensures ∙ ap flags_number c.as_slice-in-Flags.ensures))) came after
     (c.put_number.ensures.leads c.args.home.now.task c.args.t.now.types k came after f)
 
 pub store_layer-returns-in-Own-clause-follows : goal.store_layer-returns-in-Own-clause-follows
