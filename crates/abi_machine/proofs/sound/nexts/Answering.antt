@@ -204,7 +204,7 @@ subtask_cancel_next g t i number words w named called =
     subtask_next w callee _ (named_guest w i (slice_index words 0) callee named (subtask_there w i (slice_index words 0) callee e)) (λ task subtask at guest.
     unless_next t (is_over subtask.told) trap.Delivered w _ (λ j.
     unless_next t (not (is_unasked task.cancellation)) trap.Asked w _ (λ k.
-    either_next (has_resolved task) _ _ (λ over. tt) (λ open. cancelled_next g callee task Back (in_state t (AfterCancel callee number words) w) (guest_runs callee task subtask (called callee task at) guest))))))
+    either_next (has_resolved task) _ _ (λ over. tt) (λ left. cancelled_next g callee task Back (in_state t (AfterCancel callee number words) w) (guest_runs callee task subtask (called callee task at) guest))))))
 
 subtask_drop_next : (t i index : ℕ) (w : World) → AllByRecursion (NamesWhatIsThere w.tasks) w.insts → HasNext (subtask_drop_turn t i index w)
 unfolding subtask_drop_turn
