@@ -22,6 +22,8 @@ use Rattle.res_handles.specs.declared.entry.EntryView.TheVariants as seen
 use Rattle.res_handles.specs.declared.refusal.Refusal.{Refusal}
 use Rattle.res_handles.specs.declared.refusal.Refusal.TheVariants.{OtherType, Lent}
 use Rattle.res_handles.specs.Refusals.{handle_in, dropped_in, that_is, unlent}
+use Rattle.handle_table.specs.History.{next_index}
+use Rattle.waitables.specs.Sets.{drop_answer}
 use Rattle.tasks.specs.declared.event.Asked.{Asked}
 use Rattle.tasks.specs.declared.event.Asked.TheVariants.{Removed, ResumeNow, Pending}
 use Rattle.tasks.specs.Subtasks.{is_over}
@@ -52,14 +54,14 @@ use Rattle.trace_show.specs.declared.trap.TrapName.TheVariants as trap
 use Rattle.abi_machine.specs.Traps.{task_name, renamed, refusal_name, set_name}
 use Rattle.abi_machine.specs.Control.{EndRef, Replies, InWait, Control, Back}
 use Rattle.abi_machine.specs.World.{Entry, OwnHandle, BorrowHandle, OfSubtask, OfSet, OfEnd, Inst, Callee, Init, Func, Destroys, Subtask, Caller, Nobody, TaskState, New, Acting, AfterCall, AfterCancel, Begins, WaitsToEnter, InLoop, InBuiltin, Exited, Channel, Task, World}
-use Rattle.abi_machine.specs.Edits.{entry_removed, entry_added, in_state, channel_made, concluded, left_set, end_dropped}
+use Rattle.abi_machine.specs.Edits.{entry_removed, entry_added, set_made, in_state, channel_made, concluded, left_set, end_dropped}
 use Rattle.abi_machine.specs.Canons.{func_address, memory_of, bytes_of, canon_at, options_at, builtin_of, lifted_of, resource_at, destructor_of}
 use Rattle.abi_machine.specs.Reading.{table_of, entry_at, acting, func_of, task_at, subtask_of, has_exited, is_instantiated, is_reentrant, may_leave, channels, channel_at, sets_in, backpressure_of}
 use Rattle.abi_machine.specs.Counting.{passes, view_at, task_view, has_resolved, end_of, ready, payload_of}
 use Rattle.abi_machine.specs.Gate.{is_entry_free}
 use Rattle.abi_machine.specs.SameTypes.{same_held}
 use Rattle.abi_machine.specs.Finding.{subtask_at, set_at, waitable_at, same_side, same_kind, is_of_type, typed_end, end_in, end_at}
-use Rattle.abi_machine.specs.Turn.{Turn, given, unless, replied}
+use Rattle.abi_machine.specs.Turn.{Turn, given, unless, replied, with_entry}
 use Rattle.abi_machine.specs.Returning.{result_passed, resolves}
 use Rattle.abi_machine.specs.Calling.{with_subtask_of}
 use Rattle.abi_machine.specs.Delivering.{received_cancel, yield_cancelled}
@@ -238,7 +240,7 @@ wait_turn_next g t task i op number words w runs =
 
 set_drop_next : (t i index : ℕ) (w : World) → HasNext (set_drop_turn t i index w)
 unfolding set_drop_turn
-set_drop_next t i index w = refused_next t (set_at w i index) w _ (λ set e. refused_next t _ w _ (λ done k. tt))
+set_drop_next t i index w = refused_next t (set_at w i index) w _ (λ set e. refused_next t (renamed set_name (drop_answer (view_of_set w i index set))) w (λ done. replied t [] (entry_removed i index w)) (λ done k. tt))
 
 joins_next : (t i index other : ℕ) (w : World) → HasNext (joins t i index other w)
 unfolding joins
@@ -381,14 +383,19 @@ end_drop_next t i kind side element index w =
 
 new_ends_next : (t i : ℕ) (kind : EndKind) (element : Option ValType) (w : World) → HasNext (channel_new_turn t i kind element w)
 unfolding channel_new_turn ends_added
-new_ends_next t i kind element w = entry_next t i _ (channel_made kind element w) _ (entry_next t i _ _ _ tt)
+new_ends_next t i kind element w =
+    let v : World = channel_made kind element w in
+    let readable : Entry = OfEnd (end_ref kind (length (channels kind w) + 1) Reader) in
+    let writable : Entry = OfEnd (end_ref kind (length (channels kind w) + 1) Writer) in
+    let both : ℕ → World → Turn = λ first u. with_entry t i writable u (λ second x. replied t (both_indices first second ∷ []) x) in
+    entry_next t i readable v both (entry_next t i writable (entry_added i readable v) (λ second x. replied t (both_indices (next_index (table_of v i)) second ∷ []) x) tt)
 
 -- All of them.
 
 resource_next : (g : Graph) (t i number : ℕ) (op : ResourceOp) (resource : ℕ) (words : List ℕ) (w : World) → exempt_kind t words i (builtin.Resource op resource) ≡ None → NamesResource g (builtin.Resource op resource) → HasDestructors g w.store
     → HasNext (resource_turn g t i number op resource words w)
 unfolding resource_turn resource_new_turn
-resource_next g t i number resource_op.New resource words w none names destructors = entry_next t i (OwnHandle resource (slice_index words 0)) w _ tt
+resource_next g t i number resource_op.New resource words w none names destructors = entry_next t i (OwnHandle resource (slice_index words 0)) w (λ index v. replied t (index ∷ []) v) tt
 resource_next g t i number resource_op.Drop resource words w none names destructors = drop_next g t i number resource words w names destructors
 resource_next g t i number resource_op.Rep resource words w none names destructors = cc
 
@@ -401,7 +408,7 @@ plain_next g t task i number plain.BackpressureDec words w named called = unless
 plain_next g t task i number (plain.SubtaskCancel is_async) words w named called = subtask_cancel_next g t i number words w named called
 plain_next g t task i number plain.SubtaskDrop words w named called = subtask_drop_next t i (slice_index words 0) w named
 plain_next g t task i number (plain.Yield cancellable) words w named called = yield_next t task number cancellable words w
-plain_next g t task i number plain.WaitableSetNew words w named called = entry_next t i (OfSet (length (sets_in (slice_get w.insts i)))) w _ tt
+plain_next g t task i number plain.WaitableSetNew words w named called = entry_next t i (OfSet (length (sets_in (slice_get w.insts i)))) w (λ index v. replied t (index ∷ []) (set_made i v)) tt
 plain_next g t task i number plain.WaitableSetDrop words w named called = set_drop_next t i (slice_index words 0) w
 plain_next g t task i number plain.WaitableJoin words w named called = join_next t i (slice_index words 0) (slice_index words 1) w
 

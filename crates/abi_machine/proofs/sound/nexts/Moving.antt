@@ -1,7 +1,7 @@
 -- What comes next where core code makes moves, tasks resolve and exit, values are lowered, and a graph is instantiated.
 use Rattle.std.proofs.Common.{◌≡◌, ◌∙◌, ℕ, Bool, true, false, nat_eq, arith, List, [], ◌∷◌, drop, refl, sym, ap, subst, Option, Some, None, Result, Ok, Err, if◌then◌else◌}
 use Rattle.std.proofs.lemmas.Bool.Decides.{nat_tests}
-use Rattle.std.specs.Prelude.{IsSome, IfSome}
+use Rattle.std.specs.Prelude.{IsSome, IfSome, is_none}
 use Rattle.std.specs.Option.{option_map}
 use Rattle.std.specs.List.{slice_get}
 use Rattle.wasm_store.specs.Store.{Store, Function, found_at}
@@ -33,18 +33,19 @@ use Rattle.script_reader.specs.Script.{Script}
 use Rattle.trace_show.specs.declared.label.Label.TheVariants as line
 use Rattle.trace_show.specs.declared.typed.TypedValue.{TypedValue}
 use Rattle.trace_show.specs.declared.trap.TrapName.{TrapName}
-use Rattle.abi_machine.specs.Traps.{task_name}
+use Rattle.trace_show.specs.declared.trap.TrapName.TheVariants as trap
+use Rattle.abi_machine.specs.Traps.{task_name, core_name}
 use Rattle.abi_machine.specs.LoweringOver.{Plan}
-use Rattle.abi_machine.specs.Control.{After, Replies, Finishes, Then, Starts, Resolves, Transfers, Copying, Lowering, HostedState, Going, AtCall, Nested, Behind, InLowering, BeforeLeaving, Quiet, Lowers}
+use Rattle.abi_machine.specs.Control.{After, Replies, Finishes, Then, Starts, Resolves, Transfers, Copying, Lowering, HostedState, Going, AtCall, Nested, Behind, InLowering, BeforeLeaving, Quiet, Lowers, Leaves}
 use Rattle.abi_machine.specs.World.{Caller, Nobody, Host, Guest, TaskState, New, Acting, AfterCall, AfterCancel, Begins, WaitsToEnter, InLoop, InBuiltin, Exited, Channel, Task, World}
 use Rattle.abi_machine.specs.Edits.{rewritten, resolved, result_kept, unstacked, with_stack, lent}
-use Rattle.abi_machine.specs.Canons.{func_address, canon_at, inst_of_canon, externals, bytes_of}
+use Rattle.abi_machine.specs.Canons.{func_address, canon_at, builtin_of, inst_of_canon, externals, bytes_of}
 use Rattle.abi_machine.specs.Reading.{table_of, acting, func_of, kind_of, channels, channel_at}
 use Rattle.abi_machine.specs.Counting.{task_view}
 use Rattle.abi_machine.specs.Lifting.{Kept, Stopped, Came, once_lifted}
 use Rattle.abi_machine.specs.Finding.{set_at}
 use Rattle.abi_machine.specs.Pausing.{Paused, Words, Failed, Asked, Settled, settle}
-use Rattle.abi_machine.specs.Turn.{Turn, given}
+use Rattle.abi_machine.specs.Turn.{Turn, given, silent, doomed}
 use Rattle.abi_machine.specs.Instantiating.{started_up, made, action_turn, instantiating_turn}
 use Rattle.abi_machine.specs.Returning.{result_passed, post_return, finished, passed_to, passed_on, resolves_to, resolves, returning_turn, ending_turn, leaving_turn}
 use Rattle.abi_machine.specs.Looping.{next_turn, looping_turn}
@@ -125,7 +126,7 @@ resolving_next g task after i limit type options words t f store w called there 
 
 ending_next : (t : ℕ) (task : Task) (w : World) → HasNext (ending_turn t task w)
 unfolding ending_turn
-ending_next t task w = unless_next t _ _ w _ (λ e. tt)
+ending_next t task w = unless_next t (is_none task.resolution) trap.Unresolved w (silent Leaves w) (λ e. tt)
 
 word_next : (t : ℕ) (task : Task) (i word : ℕ) (r : Result Next BadCode) (w : World) → HasNext (next_turn t task i word r w)
 unfolding next_turn
@@ -220,10 +221,13 @@ lowered_next (Resolves to after) words t task f w first at runs there post due =
 lowered_next (Transfers copying) words t task f w first at runs there post due = transferring_next copying t task w first at due
 
 -- the function that gives places stands where memories are written
+abbrev at_address : ℕ → Option Function → Option (ℕ × Function)
+at_address address o = option_map (λ x. (address, x)) o
+
 realloc_there : (m : Option (ℕ × MemoryState)) (bytes : List ℕ) (s : Store) (o : Option ℕ) → IsSome o → ((address : ℕ) → o ≡ Some address → (f : Function) × (slice_get s.funcs address ≡ Some f)) → IsSome (found_at (rewritten m bytes s).funcs o)
 realloc_there m bytes s None some there = cc
-realloc_there None bytes s (Some address) some there = (let f = there address refl in subst (λ (o : Option Function). IsSome (option_map (λ (x : Function). (address, x)) o)) (sym f.1) refl)
-realloc_there (Some m) bytes s (Some address) some there = (let f = there address refl in subst (λ (o : Option Function). IsSome (option_map (λ (x : Function). (address, x)) o)) (sym f.1) refl)
+realloc_there None bytes s (Some address) some there = (let f = there address refl in subst (λ (o : Option Function). IsSome (at_address address o)) (sym f.1) refl)
+realloc_there (Some m) bytes s (Some address) some there = (let f = there address refl in subst (λ (o : Option Function). IsSome (at_address address o)) (sym f.1) refl)
 
 paused_next : (l : Lowering) (p : Paused) (w : World) → AsksAt l p → (IsSome l.realloc → IsSome (found_at w.store.funcs l.realloc)) → ((words : List ℕ) → HasNext (lowered l.next words w)) → HasNext (paused l p w)
 unfolding paused
@@ -266,7 +270,7 @@ refused_or_next n b k (Some exempt) w = in_place_next n b k (exempt w) w
 calls_host_next : (n : Nested) (b : Behind) (k : Stack) (words : List ℕ) (c : CanonFunc) (w : World) → inst_of_canon c ≡ n.inst → HasNext (calls_host n b k words c w)
 unfolding calls_host
 calls_host_next n b k words c w same =
-    either_next (nat_eq (inst_of_canon c) n.inst) _ _ (λ e. behind_next _ _ (refused_or_next n b k (exempt_of n.acts_for words c) w))
+    either_next (nat_eq (inst_of_canon c) n.inst) _ _ (λ e. behind_next (line.Do n.acts_for (builtin_of c) words ∷ []) (answered_or_refused n b k (exempt_of n.acts_for words c) w) (refused_or_next n b k (exempt_of n.acts_for words c) w))
     (λ e. let yes : nat_eq (inst_of_canon c) n.inst ≡ true = grind (arith, nat_tests, same) in cc)
 
 owner_is : (o : Option CanonFunc) (inst : ℕ) (f : CanonFunc → Turn) → option_map inst_of_canon o ≡ Some inst → ((c : CanonFunc) → inst_of_canon c ≡ inst → HasNext (f c)) → HasNext (given o f)
@@ -278,7 +282,7 @@ unfolding hosted
 by_move_next g s n b k store (Goes paid t l) w is gives = charged_next paid s w _ (λ units. tt)
 by_move_next g s n b k store (core.Calls number words l) w is gives = charged_next (costs k (core.Calls number words l)) s w _ (λ units. tt)
 by_move_next g s n b k store (core.Ends words) w is gives = nested_ended_next b words w gives
-by_move_next g s n b k store (Traps why) w is gives = charged_next true s w _ (λ units. tt)
+by_move_next g s n b k store (Traps why) w is gives = charged_next true s w (λ v. doomed n.blame (core_name why) v) (λ units. tt)
 by_move_next g s n b k store core.Stuck w is gives = absurd is
 
 hosted_next_is : (g : Graph) (s : Script) (n : Nested) (b : Behind) (state : HostedState) (w : World) → IsHostedBy g n.inst state → HostedOn b w.store state → HasNext (hosted g s n b (hosted_next state w.store) w)

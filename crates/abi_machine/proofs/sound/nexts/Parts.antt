@@ -78,7 +78,7 @@ came_next t (Ok x) more h = behind_next x.1.lines (more x.0 x.1.world) (h x.0 x.
 came_next t (Err stop) more h = tt
 
 -- The acting task.
-acts_found : (P : Outline → Type 0) (w : World) → OneActs P (outlines_of w.tasks) w.chain → (t : ℕ) × (task : Task) × IsFirst t w.chain × (slice_get w.tasks t ≡ Some task) × P (outline_of task)
+pub acts_found : (P : Outline → Type 0) (w : World) → OneActs P (outlines_of w.tasks) w.chain → (t : ℕ) × (task : Task) × IsFirst t w.chain × (slice_get w.tasks t ≡ Some task) × P (outline_of task)
 acts_found P w h = let x = outline_back w.tasks h.0 h.1.1.0 h.1.1.1 in (h.0, x.0, h.1.0, x.1, subst P (sym x.2) h.1.1.2)
 
 pub found_by : {A : Type 0} (xs : List A) (o : Option ℕ) (n : ℕ) (x : A) → o ≡ Some n → slice_get xs n ≡ Some x → found_at xs o ≡ Some (n, x)

@@ -36,11 +36,11 @@ use Rattle.abi_machine.proofs.sound.nexts.Answering.{AnswersBy, cancelled_next, 
 
 find_passes : {A : Type 0} (test : A → Bool) (xs : List A) (x : A) → find test xs ≡ Some x → test x ≡ true
 find_passes test [] x e = cc
-find_passes {A} test (y ∷ xs) x e = by (test y) refl e
+find_passes {A} test (y ∷ xs) x e = by (test y) refl e (λ k. find_passes test xs x k)
   where
-    by : (b : Bool) → test y ≡ b → (if b then Some y else find test xs) ≡ Some x → test x ≡ true
-    by true is k = subst (λ (z : A). test z ≡ true) (some_same k) is
-    by false is k = find_passes test xs x k
+    by : (b : Bool) → test y ≡ b → (if b then Some y else find test xs) ≡ Some x → (find test xs ≡ Some x → test x ≡ true) → test x ≡ true
+    by true is k others = subst (λ (z : A). test z ≡ true) (some_same k) is
+    by false is k others = others k
 
 -- A task that the script called runs a function.
 hosted_runs : (n call : ℕ) (task : Task) → IsCalledAs n task → is_call_of call task.caller ≡ true → IsSome (func_of task.callee)

@@ -23,15 +23,15 @@ use Rattle.trace_show.specs.declared.label.Label.TheVariants as line
 use Rattle.trace_show.specs.declared.label.BlockReason.TheVariants as reason
 use Rattle.abi_machine.specs.Control.{EndRef, EventCode, SubtaskEvent, Receiver, InWait, InCallback, Goes as GoesOn, Delivers}
 use Rattle.abi_machine.specs.World.{Entry, OwnHandle, BorrowHandle, OfSubtask, OfSet, OfEnd, Inst, Callee, Subtask, Caller, Nobody, Host, Guest, Wait, ForYield, ForSet, ForCall, ForCopy, ForCancel, TaskState, New as IsNew, Acting, AfterCall, AfterCancel, Begins, WaitsToEnter, InLoop, InBuiltin, Exited, Task, World}
-use Rattle.abi_machine.specs.Edits.{changed_at, in_state}
+use Rattle.abi_machine.specs.Edits.{changed_at, in_state, told}
 use Rattle.abi_machine.specs.Canons.{func_address, canon_at, options_at, flag_at, kind_of_options}
 use Rattle.abi_machine.specs.Reading.{table_of, table_in, entry_at, members_of, acting, func_of, kind_of_func, task_at, subtask_of, is_reentrant}
-use Rattle.abi_machine.specs.Counting.{has_resolved, entry_has_event, has_news, news_of, ready}
+use Rattle.abi_machine.specs.Counting.{has_resolved, subtask_state, entry_has_event, has_news, news_of, ready}
 use Rattle.abi_machine.specs.Gate.{may_arrive}
 use Rattle.abi_machine.specs.Finding.{set_in, set_number, accepted, found_subtask, found_end}
-use Rattle.abi_machine.specs.Turn.{Turn, given, behind, blocked}
+use Rattle.abi_machine.specs.Turn.{Turn, given, behind, replied, blocked}
 use Rattle.abi_machine.specs.Entering.{with_arguments, arguments_passed, arguments_turn, entered, arriving_turn}
-use Rattle.abi_machine.specs.Calling.{call_begun, Told, subtask_told, call_resolved, call_open, back_from_call}
+use Rattle.abi_machine.specs.Calling.{call_begun, call_state, Told, subtask_told, call_resolved, call_open, back_from_call}
 use Rattle.abi_machine.specs.Delivering.{event_line, callback_started, received, received_none, received_cancel, nothing_told, cancel_told, end_told, event_of_end, entry_delivered, member_delivered, members_turn, delivering_turn, is_to_be_told, yield_cancelled, told_payload, told_result, wait_resumed, set_polled, next_resumed, loop_resumed, resumed, resuming_turn}
 use Rattle.abi_machine.specs.Cancelling.{cancel_open, back_from_cancel, back_to, back_turn}
 use Rattle.abi_machine.specs.sound.Changes.{IsFirst, IsGuest, IsBlocked}
@@ -87,7 +87,8 @@ call_next t number words callee f passed w = unless_next t (is_reentrant w f.ins
 
 open_next : (t i callee : ℕ) (task : Task) (is_async : Bool) (number : ℕ) (words : List ℕ) (w : World) → HasNext (call_open t i callee task is_async number words w)
 unfolding call_open
-open_next t i callee task true number words w = entry_next t i (OfSubtask callee) w _ tt
+open_next t i callee task true number words w =
+    entry_next t i (OfSubtask callee) w (λ index v. replied t (call_state task index ∷ []) (told callee (subtask_state task) v)) tt
 open_next t i callee task false number words w = tt
 
 cancel_open_next : (g : Graph) (t number : ℕ) (words : List ℕ) (w : World) → HasNext (cancel_open g t number words w)
@@ -176,19 +177,19 @@ delivered_next g t f receiver index None w event guest h = cc
 -- what holds of each of some numbers holds of one that is among them
 one_among : (P : ℕ → Type 0) (told : List ℕ) (index : ℕ) → AllByRecursion P told → is_one_of told index ≡ true → P index
 one_among P [] index all e = cc
-one_among P (x ∷ told) index all e = by (x == index) refl e
+one_among P (x ∷ told) index all e = by (x == index) refl e (λ k. one_among P told index all.1 k)
   where
-    by : (b : Bool) → (x == index) ≡ b → b || is_one_of told index ≡ true → P index
-    by true same k = let is : x ≡ index = grind (arith, nat_tests) in subst P is all.0
-    by false same k = one_among P told index all.1 k
+    by : (b : Bool) → (x == index) ≡ b → b || is_one_of told index ≡ true → (is_one_of told index ≡ true → P index) → P index
+    by true same k others = let is : x ≡ index = grind (arith, nat_tests) in subst P is all.0
+    by false same k others = others k
 
 all_passing : {A : Type 0} (p : A → Bool) (xs : List A) → AllByRecursion (λ x. p x ≡ true) (filter p xs)
 all_passing p [] = tt
-all_passing {A} p (x ∷ xs) = by (p x) refl
+all_passing {A} p (x ∷ xs) = by (p x) refl (all_passing p xs)
   where
-    by : (b : Bool) → p x ≡ b → AllByRecursion (λ (y : A). p y ≡ true) (if b then x ∷ filter p xs else filter p xs)
-    by true e = (e, all_passing p xs)
-    by false e = all_passing p xs
+    by : (b : Bool) → p x ≡ b → AllByRecursion (λ (y : A). p y ≡ true) (filter p xs) → AllByRecursion (λ (y : A). p y ≡ true) (if b then x ∷ filter p xs else filter p xs)
+    by true e others = (e, others)
+    by false e others = others
 
 news_both : (a b : Bool) → a && b ≡ true → a ≡ true
 news_both true b e = refl
