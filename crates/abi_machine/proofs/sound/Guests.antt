@@ -1,20 +1,18 @@
 -- What is cancelled was called by a task, and what is in its loop has a callback, in each step.
-use Rattle.std.proofs.Common.{◌≡◌, ◌∙◌, inl, inr, ℕ, zero, suc, List, [], ◌∷◌, ◌++◌, length, refl, sym, ap, subst, Option, Some, None}
+use Rattle.std.proofs.Common.{◌≡◌, inl, inr, ℕ, zero, suc, List, [], ◌∷◌, ◌++◌, length, refl, sym, subst, Some}
 use Rattle.std.specs.Prelude.{IsSome}
 use Rattle.std.specs.List.{slice_get}
-use Rattle.entry_gate.specs.declared.kind.Kind.{Kind}
-use Rattle.entry_gate.specs.declared.kind.Kind.TheVariants.{Callback}
 use Rattle.tasks.specs.declared.phase.Resolution.TheVariants.{Cancelled}
 use Rattle.comp_graph.specs.Graph.{Graph}
 use Rattle.script_reader.specs.Script.{Script}
 use Rattle.abi_machine.specs.World.{Callee, Subtask, Caller, Nobody, Host, Guest, TaskState, New, Acting, AfterCall, AfterCancel, WaitsToEnter, InLoop, InBuiltin, Exited, Task, World, new_task}
 use Rattle.abi_machine.specs.World as world
 use Rattle.abi_machine.specs.Edits.{changed_at, caller_changed}
-use Rattle.abi_machine.specs.Reading.{func_of, kind_of, kind_of_func, subtask_of}
+use Rattle.abi_machine.specs.Reading.{subtask_of}
 use Rattle.abi_machine.specs.sound.Changes.{Change, GoesTo, HasStore, SpendsUnit, UsesPicks, TakesItem, BeginsInstance, AddsEntry, MakesSet, RemovesEntry, RemovesWaitable, LeavesSet, JoinsSet, HasBackpressure, IsCalled, Calls, ComesBack, Acts, Begins, Cancels, Blocks, Exits, IsRemoved, Resolves, IsCancelled, HasWord, HasNewStack, HasStack, LosesStack, IsAnswered, IsTold, IsLent, HasResult, MakesChannel, Offers, Transfers, Concludes, DropsEnd, after, IsGuest, IsBlocked}
 use Rattle.abi_machine.specs.sound.Premises.{BlocksFrom, Comes}
 use Rattle.abi_machine.specs.sound.Guests.{WaitsAs, WaitAs, FirstWaitsAs, WaitsAsStay}
-use Rattle.abi_machine.proofs.sound.Lists.{changed_either, more_either, get_front}
+use Rattle.abi_machine.proofs.sound.Lists.{more_either, get_front}
 use Rattle.abi_machine.proofs.sound.Found.{some_same, guest_changed}
 use Rattle.abi_machine.proofs.sound.Acted.{one_task}
 use Rattle.abi_machine.proofs.sound.Aside.{channel_kept, made_kept}

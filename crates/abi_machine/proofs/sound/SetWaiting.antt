@@ -1,6 +1,6 @@
 -- Tasks wait on sets that are there, and so they do in every step.
-use Rattle.std.proofs.Common.{◌≡◌, ◌⊎◌, inl, inr, ℕ, zero, suc, Bool, true, false, ◌&&◌, nat_eq, List, [], ◌∷◌, ◌++◌, length, refl, sym, ap, ◌∙◌, subst, Option, Some, None}
-use Rattle.std.specs.List.{slice_get, AllByRecursion}
+use Rattle.std.proofs.Common.{◌≡◌, inl, inr, ℕ, zero, suc, true, ◌&&◌, nat_eq, List, [], ◌∷◌, ◌++◌, length, refl, sym, ap, ◌∙◌, subst, Option, Some, None}
+use Rattle.std.specs.List.{slice_get}
 use Rattle.wasm_store.proofs.Lists.{all_at}
 use Rattle.handle_table.specs.History.{Event, IsHistory, live}
 use Rattle.tasks.specs.declared.phase.Resolution.TheVariants.{Cancelled}
@@ -10,12 +10,12 @@ use Rattle.abi_machine.specs.World.{Entry, OfSet, Inst, Host, Guest, ForSet, Tas
 use Rattle.abi_machine.specs.World as world
 use Rattle.abi_machine.specs.Edits.{changed_at}
 use Rattle.abi_machine.specs.Reading.{table_in, entry_at, func_of, runs_in}
-use Rattle.abi_machine.specs.Counting.{waits_on, waiters_of}
-use Rattle.abi_machine.specs.sound.Changes.{Change, GoesTo, HasStore, SpendsUnit, UsesPicks, TakesItem, BeginsInstance, AddsEntry, MakesSet, RemovesEntry, RemovesWaitable, LeavesSet, JoinsSet, HasBackpressure, IsCalled, Calls, ComesBack, Acts, Begins, Cancels, Blocks, Exits, IsRemoved, Resolves, IsCancelled, HasWord, HasNewStack, HasStack, LosesStack, IsAnswered, IsTold, IsLent, HasResult, MakesChannel, Offers, Transfers, Concludes, DropsEnd, after, Stands, MayCome}
+use Rattle.abi_machine.specs.Counting.{waits_on}
+use Rattle.abi_machine.specs.sound.Changes.{Change, GoesTo, HasStore, SpendsUnit, UsesPicks, TakesItem, BeginsInstance, AddsEntry, MakesSet, RemovesEntry, RemovesWaitable, LeavesSet, JoinsSet, HasBackpressure, IsCalled, Calls, ComesBack, Acts, Begins, Cancels, Blocks, Exits, IsRemoved, Resolves, IsCancelled, HasWord, HasNewStack, HasStack, LosesStack, IsAnswered, IsTold, IsLent, HasResult, MakesChannel, Offers, Transfers, Concludes, DropsEnd, after, MayCome}
 use Rattle.abi_machine.specs.sound.Tables.{HaveHistories}
 use Rattle.abi_machine.specs.sound.Acting.{Outline, outline_of}
 use Rattle.abi_machine.specs.sound.Loops.{HasSetAt}
-use Rattle.abi_machine.specs.sound.Owners.{owner_of_canon, CallsOwn, IsApart, IsOwnWorld}
+use Rattle.abi_machine.specs.sound.Owners.{owner_of_canon, CallsOwn, IsOwnWorld}
 use Rattle.abi_machine.specs.sound.SetWaits.{WaitsOnSet, HaveSets, FirstHasSets, SetsStay}
 use Rattle.abi_machine.proofs.sound.Lists.{more_either, get_front}
 use Rattle.abi_machine.proofs.sound.Found.{some_same}

@@ -1,7 +1,7 @@
 -- What comes next (Component Model, Concurrency.md, "Summary"): a step, or the end. No world of a run is stuck, in which a rule looks up
 -- what is not there. What the rules look up is said by control; most of it is there by what every step keeps, and what else has to be there is
 -- said here, for each control.
-use Rattle.std.specs.Prelude.{◌≡◌, ℕ, true, List, [], ◌∷◌, drop, Option, Some, None, IsSome, IfSome}
+use Rattle.std.specs.Prelude.{◌≡◌, ℕ, List, [], drop, Option, Some, IsSome, IfSome}
 use Rattle.std.specs.List.{slice_get}
 use Rattle.std.specs.Option.{unwrap_or}
 use Rattle.wasm_store.specs.Store.{Store, found_at}
@@ -9,9 +9,7 @@ use Rattle.wasm_store.specs.Stack.{Stack}
 use Rattle.wasm_store.specs.Step.{Move, Goes as GoesBy, Traps}
 use Rattle.wasm_store.specs.Step as core
 use Rattle.entry_gate.specs.declared.kind.Kind.TheVariants.{Callback}
-use Rattle.builtin_kinds.specs.declared.ResourceOp.{ResourceOp}
 use Rattle.builtin_kinds.specs.declared.ResourceOp.TheVariants as resource_op
-use Rattle.value_lower.specs.Plan.{Ask}
 use Rattle.comp_graph.specs.declared.graph.Action.TheVariants.{Make}
 use Rattle.comp_graph.specs.declared.graph.FuncRef.{FuncRef}
 use Rattle.comp_graph.specs.declared.graph.Resource.{Resource}
@@ -25,8 +23,8 @@ use Rattle.script_reader.specs.declared.script.Item.TheVariants as item
 use Rattle.script_reader.specs.Script.{Script}
 use Rattle.trace_show.specs.declared.label.Label.{Label}
 use Rattle.abi_machine.specs.LoweringOver.{Plan}
-use Rattle.abi_machine.specs.Control.{Lowering, HostedState, Going, AtCall, Nested, Behind, InLowering, BeforeLeaving, Receiver, InWait, InCallback, Control, Free, Chosen, Instantiates, Runs, Calls, Lowers, Quiet, Resumes, Delivers}
-use Rattle.abi_machine.specs.World.{Wait, ForSet, ForCopy, ForCancel, TaskState, InBuiltin, Task, World, first_world}
+use Rattle.abi_machine.specs.Control.{Lowering, HostedState, Going, AtCall, Behind, InLowering, BeforeLeaving, Receiver, InWait, InCallback, Control, Free, Chosen, Instantiates, Runs, Calls, Lowers, Quiet, Resumes, Delivers}
+use Rattle.abi_machine.specs.World.{Wait, ForCopy, ForCancel, TaskState, InBuiltin, Task, World, first_world}
 use Rattle.abi_machine.specs.Edits.{with_control}
 use Rattle.abi_machine.specs.Canons.{func_address, externals, bytes_of, canon_at, resource_at}
 use Rattle.abi_machine.specs.Reading.{table_of, func_of, kind_of}

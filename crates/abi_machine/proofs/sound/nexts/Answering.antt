@@ -1,5 +1,5 @@
 -- What comes next where a task calls a canonical function.
-use Rattle.std.proofs.Common.{◌≡◌, ◌∙◌, ℕ, zero, suc, ◌+◌, ◌-◌, ◌*◌, ◌%◌, ◌&&◌, Bool, true, false, not, min, nat_eq, nat_lt, nat_le, arith, List, [], ◌∷◌, length, refl, sym, ap, subst, Option, Some, None, Result, Ok, Err, if◌then◌else◌}
+use Rattle.std.proofs.Common.{◌≡◌, ◌∙◌, ℕ, zero, suc, ◌+◌, ◌*◌, ◌%◌, ◌&&◌, Bool, true, false, not, nat_eq, nat_lt, nat_le, arith, List, [], ◌∷◌, length, refl, sym, ap, subst, Option, Some, None, Result, Ok, Err, if◌then◌else◌}
 use Rattle.std.proofs.lemmas.Bool.Decides.{nat_tests}
 use Rattle.std.specs.Prelude.{IsSome, IfSome, slice_index}
 use Rattle.std.specs.List.{slice_get, AllByRecursion}
@@ -34,7 +34,6 @@ use Rattle.stream_ends.specs.declared.open_copy.By.TheVariants as copy_by
 use Rattle.stream_ends.specs.declared.open_copy.OpenCopy.{OpenCopy}
 use Rattle.stream_ends.specs.declared.stream_end.End.{End}
 use Rattle.stream_ends.specs.Ends.{EndsView, other_side, end_at as end_in_view, standing_of, is_copying, new_copy}
-use Rattle.stream_ends.specs.declared.meet.Meet.TheVariants as stream
 use Rattle.stream_ends.specs.Meeting.{Meeting, met, met_offer}
 use Rattle.future_ends.specs.Meeting as futures
 use Rattle.comp_graph.specs.declared.graph.FuncRef.{FuncRef}
@@ -53,18 +52,16 @@ use Rattle.trace_show.specs.declared.trap.TrapName.{TrapName}
 use Rattle.trace_show.specs.declared.trap.TrapName.TheVariants as trap
 use Rattle.abi_machine.specs.Traps.{task_name, renamed, refusal_name, set_name}
 use Rattle.abi_machine.specs.Control.{EndRef, Replies, InWait, Control, Back}
-use Rattle.abi_machine.specs.World.{Entry, OwnHandle, BorrowHandle, OfSubtask, OfSet, OfEnd, Inst, Callee, Init, Func, Destroys, Subtask, Caller, Nobody, TaskState, New, Acting, AfterCall, AfterCancel, Begins, WaitsToEnter, InLoop, InBuiltin, Exited, Channel, Task, World}
-use Rattle.abi_machine.specs.Edits.{entry_removed, entry_added, set_made, in_state, channel_made, concluded, left_set, end_dropped}
+use Rattle.abi_machine.specs.World.{Entry, OwnHandle, BorrowHandle, OfSubtask, OfSet, OfEnd, Func, Destroys, Subtask, Caller, Nobody, TaskState, New, Acting, AfterCall, AfterCancel, Begins, WaitsToEnter, InLoop, InBuiltin, Exited, Channel, Task, World}
+use Rattle.abi_machine.specs.Edits.{entry_removed, entry_added, set_made, in_state, channel_made}
 use Rattle.abi_machine.specs.Canons.{func_address, memory_of, bytes_of, canon_at, options_at, builtin_of, lifted_of, resource_at, destructor_of}
-use Rattle.abi_machine.specs.Reading.{table_of, entry_at, acting, func_of, task_at, subtask_of, has_exited, is_instantiated, is_reentrant, may_leave, channels, channel_at, sets_in, backpressure_of}
-use Rattle.abi_machine.specs.Counting.{passes, view_at, task_view, has_resolved, end_of, ready, payload_of}
+use Rattle.abi_machine.specs.Reading.{table_of, entry_at, func_of, subtask_of, has_exited, is_instantiated, is_reentrant, may_leave, channels, channel_at, sets_in, backpressure_of}
+use Rattle.abi_machine.specs.Counting.{passes, view_at, task_view, has_resolved, end_of, ready}
 use Rattle.abi_machine.specs.Gate.{is_entry_free}
 use Rattle.abi_machine.specs.SameTypes.{same_held}
 use Rattle.abi_machine.specs.Finding.{subtask_at, set_at, waitable_at, same_side, same_kind, is_of_type, typed_end, end_in, end_at}
-use Rattle.abi_machine.specs.Turn.{Turn, given, unless, replied, with_entry}
-use Rattle.abi_machine.specs.Returning.{result_passed, resolves}
-use Rattle.abi_machine.specs.Calling.{with_subtask_of}
-use Rattle.abi_machine.specs.Delivering.{received_cancel, yield_cancelled}
+use Rattle.abi_machine.specs.Turn.{Turn, replied, with_entry}
+use Rattle.abi_machine.specs.Delivering.{yield_cancelled}
 use Rattle.abi_machine.specs.Cancelling.{asked_turn, cancelled_turn}
 use Rattle.abi_machine.specs.Copying.{Met, AtOnce, Moves, Stands, stream_met, future_met, met_by, other_offer, read_of, write_of, is_within, elements_written, elements_read, moved_by, elements_moved, meeting_turn, meets}
 use Rattle.abi_machine.specs.replies.Context.{Exempt, Answers, exempt_kind, exempt_of}
@@ -75,18 +72,16 @@ use Rattle.abi_machine.specs.replies.Pressure.{most_backpressure, pressure_inc_t
 use Rattle.abi_machine.specs.replies.Waiting.{set_new_turn, none_ready, by_ready, event_size, event_align, is_cancelled, event_turn, wait_turn, view_of_set, set_drop_turn, joins, join_turn}
 use Rattle.abi_machine.specs.replies.Streams.{end_ref, both_indices, ends_added, channel_new_turn, placed_well, max_length, copy_turn, is_async_copy, copy_cancel_turn, is_unwritten, end_drop_turn}
 use Rattle.abi_machine.specs.Reply.{resource_turn, plain_turn, side_of, copy_size, end_turn, builtin_turn, reply, exempt_turn, allowed, calling_turn}
-use Rattle.abi_machine.specs.sound.Changes.{IsFirst, IsGuest}
+use Rattle.abi_machine.specs.sound.Changes.{IsFirst}
 use Rattle.abi_machine.specs.sound.Initial.{StartsNothing, InitRunsAlone}
-use Rattle.abi_machine.specs.sound.Agreeing.{channel_in}
-use Rattle.abi_machine.specs.sound.Numbers.{IsCallerBefore, IsCalledAs, Each, NamesWhatIsThere}
-use Rattle.abi_machine.specs.sound.OpenCopies.{IsHeld, AreHeld, HoldsCopies}
-use Rattle.abi_machine.specs.sound.Acting.{Outline, outline_of, outlines_of, RunsIn, IsRunning, OneActs}
+use Rattle.abi_machine.specs.sound.Numbers.{IsCalledAs, Each, NamesWhatIsThere}
+use Rattle.abi_machine.specs.sound.OpenCopies.{HoldsCopies}
+use Rattle.abi_machine.specs.sound.Acting.{outlines_of, RunsIn, IsRunning, OneActs}
 use Rattle.abi_machine.specs.sound.GoingOn.{HasNext, IsFuncThere, HasDestructors, NamesResource, NamesThere, IsCallable}
 use Rattle.abi_machine.proofs.sound.Found.{some_same, ok_same, renamed_ok}
 use Rattle.abi_machine.proofs.sound.Entries.{right_true}
 use Rattle.abi_machine.proofs.sound.Due.{channel_is}
 use Rattle.abi_machine.proofs.sound.known.Handles.{subtask_there}
-use Rattle.abi_machine.proofs.sound.own.Belonging.{if_there}
 use Rattle.abi_machine.proofs.sound.nexts.Parts.{given_next, found_next, behind_next, either_next, unless_next, refused_next, fault_next, entry_next, came_next, acting_next, subtask_next, HasCaller}
 use Rattle.abi_machine.proofs.sound.nexts.Waking.{call_next, none_next, cancel_next, named_guest}
 use Rattle.abi_machine.proofs.sound.nexts.Moving.{resolving_next}

@@ -1,5 +1,5 @@
 -- What comes next where core code makes moves, tasks resolve and exit, values are lowered, and a graph is instantiated.
-use Rattle.std.proofs.Common.{◌≡◌, ◌∙◌, ℕ, Bool, true, false, nat_eq, arith, List, [], ◌∷◌, drop, refl, sym, ap, subst, Option, Some, None, Result, Ok, Err, if◌then◌else◌}
+use Rattle.std.proofs.Common.{◌≡◌, ◌∙◌, ℕ, Bool, true, nat_eq, arith, List, [], ◌∷◌, drop, refl, sym, subst, Option, Some, None, Result, Ok, Err}
 use Rattle.std.proofs.lemmas.Bool.Decides.{nat_tests}
 use Rattle.std.specs.Prelude.{IsSome, IfSome, is_none}
 use Rattle.std.specs.Option.{option_map}
@@ -19,9 +19,6 @@ use Rattle.entry_gate.specs.declared.kind.Kind.{Kind}
 use Rattle.entry_gate.specs.declared.kind.Kind.TheVariants.{Sync, Callback, Stackful}
 use Rattle.tasks.specs.declared.phase.Resolution.TheVariants.{Returned}
 use Rattle.tasks.specs.Tasks.{resolving_fault}
-use Rattle.value_lower.specs.Plan.{Ask}
-use Rattle.builtin_kinds.specs.declared.EndKind.{EndKind}
-use Rattle.builtin_kinds.specs.declared.EndKind.TheVariants.{Stream, Future}
 use Rattle.comp_graph.specs.declared.graph.Action.{Action}
 use Rattle.comp_graph.specs.declared.graph.Action.TheVariants.{Begin, Make}
 use Rattle.comp_graph.specs.declared.graph.FuncRef.{FuncRef}
@@ -36,11 +33,11 @@ use Rattle.trace_show.specs.declared.trap.TrapName.{TrapName}
 use Rattle.trace_show.specs.declared.trap.TrapName.TheVariants as trap
 use Rattle.abi_machine.specs.Traps.{task_name, core_name}
 use Rattle.abi_machine.specs.LoweringOver.{Plan}
-use Rattle.abi_machine.specs.Control.{After, Replies, Finishes, Then, Starts, Resolves, Transfers, Copying, Lowering, HostedState, Going, AtCall, Nested, Behind, InLowering, BeforeLeaving, Quiet, Lowers, Leaves}
-use Rattle.abi_machine.specs.World.{Caller, Nobody, Host, Guest, TaskState, New, Acting, AfterCall, AfterCancel, Begins, WaitsToEnter, InLoop, InBuiltin, Exited, Channel, Task, World}
-use Rattle.abi_machine.specs.Edits.{rewritten, resolved, result_kept, unstacked, with_stack, lent}
+use Rattle.abi_machine.specs.Control.{After, Replies, Finishes, Then, Starts, Resolves, Transfers, Copying, Lowering, HostedState, Going, AtCall, Nested, Behind, InLowering, BeforeLeaving, Leaves}
+use Rattle.abi_machine.specs.World.{Caller, Nobody, Host, Guest, TaskState, New, Acting, AfterCall, AfterCancel, Begins, WaitsToEnter, InLoop, InBuiltin, Exited, Task, World}
+use Rattle.abi_machine.specs.Edits.{rewritten, resolved, result_kept, unstacked}
 use Rattle.abi_machine.specs.Canons.{func_address, canon_at, builtin_of, inst_of_canon, externals, bytes_of}
-use Rattle.abi_machine.specs.Reading.{table_of, acting, func_of, kind_of, channels, channel_at}
+use Rattle.abi_machine.specs.Reading.{table_of, acting, func_of, kind_of, channel_at}
 use Rattle.abi_machine.specs.Counting.{task_view}
 use Rattle.abi_machine.specs.Lifting.{Kept, Stopped, Came, once_lifted}
 use Rattle.abi_machine.specs.Finding.{set_at}
@@ -53,19 +50,17 @@ use Rattle.abi_machine.specs.CoreSteps.{costs, func_ended, stack_ended, ended_ov
 use Rattle.abi_machine.specs.Copying.{transferring_turn}
 use Rattle.abi_machine.specs.Lowering.{started, lowered, paused, left_by, settled_turn, lowers_turn}
 use Rattle.abi_machine.specs.replies.Context.{Exempt, Answers, exempt_of}
-use Rattle.abi_machine.specs.Nested.{HostedTurn, hosted_move, hosted_next, nested_ended, answered_in_place, answered_or_refused, calls_host, hosted, nested_turn}
-use Rattle.abi_machine.specs.sound.Changes.{IsFirst, Stands}
-use Rattle.abi_machine.specs.sound.Premises.{IsTaken}
+use Rattle.abi_machine.specs.Nested.{hosted_move, hosted_next, nested_ended, answered_in_place, answered_or_refused, calls_host, hosted, nested_turn}
+use Rattle.abi_machine.specs.sound.Changes.{IsFirst}
 use Rattle.abi_machine.specs.sound.Firsts.{TaskIs}
-use Rattle.abi_machine.specs.sound.Agreeing.{channel_in, IsDueAt, IsDueBehind}
-use Rattle.abi_machine.specs.sound.Acting.{Outline, outline_of, outlines_of, RunsIn, IsRunning, IsActing, OneActs}
-use Rattle.abi_machine.specs.sound.Owners.{owner_of_canon, IsOwned, IsHostedBy, HasOwnRealloc}
+use Rattle.abi_machine.specs.sound.Agreeing.{IsDueBehind}
+use Rattle.abi_machine.specs.sound.Acting.{Outline, outlines_of, RunsIn, IsRunning, IsActing, OneActs}
+use Rattle.abi_machine.specs.sound.Owners.{IsHostedBy, HasOwnRealloc}
 use Rattle.abi_machine.specs.sound.GoingOn.{HasNext, IsFuncThere, AreFuncsThere, HaveFuncs, IsMakeable, IsMove, EndsWithWord, RunsOn, GivesPlace, HostedOn, AsksAt, AsksOf}
 use Rattle.abi_machine.proofs.sound.Lifts.{Leaves as LeavesWith}
 use Rattle.abi_machine.proofs.sound.Acted.{still_is}
 use Rattle.abi_machine.proofs.sound.Due.{channel_is}
 use Rattle.abi_machine.proofs.sound.Found.{some_there, some_same}
-use Rattle.abi_machine.proofs.sound.known.Handles.{IsHandle}
 use Rattle.abi_machine.proofs.sound.known.Lifting.{result_keeps}
 use Rattle.abi_machine.proofs.sound.nexts.Parts.{given_next, found_next, behind_next, either_next, unless_next, refused_next, fault_next, charged_next, acts_found, found_by, acting_next, HasCaller, there_rewritten, if_there_rewritten}
 

@@ -1,12 +1,11 @@
 -- A step or an end comes next: where something is looked up that is there, behind lines, by tests, and for the acting task.
-use Rattle.std.proofs.Common.{◌≡◌, ◌∙◌, ℕ, zero, suc, ◌+◌, Bool, true, false, List, [], ◌∷◌, refl, sym, ap, subst, Option, Some, None, Result, Ok, Err, if◌then◌else◌}
+use Rattle.std.proofs.Common.{◌≡◌, ◌∙◌, ℕ, zero, suc, ◌+◌, Bool, true, false, List, refl, sym, ap, subst, Option, Some, None, Result, Ok, Err, if◌then◌else◌}
 use Rattle.std.specs.Prelude.{IsSome, IfSome, nat_lt}
 use Rattle.std.specs.Option.{option_map}
 use Rattle.std.specs.List.{slice_get}
-use Rattle.wasm_store.specs.Store.{Store, Function, found_at}
+use Rattle.wasm_store.specs.Store.{Store, found_at}
 use Rattle.wasm_memory.specs.Memories.{MemoryState}
 use Rattle.handle_table.specs.History.{live_count, most_live, next_index}
-use Rattle.builtin_kinds.specs.declared.EndKind.{EndKind}
 use Rattle.comp_graph.specs.declared.graph.FuncRef.{FuncRef}
 use Rattle.comp_graph.specs.Graph.{Graph, Lifted}
 use Rattle.script_reader.specs.Script.{Script}
@@ -17,7 +16,7 @@ use Rattle.abi_machine.specs.declared.run_end.RunEnd.TheVariants.{Fuel}
 use Rattle.abi_machine.specs.Control.{Control}
 use Rattle.abi_machine.specs.World.{Entry, Callee, Init, Subtask, Caller, Nobody, Host, Guest, Task, World}
 use Rattle.abi_machine.specs.Edits.{rewritten, entry_added, unit_spent}
-use Rattle.abi_machine.specs.Canons.{func_address, canon_at}
+use Rattle.abi_machine.specs.Canons.{canon_at}
 use Rattle.abi_machine.specs.Reading.{table_of, acting, func_of, task_at, subtask_of}
 use Rattle.abi_machine.specs.Lifting.{Came, once_lifted}
 use Rattle.abi_machine.specs.Choosing.{chosen}
@@ -28,7 +27,6 @@ use Rattle.abi_machine.specs.sound.Callers.{IsByCanon}
 use Rattle.abi_machine.specs.sound.Numbers.{IsCallerBefore, IsCalledAs}
 use Rattle.abi_machine.specs.sound.Acting.{Outline, outline_of, outlines_of, OneActs}
 use Rattle.abi_machine.specs.sound.GoingOn.{HasNext, IsFuncThere}
-use Rattle.abi_machine.proofs.sound.Found.{some_there, some_same}
 use Rattle.abi_machine.proofs.sound.Outlines.{outline_back}
 
 -- Something is looked up.

@@ -1,10 +1,10 @@
 -- A step or an end comes next in each world of which holds what is kept, where what the rule of its control looks up is there.
-use Rattle.std.proofs.Common.{◌≡◌, ◌∙◌, ℕ, zero, suc, Bool, true, false, List, [], ◌∷◌, length, refl, sym, subst, Option, Some, None, if◌then◌else◌}
+use Rattle.std.proofs.Common.{◌≡◌, ℕ, zero, suc, Bool, true, false, List, [], ◌∷◌, length, refl, subst, Some, if◌then◌else◌}
 use Rattle.std.specs.Prelude.{IsSome}
 use Rattle.std.specs.List.{slice_get, find, AllByRecursion}
 use Rattle.wasm_store.proofs.Lists.{all_at}
 use Rattle.tasks.specs.Tasks.{may_cancel}
-use Rattle.comp_graph.specs.Graph.{Graph, Lifted, func_named}
+use Rattle.comp_graph.specs.Graph.{Graph, func_named}
 use Rattle.script_reader.specs.declared.script.Item.{Item}
 use Rattle.script_reader.specs.declared.script.Item.TheVariants as item
 use Rattle.script_reader.specs.Script.{Script}
@@ -13,7 +13,7 @@ use Rattle.abi_machine.specs.Control.{Control, Free, Chosen, Instantiates, Runs,
 use Rattle.abi_machine.specs.Control as control
 use Rattle.abi_machine.specs.World.{Caller, Nobody, Task, World}
 use Rattle.abi_machine.specs.Edits.{with_control, item_taken, chained}
-use Rattle.abi_machine.specs.Reading.{acting, func_of, with_numbers}
+use Rattle.abi_machine.specs.Reading.{func_of, with_numbers}
 use Rattle.abi_machine.specs.Counting.{task_view}
 use Rattle.abi_machine.specs.Cancelling.{cancelled_turn}
 use Rattle.abi_machine.specs.Scheduling.{Alternative, Takes, GoesOn as GoesOnTask, alternatives, is_call_of, task_of_call, call_taken, cancel_taken, item_turn, gone, going_turn, alternative_turn, one_of, free_turn, chosen_turn}
@@ -24,13 +24,13 @@ use Rattle.abi_machine.specs.sound.Numbers.{IsCalledAs, Each}
 use Rattle.abi_machine.specs.sound.Callers.{IsByCanon}
 use Rattle.abi_machine.specs.sound.Acting.{Outline, outlines_of, IsActing, WasBlocked, OneActs, stacked_then, stacked_receiver, ActsBy}
 use Rattle.abi_machine.specs.sound.Owners.{IsControlOwn}
-use Rattle.abi_machine.specs.sound.GoingOn.{HasNext, IsItemThere, IsNextThere, IsStanding, IsFed, WorldsGoOn}
+use Rattle.abi_machine.specs.sound.GoingOn.{HasNext, IsItemThere, IsNextThere, IsFed, WorldsGoOn}
 use Rattle.abi_machine.proofs.sound.Found.{some_same, call_is}
 use Rattle.abi_machine.proofs.sound.Alternatives.{IsAlternative, all_alternatives}
 use Rattle.abi_machine.proofs.sound.nexts.Parts.{given_next, behind_next, either_next, charged_next, chosen_next, acting_next, HasCaller, has_caller}
 use Rattle.abi_machine.proofs.sound.nexts.Waking.{arriving_next, back_next, delivering_next, resumable, resuming_next}
 use Rattle.abi_machine.proofs.sound.nexts.Moving.{leaving_next, running_next, lowers_next, nested_next, instantiating_next}
-use Rattle.abi_machine.proofs.sound.nexts.Answering.{AnswersBy, cancelled_next, calling_next}
+use Rattle.abi_machine.proofs.sound.nexts.Answering.{cancelled_next, calling_next}
 
 -- Items of the script.
 

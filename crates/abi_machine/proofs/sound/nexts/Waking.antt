@@ -1,5 +1,5 @@
 -- What comes next where tasks enter, are called, go on, and get events.
-use Rattle.std.proofs.Common.{◌≡◌, ◌∙◌, ℕ, Bool, true, false, not, ◌&&◌, ◌||◌, ◌==◌, arith, List, [], ◌∷◌, length, refl, sym, ap, subst, Option, Some, None, Result, Ok, Err, if◌then◌else◌}
+use Rattle.std.proofs.Common.{◌≡◌, ℕ, Bool, true, false, ◌&&◌, ◌||◌, ◌==◌, arith, List, [], ◌∷◌, length, refl, sym, subst, Option, Some, None, Result, Ok, Err, if◌then◌else◌}
 use Rattle.std.specs.Prelude.{IsSome, IfSome, filter, is_some}
 use Rattle.std.proofs.lemmas.Bool.Decides.{nat_tests}
 use Rattle.std.specs.Option.{unwrap_or}
@@ -11,44 +11,42 @@ use Rattle.entry_gate.specs.Callbacks.{callback_of}
 use Rattle.entry_gate.specs.declared.callback.BadCode.{BadCode}
 use Rattle.entry_gate.specs.declared.callback.Next.{Next}
 use Rattle.entry_gate.specs.declared.callback.Next.TheVariants as next
-use Rattle.handle_table.specs.History.{Event, live, greatest}
+use Rattle.handle_table.specs.History.{live, greatest}
 use Rattle.tasks.specs.Tasks.{is_asked}
-use Rattle.entry_gate.specs.declared.kind.Kind.{Kind}
 use Rattle.entry_gate.specs.declared.kind.Kind.TheVariants.{Sync, Callback, Stackful}
 use Rattle.comp_graph.specs.declared.graph.Options.{Options}
-use Rattle.comp_graph.specs.declared.graph.FuncRef.{FuncRef}
 use Rattle.comp_graph.specs.Graph.{Graph, Lifted}
 use Rattle.script_reader.specs.Script.{Script}
 use Rattle.trace_show.specs.declared.label.Label.TheVariants as line
 use Rattle.trace_show.specs.declared.label.BlockReason.TheVariants as reason
-use Rattle.abi_machine.specs.Control.{EndRef, EventCode, SubtaskEvent, Receiver, InWait, InCallback, Goes as GoesOn, Delivers}
+use Rattle.abi_machine.specs.Control.{EndRef, EventCode, SubtaskEvent, Receiver, InWait, InCallback, Delivers}
 use Rattle.abi_machine.specs.World.{Entry, OwnHandle, BorrowHandle, OfSubtask, OfSet, OfEnd, Inst, Callee, Subtask, Caller, Nobody, Host, Guest, Wait, ForYield, ForSet, ForCall, ForCopy, ForCancel, TaskState, New as IsNew, Acting, AfterCall, AfterCancel, Begins, WaitsToEnter, InLoop, InBuiltin, Exited, Task, World}
 use Rattle.abi_machine.specs.Edits.{changed_at, in_state, told}
 use Rattle.abi_machine.specs.Canons.{func_address, canon_at, options_at, flag_at, kind_of_options}
-use Rattle.abi_machine.specs.Reading.{table_of, table_in, entry_at, members_of, acting, func_of, kind_of_func, task_at, subtask_of, is_reentrant}
+use Rattle.abi_machine.specs.Reading.{table_of, table_in, entry_at, members_of, func_of, kind_of_func, is_reentrant}
 use Rattle.abi_machine.specs.Counting.{has_resolved, subtask_state, entry_has_event, has_news, news_of, ready}
 use Rattle.abi_machine.specs.Gate.{may_arrive}
 use Rattle.abi_machine.specs.Finding.{set_in, set_number, accepted, found_subtask, found_end}
-use Rattle.abi_machine.specs.Turn.{Turn, given, behind, replied, blocked}
+use Rattle.abi_machine.specs.Turn.{replied, blocked}
 use Rattle.abi_machine.specs.Entering.{with_arguments, arguments_passed, arguments_turn, entered, arriving_turn}
 use Rattle.abi_machine.specs.Calling.{call_begun, call_state, Told, subtask_told, call_resolved, call_open, back_from_call}
 use Rattle.abi_machine.specs.Delivering.{event_line, callback_started, received, received_none, received_cancel, nothing_told, cancel_told, end_told, event_of_end, entry_delivered, member_delivered, members_turn, delivering_turn, is_to_be_told, yield_cancelled, told_payload, told_result, wait_resumed, set_polled, next_resumed, loop_resumed, resumed, resuming_turn}
 use Rattle.abi_machine.specs.Cancelling.{cancel_open, back_from_cancel, back_to, back_turn}
 use Rattle.abi_machine.specs.sound.Changes.{IsFirst, IsGuest, IsBlocked}
-use Rattle.abi_machine.specs.sound.Acting.{Outline, outline_of, outlines_of, StandsBy, HaveStacks, IsNew as IsNewOne, IsCalling, IsWaitingFor, WasBlocked, IsActing, OneActs}
+use Rattle.abi_machine.specs.sound.Acting.{Outline, outline_of, outlines_of, StandsBy, HaveStacks, IsNew as IsNewOne, IsCalling, IsWaitingFor, WasBlocked, OneActs}
 use Rattle.abi_machine.specs.sound.Called.{Called, HasCalled, HaveCalled}
 use Rattle.abi_machine.specs.sound.Numbers.{IsNamed, NamesWhatIsThere}
 use Rattle.abi_machine.specs.sound.Loops.{HasSetAt, GoesOnBy, LoopsIn, LoopsSo}
 use Rattle.abi_machine.specs.sound.SetWaits.{WaitsOnSet}
 use Rattle.abi_machine.specs.sound.Guests.{WaitsAs, WaitAs}
-use Rattle.abi_machine.specs.sound.GoingOn.{HasNext, IsFuncThere, AreFuncsThere, HaveFuncs, WaitsThere, ResumesAt, HasReceiver, IsReadyAt, DeliversThere}
+use Rattle.abi_machine.specs.sound.GoingOn.{HasNext, IsFuncThere, AreFuncsThere, HaveFuncs, WaitsThere, ResumesAt, HasReceiver, DeliversThere}
 use Rattle.abi_machine.proofs.sound.Lists.{all_as}
 use Rattle.abi_machine.proofs.sound.Found.{guest_changed}
 use Rattle.abi_machine.proofs.sound.known.Handles.{found_subtask_there}
 use Rattle.abi_machine.proofs.sound.Aside.{channel_kept}
 use Rattle.abi_machine.proofs.sound.Outlines.{outline_there}
 use Rattle.abi_machine.proofs.sound.own.Belonging.{if_there}
-use Rattle.abi_machine.proofs.sound.nexts.Parts.{given_next, found_next, behind_next, either_next, unless_next, chosen_next, entry_next, came_next, func_next, subtask_next, HasCaller}
+use Rattle.abi_machine.proofs.sound.nexts.Parts.{given_next, behind_next, either_next, unless_next, chosen_next, entry_next, came_next, func_next, subtask_next, HasCaller}
 
 -- Tasks enter.
 
