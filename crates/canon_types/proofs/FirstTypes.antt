@@ -7,7 +7,8 @@ use Rattle.std.proofs.lemmas.Bool.Decides.{nat_tests}
 use Rattle.ca_types.specs.declared.core_type.CoreType.{CoreType}
 use Rattle.ca_types.specs.declared.core_type.CoreType.TheVariants.{I32}
 use Rattle.ca_types.specs.declared.types.FuncType.{FuncType}
-use Rattle.ca_types.specs.Flat.{at_most, out_place, returned, flat_params, flat_payload, flat_func}
+use Rattle.ca_types.specs.declared.types.ValType.{ValType}
+use Rattle.ca_types.specs.Flat.{flat, at_most, out_place, returned, flat_params, flat_payload, flat_func}
 use Rattle.ca_types.specs.declared.core_type.FlatKind.{FlatKind}
 use Rattle.ca_types.specs.declared.core_type.FlatKind.TheVariants.{SyncLift, AsyncLift, CallbackLift}
 use Rattle.comp_graph.specs.declared.graph.Options.{Options}
@@ -100,3 +101,10 @@ async_params_are laid f h =
     ∙ ap (λ (ts : List CoreType). map core_val (ts ++ out_place 0 laid.returned)) (first_passed 4 17 (flat_params f) (omega arith))
     ∙ ap (λ (ts : List CoreType). map core_val (at_most 4 (flat_params f) ++ out_place 0 ts)) h.returned
     ∙ ap (λ (ts : List CoreType). map core_val (at_most 4 (flat_params f) ++ ts)) (first_placed 0 17 (flat_payload f.result) (omega arith))
+
+-- The same of one type.
+pub type_params_are : (t : ValType) → map core_val (at_most 16 (take 17 (flat t))) ≡ map core_val (at_most 16 (flat t))
+type_params_are t = ap (map core_val) (first_passed 16 17 (flat t) (omega arith))
+
+pub many_values : (t : ValType) → nat_lt 16 (length (take 17 (flat t))) ≡ nat_lt 16 (length (flat t))
+many_values t = more_than 16 17 (flat t) (omega arith)

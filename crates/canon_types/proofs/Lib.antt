@@ -1,1 +1,2 @@
 pub mod FirstTypes
+pub mod Returning

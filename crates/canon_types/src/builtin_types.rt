@@ -1,11 +1,14 @@
 //! The types of built-ins as core functions, and of those that the Canonical ABI calls.
 
-ghost use Rattle.std.specs.Prelude.{◌≡◌, option_to_list};
-ghost use Rattle.comp_graph.specs.Needs.{taking, word, callback_type};
+ghost use Rattle.std.specs.Prelude.{◌≡◌, map, option_to_list};
+ghost use Rattle.ca_types.specs.Flat.{at_most, flat_payload};
+ghost use Rattle.comp_graph.specs.Needs.{core_val, taking, word, callback_type, task_return_type};
 ghost use Rattle.comp_graph.specs.Graph as graph;
 
+use crate::needs::PARAM_LIMIT;
 use builtin_kinds::{ContextOp, PlainBuiltin};
-use link_core_types::{CoreFuncType, FewTypes};
+use laid_types::LaidType;
+use link_core_types::{CoreFuncType, FewTypes, passed};
 use wasm_module::ValType;
 
 /// The type of a core function without parameters.
@@ -77,4 +80,21 @@ pub fn callback_type() -> CoreFuncType
     params.push(ValType::I32);
     params.push(ValType::I32);
     CoreFuncType::new(params, Some(ValType::I32))
+}
+
+/// The types of the core values in which a result is passed: of more than 16 it is one place in memory.
+fn return_params(result_type: &Option<LaidType<'_>>) -> FewTypes
+    ensures { result ≡ map core_val (at_most 16 (flat_payload result_type.now)) }
+{
+    match result_type {
+        Some(val_type) => passed(val_type.flat(), PARAM_LIMIT),
+        None => FewTypes::new(),
+    }
+}
+
+/// The type of a built-in that returns a result of a type (Component Model, CanonicalABI.md, `canon task.return`).
+pub(crate) fn return_type(result_type: &Option<LaidType<'_>>) -> CoreFuncType
+    ensures { result ≡ task_return_type result_type.now }
+{
+    CoreFuncType::new(return_params(result_type), None)
 }

@@ -1,15 +1,21 @@
-//! Built-ins, with the types of their core functions.
+//! Built-ins, with the types of their core functions, and what one comes to as it is written.
 
-ghost use Rattle.std.specs.Prelude.{◌≡◌, cond, nat_lt, Some, None, IfSome};
+ghost use Rattle.std.specs.Prelude.{◌≡◌, List, IfOk, IfSome};
 ghost use Rattle.std.specs.Option.{option_map};
+ghost use Rattle.ca_types.specs.declared.types.ValType.{ValType};
+ghost use Rattle.comp_graph.specs.Graph.{builtin_type};
 ghost use Rattle.comp_graph.specs.declared.graph.BuiltinKind.TheVariants as builtin;
+ghost use Rattle.link_spec.specs.Builtins.{of_kind, none_such, context_meaning, wait_meaning};
 ghost use Rattle.canon_types.specs.declared.builtins.Built.{Built};
-ghost use Rattle.canon_types.specs.Built.{IsBuilt};
+ghost use Rattle.canon_types.specs.Built.{IsBuilt, IsBuiltinMeaning};
 
-use crate::builtin_types::{context_type, plain_type, wait_type};
+use crate::builtin_types::{context_type, plain_type, return_type, wait_type};
 use builtin_kinds::{ContextOp, PlainBuiltin, WaitOp};
-use comp_graph::{BuiltinKind, CoreRef};
+use ca_types::{Boxed, Shared, ValType};
+use comp_graph::{BuiltinKind, CoreRef, Options, graph_number};
+use laid_types::LaidType;
 use link_core_types::CoreFuncType;
+use std::alloc::{AllocError, Global};
 
 /// How many words a task has.
 const WORDS: u32 = 2;
@@ -21,47 +27,66 @@ pub struct Built {
     pub kind: BuiltinKind,
     /// The type of its core function.
     pub core_type: CoreFuncType,
+    /// The number, among types of values, of the type of its result, or of the ends that it is of, if it has one.
+    pub passed: Option<u32>,
+}
+
+/// What a built-in comes to as it is written (Component Model, Explainer.md, "Canonical Built-ins").
+#[derive(Drop)]
+pub struct BuiltinMeant {
+    /// Whether all indices that it names are there.
+    pub is_there: bool,
+    /// What it is, where its types are such as it asks for.
+    pub means: Option<Built>,
+    /// Whether its options, or its word of the task, serve it.
+    pub serves: bool,
+}
+
+/// One whose type is none such as it asks for, where its indices are there or not.
+pub fn no_builtin(is_there: bool) -> BuiltinMeant
+    ensures { (values : List ValType) → IsBuiltinMeaning values result (none_such is_there) }
+{
+    BuiltinMeant {
+        is_there,
+        means: None,
+        serves: true,
+    }
 }
 
 /// A built-in that names nothing (Component Model, CanonicalABI.md, `canon task.cancel` and its fellows).
-pub fn plain_builtin(named: PlainBuiltin) -> Built
-    ensures kind { result.kind ≡ builtin.Plain named }
-    ensures built { IsBuilt result }
+pub fn plain_builtin(named: PlainBuiltin) -> BuiltinMeant
+    ensures { (values : List ValType) → IsBuiltinMeaning values result (of_kind (builtin.Plain named)) }
 {
-    Built {
-        kind: BuiltinKind::Plain(named),
-        core_type: plain_type(named),
+    BuiltinMeant {
+        is_there: true,
+        means: Some(Built {
+            kind: BuiltinKind::Plain(named),
+            core_type: plain_type(named),
+            passed: None,
+        }),
+        serves: true,
     }
 }
 
-/// A built-in of a word of the task that is there.
-fn word_builtin(op: ContextOp, slot: u32) -> Built
-    ensures kind { result.kind ≡ builtin.Context op slot }
-    ensures built { IsBuilt result }
+/// A built-in of a word of the task. A task has two (Component Model, CanonicalABI.md, `canon context.get` and `canon context.set`).
+pub fn context_builtin(op: ContextOp, slot: u32) -> BuiltinMeant
+    ensures { (values : List ValType) → IsBuiltinMeaning values result (context_meaning op slot) }
 {
-    Built {
-        kind: BuiltinKind::Context { op, slot },
-        core_type: context_type(op),
+    BuiltinMeant {
+        is_there: true,
+        means: Some(Built {
+            kind: BuiltinKind::Context { op, slot },
+            core_type: context_type(op),
+            passed: None,
+        }),
+        serves: slot < WORDS,
     }
 }
 
-/// A built-in of a word of the task, if a task has it: it has two (Component Model, CanonicalABI.md, `canon context.get` and `canon
-/// context.set`).
-pub fn context_builtin(op: ContextOp, slot: u32) -> Option<Built>
-    ensures kind { option_map (λ (b : Built). b.kind) result ≡ cond (nat_lt slot 2) (Some (builtin.Context op slot)) None }
-    ensures built { IfSome result IsBuilt }
-{
-    if slot < WORDS {
-        return Some(word_builtin(op, slot));
-    }
-    None
-}
-
-/// A built-in that asks for an event of a set, which goes into this memory (Component Model, CanonicalABI.md, `canon
-/// waitable-set.wait` and `canon waitable-set.poll`).
-pub fn wait_builtin(op: WaitOp, cancellable: bool, memory: CoreRef) -> Built
+/// A built-in that asks for an event of a set, which goes into this memory.
+fn waiting(op: WaitOp, cancellable: bool, memory: CoreRef) -> Built
     ensures kind { result.kind ≡ builtin.Wait op cancellable memory }
-    ensures built { IsBuilt result }
+    ensures built { (values : List ValType) → IsBuilt values result }
 {
     Built {
         kind: BuiltinKind::Wait {
@@ -70,5 +95,80 @@ pub fn wait_builtin(op: WaitOp, cancellable: bool, memory: CoreRef) -> Built
             memory,
         },
         core_type: wait_type(),
+        passed: None,
     }
+}
+
+/// The same, where there is a memory.
+fn waiting_in(op: WaitOp, cancellable: bool, memory: Option<CoreRef>) -> Option<Built>
+    ensures kind { option_map (λ (b : Built). b.kind) result ≡ option_map (λ m. builtin.Wait op cancellable m) memory }
+    ensures built { (values : List ValType) → IfSome result (IsBuilt values) }
+{
+    match memory {
+        Some(memory) => Some(waiting(op, cancellable, memory)),
+        None => None,
+    }
+}
+
+/// A built-in that asks for an event of a set, which goes into a memory, if that is there (Component Model, CanonicalABI.md, `canon
+/// waitable-set.wait` and `canon waitable-set.poll`).
+pub fn wait_builtin(
+    op: WaitOp,
+    cancellable: bool,
+    is_there: bool,
+    memory: Option<CoreRef>,
+) -> BuiltinMeant
+    ensures { (values : List ValType) → IsBuiltinMeaning values result (wait_meaning is_there op cancellable memory) }
+{
+    BuiltinMeant {
+        is_there,
+        means: waiting_in(op, cancellable, memory),
+        serves: true,
+    }
+}
+
+/// A type as a tree that is shared, if there is one. It fails only where there are as many owners as can be counted.
+fn shared_type(val_type: &Option<LaidType<'_>>) -> Result<Option<Shared<ValType>>, AllocError>
+    ensures { IfOk result (λ t. t ≡ val_type.now) }
+{
+    match val_type {
+        Some(val_type) => Ok(Some(val_type.share()?)),
+        None => Ok(None),
+    }
+}
+
+/// The number, as graphs have it, if there is one.
+fn held_number(number: Option<usize>) -> Result<Option<u32>, AllocError>
+    ensures { IfOk result (λ n. n ≡ number) }
+{
+    match number {
+        Some(number) => Ok(Some(graph_number(number)?)),
+        None => Ok(None),
+    }
+}
+
+/// A built-in that returns a result of a type, which has this number, with these options (Component Model, CanonicalABI.md, `canon
+/// task.return`). It fails for want of memory alone.
+pub fn return_builtin(
+    alloc: Global,
+    number: Option<usize>,
+    result_type: &Option<LaidType<'_>>,
+    options: Options,
+) -> Result<Built, AllocError>
+    ensures kind { IfOk result (λ b. b.kind ≡ builtin.TaskReturn result_type.now options) }
+    ensures typed { IfOk result (λ b. b.core_type ≡ builtin_type b.kind) }
+    ensures passed { IfOk result (λ b. b.passed ≡ number) }
+{
+    let core_type = return_type(result_type);
+    let passed = held_number(number)?;
+    let shared = shared_type(result_type)?;
+    let options = Boxed::new(alloc, options)?;
+    Ok(Built {
+        kind: BuiltinKind::TaskReturn {
+            result: shared,
+            options,
+        },
+        core_type,
+        passed,
+    })
 }

@@ -5,8 +5,8 @@
 //!
 //! - `options`: the options of canonical functions, by their kinds
 //! - `func_types`: the types of the core functions that lifts and lowers ask for and make
-//! - `builtins`, on `builtin_types`: built-ins, with the types of their core functions
-//! - `needs`: whether lifts and lowers ask for a memory, and for a function that gives places in it
+//! - `builtins`, on `builtin_types`: built-ins, with the types of their core functions, and what one comes to as it is written
+//! - `needs`: whether lifts, lowers and built-ins ask for a memory, and for a function that gives places in it
 #![tactic(auto)]
 
 mod builtin_types;
@@ -16,7 +16,12 @@ mod needs;
 mod options;
 
 pub use builtin_types::callback_type;
-pub use builtins::{Built, context_builtin, plain_builtin, wait_builtin};
+pub use builtins::{
+    Built, BuiltinMeant, context_builtin, no_builtin, plain_builtin, return_builtin, wait_builtin,
+};
 pub use func_types::{lift_type, lower_type, post_return_type, realloc_type};
-pub use needs::{lift_needs_memory, lift_needs_realloc, lower_needs_memory, lower_needs_realloc};
+pub use needs::{
+    held_type, lift_needs_memory, lift_needs_realloc, lower_needs_memory, lower_needs_realloc,
+    return_needs_memory,
+};
 pub use options::{OptionIndices, are_there, has_async, indices_of, stand_once};

@@ -1,11 +1,13 @@
-//! Whether lifts and lowers ask for a memory, and for a function that gives places in it.
+//! Whether lifts, lowers and built-ins ask for a memory, and for a function that gives places in it.
 
 ghost use Rattle.std.specs.Prelude.{◌≡◌, true};
 ghost use Rattle.ca_types.specs.declared.types.FuncType.{FuncType};
 ghost use Rattle.comp_graph.specs.Needs as needs;
+ghost use Rattle.laid_types.specs.Layers.{tree_of};
 ghost use Rattle.link_types.specs.Laid.{IsLaid};
 
-use link_types::LaidFunc;
+use laid_types::LaidType;
+use link_types::{LaidFunc, Types};
 
 /// How many core values are passed as core parameters; more are passed in memory.
 pub(crate) const PARAM_LIMIT: usize = 16;
@@ -75,4 +77,24 @@ pub fn lower_needs_memory(laid: &LaidFunc, is_async: bool) -> bool
         return async_lower_needs_memory(laid);
     }
     needs_memory(laid)
+}
+
+/// Whether `task.return` passes something in memory (Component Model, CanonicalABI.md, `canon task.return`).
+pub fn return_needs_memory(result_type: &Option<LaidType<'_>>) -> bool
+    ensures { result ≡ needs.task_return_needs_memory result_type.now }
+{
+    match result_type {
+        Some(val_type) => val_type.flat().len() > PARAM_LIMIT || val_type.has_list(),
+        None => false,
+    }
+}
+
+/// The type of values of a number, if there is one.
+pub fn held_type<'t>(types: &'t Types<'_>, number: Option<usize>) -> Option<LaidType<'t>>
+    ensures { result ≡ tree_of types.now.values number }
+{
+    match number {
+        Some(number) => types.value(number),
+        None => None,
+    }
 }

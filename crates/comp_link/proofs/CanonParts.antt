@@ -3,7 +3,6 @@ use Rattle.std.proofs.Common.{◌≡◌, ◌∙◌, ℕ, Bool, true, false, List
 use Rattle.std.specs.Prelude.{Result, Ok, Err}
 use Rattle.std.specs.List.{slice_get, list_all}
 use Rattle.ca_types.specs.declared.types.FuncType.{FuncType}
-use Rattle.comp_tree.specs.declared.builtins.CanonBuiltin.{CanonBuiltin}
 use Rattle.comp_tree.specs.declared.items.CanonOption.{CanonOption}
 use Rattle.comp_graph.specs.declared.graph.BuiltinKind.{BuiltinKind}
 use Rattle.link_spec.specs.declared.fault.LinkWhy.{LinkWhy}
@@ -11,7 +10,8 @@ use Rattle.link_spec.specs.declared.fault.LinkWhy.TheVariants as why
 use Rattle.link_spec.specs.Definitions.{Lifted}
 use Rattle.link_spec.specs.Spaces.{Spaces, Linking}
 use Rattle.link_spec.specs.Canons.{Given, given_by, stand_once, is_option_there, can_be_lowered}
-use Rattle.link_spec.specs.Items.{lower_made, is_builtin_there, builtin_of, builtin_made}
+use Rattle.link_spec.specs.Builtins.{BuiltinMeaning}
+use Rattle.link_spec.specs.Items.{lower_made, builtin_made}
 use Rattle.link_spec.specs.Computed.{Outcome, Makes, after, there_or, only_if, lowered_from, lower_outcome, builtin_outcome}
 
 -- That a function can be lowered, by its tests.
@@ -44,19 +44,24 @@ module _ (l : Linking) (n : ℕ) (s : Spaces) (f : ℕ) (options : List CanonOpt
         → lower_outcome l n s f options ≡ after (lowered_from func.func_type options (given_by s options)) (λ given. Ok (Makes (lower_made l n s func given)))
     of_parts h = rw (is, h) refl
 
--- A built-in, by what is found of it.
-abbrev builtin_steps : Linking → ℕ → Spaces → Bool → Option BuiltinKind → Result Outcome LinkWhy
-builtin_steps l n s there kind = only_if there why.Index (after (there_or why.Canon kind) (λ kind. Ok (Makes (builtin_made l n s kind))))
+-- A built-in, by what it comes to.
+abbrev builtin_steps : Linking → ℕ → Spaces → Bool → Option BuiltinKind → Bool → Result Outcome LinkWhy
+builtin_steps l n s there means serves = only_if there why.Index (after (there_or why.Typing means) (λ kind. only_if serves why.Canon (Ok (Makes (builtin_made l n s kind)))))
 
-module _ (l : Linking) (n : ℕ) (s : Spaces) (b : CanonBuiltin) where
-  pub not_there : is_builtin_there s b ≡ false → builtin_outcome l n s b ≡ Err why.Index
-  not_there h = ap (λ (there : Bool). builtin_steps l n s there (builtin_of s b)) h
+module _ (l : Linking) (n : ℕ) (s : Spaces) (meaning : BuiltinMeaning) where
+  steps_are : (there : Bool) (means : Option BuiltinKind) (serves : Bool) → meaning.is_there ≡ there → meaning.means ≡ means → meaning.serves ≡ serves → builtin_outcome l n s meaning ≡ builtin_steps l n s there means serves
+  steps_are there means serves h is e =
+      ap (λ (b : Bool). builtin_steps l n s b meaning.means meaning.serves) h
+      ∙ (ap (λ (o : Option BuiltinKind). builtin_steps l n s there o meaning.serves) is ∙ ap (λ (b : Bool). builtin_steps l n s there means b) e)
 
-  kind_left : (o : Option BuiltinKind) → is_builtin_there s b ≡ true → builtin_of s b ≡ o → builtin_outcome l n s b ≡ builtin_steps l n s true o
-  kind_left o h is = ap (λ (there : Bool). builtin_steps l n s there (builtin_of s b)) h ∙ ap (λ (o : Option BuiltinKind). builtin_steps l n s true o) is
+  pub not_there : meaning.is_there ≡ false → builtin_outcome l n s meaning ≡ Err why.Index
+  not_there h = steps_are false meaning.means meaning.serves h refl refl
 
-  pub not_made : is_builtin_there s b ≡ true → builtin_of s b ≡ None → builtin_outcome l n s b ≡ Err why.Canon
-  not_made h none = kind_left None h none
+  pub none_such : meaning.is_there ≡ true → meaning.means ≡ None → builtin_outcome l n s meaning ≡ Err why.Typing
+  none_such h none = steps_are true None meaning.serves h none refl
 
-  pub is_made : (kind : BuiltinKind) → is_builtin_there s b ≡ true → builtin_of s b ≡ Some kind → builtin_outcome l n s b ≡ Ok (Makes (builtin_made l n s kind))
-  is_made kind h is = kind_left (Some kind) h is
+  pub not_served : (kind : BuiltinKind) → meaning.is_there ≡ true → meaning.means ≡ Some kind → meaning.serves ≡ false → builtin_outcome l n s meaning ≡ Err why.Canon
+  not_served kind h is e = steps_are true (Some kind) false h is e
+
+  pub is_made : (kind : BuiltinKind) → meaning.is_there ≡ true → meaning.means ≡ Some kind → meaning.serves ≡ true → builtin_outcome l n s meaning ≡ Ok (Makes (builtin_made l n s kind))
+  is_made kind h is e = steps_are true (Some kind) true h is e

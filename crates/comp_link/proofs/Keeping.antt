@@ -61,7 +61,7 @@ case_sets l n s (Item-F.Alias alias) new h = alias_sets l n s alias.sort alias.t
 case_sets l n s (Item-F.Type type) new (closed, is, e) = set_by l n _ new e
 case_sets l n s (Item-F.Canon (Lift f options t)) new (item, core, type, is, of_core, there, of_type, once, lifts, e) = set_by l n _ new e
 case_sets l n s (Item-F.Canon (Lower f options)) new (func, is, there, once, lowers, e) = (with_core_item s (Func (func_ref.Canon (length l.canons)) (canon_type (lowered_with n func (given_by s options)))), ap (λ (l : Linking). l.scopes) e)
-case_sets l n s (Item-F.Canon (Builtin b)) new (kind, there, is, e) = (with_core_item s (Func (func_ref.Canon (length l.canons)) (builtin_type kind)), ap (λ (l : Linking). l.scopes) e)
+case_sets l n s (Item-F.Canon (Builtin b)) new (kind, there, is, serves, e) = (with_core_item s (Func (func_ref.Canon (length l.canons)) (builtin_type kind)), ap (λ (l : Linking). l.scopes) e)
 case_sets l n s (Item-F.Import i) new (extern, d, is, fresh, imported, e) = set_by l n _ new e
 case_sets l n s (Item-F.Export x) new (d, y, is, fresh, exported, e) = set_by l n _ new e
 

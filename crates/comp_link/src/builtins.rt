@@ -1,55 +1,76 @@
 //! Linking of built-ins.
 
-ghost use Rattle.std.specs.Prelude.{◌≡◌, ◌<◌, List, IfSome, IfOk, OnOk, length};
+ghost use Rattle.std.specs.Prelude.{◌≡◌, ◌<◌, ◌&&◌, false, nat_lt, List, map, Option, Some, IfOk, OnOk, length};
 ghost use Rattle.std.specs.List.{slice_get};
-ghost use Rattle.std.specs.Option.{option_map, option_and_then};
+ghost use Rattle.std.specs.Option.{option_and_then};
+ghost use Rattle.ca_types.specs.declared.types.ValType.{ValType};
+ghost use Rattle.comp_tree.specs.declared.builtins.CanonBuiltin.TheVariants as read_builtin;
 ghost use Rattle.comp_graph.specs.CoreItems.{core_memory_of};
-ghost use Rattle.comp_graph.specs.declared.graph.BuiltinKind.TheVariants as builtin_kind;
+ghost use Rattle.comp_graph.specs.Needs.{task_return_needs_memory};
+ghost use Rattle.comp_graph.specs.Passed.{MayBeAt};
 ghost use Rattle.link_spec.specs.Definitions.{Exports};
 ghost use Rattle.link_spec.specs.Spaces.{Spaces, Linking};
-ghost use Rattle.link_spec.specs.Items.{is_builtin_there, builtin_made};
-ghost use Rattle.link_spec.specs.Items as items;
+ghost use Rattle.link_spec.specs.Canons as canons;
+ghost use Rattle.link_spec.specs.ValueTypes.{close_held};
+ghost use Rattle.link_spec.specs.ValueTypes as value_types;
+ghost use Rattle.link_spec.specs.Builtins.{are_options_there, return_meaning, builtin_meaning};
+ghost use Rattle.link_spec.specs.Builtins as meanings;
+ghost use Rattle.link_spec.specs.Items.{builtin_made};
 ghost use Rattle.link_spec.specs.Computed.{Makes, builtin_outcome};
 ghost use Rattle.link_types.specs.Table.{Table};
 ghost use Rattle.link_instances.specs.References.{World};
+ghost use Rattle.link_meanings.specs.Meant.{IsFoundAs};
 ghost use Rattle.canon_types.specs.declared.builtins.Built.{Built};
-ghost use Rattle.canon_types.specs.Built.{IsBuilt};
+ghost use Rattle.canon_types.specs.Built.{IsBuilt, IsBuiltinMeaning};
 ghost use Rattle.comp_link.specs.State.{IsScope, IsAt, IsMade, ended};
 ghost use Rattle.comp_link.specs.Told.{IsTold};
 
 use crate::link_fault::ItemError;
 use crate::linker::Linker;
 use crate::scope::Scope;
+use crate::used::can_be_used;
 use builtin_kinds::WaitOp;
 use ca_base::MemoryOr;
-use canon_types::{Built, context_builtin, plain_builtin, wait_builtin};
+use canon_types::{
+    Built, BuiltinMeant, context_builtin, held_type, no_builtin, plain_builtin, return_builtin,
+    return_needs_memory, stand_once, wait_builtin,
+};
 use comp_graph::CoreRef;
-use comp_tree::{CanonBuiltin, CoreSort};
-use link_spec::LinkWhy;
+use comp_tree::{CanonBuiltin, CanonEndOp, CanonOption, CoreSort, Sort, ValTypeRef};
+use laid_types::LaidType;
+use link_core_exports::Given;
+use link_meanings::held_value;
+use link_spec::{LinkWhy, held_within};
+use link_types::Types;
+use std::alloc::{AllocError, Global};
 
-/// Whether the memory that a built-in names is there, where it names one.
-fn is_there(scope: &Scope<'_>, builtin: &CanonBuiltin) -> bool
-    ensures { (t : Table) (w : World) (s : Spaces) → IsScope t w scope.now s → result ≡ is_builtin_there s builtin.now }
+/// Whether a type is there.
+fn type_is_there(scope: &Scope<'_>, index: u32) -> bool
+    ensures { (t : Table) (w : World) (s : Spaces) → IsScope t w scope.now s → result ≡ nat_lt index (length s.types) }
 {
-    match builtin {
-        CanonBuiltin::Wait {
-            op: _,
-            cancellable: _,
-            memory,
-        } => (*memory as usize) < scope.core_size(CoreSort::Memory),
-        CanonBuiltin::Resource { op: _, resource: _ }
-        | CanonBuiltin::TaskReturn {
-            result: _,
-            options: _,
+    (index as usize) < scope.size(Sort::Type)
+}
+
+/// Whether what options name is there that a built-in of ends has.
+fn are_end_options_there(scope: &Scope<'_>, op: &CanonEndOp) -> bool
+    ensures { (t : Table) (w : World) (s : Spaces) → IsScope t w scope.now s → result ≡ meanings.are_end_options_there s op.now }
+{
+    match op {
+        CanonEndOp::Copy { side: _, options } => scope.are_there(options.as_slice()),
+        CanonEndOp::New
+        | CanonEndOp::Cancel {
+            side: _,
+            is_async: _,
         }
-        | CanonBuiltin::Plain(_)
-        | CanonBuiltin::Context { op: _, slot: _ }
-        | CanonBuiltin::End {
-            kind: _,
-            end_type: _,
-            op: _,
-        } => true,
+        | CanonEndOp::Drop { side: _ } => true,
     }
+}
+
+/// Whether the type is there that a built-in of ends names, and what its options name.
+fn end_is_there(scope: &Scope<'_>, end_type: u32, op: &CanonEndOp) -> bool
+    ensures { (t : Table) (w : World) (s : Spaces) → IsScope t w scope.now s → result ≡ (nat_lt end_type (length s.types) && meanings.are_end_options_there s op.now) }
+{
+    type_is_there(scope, end_type) && are_end_options_there(scope, op)
 }
 
 /// The memory of an index.
@@ -62,71 +83,172 @@ fn memory_at(scope: &Scope<'_>, memory: u32) -> Option<CoreRef>
     }
 }
 
-/// A built-in that asks for an event, which goes into the memory of an index, if there is one.
-fn wait_at(scope: &Scope<'_>, op: WaitOp, cancellable: bool, memory: u32) -> Option<Built>
-    ensures kind { (t : Table) (w : World) (s : Spaces) → IsScope t w scope.now s → option_map (λ (b : Built). b.kind) result ≡ option_map (λ m. builtin_kind.Wait op cancellable m) (option_and_then core_memory_of (slice_get s.core_memories memory)) }
-    ensures built { IfSome result IsBuilt }
+/// What a built-in comes to that asks for an event, which goes into the memory of an index.
+fn wait_at(scope: &Scope<'_>, op: WaitOp, cancellable: bool, memory: u32) -> BuiltinMeant
+    ensures { (values : List ValType) (t : Table) (w : World) (s : Spaces) → IsScope t w scope.now s → IsBuiltinMeaning values result (builtin_meaning s (read_builtin.Wait op cancellable memory)) }
 {
-    match memory_at(scope, memory) {
-        Some(memory) => Some(wait_builtin(op, cancellable, memory)),
-        None => None,
-    }
+    let is_there = (memory as usize) < scope.core_size(CoreSort::Memory);
+    let found = memory_at(scope, memory);
+    wait_builtin(op, cancellable, is_there, found)
 }
 
-/// What a built-in is, if it is made.
-fn builtin_of(scope: &Scope<'_>, builtin: &CanonBuiltin) -> Option<Built>
-    ensures kind { (t : Table) (w : World) (s : Spaces) → IsScope t w scope.now s → option_map (λ (b : Built). b.kind) result ≡ items.builtin_of s builtin.now }
-    ensures built { IfSome result IsBuilt }
+/// The number of what a built-in of a component instance passes, where its index is that of a value type.
+fn passed_at(
+    alloc: Global,
+    linker: &mut Linker<'_>,
+    n: usize,
+    val_type: Option<ValTypeRef>,
+) -> Result<Option<Option<usize>>, AllocError>
+    requires { n < length linker.old.scopes.items }
+    ensures found { IfOk result (λ o. (bases : List Exports) (l : Linking) (s : Spaces) → IsAt bases linker.old n l s → IsFoundAs (MayBeAt linker.new.types.values) o (close_held (map Some s.types) val_type)) }
+    ensures at { (bases : List Exports) (l : Linking) (s : Spaces) → IsAt bases linker.old n l s → IsAt bases linker.new n l s }
+    ensures scopes { linker.new.scopes ≡ linker.old.scopes }
+{
+    let own = linker.scopes[n].types.as_slice();
+    held_value(alloc, &mut linker.types, own, val_type)
+}
+
+/// Whether what options give serves a built-in that returns a result of this type, where no option stands twice.
+fn can_return(given: &Given<'_>, returned: &Option<LaidType<'_>>, once: bool) -> bool
+    ensures { result ≡ (canons.can_be_used (task_return_needs_memory returned.now) false given.now && once) }
+{
+    can_be_used(given, return_needs_memory(returned), false) && once
+}
+
+/// What a built-in comes to that returns a result of the type of a number, where that is found, with what options give.
+fn returning(
+    alloc: Global,
+    types: &Types<'_>,
+    is_there: bool,
+    passed: Option<Option<usize>>,
+    options: &[CanonOption],
+    given: &Given<'_>,
+) -> Result<BuiltinMeant, AllocError>
+    ensures { IfOk result (λ m. (found : Option (Option ValType)) → IsFoundAs (MayBeAt types.now.values) passed found → IsBuiltinMeaning types.now.values m (return_meaning is_there found options.now given.now)) }
+{
+    let once = stand_once(options);
+    let Some(number) = passed else {
+        return Ok(BuiltinMeant {
+            is_there,
+            means: None,
+            serves: once,
+        });
+    };
+    let returned = held_type(types, number);
+    let serves = can_return(given, &returned, once);
+    let made = return_builtin(alloc, number, &returned, given.options())?;
+    Ok(BuiltinMeant {
+        is_there,
+        means: Some(made),
+        serves,
+    })
+}
+
+/// Whether the type is there that a built-in returns, and what its options name.
+fn return_is_there(scope: &Scope<'_>, returned: Option<ValTypeRef>, options: &[CanonOption]) -> bool
+    ensures { (t : Table) (w : World) (s : Spaces) → IsScope t w scope.now s → result ≡ (value_types.held_within (length s.types) returned && are_options_there s options.now) }
+{
+    held_within(scope.size(Sort::Type), returned) && scope.are_there(options)
+}
+
+/// What a built-in of a component instance comes to that returns a result of a type, with options.
+fn return_at(
+    alloc: Global,
+    linker: &mut Linker<'_>,
+    n: usize,
+    returned: Option<ValTypeRef>,
+    options: &[CanonOption],
+) -> Result<BuiltinMeant, AllocError>
+    requires { n < length linker.old.scopes.items }
+    ensures means { IfOk result (λ m. (bases : List Exports) (l : Linking) (s : Spaces) → IsAt bases linker.old n l s → IsBuiltinMeaning linker.new.types.values m (builtin_meaning s (read_builtin.TaskReturn returned options.now))) }
+    ensures at { (bases : List Exports) (l : Linking) (s : Spaces) → IsAt bases linker.old n l s → IsAt bases linker.new n l s }
+    ensures scopes { linker.new.scopes ≡ linker.old.scopes }
+{
+    let passed = passed_at(alloc, linker, n, returned)?;
+    let scope = linker.scope(n);
+    let is_there = return_is_there(scope, returned, options);
+    let given = scope.given(options);
+    returning(alloc, &linker.types, is_there, passed, options, &given)
+}
+
+/// What a built-in of a component instance comes to. It fails for want of memory alone.
+fn meaning_at(
+    alloc: Global,
+    linker: &mut Linker<'_>,
+    n: usize,
+    builtin: &CanonBuiltin,
+) -> Result<BuiltinMeant, AllocError>
+    requires { n < length linker.old.scopes.items }
+    ensures means { IfOk result (λ m. (bases : List Exports) (l : Linking) (s : Spaces) → IsAt bases linker.old n l s → IsBuiltinMeaning linker.new.types.values m (builtin_meaning s builtin.now)) }
+    ensures at { (bases : List Exports) (l : Linking) (s : Spaces) → IsAt bases linker.old n l s → IsAt bases linker.new n l s }
+    ensures scopes { linker.new.scopes ≡ linker.old.scopes }
 {
     match builtin {
-        CanonBuiltin::Plain(named) => Some(plain_builtin(*named)),
-        CanonBuiltin::Context { op, slot } => context_builtin(*op, *slot),
+        CanonBuiltin::Plain(named) => Ok(plain_builtin(*named)),
+        CanonBuiltin::Context { op, slot } => Ok(context_builtin(*op, *slot)),
         CanonBuiltin::Wait {
             op,
             cancellable,
             memory,
-        } => wait_at(scope, *op, *cancellable, *memory),
-        CanonBuiltin::Resource { op: _, resource: _ }
-        | CanonBuiltin::TaskReturn {
-            result: _,
-            options: _,
+        } => Ok(wait_at(linker.scope(n), *op, *cancellable, *memory)),
+        CanonBuiltin::TaskReturn {
+            result: returned,
+            options,
+        } => return_at(alloc, linker, n, *returned, options.as_slice()),
+        CanonBuiltin::Resource { op: _, resource } => {
+            Ok(no_builtin(type_is_there(linker.scope(n), *resource)))
         }
-        | CanonBuiltin::End {
+        CanonBuiltin::End {
             kind: _,
-            end_type: _,
-            op: _,
-        } => None,
+            end_type,
+            op,
+        } => Ok(no_builtin(end_is_there(linker.scope(n), *end_type, op))),
     }
 }
 
 /// What a built-in of a component instance is.
-fn built(linker: &Linker<'_>, n: usize, builtin: &CanonBuiltin) -> Result<Built, ItemError>
-    requires { n < length linker.now.scopes.items }
-    ensures told { (bases : List Exports) (l : Linking) (s : Spaces) → IsAt bases linker.now n l s → IsTold (λ (b : Built) outcome. outcome ≡ Makes (builtin_made l n s b.kind)) result (builtin_outcome l n s builtin.now) }
-    ensures built { IfOk result IsBuilt }
+fn built(
+    alloc: Global,
+    linker: &mut Linker<'_>,
+    n: usize,
+    builtin: &CanonBuiltin,
+) -> Result<Built, ItemError>
+    requires { n < length linker.old.scopes.items }
+    ensures told { (bases : List Exports) (l : Linking) (s : Spaces) → IsAt bases linker.old n l s → IsTold (λ (b : Built) outcome. IsBuilt linker.new.types.values b × (outcome ≡ Makes (builtin_made l n s b.kind))) result (builtin_outcome l n s (builtin_meaning s builtin.now)) }
+    ensures at { (bases : List Exports) (l : Linking) (s : Spaces) → IsAt bases linker.old n l s → IsAt bases linker.new n l s }
+    ensures scopes { linker.new.scopes ≡ linker.old.scopes }
 {
-    let scope = linker.scope(n);
-    if !is_there(scope, builtin) {
+    let meant = meaning_at(alloc, linker, n, builtin)?;
+    let BuiltinMeant {
+        is_there,
+        means,
+        serves,
+    } = meant;
+    if !is_there {
         return Err(MemoryOr::Fault(LinkWhy::Index));
     }
-    let Some(made) = builtin_of(scope, builtin) else {
-        return Err(MemoryOr::Fault(LinkWhy::Canon));
+    let Some(made) = means else {
+        return Err(MemoryOr::Fault(LinkWhy::Typing));
     };
+    if !serves {
+        return Err(MemoryOr::Fault(LinkWhy::Canon));
+    }
     Ok(made)
 }
 
 /// Links a built-in.
 pub fn link_builtin(
+    alloc: Global,
     linker: &mut Linker<'_>,
     n: usize,
     builtin: &CanonBuiltin,
 ) -> Result<(), ItemError>
     requires { n < length linker.old.scopes.items }
-    ensures made { (bases : List Exports) (l : Linking) (s : Spaces) → IsAt bases linker.old n l s → IsTold (λ _ outcome. IsMade linker.new outcome) result (builtin_outcome l n s builtin.now) }
+    ensures made { (bases : List Exports) (l : Linking) (s : Spaces) → IsAt bases linker.old n l s → IsTold (λ _ outcome. IsMade linker.new outcome) result (builtin_outcome l n s (builtin_meaning s builtin.now)) }
     ensures scopes { OnOk result (length linker.new.scopes.items ≡ length linker.old.scopes.items) }
     ensures live { OnOk result (ended linker.new ≡ ended linker.old) }
 {
-    let made = built(linker, n, builtin)?;
+    let made = built(alloc, linker, n, builtin)?;
     linker.add_builtin(n, made)?;
     Ok(())
 }

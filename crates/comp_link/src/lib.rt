@@ -8,6 +8,7 @@
 //! - `linking`: from a component to its graph, item by item
 //! - `core_instances`, `core_aliases`, `lifts`, `lowers`, `builtins`, `aliases`, `types`, `instances`, `imports` and `exports`: what
 //!   each kind of item makes
+//! - `used`: what lowers and built-ins use of what options give
 //! - `named` and `seen`: definitions under names, and definitions as they are asked for
 //! - `linker`, of `scope` and `canons`: linking as it stands, the index spaces of a component instance, and the core functions that
 //!   functions are lowered to
@@ -33,6 +34,7 @@ mod named;
 mod scope;
 mod seen;
 mod types;
+mod used;
 
 pub use link_fault::LinkError;
 pub use link_spec::{LinkFault, LinkWhy};

@@ -60,7 +60,7 @@ pub struct Linker<'a> {
     pub cores: Cores<'a>,
     /// The core functions that the Canonical ABI makes, in order of making.
     pub canons: Vec<CanonFunc>,
-    /// The number of the type of the function that each of them calls, if it calls one.
+    /// The number of the type of the function that each of them calls, or of the values that it passes, if it has one.
     pub canon_types: Vec<Option<u32>>,
     /// What is made, in file order.
     pub plan: Vec<Action>,
@@ -321,14 +321,18 @@ impl<'a> Linker<'a> {
     /// Adds a built-in.
     pub fn add_builtin(&mut self, n: usize, made: Built) -> Result<(), AllocError>
         requires { n < length self.old.scopes.items }
-        ensures ok { OnOk result ((bases : List Exports) (l : Linking) (s : Spaces) → IsAt bases self.old n l s → IsBuilt made → IsState bases self.new (builtin_made l n s made.kind)) }
+        ensures ok { OnOk result ((bases : List Exports) (l : Linking) (s : Spaces) → IsAt bases self.old n l s → IsBuilt self.old.types.values made → IsState bases self.new (builtin_made l n s made.kind)) }
         ensures scopes { OnOk result (length self.new.scopes.items ≡ length self.old.scopes.items) }
         ensures live { OnOk result (ended self.new ≡ ended self.old) }
     {
         let instance = graph_number(n)?;
-        let Built { kind, core_type } = made;
+        let Built {
+            kind,
+            core_type,
+            passed,
+        } = made;
         let builtin = CanonFunc::Builtin(Builtin { instance, kind });
-        self.add_canon(n, builtin, None, core_type)?;
+        self.add_canon(n, builtin, passed, core_type)?;
         Ok(())
     }
 

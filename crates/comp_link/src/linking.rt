@@ -94,7 +94,7 @@ fn link_canon(
             func_type,
         } => link_lift(linker, n, *core_func, options.as_slice(), *func_type),
         Canon::Lower { func, options } => link_lower(alloc, linker, n, *func, options.as_slice()),
-        Canon::Builtin(builtin) => link_builtin(linker, n, builtin),
+        Canon::Builtin(builtin) => link_builtin(alloc, linker, n, builtin),
     }
 }
 

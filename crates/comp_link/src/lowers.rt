@@ -15,8 +15,9 @@ ghost use Rattle.comp_link.specs.Ready.{IsLowering};
 
 use crate::link_fault::ItemError;
 use crate::linker::Linker;
+use crate::used::can_be_used;
 use ca_base::MemoryOr;
-use canon_types::{lower_needs_memory, lower_needs_realloc, realloc_type, stand_once};
+use canon_types::{lower_needs_memory, lower_needs_realloc, stand_once};
 use comp_graph::Options;
 use comp_tree::CanonOption;
 use link_core_exports::Given;
@@ -30,11 +31,8 @@ use std::alloc::Global;
 fn can_be_lowered(laid: &LaidFunc, given: &Given<'_>) -> bool
     ensures { (f : FuncType) → IsLaid laid.now f → result ≡ canons.can_be_lowered f given.now }
 {
-    given.realloc_is(&realloc_type())
-        && !given.has_post_return()
-        && !given.has_callback()
-        && (!lower_needs_memory(laid, given.is_async()) || given.has_memory())
-        && (!lower_needs_realloc(laid) || given.has_realloc())
+    let memory_used = lower_needs_memory(laid, given.is_async());
+    can_be_used(given, memory_used, lower_needs_realloc(laid))
 }
 
 /// What options give the lowering of a function of this type.

@@ -37,6 +37,7 @@ use Rattle.comp_graph.specs.Graph.{CoreMake, Graph, canon_type}
 use Rattle.link_spec.specs.Definitions.{CoreItem, Func, Table, Memory, Global, extern_of, item_of, CoreExport, core_named, listed, exports_of, Definition, AFunc, AType, AComponent, AnInstance, AModule, Exports, EmptyInstance, WithExport, export_named}
 use Rattle.link_spec.specs.Spaces.{Spaces, Linking, core_item_at, definition_at, with_core_item, with_core_instance, with_definition, with_spaces, outer_definition, outer_at}
 use Rattle.link_spec.specs.Canons.{given_by}
+use Rattle.link_spec.specs.Builtins.{builtin_meaning}
 use Rattle.link_spec.specs.Items.{argument_named, import_found, FindsItem, IsInline, core_made, core_instance_makes, instance_makes, alias_makes, lifted_with, lift_makes, with_canon, lowered_with, lower_makes, builtin_makes, IsImported, import_makes, said, IsExported, export_makes, makes_case}
 use Rattle.link_spec.proofs.Holding.{all_push, all_mapped, all_flat, all_at, all_second, holds_at, if_mapped, if_found, if_each, if_cond, last_there}
 use Rattle.abi_machine.specs.Canons.{inst_of_canon}
@@ -200,8 +201,8 @@ lower_reached l n s f options new h k (func, is, there, once, fits, made) = cano
     canon_own : AreSpacesApart longer n s → IsCanonApart longer canon
     canon_own spaces = (options_own longer n s spaces options, holds_at (IsFuncApart longer) (slice_get s.funcs f) func (all_at (IsFuncApart longer) s.funcs f spaces.funcs) is)
 
-builtin_reached : (l : Linking) (n : ℕ) (s : Spaces) (b : CanonBuiltin) (new : Linking) → IsLinkingApart l → AreSpacesApart (made_by l) n s → builtin_makes l n s b new → IsReachedApart l new
-builtin_reached l n s b new h k (kind, there, is, made) = canon_reached l n s canon new h k refl (λ spaces. (builtin_own (made_by (with_canon l n s canon)) n s spaces b kind is, tt)) made
+builtin_reached : (l : Linking) (n : ℕ) (s : Spaces) (b : CanonBuiltin) (new : Linking) → IsLinkingApart l → AreSpacesApart (made_by l) n s → builtin_makes l n s (builtin_meaning s b) new → IsReachedApart l new
+builtin_reached l n s b new h k (kind, there, is, serves, made) = canon_reached l n s canon new h k refl (λ spaces. (builtin_own (made_by (with_canon l n s canon)) n s spaces b kind is, tt)) made
   where
     canon : CanonFunc
     canon = canon_func.Builtin (record { instance = n; kind = kind })

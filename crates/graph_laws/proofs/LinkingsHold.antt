@@ -31,6 +31,7 @@ use Rattle.comp_graph.specs.Graph.{canon_type}
 use Rattle.link_spec.specs.Definitions.{Func, exports_of, Lifted, Closure, Definition, AFunc, AType, AComponent, AnInstance, AModule, Exports, EmptyInstance, WithExport, export_named, types_of}
 use Rattle.link_spec.specs.Spaces.{Spaces, Linking, new_spaces, levels_at, definition_at, with_core_item, with_core_instance, with_definition, with_spaces, outer_definition, outer_at}
 use Rattle.link_spec.specs.Canons.{given_by}
+use Rattle.link_spec.specs.Builtins.{builtin_meaning}
 use Rattle.link_spec.specs.Types.{meaning_of}
 use Rattle.link_spec.specs.Items.{core_instance_makes, instance_makes, alias_makes, StandsFor, lifted_with, lift_makes, with_canon, lowered_with, lower_makes, builtin_makes, wanted, IsImported, import_makes, said, IsExported, export_makes, makes_case}
 use Rattle.link_spec.specs.Linked.{Begins, begun, exports_or, exports_at, with_instance, Links, leads_by_making, leads_by_instance, no_items, item_links, root_begun, Callable, funcs_behind, callables}
@@ -146,8 +147,8 @@ module _ (K : Known) (S : Item-F Item Component → Type 0) (are : AreSteps K S)
   lower_held l n s f options new has h k (func, is, there, once, fits, made) =
       canon_held K l n s (lowered_with n func (given_by s options)) new h k (are.lowers n s f options func has (holds_at K.func (slice_get s.funcs f) func (all_at K.func s.funcs f k.funcs) is)) made
 
-  builtin_held : (l : Linking) (n : ℕ) (s : Spaces) (b : CanonBuiltin) (new : Linking) → S (Item-F.Canon (Builtin b)) → IsLinking K l → AreSpaces K s → builtin_makes l n s b new → IsLinking K new
-  builtin_held l n s b new has h k (kind, there, is, made) = canon_held K l n s (canon_func.Builtin (record { instance = n; kind = kind })) new h k (are.builtins n b kind has) made
+  builtin_held : (l : Linking) (n : ℕ) (s : Spaces) (b : CanonBuiltin) (new : Linking) → S (Item-F.Canon (Builtin b)) → IsLinking K l → AreSpaces K s → builtin_makes l n s (builtin_meaning s b) new → IsLinking K new
+  builtin_held l n s b new has h k (kind, there, is, serves, made) = canon_held K l n s (canon_func.Builtin (record { instance = n; kind = kind })) new h k (are.builtins n b kind has) made
 
   -- Imports.
   imported_held : (s : Spaces) (name : List ℕ) (asked : ExternDesc) (extern : Extern) (arguments : Option Exports) (d : Definition)

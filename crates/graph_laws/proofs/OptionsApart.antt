@@ -1,7 +1,8 @@
 -- What the options of canonical definitions give, and what built-ins use, is of the component instance whose index spaces it is found in.
-use Rattle.std.proofs.Common.{◌≡◌, ℕ, nat_lt, cond, List, Option, Some, None}
+use Rattle.std.proofs.Common.{◌≡◌, ℕ, List, map, Option, Some, None}
 use Rattle.std.specs.List.{slice_get}
 use Rattle.std.specs.Option.{option_map, option_and_then, IfSome}
+use Rattle.ca_types.specs.declared.types.ValType.{ValType}
 use Rattle.comp_tree.specs.declared.builtins.CanonBuiltin.{CanonBuiltin}
 use Rattle.comp_tree.specs.declared.builtins.CanonBuiltin.TheVariants as read_builtin
 use Rattle.comp_tree.specs.declared.items.CanonOption.{CanonOption}
@@ -15,11 +16,13 @@ use Rattle.comp_graph.specs.Graph.{Graph, no_options}
 use Rattle.link_spec.specs.Definitions.{CoreItem, Func, Table, Memory, Global}
 use Rattle.link_spec.specs.Spaces.{Spaces}
 use Rattle.link_spec.specs.Canons.{memory_index, realloc_index, post_return_index, callback_index, first_index, given_by, options_of}
-use Rattle.link_spec.specs.Items.{builtin_of}
-use Rattle.link_spec.proofs.Holding.{all_at, holds_at, if_weaker, if_mapped, if_found, if_each, if_cond}
+use Rattle.link_spec.specs.Builtins.{builtin_meaning}
+use Rattle.link_spec.specs.ValueTypes.{close_held}
+use Rattle.link_spec.proofs.Holding.{all_at, holds_at, if_weaker, if_mapped, if_found, if_each}
 use Rattle.abi_machine.specs.Canons.{options_of_kind}
 use Rattle.abi_machine.specs.sound.Owners.{owner_of_core, owner_of_func, AreOptionsOf}
 use Rattle.graph_laws.proofs.Owning.{IsItemOf, AreSpacesApart}
+use Rattle.graph_laws.proofs.SpacesApart.{if_always}
 
 module _ (g : Graph) (owner : ℕ) (s : Spaces) (apart : AreSpacesApart g owner s) where
   pub func_own : (item : CoreItem) → IsItemOf g owner item → IfSome (core_func_of item) (λ f. owner_of_func g f ≡ Some owner)
@@ -68,13 +71,16 @@ module _ (g : Graph) (owner : ℕ) (s : Spaces) (apart : AreSpacesApart g owner 
   abbrev UsesOwn : BuiltinKind → Type 0
   UsesOwn kind = AreOptionsOf g owner (options_of_kind kind)
 
-  builtin_uses : (b : CanonBuiltin) → IfSome (builtin_of s b) UsesOwn
+  builtin_uses : (b : CanonBuiltin) → IfSome (builtin_meaning s b).means UsesOwn
   builtin_uses (read_builtin.Plain b) = none_own
-  builtin_uses (read_builtin.Context op slot) = if_cond UsesOwn (nat_lt slot 2) (Some (builtin.Context op slot)) None none_own tt
+  builtin_uses (read_builtin.Context op slot) = none_own
+  builtin_uses (read_builtin.TaskReturn result options) =
+      if_mapped (λ (type : Option ValType). builtin.TaskReturn type (options_of (given_by s options))) UsesOwn (close_held (map Some s.types) result)
+      (if_always (λ (type : Option ValType). UsesOwn (builtin.TaskReturn type (options_of (given_by s options)))) (close_held (map Some s.types) result) (λ type. options_own options))
   builtin_uses (read_builtin.Wait op cancellable memory) =
       if_mapped (λ (m : CoreRef). builtin.Wait op cancellable m) UsesOwn (option_and_then core_memory_of (slice_get s.core_memories memory))
       (if_weaker (λ (m : CoreRef). owner_of_core g m.instance ≡ Some owner) (λ (m : CoreRef). UsesOwn (builtin.Wait op cancellable m)) memory_alone (option_and_then core_memory_of (slice_get s.core_memories memory)) (memory_at memory))
   builtin_uses other = tt
 
-  pub builtin_own : (b : CanonBuiltin) (kind : BuiltinKind) → builtin_of s b ≡ Some kind → AreOptionsOf g owner (options_of_kind kind)
-  builtin_own b kind is = holds_at UsesOwn (builtin_of s b) kind (builtin_uses b) is
+  pub builtin_own : (b : CanonBuiltin) (kind : BuiltinKind) → (builtin_meaning s b).means ≡ Some kind → AreOptionsOf g owner (options_of_kind kind)
+  builtin_own b kind is = holds_at UsesOwn (builtin_meaning s b).means kind (builtin_uses b) is

@@ -1,8 +1,8 @@
 //! What a written type means (Component Model, Explainer.md, "Type Definitions"): the reference into a table of types, or what
 //! keeps the type from a meaning.
 //!
-//! The layer above links components. It asks for the meaning of each type that a component defines, and for what an import or
-//! an export is to be. What `link_spec` defines is what contracts speak of.
+//! The layer above links components. It asks for the meaning of each type that a component defines, for what an import or
+//! an export is to be, and for the type of what a built-in passes. What `link_spec` defines is what contracts speak of.
 //!
 //! - `meant`: what a part of a type comes to; `levels`: what outer aliases see, `outer`: what they name
 //! - `values`: the numbers of parts of types; `numbered`: of fields, cases and places
@@ -30,3 +30,4 @@ pub use described::wanted;
 pub use levels::Level;
 pub use meanings::meaning_of;
 pub use meant::Meant;
+pub use values::held_value;

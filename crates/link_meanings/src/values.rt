@@ -1,7 +1,7 @@
 //! The numbers of parts of types.
 
-ghost use Rattle.std.specs.Prelude.{◌≡◌, [], List, Option, IfOk, IfSome};
-ghost use Rattle.std.specs.List.{slice_get};
+ghost use Rattle.std.specs.Prelude.{◌≡◌, [], List, map, Option, Some, IfOk, IfSome};
+ghost use Rattle.std.specs.List.{slice_get, AllZip};
 ghost use Rattle.std.specs.Option.{option_and_then};
 ghost use Rattle.ca_types.specs.declared.types.ValType.{ValType};
 ghost use Rattle.comp_graph.specs.Closed as closings;
@@ -10,12 +10,12 @@ ghost use Rattle.link_spec.specs.Types as types_read;
 ghost use Rattle.link_spec.specs.Types.{close_val, close_held};
 ghost use Rattle.laid_types.specs.Layers.{IsThere, type_of, part_numbers};
 ghost use Rattle.link_types.specs.Layered.{MayBeValue};
-ghost use Rattle.link_types.specs.Table.{IsValue, Grows};
+ghost use Rattle.link_types.specs.Table.{IsValue, IsType, Grows};
 ghost use Rattle.link_meanings.specs.Meant.{IsFoundAs};
 ghost use Rattle.link_meanings.specs.Levels.{AreTypes, enclosed_types};
 ghost use Rattle.link_meanings.specs.References.{value_ref};
 
-use crate::levels::Enclosing;
+use crate::levels::{Enclosing, Level};
 use comp_tree::{PrimValType, ValTypeRef};
 use laid_types::ValTypeLayer;
 use link_types::{TypeRef, Types};
@@ -110,4 +110,22 @@ pub(crate) fn held_of(
         return Ok(None);
     };
     Ok(Some(Some(number)))
+}
+
+/// The number of what a built-in of a component instance with these types passes, if it passes something, where its index is that of
+/// a value type.
+pub fn held_value(
+    alloc: Global,
+    types: &mut Types<'_>,
+    own: &[TypeRef],
+    val_type: Option<ValTypeRef>,
+) -> Result<Option<Option<usize>>, AllocError>
+    ensures ok { IfOk result (λ o. (closed : List Closed) → AllZip (IsType types.old) own.now closed → IsFoundAs (MayBeValue types.new.values) o (close_held (map Some closed) val_type)) }
+    ensures grows { Grows types.old types.new }
+{
+    let scope = Enclosing::Component(Level {
+        types: own,
+        components: &[],
+    });
+    held_of(alloc, types, &scope, val_type)
 }

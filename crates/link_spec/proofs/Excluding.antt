@@ -21,7 +21,6 @@ use Rattle.comp_tree.specs.declared.instances.AliasTarget.TheVariants as target
 use Rattle.comp_tree.specs.declared.externs.ExternDesc.{ExternDesc}
 use Rattle.comp_tree.specs.declared.externs.ExternDesc.TheVariants as desc
 use Rattle.comp_tree.specs.declared.externs.Export as read
-use Rattle.comp_tree.specs.declared.builtins.CanonBuiltin.{CanonBuiltin}
 use Rattle.comp_tree.specs.declared.items.CanonOption.{CanonOption}
 use Rattle.comp_tree.specs.declared.items.Canon.TheVariants.{Lift, Lower, Builtin}
 use Rattle.comp_tree.specs.declared.items.Item.{Item, out-Item}
@@ -32,9 +31,10 @@ use Rattle.link_spec.specs.declared.fault.LinkWhy.TheVariants as why
 use Rattle.comp_graph.specs.Closed.{Closed, Extern, OfFunc, OfType, OfInstance, func_of}
 use Rattle.link_spec.specs.Definitions.{CoreItem, CoreExport, core_named, CoreFits, Closure, Definition, AFunc, AType, AComponent, AnInstance, AModule, Exports, EmptyInstance, WithExport, export_names, export_named, Fits, lacks}
 use Rattle.link_spec.specs.Canons.{IsOptionThere, given_by, CanBeLifted, CanBeLowered}
+use Rattle.link_spec.specs.Builtins.{BuiltinMeaning, builtin_meaning}
 use Rattle.link_spec.specs.Types.{Meaning, found, meaning_of, desc_meaning}
 use Rattle.link_spec.specs.Spaces.{Spaces, Linking, core_size, size_of, core_item_at, definition_at, IsOfSort, levels_at, outer_at}
-use Rattle.link_spec.specs.Items.{AnyByRecursion, first_told, argument_named, import_found, argument_lacking, import_lacks, FindsOther, IsThere, FindsItem, core_instance_has, IsInline, core_instance_makes, AreNamed, named_have, instance_has, instance_makes, IsCoreOf, alias_has, alias_makes, type_has, type_makes, lift_has, lift_makes, lower_has, lower_makes, is_builtin_there, builtin_of, builtin_has, builtin_makes, wanted, IsOfTypes, IsRootImport, lacking, DoesNotFit, import_has, IsImported, import_makes, said, IsSaid, export_has, IsExported, export_makes, has_case, makes_case}
+use Rattle.link_spec.specs.Items.{AnyByRecursion, first_told, argument_named, import_found, argument_lacking, import_lacks, FindsOther, IsThere, FindsItem, core_instance_has, IsInline, core_instance_makes, AreNamed, named_have, instance_has, instance_makes, IsCoreOf, alias_has, alias_makes, type_has, type_makes, lift_has, lift_makes, lower_has, lower_makes, builtin_has, builtin_makes, wanted, IsOfTypes, IsRootImport, lacking, DoesNotFit, import_has, IsImported, import_makes, said, IsSaid, export_has, IsExported, export_makes, has_case, makes_case}
 use Rattle.link_spec.specs.Linked.{Begins}
 use Rattle.link_spec.specs.Laws.{MakesExcludesReasons, BeginsExcludesReasons, MakesExcludesBegins}
 use Rattle.link_spec.proofs.Lists.{some_all, some_zip, none_told, match_at, map_some, then_some, not_there, mapped_there}
@@ -202,13 +202,13 @@ lower_excludes l n s f options new why.Typing k h = h
 
 -- Built-ins.
 
-builtin_excludes : (l : Linking) (n : ℕ) (s : Spaces) (b : CanonBuiltin) (new : Linking) (w : LinkWhy) → builtin_makes l n s b new → builtin_has s b w → ⊥
-builtin_excludes l n s b new why.Index (kind, there, is, made) h = true_false (is_builtin_there s b) there h
-builtin_excludes l n s b new why.Canon (kind, there, is, made) h = both_of (builtin_of s b) kind is h
-builtin_excludes l n s b new why.RootImport k h = h
-builtin_excludes l n s b new why.Limit k h = h
-builtin_excludes l n s b new (why.Missing name) k h = h
-builtin_excludes l n s b new why.Typing k h = h
+builtin_excludes : (l : Linking) (n : ℕ) (s : Spaces) (meaning : BuiltinMeaning) (new : Linking) (w : LinkWhy) → builtin_makes l n s meaning new → builtin_has meaning w → ⊥
+builtin_excludes l n s meaning new why.Index (kind, there, is, serves, made) h = true_false meaning.is_there there h
+builtin_excludes l n s meaning new why.Typing (kind, there, is, serves, made) h = both_of meaning.means kind is h
+builtin_excludes l n s meaning new why.Canon (kind, there, is, serves, made) h = true_false meaning.serves serves h
+builtin_excludes l n s meaning new why.RootImport k h = h
+builtin_excludes l n s meaning new why.Limit k h = h
+builtin_excludes l n s meaning new (why.Missing name) k h = h
 
 -- Imports.
 
@@ -307,7 +307,7 @@ case_excludes l n s (Item-F.Type type) new w k h =
     type_excludes l n s (meaning_of type (levels_at l (n ∷ s.around))) new w (whole_meaning type (levels_at l (n ∷ s.around))) k h
 case_excludes l n s (Item-F.Canon (Lift f options t)) new w k h = lift_excludes l n s f options t new w k h
 case_excludes l n s (Item-F.Canon (Lower f options)) new w k h = lower_excludes l n s f options new w k h
-case_excludes l n s (Item-F.Canon (Builtin b)) new w k h = builtin_excludes l n s b new w k h
+case_excludes l n s (Item-F.Canon (Builtin b)) new w k h = builtin_excludes l n s (builtin_meaning s b) new w k h
 case_excludes l n s (Item-F.Import i) new w k h = import_excludes l n s i.name i.desc new w k h
 case_excludes l n s (Item-F.Export e) new w k h = export_excludes l n s e new w k h
 

@@ -54,7 +54,7 @@ case_few l n s (Item-F.Alias alias) new made h = alias_few l n s alias.sort alia
 case_few l n s (Item-F.Type type) new (closed, is, made) h = few_made l n _ new made h
 case_few l n s (Item-F.Canon (Lift f options t)) new (item, core, type, is, of_item, there, of_type, once, fits, made) h = few_made l n _ new made h
 case_few l n s (Item-F.Canon (Lower f options)) new (func, is, there, once, fits, made) h = subst IsFew (sym made) (few_with l n _ h)
-case_few l n s (Item-F.Canon (Builtin b)) new (kind, there, is, made) h = subst IsFew (sym made) (few_with l n _ h)
+case_few l n s (Item-F.Canon (Builtin b)) new (kind, there, is, serves, made) h = subst IsFew (sym made) (few_with l n _ h)
 case_few l n s (Item-F.Import i) new (extern, d, is, fresh, imported, made) h = few_made l n _ new made h
 case_few l n s (Item-F.Export e) new (d, x, is, fresh, exported, made) h = few_made l n _ new made h
 

@@ -13,15 +13,15 @@ use Rattle.comp_tree.specs.declared.instances.AliasTarget.{AliasTarget}
 use Rattle.comp_tree.specs.declared.instances.AliasTarget.TheVariants as target
 use Rattle.comp_tree.specs.declared.externs.ExternDesc.{ExternDesc}
 use Rattle.comp_tree.specs.declared.externs.Export as read
-use Rattle.comp_tree.specs.declared.builtins.CanonBuiltin.{CanonBuiltin}
 use Rattle.comp_tree.specs.declared.items.CanonOption.{CanonOption}
 use Rattle.link_spec.specs.declared.fault.LinkWhy.TheVariants as why
 use Rattle.comp_graph.specs.Closed.{Closed, Extern, OfFunc, OfType, OfInstance, func_of}
 use Rattle.link_spec.specs.Definitions.{CoreItem, Func, Table, Memory, Global, core_named, Lifted, Definition, AFunc, AnInstance, Exports, export_names, export_named, lacks, seen_as, types_of}
 use Rattle.link_spec.specs.Canons.{IsOptionThere, Given, given_by, options_of, CanBeLifted, CanBeLowered, stand_once, is_option_there, can_be_lifted, can_be_lowered}
+use Rattle.link_spec.specs.Builtins.{BuiltinMeaning}
 use Rattle.link_spec.specs.Types.{Meaning}
 use Rattle.link_spec.specs.Spaces.{Spaces, Linking, size_of, definition_at, IsOfSort, with_core_item, with_definition, with_spaces, outer_at}
-use Rattle.link_spec.specs.Items.{AnyByRecursion, IsCoreOf, alias_has, alias_makes, type_has, type_makes, lift_has, lift_makes, lower_has, lower_made, lower_makes, is_builtin_there, builtin_of, builtin_has, builtin_makes, wanted, IsOfTypes, lacking, DoesNotFit, import_has, with_import, IsImported, import_makes, said, IsSaid, export_has, with_export, IsExported, export_makes}
+use Rattle.link_spec.specs.Items.{AnyByRecursion, IsCoreOf, alias_has, alias_makes, type_has, type_makes, lift_has, lift_makes, lower_has, lower_made, lower_makes, builtin_has, builtin_makes, wanted, IsOfTypes, lacking, DoesNotFit, import_has, with_import, IsImported, import_makes, said, IsSaid, export_has, with_export, IsExported, export_makes}
 use Rattle.link_spec.specs.Tests.{is_core_of, is_of_sort, fits, root_may_import}
 use Rattle.link_spec.specs.Computed.{after, there_or, Outcome, Makes, core_aliased, alias_outcome, type_outcome, lifted_to, lifted_of, lift_outcome, lowered_from, lower_outcome, builtin_outcome, root_given, as_asked, import_outcome, said_is_there, said_lacks, as_said, export_outcome}
 use Rattle.link_spec.proofs.Lists.{some_all, match_at, match_some, then_some}
@@ -199,15 +199,16 @@ lower_sound l n s f options =
 
 -- Built-ins.
 
-pub builtin_sound : (l : Linking) (n : ℕ) (s : Spaces) (b : CanonBuiltin) → Sound (builtin_has s b) (MakesBy (builtin_makes l n s b)) (builtin_outcome l n s b)
-builtin_sound l n s b =
-    let P = builtin_has s b in
-    let Q = MakesBy (builtin_makes l n s b) in
+pub builtin_sound : (l : Linking) (n : ℕ) (s : Spaces) (meaning : BuiltinMeaning) → Sound (builtin_has meaning) (MakesBy (builtin_makes l n s meaning)) (builtin_outcome l n s meaning)
+builtin_sound l n s meaning =
+    let P = builtin_has meaning in
+    let Q = MakesBy (builtin_makes l n s meaning) in
     let root = clear_root P (λ h. h) in
-    sound_if P Q (is_builtin_there s b) why.Index _ root (λ absent. absent) (λ there.
-    (let index = clear_index P root (λ absent. true_false (is_builtin_there s b) there absent) in
-    let typed = clear_typing P (clear_missing P index (λ name h. h)) (λ h. h) in
-    sound_there P Q (builtin_of s b) why.Canon _ typed (λ none. none) (λ kind is. (kind, there, is, refl))))
+    sound_if P Q meaning.is_there why.Index _ root (λ absent. absent) (λ there.
+    (let index = clear_index P root (λ absent. true_false meaning.is_there there absent) in
+    let missing = clear_missing P index (λ name h. h) in
+    sound_there P Q meaning.means why.Typing _ missing (λ none. none) (λ kind is.
+    sound_if P Q meaning.serves why.Canon _ (clear_typing P missing (λ none. both_of meaning.means kind is none)) (λ other. other) (λ serves. (kind, there, is, serves, refl)))))
 
 -- Imports.
 

@@ -44,7 +44,7 @@ case_length l n s (Item-F.Alias alias) new made = alias_length l n s alias.sort 
 case_length l n s (Item-F.Type type) new (closed, is, made) = made_length l n _ new made
 case_length l n s (Item-F.Canon (Lift f options t)) new (item, core, type, is, of_item, there, of_type, once, fits, made) = made_length l n _ new made
 case_length l n s (Item-F.Canon (Lower f options)) new (func, is, there, once, fits, made) = ap (λ (l : Linking). length l.scopes) made ∙ length-set l.scopes n _
-case_length l n s (Item-F.Canon (Builtin b)) new (kind, there, is, made) = ap (λ (l : Linking). length l.scopes) made ∙ length-set l.scopes n _
+case_length l n s (Item-F.Canon (Builtin b)) new (kind, there, is, serves, made) = ap (λ (l : Linking). length l.scopes) made ∙ length-set l.scopes n _
 case_length l n s (Item-F.Import i) new (extern, d, is, fresh, imported, made) = made_length l n _ new made
 case_length l n s (Item-F.Export e) new (d, x, is, fresh, exported, made) = made_length l n _ new made
 

@@ -12,7 +12,7 @@ use Rattle.comp_graph.specs.Needs.{lift_type, realloc_type, callback_type, post_
 use Rattle.comp_tree.specs.declared.items.CanonOption.{CanonOption}
 use Rattle.link_spec.specs.Spaces.{Spaces}
 use Rattle.link_spec.specs.Tests.{same_core_func}
-use Rattle.link_spec.specs.Canons.{is_utf8, is_async, memory_index, realloc_index, post_return_index, callback_index, count_of, StandOnce, IsOptionThere, Given, options_of, IsOfCoreType, CanBeLifted, CanBeLowered, at_most_once, stand_once, is_index_there, is_option_there, is_of_core_type, are_of_types, are_of_kind, can_be_lifted, can_be_lowered}
+use Rattle.link_spec.specs.Canons.{is_utf8, is_async, memory_index, realloc_index, post_return_index, callback_index, count_of, StandOnce, IsOptionThere, Given, options_of, IsOfCoreType, CanBeLifted, CanBeUsed, CanBeLowered, at_most_once, stand_once, is_index_there, is_option_there, is_of_core_type, are_of_types, are_of_kind, can_be_lifted, can_be_used, can_be_lowered}
 use Rattle.link_spec.proofs.SameValues.{never, both, and}
 use Rattle.link_spec.proofs.Telling.{less, at_most, core_func_told}
 
@@ -262,14 +262,14 @@ lifted_told type item given = (to, from)
         ((needed_told (lift_needs_memory given.is_async type) given.memory).1 h.memory_given))
         ((needed_told (lift_needs_realloc type) given.realloc).1 h.realloc_given)
 
--- Lowers.
+-- Uses.
 
 none_told : {A : Type 0} (given : Option A) → Decides (not (is_some given)) (given ≡ None)
 none_told None = (λ h. refl, λ e. refl)
 none_told (Some a) = (λ h. never h, λ e. cc)
 
-pub lowered_told : (type : FuncType) (given : Given) → Decides (can_be_lowered type given) (CanBeLowered type given)
-lowered_told type given = (to, from)
+pub used_told : (memory_used realloc_used : Bool) (given : Given) → Decides (can_be_used memory_used realloc_used given) (CanBeUsed memory_used realloc_used given)
+used_told memory_used realloc_used given = (to, from)
   where
     r : Bool
     r = option_map_or (is_of_core_type realloc_type) given.realloc true
@@ -281,12 +281,12 @@ lowered_told type given = (to, from)
     b = not (is_some given.callback)
 
     m : Bool
-    m = not (lower_needs_memory given.is_async type) || is_some given.memory
+    m = not memory_used || is_some given.memory
 
     n : Bool
-    n = not (lower_needs_realloc type) || is_some given.realloc
+    n = not realloc_used || is_some given.realloc
 
-    to : can_be_lowered type given ≡ true → CanBeLowered type given
+    to : can_be_used memory_used realloc_used given ≡ true → CanBeUsed memory_used realloc_used given
     to h =
         let four = both (r && p && b && m) n h in
         let three = both (r && p && b) m four.0 in
@@ -296,16 +296,19 @@ lowered_told type given = (to, from)
           realloc = (given_told realloc_type given.realloc).0 one.0;
           post_return = (none_told given.post_return).0 one.1;
           callback = (none_told given.callback).0 two.1;
-          memory_given = (needed_told (lower_needs_memory given.is_async type) given.memory).0 three.1;
-          realloc_given = (needed_told (lower_needs_realloc type) given.realloc).0 four.1;
+          memory_given = (needed_told memory_used given.memory).0 three.1;
+          realloc_given = (needed_told realloc_used given.realloc).0 four.1;
         }
 
-    from : CanBeLowered type given → can_be_lowered type given ≡ true
+    from : CanBeUsed memory_used realloc_used given → can_be_used memory_used realloc_used given ≡ true
     from h =
         and (r && p && b && m) n
         (and (r && p && b) m
         (and (r && p) b
         (and r p ((given_told realloc_type given.realloc).1 h.realloc) ((none_told given.post_return).1 h.post_return))
         ((none_told given.callback).1 h.callback))
-        ((needed_told (lower_needs_memory given.is_async type) given.memory).1 h.memory_given))
-        ((needed_told (lower_needs_realloc type) given.realloc).1 h.realloc_given)
+        ((needed_told memory_used given.memory).1 h.memory_given))
+        ((needed_told realloc_used given.realloc).1 h.realloc_given)
+
+pub lowered_told : (type : FuncType) (given : Given) → Decides (can_be_lowered type given) (CanBeLowered type given)
+lowered_told type given = used_told (lower_needs_memory given.is_async type) (lower_needs_realloc type) given

@@ -1,27 +1,33 @@
 -- What is lifted is there, and what is lowered: the core function, or the function, and what options give, with the types that the
 -- lift or the lower needs. What built-ins use is there.
-use Rattle.std.proofs.Common.{◌≡◌, ℕ, Bool, true, false, cond, nat_lt, List, [], refl, ap, subst, Option, Some, None}
+use Rattle.std.proofs.Common.{◌≡◌, ℕ, Bool, true, false, List, [], map, refl, ap, subst, Option, Some, None}
 use Rattle.std.specs.Prelude.{IfSome, IsSome, is_some}
 use Rattle.std.specs.Option.{option_and_then}
 use Rattle.std.specs.List.{slice_get, AllByRecursion}
 use Rattle.ca_types.specs.declared.types.FuncType.{FuncType}
+use Rattle.ca_types.specs.declared.types.ValType.{ValType}
 use Rattle.wasm_module.specs.declared.types.Limits.{Limits}
 use Rattle.wasm_module.specs.declared.types.FuncType as core
 use Rattle.comp_graph.specs.declared.graph.FuncRef.{FuncRef}
 use Rattle.comp_graph.specs.declared.graph.CanonFunc.{CanonFunc}
 use Rattle.comp_graph.specs.CoreItems.{CoreItem, Func, Table, Memory, Global, core_func_of, core_memory_of}
-use Rattle.comp_graph.specs.Graph.{CoreMake, core_type, IsIn, IsItem, IsMemoryThere, IsLiftThere, IsBuiltinThere, IsCanonThere}
-use Rattle.comp_graph.specs.Needs.{lift_type, realloc_type, callback_type, post_return_type}
+use Rattle.comp_graph.specs.Graph.{CoreMake, core_type, IsIn, IsItem, IsMemoryThere, IsLiftThere, AreOptionsThere, IsBuiltinThere, IsCanonThere}
+use Rattle.comp_graph.specs.Needs.{lift_type, realloc_type, callback_type, post_return_type, lower_needs_memory, lower_needs_realloc, task_return_needs_memory}
 use Rattle.comp_graph.specs.declared.graph.BuiltinKind.{BuiltinKind}
 use Rattle.comp_graph.specs.declared.graph.BuiltinKind.TheVariants as builtin
 use Rattle.comp_tree.specs.declared.builtins.CanonBuiltin.{CanonBuiltin}
 use Rattle.comp_tree.specs.declared.builtins.CanonBuiltin.TheVariants as read_builtin
+use Rattle.comp_tree.specs.declared.items.CanonOption.{CanonOption}
 use Rattle.link_spec.specs.Definitions.{Lifted}
-use Rattle.link_spec.specs.Canons.{Given, options_of, IsOfCoreType, CanBeLifted, CanBeLowered}
-use Rattle.link_spec.specs.Items.{lifted_with, lowered_with, builtin_of}
+use Rattle.link_spec.specs.Canons.{Given, given_by, options_of, IsOfCoreType, CanBeLifted, CanBeUsed, CanBeLowered, stand_once, can_be_used}
+use Rattle.link_spec.specs.ValueTypes.{close_held}
+use Rattle.link_spec.specs.Builtins.{return_meaning, builtin_meaning}
+use Rattle.link_spec.specs.Items.{lifted_with, lowered_with}
 use Rattle.link_spec.specs.Spaces.{Spaces}
 use Rattle.link_spec.proofs.Holding.{all_at, holds_at, if_weaker, if_mapped, if_then, if_both}
 use Rattle.link_spec.proofs.Kept.{IsMemoryOf, type_there}
+use Rattle.link_spec.proofs.Lifting.{used_told}
+use Rattle.link_spec.proofs.SameValues.{both}
 use Rattle.link_spec.proofs.Soundness.{lift_for, IsMemoryItem}
 use Rattle.link_spec.proofs.Telling.{less}
 
@@ -93,33 +99,47 @@ lift_there cores canons n type item core given is h k fits = record {
   realloc_given = λ needs. func_given realloc_type given.realloc fits.realloc (fits.realloc_given needs);
 }
 
+-- what a lower or a built-in uses is there
+used_there : (cores : List CoreMake) (canons : List CanonFunc) (memory_used realloc_used : Bool) (given : Given) → IsGiven cores canons given → CanBeUsed memory_used realloc_used given → AreOptionsThere cores canons (options_of given)
+used_there cores canons memory_used realloc_used given k fits = record {
+  memory = given_memory cores canons given.memory k.memory;
+  realloc = given_there cores canons realloc_type given.realloc k.realloc fits.realloc;
+  post_return = ap (λ o. option_and_then core_func_of o) fits.post_return;
+  callback = ap (λ o. option_and_then core_func_of o) fits.callback;
+}
+
 pub lower_there : (cores : List CoreMake) (canons : List CanonFunc) (n : ℕ) (func : Lifted) (given : Given) → IsLiftThere cores canons func.func_type (lift_for func) → IsGiven cores canons given → CanBeLowered func.func_type given
     → IsCanonThere cores canons [] (lowered_with n func given)
 lower_there cores canons n func given h k fits = record {
   lift = h;
-  options = record {
-    memory = given_memory cores canons given.memory k.memory;
-    realloc = given_there cores canons realloc_type given.realloc k.realloc fits.realloc;
-    post_return = ap (λ o. option_and_then core_func_of o) fits.post_return;
-    callback = ap (λ o. option_and_then core_func_of o) fits.callback;
-  };
+  options = used_there cores canons (lower_needs_memory given.is_async func.func_type) (lower_needs_realloc func.func_type) given k fits;
   memory_given = λ needs. memory_given cores canons given.memory k.memory (fits.memory_given needs);
   realloc_given = λ needs. func_given realloc_type given.realloc fits.realloc (fits.realloc_given needs);
 }
 
 -- Built-ins.
 
-word_there : (cores : List CoreMake) (canons : List CanonFunc) (n : ℕ) (kind : BuiltinKind) (b : Bool) → (b ≡ true → IsBuiltinThere cores canons [] n kind) → IfSome (cond b (Some kind) None) (IsBuiltinThere cores canons [] n)
-word_there cores canons n kind true h = h refl
-word_there cores canons n kind false h = tt
+return_there : (cores : List CoreMake) (canons : List CanonFunc) (n : ℕ) (result : Option (Option ValType)) (options : List CanonOption) (given : Given) → IsGiven cores canons given → (return_meaning true result options given).serves ≡ true
+    → IfSome (return_meaning true result options given).means (IsBuiltinThere cores canons [] n)
+return_there cores canons n None options given k serves = tt
+return_there cores canons n (Some type) options given k serves =
+    let fits = (used_told (task_return_needs_memory type) false given).0 (both (can_be_used (task_return_needs_memory type) false given) (stand_once options) serves).0 in
+    record {
+      options = used_there cores canons (task_return_needs_memory type) false given k fits;
+      memory_given = λ needs. memory_given cores canons given.memory k.memory (fits.memory_given needs);
+    }
 
-builtin_is : (cores : List CoreMake) (canons : List CanonFunc) (n : ℕ) (s : Spaces) (b : CanonBuiltin) → AllByRecursion (IsMemoryItem cores canons) s.core_memories → IfSome (builtin_of s b) (IsBuiltinThere cores canons [] n)
-builtin_is cores canons n s (read_builtin.Plain b) h = tt
-builtin_is cores canons n s (read_builtin.Context op slot) h = word_there cores canons n (builtin.Context op slot) (nat_lt slot 2) (less slot 2)
-builtin_is cores canons n s (read_builtin.Wait op cancellable memory) h =
+builtin_is : (cores : List CoreMake) (canons : List CanonFunc) (n : ℕ) (s : Spaces) (b : CanonBuiltin) → AllByRecursion (IsMemoryItem cores canons) s.core_memories → ((options : List CanonOption) → IsGiven cores canons (given_by s options))
+    → (builtin_meaning s b).serves ≡ true → IfSome (builtin_meaning s b).means (IsBuiltinThere cores canons [] n)
+builtin_is cores canons n s (read_builtin.Plain b) h g serves = tt
+builtin_is cores canons n s (read_builtin.Context op slot) h g serves = less slot 2 serves
+builtin_is cores canons n s (read_builtin.Wait op cancellable memory) h g serves =
     if_mapped (λ m. builtin.Wait op cancellable m) (IsBuiltinThere cores canons [] n) (option_and_then core_memory_of (slice_get s.core_memories memory))
     (given_memory cores canons (slice_get s.core_memories memory) (all_at (IsMemoryItem cores canons) s.core_memories memory h))
-builtin_is cores canons n s other h = tt
+builtin_is cores canons n s (read_builtin.TaskReturn result options) h g serves =
+    return_there cores canons n (close_held (map Some s.types) result) options (given_by s options) (g options) serves
+builtin_is cores canons n s other h g serves = tt
 
-pub builtin_there : (cores : List CoreMake) (canons : List CanonFunc) (n : ℕ) (s : Spaces) (b : CanonBuiltin) (kind : BuiltinKind) → AllByRecursion (IsMemoryItem cores canons) s.core_memories → builtin_of s b ≡ Some kind → IsBuiltinThere cores canons [] n kind
-builtin_there cores canons n s b kind h is = holds_at (IsBuiltinThere cores canons [] n) (builtin_of s b) kind (builtin_is cores canons n s b h) is
+pub builtin_there : (cores : List CoreMake) (canons : List CanonFunc) (n : ℕ) (s : Spaces) (b : CanonBuiltin) (kind : BuiltinKind) → AllByRecursion (IsMemoryItem cores canons) s.core_memories
+    → ((options : List CanonOption) → IsGiven cores canons (given_by s options)) → (builtin_meaning s b).means ≡ Some kind → (builtin_meaning s b).serves ≡ true → IsBuiltinThere cores canons [] n kind
+builtin_there cores canons n s b kind h g is serves = holds_at (IsBuiltinThere cores canons [] n) (builtin_meaning s b).means kind (builtin_is cores canons n s b h g serves) is

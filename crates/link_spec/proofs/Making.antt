@@ -18,7 +18,6 @@ use Rattle.comp_tree.specs.declared.instances.AliasTarget.{AliasTarget}
 use Rattle.comp_tree.specs.declared.instances.AliasTarget.TheVariants as target
 use Rattle.comp_tree.specs.declared.externs.ExternDesc.{ExternDesc}
 use Rattle.comp_tree.specs.declared.externs.Export as read
-use Rattle.comp_tree.specs.declared.builtins.CanonBuiltin.{CanonBuiltin}
 use Rattle.comp_tree.specs.declared.items.CanonOption.{CanonOption}
 use Rattle.comp_tree.specs.declared.items.Canon.TheVariants.{Lift, Lower, Builtin}
 use Rattle.comp_tree.specs.declared.items.Item.{Item, out-Item}
@@ -27,9 +26,10 @@ use Rattle.comp_tree.specs.declared.items.Component.{Component}
 use Rattle.comp_graph.specs.Closed.{Extern, OfFunc, OfType, OfInstance}
 use Rattle.link_spec.specs.Definitions.{CoreItem, CoreExport, Definition, AFunc, AType, AnInstance, Exports, EmptyInstance, WithExport, seen_as}
 use Rattle.link_spec.specs.Canons.{given_by}
+use Rattle.link_spec.specs.Builtins.{BuiltinMeaning, builtin_meaning}
 use Rattle.link_spec.specs.Types.{Meaning}
 use Rattle.link_spec.specs.Spaces.{Spaces, Linking, definition_at, with_spaces, with_core_item, with_core_instance, with_definition}
-use Rattle.link_spec.specs.Items.{FindsItem, IsInline, core_made, core_instance_makes, AreNamed, instance_makes, alias_makes, lifted_with, lift_makes, lower_made, lower_makes, builtin_of, builtin_made, builtin_makes, IsImported, with_import, import_makes, said, IsExported, with_export, export_makes, makes_case}
+use Rattle.link_spec.specs.Items.{FindsItem, IsInline, core_made, core_instance_makes, AreNamed, instance_makes, alias_makes, lifted_with, lift_makes, lower_made, lower_makes, builtin_made, builtin_makes, IsImported, with_import, import_makes, said, IsExported, with_export, export_makes, makes_case}
 use Rattle.link_spec.specs.Laws.{MakesOnce, BeginsOnce}
 use Rattle.link_spec.proofs.Lists.{same_zip}
 
@@ -100,9 +100,9 @@ lower_once l n s f options a b (func, is, there, once, fits, made) (func', is', 
 
 -- Built-ins.
 
-builtin_once : (l : Linking) (n : ℕ) (s : Spaces) (built : CanonBuiltin) (a b : Linking) → builtin_makes l n s built a → builtin_makes l n s built b → a ≡ b
-builtin_once l n s built a b (kind, there, is, made) (kind', there', is', made') =
-    both_made (builtin_made l n s) kind kind' a b (one_value (builtin_of s built) kind kind' is is') made made'
+builtin_once : (l : Linking) (n : ℕ) (s : Spaces) (meaning : BuiltinMeaning) (a b : Linking) → builtin_makes l n s meaning a → builtin_makes l n s meaning b → a ≡ b
+builtin_once l n s meaning a b (kind, there, is, serves, made) (kind', there', is', serves', made') =
+    both_made (builtin_made l n s) kind kind' a b (one_value meaning.means kind kind' is is') made made'
 
 -- Imports and exports.
 
@@ -142,7 +142,7 @@ case_once l n s (Item-F.Type type) a b (closed, is, made) (closed', is', made') 
     both_made (λ closed. with_spaces l n (with_definition s (AType closed))) closed closed' a b (one_value _ closed closed' is.0 is'.0) made made'
 case_once l n s (Item-F.Canon (Lift f options t)) a b h k = lift_once l n s f options t a b h k
 case_once l n s (Item-F.Canon (Lower f options)) a b h k = lower_once l n s f options a b h k
-case_once l n s (Item-F.Canon (Builtin built)) a b h k = builtin_once l n s built a b h k
+case_once l n s (Item-F.Canon (Builtin built)) a b h k = builtin_once l n s (builtin_meaning s built) a b h k
 case_once l n s (Item-F.Import i) a b h k = import_once l n s i.name i.desc a b h k
 case_once l n s (Item-F.Export e) a b h k = export_once l n s e a b h k
 

@@ -8,6 +8,7 @@ use Rattle.comp_tree.specs.declared.items.Item.TheOpen.{Item-F}
 use Rattle.comp_tree.specs.declared.items.Component.{Component}
 use Rattle.link_spec.specs.declared.fault.LinkWhy.{LinkWhy}
 use Rattle.link_spec.specs.Definitions.{Closure, Exports}
+use Rattle.link_spec.specs.Builtins.{builtin_meaning}
 use Rattle.link_spec.specs.Types.{meaning_of}
 use Rattle.link_spec.specs.Spaces.{Spaces, Linking, levels_at}
 use Rattle.link_spec.specs.Items.{has_case, makes_case, item_has}
@@ -49,7 +50,7 @@ case_sound l n s (Item-F.Type type) =
     sound_map _ _ (CaseComes l n s (Item-F.Type type)) _ (only_makes l n s (Item-F.Type type) _ (λ new h. h)) (type_sound l n s (meaning_of type (levels_at l (n ∷ s.around))))
 case_sound l n s (Item-F.Canon (Lift f options t)) = sound_map _ _ (CaseComes l n s (Item-F.Canon (Lift f options t))) _ (only_makes l n s (Item-F.Canon (Lift f options t)) _ (λ new h. h)) (lift_sound l n s f options t)
 case_sound l n s (Item-F.Canon (Lower f options)) = sound_map _ _ (CaseComes l n s (Item-F.Canon (Lower f options))) _ (only_makes l n s (Item-F.Canon (Lower f options)) _ (λ new h. h)) (lower_sound l n s f options)
-case_sound l n s (Item-F.Canon (Builtin b)) = sound_map _ _ (CaseComes l n s (Item-F.Canon (Builtin b))) _ (only_makes l n s (Item-F.Canon (Builtin b)) _ (λ new h. h)) (builtin_sound l n s b)
+case_sound l n s (Item-F.Canon (Builtin b)) = sound_map _ _ (CaseComes l n s (Item-F.Canon (Builtin b))) _ (only_makes l n s (Item-F.Canon (Builtin b)) _ (λ new h. h)) (builtin_sound l n s (builtin_meaning s b))
 case_sound l n s (Item-F.Import i) = sound_map _ _ (CaseComes l n s (Item-F.Import i)) _ (only_makes l n s (Item-F.Import i) _ (λ new h. h)) (import_sound l n s i.name i.desc)
 case_sound l n s (Item-F.Export e) = sound_map _ _ (CaseComes l n s (Item-F.Export e)) _ (only_makes l n s (Item-F.Export e) _ (λ new h. h)) (export_sound l n s e)
 

@@ -22,7 +22,8 @@ use Rattle.comp_tree.specs.declared.instances.Sort.TheVariants as sorts
 use Rattle.comp_tree.specs.declared.externs.ExternDesc.{ExternDesc}
 use Rattle.comp_tree.specs.declared.externs.ExternDesc.TheVariants as desc
 use Rattle.comp_tree.specs.declared.types.FuncType.{FuncType}
-use Rattle.comp_tree.specs.declared.types.PrimValType.TheVariants.{U32}
+use Rattle.comp_tree.specs.declared.types.ValTypeRef.TheVariants as type_ref
+use Rattle.comp_tree.specs.declared.types.PrimValType.TheVariants.{U32, String}
 use Rattle.comp_tree.specs.declared.types.DefValType.{DefValType}
 use Rattle.comp_tree.specs.declared.types.DefValType.TheVariants as value
 use Rattle.comp_tree.specs.declared.types.DefType.TheOpen.{DefType-F, InstanceDecl-F}
@@ -47,7 +48,7 @@ use Rattle.link_spec.specs.Computed.{Run, run, run_within, answer_of, linked}
 use Rattle.link_spec.specs.Same.{same_val}
 use Rattle.link_spec.proofs.Depths.{leaf_depth}
 use Rattle.link_spec.proofs.SameValues.{val_told}
-use Rattle.link_spec.specs.Examples.{root, fault, u32, of_types, import, outer, export_type, wanting, instantiate, giving_both, begins, of_one, make_with_absent, lifting, lifting_twice, with_memory, callable_as, lowering, lowering_string, taking_string, giving_string, passing, passed, built, making, with_async, with_callback}
+use Rattle.link_spec.specs.Examples.{root, fault, u32, of_types, import, outer, export_type, wanting, instantiate, giving_both, begins, of_one, make_with_absent, lifting, lifting_twice, with_memory, callable_as, lowering, lowering_string, taking_string, giving_string, passing, passed, returning, built, making, with_async, with_callback}
 
 pub value_rolled : (type : DefValType) (levels : List Level) → meaning_of (plain_type.Value type) levels ≡ value_meaning (types_around levels) type
 value_rolled type levels =
@@ -216,5 +217,11 @@ no_word inside = simp layers refl
 pub no_event_memory : (inside : Run) → answer_of (run inside root_begun 0 (built (read_builtin.Wait wait_op.Poll false 0)).items) ≡ fault 0 why.Index
 no_event_memory inside = simp layers refl
 
-pub result_not_returned : (inside : Run) → answer_of (run inside root_begun 0 (built (read_builtin.TaskReturn None [])).items) ≡ fault 0 why.Canon
-result_not_returned inside = simp layers refl
+pub nothing_returned : (inside : Run) → answer_of (run inside root_begun 0 (built (returning None)).items) ≡ making (builtin.TaskReturn None no_options)
+nothing_returned inside = simp layers refl
+
+pub no_result_type : (inside : Run) → answer_of (run inside root_begun 0 (built (returning (Some (type_ref.Index 0)))).items) ≡ fault 0 why.Index
+no_result_type inside = simp layers refl
+
+pub no_result_memory : (inside : Run) → answer_of (run inside root_begun 0 (built (returning (Some (type_ref.Primitive String)))).items) ≡ fault 0 why.Canon
+no_result_memory inside = simp (layers, string_flat, string_holds_list) refl

@@ -37,6 +37,7 @@ use Rattle.comp_graph.specs.Closed.{Extern, OfFunc, OfType, OfInstance, func_of}
 use Rattle.link_spec.specs.Definitions.{CoreItem, Func, Table, Memory, Global, extern_of, item_of, CoreFits, CoreExport, core_named, listed, exports_of, Definition, AFunc, AType, AComponent, AnInstance, AModule, Exports, WithExport, export_named}
 use Rattle.link_spec.specs.Spaces.{CoreMake, Spaces, Linking, Level, level_of, listed_level, levels_at, core_item_at, definition_at, with_core_item, with_core_instance, with_definition, with_spaces, outer_definition, outer_at}
 use Rattle.link_spec.specs.Canons.{memory_index, realloc_index, post_return_index, callback_index, first_index, given_by}
+use Rattle.link_spec.specs.Builtins.{builtin_meaning}
 use Rattle.link_spec.specs.Types.{meaning_of}
 use Rattle.link_spec.specs.Items.{argument_named, import_found, FindsItem, IsInline, core_instance_makes, instance_makes, alias_makes, lifted_with, lift_makes, with_canon, lowered_with, lower_makes, builtin_makes, wanted, IsImported, import_makes, said, IsExported, export_makes, makes_case}
 use Rattle.link_spec.proofs.Holding.{all_push, all_set, all_weaker, all_mapped, all_flat, all_at, all_second, zip_weaker, holds_at, if_weaker, if_mapped, if_found, if_each, if_cond, last_there}
@@ -234,9 +235,10 @@ module _ (R : ModuleTree → Type 0) where
       canon_reached l n s (lowered_with n func (given_by s options)) new h k func_sound.apart
       (lower_there l.cores l.canons n func (given_by s options) func_sound.there (options_given l.cores l.canons s options k) fits) made
 
-  builtin_reached : (l : Linking) (n : ℕ) (s : Spaces) (b : CanonBuiltin) (new : Linking) → IsLinkingSound R l → AreSpacesSound R l.cores l.canons s → builtin_makes l n s b new → IsReached R l new
-  builtin_reached l n s b new h k (kind, there, is, made) =
-      canon_reached l n s (canon_func.Builtin (record { instance = n; kind = kind })) new h k tt (builtin_there l.cores l.canons n s b kind k.core.memories_there is) made
+  builtin_reached : (l : Linking) (n : ℕ) (s : Spaces) (b : CanonBuiltin) (new : Linking) → IsLinkingSound R l → AreSpacesSound R l.cores l.canons s → builtin_makes l n s (builtin_meaning s b) new → IsReached R l new
+  builtin_reached l n s b new h k (kind, there, is, serves, made) =
+      canon_reached l n s (canon_func.Builtin (record { instance = n; kind = kind })) new h k tt
+      (builtin_there l.cores l.canons n s b kind k.core.memories_there (λ options. options_given l.cores l.canons s options k) is serves) made
 
   -- Imports and exports.
   wanted_apart : (cores : List CoreMake) (canons : List CanonFunc) (s : Spaces) (asked : ExternDesc) → AreSpacesSound R cores canons s → IfSome (wanted s asked).means IsExternApart

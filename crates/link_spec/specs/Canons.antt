@@ -1,5 +1,5 @@
 -- The options of canonical functions (Component Model, Explainer.md, "Canonical Definitions"; CanonicalABI.md, "Canonical ABI
--- Options"), when a core item can be lifted with them, and when a function can be lowered. An option stands at most once.
+-- Options"), when a core item can be lifted with them, and when they give what a lower or a built-in uses. An option stands at most once.
 use Rattle.std.specs.Prelude.{◌≡◌, ◌≤◌, ℕ, Bool, true, false, not, ◌&&◌, ◌||◌, nat_lt, nat_le, is_some, List, [], ◌∷◌, length, filter, Option, Some, None, IfSome, IsSome}
 use Rattle.std.specs.Option.{option_and_then, option_map_or}
 use Rattle.std.specs.List.{slice_get}
@@ -143,17 +143,21 @@ pub record CanBeLifted (type : FuncType) (item : CoreItem) (given : Given) : Typ
   pub memory_given : lift_needs_memory given.is_async type ≡ true → IsSome given.memory
   pub realloc_given : lift_needs_realloc type ≡ true → IsSome given.realloc
 
--- Lowers.
+-- Uses.
 
--- A function of a type can be lowered with what is given: the function that gives places has its type, no function is called when
--- a result was lifted or with events, and where something is passed in memory, or what the result holds asks for a place in it, the
--- memory is given, or the function that gives places.
-pub record CanBeLowered (type : FuncType) (given : Given) : Type 0 where
+-- What a lower or a built-in uses is given: the memory, where it uses one, and the function that gives places in it, which has its type
+-- wherever it is given. No function is called when a result was lifted or with events.
+pub record CanBeUsed (memory_used realloc_used : Bool) (given : Given) : Type 0 where
   pub realloc : IfSome given.realloc (IsOfCoreType realloc_type)
   pub post_return : given.post_return ≡ None
   pub callback : given.callback ≡ None
-  pub memory_given : lower_needs_memory given.is_async type ≡ true → IsSome given.memory
-  pub realloc_given : lower_needs_realloc type ≡ true → IsSome given.realloc
+  pub memory_given : memory_used ≡ true → IsSome given.memory
+  pub realloc_given : realloc_used ≡ true → IsSome given.realloc
+
+-- A function of a type can be lowered with what is given: the memory is, where something is passed in memory, and the function that gives
+-- places, where what the result holds asks for a place in it.
+abbrev pub CanBeLowered : FuncType → Given → Type 0
+CanBeLowered type given = CanBeUsed (lower_needs_memory given.is_async type) (lower_needs_realloc type) given
 
 -- The same as tests.
 
@@ -196,10 +200,13 @@ can_be_lifted type item given =
     && (not (lift_needs_memory given.is_async type) || is_some given.memory)
     && (not (lift_needs_realloc type) || is_some given.realloc)
 
-abbrev pub can_be_lowered : FuncType → Given → Bool
-can_be_lowered type given =
+abbrev pub can_be_used : Bool → Bool → Given → Bool
+can_be_used memory_used realloc_used given =
     option_map_or (is_of_core_type realloc_type) given.realloc true
     && not (is_some given.post_return)
     && not (is_some given.callback)
-    && (not (lower_needs_memory given.is_async type) || is_some given.memory)
-    && (not (lower_needs_realloc type) || is_some given.realloc)
+    && (not memory_used || is_some given.memory)
+    && (not realloc_used || is_some given.realloc)
+
+abbrev pub can_be_lowered : FuncType → Given → Bool
+can_be_lowered type given = can_be_used (lower_needs_memory given.is_async type) (lower_needs_realloc type) given

@@ -22,7 +22,6 @@ use Rattle.comp_tree.specs.declared.instances.AliasTarget.{AliasTarget}
 use Rattle.comp_tree.specs.declared.instances.AliasTarget.TheVariants as target
 use Rattle.comp_tree.specs.declared.externs.ExternDesc.{ExternDesc}
 use Rattle.comp_tree.specs.declared.externs.Export as read
-use Rattle.comp_tree.specs.declared.builtins.CanonBuiltin.{CanonBuiltin}
 use Rattle.comp_tree.specs.declared.items.CanonOption.{CanonOption}
 use Rattle.comp_tree.specs.declared.items.Canon.TheVariants.{Lift, Lower, Builtin}
 use Rattle.comp_tree.specs.declared.items.Item.{Item, out-Item}
@@ -34,9 +33,10 @@ use Rattle.link_spec.specs.declared.fault.LinkFault.{LinkFault}
 use Rattle.comp_graph.specs.Closed.{Closed, Extern, OfInstance, func_of}
 use Rattle.link_spec.specs.Definitions.{CoreItem, CoreExport, core_named, Lifted, Closure, Definition, AFunc, AType, AComponent, AnInstance, AModule, Exports, EmptyInstance, WithExport, export_names, export_named, lacks, seen_as, types_of}
 use Rattle.link_spec.specs.Canons.{Given, given_by, stand_once, is_option_there, can_be_lifted, can_be_lowered}
+use Rattle.link_spec.specs.Builtins.{BuiltinMeaning, builtin_meaning}
 use Rattle.link_spec.specs.Types.{Meaning, meaning_of}
 use Rattle.link_spec.specs.Spaces.{Spaces, Linking, core_size, size_of, core_item_at, definition_at, with_core_item, with_core_instance, with_definition, with_spaces, levels_at, outer_at}
-use Rattle.link_spec.specs.Items.{instance_limit, argument_named, core_made, lifted_with, lower_made, is_builtin_there, builtin_of, builtin_made, wanted, lacking, with_import, said, with_export}
+use Rattle.link_spec.specs.Items.{instance_limit, argument_named, core_made, lifted_with, lower_made, builtin_made, wanted, lacking, with_import, said, with_export}
 use Rattle.link_spec.specs.Linked.{begun, with_instance, root_begun, graph_of}
 use Rattle.link_spec.specs.Tests.{are_distinct, all_fit, is_core_of, is_of_sort, fits, root_may_import}
 
@@ -198,11 +198,12 @@ lower_outcome l n s f options =
 
 -- Built-ins.
 
-abbrev pub builtin_outcome : Linking → ℕ → Spaces → CanonBuiltin → Result Outcome LinkWhy
-builtin_outcome l n s b =
-    only_if (is_builtin_there s b) why.Index (
-    after (there_or why.Canon (builtin_of s b)) (λ kind.
-    Ok (Makes (builtin_made l n s kind))))
+abbrev pub builtin_outcome : Linking → ℕ → Spaces → BuiltinMeaning → Result Outcome LinkWhy
+builtin_outcome l n s meaning =
+    only_if meaning.is_there why.Index (
+    after (there_or why.Typing meaning.means) (λ kind.
+    only_if meaning.serves why.Canon (
+    Ok (Makes (builtin_made l n s kind)))))
 
 -- Imports.
 
@@ -265,7 +266,7 @@ outcome_case l n s (Item-F.Alias alias) = alias_outcome l n s alias.sort alias.t
 outcome_case l n s (Item-F.Type type) = type_outcome l n s (meaning_of type (levels_at l (n ∷ s.around)))
 outcome_case l n s (Item-F.Canon (Lift f options t)) = lift_outcome l n s f options t
 outcome_case l n s (Item-F.Canon (Lower f options)) = lower_outcome l n s f options
-outcome_case l n s (Item-F.Canon (Builtin b)) = builtin_outcome l n s b
+outcome_case l n s (Item-F.Canon (Builtin b)) = builtin_outcome l n s (builtin_meaning s b)
 outcome_case l n s (Item-F.Import i) = import_outcome l n s i.name (wanted s i.desc) i.desc s.arguments
 outcome_case l n s (Item-F.Export e) = export_outcome l n s e
 

@@ -1,6 +1,6 @@
 -- Small components, whose graphs and faults the laws `examples` have. Items stand at the places 0, 1 and so on, and those of a
 -- component inside at 10, 11 and so on.
-use Rattle.std.specs.Prelude.{ℕ, zero, suc, ◌+◌, true, List, [], ◌∷◌, length, map, None, Some, Result, Ok, Err, pos, codes}
+use Rattle.std.specs.Prelude.{ℕ, zero, suc, ◌+◌, true, List, [], ◌∷◌, length, map, Option, None, Some, Result, Ok, Err, pos, codes}
 use Rattle.ca_base.specs.declared.placed.Placed.{Placed}
 use Rattle.ca_types.specs.declared.types.ValType.TheVariants as val_type
 use Rattle.ca_types.specs.declared.types.FuncType.{FuncType}
@@ -27,6 +27,7 @@ use Rattle.comp_tree.specs.declared.instances.NamedDefinition.{NamedDefinition}
 use Rattle.comp_tree.specs.declared.instances.Instance.TheVariants as made
 use Rattle.comp_tree.specs.declared.externs.ExternDesc.{ExternDesc}
 use Rattle.comp_tree.specs.declared.externs.ExternDesc.TheVariants as desc
+use Rattle.comp_tree.specs.declared.types.ValTypeRef.{ValTypeRef}
 use Rattle.comp_tree.specs.declared.types.ValTypeRef.TheVariants as type_ref
 use Rattle.comp_tree.specs.declared.types.PrimValType.{PrimValType}
 use Rattle.comp_tree.specs.declared.types.PrimValType.TheVariants.{U32, String}
@@ -39,6 +40,7 @@ use Rattle.comp_tree.specs.declared.types.InstanceDecl.{InstanceDecl}
 use Rattle.comp_tree.specs.declared.items.CanonOption.{CanonOption}
 use Rattle.comp_tree.specs.declared.items.CanonOption.TheVariants as option
 use Rattle.comp_tree.specs.declared.builtins.CanonBuiltin.{CanonBuiltin}
+use Rattle.comp_tree.specs.declared.builtins.CanonBuiltin.TheVariants.{TaskReturn}
 use Rattle.comp_tree.specs.declared.items.Canon.TheVariants.{Lift, Lower, Builtin}
 use Rattle.comp_tree.specs.declared.items.Item.{Item}
 use Rattle.comp_tree.specs.declared.items.Item.TheVariants as plain
@@ -269,6 +271,10 @@ taking_string = record { params = record { label = codes "a"; val_type = val_typ
 
 abbrev pub giving_string : FuncType
 giving_string = record { params = []; result = Some val_type.String }
+
+-- `task.return` without options, of a result of a type
+abbrev pub returning : Option ValTypeRef → CanonBuiltin
+returning result = TaskReturn result []
 
 -- A built-in alone, and the graph of one that is made.
 abbrev pub built : CanonBuiltin → Component

@@ -3,7 +3,7 @@
 -- and "Import and Export Definitions"; CanonicalABI.md, `canon lift` and `canon lower`). At one item the reasons come in the order in which
 -- `LinkWhy` has them. The instantiation of a component makes more than one item can say; its own reasons are here, and what its
 -- component's items make stands in `Linked`.
-use Rattle.std.specs.Prelude.{◌≡◌, ◌<◌, ◌≤◌, ◌⊎◌, ℕ, Bool, true, false, cond, nat_lt, List, [], ◌∷◌, ◌++◌, length, map, set, Option, Some, None}
+use Rattle.std.specs.Prelude.{◌≡◌, ◌<◌, ◌≤◌, ◌⊎◌, ℕ, Bool, true, false, cond, List, [], ◌∷◌, ◌++◌, length, map, set, Option, Some, None}
 use Rattle.std.specs.Option.{option_map, option_and_then, MatchOption}
 use Rattle.std.specs.List.{slice_get, AllByRecursion, AllZip}
 use Rattle.std.specs.Str.{bytes_eq}
@@ -25,8 +25,6 @@ use Rattle.comp_tree.specs.declared.instances.AliasTarget.TheVariants as target
 use Rattle.comp_tree.specs.declared.externs.ExternDesc.{ExternDesc}
 use Rattle.comp_tree.specs.declared.externs.ExternDesc.TheVariants as desc
 use Rattle.comp_tree.specs.declared.externs.Export as read
-use Rattle.comp_tree.specs.declared.builtins.CanonBuiltin.{CanonBuiltin}
-use Rattle.comp_tree.specs.declared.builtins.CanonBuiltin.TheVariants as read_builtin
 use Rattle.comp_tree.specs.declared.items.CanonOption.{CanonOption}
 use Rattle.comp_tree.specs.declared.items.Canon.TheVariants.{Lift, Lower, Builtin}
 use Rattle.comp_tree.specs.declared.items.Item.{Item, out-Item}
@@ -34,10 +32,9 @@ use Rattle.comp_tree.specs.declared.items.Item.TheOpen.{Item-F}
 use Rattle.comp_tree.specs.declared.items.Component.{Component}
 use Rattle.link_spec.specs.declared.fault.LinkWhy.{LinkWhy}
 use Rattle.link_spec.specs.declared.fault.LinkWhy.TheVariants as why
-use Rattle.comp_graph.specs.CoreItems.{core_func_of, core_memory_of}
+use Rattle.comp_graph.specs.CoreItems.{core_func_of}
 use Rattle.comp_graph.specs.Graph.{canon_type}
 use Rattle.comp_graph.specs.declared.graph.BuiltinKind.{BuiltinKind}
-use Rattle.comp_graph.specs.declared.graph.BuiltinKind.TheVariants as builtin
 use Rattle.comp_graph.specs.declared.graph.FuncRef.{FuncRef}
 use Rattle.comp_graph.specs.declared.graph.FuncRef.TheVariants as func_ref
 use Rattle.comp_graph.specs.declared.graph.CanonFunc.{CanonFunc}
@@ -46,6 +43,7 @@ use Rattle.comp_graph.specs.Closed.{Closed, first_of, Extern, OfInstance, func_o
 use Rattle.link_spec.specs.Definitions.{CoreItem, Func, extern_of, CoreExport, core_named, exports_of, CoreFits, Lifted, Definition, AFunc, AType, AComponent, AnInstance, AModule, Exports, EmptyInstance, WithExport, export_names, export_named, Fits, lacks, seen_as, types_of}
 pub use Rattle.comp_graph.specs.Graph.{instance_limit}
 use Rattle.link_spec.specs.Canons.{IsOptionThere, StandOnce, Given, given_by, options_of, CanBeLifted, CanBeLowered}
+use Rattle.link_spec.specs.Builtins.{BuiltinMeaning, builtin_meaning}
 use Rattle.link_spec.specs.Types.{Meaning, meaning_of, desc_meaning}
 use Rattle.link_spec.specs.Spaces.{Spaces, Make, Linking, core_size, size_of, core_item_at, definition_at, IsOfCoreSort, IsOfSort, with_core_item, with_core_instance, with_definition, with_spaces, levels_at, outer_at}
 
@@ -269,34 +267,20 @@ lower_makes l n s f options new =
     × StandOnce options × CanBeLowered func.func_type (given_by s options)
     × (new ≡ lower_made l n s func (given_by s options))
 
--- Built-ins.
-
--- whether the memory that one names is there
-abbrev pub is_builtin_there : Spaces → CanonBuiltin → Bool
-is_builtin_there s (read_builtin.Wait op cancellable memory) = nat_lt memory (length s.core_memories)
-is_builtin_there s other = true
-
--- What it is: a task has two words, and none of resources, of streams, of futures and of results is made.
-abbrev pub builtin_of : Spaces → CanonBuiltin → Option BuiltinKind
-builtin_of s (read_builtin.Plain b) = Some (builtin.Plain b)
-builtin_of s (read_builtin.Context op slot) = cond (nat_lt slot 2) (Some (builtin.Context op slot)) None
-builtin_of s (read_builtin.Wait op cancellable memory) =
-    option_map (λ m. builtin.Wait op cancellable m) (option_and_then core_memory_of (slice_get s.core_memories memory))
-builtin_of s other = None
-
--- an index of a memory that is not there; a word that a task does not have, or a built-in that is not made
-abbrev pub builtin_has : Spaces → CanonBuiltin → LinkWhy → Type 0
-builtin_has s b why.Index = is_builtin_there s b ≡ false
-builtin_has s b why.Canon = builtin_of s b ≡ None
-builtin_has s b why = ⊥
+-- Built-ins: an index that is not there; a type that is none such as one asks for; options or a word of the task that do not serve it.
+abbrev pub builtin_has : BuiltinMeaning → LinkWhy → Type 0
+builtin_has meaning why.Index = meaning.is_there ≡ false
+builtin_has meaning why.Typing = meaning.means ≡ None
+builtin_has meaning why.Canon = meaning.serves ≡ false
+builtin_has meaning why = ⊥
 
 -- one of the component instance of a number
 abbrev pub builtin_made : Linking → ℕ → Spaces → BuiltinKind → Linking
 builtin_made l n s kind = with_canon l n s (canon_func.Builtin (record { instance = n; kind = kind }))
 
-abbrev pub builtin_makes : Linking → ℕ → Spaces → CanonBuiltin → Linking → Type 0
-builtin_makes l n s b new =
-    (kind : BuiltinKind) × (is_builtin_there s b ≡ true) × (builtin_of s b ≡ Some kind) × (new ≡ builtin_made l n s kind)
+abbrev pub builtin_makes : Linking → ℕ → Spaces → BuiltinMeaning → Linking → Type 0
+builtin_makes l n s meaning new =
+    (kind : BuiltinKind) × (meaning.is_there ≡ true) × (meaning.means ≡ Some kind) × (meaning.serves ≡ true) × (new ≡ builtin_made l n s kind)
 
 -- Imports.
 
@@ -397,7 +381,7 @@ has_case l n s (Item-F.Alias alias) why = alias_has l n s alias.sort alias.targe
 has_case l n s (Item-F.Type type) why = type_has (meaning_of type (levels_at l (n ∷ s.around))) why
 has_case l n s (Item-F.Canon (Lift f options t)) why = lift_has s f options t why
 has_case l n s (Item-F.Canon (Lower f options)) why = lower_has s f options why
-has_case l n s (Item-F.Canon (Builtin b)) why = builtin_has s b why
+has_case l n s (Item-F.Canon (Builtin b)) why = builtin_has (builtin_meaning s b) why
 has_case l n s (Item-F.Import i) why = import_has s i.name i.desc why
 has_case l n s (Item-F.Export e) why = export_has s e why
 
@@ -414,7 +398,7 @@ makes_case l n s (Item-F.Alias alias) new = alias_makes l n s alias.sort alias.t
 makes_case l n s (Item-F.Type type) new = type_makes l n s (meaning_of type (levels_at l (n ∷ s.around))) new
 makes_case l n s (Item-F.Canon (Lift f options t)) new = lift_makes l n s f options t new
 makes_case l n s (Item-F.Canon (Lower f options)) new = lower_makes l n s f options new
-makes_case l n s (Item-F.Canon (Builtin b)) new = builtin_makes l n s b new
+makes_case l n s (Item-F.Canon (Builtin b)) new = builtin_makes l n s (builtin_meaning s b) new
 makes_case l n s (Item-F.Import i) new = import_makes l n s i.name i.desc new
 makes_case l n s (Item-F.Export e) new = export_makes l n s e new
 

@@ -1,3 +1,4 @@
+pub mod Builtins
 pub mod Canons
 pub mod Computed
 pub mod Definitions

@@ -1,9 +1,11 @@
 //! Examples of the definitions, worked out by hand.
 
-ghost use Rattle.std.specs.Prelude.{◌≡◌, true, false, [], ◌∷◌, None, Ok, codes};
+ghost use Rattle.std.specs.Prelude.{◌≡◌, true, false, [], ◌∷◌, None, Some, Ok, codes};
 ghost use Rattle.wasm_module.specs.declared.types.ValType.TheVariants.{I32};
 ghost use Rattle.comp_tree.specs.declared.instances.Sort.TheVariants as sorts;
 ghost use Rattle.comp_tree.specs.declared.externs.ExternDesc.TheVariants as desc;
+ghost use Rattle.comp_tree.specs.declared.types.ValTypeRef.TheVariants as type_ref;
+ghost use Rattle.comp_tree.specs.declared.types.PrimValType.TheVariants.{String};
 ghost use Rattle.comp_tree.specs.declared.types.DefType.TheVariants as plain_type;
 ghost use Rattle.comp_tree.specs.declared.items.CanonOption.TheVariants as option;
 ghost use Rattle.comp_tree.specs.declared.items.Item.TheVariants as plain;
@@ -16,7 +18,7 @@ ghost use Rattle.builtin_kinds.specs.declared.ContextOp.TheVariants as context_o
 ghost use Rattle.builtin_kinds.specs.declared.WaitOp.TheVariants as wait_op;
 ghost use Rattle.link_spec.specs.declared.fault.LinkWhy.TheVariants as why;
 ghost use Rattle.link_spec.specs.Computed.{linked};
-ghost use Rattle.link_spec.specs.Examples.{root, fault, u32, list_of, record_of, lists, of_lists, import, outer, export_type, instantiate, wanting, giving_both, nesting, begins, of_one, make, make_with_absent, lifting, lifting_twice, with_memory, callable_as, lowering, lowering_string, taking_string, giving_string, passing, passed, built, making, with_async, with_callback};
+ghost use Rattle.link_spec.specs.Examples.{root, fault, u32, list_of, record_of, lists, of_lists, import, outer, export_type, instantiate, wanting, giving_both, nesting, begins, of_one, make, make_with_absent, lifting, lifting_twice, with_memory, callable_as, lowering, lowering_string, taking_string, giving_string, passing, passed, returning, built, making, with_async, with_callback};
 
 /// Faults of one item: an import of the root that is a function, also where its index is not there; an outer alias that goes
 /// past the root; and an export of a name that was exported.
@@ -126,12 +128,14 @@ pub fn types_of_kinds()
     ensures memory { lower_needs_memory true giving_string ≡ true }
 {}
 
-/// Built-ins are made. Where the memory is not there in which an event is put, or a word of the task, one is refused; none is made that
-/// returns a result.
+/// Built-ins are made. Where the memory is not there in which an event is put, or a word of the task, one is refused; and so is one that
+/// returns a result of a type that is not there, or a string without a memory.
 pub fn builtins()
     ensures made { linked (built (read_builtin.Plain plain_builtin.WaitableSetNew)) ≡ making (builtin.Plain plain_builtin.WaitableSetNew) }
     ensures word { linked (built (read_builtin.Context context_op.Set 1)) ≡ making (builtin.Context context_op.Set 1) }
     ensures no_word { linked (built (read_builtin.Context context_op.Set 2)) ≡ fault 0 why.Canon }
     ensures no_memory { linked (built (read_builtin.Wait wait_op.Poll false 0)) ≡ fault 0 why.Index }
-    ensures not_made { linked (built (read_builtin.TaskReturn None [])) ≡ fault 0 why.Canon }
+    ensures returns { linked (built (returning None)) ≡ making (builtin.TaskReturn None no_options) }
+    ensures no_type { linked (built (returning (Some (type_ref.Index 0)))) ≡ fault 0 why.Index }
+    ensures no_result_memory { linked (built (returning (Some (type_ref.Primitive String)))) ≡ fault 0 why.Canon }
 {}

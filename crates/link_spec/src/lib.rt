@@ -15,4 +15,4 @@ pub mod laws;
 mod well_made;
 
 pub use fault::{LinkFault, LinkWhy};
-pub use well_made::{all_within, is_well_made, parts_within};
+pub use well_made::{all_within, held_within, is_well_made, parts_within};

@@ -78,8 +78,8 @@ fn is_within(count: usize, val_type: ValTypeRef) -> bool
     }
 }
 
-/// The same where there may be no part.
-fn held_within(count: usize, part: Option<ValTypeRef>) -> bool
+/// Whether the index of a part is below a count, if there is one.
+pub fn held_within(count: usize, part: Option<ValTypeRef>) -> bool
     ensures { result ≡ value_types.held_within count part }
 {
     match part {

@@ -5,6 +5,7 @@
 
 use builtin_kinds::{ContextOp, PlainBuiltin, WaitOp};
 use ca_base::{MemoryOr, ReadError, Refusal};
+use ca_types::ValType;
 use comp_graph::{
     Action, Builtin, BuiltinKind, CanonFunc, CoreExtern, CoreMake, CoreRef, FuncRef, Graph, Lift,
     Lower, Options,
@@ -14,6 +15,7 @@ use comp_reader::{Component, ComponentWhy, read_component};
 use std::alloc::{AllocError, Global};
 use std::fmt::Write;
 use std::test::Fail;
+use type_texts::type_told;
 
 /// How many core instances are told by their number alone.
 const MANY: usize = 256;
@@ -188,35 +190,75 @@ fn write_wait(
     write_memory(text, Some(memory))
 }
 
-/// Writes what a built-in is.
-fn write_kind(text: &mut String, kind: &BuiltinKind) -> Result<(), AllocError> {
+/// Writes a type of values, or `_` where there is none.
+fn write_type(alloc: Global, text: &mut String, val_type: Option<&ValType>) -> Result<(), Fail> {
+    match val_type {
+        Some(val_type) => text.push_str(type_told(alloc, val_type)?.as_str())?,
+        None => text.push('_')?,
+    }
+    Ok(())
+}
+
+/// Writes what a built-in is that passes values of this type.
+fn write_kind(
+    alloc: Global,
+    text: &mut String,
+    kind: &BuiltinKind,
+    passed: Option<&ValType>,
+) -> Result<(), Fail> {
     match kind {
-        BuiltinKind::Plain(builtin) => text.push_str(plain_name(*builtin)),
-        BuiltinKind::Context { op, slot } => write_context(text, *op, *slot),
+        BuiltinKind::Plain(builtin) => text.push_str(plain_name(*builtin))?,
+        BuiltinKind::Context { op, slot } => write_context(text, *op, *slot)?,
         BuiltinKind::Wait {
             op,
             cancellable,
             memory,
-        } => write_wait(text, *op, *cancellable, *memory),
-        _ => text.push_str("of a type"),
+        } => write_wait(text, *op, *cancellable, *memory)?,
+        BuiltinKind::TaskReturn { result: _, options } => {
+            text.push_str("task.return ")?;
+            write_type(alloc, text, passed)?;
+            write_options(text, *options.get())?
+        }
+        _ => text.push_str("of a type")?,
     }
+    Ok(())
 }
 
 /// Writes a built-in, in a line.
-fn write_builtin(text: &mut String, builtin: &Builtin) -> Result<(), AllocError> {
+fn write_builtin(
+    alloc: Global,
+    text: &mut String,
+    builtin: &Builtin,
+    passed: Option<&ValType>,
+) -> Result<(), Fail> {
     let instance = builtin.instance;
     write!(text, "builtin {instance} ")?;
-    write_kind(text, &builtin.kind)?;
-    text.push('\n')
+    write_kind(alloc, text, &builtin.kind, passed)?;
+    text.push('\n')?;
+    Ok(())
+}
+
+/// Writes the core function of a number that the Canonical ABI makes.
+fn write_canon(
+    alloc: Global,
+    text: &mut String,
+    graph: &Graph<'_>,
+    number: usize,
+) -> Result<(), Fail> {
+    match &graph.canons()[number] {
+        CanonFunc::Lower(lower) => write_lower(text, lower.get())?,
+        CanonFunc::Builtin(builtin) => match graph.canon_value(number) {
+            Some(passed) => write_builtin(alloc, text, builtin, Some(passed.val_type()))?,
+            None => write_builtin(alloc, text, builtin, None)?,
+        },
+    }
+    Ok(())
 }
 
 /// Writes each core function that the Canonical ABI makes.
-fn write_canons(text: &mut String, canons: &[CanonFunc]) -> Result<(), AllocError> {
-    for canon in canons {
-        match canon {
-            CanonFunc::Lower(lower) => write_lower(text, lower.get())?,
-            CanonFunc::Builtin(builtin) => write_builtin(text, builtin)?,
-        }
+fn write_canons(alloc: Global, text: &mut String, graph: &Graph<'_>) -> Result<(), Fail> {
+    for number in 0..graph.canons().len() {
+        write_canon(alloc, text, graph, number)?;
     }
     Ok(())
 }
@@ -238,26 +280,28 @@ fn write_exports(text: &mut String, graph: &Graph<'_>) -> Result<(), AllocError>
 }
 
 /// Writes a graph, or how many core instances it has where there are many.
-fn write_graph(text: &mut String, graph: &Graph<'_>) -> Result<(), AllocError> {
+fn write_graph(alloc: Global, text: &mut String, graph: &Graph<'_>) -> Result<(), Fail> {
     let cores = graph.cores();
     if cores.len() == MANY {
-        return text.push_str("256 core instances");
+        text.push_str("256 core instances")?;
+        return Ok(());
     }
     write_plan(text, graph.plan())?;
     write_cores(text, cores)?;
-    write_canons(text, graph.canons())?;
-    write_exports(text, graph)
+    write_canons(alloc, text, graph)?;
+    write_exports(text, graph)?;
+    Ok(())
 }
 
 /// The text of a graph.
-fn graph_shown(alloc: Global, graph: &Graph<'_>) -> Result<String, AllocError> {
+fn graph_shown(alloc: Global, graph: &Graph<'_>) -> Result<String, Fail> {
     let mut text = String::new(alloc);
-    write_graph(&mut text, graph)?;
+    write_graph(alloc, &mut text, graph)?;
     Ok(text)
 }
 
 /// The text of a graph that is let go then.
-fn graph_text(alloc: Global, graph: Graph<'_>) -> Result<String, AllocError> {
+fn graph_text(alloc: Global, graph: Graph<'_>) -> Result<String, Fail> {
     graph_shown(alloc, &graph)
 }
 

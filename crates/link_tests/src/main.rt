@@ -32,6 +32,7 @@
 //! - `index`: indices of each sort that are not there, in exports, imports, arguments and instances of exports
 //! - `kinds`: lifts and lowers with `async`, and lifts with a callback
 //! - `builtin`: built-ins, their core types, and what uses the core functions
+//! - `returns`: built-ins that return a result
 //! - `unlinked`: what is read and not linked yet
 //!
 //! Answers tell a definition of a core instance as `INSTANCE.INDEX`, and a core function that the Canonical ABI makes as `canon N`,

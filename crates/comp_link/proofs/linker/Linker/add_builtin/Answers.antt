@@ -1,13 +1,10 @@
-use Rattle.std.proofs.Common.{sym, subst, ℕ, Option, None}
-use Rattle.ca_types.specs.declared.types.ValType.{ValType}
+use Rattle.std.proofs.Common.{subst, ℕ}
 use Rattle.comp_graph.specs.declared.graph.CanonFunc.TheVariants as canon_func
-use Rattle.comp_graph.specs.Passed.{MayBeAt}
 use Rattle.link_spec.specs.Items.{with_canon}
 use Rattle.comp_link.specs.State.{IsState}
 use Rattle.comp_link.proofs.linker.Linker.add_builtin.Goals as goal
 
 pub returns-clause-ok : goal.returns-clause-ok
 returns-clause-ok c bases l s at built =
-    let passes = subst (λ (o : Option ValType). MayBeAt c.args.self.now.types.values None o) (sym built.passes_none) tt in
     subst (λ (n : ℕ). IsState bases c.add_canon.new.self (with_canon l c.args.n s (canon_func.Builtin (record { instance = n; kind = c.args.made.kind })))) c.in_ok-instance.ensures
-    (c.in_ok-add_canon.ensures.ok bases l s at passes built.typed)
+    (c.in_ok-add_canon.ensures.ok bases l s at built.passes built.typed)
