@@ -44,7 +44,13 @@ pub mod Picking
 pub mod own
 pub mod Owning
 pub mod SetWaiting
+pub mod OwnCalling
+pub mod CopyEdits
+pub mod Entered
 pub mod OnePlace
 pub mod Guests
 pub mod nexts
 pub mod Reached
+pub mod TypedMoves
+pub mod typed
+pub mod Callees

@@ -29,7 +29,14 @@ pub mod Subtasks
 pub mod Picked
 pub mod Owners
 pub mod SetWaits
+pub mod OwnCallers
+pub mod Entered
 pub mod EndPlaces
 pub mod Writers
 pub mod Guests
 pub mod GoingOn
+pub mod TypedStacks
+pub mod MadeInstances
+pub mod GraphFuncs
+pub mod Callees
+pub mod TypedGoing

@@ -16,6 +16,7 @@ ghost use Rattle.abi_machine.specs.sound.Copies.{FirstIsCopied, CopiesStay};
 ghost use Rattle.abi_machine.specs.sound.Counts.{FirstAddsUp, CountsStay};
 ghost use Rattle.abi_machine.specs.sound.OpenCopies.{FirstHoldsCopies, CopiesStayHeld};
 ghost use Rattle.abi_machine.specs.sound.Holders.{FirstHasOneHolder, OneHolderStays};
+ghost use Rattle.abi_machine.specs.sound.OwnCallers.{FirstByOwn, ByOwnStay};
 ghost use Rattle.abi_machine.specs.sound.Loans.{FirstHoldsLoans, LoansStay};
 ghost use Rattle.abi_machine.specs.sound.PassedTypes.{FirstHoldsNoBorrow, NoBorrowStays};
 ghost use Rattle.abi_machine.specs.sound.Borrows.{BorrowsAreGivenBack};
@@ -24,14 +25,26 @@ ghost use Rattle.abi_machine.specs.sound.Owners.{FirstIsOwn, OwnStays};
 ghost use Rattle.abi_machine.specs.sound.Picked.{FirstIsPicked, PickedStays};
 ghost use Rattle.abi_machine.specs.sound.SetWaits.{FirstHasSets, SetsStay};
 ghost use Rattle.abi_machine.specs.sound.Subtasks.{FirstHasSubtasks, SubtasksStay};
+ghost use Rattle.abi_machine.specs.sound.Callees.{FirstHasCallees, CalleesStay, FunctionsAreThere, DestructorsAreThere};
+ghost use Rattle.abi_machine.specs.sound.TypedGoing.{MovesAreTyped, NestedMovesAreTyped, CallbacksGiveWords, InstancesAreMakeable};
+ghost use Rattle.abi_machine.specs.sound.TypedStacks.{
+  AnswersAreTyped,
+  FirstTyped,
+  InstantiationStaysTyped,
+  MovesStayTyped,
+  NestedMovesStayTyped,
+  StayTypedLater,
+};
 ghost use Rattle.abi_machine.specs.sound.Writers.{FirstHasWriters, WritersStayInOnePlace};
 ghost use Rattle.abi_machine.specs.sound.GoingOn.{WorldsGoOn, ReachedStand, ReachedGoOn};
 ghost use Rattle.abi_machine.specs.sound.Guests.{FirstWaitsAs, WaitsAsStay};
 
 /// Task 0 instantiates, and runs alone until it has exited; it never runs again, and no other task runs a start function. Control says
 /// what is so: where a turn begins no task runs; elsewhere, but where control is back at a task or the run ends in a trap, the acting task
-/// acts, is new, or may be inside its instance; and what is to be copied has room at the other end. A task that is new or waits to enter
-/// has not resolved, and its caller was not told that it has; a writable end stands in one place. So it is in the first world, and so it stays in every step.
+/// acts, is new, or may be inside its instance; what is to be copied has room at the other end; and the task for which values are lowered
+/// has entered. A task that is new or waits to enter has not resolved, its caller was not told that it has, no live borrow handle names it,
+/// it called no other one, and it has no copy under way; a writable end stands in one place. So it is in the first world, and so it stays in
+/// every step.
 pub fn init_runs_alone()
     ensures first { FirstRunsAlone }
     ensures stays { StaysAlone }
@@ -145,9 +158,16 @@ pub fn by_canons_stay()
     ensures stays { ByCanonsStay }
 {}
 
+/// A task that another one called was called by a canonical function that the component instance made whose function that one runs: so it is
+/// in the first world, and so it stays in every step, where definitions stay apart.
+pub fn own_callers_stay()
+    ensures first { FirstByOwn }
+    ensures stays { ByOwnStay }
+{}
+
 /// Each handle that is lent for a call stands in the table of the instance that calls, until the caller is told that the task has resolved;
-/// from then on none is lent for it. So it is in the first world, and so it stays in every step, where tasks call by canonical functions of
-/// their own instances and the types of results and elements hold no borrow.
+/// from then on none is lent for it. So it is in the first world, and so it stays in every step, where definitions stay apart and the types
+/// of results and elements hold no borrow.
 pub fn loans_stay()
     ensures first { FirstHoldsLoans }
     ensures stays { LoansStay }
@@ -160,8 +180,8 @@ pub fn no_borrow_is_passed()
     ensures stays { NoBorrowStays }
 {}
 
-/// In each step a task returns, or is cancelled by itself, only where no live borrow handle names it, and a handle leaves its table only
-/// where nothing is lent of it.
+/// In each step a task resolves only where no live borrow handle names it: where it returns, is cancelled by itself, or is removed while it
+/// waits to enter. A handle leaves its table only where nothing is lent of it.
 pub fn borrows_are_given_back()
     ensures { BorrowsAreGivenBack }
 {}
@@ -223,4 +243,37 @@ pub fn worlds_go_on()
     ensures each { WorldsGoOn }
     ensures stand { ReachedStand }
     ensures reached { ReachedGoOn }
+/// The store is typed, functions of the host are the graph's canonical functions, each task that waits in one goes on typed with words of
+/// its results, and the stack of the acting task, or of nested code, is typed where it makes moves, and has given words of the parameters
+/// where it has called a canonical function; and the core instances that were made are the graph's, and have what their modules say. So it is
+/// in the first world, and so it stays where core instances are made, where the acting task's stack makes moves and goes on to make some,
+/// calls a canonical function, or was that of a start function, and where nested code makes moves. An acting task that waits in a canonical function goes
+/// on typed with words of its results. What waits typed in a store waits typed in each one that extends it with the same core instances.
+pub fn core_moves_stay_typed()
+    ensures first { FirstTyped }
+    ensures instances { InstantiationStaysTyped }
+    ensures moves { MovesStayTyped }
+    ensures nested { NestedMovesStayTyped }
+    ensures answers { AnswersAreTyped }
+    ensures later { StayTypedLater }
+{}
+
+/// A task runs the function of an export of the graph, one that is lowered in it, or a destructor of its resources: so it is in the first
+/// world, and so it stays in every step. Where all core instances were made, the core function of what a task runs, its post-return and its
+/// callback are in the store, of the types that lifting gives them, and so are the destructors of the graph's resources.
+pub fn callees_stay()
+    ensures first { FirstHasCallees }
+    ensures stays { CalleesStay }
+    ensures functions { FunctionsAreThere }
+    ensures destructors { DestructorsAreThere }
+{}
+
+/// In a typed world the next move of the acting task's stack, and of nested code, is typed: a rule applies, what is called is given words of
+/// its parameters, and what ends gives words of its results. Those of a function that is lifted with a callback are one i32. The core
+/// instance that the plan makes next is one of the graph's, and what it imports has addresses and is what its module asks for.
+pub fn typed_code_goes_on()
+    ensures moves { MovesAreTyped }
+    ensures nested { NestedMovesAreTyped }
+    ensures callbacks { CallbacksGiveWords }
+    ensures instances { InstancesAreMakeable }
 {}

@@ -3,7 +3,7 @@ use Rattle.std.proofs.Common.{◌≡◌, ◌∙◌, List, [], ◌∷◌, ◌++�
 use Rattle.comp_graph.specs.Graph.{Graph}
 use Rattle.script_reader.specs.Script.{Script}
 use Rattle.abi_machine.specs.World.{World}
-use Rattle.abi_machine.specs.sound.Changes.{Change, RemovesEntry, Resolves, after, behind_all}
+use Rattle.abi_machine.specs.sound.Changes.{Change, RemovesEntry, IsRemoved, Resolves, after, behind_all}
 use Rattle.abi_machine.specs.sound.Premises.{Comes}
 use Rattle.abi_machine.specs.sound.Borrows.{GivesBack, AllGiveBack, AllCome, BorrowsAreGivenBack}
 use Rattle.abi_machine.proofs.sound.Alone.{kept_so}
@@ -11,6 +11,7 @@ use Rattle.abi_machine.proofs.sound.Changing.{behind_one}
 
 gives_back : (g : Graph) (s : Script) (c : Change) (w : World) → Comes g s c w → GivesBack c w
 gives_back g s (RemovesEntry i index) w may = (may.0, may.1, may.2.1)
+gives_back g s (IsRemoved t) w may = may.2
 gives_back g s (Resolves t resolution) w may = may.1
 gives_back g s change w may = tt
 

@@ -3,6 +3,7 @@ use Rattle.std.proofs.Common.{◌≡◌, ◌≢◌, inl, inr, ℕ, zero, suc, �
 use Rattle.std.proofs.lemmas.Bool.Decides.{nat_tests}
 use Rattle.std.specs.Prelude.{IsSome}
 use Rattle.std.specs.List.{slice_get, AllByRecursion}
+use Rattle.std.specs.Option.{option_map}
 use Rattle.wasm_store.proofs.Lists.{all_at}
 use Rattle.ca_types.specs.declared.types.ValType.{ValType}
 use Rattle.handle_table.specs.History.{Event, Remove, IsHistory, live}
@@ -22,8 +23,9 @@ use Rattle.abi_machine.specs.Counting.{passes, lends_for, lends_of}
 use Rattle.abi_machine.specs.sound.Changes.{Change, GoesTo, HasStore, SpendsUnit, UsesPicks, TakesItem, BeginsInstance, AddsEntry, MakesSet, RemovesEntry, RemovesWaitable, LeavesSet, JoinsSet, HasBackpressure, IsCalled, Calls, ComesBack, Acts, Begins, Cancels, Blocks, Exits, IsRemoved, Resolves, IsCancelled, HasWord, HasNewStack, HasStack, LosesStack, IsAnswered, IsTold, IsLent, HasResult, MakesChannel, Offers, Transfers, Concludes, DropsEnd, after, IsWaitable, Stands}
 use Rattle.abi_machine.specs.sound.Premises.{IsHandle, IsFree, IsOpenCall, IsOpenOf, PassBorrow, MayBeLent, Comes}
 use Rattle.abi_machine.specs.sound.Tables.{HaveHistories}
-use Rattle.abi_machine.specs.sound.Loans.{HoldsHandle, table_of_canon, AreLoans, LoansOf, HoldLoans, CallsByOwn, CallByOwn, FirstHoldsLoans, LoansStay}
+use Rattle.abi_machine.specs.sound.Loans.{HoldsHandle, table_of_canon, AreLoans, LoansOf, HoldLoans, FirstHoldsLoans, LoansStay}
 use Rattle.abi_machine.specs.sound.PassedTypes.{PassesNoBorrow, HoldsNoBorrow}
+use Rattle.abi_machine.specs.sound.OwnCallers.{MadeByOwn, IsByOwn, AreByOwn}
 use Rattle.abi_machine.proofs.sound.Lists.{all_changed, all_more, all_as, get_front, there_front}
 use Rattle.abi_machine.proofs.sound.Found.{some_same, some_there, there_changed, changed_kept}
 use Rattle.abi_machine.proofs.sound.Acted.{one_task}
@@ -32,6 +34,31 @@ use Rattle.abi_machine.proofs.sound.Joined.{live_added, live_removed}
 use Rattle.abi_machine.proofs.sound.Holding.{live_changed}
 use Rattle.abi_machine.proofs.sound.Unborrowed.{holds_kept}
 use Rattle.abi_machine.proofs.sound.Alone.{comes_may, kept_so}
+use Rattle.abi_machine.proofs.sound.Looping.{runs_here}
+use Rattle.abi_machine.proofs.sound.OwnCalling.{by_own_stay}
+
+-- A task calls by canonical functions of its own instance.
+abbrev CallsByOwn : Graph → List Task → Task → Type 0
+CallsByOwn g tasks task =
+    (subtask : Subtask) (c : CanonFunc) (caller : Task) → subtask_of task.caller ≡ Some subtask → canon_at g subtask.canon ≡ Some c → slice_get tasks subtask.by ≡ Some caller
+    → runs_in (inst_of_canon c) caller ≡ true
+
+abbrev CallByOwn : Graph → List Task → Type 0
+CallByOwn g tasks = AllByRecursion (CallsByOwn g tasks) tasks
+
+calls_own : (g : Graph) (tasks : List Task) (by : Caller) (subtask : Subtask) (c : CanonFunc) (caller : Task) → subtask_of by ≡ Some subtask → canon_at g subtask.canon ≡ Some c
+    → slice_get tasks subtask.by ≡ Some caller → IsByOwn g tasks by → runs_in (inst_of_canon c) caller ≡ true
+calls_own g tasks Nobody subtask c caller e i there h = cc
+calls_own g tasks (Host call values) subtask c caller e i there h = cc
+calls_own g tasks (Guest y) subtask c caller e i there h =
+    let same : y ≡ subtask = some_same e in
+    let made : MadeByOwn g y.canon caller = one_task tasks y.by (MadeByOwn g y.canon) caller (ap (λ (z : Subtask). slice_get tasks z.by) same ∙ there) h in
+    let made_it : option_map inst_of_canon (canon_at g y.canon) ≡ Some (inst_of_canon c) = ap (option_map inst_of_canon) (ap (λ (z : Subtask). canon_at g z.canon) same ∙ i) in
+    runs_here (inst_of_canon c) 0 (func_of caller.callee) made.0 made.1 (some_same (sym made.2 ∙ made_it))
+
+call_own : (g : Graph) (tasks : List Task) → AreByOwn g tasks → CallByOwn g tasks
+call_own g tasks h =
+    all_as (λ (x : Task). IsByOwn g tasks x.caller) (CallsByOwn g tasks) (λ x k subtask c caller e i there. calls_own g tasks x.caller subtask c caller e i there k) tasks h
 
 -- That tasks call by canonical functions of their instances was so before each change.
 
@@ -440,4 +467,5 @@ pub first_holds_loans : FirstHoldsLoans
 first_holds_loans g = (tt, tt)
 
 pub loans_stay : LoansStay
-loans_stay g s w v labels none alone history holds own h e = (kept_so g s (Kept g) (keeps_loans g s none) w v labels alone (history, holds, λ l. h) e).2 own
+loans_stay g s w v labels apart none alone o history holds own says called h e =
+    (kept_so g s (Kept g) (keeps_loans g s none) w v labels alone (history, holds, λ l. h) e).2 (call_own g v.tasks (by_own_stay g s w v labels apart alone o own says called e))

@@ -24,7 +24,7 @@ use Rattle.abi_machine.proofs.sound.Lists.{more_either, length_changed, length_m
 use Rattle.abi_machine.proofs.sound.Found.{some_same}
 
 -- what stood where an item is changed
-changed_back : {A : Type 0} (t : ℕ) (f : A → A) (xs : List A) (n : ℕ) (y : A) → slice_get (changed_at t f xs) n ≡ Some y
+pub changed_back : {A : Type 0} (t : ℕ) (f : A → A) (xs : List A) (n : ℕ) (y : A) → slice_get (changed_at t f xs) n ≡ Some y
     → ((n ≡ t) × ((x : A) × (slice_get xs n ≡ Some x) × (y ≡ f x))) ⊎ (slice_get xs n ≡ Some y)
 changed_back t f [] n y h = inr h
 changed_back zero f (x ∷ xs) zero y h = inl (refl, (x, refl, (let same : f x ≡ y = cc in sym same)))
@@ -36,10 +36,10 @@ changed_back (suc t) f (x ∷ xs) (suc n) y h = elim (changed_back t f xs n y h)
 ]
 
 -- An entry that stands in a table that is changed stood there before, or came with the change.
-abbrev CameSo : ℕ → (Inst → Inst) → List Inst → ℕ → ℕ → Entry → Type 0
+abbrev pub CameSo : ℕ → (Inst → Inst) → List Inst → ℕ → ℕ → Entry → Type 0
 CameSo i f insts j index x = (j ≡ i) × ((inst : Inst) × (slice_get insts j ≡ Some inst) × (live (f inst).table index ≡ Some x))
 
-table_back : (insts : List Inst) (i : ℕ) (f : Inst → Inst) (j index : ℕ) (x : Entry) → live (table_in (slice_get (changed_at i f insts) j)) index ≡ Some x
+pub table_back : (insts : List Inst) (i : ℕ) (f : Inst → Inst) (j index : ℕ) (x : Entry) → live (table_in (slice_get (changed_at i f insts) j)) index ≡ Some x
     → CameSo i f insts j index x ⊎ (live (table_in (slice_get insts j)) index ≡ Some x)
 table_back insts i f j index x there = by (slice_get (changed_at i f insts) j) refl there
   where
@@ -51,7 +51,7 @@ table_back insts i f j index x there = by (slice_get (changed_at i f insts) j) r
     ]
 
 -- a change that adds nothing
-abbrev AddsNone : (Inst → Inst) → Type 0
+abbrev pub AddsNone : (Inst → Inst) → Type 0
 AddsNone f = (inst : Inst) (index : ℕ) (x : Entry) → live (f inst).table index ≡ Some x → live inst.table index ≡ Some x
 
 none_back : (insts : List Inst) (i : ℕ) (f : Inst → Inst) → AddsNone f → (j index : ℕ) (e : EndRef) → EndStandsAt (changed_at i f insts) j index e → EndStandsAt insts j index e
@@ -74,7 +74,7 @@ removed_so : {A : Type 0} (b : Bool) (y : A) (o : Option A) → (if b then None 
 removed_so true y o h = cc
 removed_so false y o h = h
 
-remove_none : (gone : ℕ) → AddsNone (λ inst. record inst { table = Remove gone ∷ inst.table })
+pub remove_none : (gone : ℕ) → AddsNone (λ inst. record inst { table = Remove gone ∷ inst.table })
 remove_none gone inst index x k = removed_so (nat_eq gone index) x (live inst.table index) k
 
 begun_back : (insts : List Inst) (j index : ℕ) (e : EndRef) → EndStandsAt (insts ++ new_inst ∷ []) j index e → EndStandsAt insts j index e
@@ -92,7 +92,7 @@ begun_back insts j index e there = by (slice_get (insts ++ new_inst ∷ []) j) r
 
 -- An entry is added.
 
-added_so : {A : Type 0} (b : Bool) (x y : A) (o : Option A) → (if b then Some x else o) ≡ Some y → ((b ≡ true) × (x ≡ y)) ⊎ (o ≡ Some y)
+pub added_so : {A : Type 0} (b : Bool) (x y : A) (o : Option A) → (if b then Some x else o) ≡ Some y → ((b ≡ true) × (x ≡ y)) ⊎ (o ≡ Some y)
 added_so true x y o h = inl (refl, some_same h)
 added_so false x y o h = inr h
 
@@ -225,7 +225,7 @@ new_is_made i Future element w = (let longer : length (w.futures ++ new_channel 
 
 -- Every change.
 
-none_same : (f : Inst → Inst) → ((x : Inst) → (f x).table ≡ x.table) → AddsNone f
+pub none_same : (f : Inst → Inst) → ((x : Inst) → (f x).table ≡ x.table) → AddsNone f
 none_same f same inst index x k = subst (λ (t : List (Event Entry)). live t index ≡ Some x) (same inst) k
 
 same_tables : (insts : List Inst) (streams futures : List Channel) (i : ℕ) (f : Inst → Inst) → ((x : Inst) → (f x).table ≡ x.table) → WritersStand insts streams futures

@@ -15,7 +15,7 @@ use Rattle.abi_machine.proofs.sound.known.Keeping.{Promises}
 use Rattle.abi_machine.proofs.sound.known.Beside.{beside}
 use Rattle.abi_machine.proofs.sound.known.Turning.{step_known}
 
-get_mapped : (all : List CanonFunc) (number : ℕ) (c : CanonFunc) → slice_get all number ≡ Some c → slice_get (map (λ x. HostFunction (canon_type x)) all) number ≡ Some (HostFunction (canon_type c))
+pub get_mapped : (all : List CanonFunc) (number : ℕ) (c : CanonFunc) → slice_get all number ≡ Some c → slice_get (map (λ x. HostFunction (canon_type x)) all) number ≡ Some (HostFunction (canon_type c))
 get_mapped [] number c e = cc
 get_mapped (x ∷ all) zero c e = let same : x ≡ c = cc in ap (λ (y : CanonFunc). Some (HostFunction (canon_type y))) same
 get_mapped (x ∷ all) (suc number) c e = get_mapped all number c e

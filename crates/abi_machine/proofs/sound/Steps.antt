@@ -43,7 +43,7 @@ module _ {g : Graph} {s : Script} (inv : Invariant g s) where
       given_keeps inv (func_named g call.name) _ (λ f e.
       let c : Change = IsCalled (Func f) (calls_taken s w + 1) call.values in
       goes inv Arrives (after c (item_taken w)) (new_first w.tasks w.chain (new_task (Func f) (Host (calls_taken s w + 1) call.values) IsNew) refl)
-      (inv.stays c (item_taken w) (refl, idle, λ b. inr (call.name, f, e, subst (λ (x : Lifted). held_borrow x.func_type.result ≡ true) (sym (some_same b.1)) b.2)) taken))
+      (inv.stays c (item_taken w) (refl, idle, (λ b. inr (call.name, f, e, subst (λ (x : Lifted). held_borrow x.func_type.result ≡ true) (sym (some_same b.1)) b.2)), inl (call.name, e)) taken))
   item_keeps (item.Cancel call) w idle taken =
       given_keeps inv (task_of_call call w) _ (λ found e.
       behind_keeps inv (line.Cancel call ∷ []) _
@@ -92,8 +92,8 @@ module _ {g : Graph} {s : Script} (inv : Invariant g s) where
   each_keeps w Runs says h = running_keeps inv w (h, says)
   each_keeps w (control.Calls number words) says h = calling_keeps inv number words w (h, says)
   each_keeps w Arrives says h = arriving_keeps inv w says h
-  each_keeps w (Lowers l plan) says h = lowers_keeps inv l plan w ((h, says.0), says.1)
-  each_keeps w (Quiet n b) says h = nested_keeps inv n b w ((h, says.0), says.1)
+  each_keeps w (Lowers l plan) says h = lowers_keeps inv l plan w (((h, says.0), says.1), says.2)
+  each_keeps w (Quiet n b) says h = nested_keeps inv n b w ((h, says.0), says.1, says.2)
   each_keeps w Back says h = back_keeps inv w h
   each_keeps w GoesOn says h = going_keeps w says h
   each_keeps w Resumes says h = resuming_keeps inv w says h

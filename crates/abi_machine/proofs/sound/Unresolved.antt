@@ -24,7 +24,7 @@ use Rattle.abi_machine.proofs.sound.Acted.{one_task}
 use Rattle.abi_machine.proofs.sound.Aside.{channel_kept, made_kept}
 
 -- A task that acts, or is blocked behind its entry, has entered.
-acting_entered : (state : TaskState) → IsActingState state → HasNotEntered state → ⊥
+pub acting_entered : (state : TaskState) → IsActingState state → HasNotEntered state → ⊥
 acting_entered Acting is new = new
 acting_entered (world.Begins n) is new = new
 acting_entered New is new = is

@@ -1,6 +1,6 @@
 -- What control says of the rest (Component Model, Concurrency.md, "Summary"; CanonicalABI.md, "Stream State"): where a turn begins no task
--- runs, and while a graph is instantiated task 0 alone runs; what the acting task is at; and, where elements are copied, that there is room
--- for them at the other end.
+-- runs, and while a graph is instantiated task 0 alone runs; what the acting task is at; where elements are copied, that there is room for
+-- them at the other end; and that the task for which values are lowered has entered.
 use Rattle.std.specs.Prelude.{◌≡◌, ◌≤◌, ℕ, ◌-◌, List, [], ◌∷◌, length, Option, Some, None}
 use Rattle.builtin_kinds.specs.declared.EndKind.{EndKind}
 use Rattle.builtin_kinds.specs.declared.EndKind.TheVariants.{Stream, Future}
@@ -11,6 +11,7 @@ use Rattle.abi_machine.specs.Control.{EndRef, Then, Starts, Resolves, Transfers,
 use Rattle.abi_machine.specs.World.{New, Channel, Task, World}
 use Rattle.abi_machine.specs.Reading.{numbered}
 use Rattle.abi_machine.specs.sound.Firsts.{FirstIs, IsActing, MayBeInside}
+use Rattle.abi_machine.specs.sound.Entering.{HasEntered}
 
 -- So many elements are to go over, to or from the end of a call: nothing is under way there, and an offer with room for them stands at the
 -- other end. A future has one value.
@@ -43,6 +44,11 @@ abbrev pub IsDueAfter : Behind → List Channel → List Channel → Type 0
 IsDueAfter (InLowering l k) streams futures = IsDueBehind l.next streams futures
 IsDueAfter BeforeLeaving streams futures = Unit {0}
 
+-- the task for which values are lowered behind nested code
+abbrev pub LowersForEntered : Behind → List Task → Type 0
+LowersForEntered (InLowering l k) tasks = HasEntered tasks l.acts_for
+LowersForEntered BeforeLeaving tasks = Unit {0}
+
 -- The acting task acts; it is new; it may be inside its instance.
 abbrev pub FirstActs : List Task → List ℕ → Type 0
 FirstActs tasks chain = FirstIs tasks chain IsActing
@@ -60,8 +66,8 @@ Tells (Instantiates n) tasks chain streams futures = chain ≡ 0 ∷ []
 Tells Runs tasks chain streams futures = FirstActs tasks chain
 Tells (Calls number words) tasks chain streams futures = FirstActs tasks chain
 Tells Arrives tasks chain streams futures = FirstIsNew tasks chain
-Tells (Lowers l plan) tasks chain streams futures = FirstActs tasks chain × IsDueBehind l.next streams futures
-Tells (Quiet n b) tasks chain streams futures = FirstActs tasks chain × IsDueAfter b streams futures
+Tells (Lowers l plan) tasks chain streams futures = FirstActs tasks chain × IsDueBehind l.next streams futures × HasEntered tasks l.acts_for
+Tells (Quiet n b) tasks chain streams futures = FirstActs tasks chain × IsDueAfter b streams futures × LowersForEntered b tasks
 Tells Goes tasks chain streams futures = FirstIsLetIn tasks chain
 Tells Resumes tasks chain streams futures = FirstIsLetIn tasks chain
 Tells (Delivers set receiver pick) tasks chain streams futures = FirstActs tasks chain

@@ -1,5 +1,5 @@
--- Borrows (Component Model, CanonicalABI.md, "Task State": `Task.return_`, `Task.cancel`; `canon resource.drop`, `lift_own`): where a task resolves
--- by itself no live borrow handle names it, and a handle leaves its table only where nothing is lent of it.
+-- Borrows (Component Model, CanonicalABI.md, "Task State": `Task.return_`, `Task.cancel`; `canon subtask.cancel`, `canon resource.drop`, `lift_own`):
+-- where a task resolves no live borrow handle names it, and a handle leaves its table only where nothing is lent of it.
 use Rattle.std.specs.Prelude.{◌≡◌, List, [], ◌∷◌}
 use Rattle.comp_graph.specs.Graph.{Graph}
 use Rattle.script_reader.specs.Script.{Script}
@@ -9,12 +9,13 @@ use Rattle.abi_machine.specs.Counting.{borrows_of}
 use Rattle.abi_machine.specs.Turn.{Steps}
 use Rattle.abi_machine.specs.Next.{next}
 use Rattle.abi_machine.specs.sound.Initial.{RunsAlone}
-use Rattle.abi_machine.specs.sound.Changes.{Change, RemovesEntry, Resolves, after, behind_all, Stands}
+use Rattle.abi_machine.specs.sound.Changes.{Change, RemovesEntry, IsRemoved, Resolves, after, behind_all, Stands}
 use Rattle.abi_machine.specs.sound.Premises.{IsUnlent, Comes}
 
 -- where a change comes
 abbrev pub GivesBack : Change → World → Type 0
 GivesBack (RemovesEntry i index) w = Stands w i index (IsUnlent w i index)
+GivesBack (IsRemoved t) w = borrows_of w t ≡ 0
 GivesBack (Resolves t resolution) w = borrows_of w t ≡ 0
 GivesBack change w = Unit {0}
 

@@ -11,11 +11,14 @@ use Rattle.script_reader.specs.Script.{Script}
 use Rattle.trace_show.specs.declared.label.Label.{Label}
 use Rattle.abi_machine.specs.World.{Entry, Inst, Subtask, Caller, Nobody, Host, Guest, Task, World, first_world}
 use Rattle.abi_machine.specs.Canons.{inst_of_canon, canon_at}
-use Rattle.abi_machine.specs.Reading.{table_in, runs_in, subtask_of}
+use Rattle.abi_machine.specs.Reading.{table_in}
 use Rattle.abi_machine.specs.Turn.{Steps}
 use Rattle.abi_machine.specs.Next.{next}
 use Rattle.abi_machine.specs.sound.Initial.{RunsAlone}
 use Rattle.abi_machine.specs.sound.Tables.{HaveHistories}
+use Rattle.abi_machine.specs.sound.Acting.{IsOrdered}
+use Rattle.abi_machine.specs.sound.Owners.{IsApart, IsOwnWorld, IsControlOwn}
+use Rattle.abi_machine.specs.sound.OwnCallers.{AreByOwn}
 use Rattle.abi_machine.specs.sound.Premises.{IsHandle}
 use Rattle.abi_machine.specs.sound.PassedTypes.{PassesNoBorrow, HoldsNoBorrow}
 
@@ -39,20 +42,11 @@ LoansOf g tasks insts (Guest subtask) = AreLoans g tasks insts subtask
 abbrev pub HoldLoans : Graph → List Task → List Inst → Type 0
 HoldLoans g tasks insts = AllByRecursion (λ task. LoansOf g tasks insts task.caller) tasks
 
--- A task calls by canonical functions of its own instance.
-abbrev pub CallsByOwn : Graph → List Task → Task → Type 0
-CallsByOwn g tasks task =
-    (subtask : Subtask) (c : CanonFunc) (caller : Task) → subtask_of task.caller ≡ Some subtask → canon_at g subtask.canon ≡ Some c → slice_get tasks subtask.by ≡ Some caller
-    → runs_in (inst_of_canon c) caller ≡ true
-
-abbrev pub CallByOwn : Graph → List Task → Type 0
-CallByOwn g tasks = AllByRecursion (CallsByOwn g tasks) tasks
-
 -- So it is in the first world, and so it stays.
 abbrev pub FirstHoldsLoans : Type 0
 FirstHoldsLoans = (g : Graph) → HoldLoans g (first_world g).tasks (first_world g).insts
 
 abbrev pub LoansStay : Type 0
 LoansStay =
-    (g : Graph) (s : Script) (w v : World) (labels : List Label) → PassesNoBorrow g → RunsAlone w → HaveHistories w.insts → HoldsNoBorrow w → CallByOwn g v.tasks → HoldLoans g w.tasks w.insts
-    → next g s w ≡ Steps labels v → HoldLoans g v.tasks v.insts
+    (g : Graph) (s : Script) (w v : World) (labels : List Label) → IsApart g → PassesNoBorrow g → RunsAlone w → IsOrdered w → HaveHistories w.insts → HoldsNoBorrow w → IsOwnWorld g w
+    → IsControlOwn g w.control w → AreByOwn g w.tasks → HoldLoans g w.tasks w.insts → next g s w ≡ Steps labels v → HoldLoans g v.tasks v.insts

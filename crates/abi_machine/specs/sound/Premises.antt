@@ -34,6 +34,9 @@ use Rattle.abi_machine.specs.sound.Changes.{Change, SpendsUnit, UsesPicks, Takes
 use Rattle.abi_machine.specs.sound.Firsts.{TaskIs, IsActing, IsLetIn}
 use Rattle.abi_machine.specs.sound.Agreeing.{IsDueAt, channel_in}
 use Rattle.abi_machine.specs.sound.EndPlaces.{IsFreshEnd}
+use Rattle.abi_machine.specs.sound.Entering.{HasEntered}
+use Rattle.abi_machine.specs.sound.Entered.{NamesEntered}
+use Rattle.abi_machine.specs.sound.GraphFuncs.{IsOfGraph}
 
 -- One that is to wait until it may enter is new, and any other one acts before it blocks. One that blocks in its loop has a callback.
 abbrev pub BlocksFrom : TaskState → Task → Type 0
@@ -152,6 +155,7 @@ pub record IsCall (g : Graph) (w : World) (e : EndRef) (call : OpenCopy) : Type 
   pub index : ℕ
   pub is : call ≡ new_copy (by.Task task) canon place size
   pub acts : IsSome (slice_get w.tasks task)
+  pub entered : HasEntered w.tasks task
   pub made : IsSome (canon_at g canon)
   pub fits : IsSizeIn e.kind size
   pub held : entry_at w inst index ≡ Some (OfEnd e)
@@ -163,23 +167,23 @@ abbrev pub Comes : Graph → Script → Change → World → Type 0
 Comes g s SpendsUnit w = w.units < s.fuel
 Comes g s (UsesPicks picks) w = (count : ℕ) × (picks ≡ (drawn count (picks_of s w)).used)
 Comes g s TakesItem w = IsSome (slice_get s.items w.taken)
-Comes g s (AddsEntry i entry) w = (live_count (table_of w i) < most_live) × IsAdded w.tasks entry × IsFreshEnd w entry
+Comes g s (AddsEntry i entry) w = (live_count (table_of w i) < most_live) × IsAdded w.tasks entry × IsFreshEnd w entry × NamesEntered w.tasks entry
 Comes g s (MakesSet i set) w = (live_count (table_of w i) < most_live) × (set ≡ length (sets_in (slice_get w.insts i)))
 Comes g s (RemovesEntry i index) w = Stands w i index (IsFree w i index)
 Comes g s (RemovesWaitable i index) w = Stands w i index (IsTaken w)
 Comes g s (JoinsSet i index set) w = Stands w i index IsWaitable × ((other : ℕ) × (entry_at w i other ≡ Some (OfSet set)))
 Comes g s (HasBackpressure i backpressure) w = (backpressure ≤ most_backpressure) ⊎ (backpressure ≤ backpressure_of w i)
-Comes g s (IsCalled callee call values) w = IsSome (func_of callee) × (w.chain ≡ []) × (ReturnsBorrow callee → GraphPassesBorrow g)
+Comes g s (IsCalled callee call values) w = IsSome (func_of callee) × (w.chain ≡ []) × (ReturnsBorrow callee → GraphPassesBorrow g) × IsOfGraph g callee
 Comes g s (Calls number callee subtask words) w =
     IsSome (func_of callee) × IsSome (task_at w subtask.by) × IsFirst subtask.by w.chain × (may_leave w ≡ true) × TaskIs w.tasks subtask.by IsActing
-    × IsNewSubtask subtask × (ReturnsBorrow callee → GraphPassesBorrow g)
+    × IsNewSubtask subtask × (ReturnsBorrow callee → GraphPassesBorrow g) × IsOfGraph g callee
 Comes g s (ComesBack t) w = HasFunc w.tasks t × ((w.chain ≡ []) ⊎ FirstCancels w.tasks w.chain)
 Comes g s (Acts t) w = IsFirst t w.chain × IsLetIn w.tasks t
 Comes g s (Begins n) w = IsFirst 0 w.chain × TaskIs w.tasks 0 (λ task. task.callee ≡ Init)
 Comes g s (Cancels t callee number words) w = IsFirst t w.chain × (may_leave w ≡ true) × TaskIs w.tasks t IsActing × IsGuest w.tasks callee
 Comes g s (Blocks t state) w = IsFirst t w.chain × IsBlocked state × ((may_leave w ≡ true) ⊎ HasFunc w.tasks t) × TaskIs w.tasks t (BlocksFrom state)
 Comes g s (Exits t) w = IsFirst t w.chain
-Comes g s (IsRemoved t) w = HasFunc w.tasks t × TaskIs w.tasks t IsRemovable
+Comes g s (IsRemoved t) w = HasFunc w.tasks t × TaskIs w.tasks t IsRemovable × (borrows_of w t ≡ 0)
 Comes g s (Resolves t resolution) w = TaskIs w.tasks t (MayResolve resolution) × (borrows_of w t ≡ 0)
 Comes g s (IsCancelled t cancellation) w = TaskIs w.tasks t (MayBecome cancellation)
 Comes g s (IsTold t state) w = TaskIs w.tasks t (λ task. state ≡ subtask_state task)

@@ -187,7 +187,7 @@ tasks_recount g count other (task ∷ tasks) nothing h = (
 -- One more core instance.
 
 -- segments leave functions and instances alone
-abbrev IsLike : Store → Store → Type 0
+abbrev pub IsLike : Store → Store → Type 0
 IsLike s t = (t.funcs ≡ s.funcs) × (t.instances ≡ s.instances)
 
 table_like : (s u v : Store) (at : ℕ) (entries : List (Option ℕ)) (o : Option (ℕ × Table)) → IsLike s u → into_table at entries o u ≡ Some v → IsLike s v
@@ -206,7 +206,7 @@ memory_like s u v at bytes (Some m) h e = by _ _ e h
     by true x k l = subst (IsLike s) (some_same x v k) l
     by false x k l = cc
 
-made_like : (c : CoreMake) (imports : List External) (s : Store) → LeavesWith (IsLike (allocated c.of_module imports s)) (instantiated c.of_module imports s)
+pub made_like : (c : CoreMake) (imports : List External) (s : Store) → LeavesWith (IsLike (allocated c.of_module imports s)) (instantiated c.of_module imports s)
 made_like c imports s =
     let i : Instance = instance_of c.of_module imports s in
     let mid : Store = allocated c.of_module imports s in

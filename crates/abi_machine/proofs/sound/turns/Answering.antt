@@ -88,6 +88,7 @@ use Rattle.abi_machine.proofs.sound.turns.Keeping.{Invariant, Keeps, Acted, give
 use Rattle.abi_machine.proofs.sound.turns.Moving.{ActsLike, acts_like, no_fault, no_borrows, result_comes, resolves_keeps}
 use Rattle.abi_machine.proofs.sound.turns.Waking.{IsToCancel, call_keeps, with_keeps, none_keeps, cancel_keeps, yielded_keeps, cancelled_keeps}
 use Rattle.abi_machine.proofs.sound.turns.Nesting.{exempt_keeps, meets_keeps}
+use Rattle.abi_machine.proofs.sound.Entered.{acts_entered}
 
 -- what is known of a task that is looked up, of a fault that is not found, and of a copy
 is_there : (tasks : List Task) (t : ℕ) (task : Task) → slice_get tasks t ≡ Some task → IsSome (slice_get tasks t)
@@ -145,21 +146,21 @@ module _ {g : Graph} {s : Script} (inv : Invariant g s) where
   unfolding resource_new_turn
   new_handle_keeps t i resource rep w h =
       entry_keeps inv t i (OwnHandle resource rep) w (λ index v. replied t (index ∷ []) v) h (λ few.
-      on_keeps inv t (next_index (table_of w i) ∷ []) (entry_added i (OwnHandle resource rep) w) (stay inv (AddsEntry i (OwnHandle resource rep)) w tt (few, tt, tt) h))
+      on_keeps inv t (next_index (table_of w i) ∷ []) (entry_added i (OwnHandle resource rep) w) (stay inv (AddsEntry i (OwnHandle resource rep)) w tt (few, tt, tt, tt) h))
 
-  destroyed_keeps : (t i number : ℕ) (words : List ℕ) (resource : ℕ) (r : Resource) (destructor : Option FuncRef) (rep : ℕ) (w : World) → IsSome (task_at w t) → IsFirst t w.chain → may_leave w ≡ true → Acted inv w
+  destroyed_keeps : (t i number : ℕ) (words : List ℕ) (resource : ℕ) (r : Resource) (destructor : Option FuncRef) (rep : ℕ) (w : World) → resource_at g resource ≡ Some r → r.destructor ≡ destructor → IsSome (task_at w t) → IsFirst t w.chain → may_leave w ≡ true → Acted inv w
       → Keeps inv (destroyed t i number words resource r destructor rep w)
   unfolding destroyed destroyed_here
-  destroyed_keeps t i number words resource r None rep w there first free h =
+  destroyed_keeps t i number words resource r None rep w at is there first free h =
       unless_keeps inv t (not (nat_eq r.instance i) && is_reentrant w r.instance t) trap.Reentrant w (replied t [] w) h (λ e. on_keeps inv t [] w h)
-  destroyed_keeps t i number words resource r (Some ref) rep w there first free h =
+  destroyed_keeps t i number words resource r (Some ref) rep w at is there first free h =
       either_keeps inv (nat_eq r.instance i) _ _ (λ e. given_keeps inv (found_at w.store.funcs (func_address w.store ref)) _ (λ function j. new_stack_keeps inv t _ w h))
-      (λ e. call_keeps inv t number words (Destroys resource (destructor_of r.instance ref)) (destructor_of r.instance ref) (rep ∷ []) w refl (λ b. absurd (no_result r.instance ref b.0 b.1 b.2)) there first free h)
+      (λ e. call_keeps inv t number words (Destroys resource (destructor_of r.instance ref)) (destructor_of r.instance ref) (rep ∷ []) w refl (λ b. absurd (no_result r.instance ref b.0 b.1 b.2)) (r, ref, at, is, refl) there first free h)
 
   dropped_keeps : (t i number : ℕ) (words : List ℕ) (x : Handle) (o : Ownership) (w : World) → IsSome (task_at w t) → IsFirst t w.chain → may_leave w ≡ true → Acted inv w → Keeps inv (dropped g t i number words x o w)
   unfolding dropped
   dropped_keeps t i number words x (Borrow task) w there first free h = on_keeps inv t [] w h
-  dropped_keeps t i number words x Own w there first free h = given_keeps inv (resource_at g x.resource) _ (λ r e. destroyed_keeps t i number words x.resource r r.destructor x.rep w there first free h)
+  dropped_keeps t i number words x Own w there first free h = given_keeps inv (resource_at g x.resource) _ (λ r e. destroyed_keeps t i number words x.resource r r.destructor x.rep w e refl there first free h)
 
   drop_keeps : (t i number resource : ℕ) (words : List ℕ) (w : World) → IsSome (task_at w t) → IsFirst t w.chain → may_leave w ≡ true → Acted inv w → Keeps inv (resource_drop_turn g t i number resource words w)
   unfolding resource_drop_turn
@@ -255,9 +256,9 @@ module _ {g : Graph} {s : Script} (inv : Invariant g s) where
       let both : ℕ → World → Turn = λ first u. with_entry t i writable u (λ second x. replied t (both_indices first second ∷ []) x) in
       entry_keeps inv t i readable v both j (λ few.
       let u : World = entry_added i readable v in
-      let k : Acted inv u = stay inv (AddsEntry i readable) v tt (few, tt, inl refl) j in
+      let k : Acted inv u = stay inv (AddsEntry i readable) v tt (few, tt, inl refl, tt) j in
       entry_keeps inv t i writable u (λ second x. replied t (both_indices (next_index (table_of v i)) second ∷ []) x) k (λ more.
-      on_keeps inv t (both_indices (next_index (table_of v i)) (next_index (table_of u i)) ∷ []) (entry_added i writable u) (stay inv (AddsEntry i writable) u tt (more, tt, inr (new_is_made i kind element w, new_nowhere i kind element w (inv.writers w h.0))) k)))
+      on_keeps inv t (both_indices (next_index (table_of v i)) (next_index (table_of u i)) ∷ []) (entry_added i writable u) (stay inv (AddsEntry i writable) u tt (more, tt, inr (new_is_made i kind element w, new_nowhere i kind element w (inv.writers w h.0)), tt) k)))
 
   placed_keeps : (t : ℕ) (bytes : List ℕ) (element : Option ValType) (place size : ℕ) (w : World) (more : Turn) → Acted inv w → Keeps inv more → Keeps inv (placed_well t bytes element place size w more)
   unfolding placed_well
@@ -293,6 +294,7 @@ module _ {g : Graph} {s : Script} (inv : Invariant g s) where
         index = slice_index words 0;
         is = refl;
         acts = there;
+        entered = acts_entered w.tasks t (first_at w.tasks w.chain t IsActing first h.1);
         made = made;
         fits = subst (λ (k : EndKind). IsSizeIn k size) (sym (end_found w i kind side element (slice_index words 0) e j).1) (fits (no_more max_length size m));
         held = (end_found w i kind side element (slice_index words 0) e j).0;
@@ -382,16 +384,16 @@ module _ {g : Graph} {s : Script} (inv : Invariant g s) where
   builtin_keeps : (t : ℕ) (task : Task) (i number : ℕ) (b : BuiltinKind) (words : List ℕ) (w : World) → (held_borrow (passed_value b) ≡ true → GraphPassesBorrow g) → IsSome (canon_at g number) → slice_get w.tasks t ≡ Some task → IsFirst t w.chain → may_leave w ≡ true → Acted inv w → Keeps inv (builtin_turn g t task i number b words w)
   unfolding builtin_turn
   builtin_keeps t task i number (builtin.Resource op resource) words w returns made there first free h = resource_keeps t i number op resource words w (is_there w.tasks t task there) first free h
-  builtin_keeps t task i number (builtin.TaskReturn result options) words w returns made there first free h = return_keeps t task i result options words w returns (acts_like t task w first there) h
+  builtin_keeps t task i number (builtin.TaskReturn result options) words w returns made there first free h = return_keeps t task i result options words w returns (acts_like t task w first there (inv.entered w h.0)) h
   builtin_keeps t task i number (builtin.Plain op) words w returns made there first free h = plain_keeps t task i number op words w there first free h
   builtin_keeps t task i number (builtin.Context op slot) words w returns made there first free h = tt
   builtin_keeps t task i number (builtin.Wait op cancellable memory) words w returns made there first free h = wait_turn_keeps t task i op number words w there first free h
   builtin_keeps t task i number (builtin.End of_what element op) words w returns made there first free h = ends_keep t i number of_what element op words w returns made (is_there w.tasks t task there) first free h
 
-  reply_keeps : (t : ℕ) (task : Task) (number : ℕ) (c : CanonFunc) (words : List ℕ) (w : World) → (held_borrow (passed_type c) ≡ true → GraphPassesBorrow g) → IsSome (canon_at g number) → slice_get w.tasks t ≡ Some task → IsFirst t w.chain → may_leave w ≡ true → Acted inv w → Keeps inv (reply g t task number c words w)
+  reply_keeps : (t : ℕ) (task : Task) (number : ℕ) (c : CanonFunc) (words : List ℕ) (w : World) → (held_borrow (passed_type c) ≡ true → GraphPassesBorrow g) → canon_at g number ≡ Some c → IsSome (canon_at g number) → slice_get w.tasks t ≡ Some task → IsFirst t w.chain → may_leave w ≡ true → Acted inv w → Keeps inv (reply g t task number c words w)
   unfolding reply
-  reply_keeps t task number (canon.Lower l) words w returns made there first free h = call_keeps inv t number words (Func (lifted_of l)) (lifted_of l) words w refl (λ b. returns (subst (λ (x : Lifted). held_borrow x.func_type.result ≡ true) (sym (some_same b.1)) b.2)) (is_there w.tasks t task there) first free h
-  reply_keeps t task number (canon.Builtin b) words w returns made there first free h = builtin_keeps t task b.instance number b.kind words w returns made there first free h
+  reply_keeps t task number (canon.Lower l) words w returns is made there first free h = call_keeps inv t number words (Func (lifted_of l)) (lifted_of l) words w refl (λ b. returns (subst (λ (x : Lifted). held_borrow x.func_type.result ≡ true) (sym (some_same b.1)) b.2)) (inr (number, l, is, refl)) (is_there w.tasks t task there) first free h
+  reply_keeps t task number (canon.Builtin b) words w returns is made there first free h = builtin_keeps t task b.instance number b.kind words w returns made there first free h
 
   exempted_keeps : (t : ℕ) (r : Result Answers TrapName) (w : World) → ((answer : Answers) → r ≡ Ok answer → Acted inv answer.world) → Acted inv w → Keeps inv (exempt_turn t r w)
   unfolding exempt_turn
@@ -409,5 +411,5 @@ module _ {g : Graph} {s : Script} (inv : Invariant g s) where
           exempted_keeps a.0 (exempt w) w (λ answer j. exempt_keeps (Acted inv) (λ t slot word v k. stay inv (HasWord t slot word) v tt tt k) a.0 words c exempt f w answer j h) h
       by a e c i None f =
           either_keeps inv (may_leave w) _ _
-          (λ j. reply_keeps a.0 a.1 number c words w (λ b. inl (number, c, i, b)) (subst (λ (o : Option CanonFunc). IsSome o) (sym i) refl) (acting_is w a e) (acting_first w a e) j h)
+          (λ j. reply_keeps a.0 a.1 number c words w (λ b. inl (number, c, i, b)) i (subst (λ (o : Option CanonFunc). IsSome o) (sym i) refl) (acting_is w a e) (acting_first w a e) j h)
           (λ j. goes_on inv (Doomed a.0 trap.CannotLeave) w tt h)

@@ -29,6 +29,7 @@ use Rattle.abi_machine.specs.sound.Changes.{Change, GoesTo, HasStore, SpendsUnit
 use Rattle.abi_machine.specs.sound.Premises.{IsFree, IsTaken, MayBeLent, BlocksFrom, Comes}
 use Rattle.abi_machine.specs.sound.Entering.{EntersUnresolved}
 use Rattle.abi_machine.specs.sound.EndPlaces.{WritersStandOnce}
+use Rattle.abi_machine.specs.sound.Entered.{HaveEntered}
 use Rattle.abi_machine.specs.sound.Agreeing.{FirstActs, Agrees}
 use Rattle.abi_machine.proofs.sound.Lifts.{Leaves as LeavesWith}
 use Rattle.abi_machine.proofs.sound.Takeable.{behind_agrees}
@@ -43,6 +44,7 @@ pub record Invariant (g : Graph) (s : Script) : Type 1 where
   pub alone : (w : World) (t : ℕ) (task : Task) (n : ℕ) → Holds w → IsFirst t w.chain → slice_get w.tasks t ≡ Some task → task.state ≡ Begins n → w.chain ≡ 0 ∷ []
   pub enters : (w : World) (t : ℕ) (task : Task) → Holds w → slice_get w.tasks t ≡ Some task → EntersUnresolved task
   pub writers : (w : World) → Holds w → WritersStandOnce w
+  pub entered : (w : World) → Holds w → HaveEntered w
 
 pub less : (a b : ℕ) → nat_lt a b ≡ true → a < b
 less a b h = grind (arith, nat_tests)

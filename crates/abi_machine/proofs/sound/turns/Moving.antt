@@ -56,17 +56,19 @@ use Rattle.abi_machine.proofs.sound.Takeable.{behind_agrees}
 use Rattle.abi_machine.proofs.sound.Acted.{still_is, now_is, is_as, one_task, first_at, first_now, acting_inside}
 use Rattle.abi_machine.proofs.sound.Lifted.{result_keeps}
 use Rattle.abi_machine.proofs.sound.turns.Keeping.{Invariant, HasActing, Keeps, Acted, given_keeps, behind_keeps, stay, acts, goes, goes_on, refused_keeps, unless_keeps, fault_keeps, charged_keeps, on_keeps, blocked_keeps, new_stack_keeps, removes, waits, lends, came_keeps}
+use Rattle.abi_machine.specs.sound.Entered.{IsByEntered, HaveEntered}
+use Rattle.abi_machine.proofs.sound.Entered.{caller_entered, by_still}
 
 -- what a task keeps while something is lifted for it
 abbrev pub IsLike : Task → Task → Type 0
 IsLike task x = (x.resolution ≡ task.resolution) × (x.cancellation ≡ task.cancellation) × (x.callee ≡ task.callee)
 
--- it acts, and is still like this task
+-- it acts, is still like this task, and the one that called it has entered
 abbrev pub ActsLike : ℕ → Task → World → Type 0
-ActsLike t task w = IsFirst t w.chain × TaskIs w.tasks t (IsLike task)
+ActsLike t task w = IsFirst t w.chain × TaskIs w.tasks t (IsLike task) × IsByEntered w.tasks task.caller
 
-pub acts_like : (t : ℕ) (task : Task) (w : World) → IsFirst t w.chain → slice_get w.tasks t ≡ Some task → ActsLike t task w
-acts_like t task w first there = (first, (task, there, (refl, refl, refl)))
+pub acts_like : (t : ℕ) (task : Task) (w : World) → IsFirst t w.chain → slice_get w.tasks t ≡ Some task → HaveEntered w → ActsLike t task w
+acts_like t task w first there entered = (first, (task, there, (refl, refl, refl)), caller_entered w t task entered there)
 
 is_unresolved : (o : Option Resolution) (borrows : Bool) → (if is_some o then Some Resolved else (if borrows then Some BorrowLives else None)) ≡ None → o ≡ None
 is_unresolved None borrows e = refl
@@ -97,14 +99,14 @@ module _ {g : Graph} {s : Script} (inv : Invariant g s) where
     where
       by : (a : ℕ × Task) (f : Lifted) (r : Option FuncRef) → Keeps inv (post_return a.0 f ended r w)
       by a f None = goes_on inv Leaves w tt h
-      by a f (Some ref) = given_keeps inv (found_at w.store.funcs (func_address w.store ref)) _ (λ function e. goes inv _ w (h.1, tt) h.0)
+      by a f (Some ref) = given_keeps inv (found_at w.store.funcs (func_address w.store ref)) _ (λ function e. goes inv _ w (h.1, tt, tt) h.0)
 
-  passed_keeps : (t : ℕ) (caller : Caller) (follows : After) (result : Option TypedValue) (w : World) → Acted inv w → Keeps inv (passed_on g t caller follows result w)
+  passed_keeps : (t : ℕ) (caller : Caller) (follows : After) (result : Option TypedValue) (w : World) → IsByEntered w.tasks caller → Acted inv w → Keeps inv (passed_on g t caller follows result w)
   unfolding passed_on passed_to
-  passed_keeps t Nobody follows result w h = finished_keeps follows w h
-  passed_keeps t (Host call values) follows result w h = finished_keeps follows w h
-  passed_keeps t (Guest subtask) follows None w h = finished_keeps follows w h
-  passed_keeps t (Guest subtask) follows (Some result) w h = given_keeps inv (canon_at g subtask.canon) _ (λ c e. goes inv _ w (h.1, tt) h.0)
+  passed_keeps t Nobody follows result w entered h = finished_keeps follows w h
+  passed_keeps t (Host call values) follows result w entered h = finished_keeps follows w h
+  passed_keeps t (Guest subtask) follows None w entered h = finished_keeps follows w h
+  passed_keeps t (Guest subtask) follows (Some result) w entered h = given_keeps inv (canon_at g subtask.canon) _ (λ c e. goes inv _ w (h.1, tt, entered) h.0)
 
   -- what holds while the result of a task is lifted, and when it has come
   abbrev pub WhileLifted : ℕ → Task → World → Type 0
@@ -115,7 +117,7 @@ module _ {g : Graph} {s : Script} (inv : Invariant g s) where
       → LeavesWith (λ (k : Kept). WhileLifted t task k.world) (λ (stop : Stopped). WhileLifted t task stop.world) (result_passed i t limit type options words w)
   result_comes i t limit task type options words w passes h like =
       result_keeps i t (WhileLifted t task) (held_borrow type ≡ true) (λ j index v may k. (removes inv j index v may k.0, k.1)) (λ j index v may k. (waits inv j index v may k.0, k.1))
-      (λ index v used there k. (lends inv t index v (i, there, inr (passes v k.1 used)) k.0, (k.1.0, still_is v.tasks t t _ (IsLike task) (λ x l. l) k.1.1)))
+      (λ index v used there k. (lends inv t index v (i, there, inr (passes v k.1 used)) k.0, (k.1.0, still_is v.tasks t t _ (IsLike task) (λ x l. l) k.1.1, by_still v.tasks t _ (λ x. refl) task.caller k.1.2)))
       limit type (λ b. b) options words w (h, like)
 
   resolvable : (t : ℕ) (task : Task) (w : World) → HasActing w → ActsLike t task w → task.resolution ≡ None → TaskIs w.tasks t (MayResolve Returned)
@@ -127,7 +129,7 @@ module _ {g : Graph} {s : Script} (inv : Invariant g s) where
   resolves_to_keeps t task follows result w i =
       fault_keeps inv t task_name (resolving_fault (task_view g w t task)) w _ i.0 (λ none.
       behind_keeps inv (line.Return t result ∷ []) (passed_on g t task.caller follows result (resolved t Returned w))
-      (passed_keeps t task.caller follows result (resolved t Returned w)
+      (passed_keeps t task.caller follows result (resolved t Returned w) (by_still w.tasks t _ (λ x. refl) task.caller i.1.2)
       (stay inv (IsResolved t Returned) w tt (resolvable t task w i.0.1 i.1 (no_fault (task_view g w t task) none), no_borrows (task_view g w t task) none) i.0)))
 
   pub resolves_keeps : (t : ℕ) (task : Task) (follows : After) (came : Came (Option TypedValue))
@@ -206,7 +208,7 @@ module _ {g : Graph} {s : Script} (inv : Invariant g s) where
       goes_on inv Runs (after (HasStack t k) (with_store store w)) tt (stay inv (HasStack t k) (with_store store w) tt tt (stay inv (HasStore store) w tt tt h))
   move_keeps t task (core.Calls address words k) w first there alone h = goes_on inv (control.Calls address words) (after (HasStack t k) w) tt (stay inv (HasStack t k) w tt tt h)
   move_keeps t task (core.Ends words) w first there alone h =
-      over_keeps t task (drop 1 task.stacks) words (after (LosesStack t) w) (first, still_is w.tasks t t (λ x. record x { stacks = drop 1 x.stacks }) (IsLike task) (λ x k. k) (task, there, (refl, refl, refl)))
+      over_keeps t task (drop 1 task.stacks) words (after (LosesStack t) w) (first, still_is w.tasks t t (λ x. record x { stacks = drop 1 x.stacks }) (IsLike task) (λ x k. k) (task, there, (refl, refl, refl)), by_still w.tasks t (λ x. record x { stacks = drop 1 x.stacks }) (λ x. refl) task.caller (caller_entered w t task (inv.entered w h.0) there))
       (λ some. func_changed w.tasks t t (λ x. record x { stacks = drop 1 x.stacks }) (λ x. refl) (task, there, some)) alone (stay inv (LosesStack t) w tt tt h)
   move_keeps t task (Traps why) w first there alone h = goes_on inv (Doomed t (core_name why)) w tt h
   move_keeps t task core.Stuck w first there alone h = tt

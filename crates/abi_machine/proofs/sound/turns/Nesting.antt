@@ -46,6 +46,16 @@ use Rattle.abi_machine.proofs.sound.turns.Keeping.{Invariant, less, Keeps, Acted
 use Rattle.abi_machine.proofs.sound.OnePlace.{entry_is_fresh}
 use Rattle.abi_machine.proofs.sound.Due.{met_fits, channel_is, due_at, lifted_long, values_long, units_long}
 use Rattle.abi_machine.proofs.sound.turns.Moving.{finished_keeps}
+use Rattle.stream_ends.specs.declared.side.Side.{Side}
+use Rattle.stream_ends.specs.declared.side.Side.TheVariants.{Reader, Writer}
+use Rattle.stream_ends.specs.Ends.{other_side, end_at}
+use Rattle.stream_ends.proofs.Meetings.{standing_is}
+use Rattle.abi_machine.specs.Copying.{task_by}
+use Rattle.abi_machine.specs.World.{Task}
+use Rattle.abi_machine.specs.sound.Agreeing.{channel_in, LowersForEntered}
+use Rattle.abi_machine.specs.sound.Entering.{HasEntered}
+use Rattle.abi_machine.specs.sound.Entered.{HaveEntered}
+use Rattle.abi_machine.proofs.sound.Entered.{entered_still, lowers_still, entry_names, called_entered}
 
 -- What is answered also where the instance may not be left keeps what words of context keep.
 
@@ -73,6 +83,17 @@ exempt_keeps P sets t words (canon.Builtin b) exempt e w answer f h = by b.kind 
     by (builtin.Wait op cancellable memory) i = cc
     by (builtin.End of_what element op) i = cc
 
+-- The task that reads has entered: it is that of the call, or that of the offer.
+reader_of : (tasks : List Task) (side : Side) (call offer : OpenCopy) → HasEntered tasks (task_by call.by) → HasEntered tasks (task_by offer.by) → HasEntered tasks (task_by (read_of side call offer).by)
+reader_of tasks Reader call offer own other = own
+reader_of tasks Writer call offer own other = other
+
+reader_entered : (w : World) (e : EndRef) (c : Channel) (call offer : OpenCopy) → HaveEntered w → channel_in e.kind e.number w.streams w.futures ≡ Some c → other_offer e.side c.ends.view ≡ Some offer
+    → HasEntered w.tasks (task_by call.by) → HasEntered w.tasks (task_by (read_of e.side call offer).by)
+reader_entered w e c call offer h there standing own =
+    reader_of w.tasks e.side call offer own
+    (h.copies (record { kind = e.kind; number = e.number; side = other_side e.side }) c offer there (standing_is (end_at (other_side e.side) c.ends.view).copy offer standing))
+
 module _ {g : Graph} {s : Script} (inv : Invariant g s) where
   -- Reads and writes.
 
@@ -81,24 +102,24 @@ module _ {g : Graph} {s : Script} (inv : Invariant g s) where
   IsMoving e count w = Acted inv w × IsDueAt e count w.streams w.futures
 
   -- and what holds while they are lifted
-  abbrev WhileMoving : EndRef → ℕ → Option ValType → World → Type 0
-  WhileMoving e count element w = IsMoving e count w × (held_borrow element ≡ true → HaveBorrowElement w.streams w.futures)
+  abbrev WhileMoving : EndRef → ℕ → Option ValType → ℕ → World → Type 0
+  WhileMoving e count element reader w = IsMoving e count w × (held_borrow element ≡ true → HaveBorrowElement w.streams w.futures) × HasEntered w.tasks reader
 
-  moved_by_keeps : (t : ℕ) (e : EndRef) (call read write : OpenCopy) (reading writing : CanonFunc) (count : ℕ) (element : Option ValType) (w : World) → WhileMoving e count element w
+  moved_by_keeps : (t : ℕ) (e : EndRef) (call read write : OpenCopy) (reading writing : CanonFunc) (count : ℕ) (element : Option ValType) (w : World) → WhileMoving e count element (task_by read.by) w
       → Keeps inv (moved_by g t e call read write reading writing count element w)
   unfolding moved_by elements_written elements_read
   moved_by_keeps t e call read write reading writing count None w h =
-      goes inv _ w (h.0.0.1, subst (λ (n : ℕ). IsDueAt e n w.streams w.futures) (sym (units_long count None)) h.0.1) h.0.0.0
+      goes inv _ w (h.0.0.1, subst (λ (n : ℕ). IsDueAt e n w.streams w.futures) (sym (units_long count None)) h.0.1, h.2) h.0.0.0
   moved_by_keeps t e call read write reading writing count (Some element) w h =
-      came_keeps inv (WhileMoving e count (Some element)) t (elements_written t write writing count element w) (λ values later. elements_read g t e call.length read reading element values later) (λ v k. k.0.0)
-      (elements_keep (inst_of_canon writing) t (WhileMoving e count (Some element)) (has_borrow element ≡ true)
-      (λ i index v may k. ((removes inv i index v may k.0.0, k.0.1), k.1)) (λ i index v may k. ((waits inv i index v may k.0.0, k.0.1), k.1))
-      (λ index v used there k. ((lends inv t index v (inst_of_canon writing, there, inr (inr (inr (k.1 used)))) k.0.0, k.0.1), k.1)) element (λ b. b) _ _ count w h)
+      came_keeps inv (WhileMoving e count (Some element) (task_by read.by)) t (elements_written t write writing count element w) (λ values later. elements_read g t e call.length read reading element values later) (λ v k. k.0.0)
+      (elements_keep (inst_of_canon writing) t (WhileMoving e count (Some element) (task_by read.by)) (has_borrow element ≡ true)
+      (λ i index v may k. ((removes inv i index v may k.0.0, k.0.1), k.1, k.2)) (λ i index v may k. ((waits inv i index v may k.0.0, k.0.1), k.1, k.2))
+      (λ index v used there k. ((lends inv t index v (inst_of_canon writing, there, inr (inr (inr (k.1 used)))) k.0.0, k.0.1), k.1, entered_still v.tasks t (task_by read.by) _ (λ x. refl) k.2)) element (λ b. b) _ _ count w h)
       (λ values k comes i.
       goes inv _ k.world
-      (i.0.0.1, subst (λ (n : ℕ). IsDueAt e n k.world.streams k.world.futures) (sym (values_long values count (lifted_long (inst_of_canon writing) t element _ _ count w values k comes))) i.0.1) i.0.0.0)
+      (i.0.0.1, subst (λ (n : ℕ). IsDueAt e n k.world.streams k.world.futures) (sym (values_long values count (lifted_long (inst_of_canon writing) t element _ _ count w values k comes))) i.0.1, i.2) i.0.0.0)
 
-  elements_moved_keep : (t : ℕ) (e : EndRef) (call : OpenCopy) (count : ℕ) (element : Option ValType) (offer : OpenCopy) (w : World) → WhileMoving e count element w → Keeps inv (elements_moved g t e call count element offer w)
+  elements_moved_keep : (t : ℕ) (e : EndRef) (call : OpenCopy) (count : ℕ) (element : Option ValType) (offer : OpenCopy) (w : World) → WhileMoving e count element (task_by (read_of e.side call offer).by) w → Keeps inv (elements_moved g t e call count element offer w)
   unfolding elements_moved
   elements_moved_keep t e call count element offer w h =
       given_keeps inv (canon_at g (read_of e.side call offer).canon) _ (λ reading i. given_keeps inv (canon_at g (write_of e.side call offer).canon) _ (λ writing j.
@@ -110,8 +131,11 @@ module _ {g : Graph} {s : Script} (inv : Invariant g s) where
   meeting_keeps t e call words index c (AtOnce payload) w there meets may first free h = on_keeps inv t (payload ∷ []) (offered e call w) (stay inv (Offers e call) w tt may h)
   meeting_keeps t e call words index c (Moves count) w there meets may first free h =
       given_keeps inv (other_offer e.side c.ends.view) _ (λ offer i.
-      elements_moved_keep t e call count c.element offer w
-      ((h, due_at w e c count offer there may.quiet i (met_fits e.kind e.side call c.ends.view count offer meets i)), λ b. (e.kind, e.number, c, channel_is e.kind e.number w ∙ there, b)))
+      elements_moved_keep t e call count c.element offer w (
+        (h, due_at w e c count offer there may.quiet i (met_fits e.kind e.side call c.ends.view count offer meets i)),
+        (λ b. (e.kind, e.number, c, channel_is e.kind e.number w ∙ there, b)),
+        reader_entered w e c call offer (inv.entered w h.0) (channel_is e.kind e.number w ∙ there) i (called_entered g w e call may),
+      ))
   meeting_keeps t e call words index c OfferStands w there meets may first free h =
       let k : Acted inv (offered e call w) = stay inv (Offers e call) w tt may h in
       either_keeps inv (options_at g call.canon).is_async _ _ (λ i. on_keeps inv t (blocked_word ∷ []) (offered e call w) k)
@@ -142,13 +166,13 @@ module _ {g : Graph} {s : Script} (inv : Invariant g s) where
 
   -- what holds while it runs
   abbrev pub WithNested : Behind → World → Type 0
-  WithNested b w = Acted inv w × IsDueAfter b w.streams w.futures
+  WithNested b w = Acted inv w × IsDueAfter b w.streams w.futures × LowersForEntered b w.tasks
 
   in_place_keeps : (n : Nested) (b : Behind) (k : Stack) (r : Result Answers TrapName) (w : World) → ((answer : Answers) → r ≡ Ok answer → WithNested b answer.world) → Acted inv w
       → Keeps inv (answered_in_place n b k r w)
   unfolding answered_in_place
   in_place_keeps n b k (Err why) w keeps h = goes_on inv (Doomed n.blame why) w tt h
-  in_place_keeps n b k (Ok answer) w keeps h = goes inv _ answer.world ((keeps answer refl).0.1, (keeps answer refl).1) (keeps answer refl).0.0
+  in_place_keeps n b k (Ok answer) w keeps h = goes inv _ answer.world ((keeps answer refl).0.1, (keeps answer refl).1, (keeps answer refl).2) (keeps answer refl).0.0
 
   calls_keeps : (n : Nested) (b : Behind) (k : Stack) (words : List ℕ) (c : CanonFunc) (w : World) → WithNested b w → Keeps inv (calls_host n b k words c w)
   unfolding calls_host answered_or_refused
@@ -159,19 +183,19 @@ module _ {g : Graph} {s : Script} (inv : Invariant g s) where
       by None e = goes_on inv _ w tt h.0
       by (Some exempt) e =
           in_place_keeps n b k (exempt w) w
-          (λ answer f. exempt_keeps (WithNested b) (λ t slot word v l. (stay inv (HasWord t slot word) v tt tt l.0, l.1)) n.acts_for words c exempt e w answer f h) h.0
+          (λ answer f. exempt_keeps (WithNested b) (λ t slot word v l. (stay inv (HasWord t slot word) v tt tt l.0, l.1, lowers_still b v.tasks t _ (λ x. refl) l.2)) n.acts_for words c exempt e w answer f h) h.0
 
   nested_ends : (b : Behind) (words : List ℕ) (w : World) → WithNested b w → Keeps inv (nested_ended b words w)
   unfolding nested_ended
   nested_ends (InLowering l k) [] w h = tt
-  nested_ends (InLowering l k) (place ∷ words) w h = goes inv _ w (h.0.1, h.1) h.0.0
+  nested_ends (InLowering l k) (place ∷ words) w h = goes inv _ w (h.0.1, h.1, h.2) h.0.0
   nested_ends BeforeLeaving words w h = goes_on inv Leaves w tt h.0
 
   hosted_keeps : (n : Nested) (b : Behind) (t : HostedTurn) (w : World) → WithNested b w → Keeps inv (hosted g s n b t w)
   unfolding hosted
   hosted_keeps n b (On paid state store) w h =
       charged_keeps inv paid w (λ v. silent (Quiet (record n { state = state }) b) (with_store store v)) h.0.0
-      (λ units i. goes inv _ (with_store store (record w { units = units })) (h.0.1, h.1) (inv.stays (HasStore store) (record w { units = units }) tt i))
+      (λ units i. goes inv _ (with_store store (record w { units = units })) (h.0.1, h.1, h.2) (inv.stays (HasStore store) (record w { units = units }) tt i))
   hosted_keeps n b (EndsIn words) w h = nested_ends b words w h
   hosted_keeps n b (TrapsBy why) w h =
       charged_keeps inv true w (λ v. doomed n.blame (core_name why) v) h.0.0 (λ units i. goes_on inv (Doomed n.blame (core_name why)) (record w { units = units }) tt (i, h.0.1))
@@ -184,25 +208,29 @@ module _ {g : Graph} {s : Script} (inv : Invariant g s) where
 
   -- Lowerings.
 
+  -- what holds while values are lowered for a task
+  abbrev pub WhileLowered : Then → ℕ → World → Type 0
+  WhileLowered follows t w = WithDue follows w × HasEntered w.tasks t
+
   adds_keep : (follows : Then) (i t : ℕ) (entry : New) (k : Option ℕ → Plan) (bytes : List ℕ) (w : World)
-      → ((o : Option ℕ) (v : World) → WithDue follows v → WithDue follows (with_table i (λ before. (settle t (k o) bytes (table_of v i)).table) v)) → WithDue follows w
-      → WithDue follows (with_table i (λ before. (settle t (k (index_in (table_of w i))) bytes (with_new (entry_of t entry) (table_of w i))).table) w)
+      → ((o : Option ℕ) (v : World) → WhileLowered follows t v → WhileLowered follows t (with_table i (λ before. (settle t (k o) bytes (table_of v i)).table) v)) → WhileLowered follows t w
+      → WhileLowered follows t (with_table i (λ before. (settle t (k (index_in (table_of w i))) bytes (with_new (entry_of t entry) (table_of w i))).table) w)
   adds_keep follows i t entry k bytes w more h = by (nat_lt (live_count (table_of w i)) most_live) refl
     where
       by : (b : Bool) → nat_lt (live_count (table_of w i)) most_live ≡ b
-          → WithDue follows (with_table i (λ before. (settle t (k (if b then Some (next_index (table_of w i)) else None)) bytes (if b then added (entry_of t entry) (table_of w i) else table_of w i)).table) w)
+          → WhileLowered follows t (with_table i (λ before. (settle t (k (if b then Some (next_index (table_of w i)) else None)) bytes (if b then added (entry_of t entry) (table_of w i) else table_of w i)).table) w)
       by true e =
-          added_once i (entry_of t entry) (λ table. (settle t (k (Some (next_index (table_of w i)))) bytes table).table) (WithDue follows) w
+          added_once i (entry_of t entry) (λ table. (settle t (k (Some (next_index (table_of w i)))) bytes table).table) (WhileLowered follows t) w
           (λ table same.
-          subst (λ (x : List (Event Entry)). WithDue follows (with_table i (λ before. (settle t (k (Some (next_index (table_of w i)))) bytes x).table) (entry_added i (entry_of t entry) w))) same
+          subst (λ (x : List (Event Entry)). WhileLowered follows t (with_table i (λ before. (settle t (k (Some (next_index (table_of w i)))) bytes x).table) (entry_added i (entry_of t entry) w))) same
           (more (Some (next_index (table_of w i))) (entry_added i (entry_of t entry) w)
-          (stay inv (AddsEntry i (entry_of t entry)) w tt (less (live_count (table_of w i)) most_live e, entry_is_added w.tasks t entry, entry_is_fresh w t entry) h.0, h.1)))
+          ((stay inv (AddsEntry i (entry_of t entry)) w tt (less (live_count (table_of w i)) most_live e, entry_is_added w.tasks t entry, entry_is_fresh w t entry, entry_names w.tasks t entry h.1) h.0.0, h.0.1), h.1)))
       by false e = more None w h
 
-  settled_keeps : (follows : Then) (i t : ℕ) (plan : Plan) (bytes : List ℕ) (w : World) → WithDue follows w → WithDue follows (with_table i (λ before. (settle t plan bytes (table_of w i)).table) w)
-  settled_keeps follows i t (Gives words) bytes w h = subst (WithDue follows) (sym (table_kept i w)) h
-  settled_keeps follows i t (Fails why) bytes w h = subst (WithDue follows) (sym (table_kept i w)) h
-  settled_keeps follows i t (Asks ask k) bytes w h = subst (WithDue follows) (sym (table_kept i w)) h
+  settled_keeps : (follows : Then) (i t : ℕ) (plan : Plan) (bytes : List ℕ) (w : World) → WhileLowered follows t w → WhileLowered follows t (with_table i (λ before. (settle t plan bytes (table_of w i)).table) w)
+  settled_keeps follows i t (Gives words) bytes w h = subst (WhileLowered follows t) (sym (table_kept i w)) h
+  settled_keeps follows i t (Fails why) bytes w h = subst (WhileLowered follows t) (sym (table_kept i w)) h
+  settled_keeps follows i t (Asks ask k) bytes w h = subst (WhileLowered follows t) (sym (table_kept i w)) h
   settled_keeps follows i t (Size k) bytes w h = settled_keeps follows i t (k (length bytes)) bytes w h
   settled_keeps follows i t (Put place more k) bytes w h = settled_keeps follows i t k (written place more bytes) w h
   settled_keeps follows i t (Adds entry k) bytes w h = adds_keep follows i t entry k bytes w (λ o v j. settled_keeps follows i t (k o) bytes v j) h
@@ -218,15 +246,15 @@ module _ {g : Graph} {s : Script} (inv : Invariant g s) where
   lowered_keeps (Resolves to follows) words w h = finished_keeps inv follows (after (HasResult to words) w) (stay inv (HasResult to words) w tt tt h.0)
   lowered_keeps (Transfers copying) words w h = transferring_keeps copying w h
 
-  paused_keeps : (l : Lowering) (p : Paused) (w : World) → WithDue l.next w → Keeps inv (paused l p w)
+  paused_keeps : (l : Lowering) (p : Paused) (w : World) → WhileLowered l.next l.acts_for w → Keeps inv (paused l p w)
   unfolding paused
-  paused_keeps l (Words words) w h = lowered_keeps l.next words w h
-  paused_keeps l (Failed why) w h = goes_on inv _ w tt h.0
-  paused_keeps l (AsksNow ask k) w h = given_keeps inv (found_at w.store.funcs l.realloc) _ (λ f e. goes inv _ w (h.0.1, h.1) h.0.0)
+  paused_keeps l (Words words) w h = lowered_keeps l.next words w h.0
+  paused_keeps l (Failed why) w h = goes_on inv _ w tt h.0.0
+  paused_keeps l (AsksNow ask k) w h = given_keeps inv (found_at w.store.funcs l.realloc) _ (λ f e. goes inv _ w (h.0.0.1, h.0.1, h.1) h.0.0.0)
 
-  pub lowers_keeps : (l : Lowering) (plan : Plan) (w : World) → WithDue l.next w → Keeps inv (lowers_turn l plan w)
+  pub lowers_keeps : (l : Lowering) (plan : Plan) (w : World) → WhileLowered l.next l.acts_for w → Keeps inv (lowers_turn l plan w)
   unfolding lowers_turn settled_turn
   lowers_keeps l plan w h =
       let settled : Settled = settle l.acts_for plan (bytes_of w.store l.memory) (table_of w l.inst) in
       paused_keeps l settled.paused (left_by l settled w)
-      (settled_keeps l.next l.inst l.acts_for plan (bytes_of w.store l.memory) (with_memory l.memory settled.bytes w) (stay inv (HasStore _) w tt tt h.0, h.1))
+      (settled_keeps l.next l.inst l.acts_for plan (bytes_of w.store l.memory) (with_memory l.memory settled.bytes w) ((stay inv (HasStore _) w tt tt h.0.0, h.0.1), h.1))

@@ -34,13 +34,15 @@ use Rattle.abi_machine.specs.Cancelling.{asked_turn, cancelled_turn, first_of, c
 use Rattle.abi_machine.specs.Copying.{blocked_word}
 use Rattle.abi_machine.specs.sound.Changes.{Change, HasStore, AddsEntry, Calls, ComesBack, IsRemoved, IsCancelled, IsTold, Concludes, after, IsGuest, HasFunc, FirstCancels}
 use Rattle.abi_machine.specs.sound.Premises.{IsUnasked, IsRemovable, IsOpenCall, IsOpenOf, GraphPassesBorrow, ReturnsBorrow}
-use Rattle.abi_machine.specs.sound.Entering.{HasNotEntered, IsUntold}
+use Rattle.abi_machine.specs.sound.GraphFuncs.{IsOfGraph}
+use Rattle.abi_machine.specs.sound.Entering.{HasNotEntered, IsUntold, IsBehindEntry, HasEntered}
 use Rattle.abi_machine.specs.sound.Agreeing.{Agrees}
 use Rattle.entry_gate.specs.Stays.{Inside}
 use Rattle.abi_machine.specs.sound.Firsts.{TaskIs, IsActing, IsActingState, MayBeInside, IsLetIn}
 use Rattle.abi_machine.specs.sound.Changes.{IsFirst}
 use Rattle.abi_machine.proofs.sound.Found.{guest_changed, acting_first, acting_is, acting_func, func_changed, cancels_changed}
-use Rattle.abi_machine.proofs.sound.Acted.{still_is, is_as, one_task, first_at, let_in_still, new_first}
+use Rattle.abi_machine.proofs.sound.Acted.{still_is, now_is, is_as, one_task, first_at, let_in_still, new_first}
+use Rattle.abi_machine.proofs.sound.Entered.{entered_still, waiting_unborrowed}
 use Rattle.abi_machine.proofs.sound.Entries.{left_true, asked_is, told_behind, enters_inside, resumes_inside, removed_waits, inside_alike}
 use Rattle.abi_machine.proofs.sound.Lifted.{arguments_keep}
 use Rattle.abi_machine.proofs.sound.turns.Keeping.{Invariant, Keeps, Acted, given_keeps, behind_keeps, either_keeps, stay, acts, goes, goes_on, unless_keeps, chosen_keeps, on_keeps, blocked_keeps, entry_keeps, new_stack_keeps, removes, waits, lends, came_keeps}
@@ -61,23 +63,24 @@ module _ {g : Graph} {s : Script} (inv : Invariant g s) where
 
   -- what holds while the arguments of a call are lifted
   abbrev Enters : ℕ → ℕ → World → Type 0
-  Enters t number w = Acted inv w × TaskIs w.tasks t (IsOpenOf number)
+  Enters t number w = Acted inv w × TaskIs w.tasks t (IsOpenOf number) × HasEntered w.tasks t
 
-  called_keeps : (t : ℕ) (f : Lifted) (caller : Caller) (w : World) → TaskIs w.tasks t (λ x. x.caller ≡ caller) → IsUntold caller → Acted inv w → Keeps inv (arguments_turn g t f caller w)
+  called_keeps : (t : ℕ) (f : Lifted) (caller : Caller) (w : World) → TaskIs w.tasks t (λ x. x.caller ≡ caller) → IsUntold caller → HasEntered w.tasks t → Acted inv w → Keeps inv (arguments_turn g t f caller w)
   unfolding arguments_turn with_arguments arguments_passed
-  called_keeps t f Nobody w own untold h = tt
-  called_keeps t f (Host call values) w own untold h = goes inv _ w (h.1, tt) h.0
-  called_keeps t f (Guest subtask) w own untold h =
+  called_keeps t f Nobody w own untold entered h = tt
+  called_keeps t f (Host call values) w own untold entered h = goes inv _ w (h.1, tt, entered) h.0
+  called_keeps t f (Guest subtask) w own untold entered h =
       given_keeps inv (canon_at g subtask.canon) _ (λ c e.
       came_keeps inv (Enters t subtask.canon) t (arguments_passed t f subtask c w) (λ v later. with_arguments g t f v later) (λ v k. k.0)
-      (arguments_keep (inst_of_canon c) t (Enters t subtask.canon) (Unit {0}) (λ j index v may k. (removes inv j index v may k.0, k.1)) (λ j index v may k. (waits inv j index v may k.0, k.1))
+      (arguments_keep (inst_of_canon c) t (Enters t subtask.canon) (Unit {0}) (λ j index v may k. (removes inv j index v may k.0, k.1, k.2)) (λ j index v may k. (waits inv j index v may k.0, k.1, k.2))
       (λ index v used there k. (
         lends inv t index v (inst_of_canon c, there, inl (subtask.canon, c, e, refl, k.1)) k.0,
         still_is v.tasks t t _ (IsOpenOf subtask.canon) (λ x l. open_lent subtask.canon index t x.caller l) k.1,
+        entered_still v.tasks t t _ (λ x. refl) k.2,
       ))
       (options_of_canon c).is_async f.func_type (λ b. tt) _ subtask.words w
-      (h, is_as w.tasks t (λ x. x.caller ≡ Guest subtask) (IsOpenOf subtask.canon) (λ x k. subst (IsOpenCall subtask.canon) (sym k) (refl, untold)) own))
-      (λ v k comes i. goes inv _ k.world (i.0.1, tt) i.0.0))
+      (h, is_as w.tasks t (λ x. x.caller ≡ Guest subtask) (IsOpenOf subtask.canon) (λ x k. subst (IsOpenCall subtask.canon) (sym k) (refl, untold)) own, entered))
+      (λ v k comes i. goes inv _ k.world (i.0.1, tt, i.2) i.0.0))
 
   entered_keeps : (t : ℕ) (task : Task) (f : Lifted) (w : World) → IsFirst t w.chain → IsLetIn w.tasks t → slice_get w.tasks t ≡ Some task → HasNotEntered task.state → inv.Holds w
       → Keeps inv (entered g t task f w)
@@ -85,7 +88,7 @@ module _ {g : Graph} {s : Script} (inv : Invariant g s) where
   entered_keeps t task f w first lets there new h =
       behind_keeps inv (line.Enter t ∷ []) (arguments_turn g t f task.caller (in_state t Acting w))
       (called_keeps t f task.caller (in_state t Acting w) (still_is w.tasks t t (λ x. record x { state = Acting }) (λ x. x.caller ≡ task.caller) (λ x k. k) (task, there, refl))
-      (inv.enters w t task h there new).1 (acts inv t w (first, lets) h))
+      (inv.enters w t task h there new).1 (now_is w.tasks t (λ x. record x { state = Acting }) (λ x. Unit {0}) IsBehindEntry (λ x k. λ new. new) (task, there, tt)) (acts inv t w (first, lets) h))
 
   pub arriving_keeps : (w : World) → Agrees Arrives w → inv.Holds w → Keeps inv (arriving_turn g w)
   unfolding arriving_turn
@@ -102,14 +105,14 @@ module _ {g : Graph} {s : Script} (inv : Invariant g s) where
 
   -- Tasks call and are told.
 
-  pub call_keeps : (t number : ℕ) (words : List ℕ) (callee : Callee) (f : Lifted) (passed : List ℕ) (w : World) → func_of callee ≡ Some f → (ReturnsBorrow callee → GraphPassesBorrow g) → IsSome (task_at w t) → IsFirst t w.chain → may_leave w ≡ true → Acted inv w
+  pub call_keeps : (t number : ℕ) (words : List ℕ) (callee : Callee) (f : Lifted) (passed : List ℕ) (w : World) → func_of callee ≡ Some f → (ReturnsBorrow callee → GraphPassesBorrow g) → IsOfGraph g callee → IsSome (task_at w t) → IsFirst t w.chain → may_leave w ≡ true → Acted inv w
       → Keeps inv (call_begun t number words callee f passed w)
   unfolding call_begun
-  call_keeps t number words callee f passed w runs passes there first free h =
+  call_keeps t number words callee f passed w runs passes named there first free h =
       unless_keeps inv t (is_reentrant w f.instance t) trap.Reentrant w _ h (λ e.
       let c : Change = Calls number callee (called_by t number passed) words in
       goes inv Arrives (after c w) (new_first _ w.chain (new_task callee (Guest (called_by t number passed)) IsNew) refl)
-      (inv.stays c w (subst (λ (o : Option Lifted). IsSome o) (sym runs) refl, there, first, free, first_at w.tasks w.chain t IsActing first h.1, (refl, refl), passes) h.0))
+      (inv.stays c w (subst (λ (o : Option Lifted). IsSome o) (sym runs) refl, there, first, free, first_at w.tasks w.chain t IsActing first h.1, (refl, refl), passes, named) h.0))
 
   subtask_keeps : (i callee : ℕ) (task : Task) (subtask : Subtask) (w : World) → TaskIs w.tasks callee (λ x. subtask_state task ≡ subtask_state x) → Acted inv w
       → Acted inv (subtask_told i callee task subtask w).world
@@ -125,7 +128,7 @@ module _ {g : Graph} {s : Script} (inv : Invariant g s) where
   open_keeps t i callee task true number words w guest is first runs h =
       entry_keeps inv t i (OfSubtask callee) w (λ index v. replied t (call_state task index ∷ []) (told callee (subtask_state task) v)) h (λ few.
       on_keeps inv t (call_state task (next_index (table_of w i)) ∷ []) (told callee (subtask_state task) (entry_added i (OfSubtask callee) w))
-      (stay inv (IsTold callee (subtask_state task)) (entry_added i (OfSubtask callee) w) tt is (stay inv (AddsEntry i (OfSubtask callee)) w tt (few, guest, tt) h)))
+      (stay inv (IsTold callee (subtask_state task)) (entry_added i (OfSubtask callee) w) tt is (stay inv (AddsEntry i (OfSubtask callee)) w tt (few, guest, tt, tt) h)))
   open_keeps t i callee task false number words w guest is first runs h =
       blocked_keeps inv t (InBuiltin number words (ForCall callee)) (reason.Call callee) w first tt (inr runs) (first_at w.tasks w.chain t IsActing first h.1) h.0
 
@@ -271,7 +274,7 @@ module _ {g : Graph} {s : Script} (inv : Invariant g s) where
   asked_keeps : (t : ℕ) (asked : Asked) (c : Control) (w : World) → HasFunc w.tasks t → TaskIs w.tasks t IsUnasked → (asked ≡ Removed → TaskIs w.tasks t IsRemovable) → (asked ≡ ResumeNow → IsLetIn w.tasks t)
       → ((v : World) → v.chain ≡ w.chain → Agrees c v) → (w.chain ≡ []) ⊎ FirstCancels w.tasks w.chain → inv.Holds w → Keeps inv (asked_turn t asked c w)
   unfolding asked_turn
-  asked_keeps t Removed c w runs unset removed lets says calls h = goes inv c (after (IsRemoved t) w) (says (after (IsRemoved t) w) refl) (inv.stays (IsRemoved t) w (runs, removed refl) h)
+  asked_keeps t Removed c w runs unset removed lets says calls h = goes inv c (after (IsRemoved t) w) (says (after (IsRemoved t) w) refl) (inv.stays (IsRemoved t) w (runs, removed refl, waiting_unborrowed w t IsRemovable (λ x k. k.0) (removed refl) (inv.entered w h)) h)
   asked_keeps t ResumeNow c w runs unset removed lets says calls h =
       let v : World = with_cancellation t cancellation.Asked w in
       goes inv GoesOn (after (ComesBack t) v)

@@ -1,0 +1,5 @@
+pub mod Limits
+pub mod Imports
+pub mod Made
+pub mod Instantiating
+pub mod Going
