@@ -243,6 +243,8 @@ pub fn worlds_go_on()
     ensures each { WorldsGoOn }
     ensures stand { ReachedStand }
     ensures reached { ReachedGoOn }
+{}
+
 /// The store is typed, functions of the host are the graph's canonical functions, each task that waits in one goes on typed with words of
 /// its results, and the stack of the acting task, or of nested code, is typed where it makes moves, and has given words of the parameters
 /// where it has called a canonical function; and the core instances that were made are the graph's, and have what their modules say. So it is
