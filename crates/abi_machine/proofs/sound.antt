@@ -48,9 +48,6 @@ pub mod OwnCalling
 pub mod CopyEdits
 pub mod Entered
 pub mod OnePlace
-pub mod Guests
-pub mod nexts
-pub mod Reached
 pub mod TypedMoves
 pub mod typed
 pub mod Callees

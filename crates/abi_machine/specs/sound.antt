@@ -33,8 +33,6 @@ pub mod OwnCallers
 pub mod Entered
 pub mod EndPlaces
 pub mod Writers
-pub mod Guests
-pub mod GoingOn
 pub mod TypedStacks
 pub mod MadeInstances
 pub mod GraphFuncs

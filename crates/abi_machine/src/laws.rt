@@ -229,22 +229,6 @@ pub fn writers_stay_in_one_place()
     ensures stays { WritersStayInOnePlace }
 {}
 
-/// A task that cancels another one cancels one that a task called, and a task in its loop runs a function with a callback: so it is in the
-/// first world, and so it stays in every step.
-pub fn waits_stay()
-    ensures first { FirstWaitsAs }
-    ensures stays { WaitsAsStay }
-{}
-
-/// In a world of which holds what is kept a step comes next, or the end, where what the rule of its control looks up besides is there: items
-/// of the script, what a core instance imports, core functions and moves of typed stacks, a function that gives places where one is asked for,
-/// and what a blocked task waits for. What is kept holds of each world that a run reaches, where definitions stay apart.
-pub fn worlds_go_on()
-    ensures each { WorldsGoOn }
-    ensures stand { ReachedStand }
-    ensures reached { ReachedGoOn }
-{}
-
 /// The store is typed, functions of the host are the graph's canonical functions, each task that waits in one goes on typed with words of
 /// its results, and the stack of the acting task, or of nested code, is typed where it makes moves, and has given words of the parameters
 /// where it has called a canonical function; and the core instances that were made are the graph's, and have what their modules say. So it is
