@@ -37,7 +37,7 @@ use Rattle.standing.proofs.Changes.{instances_change}
 use Rattle.standing.proofs.Found.{set_alike, waitable_alike, word_is}
 use Rattle.standing.proofs.Agreeing.{turn_as, on_word, on_instance, on_got, on_named}
 
-set_there : (o : Option WorldEntry) (set : ℕ) → entries.set_in o ≡ Ok set → o ≡ Some (entry.Set set)
+pub set_there : (o : Option WorldEntry) (set : ℕ) → entries.set_in o ≡ Ok set → o ≡ Some (entry.Set set)
 set_there None set e = absurd (cc)
 set_there (Some (entry.Handle x)) set e = absurd (cc)
 set_there (Some (entry.Subtask callee)) set e = absurd (cc)
@@ -50,7 +50,7 @@ set_stands g (Some x) None set e h = absurd h
 set_stands g (Some x) (Some a) set e h = ap Some (subst (λ (y : WorldEntry). EntryStands g y a) (some_same e) h)
 
 -- The set of an entry was made.
-few_sets : (g : Graph) (x : InstanceView) (y : Inst) (index set : ℕ) → InstStands g x y → HasItsSets y → entries.set_in (entry_of x index) ≡ Ok set
+pub few_sets : (g : Graph) (x : InstanceView) (y : Inst) (index set : ℕ) → InstStands g x y → HasItsSets y → entries.set_in (entry_of x index) ≡ Ok set
     → nat_lt set (length x.sets) ≡ true
 few_sets g x y index set alike has e =
     let there : live y.table index ≡ Some (OfSet set) = set_stands g (entry_of x index) (live y.table index) set (set_there (entry_of x index) set e) (entries_are_alike g x y index alike) in

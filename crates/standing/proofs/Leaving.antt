@@ -128,4 +128,4 @@ task_exits g s h stacks w t task f first there acts resolved runs inst st =
     (after (given o (λ v. Gives tt (with_instance x.instance (with_gate (given_up t v.gate) v) exited))) (λ (done : Unit {0}) n2. after (closed t n2) (λ done o2. after (told (line.Exit t) o2) (λ done p. left_chain p))))
     (Steps (line.Exit t ∷ []) (world.left_chain (in_state t Exited w))))
     (sym i_is)
-    (on_leave g s t h.labels stacks (record out { live = without t out.live; watched = without t out.watched }) (in_state t Exited w) (line.Exit t) t first refl twice)))))
+    (on_leave g s t h.labels stacks (record out { live = without t out.live; watched = without t out.watched }) (in_state t Exited w) (line.Exit t) t first (refl {a = h.labels}) twice)))))

@@ -11,3 +11,4 @@ pub mod Leaving
 pub mod States
 pub mod Joining
 pub mod Taking
+pub mod Dropping

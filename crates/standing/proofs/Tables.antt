@@ -91,7 +91,7 @@ pub waitables_leave : WaitablesLeave
 waitables_leave g i a index st =
     record { table = st.table; sets = left_seen index i.sets ∙ ap (by_views (left index)) st.sets; pressure = st.pressure }
 
-members_at : (sets : List SetView) (n : ℕ) → (set_at sets n).members ≡ slice_index_or (members_of sets) n []
+pub members_at : (sets : List SetView) (n : ℕ) → (set_at sets n).members ≡ slice_index_or (members_of sets) n []
 members_at [] n = refl
 members_at (v ∷ sets) zero = refl
 members_at (v ∷ sets) (suc n) = members_at sets n

@@ -4,20 +4,24 @@ use Rattle.std.specs.Prelude.{◌≡◌, ◌<◌, ℕ, List, Some, IsSome, lengt
 use Rattle.std.specs.List.{slice_get}
 use Rattle.wasm_store.specs.Stack.{Stack}
 use Rattle.handle_table.specs.History.{live}
+use Rattle.waitables.specs.Sets.{set_at}
 use Rattle.comp_graph.specs.Graph.{Graph}
 use Rattle.script_reader.specs.Script.{Script}
+use Rattle.instances.specs.declared.entry.WorldEntry.TheVariants as entry
+use Rattle.instances.specs.Instances.{InstanceView, entry_of}
 use Rattle.world_parts.specs.Held.{Held}
 use Rattle.world_parts.specs.Slots.{word_in}
 use Rattle.world_parts.specs.Plain.{context_get, context_put, backpressure_inc, backpressure_dec, backpressure_set}
 use Rattle.world_parts.specs.Handles.{resource_new, resource_rep}
-use Rattle.world_parts.specs.Waits.{set_new, waitable_join}
+use Rattle.world_parts.specs.Waits.{set_new, set_drop, waitable_join}
 use Rattle.world_parts.specs.Subtasks.{subtask_drop}
 use Rattle.abi_machine.specs.World.{OfSet, Inst, World}
+use Rattle.abi_machine.specs.Counting.{waiters_of}
 use Rattle.abi_machine.specs.Reply.{exempt_turn}
 use Rattle.abi_machine.specs.replies.Context.{word_answer, set_answer, rep_answer}
 use Rattle.abi_machine.specs.replies.Pressure.{pressure_inc_turn, pressure_dec_turn, pressure_set_turn}
 use Rattle.abi_machine.specs.replies.Resources.{resource_new_turn}
-use Rattle.abi_machine.specs.replies.Waiting.{set_new_turn, join_turn}
+use Rattle.abi_machine.specs.replies.Waiting.{set_new_turn, set_drop_turn, join_turn}
 use Rattle.abi_machine.specs.replies.Subtasks.{subtask_drop_turn}
 use Rattle.standing.specs.Stands.{Stands}
 use Rattle.standing.specs.Agreeing.{Agrees}
@@ -79,6 +83,17 @@ WaitableIsJoined =
     (g : Graph) (s : Script) (h : Held) (stacks : List (List Stack)) (w : World) (t at word other : ℕ) (words : List ℕ) (inst : Inst)
     → word_in words 0 ≡ Some word → word_in words 1 ≡ Some other → slice_get w.insts at ≡ Some inst → HasItsSets inst → Stands g s h stacks w
     → Agrees g s t h.labels stacks (waitable_join t at words h) (join_turn t at (slice_index words 0) (slice_index words 1) w)
+
+-- A set leaves the table, where as many tasks are kept to wait on it as wait on its index.
+abbrev pub CountsWaiters : World → ℕ → InstanceView → Type 0
+CountsWaiters w at i = (index set : ℕ) → entry_of i index ≡ Some (entry.Set set) → (set_at i.sets set).waiters ≡ waiters_of w at index
+
+abbrev pub SetIsDropped : Type 0
+SetIsDropped =
+    (g : Graph) (s : Script) (h : Held) (stacks : List (List Stack)) (w : World) (t at word : ℕ) (words : List ℕ) (inst : Inst) (i : InstanceView)
+    → word_in words 0 ≡ Some word → slice_get w.insts at ≡ Some inst → HasItsSets inst → slice_get h.instances at ≡ Some i → CountsWaiters w at i
+    → Stands g s h stacks w
+    → Agrees g s t h.labels stacks (set_drop t at words h) (set_drop_turn t at (slice_index words 0) w)
 
 -- A subtask leaves the table.
 abbrev pub SubtaskIsDropped : Type 0

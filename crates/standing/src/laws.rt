@@ -2,7 +2,7 @@
 
 ghost use Rattle.standing.specs.First.{FirstStands};
 ghost use Rattle.standing.specs.Edits.{InstancesChange, InstancesStay, RefusalsChangeNothing, InstancesBegin, EntriesAreAlike, NextIsAlike, RoomIsAlike, EntriesAreAdded, EntriesAreRemoved, EntriesStayAlike, SetsAreMade, WaitablesLeave, WaitablesJoin, WaitersAreNotSaid, PressureChanges, EntryIsNotSaid, TasksChange, TasksAreMade, StacksAreAnswered, TasksComeToTheChain, TasksLeaveTheChain, ActingIsAlike, FuelIsAlike, UnitsAreSpent, ItemsAreTaken, PicksAreAlike, PicksAreUsed, StoresChange};
-ghost use Rattle.standing.specs.Replies.{ContextIsRead, ContextIsSet, RepIsRead, HandleIsMade, PressureRises, PressureFalls, PressureIsSet, SetIsMade, WaitableIsJoined, SubtaskIsDropped};
+ghost use Rattle.standing.specs.Replies.{ContextIsRead, ContextIsSet, RepIsRead, HandleIsMade, PressureRises, PressureFalls, PressureIsSet, SetIsMade, WaitableIsJoined, SetIsDropped, SubtaskIsDropped};
 ghost use Rattle.standing.specs.Rows.{CallIsTaken, TaskGoesOn, ActingGoesOn, TaskEnds, TaskExits, TaskYields};
 ghost use Rattle.standing.specs.Marks.{StatesChange, StatesAreMade, NewIsMarked, StatesRise, StatesStay, BlockedStays, GoingStays, TellingStays, KeepingStays, AwaitingStays, EnteredIsStarted, ReturnedIsReturned, CancelledIsCancelled};
 
@@ -55,7 +55,7 @@ pub fn changes_stand()
 {}
 
 /// Built-ins that answer at once do what the machine does: words of context, what a handle stands for, a new handle, backpressure, a new set,
-/// a waitable that joins one, and a subtask that leaves the table.
+/// a waitable that joins one, and a set and a subtask that leave the table.
 pub fn built_ins_agree()
     ensures context { ContextIsRead }
     ensures context_set { ContextIsSet }
@@ -66,6 +66,7 @@ pub fn built_ins_agree()
     ensures pressure { PressureIsSet }
     ensures set { SetIsMade }
     ensures joined { WaitableIsJoined }
+    ensures set_dropped { SetIsDropped }
     ensures subtask { SubtaskIsDropped }
 {}
 
