@@ -16,14 +16,13 @@ use Rattle.link_spec.specs.Linked.{Begins, begun, exports_or, exports_at, with_i
 use Rattle.link_spec.specs.Laws.{GraphsAreImported, LiftsAreThere, GraphsAreMade, ModulesStand}
 use Rattle.link_spec.proofs.Holding.{all_push, all_both, all_mapped, all_weaker}
 use Rattle.canonical_machine.specs.Sound.{HasBytes, Makes}
-use Rattle.abi_machine.specs.sound.Owners.{IsLiftApart, IsApart}
-use Rattle.graph_laws.specs.Laws.{IsSoundModule, HasSoundModules, LinkedGraphsAreSound, PlansMakeInOrder, LinkedGraphsAreApart, LinkedDefinitionsAreApart}
+use Rattle.canonical_machine.specs.Owners.{IsLiftApart, IsApart}
+use Rattle.graph_laws.specs.Laws.{IsSoundModule, HasSoundModules, LinkedGraphsAreSound, PlansMakeInOrder, LinkedGraphsAreApart}
 use Rattle.graph_laws.proofs.Owning.{made_by, KeepsOwners, IsFuncApart, AreDefinedApart, AreSpacesApart, IsLinkingApart, IsReachedApart}
 use Rattle.graph_laws.proofs.Keeping.{kept_canons, kept_lifts, kept_imports, kept_spaces, keeps_itself, keeps_through}
 use Rattle.graph_laws.proofs.Places.{at_push, begins_behind}
 use Rattle.graph_laws.proofs.SpacesApart.{with_defined_apart, new_apart, are_named_apart}
 use Rattle.graph_laws.proofs.ItemsApart.{with_spaces_apart, case_reached}
-use Rattle.graph_laws.proofs.SyncApart.{sync_apart, plan_same}
 
 -- An instance of a component begins
 begun_apart : (l : Linking) (n : ℕ) (s : Spaces) (item : Item) (c : Closure) (arguments : Exports) → IsLinkingApart l → AreSpacesApart (made_by l) n s → Begins l n s item c arguments → IsLinkingApart (begun l c arguments)
@@ -102,16 +101,11 @@ graph_apart l h = record {
   lifts =
       kept_lifts (made_by l) (graph_of l) (keeps_graph l) (map lift_of (callables (exports_at l 0)))
       (all_mapped lift_of (IsLiftApart (made_by l)) (callables (exports_at l 0)) (callables_apart (made_by l) (exports_at l 0) (exports_apart l 0 h)));
-  canons = kept_canons (made_by l) (graph_of l) (keeps_graph l) l.canons h.lowers;
-  resources = tt;
-  planned = plan_same 0 l.plan l.cores h.planned;
+  lowers = kept_canons (made_by l) (graph_of l) (keeps_graph l) l.canons h.lowers;
 }
 
-pub linked_definitions_are_apart : LinkedDefinitionsAreApart
-linked_definitions_are_apart c g (l, links, is) = subst IsApart (sym is) (graph_apart l (linked_apart c l links))
-
 pub linked_graphs_are_apart : LinkedGraphsAreApart
-linked_graphs_are_apart c g linked = sync_apart g (linked_definitions_are_apart c g linked)
+linked_graphs_are_apart c g (l, links, is) = subst IsApart (sym is) (graph_apart l (linked_apart c l links))
 
 pub plans_make_in_order : PlansMakeInOrder
 plans_make_in_order c g (l, links, is) = subst (λ (g : Graph). Makes 0 g.plan g.cores) (sym is) (linked_apart c l links).planned

@@ -16,8 +16,7 @@ use Rattle.link_spec.specs.Definitions.{CoreItem, extern_of, CoreExport, Lifted,
 use Rattle.link_spec.specs.Spaces.{Spaces}
 use Rattle.link_spec.proofs.Holding.{all_weaker, if_weaker, kept_at}
 use Rattle.link_spec.proofs.Lists.{map_some}
-use Rattle.abi_machine.specs.Canons.{inst_of_canon, options_of_canon}
-use Rattle.abi_machine.specs.sound.Owners.{owner_of_core, owner_of_func, owner_of_extern, AreOptionsOf, IsLiftApart, IsLoweredApart, IsCanonApart}
+use Rattle.canonical_machine.specs.Owners.{owner_of_core, owner_of_func, owner_of_extern, AreOptionsOf, IsLiftApart, IsCanonApart}
 use Rattle.graph_laws.proofs.Owning.{KeepsOwners, IsItemOf, AreExportsOf, IsFuncApart, IsDefinedApart, AreDefinedApart, AreSpacesApart, AreImportsOf}
 
 -- what is made of an item of a list, when others come behind
@@ -40,18 +39,14 @@ module _ (g h : Graph) (keeps : KeepsOwners g h) where
     memory = if_weaker (λ (m : CoreRef). owner_of_core g m.instance ≡ Some owner) (λ (m : CoreRef). owner_of_core h m.instance ≡ Some owner) (λ m e. keeps.cores m.instance owner e) options.memory k.memory;
     realloc = if_weaker (λ (f : FuncRef). owner_of_func g f ≡ Some owner) (λ (f : FuncRef). owner_of_func h f ≡ Some owner) (λ f e. kept_func f owner e) options.realloc k.realloc;
     post_return = if_weaker (λ (f : FuncRef). owner_of_func g f ≡ Some owner) (λ (f : FuncRef). owner_of_func h f ≡ Some owner) (λ f e. kept_func f owner e) options.post_return k.post_return;
-    callback = if_weaker (λ (f : FuncRef). owner_of_func g f ≡ Some owner) (λ (f : FuncRef). owner_of_func h f ≡ Some owner) (λ f e. kept_func f owner e) options.callback k.callback;
   }
 
   kept_lift : (lift : Lift) → IsLiftApart g lift → IsLiftApart h lift
   kept_lift lift k = (kept_func lift.core lift.instance k.0, kept_options lift.instance lift.options k.1)
 
-  kept_lowered : (f : CanonFunc) → IsLoweredApart g f → IsLoweredApart h f
-  kept_lowered (canon_func.Builtin b) k = k
-  kept_lowered (canon_func.Lower l) k = kept_lift l.lift k
-
   pub kept_canon : (f : CanonFunc) → IsCanonApart g f → IsCanonApart h f
-  kept_canon f k = (kept_options (inst_of_canon f) (options_of_canon f) k.0, kept_lowered f k.1)
+  kept_canon (canon_func.Builtin b) k = k
+  kept_canon (canon_func.Lower l) k = (kept_options l.instance l.options k.0, kept_lift l.lift k.1)
 
   pub kept_canons : (canons : List CanonFunc) → AllByRecursion (IsCanonApart g) canons → AllByRecursion (IsCanonApart h) canons
   kept_canons canons k = all_weaker (IsCanonApart g) (IsCanonApart h) kept_canon canons k

@@ -2,9 +2,7 @@ pub mod Owning
 pub mod Keeping
 pub mod Places
 pub mod SpacesApart
-mod OptionsApart
 pub mod ItemsApart
-mod SyncApart
 pub mod GraphsApart
 pub mod Bytes
 pub mod DataBytes

@@ -7,7 +7,7 @@ use Rattle.comp_graph.specs.Graph.{CoreMake, Graph}
 use Rattle.link_spec.specs.Definitions.{CoreItem, extern_of, CoreExport, Lifted, Definition, AFunc, AType, AComponent, AnInstance, AModule, Exports, EmptyInstance, WithExport}
 use Rattle.link_spec.specs.Spaces.{Spaces, Linking}
 use Rattle.canonical_machine.specs.Sound.{Makes}
-use Rattle.abi_machine.specs.sound.Owners.{owner_of_core, owner_of_canon, owner_of_func, owner_of_extern, AreOptionsOf, IsCanonApart}
+use Rattle.canonical_machine.specs.Owners.{owner_of_core, owner_of_canon, owner_of_func, owner_of_extern, AreOptionsOf, IsCanonApart}
 
 -- what a linking has made so far, as a graph
 abbrev pub made_by : Linking → Graph

@@ -16,7 +16,6 @@ use Rattle.link_spec.specs.Linked.{IsLinked}
 use Rattle.canonical_machine.specs.Sound.{AreBytes, HasBytes, Makes, IsSoundGraph, IsSound}
 use Rattle.canonical_machine.specs.Owners.{IsApart}
 use Rattle.canonical_machine.specs.Plain.{IsPlain}
-use Rattle.abi_machine.specs.sound.Owners as asynchronous
 use Rattle.graph_laws.specs.Counted.{HasCountedFuncs}
 
 -- A module that is valid, no memory of which begins with more pages than any may have, and whose data are bytes.
@@ -40,10 +39,6 @@ PlansMakeInOrder = (c : Component) (g : Graph) → IsLinked c g → Makes 0 g.pl
 -- Core definitions stay in the component instance that makes them.
 abbrev pub LinkedGraphsAreApart : Type 0
 LinkedGraphsAreApart = (c : Component) (g : Graph) → IsLinked c g → IsApart g
-
--- So do those of asynchronous calls: also callbacks, what built-ins use, and destructors are of their own component instance.
-abbrev pub LinkedDefinitionsAreApart : Type 0
-LinkedDefinitionsAreApart = (c : Component) (g : Graph) → IsLinked c g → asynchronous.IsApart g
 
 -- Modules that are read are typed and in range.
 abbrev pub ReadModulesAreTyped : Type 0

@@ -1,7 +1,7 @@
 //! What holds of every linked graph, and of the modules that are read.
 
 ghost use Rattle.canonical_machine.specs.Sound.{AreBytes};
-ghost use Rattle.graph_laws.specs.Laws.{LinkedGraphsAreSound, PlansMakeInOrder, LinkedGraphsAreApart, LinkedDefinitionsAreApart, ReadModulesAreTyped, ReadDataAreBytes, ReadModulesAreSound, ReadGraphsAreSound, ReadTypesAreCounted, CountedGraphsArePlain, CallsAreSound, OtherItemsAreFound};
+ghost use Rattle.graph_laws.specs.Laws.{LinkedGraphsAreSound, PlansMakeInOrder, LinkedGraphsAreApart, ReadModulesAreTyped, ReadDataAreBytes, ReadModulesAreSound, ReadGraphsAreSound, ReadTypesAreCounted, CountedGraphsArePlain, CallsAreSound, OtherItemsAreFound};
 
 use link_spec::laws::graphs_are_sound;
 
@@ -18,13 +18,6 @@ pub fn linked_graphs_are_sound()
 /// by its own component instance.
 pub fn linked_graphs_are_apart()
     ensures { LinkedGraphsAreApart }
-{}
-
-/// The same with what asynchronous calls use: in a linked graph also callbacks, destructors, and the memories and functions that built-ins
-/// use, were made by their own component instance, and the plan makes each core instance, in order. The laws of runs with asynchronous
-/// calls ask this of a graph.
-pub fn linked_definitions_are_apart()
-    ensures { LinkedDefinitionsAreApart }
 {}
 
 /// The modules that stand in a component that is read are typed, and no memory of theirs begins with more pages than any may have.
