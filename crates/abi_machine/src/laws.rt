@@ -245,8 +245,9 @@ pub fn core_moves_stay_typed()
 {}
 
 /// A task runs the function of an export of the graph, one that is lowered in it, or a destructor of its resources: so it is in the first
-/// world, and so it stays in every step. Where all core instances were made, the core function of what a task runs, its post-return and its
-/// callback are in the store, of the types that lifting gives them, and so are the destructors of the graph's resources.
+/// world, and so it stays in every step. Where all core instances were made, and the graph has what its lifts use, the core function of what a
+/// task runs, its post-return and its callback are in the store, of the types that lifting gives them, and so are the destructors of the
+/// graph's resources.
 pub fn callees_stay()
     ensures first { FirstHasCallees }
     ensures stays { CalleesStay }
@@ -272,8 +273,9 @@ pub fn waits_stay()
 {}
 
 /// In a world of which holds what is kept a step comes next, or the end, where what the rule of its control looks up besides is there: items
-/// of the script, what a core instance imports, core functions and moves of typed stacks, a function that gives places where one is asked for,
-/// and what a blocked task waits for. What is kept holds of each world that a run reaches, where definitions stay apart.
+/// of the script and what is picked, what a core instance imports, a canonical function that is called, its resource and all destructors, core
+/// functions and moves of stacks, a function that gives places where one is asked for, what a blocked task waits for, and a ready member with
+/// the callback that gets it. What is kept holds of each world that a run reaches, where definitions stay apart.
 pub fn worlds_go_on()
     ensures each { WorldsGoOn }
     ensures stand { ReachedStand }

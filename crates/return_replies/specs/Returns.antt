@@ -1,5 +1,6 @@
--- What `task.return` tests before a result is lifted (Component Model, CanonicalABI.md, `canon task.return`): the type of the result is that
--- of the function that the task runs, and no other memory is used than the function's. All texts are in UTF-8.
+-- What `task.return` tests of its type and its options, once the task may return and before its result is lifted (Component Model,
+-- CanonicalABI.md, `canon task.return`): the type of the result is that of the function that the task runs, and no other memory is used
+-- than the function's. All texts are in UTF-8.
 use Rattle.std.specs.Prelude.{◌≡◌, ℕ, nat_eq, Bool, true, false, not, if◌then◌else◌, Option, Some, None}
 use Rattle.std.specs.Option.{option_map}
 use Rattle.ca_types.specs.declared.types.ValType.{ValType}

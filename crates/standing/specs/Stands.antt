@@ -1,5 +1,6 @@
 -- What is kept of a world stands for a world (Component Model, CanonicalABI.md; Concurrency.md, "Summary"): field by field, so that a change
--- of one field says nothing of the others. Of what was written to streams and futures, and of what was removed from tables, nothing is kept.
+-- of one field says nothing of the others. Of what was written to streams and futures, and of what was removed from tables, nothing is kept;
+-- which tasks are live or set apart, the calls that were taken and the memories that were made are kept, and are not said here.
 use Rattle.std.specs.Prelude.{◌≡◌, ℕ, ◌+◌, List, [], ◌∷◌, ◌++◌, map, Some}
 use Rattle.std.specs.List.{slice_get, AllZip}
 use Rattle.wasm_store.specs.Store.{Store}

@@ -1,5 +1,6 @@
 -- Tasks (Component Model, CanonicalABI.md, "Task State" and "Subtask State"): what is kept of one stands for one of the machine. How many
--- borrow handles it has, the state that its caller sees and whether a task waits for it directly are kept beside it, and are not said here.
+-- borrow handles it has, the state that its caller sees, whether a task waits for it directly, and the words of the call at which it waits
+-- are kept beside it, and are not said here.
 use Rattle.std.specs.Prelude.{◌≡◌, ℕ, List, Option, Some, None}
 use Rattle.std.specs.List.{filter_map}
 use Rattle.std.specs.Option.{option_map}

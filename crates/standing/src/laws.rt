@@ -54,7 +54,7 @@ pub fn changes_stand()
     ensures stores { StoresChange }
 {}
 
-/// Built-ins that answer at once do what the machine does: words of context, what a handle stands for, a new handle, backpressure, a new set,
+/// Built-ins that answer at once do what the machine does, behind their line and the test that a task may leave: words of context, what a handle stands for, a new handle, backpressure, a new set,
 /// a waitable that joins one, and a set and a subtask that leave the table.
 pub fn built_ins_agree()
     ensures context { ContextIsRead }
@@ -70,8 +70,8 @@ pub fn built_ins_agree()
     ensures subtask { SubtaskIsDropped }
 {}
 
-/// A task is made for the script's next call, goes on by its line, comes to its end, exits, and lets others run as the machine does: with a unit of fuel where that costs one, with the
-/// same traps, and off the chain where it blocks.
+/// A task is made for the script's next call, goes on by its line, comes to its end, exits, and lets others run as the machine does: with a
+/// unit of fuel where that costs one, with the same traps, and off the chain where it blocks.
 pub fn tasks_agree()
     ensures taken { CallIsTaken }
     ensures goes_on { TaskGoesOn }
@@ -82,7 +82,7 @@ pub fn tasks_agree()
 {}
 
 /// The state of a subtask that is kept for its caller is that of its task: so it is of a new task, so it stays where the two rise together,
-/// and so it stays in every other change.
+/// where a task blocks, goes on, enters, returns or is cancelled, and where its caller is told, waits for it, or keeps its result.
 pub fn states_marked()
     ensures changed { StatesChange }
     ensures made { StatesAreMade }

@@ -1,6 +1,6 @@
--- What comes next (Component Model, Concurrency.md, "Summary"): a step, or the end. No world of a run is stuck, in which a rule looks up
--- what is not there. What the rules look up is said by control; most of it is there by what every step keeps, and what else has to be there is
--- said here, for each control.
+-- What comes next (Component Model, Concurrency.md, "Summary"): a step, or the end, but where a rule looks up what is not there. What the
+-- rules look up is said by control; most of it is there by what every step keeps, and what else has to be there is said here, for each
+-- control.
 use Rattle.std.specs.Prelude.{◌≡◌, ℕ, List, [], drop, Option, Some, IsSome, IfSome}
 use Rattle.std.specs.List.{slice_get}
 use Rattle.std.specs.Option.{unwrap_or}
@@ -187,7 +187,7 @@ IsFed g s control w = Unit {0}
 abbrev pub WorldsGoOn : Type 0
 WorldsGoOn = (g : Graph) (s : Script) (w : World) → IsStanding g w → IsFed g s w.control (with_control Free w) → HasNext (next g s w)
 
--- What is kept holds of each world that is reached, where definitions stay apart. So none of these is stuck.
+-- What is kept holds of each world that is reached, where definitions stay apart. So of these each goes on in which the rest is there.
 abbrev pub ReachedStand : Type 0
 ReachedStand = (g : Graph) (s : Script) (steps : List (List Label)) (w : World) → IsApart g → Reaches g s (first_world g) steps w → IsStanding g w
 
