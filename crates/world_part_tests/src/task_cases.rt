@@ -62,11 +62,11 @@ impl Acts for Run {
     ) -> Result<(), Fail> {
         match name {
             "live" => {
-                let live = self.tasks.live.iter().copied().collect(alloc)?;
+                let live: Vec<u32> = self.tasks.live.iter().copied().collect(alloc)?;
                 write_list(text, &live)?;
             }
             "watched" => {
-                let watched = self.tasks.watched.iter().copied().collect(alloc)?;
+                let watched: Vec<u32> = self.tasks.watched.iter().copied().collect(alloc)?;
                 write_list(text, &watched)?;
             }
             "park" => {
