@@ -3,6 +3,8 @@
 //! A component, its graph and its fault are each lent to the function that tells of them as the last step, so that they are let
 //! go in one place.
 
+ghost use Rattle.std.specs.Prelude.{◌<◌, length};
+
 use builtin_kinds::{ContextOp, PlainBuiltin, WaitOp};
 use ca_base::{MemoryOr, ReadError, Refusal};
 use ca_types::ValType;
@@ -238,13 +240,15 @@ fn write_builtin(
     Ok(())
 }
 
-/// Writes the core function of a number that the Canonical ABI makes.
+/// Writes the core function of a number that the Canonical ABI makes, which is there.
 fn write_canon(
     alloc: Global,
     text: &mut String,
     graph: &Graph<'_>,
     number: usize,
-) -> Result<(), Fail> {
+) -> Result<(), Fail>
+    requires { number < length graph.now.canons }
+{
     match &graph.canons()[number] {
         CanonFunc::Lower(lower) => write_lower(text, lower.get())?,
         CanonFunc::Builtin(builtin) => match graph.canon_value(number) {
