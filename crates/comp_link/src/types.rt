@@ -20,9 +20,9 @@ use crate::scope::Scope;
 use ca_base::MemoryOr;
 use comp_tree::DefType;
 use link_instances::DefinitionRef;
-use link_meanings::{Level, Meant, meaning_of};
+use link_meanings::{Level, meaning_of};
 use link_spec::LinkWhy;
-use link_types::TypeRef;
+use link_types::{Meant, TypeRef};
 use std::alloc::{AllocError, Global};
 
 /// What outer aliases see of a component instance.

@@ -11,6 +11,8 @@ pub mod ModulesRead
 pub mod SoundModules
 pub mod Samples
 mod Counting
+mod Marked
+mod Unended
 pub mod SoundCalls
 mod TypesStand
 mod CountedTypes
@@ -21,4 +23,5 @@ mod CountedGraphs
 mod TypesRead
 mod ComponentTypes
 mod PlainTypes
+pub mod Endless
 mod OtherItems

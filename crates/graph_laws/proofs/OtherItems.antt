@@ -1,10 +1,17 @@
--- A component whose items are all of functions without `async`, those of components that stand in it among them, is linked to a graph of
--- synchronous functions alone.
+-- A component whose items are all of functions without `async`, and whose types are none of streams or futures, those of components that
+-- stand in it among them, is linked to a graph of synchronous functions alone that pass no end.
+use mathlib.Core.Path.{fun_ext}
 use Rattle.std.proofs.Common.{◌≡◌, ℕ, zero, suc, Bool, true, false, List, [], ◌∷◌, refl, sym, ◌∙◌, ap, subst, Option, Some, None}
-use Rattle.std.specs.Prelude.{cond, nat_lt}
+use Rattle.std.specs.Prelude.{◌&&◌, cond, nat_lt}
 use Rattle.std.specs.List.{list_all}
+use Rattle.std.proofs.lemmas.Bool.{and_from}
 use Rattle.std.specs.Option.{option_or, IsSome}
 use Rattle.ca_base.specs.declared.placed.Placed.{Placed}
+use Rattle.value_reader.specs.Writable.{all_true}
+use Rattle.comp_tree.specs.declared.types.DefValType.{DefValType}
+use Rattle.comp_tree.specs.declared.types.DefValType.TheVariants as written
+use Rattle.comp_tree.specs.declared.types.DefType.{DefType, fold-DefType}
+use Rattle.comp_tree.specs.declared.types.DefType.TheOpen.{DefType-F, InstanceDecl-F}
 use Rattle.comp_tree.specs.declared.items.CanonOption.{CanonOption}
 use Rattle.comp_tree.specs.declared.items.CanonOption.TheVariants as option
 use Rattle.comp_tree.specs.declared.items.Item.{Item, out-Item}
@@ -19,8 +26,14 @@ use Rattle.link_spec.specs.Definitions.{Lifted, types_of}
 use Rattle.link_spec.specs.Spaces.{Linking}
 use Rattle.link_spec.specs.Linked.{exports_at, Links, root_begun, callables, lift_of, graph_of}
 use Rattle.link_spec.proofs.Holding.{all_mapped}
+use Rattle.sync_items.specs.Types.{is_sync_value, sync_type_step, sync_decl_step, is_sync_type}
+use Rattle.sync_items.specs.Graphs.{passes_no_ends, runs_synchronously}
 use Rattle.sync_items.specs.Items.{is_sync_option, is_sync, first_at, first_among, first_inside, nesting_limit, first_not_sync}
 use Rattle.graph_laws.specs.Laws.{OtherItemsAreFound}
+use Rattle.graph_laws.proofs.CountedGraphs.{linked_counted}
+use Rattle.graph_laws.proofs.PlainTypes.{marked_plain}
+use Rattle.graph_laws.proofs.Endless.{plain_endless}
+use Rattle.graph_laws.proofs.TypesStand.{is_few, few_step, few_decl_step, has_few, TypesHave, ShapeHas, none_have, more_have}
 use Rattle.graph_laws.proofs.SpacesHold.{Known, AreDefined}
 use Rattle.graph_laws.proofs.LinkingsHold.{AreSteps, called_held, linked_held}
 
@@ -112,13 +125,80 @@ linked_sync c l has links =
       resources = refl;
     }
 
+-- Types in which no type of streams or futures stands.
+value_same : (type : DefValType) → is_few false true type ≡ is_sync_value type
+value_same (written.Primitive type) = refl
+value_same (written.Record fields) = refl
+value_same (written.Variant cases) = refl
+value_same (written.List element) = refl
+value_same (written.Tuple places) = refl
+value_same (written.Flags labels) = refl
+value_same (written.Enum labels) = refl
+value_same (written.Option payload) = refl
+value_same (written.Result ok err) = refl
+value_same (written.Own resource) = refl
+value_same (written.Borrow resource) = refl
+value_same (written.Stream element) = refl
+value_same (written.Future element) = refl
+
+all_same : (bs : List Bool) → all_true bs ≡ list_all (λ (b : Bool). b) bs
+all_same [] = refl
+all_same (b ∷ bs) = ap (λ (c : Bool). b && c) (all_same bs)
+
+step_same : (y : DefType-F Bool Bool) → few_step false true y ≡ sync_type_step y
+step_same (DefType-F.Value type) = value_same type
+step_same (DefType-F.Func type) = refl
+step_same (DefType-F.Instance decls) = all_same decls
+step_same (DefType-F.Resource destructor) = refl
+
+decl_same : (y : InstanceDecl-F Bool Bool) → few_decl_step y ≡ sync_decl_step y
+decl_same (InstanceDecl-F.Type type) = refl
+decl_same (InstanceDecl-F.Alias alias) = refl
+decl_same (InstanceDecl-F.Export name asked) = refl
+
+type_same : (t : DefType) → has_few false true t ≡ is_sync_type t
+type_same t =
+    ap (λ (step : DefType-F Bool Bool → Bool). fold-DefType Bool Bool step few_decl_step t) (fun_ext step_same)
+    ∙ ap (λ (step : InstanceDecl-F Bool Bool → Bool). fold-DefType Bool Bool sync_type_step step t) (fun_ext decl_same)
+
+-- So are all types that stand among items where nothing is found.
+abbrev HaveInside : ℕ → Type 0
+HaveInside depth = (place : ℕ) (items : List (Placed Item)) → first_inside depth place items ≡ None → TypesHave false true items
+
+shape_few : (depth : ℕ) → HaveInside depth → (place : ℕ) (shape : Item-F Item Component) → first_at (first_inside depth) place shape ≡ None → ShapeHas false true shape
+shape_few depth inside place (Item-F.Type t) h = type_same t ∙ none_placed (is_sync_type t) place h
+shape_few depth inside place (Item-F.Component c) h = inside place c.items h
+shape_few depth inside place shape h = tt
+
+items_few : (depth : ℕ) → HaveInside depth → (items : List (Placed Item)) → first_among (first_inside depth) items ≡ None → TypesHave false true items
+items_few depth inside [] h = none_have false true
+items_few depth inside (placed ∷ items) h =
+    more_have false true placed items
+    (shape_few depth inside placed.place (out-Item placed.item) (none_first (first_at (first_inside depth) placed.place (out-Item placed.item)) (first_among (first_inside depth) items) h))
+    (items_few depth inside items (none_behind (first_at (first_inside depth) placed.place (out-Item placed.item)) (first_among (first_inside depth) items) h))
+
+inside_few : (depth : ℕ) → HaveInside depth
+inside_few zero place items h = cc
+inside_few (suc depth) place items h = items_few depth (inside_few depth) items h
+
+types_few : (items : List (Placed Item)) → AreSyncItems items → TypesHave false true items
+types_few items (depth, h) = items_few depth (inside_few depth) items h
+
+linked_endless : (c : Component) (l : Linking) → AreSyncItems c.items → Links root_begun 0 c.items l → passes_no_ends (graph_of l) ≡ true
+linked_endless c l has links =
+    plain_endless (graph_of l) (marked_plain true (graph_of l) (linked_counted false true c l (types_few c.items has) links))
+
+linked_runs : (c : Component) (l : Linking) → AreSyncItems c.items → Links root_begun 0 c.items l → runs_synchronously (graph_of l) ≡ true
+linked_runs c l has links =
+    and_from (runs_now (graph_of l)) (passes_no_ends (graph_of l)) ((runs_told (graph_of l)).1 (linked_sync c l has links)) (linked_endless c l has links)
+
 not_both : (runs : Bool) → runs ≡ true → runs ≡ false → ⊥
 not_both runs h k = cc
 
-found_or_sync : (c : Component) (g : Graph) (found : Option ℕ) → first_not_sync c ≡ found → (first_not_sync c ≡ None → IsSync g) → runs_now g ≡ false → IsSome found
-found_or_sync c g None e h k = absurd (not_both (runs_now g) ((runs_told g).1 (h e)) k)
+found_or_sync : (c : Component) (g : Graph) (found : Option ℕ) → first_not_sync c ≡ found → (first_not_sync c ≡ None → runs_synchronously g ≡ true) → runs_synchronously g ≡ false → IsSome found
+found_or_sync c g None e h k = absurd (not_both (runs_synchronously g) (h e) k)
 found_or_sync c g (Some place) e h k = refl
 
 pub other_items_are_found : OtherItemsAreFound
 other_items_are_found c g (l, links, is) k =
-    found_or_sync c g (first_not_sync c) refl (λ none. subst IsSync (sym is) (linked_sync c l (nesting_limit, none) links)) k
+    found_or_sync c g (first_not_sync c) refl (λ none. subst (λ (g : Graph). runs_synchronously g ≡ true) (sym is) (linked_runs c l (nesting_limit, none) links)) k

@@ -26,7 +26,18 @@ use Rattle.comp_reader.specs.Binary.{alias, extern_desc, instance_decl, type_of,
 use Rattle.part_reader.specs.Reasons.{numbers, unsupported}
 use Rattle.value_reader.specs.Writable.{all_true}
 use Rattle.graph_laws.proofs.Bytes.{IsByte, matches_bytes, GivesOn, choice_on, times_on}
-use Rattle.graph_laws.proofs.TypesStand.{is_few, few_step, few_decl_step, has_few}
+use Rattle.graph_laws.proofs.TypesStand as stands
+use Rattle.graph_laws.proofs.TypesStand.{few_decl_step}
+
+-- Types that are read may be of streams and futures.
+abbrev is_few : DefValType → Bool
+is_few = stands.is_few true false
+
+abbrev few_step : DefType-F Bool Bool → Bool
+few_step = stands.few_step true false
+
+abbrev has_few : DefType → Bool
+has_few = stands.has_few true false
 
 -- Numbers: below the last byte's limit, with seven bits for each byte before it.
 abbrev bound : ℕ → ℕ → ℕ

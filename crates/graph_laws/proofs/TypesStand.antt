@@ -1,6 +1,7 @@
--- Types as they are written in a component, at any depth, and that none of them has 2^32 labels or more.
+-- Types as they are written in a component, at any depth, and that none of them is of streams or futures, or has 2^32 labels or more,
+-- where it is told apart whether either may be.
 use Rattle.std.proofs.Common.{◌≡◌, ◌⊎◌, ◌^◌, inl, inr, Bool, true, List, [], ◌∷◌, length, subst}
-use Rattle.std.specs.Prelude.{nat_lt}
+use Rattle.std.specs.Prelude.{◌||◌, nat_lt}
 use Rattle.ca_base.specs.declared.placed.Placed.{Placed}
 use Rattle.comp_tree.specs.declared.types.DefValType.{DefValType}
 use Rattle.comp_tree.specs.declared.types.DefValType.TheVariants as written
@@ -12,24 +13,26 @@ use Rattle.comp_tree.specs.declared.items.Component.{Component}
 use Rattle.value_reader.specs.Writable.{all_true}
 
 -- A value type, and a type in which it may stand.
-abbrev pub is_few : DefValType → Bool
-is_few (written.Variant cases) = nat_lt (length cases) (2 ^ 32)
-is_few (written.Enum labels) = nat_lt (length labels) (2 ^ 32)
-is_few type = true
+abbrev pub is_few : Bool → Bool → DefValType → Bool
+is_few ends many (written.Variant cases) = many || nat_lt (length cases) (2 ^ 32)
+is_few ends many (written.Enum labels) = many || nat_lt (length labels) (2 ^ 32)
+is_few ends many (written.Stream element) = ends
+is_few ends many (written.Future element) = ends
+is_few ends many type = true
 
-abbrev pub few_step : DefType-F Bool Bool → Bool
-few_step (DefType-F.Value type) = is_few type
-few_step (DefType-F.Func type) = true
-few_step (DefType-F.Instance decls) = all_true decls
-few_step (DefType-F.Resource destructor) = true
+abbrev pub few_step : Bool → Bool → DefType-F Bool Bool → Bool
+few_step ends many (DefType-F.Value type) = is_few ends many type
+few_step ends many (DefType-F.Func type) = true
+few_step ends many (DefType-F.Instance decls) = all_true decls
+few_step ends many (DefType-F.Resource destructor) = true
 
 abbrev pub few_decl_step : InstanceDecl-F Bool Bool → Bool
 few_decl_step (InstanceDecl-F.Type type) = type
 few_decl_step (InstanceDecl-F.Alias alias) = true
 few_decl_step (InstanceDecl-F.Export name asked) = true
 
-abbrev pub has_few : DefType → Bool
-has_few = fold-DefType Bool Bool few_step few_decl_step
+abbrev pub has_few : Bool → Bool → DefType → Bool
+has_few ends many = fold-DefType Bool Bool (few_step ends many) few_decl_step
 
 -- The type is one of these items, or stands in a component that is one of them.
 pub data TypeStands (t : DefType) : List (Placed Item) → Type 0 where
@@ -39,14 +42,14 @@ pub data TypeStands (t : DefType) : List (Placed Item) → Type 0 where
   type_behind : (placed : Placed Item) (items : List (Placed Item)) → TypeStands t items → TypeStands t (placed ∷ items)
 
 -- every type that stands among these items is so
-abbrev pub TypesHave : List (Placed Item) → Type 0
-TypesHave items = (t : DefType) → TypeStands t items → has_few t ≡ true
+abbrev pub TypesHave : Bool → Bool → List (Placed Item) → Type 0
+TypesHave ends many items = (t : DefType) → TypeStands t items → has_few ends many t ≡ true
 
 -- what an item is to have where it is a type or a component
-abbrev pub ShapeHas : Item-F Item Component → Type 0
-ShapeHas (Item-F.Type t) = has_few t ≡ true
-ShapeHas (Item-F.Component c) = TypesHave c.items
-ShapeHas other = Unit {0}
+abbrev pub ShapeHas : Bool → Bool → Item-F Item Component → Type 0
+ShapeHas ends many (Item-F.Type t) = has_few ends many t ≡ true
+ShapeHas ends many (Item-F.Component c) = TypesHave ends many c.items
+ShapeHas ends many other = Unit {0}
 
 -- Where a type stands: it is the first item, or stands in it, or behind it.
 abbrev Standings : DefType → List (Placed Item) → Type 0
@@ -59,25 +62,25 @@ standings t items (type_first placed others is) = inl is
 standings t items (type_inside placed others c is inside) = inr (inl (c, is, inside))
 standings t items (type_behind placed others behind) = inr (inr behind)
 
-pub none_have : TypesHave []
-none_have t h = absurd (standings t [] h)
+pub none_have : (ends many : Bool) → TypesHave ends many []
+none_have ends many t h = absurd (standings t [] h)
 
-pub more_have : (placed : Placed Item) (items : List (Placed Item)) → ShapeHas (out-Item placed.item) → TypesHave items → TypesHave (placed ∷ items)
-more_have placed items first others t h =
+pub more_have : (ends many : Bool) (placed : Placed Item) (items : List (Placed Item)) → ShapeHas ends many (out-Item placed.item) → TypesHave ends many items → TypesHave ends many (placed ∷ items)
+more_have ends many placed items first others t h =
     elim (standings t (placed ∷ items) h) [
-      | inl is ↦ (let has : ShapeHas (Item-F.Type t) = subst ShapeHas is first in has)
+      | inl is ↦ (let has : ShapeHas ends many (Item-F.Type t) = subst (ShapeHas ends many) is first in has)
       | inr k ↦
           elim k [
-            | inl inside ↦ (let has : ShapeHas (Item-F.Component inside.0) = subst ShapeHas inside.1 first in has t inside.2)
+            | inl inside ↦ (let has : ShapeHas ends many (Item-F.Component inside.0) = subst (ShapeHas ends many) inside.1 first in has t inside.2)
             | inr behind ↦ others t behind
           ]
     ]
 
 -- what the first of some items is to have
-pub shape_has : (placed : Placed Item) (items : List (Placed Item)) → TypesHave (placed ∷ items) → (shape : Item-F Item Component) → out-Item placed.item ≡ shape → ShapeHas shape
-shape_has placed items h (Item-F.Type t) e = h t (type_first placed items e)
-shape_has placed items h (Item-F.Component c) e = λ t k. h t (type_inside placed items c e k)
-shape_has placed items h shape e = tt
+pub shape_has : (ends many : Bool) (placed : Placed Item) (items : List (Placed Item)) → TypesHave ends many (placed ∷ items) → (shape : Item-F Item Component) → out-Item placed.item ≡ shape → ShapeHas ends many shape
+shape_has ends many placed items h (Item-F.Type t) e = h t (type_first placed items e)
+shape_has ends many placed items h (Item-F.Component c) e = λ t k. h t (type_inside placed items c e k)
+shape_has ends many placed items h shape e = tt
 
-pub behind_have : (placed : Placed Item) (items : List (Placed Item)) → TypesHave (placed ∷ items) → TypesHave items
-behind_have placed items h t k = h t (type_behind placed items k)
+pub behind_have : (ends many : Bool) (placed : Placed Item) (items : List (Placed Item)) → TypesHave ends many (placed ∷ items) → TypesHave ends many items
+behind_have ends many placed items h t k = h t (type_behind placed items k)

@@ -9,6 +9,7 @@ use Rattle.comp_tree.specs.declared.items.Component.{Component}
 use Rattle.comp_reader.specs.Binary.{IsComponent}
 use Rattle.comp_graph.specs.Graph.{Graph}
 use Rattle.comp_graph.specs.Running.{runs_now}
+use Rattle.sync_items.specs.Graphs.{passes_no_ends, runs_synchronously}
 use Rattle.sync_items.specs.Items.{first_not_sync}
 use Rattle.script_reader.specs.Script.{Script, CallsExport}
 use Rattle.link_spec.specs.Standing.{StandsIn}
@@ -57,11 +58,12 @@ ReadGraphsAreSound =
     (bytes : List ℕ) (c : Component) (g : Graph)
     → AreBytes bytes → IsComponent bytes c → IsLinked c g → runs_now g ≡ true → IsSoundGraph g
 
--- What functions of a graph pass that is read of bytes and linked has types whose labels are counted.
+-- What functions of a graph pass that is read of bytes and linked has types whose labels are counted, where no function passes the end
+-- of a stream or a future.
 abbrev pub ReadTypesAreCounted : Type 0
 ReadTypesAreCounted =
     (bytes : List ℕ) (c : Component) (g : Graph)
-    → AreBytes bytes → IsComponent bytes c → IsLinked c g → HasCountedFuncs g
+    → AreBytes bytes → IsComponent bytes c → IsLinked c g → passes_no_ends g ≡ true → HasCountedFuncs g
 
 -- Such a graph passes no handle and no end.
 abbrev pub CountedGraphsArePlain : Type 0
@@ -73,6 +75,6 @@ CallsAreSound =
     (g : Graph) (s : Script)
     → IsSoundGraph g → HasCountedFuncs g → AllByRecursion (CallsExport g.exports) s.items → IsSound g s
 
--- A component whose graph has more than synchronous functions has a first item that is more.
+-- A component whose graph has more than synchronous functions that pass no end has a first item that is more.
 abbrev pub OtherItemsAreFound : Type 0
-OtherItemsAreFound = (c : Component) (g : Graph) → IsLinked c g → runs_now g ≡ false → IsSome (first_not_sync c)
+OtherItemsAreFound = (c : Component) (g : Graph) → IsLinked c g → runs_synchronously g ≡ false → IsSome (first_not_sync c)

@@ -44,8 +44,8 @@ pub fn files_are_bytes(file: &[u8])
     ensures { AreBytes file.now }
 {}
 
-/// The types of what functions of a component pass that is read of bytes and linked have counted labels: flags at most 32, and a
-/// variant and an enum fewer than 2^32. They hold no handle and no end.
+/// The types of what functions of a component pass that is read of bytes and linked have counted labels, where none of its functions
+/// passes the end of a stream or a future: flags at most 32, and a variant and an enum fewer than 2^32. They hold no handle and no end.
 pub fn read_types_are_counted()
     ensures { ReadTypesAreCounted }
 {}
@@ -61,8 +61,8 @@ pub fn calls_are_sound()
     ensures { CallsAreSound }
 {}
 
-/// A component whose graph has more than synchronous functions has a first item that is a built-in, or a lift or a lower with
-/// `async` or `callback`.
+/// A component whose graph has more than synchronous functions that pass no end has a first item that is a built-in, a lift or a lower
+/// with `async` or `callback`, or a type in which a type of streams or futures stands.
 pub fn other_items_are_found()
     ensures { OtherItemsAreFound }
 {}

@@ -18,7 +18,7 @@ use Rattle.link_types.specs.declared.refs.ExternRef.{ExternRef}
 use Rattle.link_types.specs.declared.refs.ExternRef.TheVariants as extern_ref
 use Rattle.link_types.specs.Table.{Table, IsType, IsExtern, IsInstanceType, MayBeExtern}
 use Rattle.link_types.specs.Begun.{IsBegun}
-use Rattle.link_meanings.specs.declared.meant.Meant.{Meant}
+use Rattle.link_types.specs.declared.meant.Meant.{Meant}
 use Rattle.link_meanings.specs.declared.declaring.Declared.{Declared}
 use Rattle.link_meanings.specs.Meant.{IsFoundAs, IsMeaning, text_of}
 use Rattle.link_meanings.specs.Levels.{IsClosure}

@@ -9,7 +9,7 @@ use Rattle.link_spec.specs.Types.{absent, desc_meaning}
 use Rattle.link_types.specs.declared.refs.TypeRef.{TypeRef}
 use Rattle.link_types.specs.declared.refs.TypeRef.TheVariants as type_ref
 use Rattle.link_types.specs.Table.{Table, IsType, IsExtern}
-use Rattle.link_meanings.specs.declared.meant.Meant.{Meant}
+use Rattle.link_types.specs.declared.meant.Meant.{Meant}
 use Rattle.link_meanings.specs.Meant.{IsFoundAs, IsMeaning}
 use Rattle.link_meanings.specs.Levels.{AreTypes}
 use Rattle.link_meanings.specs.References.{desc_index, described_ref}

@@ -76,6 +76,11 @@ pub made_of_all : {A B : Type 0} (u : Table) (R : B → A → Type 0) (image : B
 made_of_all {A} {B} u R image is make number found o h at =
     rw h.1 (make h.0, refl, subst (λ (all : List A). IsValue u number (make all)) (images R image is found h.0 h.2) at)
 
+-- One that is made of a part that may not be there.
+pub made_of_held : (t u : Table) (make : Option ValType → ValType) (number : ℕ) (part : Option ℕ) (o : Option (Option ValType))
+    → IsFoundAs (MayBeValue t.values) (Some part) o → IsValue u number (make (option_map (tree_at t.values) part)) → IsFoundAs (IsValue u) (Some number) (option_map make o)
+made_of_held t u make number part o h at = rw h.1 (make h.0, refl, subst (λ (v : Option ValType). IsValue u number (make v)) (held_is t.values part h.0 h.2) at)
+
 -- One that is made of two parts that may not be there.
 pub made_of_two : (s t u : Table) → Grows s t → (make : Option ValType → Option ValType → ValType) (number : ℕ) (ok err : Option ℕ) (o p : Option (Option ValType))
     → IsFoundAs (MayBeValue s.values) (Some ok) o → IsFoundAs (MayBeValue t.values) (Some err) p → IsValue u number (make (option_map (tree_at t.values) ok) (option_map (tree_at t.values) err))

@@ -11,7 +11,7 @@ use Rattle.link_types.specs.declared.refs.ExternRef.{ExternRef}
 use Rattle.link_types.specs.declared.maker.InstanceTypeMaker.{InstanceTypeMaker}
 use Rattle.link_types.specs.Table.{Table, IsName, IsExtern, IsInstanceType, IsType}
 use Rattle.link_types.specs.Begun.{IsBegun}
-use Rattle.link_meanings.specs.declared.meant.Meant.{Meant}
+use Rattle.link_types.specs.declared.meant.Meant.{Meant}
 use Rattle.link_meanings.specs.declared.so_far.SoFar.{SoFar}
 use Rattle.link_meanings.specs.Meant.{IsFoundAs, IsMeaning, text_of}
 use Rattle.link_meanings.specs.Declaring.{IsSoFar, told_more}

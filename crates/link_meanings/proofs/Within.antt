@@ -4,7 +4,7 @@ use Rattle.comp_graph.specs.Closed.{Closed}
 use Rattle.link_spec.specs.Types.{Meaning, absent}
 use Rattle.link_types.specs.declared.refs.TypeRef.{TypeRef}
 use Rattle.link_types.specs.Table.{Table, IsType}
-use Rattle.link_meanings.specs.declared.meant.Meant.{Meant}
+use Rattle.link_types.specs.declared.meant.Meant.{Meant}
 use Rattle.link_meanings.specs.Meant.{IsFoundAs, IsMeaning}
 use Rattle.link_meanings.specs.Levels.{AreTypes}
 use Rattle.link_meanings.proofs.Lists.{as_many}

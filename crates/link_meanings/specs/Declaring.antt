@@ -13,7 +13,7 @@ use Rattle.link_spec.specs.Types as types_read
 use Rattle.link_spec.specs.Types.{Meaning, kept_if, InLevels, type_step, decl_step}
 use Rattle.link_types.specs.Table.{Table, IsInstanceType}
 use Rattle.link_types.specs.Begun.{IsBegun}
-use Rattle.link_meanings.specs.declared.meant.Meant.{Meant}
+use Rattle.link_types.specs.declared.meant.Meant.{Meant}
 use Rattle.link_meanings.specs.declared.so_far.SoFar.{SoFar}
 use Rattle.link_meanings.specs.declared.declaring.Declared.{Declared}
 use Rattle.link_meanings.specs.Meant.{IsFoundAs, text_of}

@@ -3,7 +3,7 @@ use Rattle.std.specs.Prelude.{◌≡◌, ℕ, List, Option, Some, None}
 use Rattle.std.specs.Option.{option_map}
 use denote.Ref.{Bor}
 use Rattle.link_spec.specs.Types.{Meaning}
-use Rattle.link_meanings.specs.declared.meant.Meant.{Meant}
+use Rattle.link_types.specs.declared.meant.Meant.{Meant}
 
 -- What is found stands for what is defined, as R says, and nothing is found where nothing is defined.
 abbrev pub IsFoundAs : {A B : Type 0} → (B → A → Type 0) → Option B → Option A → Type 0

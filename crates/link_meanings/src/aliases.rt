@@ -15,11 +15,10 @@ ghost use Rattle.link_meanings.specs.References.{ref_of_sort};
 
 use crate::declaring::Declared;
 use crate::levels::{Enclosing, level_at};
-use crate::meant::Meant;
 use crate::outer::{outer_component, outer_type};
 use ca_base::Name;
 use comp_tree::{Alias, AliasTarget, Sort};
-use link_types::{ExternRef, InstanceTypeRef, Types, asked_named};
+use link_types::{ExternRef, InstanceTypeRef, Meant, Types, asked_named};
 use std::alloc::AllocError;
 
 /// What an export is, if it is of this sort.

@@ -14,11 +14,10 @@ ghost use Rattle.link_meanings.specs.References.{type_ref_in, instance_ref_in};
 
 use crate::described::{described, sort_of};
 use crate::levels::Enclosing;
-use crate::meant::Meant;
 use crate::so_far::SoFar;
 use ca_base::{Name, adds};
 use comp_tree::{ExternDesc, Sort};
-use link_types::{ExternRef, InstanceTypeRef, TypeRef, Types};
+use link_types::{ExternRef, InstanceTypeRef, Meant, TypeRef, Types};
 use std::alloc::{AllocError, Global};
 use std::collections::BTreeSet;
 

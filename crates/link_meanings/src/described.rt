@@ -11,9 +11,8 @@ ghost use Rattle.link_meanings.specs.Levels.{AreTypes, enclosed_types};
 ghost use Rattle.link_meanings.specs.References.{desc_index, described_ref};
 
 use crate::levels::{Enclosing, Level};
-use crate::meant::Meant;
 use comp_tree::{ExternDesc, Sort};
-use link_types::{ExternRef, TypeRef};
+use link_types::{ExternRef, Meant, TypeRef};
 
 /// The sort of what an export is to be.
 pub(crate) fn sort_of(desc: ExternDesc) -> Sort

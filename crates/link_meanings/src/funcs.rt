@@ -14,12 +14,11 @@ ghost use Rattle.link_meanings.specs.Meant.{IsFoundAs, IsMeaning};
 ghost use Rattle.link_meanings.specs.Levels.{AreTypes, enclosed_types};
 
 use crate::levels::Enclosing;
-use crate::meant::Meant;
 use crate::values::{held_of, value_of};
 use ca_base::first_twice;
 use comp_tree::{FuncType, Param};
 use link_spec::all_within;
-use link_types::{LabelledType, TypeRef, Types};
+use link_types::{LabelledType, Meant, TypeRef, Types};
 use std::alloc::{AllocError, Global};
 
 /// A parameter with the number of its type, where it has one.

@@ -4,7 +4,7 @@
 //! The layer above links components. It asks for the meaning of each type that a component defines, for what an import or
 //! an export is to be, and for the type of what a built-in passes. What `link_spec` defines is what contracts speak of.
 //!
-//! - `meant`: what a part of a type comes to; `levels`: what outer aliases see, `outer`: what they name
+//! - `levels`: what outer aliases see, `outer`: what they name
 //! - `values`: the numbers of parts of types; `numbered`: of fields, cases and places
 //! - `value_layers`: written types of values over the numbers of their parts; `value_meanings`: their meanings
 //! - `funcs`: types of functions; `described`: what imports and exports are to be
@@ -18,7 +18,6 @@ mod described;
 mod funcs;
 mod levels;
 mod meanings;
-mod meant;
 mod numbered;
 mod outer;
 mod so_far;
@@ -29,5 +28,4 @@ mod values;
 pub use described::wanted;
 pub use levels::Level;
 pub use meanings::meaning_of;
-pub use meant::Meant;
 pub use values::held_value;

@@ -14,10 +14,9 @@ ghost use Rattle.link_meanings.specs.Declaring.{IsDeclared, decl_makes};
 use crate::declaring::Declared;
 use crate::funcs::func_meaning;
 use crate::levels::{Enclosing, Level, all_enclosing, innermost, within};
-use crate::meant::Meant;
 use crate::value_meanings::value_meaning;
 use comp_tree::{DefType, InstanceDecl};
-use link_types::{TypeRef, Types};
+use link_types::{Meant, TypeRef, Types};
 use std::alloc::{AllocError, Global};
 
 /// What a type means, which stands within these.

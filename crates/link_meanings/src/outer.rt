@@ -9,8 +9,7 @@ ghost use Rattle.link_meanings.specs.Meant.{IsFoundAs, IsMeaning};
 ghost use Rattle.link_meanings.specs.Levels.{IsClosure, IsEnclosing};
 
 use crate::levels::Enclosing;
-use crate::meant::Meant;
-use link_types::TypeRef;
+use link_types::{Meant, TypeRef};
 
 /// The type of an index of a level.
 pub(crate) fn outer_type<'a>(level: Option<Enclosing<'_>>, index: u32) -> Meant<'a, TypeRef>

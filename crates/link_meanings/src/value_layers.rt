@@ -1,8 +1,7 @@
 //! The types of values that are written, over the numbers of their parts.
 
-ghost use Rattle.std.specs.Prelude.{◌≡◌, List, map, Option, IfOk};
+ghost use Rattle.std.specs.Prelude.{List, Option, IfOk};
 ghost use Rattle.std.specs.Option.{option_map, option_and_then};
-ghost use Rattle.ca_types.specs.declared.types.ValType.TheVariants as leaves;
 ghost use Rattle.ca_types.specs.declared.types.ValType.TheViews as val_type;
 ghost use Rattle.comp_graph.specs.Closed.{Closed};
 ghost use Rattle.link_spec.specs.ValueTypes.{close_all, close_val, close_held, close_field, close_case, close_parts};
@@ -13,7 +12,6 @@ ghost use Rattle.link_meanings.specs.Levels.{AreTypes, enclosed_types};
 use crate::levels::Enclosing;
 use crate::numbered::{numbered_cases, numbered_fields, numbered_places};
 use crate::values::{held_of, primitive, value_of};
-use ca_base::Name;
 use comp_tree::{Case, DefValType, Field, ValTypeRef};
 use laid_types::ValTypeLayer;
 use link_types::Types;
@@ -123,41 +121,38 @@ fn result_type(
     Ok(Some(number))
 }
 
-/// The texts of labels.
-fn texts<'a>(alloc: Global, labels: &'a [Name]) -> Result<Vec<&'a str>, AllocError>
-    ensures { IfOk result (λ texts. map (λ l. l.now) texts.items ≡ labels.now) }
-{
-    let mut texts = Vec::new(alloc);
-    for label in labels {
-        texts.push(label.as_str())?;
-    }
-    Ok(texts)
-}
-
-/// The number of the flags type of labels.
-fn flags_type<'a>(
+/// The number of the stream type of an element, if there is one, where that has a type.
+fn stream_type(
     alloc: Global,
-    types: &mut Types<'a>,
-    labels: &'a [Name],
-) -> Result<usize, AllocError>
-    ensures ok { IfOk result (λ number. IsValue types.new number (leaves.Flags labels.now)) }
+    types: &mut Types<'_>,
+    scope: &Enclosing<'_>,
+    element: Option<ValTypeRef>,
+) -> Result<Option<usize>, AllocError>
+    ensures ok { IfOk result (λ o. (closed : List (Option Closed)) → AreTypes types.old (enclosed_types scope.now) closed → IsFoundAs (IsValue types.new) o (option_map val_type.Stream (close_held closed element))) }
     ensures grows { Grows types.old types.new }
 {
-    let labels = texts(alloc, labels)?;
-    Ok(types.value_type(alloc, &ValTypeLayer::Flags(&labels))?)
+    let Some(element) = held_of(alloc, types, scope, element)? else {
+        return Ok(None);
+    };
+    let number = types.value_type(alloc, &ValTypeLayer::Stream(element))?;
+    Ok(Some(number))
 }
 
-/// The number of the enum type of labels.
-fn enum_type<'a>(
+/// The number of the future type of a value, if there is one, where that has a type.
+fn future_type(
     alloc: Global,
-    types: &mut Types<'a>,
-    labels: &'a [Name],
-) -> Result<usize, AllocError>
-    ensures ok { IfOk result (λ number. IsValue types.new number (leaves.Enum labels.now)) }
+    types: &mut Types<'_>,
+    scope: &Enclosing<'_>,
+    element: Option<ValTypeRef>,
+) -> Result<Option<usize>, AllocError>
+    ensures ok { IfOk result (λ o. (closed : List (Option Closed)) → AreTypes types.old (enclosed_types scope.now) closed → IsFoundAs (IsValue types.new) o (option_map val_type.Future (close_held closed element))) }
     ensures grows { Grows types.old types.new }
 {
-    let labels = texts(alloc, labels)?;
-    Ok(types.value_type(alloc, &ValTypeLayer::Enum(&labels))?)
+    let Some(element) = held_of(alloc, types, scope, element)? else {
+        return Ok(None);
+    };
+    let number = types.value_type(alloc, &ValTypeLayer::Future(element))?;
+    Ok(Some(number))
 }
 
 /// The number of a written type, where each part has a type.
@@ -176,11 +171,12 @@ pub(crate) fn over_parts<'a>(
         DefValType::Variant(cases) => Ok(variant_type(alloc, types, scope, cases.as_slice())?),
         DefValType::List(element) => Ok(list_type(alloc, types, scope, *element)?),
         DefValType::Tuple(places) => Ok(tuple_type(alloc, types, scope, places.as_slice())?),
-        DefValType::Flags(labels) => Ok(Some(flags_type(alloc, types, labels.as_slice())?)),
-        DefValType::Enum(labels) => Ok(Some(enum_type(alloc, types, labels.as_slice())?)),
+        DefValType::Flags(labels) => Ok(Some(types.flags_type(alloc, labels.as_slice())?)),
+        DefValType::Enum(labels) => Ok(Some(types.enum_type(alloc, labels.as_slice())?)),
         DefValType::Option(payload) => Ok(option_type(alloc, types, scope, *payload)?),
         DefValType::Result { ok, err } => Ok(result_type(alloc, types, scope, *ok, *err)?),
         DefValType::Own(_) | DefValType::Borrow(_) => Ok(None),
-        DefValType::Stream(_) | DefValType::Future(_) => Ok(None),
+        DefValType::Stream(element) => Ok(stream_type(alloc, types, scope, *element)?),
+        DefValType::Future(element) => Ok(future_type(alloc, types, scope, *element)?),
     }
 }

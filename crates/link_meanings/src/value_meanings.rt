@@ -12,12 +12,11 @@ ghost use Rattle.link_meanings.specs.Meant.{IsFoundAs, IsMeaning};
 ghost use Rattle.link_meanings.specs.Levels.{AreTypes, enclosed_types};
 
 use crate::levels::Enclosing;
-use crate::meant::Meant;
 use crate::value_layers::over_parts;
 use crate::values::primitive;
 use comp_tree::{DefValType, PrimValType};
 use link_spec::{is_well_made, parts_within};
-use link_types::{TypeRef, Types};
+use link_types::{Meant, TypeRef, Types};
 use std::alloc::{AllocError, Global};
 
 /// How many types may stand in one another in a value type, itself counted.

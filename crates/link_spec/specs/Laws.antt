@@ -128,7 +128,7 @@ HasSoundType (canon_func.Builtin b) = Unit {0}
 abbrev pub LoweredTypesAreSound : Type 0
 LoweredTypesAreSound = (c : Component) (g : Graph) → IsLinked c g → AllByRecursion HasSoundType g.canons
 
--- No resources of a graph are defined, and no streams and futures have a type.
+-- No resources of a graph are defined, and no built-in names a type of streams or futures.
 abbrev pub GraphsHaveNoResources : Type 0
 GraphsHaveNoResources = (c : Component) (g : Graph) → IsLinked c g → g.resources ≡ []
 

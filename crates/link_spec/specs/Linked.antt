@@ -127,7 +127,7 @@ callables EmptyInstance = []
 callables (WithExport others name d) = callables others ++ called (name, d)
 
 -- What a component is linked to: what is made, in file order, and the functions that can be called. No resources are defined, and no
--- streams and futures have a type.
+-- built-in that is linked names a type of streams or futures.
 abbrev pub export_of : Callable → Export
 export_of c = record { name = c.name; func_type = c.func.func_type }
 

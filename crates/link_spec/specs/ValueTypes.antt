@@ -78,6 +78,8 @@ parts_within count (written.List element) = is_within count element
 parts_within count (written.Tuple places) = list_all (is_within count) places
 parts_within count (written.Option payload) = is_within count payload
 parts_within count (written.Result ok err) = held_within count ok && held_within count err
+parts_within count (written.Stream element) = held_within count element
+parts_within count (written.Future element) = held_within count element
 parts_within count type = true
 
 abbrev pub is_empty : {A : Type 0} → List A → Bool
@@ -101,7 +103,7 @@ is_well_made (written.Flags labels) = are_labels labels && nat_le (length labels
 is_well_made (written.Enum labels) = are_labels labels
 is_well_made type = true
 
--- The closed type, where each part is one of values. Handles and the ends of streams and futures have none.
+-- The closed type, where each part is one of values. Handles have none.
 abbrev pub close_parts : List (Option Closed) → DefValType → Option ValType
 close_parts types (written.Primitive type) = Some (primitive type)
 close_parts types (written.Record fields) = option_map val_type.Record (close_all (close_field types) fields)
@@ -115,8 +117,8 @@ close_parts types (written.Result ok err) =
     option_and_then (λ ok. option_map (λ err. val_type.Result ok err) (close_held types err)) (close_held types ok)
 close_parts types (written.Own resource) = None
 close_parts types (written.Borrow resource) = None
-close_parts types (written.Stream element) = None
-close_parts types (written.Future element) = None
+close_parts types (written.Stream element) = option_map val_type.Stream (close_held types element)
+close_parts types (written.Future element) = option_map val_type.Future (close_held types element)
 
 abbrev pub close_def : List (Option Closed) → DefValType → Option ValType
 close_def types type = cond (is_well_made type) (close_parts types type) None

@@ -57,7 +57,7 @@ pub fn graphs_are_sound()
     ensures modules { ModulesStand }
 {}
 
-/// No resources of a graph are defined, and no streams and futures have a type.
+/// No resources of a graph are defined, and no built-in names a type of streams or futures.
 pub fn graphs_have_no_ends()
     ensures resources { GraphsHaveNoResources }
     ensures ends { GraphsHaveNoEnds }

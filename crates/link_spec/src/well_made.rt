@@ -120,6 +120,8 @@ pub fn parts_within(count: usize, val_type: &DefValType) -> bool
         DefValType::Tuple(places) => places_within(count, places.as_slice()),
         DefValType::Option(payload) => is_within(count, *payload),
         DefValType::Result { ok, err } => held_within(count, *ok) && held_within(count, *err),
+        DefValType::Stream(element) => held_within(count, *element),
+        DefValType::Future(element) => held_within(count, *element),
         _ => true,
     }
 }

@@ -33,6 +33,7 @@
 //! - `kinds`: lifts and lowers with `async`, and lifts with a callback
 //! - `builtin`: built-ins, their core types, and what uses the core functions
 //! - `returns`: built-ins that return a result
+//! - `streams`: types of streams and futures, and functions over them
 //! - `unlinked`: what is read and not linked yet
 //!
 //! Answers tell a definition of a core instance as `INSTANCE.INDEX`, and a core function that the Canonical ABI makes as `canon N`,

@@ -4,7 +4,8 @@
 //! - `listing`: what stands under names, in order
 //! - `layers`: the layers of types, each once, by number
 //! - `refs`: references into a table of types
-//! - `labels`: labels with the numbers of value types, which function types are made of
+//! - `labels`: the texts of labels, and labels with the numbers of value types, which function types are made of
+//! - `meant`: what a part of a type comes to
 //! - `laid_func`: what lifts and lowers ask of a function type
 //! - `kept_func`: function types, each with what lifts and lowers ask of it
 //! - `types`: the table of types
@@ -21,6 +22,7 @@ pub mod laws;
 mod layers;
 mod listing;
 mod maker;
+mod meant;
 mod refs;
 mod types;
 
@@ -31,5 +33,6 @@ pub use layers::{ExternLayer, Layer, Layers, TypeLayer};
 pub use link_values::Names;
 pub use listing::Listing;
 pub use maker::InstanceTypeMaker;
+pub use meant::Meant;
 pub use refs::{ExternRef, FuncTypeRef, InstanceTypeRef, TypeRef};
 pub use types::Types;

@@ -5,6 +5,7 @@ ghost use Rattle.std.specs.List.{slice_get, AllZip};
 ghost use Rattle.std.specs.Option.{MatchOption};
 ghost use Rattle.ca_types.specs.declared.types.FuncType.{FuncType};
 ghost use Rattle.ca_types.specs.declared.types.Param.{Param};
+ghost use Rattle.ca_types.specs.declared.types.ValType.TheVariants as leaves;
 ghost use Rattle.comp_graph.specs.Closed.{Closed, Externs, extern_named};
 ghost use Rattle.comp_graph.specs.Passed.{params_type, IsNumbered};
 ghost use Rattle.laid_types.specs.Layers.{AreThere, type_of, part_numbers};
@@ -14,11 +15,12 @@ ghost use Rattle.link_types.specs.Laid.{IsLaid};
 ghost use Rattle.link_types.specs.Table.{no_types, IsName, IsValue, IsFunc, IsType, IsInstanceType, MayBeExtern, MayBeEntry, in_order, Grows, AreDistinct};
 
 use crate::kept_func::KeptFunc;
-use crate::labels::{LabelledType, type_numbers};
+use crate::labels::{LabelledType, label_texts, type_numbers};
 use crate::laid_func::LaidFunc;
 use crate::layers::{Layer, Layers};
 use crate::listing::Listing;
 use crate::refs::{ExternRef, FuncTypeRef, InstanceTypeRef, TypeRef, are_same};
+use ca_base::Name;
 use ca_types::{FuncType, Shared};
 use comp_graph::{FuncTypes, NumberedFunc};
 use laid_types::{LaidType, ValTypeLayer};
@@ -107,6 +109,24 @@ impl<'a> Types<'a> {
         ensures grows { Grows self.old self.new }
     {
         Ok(self.values.number_of(alloc, layer)?)
+    }
+
+    /// The number of the flags type of labels (Component Model, Explainer.md, "Type Definitions").
+    pub fn flags_type(&mut self, alloc: Global, labels: &'a [Name]) -> Result<usize, AllocError>
+        ensures ok { IfOk result (λ number. IsValue self.new number (leaves.Flags labels.now)) }
+        ensures grows { Grows self.old self.new }
+    {
+        let labels = label_texts(alloc, labels)?;
+        Ok(self.value_type(alloc, &ValTypeLayer::Flags(&labels))?)
+    }
+
+    /// The number of the enum type of labels (Component Model, Explainer.md, "Type Definitions").
+    pub fn enum_type(&mut self, alloc: Global, labels: &'a [Name]) -> Result<usize, AllocError>
+        ensures ok { IfOk result (λ number. IsValue self.new number (leaves.Enum labels.now)) }
+        ensures grows { Grows self.old self.new }
+    {
+        let labels = label_texts(alloc, labels)?;
+        Ok(self.value_type(alloc, &ValTypeLayer::Enum(&labels))?)
     }
 
     /// How many value types there are.

@@ -6,7 +6,7 @@
 ghost use Rattle.std.specs.Prelude.{◌≡◌, ℕ, true, List, IfOk};
 ghost use Rattle.comp_tree.specs.declared.items.Component.{Component};
 ghost use Rattle.comp_reader.specs.Binary.{IsComponent};
-ghost use Rattle.comp_graph.specs.Running.{runs_now};
+ghost use Rattle.sync_items.specs.Graphs.{runs_synchronously};
 ghost use Rattle.link_spec.specs.Linked.{IsLinked};
 ghost use Rattle.canonical_machine.specs.Sound.{AreBytes, IsSound};
 ghost use Rattle.canonical_machine.specs.Owners.{IsApart};
@@ -20,7 +20,7 @@ use builtins::{Run, run_script, trace_text};
 use ca_base::{Bytes, MemoryOr, ReadError};
 use canonical_machine::RunEnd;
 use cases::Answers;
-use comp_graph::{Graph, runs_now};
+use comp_graph::Graph;
 use comp_link::{LinkFault, LinkWhy, link};
 use comp_reader::{Component, ComponentWhy, read_component};
 use graph_laws::laws::{
@@ -31,7 +31,7 @@ use script_reader::{Script, ScriptFault, read_script};
 use std::alloc::Global;
 use std::fmt::Write;
 use std::test::Fail;
-use sync_items::first_not_sync;
+use sync_items::{first_not_sync, runs_synchronously};
 use world::dump_text;
 
 /// Cases, each with its answer.
@@ -103,7 +103,7 @@ fn scripted(
 ) -> Result<String, Fail>
     requires read { (bytes : List ℕ) × AreBytes bytes × IsComponent bytes component.now }
     requires linked { IsLinked component.now graph.now }
-    requires runs { runs_now graph.now ≡ true }
+    requires runs { runs_synchronously graph.now ≡ true }
 {
     read_graphs_are_sound();
     read_types_are_counted();
@@ -136,7 +136,7 @@ fn graph_answer(
 {
     match case.command {
         Command::Run { dump } => {
-            if runs_now(graph) {
+            if runs_synchronously(graph) {
                 scripted(alloc, component, graph, case.script.as_str(), dump)
             } else {
                 not_run(alloc, component)

@@ -1,0 +1,2 @@
+mod Folded
+mod Tested

@@ -1,5 +1,6 @@
 -- Items of functions without `async` and `callback` (Component Model, Explainer.md, "Canonical Definitions" and "Canonical Built-ins"),
--- and the first item of a component that is more: a built-in, or a lift or a lower with `async` or `callback`.
+-- and the first item of a component that is more: a built-in, a lift or a lower with `async` or `callback`, or a type in which a type of
+-- streams or futures stands.
 use Rattle.std.specs.Prelude.{ℕ, zero, suc, Bool, true, false, cond, List, [], ◌∷◌, Option, Some, None}
 use Rattle.std.specs.List.{list_all}
 use Rattle.std.specs.Option.{option_or}
@@ -11,6 +12,7 @@ use Rattle.comp_tree.specs.declared.items.Canon.TheVariants.{Lift, Lower, Builti
 use Rattle.comp_tree.specs.declared.items.Item.{Item, out-Item}
 use Rattle.comp_tree.specs.declared.items.Item.TheOpen.{Item-F}
 use Rattle.comp_tree.specs.declared.items.Component.{Component}
+use Rattle.sync_items.specs.Types.{is_sync_type}
 
 -- whether an option is one of functions without `async`
 abbrev pub is_sync_option : CanonOption → Bool
@@ -27,9 +29,9 @@ is_sync (Lift f options type) = list_all is_sync_option options
 is_sync (Lower f options) = list_all is_sync_option options
 is_sync (Builtin b) = false
 
--- the place of one that is more
-abbrev pub place_of : Canon → ℕ → Option ℕ
-place_of canon place = cond (is_sync canon) None (Some place)
+-- the place of an item that is more
+abbrev pub place_unless : Bool → ℕ → Option ℕ
+place_unless is_sync place = cond is_sync None (Some place)
 
 -- What is found in a component that stands at a place, of its items.
 abbrev pub Inside : Type 0
@@ -38,7 +40,8 @@ Inside = ℕ → List (Placed Item) → Option ℕ
 -- the place of an item that is more, or of the first one in it
 abbrev pub first_at : Inside → ℕ → Item-F Item Component → Option ℕ
 first_at inside place (Item-F.Component c) = inside place c.items
-first_at inside place (Item-F.Canon canon) = place_of canon place
+first_at inside place (Item-F.Type type) = place_unless (is_sync_type type) place
+first_at inside place (Item-F.Canon canon) = place_unless (is_sync canon) place
 first_at inside place other = None
 
 -- of some items, in order

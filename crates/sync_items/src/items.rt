@@ -5,6 +5,7 @@ ghost use Rattle.std.specs.List.{list_all};
 ghost use Rattle.comp_tree.specs.declared.items.Item.{out-Item};
 ghost use Rattle.sync_items.specs.Items as sync;
 
+use crate::types::is_sync_type;
 use ca_base::Placed;
 use comp_tree::{Canon, CanonOption, Component, Item};
 
@@ -42,11 +43,11 @@ fn is_sync(canon: &Canon) -> bool
     }
 }
 
-/// The place of a canonical function that is more than a lift or a lower without `async`.
-fn place_of(canon: &Canon, place: usize) -> Option<usize>
-    ensures { result ≡ sync.place_of canon.now place }
+/// The place of an item, unless it is one of functions without `async`.
+fn place_unless(is_sync: bool, place: usize) -> Option<usize>
+    ensures { result ≡ sync.place_unless is_sync place }
 {
-    if is_sync(canon) { None } else { Some(place) }
+    if is_sync { None } else { Some(place) }
 }
 
 /// The place of the first item that is more, of those of a component that stands at a place, where so many may stand in one another.
@@ -69,7 +70,8 @@ fn first_at(depth: usize, placed: &Placed<Item>) -> Option<usize>
         Item::Component(component) => {
             first_inside(depth, placed.place, component.items.as_slice())
         }
-        Item::Canon(canon) => place_of(canon, placed.place),
+        Item::Type(def_type) => place_unless(is_sync_type(def_type), placed.place),
+        Item::Canon(canon) => place_unless(is_sync(canon), placed.place),
         _ => None,
     }
 }
@@ -87,9 +89,9 @@ fn first_among(depth: usize, items: &[Placed<Item>]) -> Option<usize>
     None
 }
 
-/// The place of the first item of a component, in file order, that is a built-in, or a lift or a lower with `async` or `callback`
-/// (Component Model, Explainer.md, "Canonical Definitions" and "Canonical Built-ins"), those of the components that stand in it among
-/// them; none where there is no such item.
+/// The place of the first item of a component, in file order, that is a built-in, a lift or a lower with `async` or `callback`, or a
+/// type in which a type of streams or futures stands (Component Model, Explainer.md, "Type Definitions", "Canonical Definitions" and
+/// "Canonical Built-ins"), those of the components that stand in it among them; none where there is no such item.
 pub fn first_not_sync(component: &Component) -> Option<usize>
     ensures { result ≡ sync.first_not_sync component.now }
 {

@@ -1,12 +1,18 @@
-//! Which items of a component are of functions without `async` and `callback` (Component Model, Explainer.md, "Canonical Definitions"
-//! and "Canonical Built-ins"), as the machine of synchronous calls runs them.
+//! What the machine of synchronous calls runs: which graphs, and which items of a component are of functions without `async` and
+//! `callback` (Component Model, Explainer.md, "Type Definitions", "Canonical Definitions" and "Canonical Built-ins").
 //!
-//! The layer above takes the place of the first item that is more: a built-in, or a lift or a lower with `async` or `callback`. It
-//! depends on the items alone, as they are written, whether or not a component that stands in another one is ever instantiated.
+//! The layer above tests the graph of a component, and where it does not run takes the place of the first item that is more: a
+//! built-in, a lift or a lower with `async` or `callback`, or a type in which a type of streams or futures stands. That depends on the
+//! items alone, as they are written, whether or not a component that stands in another one is ever instantiated.
 //!
+//! - `graphs`: which graphs run
+//! - `types`: types in which none of streams or futures stands
 //! - `items`: the first item that is more
 #![tactic(auto)]
 
+mod graphs;
 mod items;
+mod types;
 
+pub use graphs::runs_synchronously;
 pub use items::first_not_sync;

@@ -6,7 +6,7 @@ use Rattle.comp_tree.specs.declared.items.Component.{Component}
 use Rattle.part_reader.specs.declared.fault.ComponentWhy.{ComponentWhy}
 use Rattle.link_spec.specs.declared.fault.LinkFault.{LinkFault}
 use Rattle.comp_graph.specs.Graph.{Graph}
-use Rattle.comp_graph.specs.Running.{runs_now}
+use Rattle.sync_items.specs.Graphs.{runs_synchronously}
 use Rattle.canonical_machine.specs.declared.run_end.RunEnd.{RunEnd}
 use Rattle.canonical_machine.specs.declared.run_end.RunEnd.TheVariants as ends
 use Rattle.command_words.specs.Words.{Command, Run, Check, Show, component_file}
@@ -113,24 +113,24 @@ same_graph c d g e h = cc
 false_or_true : (runs : Bool) → runs ≡ false → runs ≡ true → ⊥
 false_or_true runs h k = cc
 
-not_run_or_run : (held : List ℕ → Option (List ℕ)) (name : List ℕ) (place : ℕ) (g : Graph) → IsSome (held name) → IsFileNotRun held name place → IsFileLinked held name g → runs_now g ≡ true → ⊥
+not_run_or_run : (held : List ℕ → Option (List ℕ)) (name : List ℕ) (place : ℕ) (g : Graph) → IsSome (held name) → IsFileNotRun held name place → IsFileLinked held name g → runs_synchronously g ≡ true → ⊥
 not_run_or_run held name place g told f l runs =
     let bytes : l.bytes ≡ f.bytes = same_bytes (held name) l.bytes f.bytes told l.holds f.holds in
     let good : Finds f.bytes (GoodFile l.component g) = subst (λ (bytes : List ℕ). Finds bytes (GoodFile l.component g)) bytes (l.read, l.linked) in
     let one : ◌≡◌ {A = Found} (GoodFile f.component f.graph) (GoodFile l.component g) = one_found f.bytes (GoodFile f.component f.graph) (GoodFile l.component g) (f.read, f.linked) good in
-    false_or_true (runs_now g) (sym (ap runs_now (same_graph f.component l.component f.graph g one)) ∙ f.beyond) runs
+    false_or_true (runs_synchronously g) (sym (ap runs_synchronously (same_graph f.component l.component f.graph g one)) ∙ f.beyond) runs
 
 same_command : (c d : Command) → ◌≡◌ {A = Option Command} (Some c) (Some d) → d ≡ c
 same_command c d e = cc
 
 -- So no script is asked for.
-none_asked : (held : List ℕ → Option (List ℕ)) (command : Command) (g : Graph) → (runs_now g ≡ true → ⊥) → IsScriptTold held command g
+none_asked : (held : List ℕ → Option (List ℕ)) (command : Command) (g : Graph) → (runs_synchronously g ≡ true → ⊥) → IsScriptTold held command g
 none_asked held (Run file name dump) g none = λ runs. absurd (none runs)
 none_asked held (Check file) g none = tt
 none_asked held (Show file) g none = tt
 
 not_run_too : (held : List ℕ → Option (List ℕ)) (command : Command) (g : Graph) → IsSome (held (component_file command)) → IsFileLinked held (component_file command) g
-    → HasCause held (Some command) Refused ⊎ HasCause held (Some command) LinkRefused → runs_now g ≡ true → ⊥
+    → HasCause held (Some command) Refused ⊎ HasCause held (Some command) LinkRefused → runs_synchronously g ≡ true → ⊥
 not_run_too held command g told linked causes runs =
     elim causes [
       | inl r ↦

@@ -8,7 +8,7 @@ use Rattle.comp_reader.specs.Laws.{OneReading}
 use Rattle.script_reader.specs.declared.fault.ScriptFault.{ScriptFault}
 use Rattle.script_reader.specs.Script.{Script, script}
 use Rattle.comp_graph.specs.Graph.{Graph}
-use Rattle.comp_graph.specs.Running.{runs_now}
+use Rattle.sync_items.specs.Graphs.{runs_synchronously}
 use Rattle.sync_items.specs.Items.{first_not_sync}
 use Rattle.link_spec.specs.Linked.{IsLinked}
 use Rattle.link_spec.specs.Laws.{LinkedOrRefused}
@@ -33,7 +33,7 @@ some_at (Some place) h = (place, refl)
 
 module _ (reading : OneReading) (links : LinkedOrRefused) (sound : ScriptsAreSound) (apart : LinkedGraphsAreApart) (others : OtherItemsAreFound) (ends : EachRunEnds) where
   by_script : (held : List ℕ → Option (List ℕ)) (file name : List ℕ) (dump : Bool) (bytes text : List ℕ) (c : Component) (g : Graph) (r : Result Script ScriptFault)
-      → AreBytes bytes → IsComponent bytes c → IsLinked c g → IsFileLinked held file g → runs_now g ≡ true → MayHold held name text → script g.exports text ≡ r → (a : Answer) × Answers held (Some (Run file name dump)) a
+      → AreBytes bytes → IsComponent bytes c → IsLinked c g → IsFileLinked held file g → runs_synchronously g ≡ true → MayHold held name text → script g.exports text ≡ r → (a : Answer) × Answers held (Some (Run file name dump)) a
   by_script held file name dump bytes text c g (Err fault) b i l linked runs holds h =
       (script_refused_answer fault, script_refused file name dump g fault linked runs (record { text = text; holds = holds; refused = h }))
   by_script held file name dump bytes text c g (Ok s) b i l linked runs holds h =
@@ -42,7 +42,7 @@ module _ (reading : OneReading) (links : LinkedOrRefused) (sound : ScriptsAreSou
 
   -- by whether a graph is run
   by_run : (held : List ℕ → Option (List ℕ)) (file name : List ℕ) (dump : Bool) (bytes : List ℕ) (c : Component) (g : Graph) (runs : Bool)
-      → AreBytes bytes → MayHold held file bytes → IsComponentFile bytes c → IsLinked c g → runs_now g ≡ runs → (runs ≡ true → IsSome (held name)) → (a : Answer) × Answers held (Some (Run file name dump)) a
+      → AreBytes bytes → MayHold held file bytes → IsComponentFile bytes c → IsLinked c g → runs_synchronously g ≡ runs → (runs ≡ true → IsSome (held name)) → (a : Answer) × Answers held (Some (Run file name dump)) a
   by_run held file name dump bytes c g true b holds read l e told =
       let text = told_bytes (held name) (told refl) in
       by_script held file name dump bytes text.0 c g (script g.exports text.0) b read.1 l (record { bytes = bytes; component = c; holds = holds; read = read; linked = l }) e (may_hold (held name) text.0 text.1) refl
@@ -53,7 +53,7 @@ module _ (reading : OneReading) (links : LinkedOrRefused) (sound : ScriptsAreSou
   -- behind a graph
   by_graph : (held : List ℕ → Option (List ℕ)) (command : Command) (bytes : List ℕ) (c : Component) (g : Graph)
       → AreBytes bytes → MayHold held (component_file command) bytes → IsComponentFile bytes c → IsLinked c g → IsScriptTold held command g → (a : Answer) × Answers held (Some command) a
-  by_graph held (Run file name dump) bytes c g b holds read l told = by_run held file name dump bytes c g (runs_now g) b holds read l refl told
+  by_graph held (Run file name dump) bytes c g b holds read l told = by_run held file name dump bytes c g (runs_synchronously g) b holds read l refl told
   by_graph held (Check file) bytes c g b holds read l told = (accepted_answer, accepted file g (record { bytes = bytes; component = c; holds = holds; read = read; linked = l }))
   by_graph held (Show file) bytes c g b holds read l told = (shown_answer g, shown file g (record { bytes = bytes; component = c; holds = holds; read = read; linked = l }))
 

@@ -6,7 +6,7 @@ use Rattle.sync_items.specs.Items.{first_not_sync}
 use Rattle.script_reader.specs.declared.fault.ScriptFault.{ScriptFault}
 use Rattle.script_reader.specs.Script.{Script, script}
 use Rattle.comp_graph.specs.Graph.{Graph}
-use Rattle.comp_graph.specs.Running.{runs_now}
+use Rattle.sync_items.specs.Graphs.{runs_synchronously}
 use Rattle.trace_show.specs.declared.label.Label.{Label}
 use Rattle.canonical_machine.specs.declared.run_end.RunEnd.{RunEnd}
 use Rattle.canonical_machine.specs.World.{World}
@@ -40,7 +40,7 @@ BehindRun held name dump c g false a = (place : ℕ) × (first_not_sync c ≡ So
 
 -- what is answered behind a graph, and for what a component file comes to
 abbrev BehindGraph : (List ℕ → Option (List ℕ)) → Command → Component → Graph → Answer → Type 0
-BehindGraph held (Run file name dump) c g a = BehindRun held name dump c g (runs_now g) a
+BehindGraph held (Run file name dump) c g a = BehindRun held name dump c g (runs_synchronously g) a
 BehindGraph held (Check file) c g a = a ≡ accepted_answer
 BehindGraph held (Show file) c g a = a ≡ shown_answer g
 
@@ -118,7 +118,7 @@ one_behind_run held name dump c g false a b told h k =
 
 one_behind_graph : (held : List ℕ → Option (List ℕ)) (command : Command) (c : Component) (g : Graph) (a b : Answer)
     → IsScriptTold held command g → BehindGraph held command c g a → BehindGraph held command c g b → b ≡ a
-one_behind_graph held (Run file name dump) c g a b told h k = one_behind_run held name dump c g (runs_now g) a b told h k
+one_behind_graph held (Run file name dump) c g a b told h k = one_behind_run held name dump c g (runs_synchronously g) a b told h k
 one_behind_graph held (Check file) c g a b told h k = k ∙ sym h
 one_behind_graph held (Show file) c g a b told h k = k ∙ sym h
 

@@ -10,7 +10,7 @@ use Rattle.script_reader.specs.Script.{Script}
 use Rattle.link_spec.specs.declared.fault.LinkFault.{LinkFault}
 use Rattle.link_spec.specs.declared.fault.LinkWhy.TheVariants.{Limit}
 use Rattle.comp_graph.specs.Graph.{Graph}
-use Rattle.comp_graph.specs.Running.{runs_now}
+use Rattle.sync_items.specs.Graphs.{runs_synchronously}
 use Rattle.trace_show.specs.declared.label.Label.{Label}
 use Rattle.trace_show.specs.LabelText.{trace_text}
 use Rattle.canonical_machine.specs.declared.run_end.RunEnd.{RunEnd}
@@ -84,9 +84,9 @@ pub data Answers (held : List ℕ → Option (List ℕ)) : Option Command → An
       → Answers held (Some (Run file script dump)) (not_run_answer place)
   -- 4: it is to be run, and is linked, and the script file is refused
   script_refused : (file script : List ℕ) (dump : Bool) (g : Graph) (fault : ScriptFault)
-      → IsFileLinked held file g → runs_now g ≡ true → IsScriptFileRefused held script g.exports fault
+      → IsFileLinked held file g → runs_synchronously g ≡ true → IsScriptFileRefused held script g.exports fault
       → Answers held (Some (Run file script dump)) (script_refused_answer fault)
   -- 0, 1, 5 or 6: the run has this end
   ran : (file script : List ℕ) (dump : Bool) (g : Graph) (calls : Script) (labels : List Label) (last : World) (end : RunEnd)
-      → IsFileLinked held file g → runs_now g ≡ true → IsScriptFile held script g.exports calls → Runs g calls labels last end
+      → IsFileLinked held file g → runs_synchronously g ≡ true → IsScriptFile held script g.exports calls → Runs g calls labels last end
       → Answers held (Some (Run file script dump)) (run_answer dump labels last end)

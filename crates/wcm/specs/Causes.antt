@@ -6,7 +6,7 @@ use Rattle.script_reader.specs.declared.fault.ScriptFault.{ScriptFault}
 use Rattle.script_reader.specs.Script.{Script}
 use Rattle.link_spec.specs.declared.fault.LinkFault.{LinkFault}
 use Rattle.comp_graph.specs.Graph.{Graph}
-use Rattle.comp_graph.specs.Running.{runs_now}
+use Rattle.sync_items.specs.Graphs.{runs_synchronously}
 use Rattle.trace_show.specs.declared.label.Label.{Label}
 use Rattle.trace_show.specs.declared.trap.TrapName.{TrapName}
 use Rattle.canonical_machine.specs.declared.run_end.RunEnd.{RunEnd}
@@ -57,7 +57,7 @@ pub record HasNoScript (held : List ℕ → Option (List ℕ)) (words : Option C
   pub fault : ScriptFault
   pub named : words ≡ Some (Run file script dump)
   pub linked : IsFileLinked held file graph
-  pub sync : runs_now graph ≡ true
+  pub sync : runs_synchronously graph ≡ true
   pub refused : IsScriptFileRefused held script graph.exports fault
 
 -- a component is to be run, and is linked, and the run of its script has this end
@@ -71,7 +71,7 @@ pub record HasRun (held : List ℕ → Option (List ℕ)) (words : Option Comman
   pub last : World
   pub named : words ≡ Some (Run file script dump)
   pub linked : IsFileLinked held file graph
-  pub sync : runs_now graph ≡ true
+  pub sync : runs_synchronously graph ≡ true
   pub read : IsScriptFile held script graph.exports calls
   pub runs : Runs graph calls labels last end
 

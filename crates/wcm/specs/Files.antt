@@ -13,7 +13,7 @@ use Rattle.script_reader.specs.Script.{Script, IsScript, IsScriptRefused}
 use Rattle.link_spec.specs.declared.fault.LinkFault.{LinkFault}
 use Rattle.link_spec.specs.Linked.{IsLinked, IsLinkRefused}
 use Rattle.comp_graph.specs.Graph.{Graph}
-use Rattle.comp_graph.specs.Running.{runs_now}
+use Rattle.sync_items.specs.Graphs.{runs_synchronously}
 use Rattle.sync_items.specs.Items.{first_not_sync}
 use Rattle.canonical_machine.specs.Sound.{AreBytes}
 use Rattle.command_words.specs.Words.{Command, Run, Check, Show, component_file}
@@ -71,7 +71,7 @@ pub record IsFileNotRun (held : List ℕ → Option (List ℕ)) (name : List ℕ
   pub holds : MayHold held name bytes
   pub read : IsComponentFile bytes component
   pub linked : IsLinked component graph
-  pub beyond : runs_now graph ≡ false
+  pub beyond : runs_synchronously graph ≡ false
   pub first : first_not_sync component ≡ Some place
 
 -- the script file is refused, where these functions can be called
@@ -88,7 +88,7 @@ pub record IsScriptFile (held : List ℕ → Option (List ℕ)) (name : List ℕ
 
 -- what a command asks for behind a graph is told: `run` asks for the script file where the graph is run, `check` and `show` for nothing
 abbrev pub IsScriptTold : (List ℕ → Option (List ℕ)) → Command → Graph → Type 0
-IsScriptTold held (Run file script dump) g = runs_now g ≡ true → IsSome (held script)
+IsScriptTold held (Run file script dump) g = runs_synchronously g ≡ true → IsSome (held script)
 IsScriptTold held (Check file) g = Unit {0}
 IsScriptTold held (Show file) g = Unit {0}
 

@@ -7,7 +7,7 @@ use Rattle.wcm.specs.declared.answer.Answer.{Answer}
 use Rattle.wcm.specs.declared.status.Status.{Status}
 use Rattle.wcm.specs.declared.status.Status.TheVariants.{Refused, LinkRefused}
 use Rattle.comp_graph.specs.Graph.{Graph}
-use Rattle.comp_graph.specs.Running.{runs_now}
+use Rattle.sync_items.specs.Graphs.{runs_synchronously}
 use Rattle.link_spec.specs.Linked.{IsLinked}
 use Rattle.canonical_machine.specs.Sound.{AreBytes, IsSound}
 use Rattle.wcm.specs.Answers.{Answers}
@@ -15,12 +15,12 @@ use Rattle.wcm.specs.Causes.{HasCause}
 use Rattle.wcm.specs.Files.{IsComponentTold, IsTold}
 use Rattle.command_words.specs.Words.{Command}
 
--- A script that is read for a component that is read of bytes and linked is sound, if all functions of its graph are synchronous: so it
--- has exactly one run (`specs/Ending` of canonical_machine).
+-- A script that is read for a component that is read of bytes and linked is sound, if all functions of its graph are synchronous and
+-- pass no end: so it has exactly one run (`specs/Ending` of canonical_machine).
 abbrev pub ScriptsAreSound : Type 0
 ScriptsAreSound =
     (bytes text : List ℕ) (c : Component) (g : Graph) (script : Script)
-    → AreBytes bytes → IsComponent bytes c → IsLinked c g → runs_now g ≡ true → IsScript g.exports text script → IsSound g script
+    → AreBytes bytes → IsComponent bytes c → IsLinked c g → runs_synchronously g ≡ true → IsScript g.exports text script → IsSound g script
 
 -- each file that is held is one of bytes
 abbrev pub HoldsBytes : (List ℕ → Option (List ℕ)) → Type 0

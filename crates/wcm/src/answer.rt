@@ -3,7 +3,7 @@
 ghost use Rattle.std.specs.Prelude.{◌≡◌, ℕ, true, false, if◌then◌else◌, List, [], ◌++◌, Option, Some, IfOk, MatchResult, map, replicate};
 ghost use Rattle.std.specs.List.{AllByRecursion};
 ghost use Rattle.script_reader.specs.Script.{CallsExport};
-ghost use Rattle.comp_graph.specs.Running.{runs_now};
+ghost use Rattle.sync_items.specs.Graphs.{runs_synchronously};
 ghost use Rattle.link_spec.specs.Linked.{IsLinked};
 ghost use Rattle.sync_items.specs.Items.{first_not_sync};
 ghost use Rattle.trace_show.specs.LabelText.{trace_text};
@@ -29,7 +29,7 @@ use ca_io::{FileError, Files, read_all};
 use ca_types::Exports;
 use canonical_machine::tasks_are_over;
 use command_words::Command;
-use comp_graph::{Graph, runs_now};
+use comp_graph::Graph;
 use comp_link::{LinkFault, LinkWhy, link};
 use comp_reader::{Component, ComponentWhy, read_component};
 use graph_laws::laws::{
@@ -38,7 +38,7 @@ use graph_laws::laws::{
 };
 use script_reader::{Script, ScriptFault, ScriptWhy, read_script};
 use std::alloc::{AllocError, Global};
-use sync_items::first_not_sync;
+use sync_items::{first_not_sync, runs_synchronously};
 use world::dump_text;
 
 /// What a call of the program answers.
@@ -227,7 +227,7 @@ fn not_run_answer(alloc: Global, place: usize) -> Result<Answer, Memory>
 /// The place of the first item of more than synchronous functions of a component, whose graph has such functions.
 fn first_place(component: &Component, graph: &Graph) -> usize
     requires linked { IsLinked component.now graph.now }
-    requires beyond { runs_now graph.now ≡ false }
+    requires beyond { runs_synchronously graph.now ≡ false }
     ensures { first_not_sync component.now ≡ Some result }
 {
     other_items_are_found();
@@ -246,7 +246,7 @@ fn script_answer<F: Files>(
     files: &mut F,
 ) -> Result<Answer, Stop>
     requires linked { IsOfComponent graph.now }
-    requires runs { runs_now graph.now ≡ true }
+    requires runs { runs_synchronously graph.now ≡ true }
     ensures file { IfOk result (λ a. (file : List ℕ)
         → IsFileLinked (F.held files.old) file graph.now → Answers (F.held files.old) (Some (commands.Run file script.now dump)) a) }
     ensures same { (other : List ℕ) → F.held files.new other ≡ F.held files.old other }
@@ -283,7 +283,7 @@ fn sync_answer<F: Files>(
     ensures same { (other : List ℕ) → F.held files.new other ≡ F.held files.old other }
     ensures cause { StopsFor (F.faults files.old) (F.faults files.new) result }
 {
-    if runs_now(graph) {
+    if runs_synchronously(graph) {
         script_answer(alloc, graph, script, dump, files)
     } else {
         let place = first_place(component, graph);

@@ -11,7 +11,8 @@ use graph_laws::laws::{
 use link_spec::laws::graphs_are_computed;
 use script_reader::scripts_call_exports;
 
-/// A script that is read for a component that is read of bytes and linked is sound, if all functions of its graph are synchronous.
+/// A script that is read for a component that is read of bytes and linked is sound, if all functions of its graph are synchronous and
+/// pass no end.
 pub fn scripts_are_sound()
     ensures { ScriptsAreSound }
 {

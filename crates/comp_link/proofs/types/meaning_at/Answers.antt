@@ -8,7 +8,7 @@ use Rattle.link_spec.specs.Types.{meaning_of}
 use Rattle.link_types.specs.declared.refs.TypeRef.{TypeRef}
 use Rattle.link_types.specs.Table.{IsType}
 use Rattle.link_meanings.specs.declared.levels.Level.{Level}
-use Rattle.link_meanings.specs.declared.meant.Meant.{Meant}
+use Rattle.link_types.specs.declared.meant.Meant.{Meant}
 use Rattle.link_meanings.specs.Meant.{IsMeaning}
 use Rattle.link_meanings.specs.Levels.{AreLevels}
 use Rattle.comp_link.specs.declared.scope.Scope.{Scope}

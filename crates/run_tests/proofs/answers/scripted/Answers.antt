@@ -1,7 +1,10 @@
 use Rattle.std.proofs.Common.{◌≡◌, List, Result, Ok, subst}
 use Rattle.std.specs.Prelude.{IfOk}
 use Rattle.std.specs.List.{AllByRecursion}
+use Rattle.std.proofs.lemmas.Bool.{and_parts}
 use Rattle.ca_types.specs.declared.exports.Export.{Export}
+use Rattle.comp_graph.specs.Running.{runs_now}
+use Rattle.sync_items.specs.Graphs.{passes_no_ends}
 use Rattle.script_reader.specs.Script.{Script, CallsExport}
 use Rattle.run_tests.proofs.answers.scripted.Goals as goal
 
@@ -15,9 +18,10 @@ pub script_run-requires-clause-sound : goal.script_run-requires-clause-sound
 script_run-requires-clause-sound c =
     let g = c.args.graph.now in
     let read = c.requires.read in
+    let both = and_parts (runs_now g) (passes_no_ends g) c.requires.runs in
     c.calls_are_sound.ensures g c.in-Ok.script
-    (c.read_graphs_are_sound.ensures.graphs read.0 c.args.component.now g read.1 read.2 c.requires.linked c.requires.runs)
-    (c.read_types_are_counted.ensures read.0 c.args.component.now g read.1 read.2 c.requires.linked)
+    (c.read_graphs_are_sound.ensures.graphs read.0 c.args.component.now g read.1 read.2 c.requires.linked both.0)
+    (c.read_types_are_counted.ensures read.0 c.args.component.now g read.1 read.2 c.requires.linked both.1)
     (calls_of c.exports.result.now g.exports c.read_script.result c.in-Ok.script c.exports.ensures c.in-Ok.is c.read_script.ensures.calls)
 
 pub script_run-requires-clause-apart : goal.script_run-requires-clause-apart
@@ -25,6 +29,7 @@ script_run-requires-clause-apart c = c.linked_graphs_are_apart.ensures c.args.co
 
 pub script_run-requires-clause-plain : goal.script_run-requires-clause-plain
 script_run-requires-clause-plain c =
+    let g = c.args.graph.now in
     let read = c.requires.read in
-    c.counted_graphs_are_plain.ensures c.args.graph.now
-    (c.read_types_are_counted.ensures read.0 c.args.component.now c.args.graph.now read.1 read.2 c.requires.linked)
+    c.counted_graphs_are_plain.ensures g
+    (c.read_types_are_counted.ensures read.0 c.args.component.now g read.1 read.2 c.requires.linked (and_parts (runs_now g) (passes_no_ends g) c.requires.runs).1)

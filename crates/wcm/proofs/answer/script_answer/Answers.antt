@@ -13,7 +13,7 @@ pub run_answer-requires-clause-apart : goal.run_answer-requires-clause-apart
 run_answer-requires-clause-apart g c = apart_of c.linked_graphs_are_apart.ensures c.args.graph.now c.requires.linked
 
 pub run_answer-requires-clause-plain : goal.run_answer-requires-clause-plain
-run_answer-requires-clause-plain g c = plain_of c.read_types_are_counted.ensures c.counted_graphs_are_plain.ensures c.args.graph.now c.requires.linked
+run_answer-requires-clause-plain g c = plain_of c.read_types_are_counted.ensures c.counted_graphs_are_plain.ensures c.args.graph.now c.requires.linked c.requires.runs
 
 pub returns-in_ok-line-in-Err-clause-file : goal.returns-in_ok-line-in-Err-clause-file
 returns-in_ok-line-in-Err-clause-file g c = λ file linked.

@@ -1,10 +1,10 @@
-//! What a part of a type comes to.
+//! What a part of a type comes to, as it is written.
 
 ghost use Rattle.std.specs.Prelude.{◌≡◌, true, false, None, Some};
 
 use ca_base::Name;
 
-/// What a part of a type comes to.
+/// What a part of a type comes to, as it is written (Component Model, Explainer.md, "Type Definitions").
 #[derive(Clone, Copy)]
 pub struct Meant<'a, T> {
     /// Whether all its indices are there.
@@ -19,7 +19,7 @@ pub struct Meant<'a, T> {
 
 impl<'a, T> Meant<'a, T> {
     /// One that is not there.
-    pub(crate) fn absent() -> Meant<'a, T>
+    pub fn absent() -> Meant<'a, T>
         ensures { result ≡ record { is_there = false; missing = None; deep = false; means = None } }
     {
         Meant {
@@ -29,7 +29,7 @@ impl<'a, T> Meant<'a, T> {
     }
 
     /// One that stands for this, or has no meaning.
-    pub(crate) fn there(means: Option<T>) -> Meant<'a, T>
+    pub fn there(means: Option<T>) -> Meant<'a, T>
         ensures { result ≡ record { is_there = true; missing = None; deep = false; means = means } }
     {
         Meant {
@@ -41,7 +41,7 @@ impl<'a, T> Meant<'a, T> {
     }
 
     /// One that is too deep, with what stands in its place.
-    pub(crate) fn too_deep(in_place: T) -> Meant<'a, T>
+    pub fn too_deep(in_place: T) -> Meant<'a, T>
         ensures { result ≡ record { is_there = true; missing = None; deep = true; means = Some in_place } }
     {
         Meant {
