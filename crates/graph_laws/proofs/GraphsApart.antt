@@ -7,18 +7,22 @@ use Rattle.wasm_typing.specs.Modules.{Typed}
 use Rattle.wasm_store.specs.Instantiation.{InRange}
 use Rattle.comp_tree.specs.declared.items.Item.{Item, out-Item}
 use Rattle.comp_tree.specs.declared.items.Component.{Component}
+use Rattle.comp_graph.specs.declared.graph.Options.{Options}
+use Rattle.comp_graph.specs.declared.graph.Lift.{Lift}
+use Rattle.comp_graph.specs.declared.graph.CanonFunc.{CanonFunc}
+use Rattle.comp_graph.specs.declared.graph.CanonFunc.TheVariants as canon_func
 use Rattle.comp_graph.specs.Graph.{CoreMake, Graph}
 use Rattle.comp_graph.proofs.RunningTold.{runs_told}
 use Rattle.link_spec.specs.Definitions.{Closure, AFunc, AnInstance, Exports, EmptyInstance, WithExport}
 use Rattle.link_spec.specs.Spaces.{Spaces, Linking, new_spaces, with_definition}
 use Rattle.link_spec.specs.Standing.{StandsIn}
-use Rattle.link_spec.specs.Linked.{Begins, begun, exports_or, exports_at, with_instance, Links, leads_by_making, leads_by_instance, no_items, item_links, root_begun, Callable, funcs_behind, callables, lift_of, graph_of}
+use Rattle.link_spec.specs.Linked.{IsLinked, Begins, begun, exports_or, exports_at, with_instance, Links, leads_by_making, leads_by_instance, no_items, item_links, root_begun, Callable, funcs_behind, callables, lift_of, graph_of}
 use Rattle.link_spec.specs.Laws.{GraphsAreImported, LiftsAreThere, GraphsAreMade, ModulesStand}
 use Rattle.link_spec.proofs.Holding.{all_push, all_both, all_mapped, all_weaker}
 use Rattle.canonical_machine.specs.Sound.{HasBytes, Makes}
-use Rattle.canonical_machine.specs.Owners.{IsLiftApart, IsApart}
+use Rattle.canonical_machine.specs.Owners.{AreOptionsOf, IsLiftApart, IsCanonApart}
 use Rattle.graph_laws.specs.Laws.{IsSoundModule, HasSoundModules, LinkedGraphsAreSound, PlansMakeInOrder, LinkedGraphsAreApart}
-use Rattle.graph_laws.proofs.Owning.{made_by, KeepsOwners, IsFuncApart, AreDefinedApart, AreSpacesApart, IsLinkingApart, IsReachedApart}
+use Rattle.graph_laws.proofs.Owning.{made_by, KeepsOwners, OwnsOptions, OwnsLift, OwnsCanon, IsOwnGraph, IsFuncApart, AreDefinedApart, AreSpacesApart, IsLinkingApart, IsReachedApart}
 use Rattle.graph_laws.proofs.Keeping.{kept_canons, kept_lifts, kept_imports, kept_spaces, keeps_itself, keeps_through}
 use Rattle.graph_laws.proofs.Places.{at_push, begins_behind}
 use Rattle.graph_laws.proofs.SpacesApart.{with_defined_apart, new_apart, are_named_apart}
@@ -95,17 +99,39 @@ callables_apart g (WithExport others name d) h = all_both (λ (c : Callable). Is
 keeps_graph : (l : Linking) → KeepsOwners (made_by l) (graph_of l)
 keeps_graph l = record { cores = λ number owner e. e; canons = λ number owner e. e }
 
-graph_apart : (l : Linking) → IsLinkingApart l → IsApart (graph_of l)
-graph_apart l h = record {
+graph_own : (l : Linking) → IsLinkingApart l → IsOwnGraph (graph_of l)
+graph_own l h = record {
   imports = kept_imports (made_by l) (graph_of l) (keeps_graph l) l.cores h.imports;
   lifts =
       kept_lifts (made_by l) (graph_of l) (keeps_graph l) (map lift_of (callables (exports_at l 0)))
-      (all_mapped lift_of (IsLiftApart (made_by l)) (callables (exports_at l 0)) (callables_apart (made_by l) (exports_at l 0) (exports_apart l 0 h)));
-  lowers = kept_canons (made_by l) (graph_of l) (keeps_graph l) l.canons h.lowers;
+      (all_mapped lift_of (OwnsLift (made_by l)) (callables (exports_at l 0)) (callables_apart (made_by l) (exports_at l 0) (exports_apart l 0 h)));
+  canons = kept_canons (made_by l) (graph_of l) (keeps_graph l) l.canons h.lowers;
+  resources = tt;
 }
 
+pub linked_graphs_own : (c : Component) (g : Graph) → IsLinked c g → IsOwnGraph g
+linked_graphs_own c g (l, links, is) = subst IsOwnGraph (sym is) (graph_own l (linked_apart c l links))
+
+-- Synchronous calls use less.
+module _ (g : Graph) where
+  less_options : (owner : ℕ) (options : Options) → OwnsOptions g owner options → AreOptionsOf g owner options
+  less_options owner options h = record { memory = h.memory; realloc = h.realloc; post_return = h.post_return }
+
+  less_lift : (lift : Lift) → OwnsLift g lift → IsLiftApart g lift
+  less_lift lift h = (h.0, less_options lift.instance lift.options h.1)
+
+  less_canon : (c : CanonFunc) → OwnsCanon g c → IsCanonApart g c
+  less_canon (canon_func.Lower l) h = (less_options l.instance l.options h.0, less_lift l.lift h.1)
+  less_canon (canon_func.Builtin b) h = tt
+
 pub linked_graphs_are_apart : LinkedGraphsAreApart
-linked_graphs_are_apart c g (l, links, is) = subst IsApart (sym is) (graph_apart l (linked_apart c l links))
+linked_graphs_are_apart c g linked =
+    let own : IsOwnGraph g = linked_graphs_own c g linked in
+    record {
+      imports = own.imports;
+      lifts = all_weaker (OwnsLift g) (IsLiftApart g) (less_lift g) g.lifts own.lifts;
+      lowers = all_weaker (OwnsCanon g) (IsCanonApart g) (less_canon g) g.canons own.canons;
+    }
 
 pub plans_make_in_order : PlansMakeInOrder
 plans_make_in_order c g (l, links, is) = subst (λ (g : Graph). Makes 0 g.plan g.cores) (sym is) (linked_apart c l links).planned

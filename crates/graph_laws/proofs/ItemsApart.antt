@@ -26,26 +26,26 @@ use Rattle.comp_tree.specs.declared.items.Canon.TheVariants.{Lift, Lower, Builti
 use Rattle.comp_tree.specs.declared.items.Item.{Item}
 use Rattle.comp_tree.specs.declared.items.Item.TheOpen.{Item-F}
 use Rattle.comp_tree.specs.declared.items.Component.{Component}
-use Rattle.comp_graph.specs.declared.graph.CoreRef.{CoreRef}
 use Rattle.comp_graph.specs.declared.graph.FuncRef.{FuncRef}
 use Rattle.comp_graph.specs.declared.graph.FuncRef.TheVariants as func_ref
 use Rattle.comp_graph.specs.declared.graph.CoreExtern.{CoreExtern}
 use Rattle.comp_graph.specs.declared.graph.CanonFunc.{CanonFunc}
 use Rattle.comp_graph.specs.declared.graph.CanonFunc.TheVariants as canon_func
-use Rattle.comp_graph.specs.CoreItems.{core_func_of, core_memory_of, table_space, memory_space}
+use Rattle.comp_graph.specs.CoreItems.{core_func_of, table_space, memory_space}
 use Rattle.comp_graph.specs.Closed.{Extern, OfFunc, OfType, OfInstance}
 use Rattle.comp_graph.specs.Graph.{CoreMake, Graph, canon_type}
 use Rattle.link_spec.specs.Definitions.{CoreItem, Func, Table, Memory, Global, extern_of, item_of, CoreExport, core_named, listed, exports_of, Definition, AFunc, AType, AComponent, AnInstance, AModule, Exports, EmptyInstance, WithExport, export_named}
 use Rattle.link_spec.specs.Spaces.{Spaces, Linking, core_item_at, definition_at, with_core_item, with_core_instance, with_definition, with_spaces, outer_definition, outer_at}
-use Rattle.link_spec.specs.Canons.{memory_index, realloc_index, post_return_index, first_index, given_by, options_of}
+use Rattle.link_spec.specs.Canons.{given_by}
 use Rattle.link_spec.specs.Builtins.{builtin_meaning}
 use Rattle.link_spec.specs.Items.{argument_named, import_found, FindsItem, IsInline, core_made, core_instance_makes, instance_makes, alias_makes, lifted_with, lift_makes, with_canon, lowered_with, lower_makes, builtin_makes, IsImported, import_makes, said, IsExported, export_makes, makes_case}
 use Rattle.link_spec.proofs.Holding.{all_push, all_mapped, all_flat, all_at, all_second, holds_at, if_mapped, if_found, if_each, if_cond, last_there}
 use Rattle.canonical_machine.specs.Reading.{inst_of_canon}
-use Rattle.canonical_machine.specs.Owners.{owner_of_core, owner_of_canon, owner_of_func, owner_of_extern, AreOptionsOf, IsCanonApart}
-use Rattle.graph_laws.proofs.Owning.{made_by, KeepsOwners, IsItemOf, AreExportsOf, IsFuncApart, IsDefinedApart, AreDefinedApart, AreSpacesApart, AreImportsOf, IsLinkingApart, IsReachedApart}
+use Rattle.canonical_machine.specs.Owners.{owner_of_core, owner_of_canon, owner_of_func, owner_of_extern}
+use Rattle.graph_laws.proofs.Owning.{made_by, KeepsOwners, OwnsCanon, IsItemOf, AreExportsOf, IsFuncApart, IsDefinedApart, AreDefinedApart, AreSpacesApart, AreImportsOf, IsLinkingApart, IsReachedApart}
 use Rattle.graph_laws.proofs.Keeping.{kept_mapped, kept_canons, kept_imports, kept_spaces, keeps_itself}
 use Rattle.graph_laws.proofs.Places.{at_set, makes_behind}
+use Rattle.graph_laws.proofs.OptionsApart.{func_own, options_own, builtin_own}
 use Rattle.graph_laws.proofs.SpacesApart.{if_always, with_item_apart, with_instance_apart, with_defined_apart, with_imports_apart, with_exports_apart, item_apart, core_named_apart, definition_apart, are_named_apart, outer_apart, named_apart, seen_apart, types_apart}
 
 -- What a core instance exports is of the component instance that made it.
@@ -74,7 +74,7 @@ module _ (g : Graph) (owner number : ℕ) (is : owner_of_core g number ≡ Some 
       (λ e. listed_own (option_map (λ item. (let x : CoreExport = record { name = e.name; item = item } in x)) (item_of m number e.desc))
       (if_mapped (λ item. (let x : CoreExport = record { name = e.name; item = item } in x)) (λ (e : CoreExport). IsItemOf g owner e.item) (item_of m number e.desc) (item_of_own m e.desc))) m.exports
 
--- What imports find, and what options give.
+-- What imports find.
 module _ (g : Graph) (owner : ℕ) (s : Spaces) (apart : AreSpacesApart g owner s) where
   argument_own : (q : List ℕ) (arguments : List CoreArgument) → IfSome (argument_named s.core_instances q arguments) (AreExportsOf g owner)
   argument_own q [] = tt
@@ -84,34 +84,6 @@ module _ (g : Graph) (owner : ℕ) (s : Spaces) (apart : AreSpacesApart g owner 
 
   import_own : (arguments : List CoreArgument) (i : Import) → IfSome (import_found s arguments i) (IsItemOf g owner)
   import_own arguments i = if_found (core_named i.name) (AreExportsOf g owner) (IsItemOf g owner) (core_named_apart g owner i.name) (argument_named s.core_instances i.module arguments) (argument_own i.module arguments)
-
-  func_own : (item : CoreItem) → IsItemOf g owner item → IfSome (core_func_of item) (λ f. owner_of_func g f ≡ Some owner)
-  func_own (Func f type) h = h
-  func_own (Table t limits) h = tt
-  func_own (Memory m limits) h = tt
-  func_own (Global global type) h = tt
-
-  given_own : (given : Option CoreItem) → IfSome given (IsItemOf g owner) → IfSome (option_and_then core_func_of given) (λ f. owner_of_func g f ≡ Some owner)
-  given_own given h = if_found core_func_of (IsItemOf g owner) (λ (f : FuncRef). owner_of_func g f ≡ Some owner) func_own given h
-
-  memory_own : (item : CoreItem) → IsItemOf g owner item → IfSome (core_memory_of item) (λ m. owner_of_core g m.instance ≡ Some owner)
-  memory_own (Func f type) h = tt
-  memory_own (Table t limits) h = tt
-  memory_own (Memory m limits) h = h
-  memory_own (Global global type) h = tt
-
-  options_own : (options : List CanonOption) → AreOptionsOf g owner (options_of (given_by s options))
-  options_own options = record {
-    memory =
-        if_found core_memory_of (IsItemOf g owner) (λ (m : CoreRef). owner_of_core g m.instance ≡ Some owner) memory_own (option_and_then (slice_get s.core_memories) (first_index memory_index options))
-        (if_each (slice_get s.core_memories) (IsItemOf g owner) (λ index. all_at (IsItemOf g owner) s.core_memories index apart.core.memories_of) (first_index memory_index options));
-    realloc =
-        given_own (option_and_then (slice_get s.core_funcs) (first_index realloc_index options))
-        (if_each (slice_get s.core_funcs) (IsItemOf g owner) (λ index. all_at (IsItemOf g owner) s.core_funcs index apart.core.funcs_of) (first_index realloc_index options));
-    post_return =
-        given_own (option_and_then (slice_get s.core_funcs) (first_index post_return_index options))
-        (if_each (slice_get s.core_funcs) (IsItemOf g owner) (λ index. all_at (IsItemOf g owner) s.core_funcs index apart.core.funcs_of) (first_index post_return_index options));
-  }
 
 -- A component instance has other index spaces.
 pub with_spaces_apart : (l : Linking) (n : ℕ) (s : Spaces) → IsLinkingApart l → AreSpacesApart (made_by l) n s → IsLinkingApart (with_spaces l n s)
@@ -190,13 +162,13 @@ lift_reached l n s f options t new h k (item, core, type, is, of_item, there, of
 
 -- One core function more, which the Canonical ABI makes in this component instance.
 canon_reached : (l : Linking) (n : ℕ) (s : Spaces) (canon : CanonFunc) (new : Linking) → IsLinkingApart l → AreSpacesApart (made_by l) n s → inst_of_canon canon ≡ n
-    → (AreSpacesApart (made_by (with_canon l n s canon)) n s → IsCanonApart (made_by (with_canon l n s canon)) canon) → new ≡ with_canon l n s canon → IsReachedApart l new
+    → (AreSpacesApart (made_by (with_canon l n s canon)) n s → OwnsCanon (made_by (with_canon l n s canon)) canon) → new ≡ with_canon l n s canon → IsReachedApart l new
 canon_reached l n s canon new h k of_instance canon_own made =
     subst (IsReachedApart l) (sym made) (record {
       apart = record {
         scopes = at_set (AreSpacesApart longer) l.scopes n (with_core_item s item) (with_item_apart longer n s item spaces own) (λ i t e. kept_spaces (made_by l) longer keeps i t (h.scopes i t e));
         imports = kept_imports (made_by l) longer keeps l.cores h.imports;
-        lowers = all_push (IsCanonApart longer) l.canons canon (kept_canons (made_by l) longer keeps l.canons h.lowers) (canon_own spaces);
+        lowers = all_push (OwnsCanon longer) l.canons canon (kept_canons (made_by l) longer keeps l.canons h.lowers) (canon_own spaces);
         planned = h.planned;
       };
       keeps = keeps;
@@ -226,11 +198,14 @@ lower_reached l n s f options new h k (func, is, there, once, fits, made) = cano
     longer : Graph
     longer = made_by (with_canon l n s canon)
 
-    canon_own : AreSpacesApart longer n s → IsCanonApart longer canon
+    canon_own : AreSpacesApart longer n s → OwnsCanon longer canon
     canon_own spaces = (options_own longer n s spaces options, holds_at (IsFuncApart longer) (slice_get s.funcs f) func (all_at (IsFuncApart longer) s.funcs f spaces.funcs) is)
 
 builtin_reached : (l : Linking) (n : ℕ) (s : Spaces) (b : CanonBuiltin) (new : Linking) → IsLinkingApart l → AreSpacesApart (made_by l) n s → builtin_makes l n s (builtin_meaning s b) new → IsReachedApart l new
-builtin_reached l n s b new h k (kind, there, is, serves, made) = canon_reached l n s (canon_func.Builtin (record { instance = n; kind = kind })) new h k refl (λ spaces. tt) made
+builtin_reached l n s b new h k (kind, there, is, serves, made) = canon_reached l n s canon new h k refl (λ spaces. builtin_own (made_by (with_canon l n s canon)) n s spaces b kind is) made
+  where
+    canon : CanonFunc
+    canon = canon_func.Builtin (record { instance = n; kind = kind })
 
 -- Imports and exports.
 imported_apart : (g : Graph) (arguments : Option Exports) (name : List ℕ) (extern : Extern) (d : Definition) → IfSome arguments (AreDefinedApart g) → IsImported arguments name extern d → IsDefinedApart g d

@@ -9,6 +9,10 @@ use Rattle.comp_graph.specs.declared.graph.CoreExtern.{CoreExtern}
 use Rattle.comp_graph.specs.declared.graph.CoreExtern.TheVariants as extern
 use Rattle.comp_graph.specs.declared.graph.Options.{Options}
 use Rattle.comp_graph.specs.declared.graph.Lift.{Lift}
+use Rattle.comp_graph.specs.declared.graph.EndOp.{EndOp}
+use Rattle.comp_graph.specs.declared.graph.EndOp.TheVariants as end_op
+use Rattle.comp_graph.specs.declared.graph.BuiltinKind.{BuiltinKind}
+use Rattle.comp_graph.specs.declared.graph.BuiltinKind.TheVariants as builtin
 use Rattle.comp_graph.specs.declared.graph.CanonFunc.{CanonFunc}
 use Rattle.comp_graph.specs.declared.graph.CanonFunc.TheVariants as canon_func
 use Rattle.comp_graph.specs.Graph.{CoreMake, Graph}
@@ -16,8 +20,8 @@ use Rattle.link_spec.specs.Definitions.{CoreItem, extern_of, CoreExport, Lifted,
 use Rattle.link_spec.specs.Spaces.{Spaces}
 use Rattle.link_spec.proofs.Holding.{all_weaker, if_weaker, kept_at}
 use Rattle.link_spec.proofs.Lists.{map_some}
-use Rattle.canonical_machine.specs.Owners.{owner_of_core, owner_of_func, owner_of_extern, AreOptionsOf, IsLiftApart, IsCanonApart}
-use Rattle.graph_laws.proofs.Owning.{KeepsOwners, IsItemOf, AreExportsOf, IsFuncApart, IsDefinedApart, AreDefinedApart, AreSpacesApart, AreImportsOf}
+use Rattle.canonical_machine.specs.Owners.{owner_of_core, owner_of_func, owner_of_extern}
+use Rattle.graph_laws.proofs.Owning.{KeepsOwners, OwnsOptions, OwnsLift, OwnsEnd, OwnsKind, OwnsCanon, IsItemOf, AreExportsOf, IsFuncApart, IsDefinedApart, AreDefinedApart, AreSpacesApart, AreImportsOf}
 
 -- what is made of an item of a list, when others come behind
 pub kept_mapped : {A B : Type 0} (f : A → B) (xs ys : List A) (n : ℕ) (y : B) → option_map f (slice_get xs n) ≡ Some y → option_map f (slice_get (xs ++ ys) n) ≡ Some y
@@ -34,25 +38,40 @@ module _ (g h : Graph) (keeps : KeepsOwners g h) where
   kept_extern (extern.Memory m) owner is = keeps.cores m.instance owner is
   kept_extern (extern.Global global) owner is = keeps.cores global.instance owner is
 
-  pub kept_options : (owner : ℕ) (options : Options) → AreOptionsOf g owner options → AreOptionsOf h owner options
+  pub kept_options : (owner : ℕ) (options : Options) → OwnsOptions g owner options → OwnsOptions h owner options
   kept_options owner options k = record {
     memory = if_weaker (λ (m : CoreRef). owner_of_core g m.instance ≡ Some owner) (λ (m : CoreRef). owner_of_core h m.instance ≡ Some owner) (λ m e. keeps.cores m.instance owner e) options.memory k.memory;
     realloc = if_weaker (λ (f : FuncRef). owner_of_func g f ≡ Some owner) (λ (f : FuncRef). owner_of_func h f ≡ Some owner) (λ f e. kept_func f owner e) options.realloc k.realloc;
     post_return = if_weaker (λ (f : FuncRef). owner_of_func g f ≡ Some owner) (λ (f : FuncRef). owner_of_func h f ≡ Some owner) (λ f e. kept_func f owner e) options.post_return k.post_return;
+    callback = if_weaker (λ (f : FuncRef). owner_of_func g f ≡ Some owner) (λ (f : FuncRef). owner_of_func h f ≡ Some owner) (λ f e. kept_func f owner e) options.callback k.callback;
   }
 
-  kept_lift : (lift : Lift) → IsLiftApart g lift → IsLiftApart h lift
+  kept_lift : (lift : Lift) → OwnsLift g lift → OwnsLift h lift
   kept_lift lift k = (kept_func lift.core lift.instance k.0, kept_options lift.instance lift.options k.1)
 
-  pub kept_canon : (f : CanonFunc) → IsCanonApart g f → IsCanonApart h f
-  kept_canon (canon_func.Builtin b) k = k
+  kept_end : (owner : ℕ) (op : EndOp) → OwnsEnd g owner op → OwnsEnd h owner op
+  kept_end owner (end_op.Copy side options) k = kept_options owner options k
+  kept_end owner end_op.New k = tt
+  kept_end owner (end_op.Cancel side is_async) k = tt
+  kept_end owner (end_op.Drop side) k = tt
+
+  kept_kind : (owner : ℕ) (kind : BuiltinKind) → OwnsKind g owner kind → OwnsKind h owner kind
+  kept_kind owner (builtin.Resource op resource) k = tt
+  kept_kind owner (builtin.TaskReturn result options) k = kept_options owner options k
+  kept_kind owner (builtin.Plain op) k = tt
+  kept_kind owner (builtin.Context op slot) k = tt
+  kept_kind owner (builtin.Wait op cancellable memory) k = keeps.cores memory.instance owner k
+  kept_kind owner (builtin.End what element op) k = kept_end owner op k
+
+  pub kept_canon : (f : CanonFunc) → OwnsCanon g f → OwnsCanon h f
+  kept_canon (canon_func.Builtin b) k = kept_kind b.instance b.kind k
   kept_canon (canon_func.Lower l) k = (kept_options l.instance l.options k.0, kept_lift l.lift k.1)
 
-  pub kept_canons : (canons : List CanonFunc) → AllByRecursion (IsCanonApart g) canons → AllByRecursion (IsCanonApart h) canons
-  kept_canons canons k = all_weaker (IsCanonApart g) (IsCanonApart h) kept_canon canons k
+  pub kept_canons : (canons : List CanonFunc) → AllByRecursion (OwnsCanon g) canons → AllByRecursion (OwnsCanon h) canons
+  kept_canons canons k = all_weaker (OwnsCanon g) (OwnsCanon h) kept_canon canons k
 
-  pub kept_lifts : (lifts : List Lift) → AllByRecursion (IsLiftApart g) lifts → AllByRecursion (IsLiftApart h) lifts
-  kept_lifts lifts k = all_weaker (IsLiftApart g) (IsLiftApart h) kept_lift lifts k
+  pub kept_lifts : (lifts : List Lift) → AllByRecursion (OwnsLift g) lifts → AllByRecursion (OwnsLift h) lifts
+  kept_lifts lifts k = all_weaker (OwnsLift g) (OwnsLift h) kept_lift lifts k
 
   kept_imports_of : (c : CoreMake) → AreImportsOf g c → AreImportsOf h c
   kept_imports_of c k = all_weaker (λ (e : CoreExtern). owner_of_extern g e ≡ Some c.owner) (λ (e : CoreExtern). owner_of_extern h e ≡ Some c.owner) (λ e is. kept_extern e c.owner is) c.imports k

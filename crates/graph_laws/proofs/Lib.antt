@@ -2,6 +2,7 @@ pub mod Owning
 pub mod Keeping
 pub mod Places
 pub mod SpacesApart
+mod OptionsApart
 pub mod ItemsApart
 pub mod GraphsApart
 pub mod Bytes

@@ -1,0 +1,75 @@
+-- What the options of canonical definitions give, and what built-ins use, is of the component instance whose index spaces it is found in.
+use Rattle.std.proofs.Common.{◌≡◌, ℕ, List, map, Option, Some}
+use Rattle.std.specs.List.{slice_get}
+use Rattle.std.specs.Option.{option_and_then, IfSome}
+use Rattle.ca_types.specs.declared.types.ValType.{ValType}
+use Rattle.comp_tree.specs.declared.builtins.CanonBuiltin.{CanonBuiltin}
+use Rattle.comp_tree.specs.declared.builtins.CanonBuiltin.TheVariants as read_builtin
+use Rattle.comp_tree.specs.declared.items.CanonOption.{CanonOption}
+use Rattle.comp_graph.specs.declared.graph.CoreRef.{CoreRef}
+use Rattle.comp_graph.specs.declared.graph.FuncRef.{FuncRef}
+use Rattle.comp_graph.specs.declared.graph.BuiltinKind.{BuiltinKind}
+use Rattle.comp_graph.specs.declared.graph.BuiltinKind.TheVariants as builtin
+use Rattle.comp_graph.specs.CoreItems.{core_func_of, core_memory_of}
+use Rattle.comp_graph.specs.Graph.{Graph}
+use Rattle.link_spec.specs.Definitions.{CoreItem, Func, Table, Memory, Global}
+use Rattle.link_spec.specs.Spaces.{Spaces}
+use Rattle.link_spec.specs.Canons.{memory_index, realloc_index, post_return_index, callback_index, first_index, given_by, options_of}
+use Rattle.link_spec.specs.Builtins.{builtin_meaning}
+use Rattle.link_spec.specs.ValueTypes.{close_held}
+use Rattle.link_spec.proofs.Holding.{all_at, holds_at, if_weaker, if_mapped, if_found, if_each}
+use Rattle.canonical_machine.specs.Owners.{owner_of_core, owner_of_func}
+use Rattle.graph_laws.proofs.Owning.{OwnsOptions, OwnsKind, IsItemOf, AreSpacesApart}
+use Rattle.graph_laws.proofs.SpacesApart.{if_always}
+
+module _ (g : Graph) (owner : ℕ) (s : Spaces) (apart : AreSpacesApart g owner s) where
+  pub func_own : (item : CoreItem) → IsItemOf g owner item → IfSome (core_func_of item) (λ f. owner_of_func g f ≡ Some owner)
+  func_own (Func f type) h = h
+  func_own (Table t limits) h = tt
+  func_own (Memory m limits) h = tt
+  func_own (Global global type) h = tt
+
+  given_own : (given : Option CoreItem) → IfSome given (IsItemOf g owner) → IfSome (option_and_then core_func_of given) (λ f. owner_of_func g f ≡ Some owner)
+  given_own given h = if_found core_func_of (IsItemOf g owner) (λ (f : FuncRef). owner_of_func g f ≡ Some owner) func_own given h
+
+  memory_own : (item : CoreItem) → IsItemOf g owner item → IfSome (core_memory_of item) (λ m. owner_of_core g m.instance ≡ Some owner)
+  memory_own (Func f type) h = tt
+  memory_own (Table t limits) h = tt
+  memory_own (Memory m limits) h = h
+  memory_own (Global global type) h = tt
+
+  pub options_own : (options : List CanonOption) → OwnsOptions g owner (options_of (given_by s options))
+  options_own options = record {
+    memory =
+        if_found core_memory_of (IsItemOf g owner) (λ (m : CoreRef). owner_of_core g m.instance ≡ Some owner) memory_own (option_and_then (slice_get s.core_memories) (first_index memory_index options))
+        (if_each (slice_get s.core_memories) (IsItemOf g owner) (λ index. all_at (IsItemOf g owner) s.core_memories index apart.core.memories_of) (first_index memory_index options));
+    realloc =
+        given_own (option_and_then (slice_get s.core_funcs) (first_index realloc_index options))
+        (if_each (slice_get s.core_funcs) (IsItemOf g owner) (λ index. all_at (IsItemOf g owner) s.core_funcs index apart.core.funcs_of) (first_index realloc_index options));
+    post_return =
+        given_own (option_and_then (slice_get s.core_funcs) (first_index post_return_index options))
+        (if_each (slice_get s.core_funcs) (IsItemOf g owner) (λ index. all_at (IsItemOf g owner) s.core_funcs index apart.core.funcs_of) (first_index post_return_index options));
+    callback =
+        given_own (option_and_then (slice_get s.core_funcs) (first_index callback_index options))
+        (if_each (slice_get s.core_funcs) (IsItemOf g owner) (λ index. all_at (IsItemOf g owner) s.core_funcs index apart.core.funcs_of) (first_index callback_index options));
+  }
+
+  -- Built-ins.
+  memory_at : (index : ℕ) → IfSome (option_and_then core_memory_of (slice_get s.core_memories index)) (λ (m : CoreRef). owner_of_core g m.instance ≡ Some owner)
+  memory_at index =
+      if_found core_memory_of (IsItemOf g owner) (λ (m : CoreRef). owner_of_core g m.instance ≡ Some owner) memory_own (slice_get s.core_memories index)
+      (all_at (IsItemOf g owner) s.core_memories index apart.core.memories_of)
+
+  builtin_uses : (b : CanonBuiltin) → IfSome (builtin_meaning s b).means (OwnsKind g owner)
+  builtin_uses (read_builtin.Plain b) = tt
+  builtin_uses (read_builtin.Context op slot) = tt
+  builtin_uses (read_builtin.TaskReturn result options) =
+      if_mapped (λ (type : Option ValType). builtin.TaskReturn type (options_of (given_by s options))) (OwnsKind g owner) (close_held (map Some s.types) result)
+      (if_always (λ (type : Option ValType). OwnsKind g owner (builtin.TaskReturn type (options_of (given_by s options)))) (close_held (map Some s.types) result) (λ type. options_own options))
+  builtin_uses (read_builtin.Wait op cancellable memory) =
+      if_mapped (λ (m : CoreRef). builtin.Wait op cancellable m) (OwnsKind g owner) (option_and_then core_memory_of (slice_get s.core_memories memory))
+      (if_weaker (λ (m : CoreRef). owner_of_core g m.instance ≡ Some owner) (λ (m : CoreRef). OwnsKind g owner (builtin.Wait op cancellable m)) (λ m e. e) (option_and_then core_memory_of (slice_get s.core_memories memory)) (memory_at memory))
+  builtin_uses other = tt
+
+  pub builtin_own : (b : CanonBuiltin) (kind : BuiltinKind) → (builtin_meaning s b).means ≡ Some kind → OwnsKind g owner kind
+  builtin_own b kind is = holds_at (OwnsKind g owner) (builtin_meaning s b).means kind (builtin_uses b) is
