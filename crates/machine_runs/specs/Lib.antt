@@ -1,0 +1,4 @@
+pub mod Calling
+pub mod Following
+pub mod Moving
+pub mod Turning
