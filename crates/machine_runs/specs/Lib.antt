@@ -1,3 +1,4 @@
+pub mod Beginning
 pub mod Calling
 pub mod Following
 pub mod Moving
