@@ -57,6 +57,17 @@ TypedOf s piles (Some t) = PileTyped s (slice_get piles t)
 abbrev pub IsActingTyped : Held → List PileView → Type 0
 IsActingTyped h piles = TypedOf h.store piles (acting_of h)
 
+abbrev pub MayMove : Rest → Held → List PileView → Type 0
+MayMove (rest.Instantiates number) h piles = Unit {0}
+MayMove rest.Free h piles = Unit {0}
+MayMove rest.Arrives h piles = Unit {0}
+MayMove rest.Goes h piles = Unit {0}
+MayMove rest.Resumes h piles = Unit {0}
+MayMove rest.Back h piles = Unit {0}
+MayMove rest.Runs h piles = IsActingTyped h piles
+MayMove (rest.Calls number) h piles = Unit {0}
+MayMove rest.Leaves h piles = Unit {0}
+
 -- The acting task's stack runs. Where the task's function has ended with words these are to be passed on.
 abbrev pub passing_of : Result (Option (List ℕ)) Stop → Result Passing Stop
 passing_of (Ok None) = Ok passing.Nothing

@@ -2,7 +2,7 @@
 
 ghost use Rattle.world_parts.specs.Held.{Does, held};
 ghost use Rattle.world_stacks.specs.Over.{Leads};
-ghost use Rattle.machine_runs.specs.Moving.{woken, moved_on, instantiated, IsActingTyped, MovesFrom};
+ghost use Rattle.machine_runs.specs.Moving.{woken, moved_on, instantiated, MayMove, MovesFrom};
 
 use crate::calling::call;
 use crate::following::follow;
@@ -85,7 +85,7 @@ pub fn make_move(
     parts: &mut Parts,
     stacks: &mut Stacks,
 ) -> Part<Passing>
-    requires typed { IsActingTyped (held parts.old) stacks.old.piles.items }
+    requires typed { MayMove parts.old.rest (held parts.old) stacks.old.piles.items }
     ensures { MovesFrom graph.now end_types.now parts.old.rest stacks.old.piles.items (held parts.old) result parts.new stacks.new.piles.items }
 {
     match parts.rest {
