@@ -26,13 +26,13 @@ abbrev pub has_item : Program → Held → Bool
 has_item p h = nat_lt h.taken (length p.script.now.items)
 
 -- A call of the script, of the export whose number is said.
-abbrev pub call_by : Graph → ℕ → Export → Lift → Call → Held → Done Flow
-call_by g number e lift call h =
+abbrev pub call_by : ℕ → Export → Lift → Call → Held → Done Flow
+call_by number e lift call h =
     call_taken number lift.instance (kind_of lift.options) call.name (typed (map (λ p. p.val_type) e.func_type.params) call.values) h
 
 abbrev pub call_of : Graph → CallNumbers → Call → Held → Done Flow
 call_of g numbers call h =
-    given (slice_get g.exports numbers.export) (λ e. given (slice_get g.lifts numbers.export) (λ lift. call_by g numbers.export e lift call h))
+    given (slice_get g.exports numbers.export) (λ e. given (slice_get g.lifts numbers.export) (λ lift. call_by numbers.export e lift call h))
 
 -- An item is taken. The numbers of the script's calls stand in their order.
 abbrev pub item_done : Program → Item → Held → Done Flow

@@ -28,14 +28,13 @@ fn has_item(program: &Program<'_, '_>, parts: &Parts) -> bool
 /// Takes a call of the script, of the export of a number.
 fn take_call_by(
     alloc: Global,
-    graph: &Graph<'_>,
     parts: &mut Parts,
     number: usize,
     export: &Export,
     lift: &Lift,
     call: &Call,
 ) -> Part<Flow>
-    ensures { Does (call_by graph.now number export.now lift.now call.now) parts.old result parts.new }
+    ensures { Does (call_by number export.now lift.now call.now) parts.old result parts.new }
 {
     let params = export.func_type.get().params.as_slice();
     let Ok(args) = typed_values(alloc, params, call.values.as_slice()) else {
@@ -71,7 +70,7 @@ fn take_call_of(
     let Some(lift) = graph.lifts().get(numbers.export) else {
         return Err(Stop::Stuck);
     };
-    take_call_by(alloc, graph, parts, numbers.export, export, lift, call)
+    take_call_by(alloc, parts, numbers.export, export, lift, call)
 }
 
 /// Takes an item of the script.
@@ -142,6 +141,7 @@ pub fn turn(
     let Ok(tasks) = able(alloc, program.graph, parts) else {
         return Err(Stop::Memory);
     };
-    let what = task_turns::turn(parts, has_item(program, parts), tasks.as_slice())?;
+    let has_item = has_item(program, parts);
+    let what = task_turns::turn(parts, has_item, tasks.as_slice())?;
     turn_so(alloc, program, parts, stacks, what)
 }
