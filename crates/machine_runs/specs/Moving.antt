@@ -19,7 +19,6 @@ use Rattle.world_parts.specs.Going.{arrives, leaves, ending, loops, resumes}
 use Rattle.world_parts.specs.Turning.{goes}
 use Rattle.world_stacks.specs.Views.{PileView}
 use Rattle.world_stacks.specs.Piles.{PileTyped}
-use Rattle.world_stacks.specs.Over.{Leads}
 use Rattle.world_stacks.specs.Running.{RunsAt}
 use Rattle.world_stacks.specs.Instantiating.{instantiates}
 use Rattle.replies.specs.Seen.{seen}
@@ -28,7 +27,7 @@ use Rattle.machine_runs.specs.declared.passing.Passing.TheVariants as passing
 use Rattle.machine_runs.specs.Calling.{calls}
 use Rattle.machine_runs.specs.Following.{followed}
 
--- What tasks do at a rest, but for code that runs and for instantiation.
+-- What tasks do at a rest. Where code runs, where task 0 instantiates, and where no task runs, they do nothing.
 abbrev pub woken : Graph → List (Option ℕ) → Rest → Held → Done Flow
 woken g types (rest.Instantiates number) h = Stuck
 woken g types rest.Free h = Stuck
@@ -46,6 +45,18 @@ moved_on g types r piles h = after (woken g types r h) (λ f k. followed (seen g
 unfoldable pub instantiated : Graph → ℕ → List PileView → Held → Done (Passing × List PileView)
 instantiated g number piles h = after (instantiates g number piles h) (λ r k. Gives (passing.Nothing, r.1) k)
 
+-- One move, by where the run is, but for code that runs.
+abbrev pub moves : Graph → List (Option ℕ) → Rest → List PileView → Held → Done (Passing × List PileView)
+moves g types (rest.Instantiates number) piles h = instantiated g number piles h
+moves g types rest.Free piles h = moved_on g types rest.Free piles h
+moves g types rest.Arrives piles h = moved_on g types rest.Arrives piles h
+moves g types rest.Goes piles h = moved_on g types rest.Goes piles h
+moves g types rest.Resumes piles h = moved_on g types rest.Resumes piles h
+moves g types rest.Back piles h = moved_on g types rest.Back piles h
+moves g types rest.Runs piles h = moved_on g types rest.Runs piles h
+moves g types (rest.Calls number) piles h = moved_on g types (rest.Calls number) piles h
+moves g types rest.Leaves piles h = moved_on g types rest.Leaves piles h
+
 -- The acting task, if there is one, and that its stack is typed where it is to run.
 abbrev pub acting_of : Held → Option ℕ
 acting_of h = slice_get h.chain (length h.chain - 1)
@@ -57,17 +68,6 @@ TypedOf s piles (Some t) = PileTyped s (slice_get piles t)
 abbrev pub IsActingTyped : Held → List PileView → Type 0
 IsActingTyped h piles = TypedOf h.store piles (acting_of h)
 
-abbrev pub MayMove : Rest → Held → List PileView → Type 0
-MayMove (rest.Instantiates number) h piles = Unit {0}
-MayMove rest.Free h piles = Unit {0}
-MayMove rest.Arrives h piles = Unit {0}
-MayMove rest.Goes h piles = Unit {0}
-MayMove rest.Resumes h piles = Unit {0}
-MayMove rest.Back h piles = Unit {0}
-MayMove rest.Runs h piles = IsActingTyped h piles
-MayMove (rest.Calls number) h piles = Unit {0}
-MayMove rest.Leaves h piles = Unit {0}
-
 -- The acting task's stack runs. Where the task's function has ended with words these are to be passed on.
 abbrev pub passing_of : Result (Option (List ℕ)) Stop → Result Passing Stop
 passing_of (Ok None) = Ok passing.Nothing
@@ -78,18 +78,6 @@ abbrev pub RunMoves : Option ℕ → List PileView → Held → Result Passing S
 RunMoves None piles h result new later = result ≡ Err stop.Stuck
 RunMoves (Some t) piles h result new later =
     (ended : Result (Option (List ℕ)) Stop) × RunsAt (slice_get piles t) t piles h ended new later × (result ≡ passing_of ended)
-
--- One move, by where the run is.
-abbrev pub MovesFrom : Graph → List (Option ℕ) → Rest → List PileView → Held → Result Passing Stop → Parts → List PileView → Type 0
-MovesFrom g types (rest.Instantiates number) piles h result new later = Leads (instantiated g number piles h) result new later
-MovesFrom g types rest.Free piles h result new later = Leads (moved_on g types rest.Free piles h) result new later
-MovesFrom g types rest.Arrives piles h result new later = Leads (moved_on g types rest.Arrives piles h) result new later
-MovesFrom g types rest.Goes piles h result new later = Leads (moved_on g types rest.Goes piles h) result new later
-MovesFrom g types rest.Resumes piles h result new later = Leads (moved_on g types rest.Resumes piles h) result new later
-MovesFrom g types rest.Back piles h result new later = Leads (moved_on g types rest.Back piles h) result new later
-MovesFrom g types rest.Runs piles h result new later = RunMoves (acting_of h) piles h result new later
-MovesFrom g types (rest.Calls number) piles h result new later = Leads (moved_on g types (rest.Calls number) piles h) result new later
-MovesFrom g types rest.Leaves piles h result new later = Leads (moved_on g types rest.Leaves piles h) result new later
 
 -- The core function or the callback of a task that is lifted with `async` has ended with these words: it exits, or blocks in its loop.
 abbrev pub async_ended : ℕ → Kind → List ℕ → Held → Done Flow

@@ -4,7 +4,8 @@
 //! (`Passing`). The one clause of each function says what it makes of what is kept and of the stacks.
 //!
 //! - `beginning`: what is kept before a graph is instantiated
-//! - `moving`: one move, by where the run is; `running`: core code runs, and tasks that are lifted with `async` end
+//! - `moving`: one move, by where the run is, but for core code that runs
+//! - `running`: core code runs, and tasks that are lifted with `async` end
 //! - `calling`: calls of canonical functions by core code
 //! - `following`: events that come, and stacks that go on; `passing`: what is to be passed then
 //! - `turning`: where no task runs, the script's next item is taken or a task goes on
@@ -23,5 +24,5 @@ pub use calling::call;
 pub use following::follow;
 pub use moving::make_move;
 pub use passing::Passing;
-pub use running::end_async;
+pub use running::{end_async, run};
 pub use turning::turn;

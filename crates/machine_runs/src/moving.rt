@@ -2,12 +2,11 @@
 
 ghost use Rattle.world_parts.specs.Held.{Does, held};
 ghost use Rattle.world_stacks.specs.Over.{Leads};
-ghost use Rattle.machine_runs.specs.Moving.{woken, moved_on, instantiated, MayMove, MovesFrom};
+ghost use Rattle.machine_runs.specs.Moving.{woken, moved_on, instantiated, moves};
 
 use crate::calling::call;
 use crate::following::follow;
 use crate::passing::Passing;
-use crate::running::run;
 use comp_graph::Graph;
 use replies::back;
 use std::alloc::Global;
@@ -73,11 +72,11 @@ fn instantiate_on(
 }
 
 /// Makes one move from where the run is: up to the next rest, or up to where values are to be passed, which the answer says (Component Model,
-/// Concurrency.md, "Summary"). At a rest where no task runs nothing moves.
+/// Concurrency.md, "Summary"). Where core code runs that is `run`, and where no task runs it is `turn`.
 ///
 /// # Errors
 ///
-/// The traps of what is done, `NoFuel` and `Memory`; and `Stuck` where no rule of the machine applies.
+/// The traps of what is done, `NoFuel` and `Memory`; and `Stuck` where core code runs, where no task runs, and where something is not there.
 pub fn make_move(
     alloc: Global,
     graph: &Graph<'_>,
@@ -85,12 +84,10 @@ pub fn make_move(
     parts: &mut Parts,
     stacks: &mut Stacks,
 ) -> Part<Passing>
-    requires typed { MayMove parts.old.rest (held parts.old) stacks.old.piles.items }
-    ensures { MovesFrom graph.now end_types.now parts.old.rest stacks.old.piles.items (held parts.old) result parts.new stacks.new.piles.items }
+    ensures { Leads (moves graph.now end_types.now parts.old.rest stacks.old.piles.items (held parts.old)) result parts.new stacks.new.piles.items }
 {
     match parts.rest {
         Rest::Instantiates(number) => instantiate_on(alloc, graph, parts, stacks, number),
-        Rest::Runs => run(alloc, parts, stacks),
         rest => move_on(alloc, graph, end_types, parts, stacks, rest),
     }
 }

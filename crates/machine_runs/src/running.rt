@@ -12,8 +12,13 @@ use task_turns::{end, loop_word};
 use world_parts::{Flow, Part, Parts, Stop, word_in};
 use world_stacks::{Stacks, run_on};
 
-/// The acting task's stack runs. Where the task's function has ended with words these are to be passed on.
-pub(crate) fn run(alloc: Global, parts: &mut Parts, stacks: &mut Stacks) -> Part<Passing>
+/// The acting task's stack runs, up to its end, to a call of a canonical function, to a trap or to where fuel is wanting (Core 2.0, section 4.4).
+/// Where the task's function has ended with words these are the answer; else the run goes on at the rest that is kept.
+///
+/// # Errors
+///
+/// A trap, `NoFuel` and `Memory`; and `Stuck` where no stack is to run.
+pub fn run(alloc: Global, parts: &mut Parts, stacks: &mut Stacks) -> Part<Passing>
     requires typed { IsActingTyped (held parts.old) stacks.old.piles.items }
     ensures { RunMoves (acting_of (held parts.old)) stacks.old.piles.items (held parts.old) result parts.new stacks.new.piles.items }
 {
