@@ -1,7 +1,6 @@
 //! What a case asks.
 
 use crate::playing::played;
-use ca_base::{MemoryOr, ReadError};
 use cases::{Answers, bytes_of_lines};
 use comp_graph::Graph;
 use comp_link::link;
@@ -16,7 +15,7 @@ pub struct Moved;
 impl Answers for Moved {
     fn answer(alloc: Global, given: &str) -> Result<String, Fail> {
         let (_title, rest) = given.split_once('\n').ok_or("no lines")?;
-        let (code, script) = rest.split_once("script\n").ok_or("no script")?;
+        let (code, script) = rest.split_once("script").ok_or("no script")?;
         let bytes = bytes_of_lines(alloc, code)?;
         component_answer(alloc, &bytes, script)
     }
