@@ -18,6 +18,7 @@ use world_stacks::{Stacks, run_on};
 /// # Errors
 ///
 /// A trap, `NoFuel` and `Memory`; and `Stuck` where no stack is to run.
+#[tactic(auto, using(crate::proofs::Runs::typed_at, crate::proofs::Runs::moves_at, crate::proofs::Runs::moves_none))]
 pub fn run(alloc: Global, parts: &mut Parts, stacks: &mut Stacks) -> Part<Passing>
     requires typed { IsActingTyped (held parts.old) stacks.old.piles.items }
     ensures { RunMoves (acting_of (held parts.old)) stacks.old.piles.items (held parts.old) result parts.new stacks.new.piles.items }
@@ -29,6 +30,7 @@ pub fn run(alloc: Global, parts: &mut Parts, stacks: &mut Stacks) -> Part<Passin
 }
 
 /// The stack of a task runs.
+#[tactic(auto, using(crate::proofs::Runs::ran))]
 fn run_task(alloc: Global, parts: &mut Parts, stacks: &mut Stacks, task: u32) -> Part<Passing>
     requires typed { PileTyped parts.old.store (slice_get stacks.old.piles.items task) }
     ensures { RunMoves (Some task) stacks.old.piles.items (held parts.old) result parts.new stacks.new.piles.items }
