@@ -1,7 +1,7 @@
 //! The types of the core functions that the Canonical ABI makes (Component Model, CanonicalABI.md, "Flattening"). They are taken from the
 //! first core types that each type keeps, and no type is walked.
 
-ghost use Rattle.std.specs.Prelude.{◌≡◌, ◌<◌, ◌++◌, length, map, take, Some, IfOk};
+ghost use Rattle.std.specs.Prelude.{◌≡◌, ◌<◌, ◌++◌, true, false, length, map, take, Some, IfOk};
 ghost use Rattle.std.specs.List.{slice_get};
 ghost use Rattle.ca_types.specs.declared.types.FuncType as func_types;
 ghost use Rattle.ca_types.specs.Flat.{at_most, flat_payload, out_place, returned};
