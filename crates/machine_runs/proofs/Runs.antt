@@ -1,5 +1,5 @@
 -- Runs of the acting task's stack.
-use Rattle.std.proofs.Common.{◌≡◌, ℕ, List, refl, sym, subst, Option, Some, None, Result, Ok, Err}
+use Rattle.std.proofs.Common.{◌≡◌, ℕ, List, refl, sym, subst, Option, Some, None, Result, Err}
 use Rattle.std.specs.List.{slice_get}
 use Rattle.wasm_store.specs.Store.{Store}
 use Rattle.world_parts.specs.declared.parts.Parts.{Parts}
@@ -10,7 +10,6 @@ use Rattle.world_stacks.specs.Views.{PileView}
 use Rattle.world_stacks.specs.Piles.{PileTyped}
 use Rattle.world_stacks.specs.Running.{RunsAt}
 use Rattle.machine_runs.specs.declared.passing.Passing.{Passing}
-use Rattle.machine_runs.specs.declared.passing.Passing.TheVariants as passing
 use Rattle.machine_runs.specs.Moving.{TypedOf, passing_of, RunMoves}
 
 -- the acting task, where it is known

@@ -1,6 +1,6 @@
 -- Before a graph is instantiated (Component Model, Explainer.md, "Instance Definitions"): one task is there, which instantiates, with all that the
 -- script gives.
-use Rattle.std.specs.Prelude.{ℕ, List, [], ◌∷◌}
+use Rattle.std.specs.Prelude.{List, [], ◌∷◌}
 use Rattle.entry_gate.specs.declared.kind.Kind.TheVariants.{Sync}
 use Rattle.tasks.specs.declared.event.TaskEvent.TheVariants.{Enter}
 use Rattle.task_table.specs.declared.caller.Caller.TheVariants as by
