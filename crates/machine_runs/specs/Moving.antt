@@ -27,7 +27,7 @@ use Rattle.machine_runs.specs.declared.passing.Passing.TheVariants as passing
 use Rattle.machine_runs.specs.Calling.{calls}
 use Rattle.machine_runs.specs.Following.{followed}
 
--- What tasks do at a rest. Where code runs, where task 0 instantiates, and where no task runs, they do nothing.
+-- What tasks do at a rest. Where code runs, where task 0 instantiates, and where no task runs, this is none of their rules.
 abbrev pub woken : Graph → List (Option ℕ) → Rest → Held → Done Flow
 woken g types (rest.Instantiates number) h = Stuck
 woken g types rest.Free h = Stuck

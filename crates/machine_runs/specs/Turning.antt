@@ -1,5 +1,5 @@
 -- Turns (Component Model, Concurrency.md, "Summary"): where no task runs, the script's next item is taken or an able task goes on, or the run
--- ends: all is done where each task has exited, and else in deadlock.
+-- ends.
 use Rattle.std.specs.Prelude.{ℕ, nat_lt, Bool, List, map, length}
 use Rattle.std.specs.List.{slice_get}
 use Rattle.script_reader.specs.declared.script.Call.{Call}

@@ -1,64 +1,18 @@
 //! Calls of canonical functions by core code.
 
-ghost use Rattle.std.specs.Prelude.{◌≡◌};
 ghost use Rattle.world_parts.specs.Held.{Does};
-ghost use Rattle.machine_runs.specs.Calling.{is_exempt_op, is_exempt_kind, is_exempt, kind_answered, canon_answered, allowed, calls};
+ghost use Rattle.machine_runs.specs.Calling.{kind_answered, canon_answered, allowed_by, allowed, calls};
 
-use builtin_kinds::ResourceOp;
 use comp_graph::{BuiltinKind, CanonFunc, Graph};
 use copy_replies::end_reply;
 use event_replies::set_wait;
 use graph_views::canon_at;
 use replies::{begin, may_leave, reply};
 use std::alloc::Global;
+use task_table::Words;
 use trace_show::TrapName;
 use world_parts::{Flow, Part, Parts, Stop};
-
-/// Whether a built-in of a resource is answered also where the instance may not be left.
-fn is_exempt_op(op: ResourceOp) -> bool
-    ensures { result ≡ is_exempt_op op }
-{
-    match op {
-        ResourceOp::New => false,
-        ResourceOp::Drop => false,
-        ResourceOp::Rep => true,
-    }
-}
-
-/// Whether a built-in is.
-fn is_exempt_kind(kind: &BuiltinKind) -> bool
-    ensures { result ≡ is_exempt_kind kind.now }
-{
-    match kind {
-        BuiltinKind::Resource { op, resource: _ } => is_exempt_op(*op),
-        BuiltinKind::TaskReturn {
-            result: _,
-            options: _,
-        } => false,
-        BuiltinKind::Plain(_) => false,
-        BuiltinKind::Context { op: _, slot: _ } => true,
-        BuiltinKind::Wait {
-            op: _,
-            cancellable: _,
-            memory: _,
-        } => false,
-        BuiltinKind::End {
-            kind: _,
-            element: _,
-            op: _,
-        } => false,
-    }
-}
-
-/// Whether a canonical function is.
-fn is_exempt(canon: &CanonFunc) -> bool
-    ensures { result ≡ is_exempt canon.now }
-{
-    match canon {
-        CanonFunc::Lower(_) => false,
-        CanonFunc::Builtin(builtin) => is_exempt_kind(&builtin.kind),
-    }
-}
+use world_stacks::exempt_answer;
 
 /// What a built-in of this kind answers a task, which an instance made.
 fn answer_kind(
@@ -120,7 +74,35 @@ fn answer(
     }
 }
 
-/// The same where it may be called now. The trap is `CannotLeave`.
+/// What a canonical function answers a task, where the answer is known of one that is answered also where the instance may not be left. The trap
+/// is `CannotLeave`.
+fn answer_by(
+    alloc: Global,
+    graph: &Graph<'_>,
+    end_types: &[Option<u32>],
+    parts: &mut Parts,
+    task: u32,
+    number: u32,
+    canon: &CanonFunc,
+    words: &[u64],
+    known: Option<Words>,
+) -> Part<Flow>
+    ensures { Does (allowed_by graph.now end_types.now task number canon.now words.now known) parts.old result parts.new }
+{
+    match known {
+        Some(known) => parts.answer(alloc, task, known),
+        None => {
+            if may_leave(parts) {
+                answer(alloc, graph, end_types, parts, task, number, canon, words)
+            } else {
+                Err(Stop::Trap(TrapName::CannotLeave))
+            }
+        }
+    }
+}
+
+/// What a canonical function answers a task, where it may be called now.
+#[tactic(auto, unfolding(crate::specs::Calling::allowed), using(world_parts::proofs::Thens::thens))]
 fn answer_allowed(
     alloc: Global,
     graph: &Graph<'_>,
@@ -133,11 +115,10 @@ fn answer_allowed(
 ) -> Part<Flow>
     ensures { Does (allowed graph.now end_types.now task number canon.now words.now) parts.old result parts.new }
 {
-    if is_exempt(canon) || may_leave(parts) {
-        answer(alloc, graph, end_types, parts, task, number, canon, words)
-    } else {
-        Err(Stop::Trap(TrapName::CannotLeave))
-    }
+    let known = exempt_answer(alloc, parts, task, canon, words)?;
+    answer_by(
+        alloc, graph, end_types, parts, task, number, canon, words, known,
+    )
 }
 
 /// The acting task calls the canonical function of a number with the words that it keeps: the line of the call, and what the function answers
