@@ -54,3 +54,4 @@ pub mod Callees
 pub mod Guests
 pub mod nexts
 pub mod Reached
+pub mod Deadlocked

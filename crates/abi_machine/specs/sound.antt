@@ -40,3 +40,4 @@ pub mod Callees
 pub mod TypedGoing
 pub mod Guests
 pub mod GoingOn
+pub mod Deadlocks

@@ -38,6 +38,7 @@ ghost use Rattle.abi_machine.specs.sound.TypedStacks.{
 ghost use Rattle.abi_machine.specs.sound.Writers.{FirstHasWriters, WritersStayInOnePlace};
 ghost use Rattle.abi_machine.specs.sound.GoingOn.{WorldsGoOn, ReachedStand, ReachedGoOn};
 ghost use Rattle.abi_machine.specs.sound.Guests.{FirstWaitsAs, WaitsAsStay};
+ghost use Rattle.abi_machine.specs.sound.Deadlocks.{DeadlocksAreReal};
 
 /// Task 0 instantiates, and runs alone until it has exited; it never runs again, and no other task runs a start function. Control says
 /// what is so: where a turn begins no task runs; elsewhere, but where control is back at a task or the run ends in a trap, the acting task
@@ -280,4 +281,12 @@ pub fn worlds_go_on()
     ensures each { WorldsGoOn }
     ensures stand { ReachedStand }
     ensures reached { ReachedGoOn }
+{}
+
+/// Where no task runs and the run ends in deadlock, no item of the script is left, and the tasks that are named are those that have not exited, by
+/// rising number, but for task 0. What each waits for is missing: one that waits to enter is held back by backpressure, or a task that is named
+/// holds exclusive entry; one in its loop waits on a set without a ready member, and no cancellation is asked of it, or a task that is named holds
+/// exclusive entry; one in a built-in waits on such a set, for a task that has not resolved, or for an end with nothing to tell.
+pub fn deadlocks_are_real()
+    ensures { DeadlocksAreReal }
 {}
