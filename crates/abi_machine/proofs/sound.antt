@@ -54,4 +54,5 @@ pub mod Callees
 pub mod Guests
 pub mod nexts
 pub mod Reached
+pub mod Ending
 pub mod Deadlocked

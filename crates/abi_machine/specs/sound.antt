@@ -40,4 +40,5 @@ pub mod Callees
 pub mod TypedGoing
 pub mod Guests
 pub mod GoingOn
+pub mod Ending
 pub mod Deadlocks

@@ -39,6 +39,7 @@ ghost use Rattle.abi_machine.specs.sound.Writers.{FirstHasWriters, WritersStayIn
 ghost use Rattle.abi_machine.specs.sound.GoingOn.{WorldsGoOn, ReachedStand, ReachedGoOn};
 ghost use Rattle.abi_machine.specs.sound.Guests.{FirstWaitsAs, WaitsAsStay};
 ghost use Rattle.abi_machine.specs.sound.Deadlocks.{DeadlocksAreReal};
+ghost use Rattle.abi_machine.specs.sound.Ending.{EndsComeWhere};
 
 /// Task 0 instantiates, and runs alone until it has exited; it never runs again, and no other task runs a start function. Control says
 /// what is so: where a turn begins no task runs; elsewhere, but where control is back at a task or the run ends in a trap, the acting task
@@ -283,7 +284,13 @@ pub fn worlds_go_on()
     ensures reached { ReachedGoOn }
 {}
 
-/// Where no task runs and the run ends in deadlock, no item of the script is left, and the tasks that are named are those that have not exited, by
+/// A run ends by want of fuel only where all units are used, and in a trap only behind the step that came to it. Else it ends only where no task
+/// runs and there is no alternative: as done where all tasks have exited, and in deadlock where some have not.
+pub fn ends_come_where_they_must()
+    ensures { EndsComeWhere }
+{}
+
+/// Where a run ends in deadlock no task runs, no item of the script is left, and the tasks that are named are those that have not exited, by
 /// rising number, but for task 0. What each waits for is missing: one that waits to enter is held back by backpressure, or a task that is named
 /// holds exclusive entry; one in its loop waits on a set without a ready member, and no cancellation is asked of it, or a task that is named holds
 /// exclusive entry; one in a built-in waits on such a set, for a task that has not resolved, or for an end with nothing to tell.

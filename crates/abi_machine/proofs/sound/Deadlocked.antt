@@ -13,29 +13,18 @@ use Rattle.entry_gate.specs.declared.callback.Next.{Next}
 use Rattle.entry_gate.specs.declared.callback.Next.TheVariants as word
 use Rattle.handle_table.specs.History.{Event}
 use Rattle.waitables.specs.Sets.{is_none}
-use Rattle.tasks.specs.declared.event.Asked.{Asked}
-use Rattle.tasks.specs.declared.event.Asked.TheVariants.{Removed, ResumeNow, Pending}
-use Rattle.tasks.specs.Tasks.{is_asked, may_cancel, cancel_case}
-use Rattle.comp_graph.specs.Graph.{Graph, Lifted, func_named}
+use Rattle.tasks.specs.Tasks.{is_asked}
+use Rattle.comp_graph.specs.Graph.{Graph, Lifted}
 use Rattle.script_reader.specs.declared.script.Item.{Item}
-use Rattle.script_reader.specs.declared.script.Item.TheVariants as item
-use Rattle.script_reader.specs.Script.{Script}
-use Rattle.trace_show.specs.declared.label.Label.{Label}
-use Rattle.abi_machine.specs.declared.run_end.RunEnd.{RunEnd}
-use Rattle.abi_machine.specs.declared.run_end.RunEnd.TheVariants.{Done, Deadlock, Fuel, Trapped}
+use Rattle.abi_machine.specs.declared.run_end.RunEnd.TheVariants.{Deadlock}
 use Rattle.stream_ends.specs.Ends.{is_pending}
-use Rattle.abi_machine.specs.Control.{EndRef, Control, Free}
+use Rattle.abi_machine.specs.Control.{EndRef, Control}
 use Rattle.abi_machine.specs.World.{Entry, Callee, Init, Inst, Wait, ForYield, ForSet, ForCall, ForCopy, ForCancel, TaskState, New, Acting, AfterCall, AfterCancel, Begins, WaitsToEnter, InLoop, InBuiltin, Exited, Task, World}
-use Rattle.abi_machine.specs.Edits.{with_control, unit_spent}
 use Rattle.abi_machine.specs.Reading.{table_in, func_of, kind_of, runs_in, is_in, has_exited, with_numbers, numbers_of, unfinished}
-use Rattle.abi_machine.specs.Counting.{passes, has_resolved, task_view, end_of, ready}
+use Rattle.abi_machine.specs.Counting.{passes, has_resolved, end_of, ready}
 use Rattle.abi_machine.specs.Gate.{place_of, stay_of, stays_of, gate_of, is_entry_free, may_go_in}
 use Rattle.abi_machine.specs.Finding.{found_subtask, set_number, found_end}
-use Rattle.abi_machine.specs.Turn.{Turn, Steps, Ends, Stuck, silent, behind, given, charged}
-use Rattle.abi_machine.specs.Choosing.{chosen}
-use Rattle.abi_machine.specs.Cancelling.{asked_turn, cancelled_turn}
-use Rattle.abi_machine.specs.Scheduling.{is_some_ready, is_task_resolved, wait_is_over, loop_is_over, is_able_in, is_able, able, Alternative, Takes, GoesOn, item_first, alternatives, calls_taken, call_taken, task_of_call, cancel_taken, item_turn, gone, alternative_turn, end_by, one_of, free_turn}
-use Rattle.abi_machine.specs.Next.{next, next_by}
+use Rattle.abi_machine.specs.Scheduling.{is_some_ready, is_task_resolved, wait_is_over, loop_is_over, is_able_in, is_able, able, GoesOn, item_first}
 use Rattle.abi_machine.specs.sound.Changes.{IsBlocked}
 use Rattle.abi_machine.specs.sound.Chain.{IsThere, IsAside}
 use Rattle.abi_machine.specs.sound.Chain.{IsApart as ApartFrom}
@@ -46,80 +35,8 @@ use Rattle.abi_machine.specs.sound.Deadlocks.{IsAmong, IsHeldBy, NoneReady, IsOp
 use Rattle.abi_machine.proofs.sound.Found.{some_same}
 use Rattle.abi_machine.proofs.sound.Chained.{state_there}
 use Rattle.abi_machine.proofs.sound.Able.{all_kept}
+use Rattle.abi_machine.proofs.sound.Ending.{ends_come_where}
 use Rattle.abi_machine.proofs.sound.Outlines.{outline_there}
-
--- What ends a run: where no task runs, nothing but that no alternative is left comes to a deadlock.
-abbrev GoesOnOr : Turn → Type 0
-GoesOnOr (Steps labels w) = Unit {0}
-GoesOnOr (Ends (Deadlock named)) = ⊥
-GoesOnOr (Ends end) = Unit {0}
-GoesOnOr Stuck = Unit {0}
-
-no_deadlock : (t : Turn) (named : List ℕ) → GoesOnOr t → t ≡ Ends (Deadlock named) → ⊥
-no_deadlock t named h e = subst GoesOnOr e h
-
-either_goes : (b : Bool) (t u : Turn) → GoesOnOr t → GoesOnOr u → GoesOnOr (if b then t else u)
-either_goes true t u h i = h
-either_goes false t u h i = i
-
-given_goes : {A : Type 0} (o : Option A) (f : A → Turn) → ((x : A) → GoesOnOr (f x)) → GoesOnOr (given o f)
-given_goes None f h = tt
-given_goes (Some x) f h = h x
-
-behind_goes : (lines : List Label) (t : Turn) → GoesOnOr t → GoesOnOr (behind lines t)
-behind_goes lines (Steps labels w) h = tt
-behind_goes lines (Ends Done) h = tt
-behind_goes lines (Ends (Trapped t why)) h = tt
-behind_goes lines (Ends (Deadlock named)) h = h
-behind_goes lines (Ends Fuel) h = tt
-behind_goes lines Stuck h = tt
-
-charged_goes : (s : Script) (w : World) (f : World → Turn) → GoesOnOr (f (unit_spent w)) → GoesOnOr (charged true s w f)
-charged_goes s w f h = either_goes (nat_lt w.units s.fuel) (f (unit_spent w)) (Ends Fuel) h tt
-
-asked_goes : (t : ℕ) (asked : Asked) (control : Control) (w : World) → GoesOnOr (asked_turn t asked control w)
-unfolding asked_turn
-asked_goes t Removed control w = tt
-asked_goes t ResumeNow control w = tt
-asked_goes t Pending control w = tt
-
-cancelled_goes : (g : Graph) (t : ℕ) (task : Task) (control : Control) (w : World) → GoesOnOr (cancelled_turn g t task control w)
-unfolding cancelled_turn
-cancelled_goes g t task control w = given_goes (func_of task.callee) _ (λ f. asked_goes t (cancel_case (is_entry_free w f.instance) (task_view g w t task)) control w)
-
-item_goes : (g : Graph) (s : Script) (i : Item) (w : World) → GoesOnOr (item_turn g s i w)
-unfolding item_turn call_taken cancel_taken
-item_goes g s (item.Call call) w = given_goes (func_named g call.name) _ (λ f. tt)
-item_goes g s (item.Cancel call) w =
-    given_goes (task_of_call call w) _ (λ found.
-    behind_goes _ _ (either_goes (may_cancel (task_view g _ found.0 found.1)) _ _ (cancelled_goes g found.0 found.1 Free _) tt))
-
-alternative_goes : (g : Graph) (s : Script) (a : Alternative) (w : World) → GoesOnOr (alternative_turn g s a w)
-unfolding alternative_turn gone
-alternative_goes g s (Takes i) w = charged_goes s w (λ v. item_turn g s i v) (item_goes g s i (unit_spent w))
-alternative_goes g s (GoesOn t) w = charged_goes s w _ tt
-
-abbrev IsAll : List ℕ → List ℕ → List Alternative → Type 0
-IsAll named left all = (all ≡ []) × (named ≡ left)
-
-ended_by : (left named : List ℕ) → Ends (end_by left) ≡ Ends (Deadlock named) → named ≡ left
-ended_by [] named e = cc
-ended_by (t ∷ left) named e = cc
-
-one_ended : (g : Graph) (s : Script) (all : List Alternative) (w : World) (named : List ℕ) → one_of g s all w ≡ Ends (Deadlock named) → IsAll named (unfinished w) all
-unfolding one_of chosen
-one_ended g s [] w named e = (refl, ended_by (unfinished w) named e)
-one_ended g s (a ∷ []) w named e = absurd (no_deadlock (alternative_turn g s a w) named (alternative_goes g s a w) e)
-one_ended g s (a ∷ other ∷ others) w named e = cc
-
-free_same : (w : World) → w.control ≡ Free → with_control Free w ≡ w
-free_same w e = ap (λ (c : Control). with_control c w) (sym e)
-
-ended : (g : Graph) (s : Script) (w : World) (named : List ℕ) → w.control ≡ Free → next g s w ≡ Ends (Deadlock named) → IsAll named (unfinished w) (alternatives g s w)
-unfolding free_turn
-ended g s w named free e =
-    one_ended g s (alternatives g s w) w named
-    (sym (ap (free_turn g s) (free_same w free)) ∙ (sym (ap (next_by g s (with_control Free w)) free) ∙ e))
 
 -- No item is left, and no task is able.
 abbrev IsNone : Option Item → List ℕ → Type 0
@@ -371,15 +288,15 @@ still g w alone ordered loops idle none t task there left =
     (sym (ap (λ (o : Option Lifted). passes (λ (h : Lifted). is_able_in g w h.instance task task.state) o) f.1) ∙ unable))
 
 pub deadlocks_are_real : DeadlocksAreReal
-deadlocks_are_real g s w named alone ordered loops free e =
-    let found = ended g s w named free e in
-    let none = none_of (slice_get s.items w.taken) (able g w) found.0 in
-    let idle : w.chain ≡ [] = subst (λ (c : Control). ActsBy c (outlines_of w.tasks) w.chain) free ordered.2 in
+deadlocks_are_real g s w named alone ordered loops e =
+    let found = ends_come_where g s w (Deadlock named) e in
+    let none = none_of (slice_get s.items w.taken) (able g w) found.1 in
+    let idle : w.chain ≡ [] = subst (λ (c : Control). ActsBy c (outlines_of w.tasks) w.chain) found.0 ordered.2 in
     record {
       idle = idle;
       no_item = none.0;
-      are = found.1;
-      all_named = λ t task some there is. subst (λ (numbers : List ℕ). IsAmong t numbers) (sym found.1) (among_left w.tasks t task some there (there_left task.state is));
-      each = subst (λ (numbers : List ℕ). AllByRecursion (StandsStill w numbers) numbers) (sym found.1)
+      are = sym found.2;
+      all_named = λ t task some there is. subst (λ (numbers : List ℕ). IsAmong t numbers) found.2 (among_left w.tasks t task some there (there_left task.state is));
+      each = subst (λ (numbers : List ℕ). AllByRecursion (StandsStill w numbers) numbers) found.2
           (all_left (StandsStill w (unfinished w)) w.tasks (λ t task some there left. still g w alone ordered loops idle none.1 t task there left));
     }

@@ -12,7 +12,7 @@ use Rattle.tasks.specs.Tasks.{is_asked}
 use Rattle.comp_graph.specs.Graph.{Graph, Lifted}
 use Rattle.script_reader.specs.Script.{Script}
 use Rattle.abi_machine.specs.declared.run_end.RunEnd.TheVariants.{Deadlock}
-use Rattle.abi_machine.specs.Control.{EndRef, Free}
+use Rattle.abi_machine.specs.Control.{EndRef}
 use Rattle.abi_machine.specs.World.{Wait, ForYield, ForSet, ForCall, ForCopy, ForCancel, TaskState, WaitsToEnter, InLoop, InBuiltin, Task, World}
 use Rattle.abi_machine.specs.Reading.{backpressure_of, task_at, func_of, unfinished}
 use Rattle.abi_machine.specs.Counting.{has_resolved, end_of, ready}
@@ -76,4 +76,4 @@ pub record IsDeadlocked (s : Script) (w : World) (named : List ℕ) : Type 0 whe
 
 abbrev pub DeadlocksAreReal : Type 0
 DeadlocksAreReal =
-    (g : Graph) (s : Script) (w : World) (named : List ℕ) → RunsAlone w → IsOrdered w → HaveLoops w.tasks w.insts → w.control ≡ Free → next g s w ≡ Ends (Deadlock named) → IsDeadlocked s w named
+    (g : Graph) (s : Script) (w : World) (named : List ℕ) → RunsAlone w → IsOrdered w → HaveLoops w.tasks w.insts → next g s w ≡ Ends (Deadlock named) → IsDeadlocked s w named
