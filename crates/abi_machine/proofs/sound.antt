@@ -54,5 +54,6 @@ pub mod Callees
 pub mod Guests
 pub mod nexts
 pub mod Reached
+pub mod Onward
 pub mod Ending
 pub mod Deadlocked

@@ -286,7 +286,7 @@ pub fn worlds_go_on()
 
 /// A run ends by want of fuel only where all units are used, and in a trap only behind the step that came to it. Else it ends only where no task
 /// runs and there is no alternative: as done where all tasks have exited, and in deadlock where some have not.
-pub fn ends_come_where_they_must()
+pub fn ends_have_causes()
     ensures { EndsComeWhere }
 {}
 
