@@ -283,9 +283,14 @@ still g w alone ordered loops idle none t task there left =
     let aside = ordered.0.others t task.state (state_there w.tasks t task there) (subst (λ (chain : List ℕ). ApartFrom t chain) (sym idle) tt) in
     let blocked = aside_blocked task.state aside left in
     let f = func_there (func_of task.callee) (blocked_runs task task.state blocked (ordered.1 t (outline_of task) (outline_there w.tasks t task there))) in
-    let unable : is_able g w task ≡ false = none_passes (is_able g w) 0 w.tasks t task none there in
-    (task, f.0, there, f.1, held_up g w f.0.instance f.0 task task.state alone f.1 (loops t task there) blocked
-    (sym (ap (λ (o : Option Lifted). passes (λ (h : Lifted). is_able_in g w h.instance task task.state) o) f.1) ∙ unable))
+    let unable : is_able g w task ≡ false = none_passes (is_able g w) 0 w.tasks t task none there in (
+      task,
+      f.0,
+      there,
+      f.1,
+      held_up g w f.0.instance f.0 task task.state alone f.1 (loops t task there) blocked
+          (sym (ap (λ (o : Option Lifted). passes (λ (h : Lifted). is_able_in g w h.instance task task.state) o) f.1) ∙ unable),
+    )
 
 pub deadlocks_are_real : DeadlocksAreReal
 deadlocks_are_real g s w named alone ordered loops e =
