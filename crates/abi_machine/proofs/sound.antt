@@ -56,4 +56,5 @@ pub mod nexts
 pub mod Reached
 pub mod Onward
 pub mod Ending
+pub mod Exiting
 pub mod Deadlocked

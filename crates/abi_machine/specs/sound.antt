@@ -39,6 +39,7 @@ pub mod GraphFuncs
 pub mod Callees
 pub mod TypedGoing
 pub mod Guests
+pub mod Exiting
 pub mod GoingOn
 pub mod Ending
 pub mod Deadlocks

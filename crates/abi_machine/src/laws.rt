@@ -38,6 +38,7 @@ ghost use Rattle.abi_machine.specs.sound.TypedStacks.{
 ghost use Rattle.abi_machine.specs.sound.Writers.{FirstHasWriters, WritersStayInOnePlace};
 ghost use Rattle.abi_machine.specs.sound.GoingOn.{WorldsGoOn, ReachedStand, ReachedGoOn};
 ghost use Rattle.abi_machine.specs.sound.Guests.{FirstWaitsAs, WaitsAsStay};
+ghost use Rattle.abi_machine.specs.sound.Exiting.{FirstResolvesFirst, ResolveFirstStays};
 ghost use Rattle.abi_machine.specs.sound.Deadlocks.{DeadlocksAreReal};
 ghost use Rattle.abi_machine.specs.sound.Ending.{EndsComeWhere};
 
@@ -284,6 +285,13 @@ pub fn worlds_go_on()
     ensures reached { ReachedGoOn }
 {}
 
+/// A task that runs a function resolves before it exits: where one has exited it has resolved. So it is in the first world, and so it stays in
+/// every step.
+pub fn tasks_resolve_first()
+    ensures first { FirstResolvesFirst }
+    ensures stays { ResolveFirstStays }
+{}
+
 /// A run ends by want of fuel only where all units are used, and in a trap only behind the step that came to it. Else it ends only where no task
 /// runs and there is no alternative: as done where all tasks have exited, and in deadlock where some have not.
 pub fn ends_have_causes()
@@ -293,7 +301,7 @@ pub fn ends_have_causes()
 /// Where a run ends in deadlock no task runs, no item of the script is left, and the tasks that are named are those that have not exited, by
 /// rising number, but for task 0. What each waits for is missing: one that waits to enter is held back by backpressure, or a task that is named
 /// holds exclusive entry; one in its loop waits on a set without a ready member, and no cancellation is asked of it, or a task that is named holds
-/// exclusive entry; one in a built-in waits on such a set, for a task that has not resolved, or for an end with nothing to tell.
+/// exclusive entry; one in a built-in waits on such a set, for a task that has not resolved and is named, or for an end with nothing to tell.
 pub fn deadlocks_are_real()
     ensures { DeadlocksAreReal }
 {}

@@ -13,7 +13,13 @@ use Rattle.entry_gate.specs.declared.callback.Next.{Next}
 use Rattle.entry_gate.specs.declared.callback.Next.TheVariants as word
 use Rattle.handle_table.specs.History.{Event}
 use Rattle.waitables.specs.Sets.{is_none}
-use Rattle.tasks.specs.Tasks.{is_asked}
+use Rattle.tasks.specs.declared.phase.Cancellation.{Cancellation}
+use Rattle.tasks.specs.declared.phase.Phase.{Phase}
+use Rattle.tasks.specs.declared.phase.Resolution.{Resolution}
+use Rattle.tasks.specs.declared.phase.Resolution.TheVariants.{Returned, Cancelled}
+use Rattle.tasks.specs.declared.subtask_state.SubtaskState.TheVariants.{CancelledBeforeStarted, CancelledBeforeReturned}
+use Rattle.tasks.specs.Subtasks.{is_over}
+use Rattle.tasks.specs.Tasks.{is_asked, is_told, resolved_state}
 use Rattle.comp_graph.specs.Graph.{Graph, Lifted}
 use Rattle.script_reader.specs.declared.script.Item.{Item}
 use Rattle.abi_machine.specs.declared.run_end.RunEnd.TheVariants.{Deadlock}
@@ -21,7 +27,7 @@ use Rattle.stream_ends.specs.Ends.{is_pending}
 use Rattle.abi_machine.specs.Control.{EndRef, Control}
 use Rattle.abi_machine.specs.World.{Entry, Callee, Init, Inst, Wait, ForYield, ForSet, ForCall, ForCopy, ForCancel, TaskState, New, Acting, AfterCall, AfterCancel, Begins, WaitsToEnter, InLoop, InBuiltin, Exited, Task, World}
 use Rattle.abi_machine.specs.Reading.{table_in, func_of, kind_of, runs_in, is_in, has_exited, with_numbers, numbers_of, unfinished}
-use Rattle.abi_machine.specs.Counting.{passes, has_resolved, end_of, ready}
+use Rattle.abi_machine.specs.Counting.{passes, phase_of, has_resolved, end_of, ready}
 use Rattle.abi_machine.specs.Gate.{place_of, stay_of, stays_of, gate_of, is_entry_free, may_go_in}
 use Rattle.abi_machine.specs.Finding.{found_subtask, set_number, found_end}
 use Rattle.abi_machine.specs.Scheduling.{is_some_ready, is_task_resolved, wait_is_over, loop_is_over, is_able_in, is_able, able, GoesOn, item_first}
@@ -30,8 +36,10 @@ use Rattle.abi_machine.specs.sound.Chain.{IsThere, IsAside}
 use Rattle.abi_machine.specs.sound.Chain.{IsApart as ApartFrom}
 use Rattle.abi_machine.specs.sound.Initial.{RunsAlone}
 use Rattle.abi_machine.specs.sound.Acting.{StandsBy, outline_of, outlines_of, ActsBy, IsOrdered}
+use Rattle.abi_machine.specs.sound.Exiting.{HasExited, ResolvesFirst, ResolveFirst}
 use Rattle.abi_machine.specs.sound.Loops.{GoesOnBy, LoopsIn, LoopsSo, HaveLoops}
 use Rattle.abi_machine.specs.sound.Deadlocks.{IsAmong, IsHeldBy, NoneReady, IsOpen, LoopMisses, IsMissing, IsHeldUp, StandsStill, IsDeadlocked, DeadlocksAreReal}
+use Rattle.wasm_store.proofs.Lists.{all_at}
 use Rattle.abi_machine.proofs.sound.Found.{some_same}
 use Rattle.abi_machine.proofs.sound.Chained.{state_there}
 use Rattle.abi_machine.proofs.sound.Able.{all_kept}
@@ -193,12 +201,43 @@ none_ready w i index e set is = empty (ready w i set) (not_passed (λ (n : ℕ).
     empty [] k = refl
     empty (m ∷ members) k = cc
 
-wait_misses : (g : Graph) (w : World) (i : ℕ) (task : Task) (number : ℕ) (wait : Wait) → wait_is_over g w i task number wait ≡ false → IsMissing w i wait
-wait_misses g w i task number ForYield e = cc
-wait_misses g w i task number (ForSet index) e = none_ready w i index (or_false (is_some_ready w i index) _ e).0
-wait_misses g w i task number (ForCall callee) e = λ x there. not_passed has_resolved (slice_get w.tasks callee) x e there
-wait_misses g w i task number (ForCopy index) e = λ end is. not_passed (λ (x : EndRef). is_pending (end_of w x)) (found_end w i index) end e is
-wait_misses g w i task number (ForCancel index) e = λ callee is x there. not_passed has_resolved (slice_get w.tasks callee) x (not_passed (is_task_resolved w) (found_subtask w i index) callee e is) there
+-- One that has not resolved has not exited.
+cancelled_over : (told : Bool) → is_over (if told then CancelledBeforeReturned else CancelledBeforeStarted) ≡ true
+cancelled_over true = refl
+cancelled_over false = refl
+
+over_resolved : (c : Cancellation) (o : Option Resolution) (p : Phase) → IsSome o → is_over (resolved_state c o p) ≡ true
+over_resolved c None p h = cc
+over_resolved c (Some Returned) p h = refl
+over_resolved c (Some Cancelled) p h = cancelled_over (is_told c)
+
+clash_of : (a : Bool) → a ≡ false → a ≡ true → ⊥
+clash_of true e f = cc
+clash_of false e f = cc
+
+open_left : (x : Task) (state : TaskState) → x.state ≡ state → ResolvesFirst x → IsSome (func_of x.callee) → has_resolved x ≡ false → not (has_exited state) ≡ true
+open_left x Exited at first func unset =
+    absurd (clash_of (has_resolved x) unset (over_resolved x.cancellation x.resolution (phase_of (λ number. false) x.state) (first (subst HasExited (sym at) tt) func)))
+open_left x state at first func unset = refl
+
+init_is : (w : World) (x : Task) → RunsAlone w → slice_get w.tasks 0 ≡ Some x → x.callee ≡ Init
+init_is w x alone there = ap (λ (task : Task). task.callee) (some_same (sym there ∙ alone.0.there)) ∙ alone.0.instantiates
+
+runs_none : (x : Task) → x.callee ≡ Init → IsSome (func_of x.callee) → ⊥
+runs_none x e func = (let clash : IsSome (func_of Init) = subst (λ (c : Callee). IsSome (func_of c)) e func in cc)
+
+open_named : (w : World) (callee : ℕ) (x : Task) → RunsAlone w → ResolveFirst w.tasks → slice_get w.tasks callee ≡ Some x → has_resolved x ≡ false → IsSome (func_of x.callee) → IsAmong callee (unfinished w)
+open_named w zero x alone first there unset func = absurd (runs_none x (init_is w x alone there) func)
+open_named w (suc n) x alone first there unset func =
+    among_left w.tasks (suc n) x (omega arith) there (open_left x x.state refl (all_at ResolvesFirst w.tasks (suc n) x first there) func unset)
+
+wait_misses : (g : Graph) (w : World) (i : ℕ) (task : Task) (number : ℕ) (wait : Wait) → RunsAlone w → ResolveFirst w.tasks → wait_is_over g w i task number wait ≡ false → IsMissing w i (unfinished w) wait
+wait_misses g w i task number ForYield alone first e = cc
+wait_misses g w i task number (ForSet index) alone first e = none_ready w i index (or_false (is_some_ready w i index) _ e).0
+wait_misses g w i task number (ForCall callee) alone first e = λ x there. (let unset : has_resolved x ≡ false = not_passed has_resolved (slice_get w.tasks callee) x e there in (unset, open_named w callee x alone first there unset))
+wait_misses g w i task number (ForCopy index) alone first e = λ end is. not_passed (λ (x : EndRef). is_pending (end_of w x)) (found_end w i index) end e is
+wait_misses g w i task number (ForCancel index) alone first e =
+    λ callee is x there. (let unset : has_resolved x ≡ false = not_passed has_resolved (slice_get w.tasks callee) x (not_passed (is_task_resolved w) (found_subtask w i index) callee e is) there in (unset, open_named w callee x alone first there unset))
 
 loop_misses : (w : World) (i : ℕ) (task : Task) (table : List (Event Entry)) (said : Result Next BadCode) → GoesOnBy table said → loop_is_over w i task said ≡ false → LoopMisses w i task said
 loop_misses w i task table (Ok word.Exit) goes e = absurd goes
@@ -228,13 +267,13 @@ held_by w i alone e =
     let h = holder_there (gate_of w i).holder e in
     (h.0, h.1, holder_left i h.0 w alone h.1)
 
-held_up : (g : Graph) (w : World) (i : ℕ) (f : Lifted) (task : Task) (state : TaskState) → RunsAlone w → func_of task.callee ≡ Some f → LoopsSo w.insts task.callee state → IsBlocked state
+held_up : (g : Graph) (w : World) (i : ℕ) (f : Lifted) (task : Task) (state : TaskState) → RunsAlone w → ResolveFirst w.tasks → func_of task.callee ≡ Some f → LoopsSo w.insts task.callee state → IsBlocked state
     → is_able_in g w i task state ≡ false → IsHeldUp w i (unfinished w) task state
-held_up g w i f task WaitsToEnter alone is loops blocked e = elim (held_in (gate_of w i) (kind_of task) e) [
+held_up g w i f task WaitsToEnter alone first is loops blocked e = elim (held_in (gate_of w i) (kind_of task) e) [
   | inl pressed ↦ inl pressed
   | inr held ↦ inr (held_by w i alone held)
 ]
-held_up g w i f task (InLoop said) alone is loops blocked e = by (is_entry_free w i) refl e
+held_up g w i f task (InLoop said) alone first is loops blocked e = by (is_entry_free w i) refl e
   where
     in_loop : LoopsIn w.insts (Some f) said
     in_loop = subst (λ (o : Option Lifted). LoopsIn w.insts o said) is loops
@@ -242,13 +281,13 @@ held_up g w i f task (InLoop said) alone is loops blocked e = by (is_entry_free 
     by : (free : Bool) → is_entry_free w i ≡ free → (free && loop_is_over w i task (callback_of said)) ≡ false → IsHeldBy w i (unfinished w) ⊎ LoopMisses w i task (callback_of said)
     by false has k = inl (held_by w i alone has)
     by true has k = inr (loop_misses w i task (table_in (slice_get w.insts f.instance)) (callback_of said) in_loop k)
-held_up g w i f task (InBuiltin number words wait) alone is loops blocked e = wait_misses g w i task number wait e
-held_up g w i f task New alone is loops blocked e = absurd blocked
-held_up g w i f task Acting alone is loops blocked e = absurd blocked
-held_up g w i f task (AfterCall callee number words) alone is loops blocked e = absurd blocked
-held_up g w i f task (AfterCancel callee number words) alone is loops blocked e = absurd blocked
-held_up g w i f task (Begins n) alone is loops blocked e = absurd blocked
-held_up g w i f task Exited alone is loops blocked e = absurd blocked
+held_up g w i f task (InBuiltin number words wait) alone first is loops blocked e = wait_misses g w i task number wait alone first e
+held_up g w i f task New alone first is loops blocked e = absurd blocked
+held_up g w i f task Acting alone first is loops blocked e = absurd blocked
+held_up g w i f task (AfterCall callee number words) alone first is loops blocked e = absurd blocked
+held_up g w i f task (AfterCancel callee number words) alone first is loops blocked e = absurd blocked
+held_up g w i f task (Begins n) alone first is loops blocked e = absurd blocked
+held_up g w i f task Exited alone first is loops blocked e = absurd blocked
 
 -- A task that has not exited is blocked, in a function.
 aside_blocked : (state : TaskState) → IsAside state → not (has_exited state) ≡ true → IsBlocked state
@@ -277,9 +316,9 @@ func_there : (o : Option Lifted) → IsSome o → (f : Lifted) × (o ≡ Some f)
 func_there None h = cc
 func_there (Some f) h = (f, refl)
 
-still : (g : Graph) (w : World) → RunsAlone w → IsOrdered w → HaveLoops w.tasks w.insts → w.chain ≡ [] → able g w ≡ [] → (t : ℕ) (task : Task) → slice_get w.tasks t ≡ Some task → is_left task ≡ true
+still : (g : Graph) (w : World) → RunsAlone w → IsOrdered w → HaveLoops w.tasks w.insts → ResolveFirst w.tasks → w.chain ≡ [] → able g w ≡ [] → (t : ℕ) (task : Task) → slice_get w.tasks t ≡ Some task → is_left task ≡ true
     → StandsStill w (unfinished w) t
-still g w alone ordered loops idle none t task there left =
+still g w alone ordered loops first idle none t task there left =
     let aside = ordered.0.others t task.state (state_there w.tasks t task there) (subst (λ (chain : List ℕ). ApartFrom t chain) (sym idle) tt) in
     let blocked = aside_blocked task.state aside left in
     let f = func_there (func_of task.callee) (blocked_runs task task.state blocked (ordered.1 t (outline_of task) (outline_there w.tasks t task there))) in
@@ -288,12 +327,12 @@ still g w alone ordered loops idle none t task there left =
       f.0,
       there,
       f.1,
-      held_up g w f.0.instance f.0 task task.state alone f.1 (loops t task there) blocked
+      held_up g w f.0.instance f.0 task task.state alone first f.1 (loops t task there) blocked
           (sym (ap (λ (o : Option Lifted). passes (λ (h : Lifted). is_able_in g w h.instance task task.state) o) f.1) ∙ unable),
     )
 
 pub deadlocks_are_real : DeadlocksAreReal
-deadlocks_are_real g s w named alone ordered loops e =
+deadlocks_are_real g s w named alone ordered loops first e =
     let found = ends_come_where g s w (Deadlock named) e in
     let none = none_of (slice_get s.items w.taken) (able g w) found.1 in
     let idle : w.chain ≡ [] = subst (λ (c : Control). ActsBy c (outlines_of w.tasks) w.chain) found.0 ordered.2 in
@@ -303,5 +342,5 @@ deadlocks_are_real g s w named alone ordered loops e =
       are = sym found.2;
       all_named = λ t task some there is. subst (λ (numbers : List ℕ). IsAmong t numbers) found.2 (among_left w.tasks t task some there (there_left task.state is));
       each = subst (λ (numbers : List ℕ). AllByRecursion (StandsStill w numbers) numbers) found.2
-          (all_left (StandsStill w (unfinished w)) w.tasks (λ t task some there left. still g w alone ordered loops idle none.1 t task there left));
+          (all_left (StandsStill w (unfinished w)) w.tasks (λ t task some there left. still g w alone ordered loops first idle none.1 t task there left));
     }

@@ -1,7 +1,7 @@
 -- Deadlocks (Component Model, Concurrency.md, "Summary"; CanonicalABI.md, "Task State": `Task.enter`, "Waitable Set State"): where a run ends in
 -- deadlock no task runs and no item of the script is left, and the tasks that are named are those that have not exited, by rising number, but
 -- for task 0. Each is blocked, and what it waits for is missing.
-use Rattle.std.specs.Prelude.{◌≡◌, ◌≤◌, ◌⊎◌, ℕ, false, List, [], Option, Some, None, Result, Ok, Err}
+use Rattle.std.specs.Prelude.{◌≡◌, ◌≤◌, ◌⊎◌, ℕ, false, List, [], Option, Some, None, IsSome, Result, Ok, Err}
 use Rattle.std.specs.List.{slice_get, AllByRecursion}
 use Rattle.entry_gate.specs.Callbacks.{callback_of}
 use Rattle.entry_gate.specs.declared.callback.BadCode.{BadCode}
@@ -24,6 +24,7 @@ use Rattle.abi_machine.specs.sound.Chain.{IsThere}
 use Rattle.abi_machine.specs.sound.Initial.{RunsAlone}
 use Rattle.abi_machine.specs.sound.Acting.{IsOrdered}
 use Rattle.abi_machine.specs.sound.Loops.{HaveLoops}
+use Rattle.abi_machine.specs.sound.Exiting.{ResolveFirst}
 
 -- a number is one of these
 abbrev pub IsAmong : ℕ → List ℕ → Type 0
@@ -33,23 +34,24 @@ IsAmong t numbers = (place : ℕ) × (slice_get numbers place ≡ Some t)
 abbrev pub IsHeldBy : World → ℕ → List ℕ → Type 0
 IsHeldBy w i named = (holder : ℕ) × ((gate_of w i).holder ≡ Some holder) × IsAmong holder named
 
--- No member of the set at an index is ready; a task has not resolved; the end at an index has nothing to tell.
+-- No member of the set at an index is ready; a task has not resolved, and so is one of these, where it runs a function; the end at an index has
+-- nothing to tell.
 abbrev pub NoneReady : World → ℕ → ℕ → Type 0
 NoneReady w i index = (set : ℕ) → set_number w i index ≡ Some set → ready w i set ≡ []
 
-abbrev pub IsOpen : World → ℕ → Type 0
-IsOpen w callee = (task : Task) → task_at w callee ≡ Some task → has_resolved task ≡ false
+abbrev pub IsOpen : World → List ℕ → ℕ → Type 0
+IsOpen w named callee = (task : Task) → task_at w callee ≡ Some task → (has_resolved task ≡ false) × (IsSome (func_of task.callee) → IsAmong callee named)
 
 abbrev pub IsQuiet : World → ℕ → ℕ → Type 0
 IsQuiet w i index = (e : EndRef) → found_end w i index ≡ Some e → is_pending (end_of w e) ≡ false
 
 -- What a task waits for in a built-in is missing. In `yield` nothing is.
-abbrev pub IsMissing : World → ℕ → Wait → Type 0
-IsMissing w i ForYield = ⊥
-IsMissing w i (ForSet index) = NoneReady w i index
-IsMissing w i (ForCall callee) = IsOpen w callee
-IsMissing w i (ForCopy index) = IsQuiet w i index
-IsMissing w i (ForCancel index) = (callee : ℕ) → found_subtask w i index ≡ Some callee → IsOpen w callee
+abbrev pub IsMissing : World → ℕ → List ℕ → Wait → Type 0
+IsMissing w i named ForYield = ⊥
+IsMissing w i named (ForSet index) = NoneReady w i index
+IsMissing w i named (ForCall callee) = IsOpen w named callee
+IsMissing w i named (ForCopy index) = IsQuiet w i index
+IsMissing w i named (ForCancel index) = (callee : ℕ) → found_subtask w i index ≡ Some callee → IsOpen w named callee
 
 -- So it is in a loop, by the word that said how to go on: that a cancellation is asked would end a wait.
 abbrev pub LoopMisses : World → ℕ → Task → Result Next BadCode → Type 0
@@ -61,7 +63,7 @@ LoopMisses w i task said = ⊥
 abbrev pub IsHeldUp : World → ℕ → List ℕ → Task → TaskState → Type 0
 IsHeldUp w i named task WaitsToEnter = (1 ≤ backpressure_of w i) ⊎ IsHeldBy w i named
 IsHeldUp w i named task (InLoop said) = IsHeldBy w i named ⊎ LoopMisses w i task (callback_of said)
-IsHeldUp w i named task (InBuiltin number words wait) = IsMissing w i wait
+IsHeldUp w i named task (InBuiltin number words wait) = IsMissing w i named wait
 IsHeldUp w i named task state = ⊥
 
 abbrev pub StandsStill : World → List ℕ → ℕ → Type 0
@@ -76,4 +78,4 @@ pub record IsDeadlocked (s : Script) (w : World) (named : List ℕ) : Type 0 whe
 
 abbrev pub DeadlocksAreReal : Type 0
 DeadlocksAreReal =
-    (g : Graph) (s : Script) (w : World) (named : List ℕ) → RunsAlone w → IsOrdered w → HaveLoops w.tasks w.insts → next g s w ≡ Ends (Deadlock named) → IsDeadlocked s w named
+    (g : Graph) (s : Script) (w : World) (named : List ℕ) → RunsAlone w → IsOrdered w → HaveLoops w.tasks w.insts → ResolveFirst w.tasks → next g s w ≡ Ends (Deadlock named) → IsDeadlocked s w named
