@@ -44,8 +44,8 @@ ghost use Rattle.abi_machine.specs.sound.Ending.{EndsComeWhere};
 
 /// Task 0 instantiates, and runs alone until it has exited; it never runs again, and no other task runs a start function. Control says
 /// what is so: where a turn begins no task runs; elsewhere, but where control is back at a task or the run ends in a trap, the acting task
-/// acts, is new, or may be inside its instance; what is to be copied has room at the other end; and the task for which values are lowered
-/// has entered. A task that is new or waits to enter has not resolved, its caller was not told that it has, no live borrow handle names it,
+/// acts, is new, or may be inside its instance; what is to be copied has room at the other end; the task for which values are lowered
+/// has entered; and one that is to exit has resolved. A task that is new or waits to enter has not resolved, its caller was not told that it has, no live borrow handle names it,
 /// it called no other one, and it has no copy under way; a writable end stands in one place. So it is in the first world, and so it stays in
 /// every step.
 pub fn init_runs_alone()
