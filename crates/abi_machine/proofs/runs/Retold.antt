@@ -16,7 +16,7 @@ use Rattle.trace_show.specs.declared.label.Label.TheVariants as line
 use Rattle.abi_machine.specs.declared.run_end.RunEnd.TheVariants.{Done}
 use Rattle.abi_machine.specs.LoweringOver.{Plan, Gives}
 use Rattle.abi_machine.specs.Control.{Free, Runs, Arrives, Lowers, Starts}
-use Rattle.abi_machine.specs.World.{OfSubtask, OfSet, Init, Func, Nobody, Host, Guest, New, Acting, AfterCall, AfterCancel, InLoop, Exited, World, new_inst, new_task}
+use Rattle.abi_machine.specs.World.{OfSubtask, OfSet, Init, Func, Nobody, Host, Guest, New, Acting, AfterCall, AfterCancel, InLoop, Exited, World, new_task}
 use Rattle.abi_machine.specs.Edits.{with_control, in_state}
 use Rattle.abi_machine.specs.Canons.{defines}
 use Rattle.abi_machine.specs.Turn.{Steps}

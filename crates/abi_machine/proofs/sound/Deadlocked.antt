@@ -1,12 +1,12 @@
 -- A deadlock names the tasks that have not exited, each of which is blocked while what it waits for is missing.
-use Rattle.std.proofs.Common.{◌≡◌, ◌∙◌, ◌≤◌, ◌⊎◌, inl, inr, ℕ, zero, suc, ◌+◌, ◌&&◌, ◌||◌, Bool, true, false, not, nat_eq, nat_lt, List, [], ◌∷◌, map, length, refl, sym, ap, subst, arith, Option, Some, None, Result, Ok, Err, if◌then◌else◌}
+use Rattle.std.proofs.Common.{◌≡◌, ◌∙◌, ◌≤◌, ◌⊎◌, inl, inr, ℕ, zero, suc, ◌+◌, ◌&&◌, ◌||◌, Bool, true, false, not, nat_eq, List, [], ◌∷◌, map, refl, sym, ap, subst, arith, Option, Some, None, Result, Ok, Err, if◌then◌else◌}
 use Rattle.std.specs.Prelude.{IsSome, filter, drop, is_none as is_absent}
 use Rattle.std.specs.List.{slice_get, AllByRecursion}
 use Rattle.std.proofs.lemmas.Bool.Decides.{nat_tests}
 use Rattle.entry_gate.specs.declared.kind.Kind.{Kind}
 use Rattle.entry_gate.specs.Kinds.{needs_entry}
-use Rattle.entry_gate.specs.Gates.{GateView, is_free, is_open, may_enter}
-use Rattle.entry_gate.specs.Stays.{Stay, holds, is_inside, holder_of}
+use Rattle.entry_gate.specs.Gates.{GateView, is_free, may_enter}
+use Rattle.entry_gate.specs.Stays.{holds, is_inside, holder_of}
 use Rattle.entry_gate.specs.Callbacks.{callback_of}
 use Rattle.entry_gate.specs.declared.callback.BadCode.{BadCode}
 use Rattle.entry_gate.specs.declared.callback.Next.{Next}
@@ -25,10 +25,10 @@ use Rattle.script_reader.specs.declared.script.Item.{Item}
 use Rattle.abi_machine.specs.declared.run_end.RunEnd.TheVariants.{Deadlock}
 use Rattle.stream_ends.specs.Ends.{is_pending}
 use Rattle.abi_machine.specs.Control.{EndRef, Control}
-use Rattle.abi_machine.specs.World.{Entry, Callee, Init, Inst, Wait, ForYield, ForSet, ForCall, ForCopy, ForCancel, TaskState, New, Acting, AfterCall, AfterCancel, Begins, WaitsToEnter, InLoop, InBuiltin, Exited, Task, World}
+use Rattle.abi_machine.specs.World.{Entry, Callee, Init, Wait, ForYield, ForSet, ForCall, ForCopy, ForCancel, TaskState, New, Acting, AfterCall, AfterCancel, Begins, WaitsToEnter, InLoop, InBuiltin, Exited, Task, World}
 use Rattle.abi_machine.specs.Reading.{table_in, func_of, kind_of, runs_in, is_in, has_exited, with_numbers, numbers_of, unfinished}
 use Rattle.abi_machine.specs.Counting.{passes, phase_of, has_resolved, end_of, ready}
-use Rattle.abi_machine.specs.Gate.{place_of, stay_of, stays_of, gate_of, is_entry_free, may_go_in}
+use Rattle.abi_machine.specs.Gate.{place_of, stay_of, gate_of, is_entry_free}
 use Rattle.abi_machine.specs.Finding.{found_subtask, set_number, found_end}
 use Rattle.abi_machine.specs.Scheduling.{is_some_ready, is_task_resolved, wait_is_over, loop_is_over, is_able_in, is_able, able, GoesOn, item_first}
 use Rattle.abi_machine.specs.sound.Changes.{IsBlocked}
@@ -38,7 +38,7 @@ use Rattle.abi_machine.specs.sound.Initial.{RunsAlone}
 use Rattle.abi_machine.specs.sound.Acting.{StandsBy, outline_of, outlines_of, ActsBy, IsOrdered}
 use Rattle.abi_machine.specs.sound.Exiting.{HasExited, ResolvesFirst, ResolveFirst}
 use Rattle.abi_machine.specs.sound.Loops.{GoesOnBy, LoopsIn, LoopsSo, HaveLoops}
-use Rattle.abi_machine.specs.sound.Deadlocks.{IsAmong, IsHeldBy, NoneReady, IsOpen, LoopMisses, IsMissing, IsHeldUp, StandsStill, IsDeadlocked, DeadlocksAreReal}
+use Rattle.abi_machine.specs.sound.Deadlocks.{IsAmong, IsHeldBy, NoneReady, LoopMisses, IsMissing, IsHeldUp, StandsStill, DeadlocksAreReal}
 use Rattle.wasm_store.proofs.Lists.{all_at}
 use Rattle.abi_machine.proofs.sound.Found.{some_same}
 use Rattle.abi_machine.proofs.sound.Chained.{state_there}

@@ -1,5 +1,5 @@
 -- Where each end of a run comes: built-ins and nested code end nothing, and a step that costs ends a run only where no unit is left.
-use Rattle.std.proofs.Common.{◌≡◌, ◌∙◌, ℕ, zero, suc, ◌+◌, ◌-◌, ◌*◌, ◌%◌, ◌&&◌, true, not, nat_eq, nat_lt, nat_le, List, [], ◌∷◌, length, refl, sym, ap, subst, Option, Some, None, Result, Ok, Err}
+use Rattle.std.proofs.Common.{◌≡◌, ◌∙◌, ℕ, zero, suc, ◌+◌, ◌*◌, ◌%◌, ◌&&◌, true, not, nat_eq, nat_lt, nat_le, List, [], ◌∷◌, length, refl, sym, ap, subst, Option, Some, None, Result, Ok, Err, if◌then◌else◌}
 use Rattle.std.specs.Prelude.{slice_index}
 use Rattle.std.specs.List.{slice_get}
 use Rattle.wasm_store.specs.Store.{found_at}
@@ -46,13 +46,13 @@ use Rattle.abi_machine.specs.declared.run_end.RunEnd.TheVariants.{Done, Trapped,
 use Rattle.abi_machine.specs.Control.{EndRef, Replies, Nested, Behind, InLowering, BeforeLeaving, InWait, Control, Free, Chosen, Instantiates, Runs, Calls, Arrives, Lowers, Quiet, Back, Goes, Resumes, Delivers, Leaves, Doomed}
 use Rattle.abi_machine.specs.World.{OwnHandle, OfSet, OfEnd, Func, Destroys, Subtask, AfterCancel, Task, World}
 use Rattle.abi_machine.specs.Traps.{core_name, task_name, set_name, refusal_name, renamed}
-use Rattle.abi_machine.specs.Edits.{with_control, with_store, item_taken, entry_removed, chained, in_state, channel_made}
+use Rattle.abi_machine.specs.Edits.{with_control, with_store, item_taken, entry_removed, set_made, chained, in_state, channel_made}
 use Rattle.abi_machine.specs.Canons.{func_address, memory_of, bytes_of, inst_of_canon, builtin_of, canon_at, options_at, resource_at, lifted_of, destructor_of}
 use Rattle.abi_machine.specs.Reading.{sets_in, backpressure_of, channels, acting, func_of, is_reentrant, unfinished, may_leave}
 use Rattle.abi_machine.specs.Counting.{passes, task_view, has_resolved, end_of, ready, view_at}
 use Rattle.abi_machine.specs.SameTypes.{same_held}
 use Rattle.abi_machine.specs.Finding.{subtask_at, set_at, waitable_at, end_at}
-use Rattle.abi_machine.specs.Turn.{Turn, Ends, silent, doomed, given, replied}
+use Rattle.abi_machine.specs.Turn.{Turn, Ends, silent, doomed, given, replied, with_entry}
 use Rattle.abi_machine.specs.Cancelling.{cancelled_turn}
 use Rattle.abi_machine.specs.Choosing.{chosen}
 use Rattle.abi_machine.specs.Copying.{meets}
@@ -67,7 +67,7 @@ use Rattle.abi_machine.specs.Next.{next_by}
 use Rattle.abi_machine.specs.replies.Context.{Answers, Exempt, exempt_of}
 use Rattle.abi_machine.specs.replies.Pressure.{most_backpressure, pressure_inc_turn, pressure_dec_turn, pressure_set_turn}
 use Rattle.abi_machine.specs.replies.Resources.{resource_new_turn, destroyed_here, destroyed, dropped, resource_drop_turn}
-use Rattle.abi_machine.specs.replies.Streams.{end_ref, max_length, is_async_copy, is_unwritten, ends_added, channel_new_turn, placed_well, copy_turn, copy_cancel_turn, end_drop_turn}
+use Rattle.abi_machine.specs.replies.Streams.{both_indices, end_ref, max_length, is_async_copy, is_unwritten, ends_added, channel_new_turn, placed_well, copy_turn, copy_cancel_turn, end_drop_turn}
 use Rattle.abi_machine.specs.replies.Subtasks.{cancel_asked, subtask_cancel_turn, subtask_drop_turn}
 use Rattle.abi_machine.specs.replies.Tasks.{same_address, return_checked, return_turn, task_cancel_turn, yield_turn}
 use Rattle.abi_machine.specs.replies.Waiting.{event_size, event_align, is_cancelled, view_of_set, set_new_turn, none_ready, by_ready, event_turn, wait_turn, set_drop_turn, joins, join_turn}
@@ -89,7 +89,7 @@ dropped_on g t i number words x Own w = given_on (resource_at g x.resource) _ (�
 
 resource_on : (g : Graph) (t i number : ℕ) (op : ResourceOp) (resource : ℕ) (words : List ℕ) (w : World) → IsOn (resource_turn g t i number op resource words w)
 unfolding resource_turn resource_new_turn resource_drop_turn
-resource_on g t i number resource_op.New resource words w = entry_on t i (OwnHandle resource (slice_index words 0)) w _ (λ index v. tt)
+resource_on g t i number resource_op.New resource words w = entry_on t i (OwnHandle resource (slice_index words 0)) w (λ index v. replied t (index ∷ []) v) (λ index v. tt)
 resource_on g t i number resource_op.Drop resource words w =
     let answer : Result Handle TrapName = renamed refusal_name (dropped_in (view_at w i (slice_index words 0)) resource) in
     refused_on t answer w (λ (x : Handle). dropped g t i number words x x.ownership (entry_removed i (slice_index words 0) w)) (λ (x : Handle). dropped_on g t i number words x x.ownership (entry_removed i (slice_index words 0) w))
@@ -138,7 +138,7 @@ plain_on g t task i number plain.BackpressureDec words w = unless_on t (nat_eq (
 plain_on g t task i number (plain.SubtaskCancel is_async) words w = cancel_on g t i number words w
 plain_on g t task i number plain.SubtaskDrop words w = subtask_drop_on t i (slice_index words 0) w
 plain_on g t task i number (plain.Yield cancellable) words w = either_on (cancellable && is_asked task.cancellation) _ _ tt tt
-plain_on g t task i number plain.WaitableSetNew words w = entry_on t i (OfSet (length (sets_in (slice_get w.insts i)))) w _ (λ index v. tt)
+plain_on g t task i number plain.WaitableSetNew words w = entry_on t i (OfSet (length (sets_in (slice_get w.insts i)))) w (λ index v. replied t (index ∷ []) (set_made i v)) (λ index v. tt)
 plain_on g t task i number plain.WaitableSetDrop words w = set_drop_on t i (slice_index words 0) w
 plain_on g t task i number plain.WaitableJoin words w = join_on t i (slice_index words 0) (slice_index words 1) w
 
@@ -172,7 +172,8 @@ unfolding end_turn channel_new_turn ends_added copy_turn copy_cancel_turn end_dr
 end_on g t i number what element end_op.New words w =
     let v : World = channel_made what element w in
     let made : ℕ = length (channels what w) + 1 in
-    entry_on t i (OfEnd (end_ref what made Reader)) v _ (λ readable x. entry_on t i (OfEnd (end_ref what made Writer)) x _ (λ writable y. tt))
+    entry_on t i (OfEnd (end_ref what made Reader)) v (λ readable x. with_entry t i (OfEnd (end_ref what made Writer)) x (λ writable y. replied t (both_indices readable writable ∷ []) y))
+    (λ readable x. entry_on t i (OfEnd (end_ref what made Writer)) x (λ writable y. replied t (both_indices readable writable ∷ []) y) (λ writable y. tt))
 end_on g t i number what element (end_op.Copy side options) words w =
     refused_on t (end_at w what (side_of side) element i (slice_index words 0)) w _ (λ (e : EndRef).
     unless_on t (is_copying (end_of w e)) trap.Busy w _ (unless_on t (end_of w e).done trap.DoneEnd w _

@@ -1,5 +1,5 @@
 -- Turns that are no ends: what a turn is made of, and what tasks make of themselves: calls, results, entry, events, and what is passed.
-use Rattle.std.proofs.Common.{◌≡◌, ◌≤◌, ℕ, ◌+◌, ◌-◌, Bool, true, false, nat_lt, List, [], ◌∷◌, refl, arith, Option, Some, None, Result, Ok, Err}
+use Rattle.std.proofs.Common.{◌≡◌, ◌≤◌, ℕ, ◌+◌, Bool, true, false, nat_lt, List, [], ◌∷◌, refl, arith, Option, Some, None, Result, Ok, Err, if◌then◌else◌}
 use Rattle.std.specs.Prelude.{is_none, drop}
 use Rattle.std.specs.List.{slice_get}
 use Rattle.std.proofs.lemmas.Bool.Decides.{nat_tests}
@@ -40,16 +40,16 @@ use Rattle.abi_machine.specs.Control.{EndRef, After, Replies, Finishes, Copying,
 use Rattle.abi_machine.specs.World.{Entry, OwnHandle, BorrowHandle, OfSubtask, OfSet, OfEnd, Callee, Subtask, Caller, Nobody, Host, Guest, Wait, ForYield, ForSet, ForCall, ForCopy, ForCancel, TaskState, New, Acting, AfterCall, AfterCancel, WaitsToEnter, InLoop, InBuiltin, Exited, Task, Channel, World}
 use Rattle.abi_machine.specs.World as world
 use Rattle.abi_machine.specs.Traps.{task_name}
-use Rattle.abi_machine.specs.Edits.{with_store, unit_spent, entry_added, in_state, resolved, unstacked, result_kept}
+use Rattle.abi_machine.specs.Edits.{with_store, unit_spent, entry_added, in_state, resolved, unstacked, told, result_kept}
 use Rattle.abi_machine.specs.Canons.{func_address, externals, bytes_of, canon_at, options_at, flag_at}
 use Rattle.abi_machine.specs.Reading.{table_of, entry_at, channel_at, task_at, acting, func_of, kind_of, subtask_of, is_reentrant}
-use Rattle.abi_machine.specs.Counting.{task_view, has_resolved, ready}
+use Rattle.abi_machine.specs.Counting.{subtask_state, task_view, has_resolved, ready}
 use Rattle.abi_machine.specs.Gate.{is_entry_free, may_arrive}
 use Rattle.abi_machine.specs.Finding.{set_at, found_subtask, set_number, found_end}
 use Rattle.abi_machine.specs.Lifting.{Came, once_lifted}
 use Rattle.abi_machine.specs.Pausing.{Paused, Words, Failed, Asked as AsksNow, Settled, settle}
-use Rattle.abi_machine.specs.Turn.{Turn, Steps, Ends, Stuck, doomed, behind, given, unless_refused, unless, unless_fault, with_func, charged, with_entry}
-use Rattle.abi_machine.specs.Calling.{Told, call_begun, call_resolved, call_open, with_subtask_of, subtask_told, back_from_call}
+use Rattle.abi_machine.specs.Turn.{Turn, Steps, Ends, Stuck, doomed, behind, given, replied, unless_refused, unless, unless_fault, with_func, charged, with_entry}
+use Rattle.abi_machine.specs.Calling.{Told, call_state, call_begun, call_resolved, call_open, with_subtask_of, subtask_told, back_from_call}
 use Rattle.abi_machine.specs.Cancelling.{asked_turn, cancelled_turn, cancel_open, back_from_cancel, back_to, back_turn}
 use Rattle.abi_machine.specs.Choosing.{chosen}
 use Rattle.abi_machine.specs.Copying.{Met, AtOnce, Moves as Copies, Stands, met_by, other_offer, read_of, write_of, is_within, moved_by, elements_written, elements_read, elements_moved, meeting_turn, meets, transferring_turn}
@@ -137,7 +137,7 @@ begun_on t number words callee f passed w = unless_on t (is_reentrant w f.instan
 
 open_on : (t i callee : ℕ) (task : Task) (is_async : Bool) (number : ℕ) (words : List ℕ) (w : World) → IsOn (call_open t i callee task is_async number words w)
 unfolding call_open
-open_on t i callee task true number words w = entry_on t i (OfSubtask callee) w _ (λ index v. tt)
+open_on t i callee task true number words w = entry_on t i (OfSubtask callee) w (λ index v. replied t (call_state task index ∷ []) (told callee (subtask_state task) v)) (λ index v. tt)
 open_on t i callee task false number words w = tt
 
 back_called_on : (g : Graph) (t i callee number : ℕ) (words : List ℕ) (w : World) → IsOn (back_from_call g t i callee number words w)

@@ -1,7 +1,7 @@
 -- Deadlocks (Component Model, Concurrency.md, "Summary"; CanonicalABI.md, "Task State": `Task.enter`, "Waitable Set State"): where a run ends in
 -- deadlock no task runs and no item of the script is left, and the tasks that are named are those that have not exited, by rising number, but
 -- for task 0. Each is blocked, and what it waits for is missing.
-use Rattle.std.specs.Prelude.{◌≡◌, ◌≤◌, ◌⊎◌, ℕ, false, List, [], Option, Some, None, IsSome, Result, Ok, Err}
+use Rattle.std.specs.Prelude.{◌≡◌, ◌≤◌, ◌⊎◌, ℕ, false, List, [], Some, None, IsSome, Result, Ok}
 use Rattle.std.specs.List.{slice_get, AllByRecursion}
 use Rattle.entry_gate.specs.Callbacks.{callback_of}
 use Rattle.entry_gate.specs.declared.callback.BadCode.{BadCode}
