@@ -52,5 +52,14 @@ pub mod TypedMoves
 pub mod typed
 pub mod Callees
 pub mod Guests
+pub mod Coming
+pub mod Started
+pub mod Later
+pub mod Taking
 pub mod nexts
 pub mod Reached
+pub mod Functions
+pub mod Onward
+pub mod Ending
+pub mod Exiting
+pub mod Deadlocked

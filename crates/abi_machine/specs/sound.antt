@@ -36,7 +36,14 @@ pub mod Writers
 pub mod TypedStacks
 pub mod MadeInstances
 pub mod GraphFuncs
+pub mod Taken
 pub mod Callees
 pub mod TypedGoing
 pub mod Guests
+pub mod Exiting
+pub mod Events
 pub mod GoingOn
+pub mod Starting
+pub mod Functions
+pub mod Ending
+pub mod Deadlocks

@@ -37,14 +37,21 @@ ghost use Rattle.abi_machine.specs.sound.TypedStacks.{
 };
 ghost use Rattle.abi_machine.specs.sound.Writers.{FirstHasWriters, WritersStayInOnePlace};
 ghost use Rattle.abi_machine.specs.sound.GoingOn.{WorldsGoOn, ReachedStand, ReachedGoOn};
+ghost use Rattle.abi_machine.specs.sound.Starting.{StartsTyped, StartedTyped, StartsGoOn};
+ghost use Rattle.abi_machine.specs.sound.Functions.{ReachedFunctions, UsedGoOn};
 ghost use Rattle.abi_machine.specs.sound.Guests.{FirstWaitsAs, WaitsAsStay};
+ghost use Rattle.abi_machine.specs.sound.Taken.{FirstCallsHaveTasks, CallsKeepTasks};
+ghost use Rattle.abi_machine.specs.sound.Events.{FirstHasEvents, EventsStay};
+ghost use Rattle.abi_machine.specs.sound.Exiting.{FirstResolvesFirst, ResolveFirstStays};
+ghost use Rattle.abi_machine.specs.sound.Deadlocks.{DeadlocksAreReal};
+ghost use Rattle.abi_machine.specs.sound.Ending.{EndsComeWhere};
 
 /// Task 0 instantiates, and runs alone until it has exited; it never runs again, and no other task runs a start function. Control says
 /// what is so: where a turn begins no task runs; elsewhere, but where control is back at a task or the run ends in a trap, the acting task
-/// acts, is new, or may be inside its instance; what is to be copied has room at the other end; and the task for which values are lowered
-/// has entered. A task that is new or waits to enter has not resolved, its caller was not told that it has, no live borrow handle names it,
-/// it called no other one, and it has no copy under way; a writable end stands in one place. So it is in the first world, and so it stays in
-/// every step.
+/// acts, is new, or may be inside its instance; what is to be copied has room at the other end; the task for which values are lowered
+/// has entered; and one that is to exit has resolved. A task that is new or waits to enter has not resolved, its caller was not told that
+/// it has, no live borrow handle names it, it called no other one, and it has no copy under way; a writable end stands in one place. So it
+/// is in the first world, and so it stays in every step.
 pub fn init_runs_alone()
     ensures first { FirstRunsAlone }
     ensures stays { StaysAlone }
@@ -272,12 +279,65 @@ pub fn waits_stay()
     ensures stays { WaitsAsStay }
 {}
 
-/// In a world of which holds what is kept a step comes next, or the end, where what the rule of its control looks up besides is there: items
-/// of the script and what is picked, what a core instance imports, a canonical function that is called, its resource and all destructors, core
-/// functions and moves of stacks, a function that gives places where one is asked for, what a blocked task waits for, and a ready member with
-/// the callback that gets it. What is kept holds of each world that a run reaches, where definitions stay apart.
+/// Each call of the script that was taken made a task, which has it as its caller: so it is in the first world, and so it stays in every step.
+pub fn calls_have_tasks()
+    ensures first { FirstCallsHaveTasks }
+    ensures stays { CallsKeepTasks }
+{}
+
+/// A task that goes on from a wait on a set has a ready member there, or is told that its cancellation is asked. Where the event of a member
+/// comes to a task, the member that was picked is there, and the function of the task has a callback where this gets the event. So it is in the
+/// first world, and so it stays in every step, where definitions stay apart.
+pub fn events_come()
+    ensures first { FirstHasEvents }
+    ensures stays { EventsStay }
+{}
+
+/// In a world of which holds what is kept a step comes next, or the end, where what the rule of its control looks up besides is there: the
+/// export of a call and the call that a cancel names, what a core instance imports, a canonical function that a start function calls, and once all is instantiated the resource of
+/// which a handle is dropped with its destructor, core functions and moves of stacks, a function that gives places where one is asked for, and
+/// the end or the subtask at the index at which a blocked task waits. What is kept holds of each world that a run reaches, where definitions
+/// stay apart.
 pub fn worlds_go_on()
     ensures each { WorldsGoOn }
     ensures stand { ReachedStand }
     ensures reached { ReachedGoOn }
+{}
+
+/// Where the modules of a graph are valid and what they import is there, each world that a run reaches while not all is instantiated stands
+/// typed, and so does the one behind it, up to a trap. So instantiation is never stuck, where definitions stay apart.
+pub fn instantiation_goes_on()
+    ensures typed { StartsTyped }
+    ensures behind { StartedTyped }
+    ensures goes_on { StartsGoOn }
+{}
+
+/// Where besides a graph has all that its lifts, lowers and built-ins use, the core functions of what tasks run are in the store once all is
+/// instantiated, and so are destructors, up to a trap. So a step comes next, or the end, in each world that a run reaches, where items of the
+/// script, a rule for core code and the word of a realloc, a function that gives places where one is asked for, and the end or the subtask
+/// at the index at which a blocked task waits are there.
+pub fn functions_are_there()
+    ensures there { ReachedFunctions }
+    ensures goes_on { UsedGoOn }
+{}
+
+/// A task that runs a function resolves before it exits: where one has exited it has resolved. So it is in the first world, and so it stays in
+/// every step.
+pub fn tasks_resolve_first()
+    ensures first { FirstResolvesFirst }
+    ensures stays { ResolveFirstStays }
+{}
+
+/// A run ends by want of fuel only where all units are used, and in a trap only behind the step that came to it. Else it ends only where no task
+/// runs and there is no alternative: as done where all tasks have exited, and in deadlock where some have not.
+pub fn ends_have_causes()
+    ensures { EndsComeWhere }
+{}
+
+/// Where a run ends in deadlock no task runs, no item of the script is left, and the tasks that are named are those that have not exited, by
+/// rising number, but for task 0. What each waits for is missing: one that waits to enter is held back by backpressure, or a task that is named
+/// holds exclusive entry; one in its loop waits on a set without a ready member, and no cancellation is asked of it, or a task that is named holds
+/// exclusive entry; one in a built-in waits on such a set, for a task that has not resolved and is named, or for an end with nothing to tell.
+pub fn deadlocks_are_real()
+    ensures { DeadlocksAreReal }
 {}

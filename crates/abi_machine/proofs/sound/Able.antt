@@ -15,16 +15,16 @@ use Rattle.abi_machine.specs.Counting.{passes, phase_of}
 use Rattle.abi_machine.specs.Scheduling.{able, is_able_in, is_able, Alternative, Takes, GoesOn, item_first, alternatives}
 use Rattle.abi_machine.specs.sound.Changes.{IsBlocked}
 
--- an item of the script, and a task that is blocked in a function
-abbrev pub IsStopped : Task → Type 0
-IsStopped task = IsSome (func_of task.callee) × IsBlocked task.state
+-- an item of the script, and an able task that is blocked in a function
+abbrev pub IsStopped : Graph → World → Task → Type 0
+IsStopped g w task = IsSome (func_of task.callee) × IsBlocked task.state × (is_able g w task ≡ true)
 
-abbrev pub StopsAt : World → ℕ → Type 0
-StopsAt w t = (task : Task) × (slice_get w.tasks t ≡ Some task) × IsStopped task
+abbrev pub StopsAt : Graph → World → ℕ → Type 0
+StopsAt g w t = (task : Task) × (slice_get w.tasks t ≡ Some task) × IsStopped g w task
 
-abbrev pub MayBeDone : Script → World → Alternative → Type 0
-MayBeDone s w (Takes i) = slice_get s.items w.taken ≡ Some i
-MayBeDone s w (GoesOn t) = StopsAt w t
+abbrev pub MayBeDone : Graph → Script → World → Alternative → Type 0
+MayBeDone g s w (Takes i) = slice_get s.items w.taken ≡ Some i
+MayBeDone g s w (GoesOn t) = StopsAt g w t
 
 -- those of numbered tasks that pass a test
 one_kept : (P : ℕ → Type 0) (b : Bool) (n : ℕ) (task : Task) (others : List (ℕ × Task)) → (b ≡ true → P n) → AllByRecursion P (map (λ (x : ℕ × Task). x.0) others)
@@ -32,7 +32,7 @@ one_kept : (P : ℕ → Type 0) (b : Bool) (n : ℕ) (task : Task) (others : Lis
 one_kept P true n task others h all = (h refl, all)
 one_kept P false n task others h all = all
 
-all_kept : (test : Task → Bool) (P : ℕ → Type 0) (n : ℕ) (tasks : List Task) → ((m : ℕ) (task : Task) → slice_get tasks m ≡ Some task → test task ≡ true → P (n + m))
+pub all_kept : (test : Task → Bool) (P : ℕ → Type 0) (n : ℕ) (tasks : List Task) → ((m : ℕ) (task : Task) → slice_get tasks m ≡ Some task → test task ≡ true → P (n + m))
     → AllByRecursion P (numbers_of test (with_numbers n tasks))
 all_kept test P n [] h = tt
 all_kept test P n (task ∷ tasks) h =
@@ -51,28 +51,28 @@ able_blocked g w i task (InLoop word) e = tt
 able_blocked g w i task (InBuiltin number words wait) e = tt
 able_blocked g w i task Exited e = cc
 
-able_stops : (g : Graph) (w : World) (task : Task) → is_able g w task ≡ true → IsStopped task
+able_stops : (g : Graph) (w : World) (task : Task) → is_able g w task ≡ true → IsStopped g w task
 able_stops g w task e = by (func_of task.callee) e
   where
-    by : (o : Option Lifted) → passes (λ (f : Lifted). is_able_in g w f.instance task task.state) o ≡ true → IsSome o × IsBlocked task.state
+    by : (o : Option Lifted) → passes (λ (f : Lifted). is_able_in g w f.instance task task.state) o ≡ true → IsSome o × IsBlocked task.state × (is_able g w task ≡ true)
     by None k = cc
-    by (Some f) k = (refl, able_blocked g w f.instance task task.state k)
+    by (Some f) k = (refl, able_blocked g w f.instance task task.state k, e)
 
-tasks_may : (s : Script) (w : World) (all : List ℕ) → AllByRecursion (StopsAt w) all → AllByRecursion (MayBeDone s w) (map GoesOn all)
-tasks_may s w [] h = tt
-tasks_may s w (t ∷ all) h = (h.0, tasks_may s w all h.1)
+tasks_may : (g : Graph) (s : Script) (w : World) (all : List ℕ) → AllByRecursion (StopsAt g w) all → AllByRecursion (MayBeDone g s w) (map GoesOn all)
+tasks_may g s w [] h = tt
+tasks_may g s w (t ∷ all) h = (h.0, tasks_may g s w all h.1)
 
-item_may : (s : Script) (w : World) (o : Option Item) (others : List Alternative) → slice_get s.items w.taken ≡ o → AllByRecursion (MayBeDone s w) others
-    → AllByRecursion (MayBeDone s w) (item_first o others)
-item_may s w None others e h = h
-item_may s w (Some i) others e h = (e, h)
+item_may : (g : Graph) (s : Script) (w : World) (o : Option Item) (others : List Alternative) → slice_get s.items w.taken ≡ o → AllByRecursion (MayBeDone g s w) others
+    → AllByRecursion (MayBeDone g s w) (item_first o others)
+item_may g s w None others e h = h
+item_may g s w (Some i) others e h = (e, h)
 
-pub all_may : (g : Graph) (s : Script) (w : World) → AllByRecursion (MayBeDone s w) (alternatives g s w)
+pub all_may : (g : Graph) (s : Script) (w : World) → AllByRecursion (MayBeDone g s w) (alternatives g s w)
 all_may g s w =
-    item_may s w (slice_get s.items w.taken) (map GoesOn (able g w)) refl
-    (tasks_may s w (able g w)
-    (all_kept (is_able g w) (StopsAt w) 0 w.tasks
-    (λ m task there e. let same : m ≡ 0 + m = omega arith in subst (StopsAt w) same (task, there, able_stops g w task e))))
+    item_may g s w (slice_get s.items w.taken) (map GoesOn (able g w)) refl
+    (tasks_may g s w (able g w)
+    (all_kept (is_able g w) (StopsAt g w) 0 w.tasks
+    (λ m task there e. let same : m ≡ 0 + m = omega arith in subst (StopsAt g w) same (task, there, able_stops g w task e))))
 
 -- A cancellation ends the wait of a task, or removes one.
 

@@ -109,21 +109,21 @@ pub free_left : (tasks : List Task) (init : Task) → slice_get tasks 0 ≡ Some
 free_left [] init there free = cc
 free_left (x ∷ tasks) init there free = has_left init.state (subst (λ (y : Task). has_exited y.state ≡ true) (some_same there) free)
 
-free_changed : (tasks : List Task) (t : ℕ) (f : Task → Task) → 1 ≤ t → is_instantiated tasks ≡ true → is_instantiated (changed_at t f tasks) ≡ true
+pub free_changed : (tasks : List Task) (t : ℕ) (f : Task → Task) → 1 ≤ t → is_instantiated tasks ≡ true → is_instantiated (changed_at t f tasks) ≡ true
 free_changed [] t f late free = free
 free_changed (x ∷ tasks) zero f late free = absurd (omega (arith, late))
 free_changed (x ∷ tasks) (suc m) f late free = free
 
 module _ (tasks : List Task) (chain : List ℕ) (h : InitRunsAlone tasks chain) where
   -- a task that runs a function is another one
-  runs_later : (t : ℕ) → HasFunc tasks t → 1 ≤ t
+  pub runs_later : (t : ℕ) → HasFunc tasks t → 1 ≤ t
   runs_later zero f =
       let same : f.0 ≡ h.init = some_same (sym f.1 ∙ h.there) in
       let none : IsSome (func_of Init) = subst (λ (c : Callee). IsSome (func_of c)) (ap (λ (x : Task). x.callee) same ∙ h.instantiates) f.2 in cc
   runs_later (suc t) f = omega arith
 
   -- and so is the acting one, once tasks may leave
-  acts_later : (t : ℕ) → IsFirst t chain → is_instantiated tasks ≡ true → 1 ≤ t
+  pub acts_later : (t : ℕ) → IsFirst t chain → is_instantiated tasks ≡ true → 1 ≤ t
   acts_later t first free = first_later chain t (subst (λ (s : TaskState). IsInitial s chain) (free_left tasks h.init h.there free) h.alone) first
 
   -- The acting task cancels another one: task 0 has exited.
@@ -321,7 +321,7 @@ comes_may g s (GoesTo control) w may = tt
 comes_may g s (HasStore store) w may = tt
 comes_may g s SpendsUnit w may = may
 comes_may g s (UsesPicks picks) w may = may
-comes_may g s TakesItem w may = may
+comes_may g s TakesItem w may = may.0
 comes_may g s BeginsInstance w may = tt
 comes_may g s (AddsEntry i entry) w may = (may.0, may.1)
 comes_may g s (MakesSet i set) w may = may
@@ -337,7 +337,7 @@ comes_may g s (Acts t) w may = may.0
 comes_may g s (Begins n) w may = may.0
 comes_may g s (Cancels t callee number words) w may = (may.0, may.1)
 comes_may g s (Blocks t state) w may = (may.0, may.1, may.2)
-comes_may g s (Exits t) w may = may
+comes_may g s (Exits t) w may = may.0
 comes_may g s (IsRemoved t) w may = may.0
 comes_may g s (Resolves t resolution) w may = tt
 comes_may g s (IsCancelled t cancellation) w may = tt

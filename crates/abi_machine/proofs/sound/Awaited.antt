@@ -571,6 +571,6 @@ pub subtasks_stay : SubtasksStay
 unfolding beside in_order
 subtasks_stay g s w v labels alone o numbers called h e =
     (step_known
-    (beside g s (in_order g s) (Unit {0}) ⊥ (Kept g) (λ apart. absurd apart) (λ apart u k. absurd apart) (λ c u may b belongs k. (numbered g s c u may k.0, subtasks_kept g s c u may b k))
+    (beside g s (in_order g s) (Unit {0}) ⊥ ⊥ (Kept g) (λ apart. absurd apart) (λ event. event) (λ apart u k. absurd apart) (λ c u may b belongs k. (numbered g s c u may k.0, subtasks_kept g s c u may b k))
     (λ t u may k. (numbered g s (ComesBack t) u may k.0, k.1)) (λ t u may k. (numbered g s (IsRemoved t) u may k.0, removed_subtasks g t u k.1)))
-    w v labels (λ given. record { called = called; subtasks = h }) (λ apart. absurd apart) alone.1 o.2 ((alone.0, o.0, o.1), (numbers, h)) e).0.1.1
+    w v labels (λ given. record { called = called; subtasks = h }) (λ apart. absurd apart) (λ event. absurd event) alone.1 o.2 ((alone.0, o.0, o.1), (numbers, h)) e).0.1.1

@@ -1,5 +1,5 @@
 -- Tasks run functions of the graph, and so they do in every step; and their core functions are there.
-use Rattle.std.proofs.Common.{◌≡◌, ◌⊎◌, inl, inr, ℕ, zero, suc, true, false, List, [], ◌∷◌, ◌++◌, length, refl, sym, ap, ◌∙◌, subst, append-nil, Option, Some, None}
+use Rattle.std.proofs.Common.{◌≡◌, inl, inr, ℕ, zero, suc, true, false, List, [], ◌∷◌, ◌++◌, length, refl, sym, ap, ◌∙◌, subst, append-nil, Option, Some, None}
 use Rattle.std.specs.List.{slice_get, AllByRecursion}
 use Rattle.std.specs.Option.{option_map, option_and_then, IfSome}
 use Rattle.ca_base.specs.Names.{first_named}
@@ -9,14 +9,13 @@ use Rattle.ca_types.specs.declared.core_type.CoreType.{CoreType}
 use Rattle.ca_types.specs.Flat.{flat_payload, at_most}
 use Rattle.wasm_module.specs.declared.types.FuncType as core
 use Rattle.wasm_module.specs.Spaces.{type_of_func}
-use Rattle.wasm_store.specs.Store.{Function, Host as HostFunction, Instance, Store}
+use Rattle.wasm_store.specs.Store.{Host as HostFunction, Instance, Store}
 use Rattle.wasm_store.proofs.Lists.{all_at, all_append, found_there}
 use Rattle.wasm_store.proofs.Zips.{zip_at}
 use Rattle.tasks.specs.declared.phase.Resolution.TheVariants.{Cancelled}
 use Rattle.comp_graph.specs.declared.graph.FuncRef.{FuncRef}
 use Rattle.comp_graph.specs.declared.graph.FuncRef.TheVariants as func_ref
 use Rattle.comp_graph.specs.declared.graph.Lift.{Lift}
-use Rattle.comp_graph.specs.declared.graph.Lower.{Lower}
 use Rattle.comp_graph.specs.declared.graph.Resource.{Resource}
 use Rattle.comp_graph.specs.declared.graph.CanonFunc.{CanonFunc}
 use Rattle.comp_graph.specs.declared.graph.CanonFunc.TheVariants as canon
@@ -26,14 +25,14 @@ use Rattle.comp_graph.specs.Graph.{CoreMake, Graph, Lifted, no_options, canon_ty
 use Rattle.script_reader.specs.Script.{Script}
 use Rattle.abi_machine.specs.World.{Callee, Init, Func, Destroys, Host, Guest, New, Exited, AfterCall, Task, World, new_task}
 use Rattle.abi_machine.specs.Edits.{changed_at}
-use Rattle.abi_machine.specs.Canons.{func_address, canon_at, lifted_of, resource_at, destructor_type, destructor_of}
+use Rattle.abi_machine.specs.Canons.{lifted_of, resource_at, destructor_type}
 use Rattle.abi_machine.specs.Reading.{func_of}
 use Rattle.abi_machine.specs.sound.Changes.{Change, GoesTo, HasStore, SpendsUnit, UsesPicks, TakesItem, BeginsInstance, AddsEntry, MakesSet, RemovesEntry, RemovesWaitable, LeavesSet, JoinsSet, HasBackpressure, IsCalled, Calls, ComesBack, Acts, Begins, Cancels, Blocks, Exits, IsRemoved, Resolves, IsCancelled, HasWord, HasNewStack, HasStack, LosesStack, IsAnswered, IsTold, IsLent, HasResult, MakesChannel, Offers, Transfers, Concludes, DropsEnd, after}
 use Rattle.abi_machine.specs.sound.Premises.{Comes}
 use Rattle.abi_machine.specs.sound.Owners.{HasCanons}
 use Rattle.abi_machine.specs.sound.MadeInstances.{WereMade}
-use Rattle.abi_machine.specs.sound.GraphFuncs.{IsExported, IsLowered, IsDestructor, IsOfGraph, HaveCallees}
-use Rattle.abi_machine.specs.sound.Callees.{FirstHasCallees, CalleesStay, IsUsedGraph, CoreThere, AreCoreThere, FunctionsAreThere, DestructorsAreThere}
+use Rattle.abi_machine.specs.sound.GraphFuncs.{IsLowered, IsDestructor, IsOfGraph, HaveCallees}
+use Rattle.abi_machine.specs.sound.Callees.{FirstHasCallees, CalleesStay, IsUsedGraph, CoreThere, FunctionsAreThere, DestructorsAreThere}
 use Rattle.abi_machine.proofs.Layers.{u32_flat}
 use Rattle.abi_machine.proofs.sound.Lists.{all_changed, all_more, all_as}
 use Rattle.abi_machine.proofs.sound.Found.{some_same}
@@ -101,7 +100,7 @@ callees_stay g s w v labels alone h e = kept_so g s (Has g) (callees_kept g s) w
 
 -- What is there stays there where more is made.
 
-if_map : {A : Type 0} (P Q : A → Type 0) (o : Option A) → ((x : A) → P x → Q x) → IfSome o P → IfSome o Q
+pub if_map : {A : Type 0} (P Q : A → Type 0) (o : Option A) → ((x : A) → P x → Q x) → IfSome o P → IfSome o Q
 if_map P Q None f h = tt
 if_map P Q (Some x) f h = f x h
 
@@ -115,10 +114,10 @@ type_more cores more canons others (func_ref.Canon number) type h =
     ap (option_map canon_type) (get_front canons others number c.0 c.1) ∙ ap Some c.2
 
 -- the core functions that a lift uses
-record AreTypes (cores : List CoreMake) (canons : List CanonFunc) (f : Lifted) : Type 0 where
-  core_is : core_type cores canons f.core ≡ Some (lift_type f.options f.func_type)
-  post_return : IfSome f.options.post_return (λ r. core_type cores canons r ≡ Some (post_return_type f.func_type))
-  callback : IfSome f.options.callback (λ r. core_type cores canons r ≡ Some callback_type)
+pub record AreTypes (cores : List CoreMake) (canons : List CanonFunc) (f : Lifted) : Type 0 where
+  pub core_is : core_type cores canons f.core ≡ Some (lift_type f.options f.func_type)
+  pub post_return : IfSome f.options.post_return (λ r. core_type cores canons r ≡ Some (post_return_type f.func_type))
+  pub callback : IfSome f.options.callback (λ r. core_type cores canons r ≡ Some callback_type)
 
 types_more : (cores more : List CoreMake) (canons others : List CanonFunc) (f : Lifted) → AreTypes cores canons f → AreTypes (cores ++ more) (canons ++ others) f
 types_more cores more canons others f h = record {
@@ -146,7 +145,7 @@ lift_types cores canons type lift h = record {
 }
 
 -- those of canonical functions, and destructors
-abbrev CanonTypes : List CoreMake → List CanonFunc → CanonFunc → Type 0
+abbrev pub CanonTypes : List CoreMake → List CanonFunc → CanonFunc → Type 0
 CanonTypes cores canons (canon.Lower l) = AreTypes cores canons (lifted_of l)
 CanonTypes cores canons (canon.Builtin b) = Unit {0}
 
@@ -163,9 +162,9 @@ destructor_more cores more canons others r h =
     if_map (λ (f : FuncRef). core_type cores canons f ≡ Some needs.destructor_type) (λ (f : FuncRef). core_type (cores ++ more) (canons ++ others) f ≡ Some needs.destructor_type) r.destructor
     (λ f e. type_more cores more canons others f needs.destructor_type e) h
 
-record AllThere (cores : List CoreMake) (canons : List CanonFunc) (resources : List Resource) : Type 0 where
-  lowers : AllByRecursion (CanonTypes cores canons) canons
-  destructors : AllByRecursion (IsDestructorThere cores canons) resources
+pub record AllThere (cores : List CoreMake) (canons : List CanonFunc) (resources : List Resource) : Type 0 where
+  pub lowers : AllByRecursion (CanonTypes cores canons) canons
+  pub destructors : AllByRecursion (IsDestructorThere cores canons) resources
 
 more_there : (cores more : List CoreMake) (canons others : List CanonFunc) (resources : List Resource) → AllThere cores canons resources
     → AllByRecursion (CanonTypes (cores ++ more) (canons ++ others)) canons × AllByRecursion (IsDestructorThere (cores ++ more) (canons ++ others)) resources
@@ -174,7 +173,7 @@ more_there cores more canons others resources h = (
   all_as (IsDestructorThere cores canons) (IsDestructorThere (cores ++ more) (canons ++ others)) (λ r k. destructor_more cores more canons others r k) resources h.destructors,
 )
 
-all_there : {cores : List CoreMake} {canons : List CanonFunc} {resources : List Resource} → AreMade cores canons resources → AllThere cores canons resources
+pub all_there : {cores : List CoreMake} {canons : List CanonFunc} {resources : List Resource} → AreMade cores canons resources → AllThere cores canons resources
 all_there none_made = record { lowers = tt; destructors = tt }
 all_there (instance_made cores canons resources c made h) =
     let k = more_there cores (c ∷ []) canons [] resources (all_there made) in
@@ -213,7 +212,7 @@ export_types g used name f e =
 lower_types : (g : Graph) → IsUsedGraph g → (f : Lifted) → IsLowered g f → AreTypes g.cores g.canons f
 lower_types g used f h = subst (AreTypes g.cores g.canons) h.3 (all_at (CanonTypes g.cores g.canons) g.canons h.0 (canon.Lower h.1) (all_there used.made).lowers h.2)
 
-resource_there : (g : Graph) (resource : ℕ) (r : Resource) → AllByRecursion (IsDestructorThere g.cores g.canons) g.resources → resource_at g resource ≡ Some r → IsDestructorThere g.cores g.canons r
+pub resource_there : (g : Graph) (resource : ℕ) (r : Resource) → AllByRecursion (IsDestructorThere g.cores g.canons) g.resources → resource_at g resource ≡ Some r → IsDestructorThere g.cores g.canons r
 resource_there g zero r h e = cc
 resource_there g (suc place) r h e = all_at (IsDestructorThere g.cores g.canons) g.resources place r h e
 
@@ -227,7 +226,7 @@ destructor_types g used resource f h =
     let core_is : core_type g.cores g.canons h.1 ≡ Some needs.destructor_type = subst (λ (o : Option FuncRef). IfSome o (λ f. core_type g.cores g.canons f ≡ Some needs.destructor_type)) h.3 there in
     subst (AreTypes g.cores g.canons) h.4 (record { core_is = core_is ∙ ap (λ (t : core.FuncType). Some t) destructor_lift; post_return = tt; callback = tt })
 
-callee_types : (g : Graph) → IsUsedGraph g → (callee : Callee) (f : Lifted) → IsOfGraph g callee → func_of callee ≡ Some f → AreTypes g.cores g.canons f
+pub callee_types : (g : Graph) → IsUsedGraph g → (callee : Callee) (f : Lifted) → IsOfGraph g callee → func_of callee ≡ Some f → AreTypes g.cores g.canons f
 callee_types g used Init f h e = cc
 callee_types g used (Func x) f (inl h) e = subst (AreTypes g.cores g.canons) (some_same e) (export_types g used h.0 x h.1)
 callee_types g used (Func x) f (inr h) e = subst (AreTypes g.cores g.canons) (some_same e) (lower_types g used x h)
@@ -235,7 +234,7 @@ callee_types g used (Destroys resource x) f h e = subst (AreTypes g.cores g.cano
 
 -- Core functions in the store.
 
-core_there : (g : Graph) (s : Store) (f : FuncRef) (type : core.FuncType) → HasCanons g s → WereMade s g.cores → core_type g.cores g.canons f ≡ Some type → CoreThere s f type
+pub core_there : (g : Graph) (s : Store) (f : FuncRef) (type : core.FuncType) → HasCanons g s → WereMade s g.cores → core_type g.cores g.canons f ≡ Some type → CoreThere s f type
 core_there g s (func_ref.Canon number) type canons made h =
     let c = map_some canon_type (slice_get g.canons number) type h in
     record { address = number; function = HostFunction (canon_type c.0); at = refl; there = canons number c.0 c.1; of_type = c.2 }

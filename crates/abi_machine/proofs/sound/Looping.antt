@@ -225,5 +225,5 @@ pub loops_stay : LoopsStay
 unfolding beside in_order
 loops_stay g s w v labels alone o history h e =
     (step_known
-    (beside g s (in_order g s) ⊥ ⊥ Kept (λ apart. absurd apart) (λ apart u k. absurd apart) (λ c u may b belongs k. (histories_kept g s c u may k.0, loops_kept g s c u may b k)) (λ t u may k. k) (λ t u may k. removed_loops t u k))
-    w v labels (λ none. absurd none) (λ apart. absurd apart) alone.1 o.2 ((alone.0, o.0, o.1), (history, h)) e).0.1.1
+    (beside g s (in_order g s) ⊥ ⊥ ⊥ Kept (λ apart. absurd apart) (λ event. event) (λ apart u k. absurd apart) (λ c u may b belongs k. (histories_kept g s c u may k.0, loops_kept g s c u may b k)) (λ t u may k. k) (λ t u may k. removed_loops t u k))
+    w v labels (λ none. absurd none) (λ apart. absurd apart) (λ event. absurd event) alone.1 o.2 ((alone.0, o.0, o.1), (history, h)) e).0.1.1

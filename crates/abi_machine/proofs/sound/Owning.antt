@@ -40,7 +40,7 @@ first_is_own g apart = (
   record { before = []; after = g.cores; cores_are = refl; counted = refl; left = apart.planned },
 )
 
-promised : (g : Graph) (s : Script) (c : Control) (w : World) → Promises (Unit {0}) g s c w → IsControlOwn g c w
+promised : (g : Graph) (s : Script) (c : Control) (w : World) → Promises (Unit {0}) ⊥ g s c w → IsControlOwn g c w
 promised g s Free w h = tt
 promised g s (Chosen k) w h = tt
 promised g s (Instantiates n) w h = h tt
@@ -60,6 +60,6 @@ pub own_stays : OwnStays
 unfolding beside in_order
 own_stays g s w v labels apart alone o own says e =
     let k = step_known
-    (beside g s (in_order g s) ⊥ (Unit {0}) (IsOwnWorld g) (λ a. apart) (λ a u h. h) (λ c u may b belongs h. own_kept g s c u may (belongs tt) h) (λ t u may h. h) (λ t u may h. own_removed g t u h))
-    w v labels (λ none. absurd none) (λ a. says) alone.1 o.2 ((alone.0, o.0, o.1), own) e in
+    (beside g s (in_order g s) ⊥ (Unit {0}) ⊥ (IsOwnWorld g) (λ a. apart) (λ event. absurd event) (λ a u h. h) (λ c u may b belongs h. own_kept g s c u may (belongs tt) h) (λ t u may h. h) (λ t u may h. own_removed g t u h))
+    w v labels (λ none. absurd none) (λ a. says) (λ event. absurd event) alone.1 o.2 ((alone.0, o.0, o.1), own) e in
     (k.0.1, promised g s v.control v k.1)

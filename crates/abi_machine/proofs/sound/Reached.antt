@@ -20,10 +20,13 @@ use Rattle.abi_machine.proofs.sound.Holding.{first_holds_copies, copies_stay_hel
 use Rattle.abi_machine.proofs.sound.Looping.{first_has_loops, loops_stay}
 use Rattle.abi_machine.proofs.sound.SetWaiting.{first_has_sets, sets_stay_there}
 use Rattle.abi_machine.proofs.sound.Owning.{first_is_own, own_stays}
+use Rattle.abi_machine.proofs.sound.Picking.{first_is_picked, picked_stays}
+use Rattle.abi_machine.proofs.sound.Taking.{first_calls_have_tasks, calls_keep_tasks}
+use Rattle.abi_machine.proofs.sound.Coming.{first_has_events, events_stay}
 use Rattle.abi_machine.proofs.sound.nexts.Turning.{worlds_go_on}
 
-first_stands : (g : Graph) → IsApart g → IsStanding g (first_world g)
-first_stands g apart = record {
+first_stands : (g : Graph) (s : Script) → IsApart g → IsStanding g s (first_world g)
+first_stands g s apart = record {
   alone = first_runs_alone g;
   histories = first_has_histories g;
   ordered = first_ordered g;
@@ -36,9 +39,12 @@ first_stands g apart = record {
   sets = first_has_sets g;
   own = (first_is_own g apart).0;
   control_own = (first_is_own g apart).1;
+  picked = first_is_picked g s;
+  taken = first_calls_have_tasks g s;
+  events = first_has_events g;
 }
 
-standing_stays : (g : Graph) (s : Script) (w v : World) (labels : List Label) → IsApart g → IsStanding g w → next g s w ≡ Steps labels v → IsStanding g v
+standing_stays : (g : Graph) (s : Script) (w v : World) (labels : List Label) → IsApart g → IsStanding g s w → next g s w ≡ Steps labels v → IsStanding g s v
 standing_stays g s w v labels apart h e =
     let own = own_stays g s w v labels apart h.alone h.ordered h.own h.control_own e in
     record {
@@ -54,14 +60,17 @@ standing_stays g s w v labels apart h e =
       sets = sets_stay_there g s w v labels apart h.alone h.ordered h.histories h.own h.control_own h.sets e;
       own = own.0;
       control_own = own.1;
+      picked = picked_stays g s w v labels h.alone h.ordered e;
+      taken = calls_keep_tasks g s w v labels h.alone h.taken e;
+      events = events_stay g s w v labels apart h.alone h.ordered h.own h.control_own h.waits h.events e;
     }
 
-reached_from : (g : Graph) (s : Script) (steps : List (List Label)) (w v : World) → IsApart g → IsStanding g w → Reaches g s w steps v → IsStanding g v
-reached_from g s [] w v apart h r = subst (IsStanding g) (sym r) h
+reached_from : (g : Graph) (s : Script) (steps : List (List Label)) (w v : World) → IsApart g → IsStanding g s w → Reaches g s w steps v → IsStanding g s v
+reached_from g s [] w v apart h r = subst (IsStanding g s) (sym r) h
 reached_from g s (labels ∷ steps) w v apart h r = reached_from g s steps r.0 v apart (standing_stays g s w r.0 labels apart h r.1) r.2
 
 pub reached_stand : ReachedStand
-reached_stand g s steps w apart r = reached_from g s steps (first_world g) w apart (first_stands g apart) r
+reached_stand g s steps w apart r = reached_from g s steps (first_world g) w apart (first_stands g s apart) r
 
 pub reached_go_on : ReachedGoOn
 reached_go_on g s steps w apart r fed = worlds_go_on g s w (reached_stand g s steps w apart r) fed

@@ -202,6 +202,6 @@ pub sets_stay_there : SetsStay
 unfolding beside in_order
 sets_stay_there g s w v labels apart alone o history own says h e =
     (step_known
-    (beside g s (in_order g s) ⊥ (Unit {0}) (Kept g) (λ a. apart) (λ a u k. k.1)
+    (beside g s (in_order g s) ⊥ (Unit {0}) ⊥ (Kept g) (λ a. apart) (λ event. absurd event) (λ a u k. k.1)
     (λ c u may b belongs k. (histories_kept g s c u may k.0, own_kept g s c u may (belongs tt) k.1, sets_kept g s c u may b (belongs tt) k.0 k.2)) (λ t u may k. k) (λ t u may k. removed_sets g t u k))
-    w v labels (λ none. absurd none) (λ a. says) alone.1 o.2 ((alone.0, o.0, o.1), (history, own, h)) e).0.1.2
+    w v labels (λ none. absurd none) (λ a. says) (λ event. absurd event) alone.1 o.2 ((alone.0, o.0, o.1), (history, own, h)) e).0.1.2

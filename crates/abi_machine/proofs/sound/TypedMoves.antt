@@ -29,7 +29,6 @@ use Rattle.trace_show.specs.declared.label.Label.{Label}
 use Rattle.trace_show.specs.declared.label.Label.TheVariants as line
 use Rattle.trace_show.specs.declared.typed.TypedValue.{TypedValue}
 use Rattle.trace_show.specs.declared.trap.TrapName.{TrapName}
-use Rattle.trace_show.specs.declared.trap.TrapName.TheVariants as trap
 use Rattle.abi_machine.specs.declared.run_end.RunEnd.TheVariants.{Fuel}
 use Rattle.abi_machine.specs.Traps.{core_name, task_name}
 use Rattle.abi_machine.specs.Control.{HostedState, Going, AtCall, Nested, Behind, InLowering, BeforeLeaving, Control, Finishes, Free, Instantiates, Runs, Calls, Lowers, Quiet, Leaves, Doomed}
@@ -40,23 +39,23 @@ use Rattle.abi_machine.specs.Reading.{acting, func_of, kind_of, has_exited, is_i
 use Rattle.abi_machine.specs.Counting.{task_view}
 use Rattle.abi_machine.specs.Finding.{set_at}
 use Rattle.abi_machine.specs.Lifting.{Came, once_lifted}
-use Rattle.abi_machine.specs.Turn.{Turn, Steps, Ends, Stuck, silent, doomed, behind, given, unless_refused, unless, unless_fault, goes_on_with, charged}
+use Rattle.abi_machine.specs.Turn.{Turn, Steps, Ends, Stuck, silent, doomed, behind, given, unless_refused, unless_fault, goes_on_with, charged}
 use Rattle.abi_machine.specs.Returning.{finished, post_return, passed_on, passed_to, resolves_to, resolves, returning_turn, ending_turn}
 use Rattle.abi_machine.specs.Looping.{next_turn, looping_turn}
 use Rattle.abi_machine.specs.CoreSteps.{costs, func_ended, stack_ended, ended_over, moved, running_turn}
 use Rattle.abi_machine.specs.Nested.{hosted_move, hosted_next, nested_ended, hosted, nested_turn}
 use Rattle.abi_machine.specs.Next.{next_by}
 use Rattle.abi_machine.specs.sound.Changes.{IsFirst}
-use Rattle.abi_machine.specs.sound.Firsts.{FirstIs, TaskIs}
+use Rattle.abi_machine.specs.sound.Firsts.{FirstIs}
 use Rattle.abi_machine.specs.sound.Initial.{StartsNothing}
 use Rattle.abi_machine.specs.sound.Acting.{outline_of, outlines_of, RunsIn, IsRunning, OneActs, ActsBy}
 use Rattle.abi_machine.specs.sound.Owners.{HasCanons}
-use Rattle.abi_machine.specs.sound.MadeInstances.{WereMade, WereMadeSoFar}
-use Rattle.abi_machine.specs.sound.TypedStacks.{gives, IsWaiting, WaitBelow, TopIs, RunsTyped, WaitsTyped, CallsTyped, StandsTyped, StandTyped, HostedTyped, ActsTyped, HostsAreCanons, AreTyped, IsTyped, IsOfStack, nested_results, FirstTyped, MovesStayTyped, NestedMovesStayTyped, AnswersAreTyped, StayTypedLater}
+use Rattle.abi_machine.specs.sound.MadeInstances.{WereMade}
+use Rattle.abi_machine.specs.sound.TypedStacks.{gives, IsWaiting, WaitBelow, TopIs, RunsTyped, WaitsTyped, StandsTyped, StandTyped, HostedTyped, ActsTyped, HostsAreCanons, IsTyped, IsOfStack, nested_results, FirstTyped, MovesStayTyped, NestedMovesStayTyped, AnswersAreTyped, StayTypedLater}
 use Rattle.abi_machine.proofs.sound.Lists.{all_changed, all_as}
 use Rattle.abi_machine.proofs.sound.Found.{some_same, changed_there, acting_first, acting_is}
 use Rattle.abi_machine.proofs.sound.Acted.{one_task, first_at}
-use Rattle.abi_machine.proofs.sound.Outlines.{Is, outline_there, is_what}
+use Rattle.abi_machine.proofs.sound.Outlines.{outline_there, is_what}
 use Rattle.abi_machine.proofs.sound.acts.Keeping.{acts_at}
 use Rattle.abi_machine.proofs.sound.own.Moved.{IsOnward, MoveKeeps, next_keeps}
 use Rattle.abi_machine.proofs.sound.own.Belonging.{onward_canons}
@@ -128,7 +127,7 @@ stand_changed g s tasks t F task there runs h =
     (λ x e k. acting_stands g s x.state x.callee x (with_stacks F x) (subst (λ (y : Task). RunsIn y.state y.callee) (some_same (sym there ∙ e)) runs) k) h
 
 -- Task 0 has exited where it had.
-still_instantiated : (t : ℕ) (f : Task → Task) (tasks : List Task) → ((x : Task) → (f x).state ≡ x.state) → is_instantiated (changed_at t f tasks) ≡ true → is_instantiated tasks ≡ true
+pub still_instantiated : (t : ℕ) (f : Task → Task) (tasks : List Task) → ((x : Task) → (f x).state ≡ x.state) → is_instantiated (changed_at t f tasks) ≡ true → is_instantiated tasks ≡ true
 still_instantiated t f [] same e = e
 still_instantiated zero f (x ∷ tasks) same e = subst (λ (state : TaskState). has_exited state ≡ true) (same x) e
 still_instantiated (suc t) f (x ∷ tasks) same e = e
@@ -293,7 +292,7 @@ module _ (g : Graph) where
     below : WaitBelow w.store task.callee (drop 1 task.stacks)
 
   -- a change of the acting task's stacks
-  with_ground : (s : Store) (tasks : List Task) (t : ℕ) (F : List Stack → List Stack) (task : Task) → slice_get tasks t ≡ Some task → RunsIn task.state task.callee → Ground g s tasks
+  pub with_ground : (s : Store) (tasks : List Task) (t : ℕ) (F : List Stack → List Stack) (task : Task) → slice_get tasks t ≡ Some task → RunsIn task.state task.callee → Ground g s tasks
       → Ground g s (changed_at t (with_stacks F) tasks)
   with_ground s tasks t F task there runs h = record {
     store = h.store;

@@ -2,6 +2,7 @@ pub mod Handles
 pub mod Lifting
 pub mod Unawaited
 pub mod Picking
+pub mod Events
 pub mod Keeping
 pub mod Moving
 pub mod Waking

@@ -3,3 +3,4 @@ pub mod Imports
 pub mod Made
 pub mod Instantiating
 pub mod Going
+pub mod Starting

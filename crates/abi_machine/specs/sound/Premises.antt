@@ -1,6 +1,6 @@
 -- What holds where a change comes (Component Model, CanonicalABI.md, "Task State", "Subtask State", "Stream State" and "Future State"; Concurrency.md,
 -- "Cancellation"): beside what is said of each change, what the task is that it is of, what was told, and what is under way at an end.
-use Rattle.std.specs.Prelude.{◌≡◌, ◌<◌, ◌≤◌, ◌⊎◌, ℕ, true, false, List, [], length, Option, Some, None, IsSome}
+use Rattle.std.specs.Prelude.{◌≡◌, ◌<◌, ◌≤◌, ◌⊎◌, ◌+◌, ℕ, true, false, List, [], length, Option, Some, None, IsSome}
 use Rattle.std.specs.List.{slice_get}
 use Rattle.ca_types.specs.declared.types.ValType.{ValType}
 use Rattle.laid_types.specs.Handles.{held_borrow}
@@ -19,6 +19,7 @@ use Rattle.stream_ends.specs.Ends.{new_copy}
 use Rattle.comp_graph.specs.declared.graph.CanonFunc.{CanonFunc}
 use Rattle.comp_graph.specs.declared.graph.CanonFunc.TheVariants.{Lower, Builtin}
 use Rattle.comp_graph.specs.Graph.{Graph, Lifted, func_named, passed_value}
+use Rattle.script_reader.specs.declared.script.Item.{Item}
 use Rattle.script_reader.specs.Script.{Script}
 use Rattle.builtin_kinds.specs.declared.EndKind.{EndKind}
 use Rattle.builtin_kinds.specs.declared.EndKind.TheVariants.{Stream, Future}
@@ -28,6 +29,7 @@ use Rattle.abi_machine.specs.Canons.{inst_of_canon, canon_at}
 use Rattle.abi_machine.specs.Reading.{table_of, entry_at, sets_in, backpressure_of, func_of, kind_of, task_at, may_leave}
 use Rattle.abi_machine.specs.Counting.{lends_of, borrows_of, subtask_state, end_of}
 use Rattle.abi_machine.specs.Choosing.{picks_of}
+use Rattle.abi_machine.specs.Scheduling.{is_call, calls_taken}
 use Rattle.abi_machine.specs.replies.Pressure.{most_backpressure}
 use Rattle.abi_machine.specs.replies.Streams.{max_length}
 use Rattle.abi_machine.specs.sound.Changes.{Change, SpendsUnit, UsesPicks, TakesItem, AddsEntry, MakesSet, RemovesEntry, RemovesWaitable, JoinsSet, HasBackpressure, IsCalled, Calls, ComesBack, Acts, Begins, Cancels, Blocks, Exits, IsRemoved, Resolves, IsCancelled, IsTold, IsLent, MakesChannel, Offers, Transfers, DropsEnd, IsWaitable, Stands, IsLeft, IsAdded, IsFirst, IsGuest, HasFunc, FirstCancels, IsBlocked}
@@ -37,6 +39,7 @@ use Rattle.abi_machine.specs.sound.EndPlaces.{IsFreshEnd}
 use Rattle.abi_machine.specs.sound.Entering.{HasEntered}
 use Rattle.abi_machine.specs.sound.Entered.{NamesEntered}
 use Rattle.abi_machine.specs.sound.GraphFuncs.{IsOfGraph}
+use Rattle.abi_machine.specs.sound.Taken.{MadeTask}
 
 -- One that is to wait until it may enter is new, and any other one acts before it blocks. One that blocks in its loop has a callback.
 abbrev pub BlocksFrom : TaskState → Task → Type 0
@@ -64,6 +67,10 @@ abbrev pub MayBecome : Cancellation → Task → Type 0
 MayBecome NotAsked task = ⊥
 MayBecome Asked task = IsUnasked task
 MayBecome Delivered task = task.cancellation ≡ Asked
+
+-- A task that exits has resolved, where it runs a function: task 0 runs none.
+abbrev pub ExitsResolved : Task → Type 0
+ExitsResolved task = IsSome (func_of task.callee) → IsSome task.resolution
 
 -- A subtask that is new: nothing was told of it, and nothing is lent for it.
 abbrev pub IsNewSubtask : Subtask → Type 0
@@ -162,11 +169,15 @@ pub record IsCall (g : Graph) (w : World) (e : EndRef) (call : OpenCopy) : Type 
   pub quiet : (end_of w e).copy ≡ None
   pub not_done : (end_of w e).done ≡ false
 
+-- An item that is taken is there, and where it calls a function this call, which is the next one, made its task.
+abbrev pub IsTakeable : Script → World → Type 0
+IsTakeable s w = IsSome (slice_get s.items w.taken) × ((i : Item) → slice_get s.items w.taken ≡ Some i → is_call i ≡ true → MadeTask w.tasks (calls_taken s w + 1))
+
 -- Where a change comes: where it may come, and what else holds there.
 abbrev pub Comes : Graph → Script → Change → World → Type 0
 Comes g s SpendsUnit w = w.units < s.fuel
 Comes g s (UsesPicks picks) w = (count : ℕ) × (picks ≡ (drawn count (picks_of s w)).used)
-Comes g s TakesItem w = IsSome (slice_get s.items w.taken)
+Comes g s TakesItem w = IsTakeable s w
 Comes g s (AddsEntry i entry) w = (live_count (table_of w i) < most_live) × IsAdded w.tasks entry × IsFreshEnd w entry × NamesEntered w.tasks entry
 Comes g s (MakesSet i set) w = (live_count (table_of w i) < most_live) × (set ≡ length (sets_in (slice_get w.insts i)))
 Comes g s (RemovesEntry i index) w = Stands w i index (IsFree w i index)
@@ -182,7 +193,7 @@ Comes g s (Acts t) w = IsFirst t w.chain × IsLetIn w.tasks t
 Comes g s (Begins n) w = IsFirst 0 w.chain × TaskIs w.tasks 0 (λ task. task.callee ≡ Init)
 Comes g s (Cancels t callee number words) w = IsFirst t w.chain × (may_leave w ≡ true) × TaskIs w.tasks t IsActing × IsGuest w.tasks callee
 Comes g s (Blocks t state) w = IsFirst t w.chain × IsBlocked state × ((may_leave w ≡ true) ⊎ HasFunc w.tasks t) × TaskIs w.tasks t (BlocksFrom state)
-Comes g s (Exits t) w = IsFirst t w.chain
+Comes g s (Exits t) w = IsFirst t w.chain × TaskIs w.tasks t ExitsResolved
 Comes g s (IsRemoved t) w = HasFunc w.tasks t × TaskIs w.tasks t IsRemovable × (borrows_of w t ≡ 0)
 Comes g s (Resolves t resolution) w = TaskIs w.tasks t (MayResolve resolution) × (borrows_of w t ≡ 0)
 Comes g s (IsCancelled t cancellation) w = TaskIs w.tasks t (MayBecome cancellation)

@@ -79,7 +79,7 @@ module _ {g : Graph} {s : Script} (ord : Order g s) where
   unfolding gone
   gone_keeps t w h o = (goes ord Resumes w h, o)
 
-  alternative_keeps : (a : Alternative) (w : World) → MayBeDone s w a → w.chain ≡ [] → ord.Holds w → Keeps ord (alternative_turn g s a w)
+  alternative_keeps : (a : Alternative) (w : World) → MayBeDone g s w a → w.chain ≡ [] → ord.Holds w → Keeps ord (alternative_turn g s a w)
   unfolding alternative_turn
   alternative_keeps (Takes i) w there idle h =
       charged_keeps ord true w (λ v. item_turn g s i v) h (λ units j. item_keeps i (record w { units = units }) idle (ord.stays TakesItem (record w { units = units }) (subst (λ (o : Option Item). IsSome o) (sym there) refl) tt j))
@@ -87,7 +87,7 @@ module _ {g : Graph} {s : Script} (ord : Order g s) where
       charged_keeps ord true w (λ v. gone t (chained t v)) h (λ units j. gone_keeps t (after (ComesBack t) (record w { units = units }))
       (ord.comes t (record w { units = units }) there.0 there.1 there.2.0 there.2.1 idle j) (t, (refl, (outline_of there.0, outline_there w.tasks t there.0 there.1, there.2.1))))
 
-  one_keeps : (all : List Alternative) (w : World) → AllByRecursion (MayBeDone s w) all → w.chain ≡ [] → ord.Holds w → Keeps ord (one_of g s all w)
+  one_keeps : (all : List Alternative) (w : World) → AllByRecursion (MayBeDone g s w) all → w.chain ≡ [] → ord.Holds w → Keeps ord (one_of g s all w)
   unfolding one_of
   one_keeps [] w are idle h = end_untrapped (unfinished w)
   one_keeps (a ∷ []) w are idle h = alternative_keeps a w are.0 idle h
@@ -99,7 +99,7 @@ module _ {g : Graph} {s : Script} (ord : Order g s) where
 
   chosen_turn_keeps : (k : ℕ) (w : World) → w.chain ≡ [] → ord.Holds w → Keeps ord (chosen_turn g s k w)
   unfolding chosen_turn
-  chosen_turn_keeps k w idle h = given_keeps ord (slice_get (alternatives g s w) k) _ (λ a e. alternative_keeps a w (all_at (MayBeDone s w) (alternatives g s w) k a (all_may g s w) e) idle h)
+  chosen_turn_keeps k w idle h = given_keeps ord (slice_get (alternatives g s w) k) _ (λ a e. alternative_keeps a w (all_at (MayBeDone g s w) (alternatives g s w) k a (all_may g s w) e) idle h)
 
   going_keeps : (w : World) → ord.Holds w → OneActs WasBlocked (outlines_of w.tasks) w.chain → Keeps ord (going_turn s w)
   unfolding going_turn

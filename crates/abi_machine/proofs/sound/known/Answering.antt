@@ -82,6 +82,7 @@ use Rattle.abi_machine.proofs.sound.own.Belonging.{ref_starts, canon_apart, cano
 use Rattle.abi_machine.proofs.sound.own.Tasks.{calls_here, IsOfFunc}
 use Rattle.abi_machine.proofs.sound.known.Handles.{IsHandle, handle_is_left, handle_unwaited, dropped_found, set_none_wait, subtask_there}
 use Rattle.abi_machine.proofs.sound.known.Unawaited.{standing_unawaited}
+use Rattle.abi_machine.proofs.sound.known.Events.{first_ready, instance_is, member_comes}
 use Rattle.abi_machine.proofs.sound.known.Keeping.{Facts, BlocksAs, CallsItsOwn, Walk, Keeps, Held, still, given_keeps, behind_keeps, either_keeps, goes, refused_keeps, unless_keeps, fault_keeps, runs_keeps, on_keeps, blocked_keeps, entry_keeps, acting_stack_keeps, removes, waits, lends}
 use Rattle.abi_machine.proofs.sound.known.Moving.{resolves_keeps}
 use Rattle.abi_machine.proofs.sound.known.Waking.{call_keeps, with_keeps, none_keeps, cancel_keeps, yielded_keeps, acting_cancelled_keeps}
@@ -166,24 +167,27 @@ module _ {g : Graph} {s : Script} (walk : Walk g s) where
   none_ready_keeps t f wait_op.Wait number words w free there calls mine h =
       blocked_keeps walk t (InBuiltin number words (ForSet (slice_index words 0))) (reason.Wait (slice_index words 0)) w h.1.0 tt (inl free) there calls (as_is (IsActing true) (WaitsWith true) t w (acting_waits true) h.1) h.0
 
-  by_ready_keeps : (t : ℕ) (f : Lifted) (op : WaitOp) (number : ℕ) (words : List ℕ) (set : ℕ) (members : List ℕ) (w : World) → may_leave w ≡ true → BlocksAs g t (InBuiltin number words (ForSet (slice_index words 0))) w → (walk.Apart → CallsItsOwn g number t w) → Is (IsOfFunc f) t w → Held walk true t w → Keeps walk (by_ready g t f op number words set members w)
+  by_ready_keeps : (t : ℕ) (f : Lifted) (op : WaitOp) (number : ℕ) (words : List ℕ) (set : ℕ) (members : List ℕ) (w : World) → (walk.Event → members ≡ ready w f.instance set) → may_leave w ≡ true → BlocksAs g t (InBuiltin number words (ForSet (slice_index words 0))) w → (walk.Apart → CallsItsOwn g number t w) → Is (IsOfFunc f) t w → Held walk true t w → Keeps walk (by_ready g t f op number words set members w)
   unfolding by_ready
-  by_ready_keeps t f op number words set [] w free there calls mine h = none_ready_keeps t f op number words w free there calls mine h
-  by_ready_keeps t f op number words set (index ∷ members) w free there calls mine h = (goes walk _ w h.0, tt, (t, h.1))
+  by_ready_keeps t f op number words set [] w same free there calls mine h = none_ready_keeps t f op number words w free there calls mine h
+  by_ready_keeps t f op number words set (index ∷ members) w same free there calls mine h =
+      (goes walk _ w h.0, (λ event. member_comes g w t f set (InWait number words) None w.picks mine (first_ready w f.instance set index members (same event)) tt), (t, h.1))
 
-  event_keeps : (t : ℕ) (task : Task) (f : Lifted) (i : ℕ) (op : WaitOp) (number : ℕ) (words : List ℕ) (set : ℕ) (w : World) → may_leave w ≡ true → BlocksAs g t (InBuiltin number words (ForSet (slice_index words 0))) w → (walk.Apart → CallsItsOwn g number t w) → Is (IsOfFunc f) t w → Held walk true t w → Keeps walk (event_turn g t task f i op number words set w)
+  event_keeps : (t : ℕ) (task : Task) (f : Lifted) (i : ℕ) (op : WaitOp) (number : ℕ) (words : List ℕ) (set : ℕ) (w : World) → (walk.Event → i ≡ f.instance) → may_leave w ≡ true → BlocksAs g t (InBuiltin number words (ForSet (slice_index words 0))) w → (walk.Apart → CallsItsOwn g number t w) → Is (IsOfFunc f) t w → Held walk true t w → Keeps walk (event_turn g t task f i op number words set w)
   unfolding event_turn
-  event_keeps t task f i op number words set w free there calls mine h =
+  event_keeps t task f i op number words set w here free there calls mine h =
       let answers : Turn = if is_cancelled g task number then received_cancel g t f (InWait number words) w else by_ready g t f op number words set (ready w i set) w in
       let outside : Bool = not (nat_le (slice_index words 1 + event_size) (length (bytes_of w.store (memory_of w.store (options_at g number))))) in
       unless_keeps walk t (not (nat_eq (slice_index words 1 % event_align) 0)) trap.Misaligned w (unless t outside trap.Bounds w answers) (h.0, h.1.0) (λ j.
       unless_keeps walk t outside trap.Bounds w answers (h.0, h.1.0) (λ k.
-      either_keeps walk (is_cancelled g task number) (received_cancel g t f (InWait number words) w) (by_ready g t f op number words set (ready w i set) w) (λ e. cancel_keeps walk t f (InWait number words) w mine h) (λ e. by_ready_keeps t f op number words set (ready w i set) w free there calls mine h)))
+      either_keeps walk (is_cancelled g task number) (received_cancel g t f (InWait number words) w) (by_ready g t f op number words set (ready w i set) w) (λ e. cancel_keeps walk t f (InWait number words) w mine h) (λ e. by_ready_keeps t f op number words set (ready w i set) w (λ event. ap (λ (n : ℕ). ready w n set) (here event)) free there calls mine h)))
 
   wait_turn_keeps : (t : ℕ) (task : Task) (i : ℕ) (op : WaitOp) (number : ℕ) (words : List ℕ) (w : World) → may_leave w ≡ true → owner_of_canon g number ≡ Some i → (walk.Apart → CallsItsOwn g number t w) → Is (λ o. o ≡ outline_of task) t w → Held walk true t w → Keeps walk (wait_turn g t task i op number words w)
   unfolding wait_turn
   wait_turn_keeps t task i op number words w free here calls is h =
-      refused_keeps walk t (set_at w i (slice_index words 0)) w _ (h.0, h.1.0) (λ set e. given_keeps walk (func_of task.callee) _ (λ f j. event_keeps t task f i op number words set w free (i, here, (set, set_stands w i (slice_index words 0) set e)) calls (as_is (λ (o : Outline). o ≡ outline_of task) (IsOfFunc f) t w (λ o k. ap (λ (x : Outline). func_of x.callee) k ∙ j) is) h))
+      refused_keeps walk t (set_at w i (slice_index words 0)) w _ (h.0, h.1.0) (λ set e. given_keeps walk (func_of task.callee) _ (λ f j.
+      let mine : Is (IsOfFunc f) t w = as_is (λ (o : Outline). o ≡ outline_of task) (IsOfFunc f) t w (λ o k. ap (λ (x : Outline). func_of x.callee) k ∙ j) is in
+      event_keeps t task f i op number words set w (λ event. instance_is g w t number i f (calls (walk.events event)) mine here) free (i, here, (set, set_stands w i (slice_index words 0) set e)) calls mine h))
 
   set_drop_keeps : (t i index : ℕ) (w : World) → Held walk true t w → Keeps walk (set_drop_turn t i index w)
   unfolding set_drop_turn

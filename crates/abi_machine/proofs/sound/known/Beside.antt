@@ -75,14 +75,16 @@ was_known F g (Concludes e) w b = tt
 was_known F g (DropsEnd e) w b = tt
 
 -- It is kept, whatever of the order is.
-module _ (g : Graph) (s : Script) (o : Order g s) (F A : Type 0) (K : World → Type 0) (graph : A → IsApart g) (own : A → (w : World) → K w → IsOwnWorld g w)
+module _ (g : Graph) (s : Script) (o : Order g s) (F A E : Type 0) (K : World → Type 0) (graph : A → IsApart g) (events : E → A) (own : A → (w : World) → K w → IsOwnWorld g w)
     (kept : (c : Change) (w : World) → MayCome g s c w → Besides F g c w → (A → Owns g c w) → K w → K (after c w))
     (comes : (t : ℕ) (w : World) → MayCome g s (ComesBack t) w → K w → K (after (ComesBack t) w)) (removed : (t : ℕ) (w : World) → MayCome g s (IsRemoved t) w → K w → K (after (IsRemoved t) w)) where
   unfoldable pub beside : Walk g s
   beside = record {
     Given = F;
     Apart = A;
+    Event = E;
     graph = graph;
+    events = events;
     own = λ apart w h. own apart w h.1;
     Holds = λ w. o.Holds w × K w;
     alone = λ w h. o.alone w h.0;

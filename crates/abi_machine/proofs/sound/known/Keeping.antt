@@ -2,7 +2,7 @@
 -- lifted.
 use Rattle.std.proofs.Common.{◌≡◌, ◌<◌, ◌⊎◌, inr, ℕ, ◌+◌, Bool, true, false, nat_lt, List, [], ◌∷◌, length, drop, refl, sym, subst, Option, Some, None, Result, Ok, Err, if◌then◌else◌}
 use Rattle.std.specs.Prelude.{IsSome}
-use Rattle.std.specs.List.{slice_get, AllByRecursion}
+use Rattle.std.specs.List.{slice_get}
 use Rattle.wasm_store.specs.Stack.{Stack}
 use Rattle.choices.specs.Drawing.{drawn, drawn_answer}
 use Rattle.handle_table.specs.History.{live_count, most_live, next_index}
@@ -15,7 +15,7 @@ use Rattle.trace_show.specs.declared.label.BlockReason.{BlockReason}
 use Rattle.trace_show.specs.declared.trap.TrapName.{TrapName}
 use Rattle.trace_show.specs.declared.trap.TrapName.TheVariants as trap
 use Rattle.abi_machine.specs.declared.run_end.RunEnd.TheVariants.{Fuel}
-use Rattle.abi_machine.specs.Control.{Control, Chosen, Instantiates, Runs, Lowers, Quiet, Doomed}
+use Rattle.abi_machine.specs.Control.{Control, Free, Chosen, Instantiates, Runs, Lowers, Quiet, Goes as GoesOn, Resumes, Delivers, Doomed}
 use Rattle.abi_machine.specs.Control as control
 use Rattle.abi_machine.specs.World.{Entry, OfSubtask, OfSet, ForSet, ForCall, TaskState, Acting, AfterCall, Begins, WaitsToEnter, InLoop, InBuiltin, Task, World}
 use Rattle.abi_machine.specs.Edits.{with_control, entry_added, entry_removed, left_set, unit_spent, in_state, control_behind, answered_stacks, lent}
@@ -33,14 +33,16 @@ use Rattle.abi_machine.specs.sound.Called.{HaveCalled}
 use Rattle.abi_machine.specs.sound.Loops.{HasSetAt, LoopsIn}
 use Rattle.abi_machine.specs.sound.Subtasks.{StandsNowhere, CallIs, IsAsync, IsUnawaited, AreSubtasks}
 use Rattle.abi_machine.specs.sound.Picked.{IsPicked}
-use Rattle.abi_machine.specs.sound.Owners.{owner_of_canon, IsApart, HasCanons, AreOwned, IsMadeUpTo, IsLiftedApart, IsOwnStack, CallsOwn, IsTaskOwn, IsControlOwn, IsOwnWorld}
+use Rattle.abi_machine.specs.sound.Events.{EventComes}
+use Rattle.abi_machine.specs.sound.Guests.{WaitAs}
+use Rattle.abi_machine.specs.sound.Owners.{owner_of_canon, IsApart, IsMadeUpTo, IsLiftedApart, IsOwnStack, CallsOwn, IsControlOwn, IsOwnWorld}
 use Rattle.abi_machine.proofs.sound.Lifts.{Leaves as LeavesWith}
 use Rattle.abi_machine.proofs.sound.Alone.{Alone}
 use Rattle.abi_machine.proofs.sound.Numbered.{changed_twice}
 use Rattle.abi_machine.proofs.sound.Outlines.{Is, as_is, stacks_first, answered_some, MayHaveStacks, Runs as InTask, runs_may, acting_runs, acting_running}
 use Rattle.abi_machine.proofs.sound.Standing.{IsSteady, steady}
 use Rattle.abi_machine.proofs.sound.acts.Keeping.{IsIn, left_acts, IsUntrapped, waits_stacked, less}
-use Rattle.abi_machine.proofs.sound.own.Tasks.{after_calls_own}
+use Rattle.abi_machine.proofs.sound.own.Tasks.{IsOwnStore, after_calls_own}
 use Rattle.abi_machine.proofs.sound.known.Handles.{IsHandle, handle_is_left, handle_unwaited}
 
 -- What else is known where a change comes. A set that is removed is waited on by no task; and where what held at the start of the turn is given, a
@@ -87,7 +89,7 @@ BlocksOwn g t (InBuiltin number words wait) w = CallsItsOwn g number t w
 BlocksOwn g t state w = Unit {0}
 
 abbrev pub Owns : Graph → Change → World → Type 0
-Owns g (HasStore store) w = HasCanons g store × AreOwned g store × AllByRecursion (IsTaskOwn g (length store.instances)) w.tasks
+Owns g (HasStore store) w = IsOwnStore g w store
 Owns g (HasNewStack t k) w = HasOwnStack g t k w
 Owns g (HasStack t k) w = HasOwnStack g t k w
 Owns g (IsCalled callee call values) w = IsLiftedApart g (func_of callee)
@@ -97,30 +99,40 @@ Owns g (Blocks t state) w = BlocksOwn g t state w
 Owns g (Begins n) w = IsMadeUpTo g (length w.store.instances) n
 Owns g change w = Unit {0}
 
--- What control says, where it says more than of the acting task: what was picked is there, and where the graph is apart what comes is its own.
-abbrev pub Promises : Type 0 → Graph → Script → Control → World → Type 0
-Promises A g s (Chosen k) w = IsPicked g s (Chosen k) w
-Promises A g s (Instantiates n) w = A → IsControlOwn g (Instantiates n) w
-Promises A g s (control.Calls number words) w = A → IsControlOwn g (control.Calls number words) w
-Promises A g s (Lowers l plan) w = A → IsControlOwn g (Lowers l plan) w
-Promises A g s (Quiet n b) w = A → IsControlOwn g (Quiet n b) w
-Promises A g s control w = Unit {0}
+-- What control says, where it says more than of the acting task: what was picked is there; where the graph is apart what comes is its own; and where
+-- what control said before is given, an event comes.
+abbrev pub Promises : Type 0 → Type 0 → Graph → Script → Control → World → Type 0
+Promises A E g s (Chosen k) w = IsPicked g s (Chosen k) w
+Promises A E g s (Instantiates n) w = A → IsControlOwn g (Instantiates n) w
+Promises A E g s (control.Calls number words) w = A → IsControlOwn g (control.Calls number words) w
+Promises A E g s (Lowers l plan) w = A → IsControlOwn g (Lowers l plan) w
+Promises A E g s (Quiet n b) w = A → IsControlOwn g (Quiet n b) w
+Promises A E g s GoesOn w = E → EventComes g GoesOn (with_control Free w)
+Promises A E g s Resumes w = E → EventComes g Resumes (with_control Free w)
+Promises A E g s (Delivers set receiver pick) w = E → EventComes g (Delivers set receiver pick) (with_control Free w)
+Promises A E g s control w = Unit {0}
 
 -- what is known of the start of a turn, of tasks that wait for others and of subtasks
 pub record Facts (g : Graph) (w : World) : Type 0 where
   pub called : HaveCalled w.tasks
   pub subtasks : AreSubtasks g w.tasks w.insts
 
+-- and of what control says of events, and of tasks in their loop
+abbrev pub Comings : Graph → Control → World → Type 0
+Comings g c w = EventComes g c w × WaitAs w.tasks
+
 -- What every change keeps beside the order of tasks. A task that comes back, and one that is removed, was blocked: where no task runs, and where the
 -- acting task cancels it.
 pub record Walk (g : Graph) (s : Script) : Type 1 where
   pub Given : Type 0
   pub Apart : Type 0
+  pub Event : Type 0
   pub Holds : World → Type 0
   pub alone : (w : World) → Holds w → Alone w
   pub chained : (w : World) → Holds w → IsChained w
   pub stacked : (w : World) → Holds w → HaveStacks (outlines_of w.tasks)
   pub graph : Apart → IsApart g
+  pub events : Event → Apart
   pub own : Apart → (w : World) → Holds w → IsOwnWorld g w
   pub stays : (c : Change) (w : World) → MayCome g s c w → Besides Given g c w → (Apart → Owns g c w) → Holds w → Holds (after c w)
   pub comes : (t : ℕ) (w : World) (task : Task) → slice_get w.tasks t ≡ Some task → IsSome (func_of task.callee) → IsBlocked task.state → w.chain ≡ [] → Holds w → Holds (after (ComesBack t) w)
@@ -131,14 +143,14 @@ pub record Walk (g : Graph) (s : Script) : Type 1 where
       → task.state ≡ WaitsToEnter → (Given → IsUnawaited w.tasks callee) → (Apart → CallsItsOwn g number t w) → Holds w → Holds (after (IsRemoved callee) (after (Cancels t callee number words) w))
 
 -- no choice
-pub behind_promised : (A : Type 0) (g : Graph) (s : Script) (chain : List ℕ) (w : World) → Promises A g s (control_behind chain) w
-behind_promised A g s [] w = tt
-behind_promised A g s (t ∷ below) w = tt
+pub behind_promised : (A E : Type 0) (g : Graph) (s : Script) (chain : List ℕ) (w : World) → Promises A E g s (control_behind chain) w
+behind_promised A E g s [] w = tt
+behind_promised A E g s (t ∷ below) w = tt
 
 module _ {g : Graph} {s : Script} (walk : Walk g s) where
   -- a turn whose step leaves it so
   abbrev pub Keeps : Turn → Type 0
-  Keeps (Steps labels v) = walk.Holds v × Promises walk.Apart g s v.control v × ActsBy v.control (outlines_of v.tasks) v.chain
+  Keeps (Steps labels v) = walk.Holds v × Promises walk.Apart walk.Event g s v.control v × ActsBy v.control (outlines_of v.tasks) v.chain
   Keeps (Ends end) = IsUntrapped end
   Keeps Stuck = Unit {0}
 
@@ -187,7 +199,7 @@ module _ {g : Graph} {s : Script} (walk : Walk g s) where
       either_keeps (nat_lt w.units s.fuel) (f (unit_spent w)) (Ends Fuel) (λ e. keeps (w.units + 1) (walk.stays SpendsUnit w (less w.units s.fuel e) tt (λ apart. tt) h)) (λ e. tt)
 
   pub chosen_keeps : (count : ℕ) (c : ℕ → Control) (w : World) → ((k : ℕ) → ActsBy (c k) (outlines_of w.tasks) w.chain)
-      → Promises walk.Apart g s (c (drawn_answer count (picks_of s w))) (with_control (c (drawn_answer count (picks_of s w))) (after (UsesPicks (drawn count (picks_of s w)).used) w)) → walk.Holds w → Keeps (chosen s count c w)
+      → Promises walk.Apart walk.Event g s (c (drawn_answer count (picks_of s w))) (with_control (c (drawn_answer count (picks_of s w))) (after (UsesPicks (drawn count (picks_of s w)).used) w)) → walk.Holds w → Keeps (chosen s count c w)
   unfolding chosen
   chosen_keeps count c w says picked h = (
     goes (c (drawn_answer count (picks_of s w))) (after (UsesPicks (drawn count (picks_of s w)).used) w) (walk.stays (UsesPicks (drawn count (picks_of s w)).used) w (count, refl) tt (λ apart. tt) h),
@@ -219,7 +231,7 @@ module _ {g : Graph} {s : Script} (walk : Walk g s) where
 
   pub blocked_keeps : (t : ℕ) (state : TaskState) (reason : BlockReason) (w : World) → IsFirst t w.chain → IsBlocked state → (may_leave w ≡ true) ⊎ HasFunc w.tasks t → BlocksAs g t state w → (walk.Apart → BlocksOwn g t state w) → Is (StandsBy state) t w → walk.Holds w → Keeps (blocked t state reason w)
   blocked_keeps t state reason w first is may known own stacks h =
-      (goes (control_behind (drop 1 w.chain)) (after (Blocks t state) w) (walk.stays (Blocks t state) w (first, is, may) (known, stacks) own h), behind_promised walk.Apart g s (drop 1 w.chain) (with_control (control_behind (drop 1 w.chain)) (after (Blocks t state) w)), left_acts w t state first (walk.chained w h))
+      (goes (control_behind (drop 1 w.chain)) (after (Blocks t state) w) (walk.stays (Blocks t state) w (first, is, may) (known, stacks) own h), behind_promised walk.Apart walk.Event g s (drop 1 w.chain) (with_control (control_behind (drop 1 w.chain)) (after (Blocks t state) w)), left_acts w t state first (walk.chained w h))
 
   -- one that waits for a task that it called
   pub waited_keeps : (t callee number : ℕ) (words : List ℕ) (reason : BlockReason) (w : World) → Is (IsIn (AfterCall callee number words)) t w → (options_at g number).is_async ≡ false → HasFunc w.tasks t → walk.Holds w
@@ -227,9 +239,9 @@ module _ {g : Graph} {s : Script} (walk : Walk g s) where
   waited_keeps t callee number words reason w a sync runs h =
       let state : TaskState = InBuiltin number words (ForCall callee) in
       let behind : Control = control_behind (drop 1 w.chain) in
-      subst (λ (all : List Task). walk.Holds (let v : World = record w { tasks = all; chain = drop 1 w.chain; control = behind } in v) × Promises walk.Apart g s behind (let v : World = record w { tasks = all; chain = drop 1 w.chain; control = behind } in v) × ActsBy behind (outlines_of all) (drop 1 w.chain))
+      subst (λ (all : List Task). walk.Holds (let v : World = record w { tasks = all; chain = drop 1 w.chain; control = behind } in v) × Promises walk.Apart walk.Event g s behind (let v : World = record w { tasks = all; chain = drop 1 w.chain; control = behind } in v) × ActsBy behind (outlines_of all) (drop 1 w.chain))
       (sym (changed_twice t (λ task. record task { state = Acting }) (λ task. record task { state = state }) w.tasks))
-      (goes behind (after (Blocks t state) w) (walk.stays (Blocks t state) w (a.0, tt, inr runs) ((a, sync), waits_stacked w t callee number words a (walk.stacked w h)) (λ apart. after_calls_own g w t callee number words (walk.own apart w h) a) h), behind_promised walk.Apart g s (drop 1 w.chain) (with_control behind (after (Blocks t state) w)), left_acts w t state a.0 (walk.chained w h))
+      (goes behind (after (Blocks t state) w) (walk.stays (Blocks t state) w (a.0, tt, inr runs) ((a, sync), waits_stacked w t callee number words a (walk.stacked w h)) (λ apart. after_calls_own g w t callee number words (walk.own apart w h) a) h), behind_promised walk.Apart walk.Event g s (drop 1 w.chain) (with_control behind (after (Blocks t state) w)), left_acts w t state a.0 (walk.chained w h))
 
   pub entry_keeps : (t i : ℕ) (entry : Entry) (w : World) (more : ℕ → World → Turn) → Leads t w
       → (live_count (table_of w i) < most_live → Keeps (more (next_index (table_of w i)) (entry_added i entry w))) → Keeps (with_entry t i entry w more)

@@ -114,7 +114,7 @@ module _ {g : Graph} {s : Script} (walk : Walk g s) where
       given_keeps walk (acting w) _ (λ a e. (
         goes walk (control_behind (drop 1 w.chain)) (after (Exits a.0) w)
             (walk.stays (Exits a.0) w (acting_first w a e) (as_is (IsActing false) (λ x. HasStacks false x.stacks) a.0 w (λ x k. k.2) (acts_at (IsActing false) w a e o)) (λ apart. tt) h),
-        behind_promised walk.Apart g s (drop 1 w.chain) (with_control (control_behind (drop 1 w.chain)) (after (Exits a.0) w)),
+        behind_promised walk.Apart walk.Event g s (drop 1 w.chain) (with_control (control_behind (drop 1 w.chain)) (after (Exits a.0) w)),
         left_acts w a.0 Exited (acting_first w a e) (walk.chained w h),
       ))
 

@@ -1,4 +1,5 @@
--- What may be done does not depend on the picks that are used, nor on what comes next; so the alternative that is picked is there.
+-- What may be done, and which members are ready, depends neither on the units, picks and items that are used, nor on the chain and on what comes next;
+-- so the alternative that is picked is there.
 use Rattle.std.proofs.Common.{◌≡◌, ◌<◌, ℕ, zero, suc, ◌%◌, Bool, true, false, not, ◌&&◌, ◌||◌, List, [], ◌∷◌, length, map, filter, refl, sym, ap, ◌∙◌, subst, arith, Option, Some, None, Result, Ok, Err, if◌then◌else◌}
 use Rattle.std.proofs.lemmas.Nat.{mod_below}
 use Rattle.std.specs.Prelude.{IsSome, slice_index}
@@ -27,15 +28,15 @@ use Rattle.abi_machine.specs.Gate.{is_entry_free}
 use Rattle.abi_machine.specs.Finding.{set_number, found_end}
 use Rattle.abi_machine.specs.Scheduling.{is_some_ready, wait_is_over, loop_is_over, is_able_in, is_able, able, Alternative, GoesOn, item_first, alternatives}
 
-filter_same : {A : Type 0} (p q : A → Bool) (xs : List A) → ((x : A) → p x ≡ q x) → filter p xs ≡ filter q xs
+pub filter_same : {A : Type 0} (p q : A → Bool) (xs : List A) → ((x : A) → p x ≡ q x) → filter p xs ≡ filter q xs
 filter_same p q [] same = refl
 filter_same p q (x ∷ xs) same =
     ap (λ (b : Bool). if b then x ∷ filter p xs else filter p xs) (same x) ∙ ap (λ (l : List _). if q x then x ∷ l else l) (filter_same p q xs same)
 
--- The same world, but for the picks that are used and what comes next.
-module _ (w : World) (picks : ℕ) (control : Control) where
-  abbrev later : World
-  later = record w { picks = picks; control = control }
+-- The same world, but for the chain, what comes next, and how many units, picks and items are used.
+module _ (w : World) (chain : List ℕ) (control : Control) (units picks taken : ℕ) where
+  abbrev pub later : World
+  later = record w { chain = chain; control = control; units = units; picks = picks; taken = taken }
 
   channels_same : (kind : EndKind) → channels kind later ≡ channels kind w
   channels_same Stream = refl
@@ -55,7 +56,7 @@ module _ (w : World) (picks : ℕ) (control : Control) where
   news_same : (i index : ℕ) → has_news later i index ≡ has_news w i index
   news_same i index = ap (λ (b : Bool). b && not (is_waited_for w i index)) (event_same (entry_at w i index))
 
-  ready_same : (i set : ℕ) → ready later i set ≡ ready w i set
+  pub ready_same : (i set : ℕ) → ready later i set ≡ ready w i set
   ready_same i set =
       ap (λ (l : List ℕ). ready_of l (set_view (members_of w i set)))
       (filter_same (has_news later i) (has_news w i) (range_with_len 1 (greatest (table_of w i))) (λ index. news_same i index))
@@ -64,7 +65,7 @@ module _ (w : World) (picks : ℕ) (control : Control) where
   some_ready i None = refl
   some_ready i (Some set) = ap (λ (l : List ℕ). not (is_none l)) (ready_same i set)
 
-  some_ready_same : (i index : ℕ) → is_some_ready later i index ≡ is_some_ready w i index
+  pub some_ready_same : (i index : ℕ) → is_some_ready later i index ≡ is_some_ready w i index
   some_ready_same i index = some_ready i (set_number w i index)
 
   copy_over : (o : Option EndRef) → passes (λ e. is_pending (end_of later e)) o ≡ passes (λ e. is_pending (end_of w e)) o
@@ -102,13 +103,13 @@ module _ (w : World) (picks : ℕ) (control : Control) where
   able_by g task None = refl
   able_by g task (Some f) = able_in_same g f.instance task task.state
 
-  able_same : (g : Graph) → able g later ≡ able g w
+  pub able_same : (g : Graph) → able g later ≡ able g w
   able_same g =
       ap (λ (l : List (ℕ × Task)). map (λ (x : ℕ × Task). x.0) l)
       (filter_same (λ (x : ℕ × Task). is_able g later x.1) (λ (x : ℕ × Task). is_able g w x.1) (with_numbers 0 w.tasks) (λ x. able_by g x.1 (func_of x.1.callee)))
 
-  pub alternatives_same : (g : Graph) (s : Script) → alternatives g s later ≡ alternatives g s w
-  alternatives_same g s = ap (λ (l : List ℕ). item_first (slice_get s.items w.taken) (map GoesOn l)) (able_same g)
+pub alternatives_same : (w : World) (picks : ℕ) (control : Control) (g : Graph) (s : Script) → alternatives g s (record w { picks = picks; control = control }) ≡ alternatives g s w
+alternatives_same w picks control g s = ap (λ (l : List ℕ). item_first (slice_get s.items w.taken) (map GoesOn l)) (able_same w w.chain control w.units picks w.taken g)
 
 -- The answer of a choice is the number of an alternative.
 below_if : (b : Bool) (m count : ℕ) → 0 < count → (if b then m % count else 0) < count
@@ -123,9 +124,12 @@ there_below [] n few = absurd (omega (arith, few))
 there_below (x ∷ xs) zero few = refl
 there_below (x ∷ xs) (suc n) few = there_below xs n (omega (arith, few))
 
+pub answer_there : {A : Type 0} (first : A) (others : List A) (d : Drawn) → IsSome (slice_get (first ∷ others) (drawn_answer (length (first ∷ others)) d))
+answer_there first others d =
+    let some : 0 < length (first ∷ others) = omega arith in
+    there_below (first ∷ others) (drawn_answer (length (first ∷ others)) d) (answer_below (length (first ∷ others)) d some)
+
 pub picked_there : (g : Graph) (s : Script) (w : World) (picks : ℕ) (control : Control) (first : Alternative) (others : List Alternative) (d : Drawn) → alternatives g s w ≡ first ∷ others
     → IsSome (slice_get (alternatives g s (record w { picks = picks; control = control })) (drawn_answer (length (first ∷ others)) d))
 picked_there g s w picks control first others d are =
-    let some : 0 < length (first ∷ others) = omega arith in
-    subst (λ (all : List Alternative). IsSome (slice_get all (drawn_answer (length (first ∷ others)) d))) (sym (alternatives_same w picks control g s ∙ are))
-    (there_below (first ∷ others) (drawn_answer (length (first ∷ others)) d) (answer_below (length (first ∷ others)) d some))
+    subst (λ (all : List Alternative). IsSome (slice_get all (drawn_answer (length (first ∷ others)) d))) (sym (alternatives_same w picks control g s ∙ are)) (answer_there first others d)

@@ -27,6 +27,7 @@ use Rattle.abi_machine.specs.Next as machine
 use Rattle.abi_machine.specs.sound.Changes.{Change, TakesItem, IsCalled, ComesBack, after}
 use Rattle.abi_machine.specs.sound.Controls.{Says}
 use Rattle.abi_machine.specs.sound.Acting.{outline_of, outlines_of, WasBlocked, OneActs, ActsBy}
+use Rattle.abi_machine.specs.sound.Events.{EventComes}
 use Rattle.abi_machine.proofs.sound.Found.{call_is}
 use Rattle.abi_machine.proofs.sound.Able.{MayBeDone, all_may}
 use Rattle.abi_machine.proofs.sound.Outlines.{outline_there}
@@ -35,7 +36,8 @@ use Rattle.abi_machine.specs.sound.Owners.{IsControlOwn}
 use Rattle.abi_machine.proofs.sound.own.Exports.{named_apart}
 use Rattle.abi_machine.proofs.sound.acts.Turning.{IsUndoomed, doomed_or_not}
 use Rattle.abi_machine.proofs.sound.known.Picking.{picked_there}
-use Rattle.abi_machine.proofs.sound.known.Keeping.{Facts, Promises, Walk, Keeps, given_keeps, behind_keeps, either_keeps, goes, charged_keeps, chosen_keeps}
+use Rattle.abi_machine.proofs.sound.known.Events.{able_comes, going_comes}
+use Rattle.abi_machine.proofs.sound.known.Keeping.{Facts, Comings, Promises, Walk, Keeps, given_keeps, behind_keeps, either_keeps, goes, charged_keeps, chosen_keeps}
 use Rattle.abi_machine.proofs.sound.known.Moving.{leaving_keeps, running_keeps, instantiating_keeps}
 use Rattle.abi_machine.proofs.sound.known.Waking.{arriving_keeps, delivering_keeps, resuming_keeps, back_keeps, idle_cancelled_keeps}
 use Rattle.abi_machine.proofs.sound.known.Nesting.{nested_keeps, lowers_keeps}
@@ -60,19 +62,19 @@ module _ {g : Graph} {s : Script} (walk : Walk g s) where
       (either_keeps walk (may_cancel (task_view g (item_taken w) found.0 found.1)) (cancelled_turn g found.0 found.1 Free (item_taken w)) (silent Free (item_taken w))
       (λ f. idle_cancelled_keeps walk found.0 found.1 (item_taken w) (call_is call w found e) idle taken) (λ f. (goes walk Free (item_taken w) taken, tt, idle))))
 
-  gone_keeps : (t : ℕ) (w : World) → walk.Holds w → OneActs WasBlocked (outlines_of w.tasks) w.chain → Keeps walk (gone t w)
+  gone_keeps : (t : ℕ) (w : World) → (walk.Event → EventComes g Resumes (with_control Free w)) → walk.Holds w → OneActs WasBlocked (outlines_of w.tasks) w.chain → Keeps walk (gone t w)
   unfolding gone
-  gone_keeps t w h o = (goes walk Resumes w h, tt, o)
+  gone_keeps t w comes h o = (goes walk Resumes w h, comes, o)
 
-  alternative_keeps : (a : Alternative) (w : World) → MayBeDone s w a → w.chain ≡ [] → walk.Holds w → Keeps walk (alternative_turn g s a w)
+  alternative_keeps : (a : Alternative) (w : World) → MayBeDone g s w a → w.chain ≡ [] → walk.Holds w → Keeps walk (alternative_turn g s a w)
   unfolding alternative_turn
   alternative_keeps (Takes i) w there idle h =
       charged_keeps walk true w (λ v. item_turn g s i v) h (λ units j. item_keeps i (record w { units = units }) idle (walk.stays TakesItem (record w { units = units }) (subst (λ (o : Option Item). IsSome o) (sym there) refl) tt (λ apart. tt) j))
   alternative_keeps (GoesOnTask t) w there idle h =
-      charged_keeps walk true w (λ v. gone t (chained t v)) h (λ units j. gone_keeps t (after (ComesBack t) (record w { units = units }))
+      charged_keeps walk true w (λ v. gone t (chained t v)) h (λ units j. gone_keeps t (after (ComesBack t) (record w { units = units })) (λ event. able_comes g w t there.0 units there.1 there.2.2)
       (walk.comes t (record w { units = units }) there.0 there.1 there.2.0 there.2.1 idle j) (t, (refl, (outline_of there.0, outline_there w.tasks t there.0 there.1, there.2.1))))
 
-  one_keeps : (all : List Alternative) (w : World) → alternatives g s w ≡ all → AllByRecursion (MayBeDone s w) all → w.chain ≡ [] → walk.Holds w → Keeps walk (one_of g s all w)
+  one_keeps : (all : List Alternative) (w : World) → alternatives g s w ≡ all → AllByRecursion (MayBeDone g s w) all → w.chain ≡ [] → walk.Holds w → Keeps walk (one_of g s all w)
   unfolding one_of
   one_keeps [] w same are idle h = end_untrapped (unfinished w)
   one_keeps (a ∷ []) w same are idle h = alternative_keeps a w are.0 idle h
@@ -86,29 +88,30 @@ module _ {g : Graph} {s : Script} (walk : Walk g s) where
 
   chosen_turn_keeps : (k : ℕ) (w : World) → w.chain ≡ [] → walk.Holds w → Keeps walk (chosen_turn g s k w)
   unfolding chosen_turn
-  chosen_turn_keeps k w idle h = given_keeps walk (slice_get (alternatives g s w) k) _ (λ a e. alternative_keeps a w (all_at (MayBeDone s w) (alternatives g s w) k a (all_may g s w) e) idle h)
+  chosen_turn_keeps k w idle h = given_keeps walk (slice_get (alternatives g s w) k) _ (λ a e. alternative_keeps a w (all_at (MayBeDone g s w) (alternatives g s w) k a (all_may g s w) e) idle h)
 
-  going_keeps : (w : World) → walk.Holds w → OneActs WasBlocked (outlines_of w.tasks) w.chain → Keeps walk (going_turn s w)
+  going_keeps : (w : World) → (walk.Event → Comings g GoesOn w) → walk.Holds w → OneActs WasBlocked (outlines_of w.tasks) w.chain → Keeps walk (going_turn s w)
   unfolding going_turn
-  going_keeps w h o = given_keeps walk (acting w) _ (λ a e. charged_keeps walk true w (λ v. gone a.0 v) h (λ units j. gone_keeps a.0 (record w { units = units }) j o))
+  going_keeps w comings h o =
+      given_keeps walk (acting w) _ (λ a e. charged_keeps walk true w (λ v. gone a.0 v) h (λ units j. gone_keeps a.0 (record w { units = units }) (λ event. going_comes g w units (comings event).0) j o))
 
   -- The machine.
 
-  pub each_keeps : (w : World) (c : Control) → (walk.Given → Facts g w) → (walk.Apart → IsControlOwn g c w) → IsUndoomed c → Says c w.chain → ActsBy c (outlines_of w.tasks) w.chain → walk.Holds w → Keeps walk (next_by g s w c)
-  each_keeps w Free facts own undoomed says o h = free_keeps w says h
-  each_keeps w (Chosen k) facts own undoomed says o h = chosen_turn_keeps k w says h
-  each_keeps w (Instantiates n) facts own undoomed says o h = instantiating_keeps walk n w says own h o
-  each_keeps w Runs facts own undoomed says o h = running_keeps walk w h o
-  each_keeps w (control.Calls number words) facts own undoomed says o h = calling_keeps walk number words w facts own h o
-  each_keeps w Arrives facts own undoomed says o h = arriving_keeps walk w h o
-  each_keeps w (Lowers l plan) facts own undoomed says o h = lowers_keeps walk l plan w own h o.0 o.1
-  each_keeps w (Quiet n b) facts own undoomed says o h = nested_keeps walk n b w own h o.0 o.1 o.2
-  each_keeps w Back facts own undoomed says o h = back_keeps walk w facts h
-  each_keeps w GoesOn facts own undoomed says o h = going_keeps w h o
-  each_keeps w Resumes facts own undoomed says o h = resuming_keeps walk w facts h
-  each_keeps w (Delivers set receiver pick) facts own undoomed says o h = delivering_keeps walk set receiver pick w facts h o
-  each_keeps w Leaves facts own undoomed says o h = leaving_keeps walk w h o
-  each_keeps w (Doomed t why) facts own undoomed says o h = absurd undoomed
+  pub each_keeps : (w : World) (c : Control) → (walk.Given → Facts g w) → (walk.Apart → IsControlOwn g c w) → (walk.Event → Comings g c w) → IsUndoomed c → Says c w.chain → ActsBy c (outlines_of w.tasks) w.chain → walk.Holds w → Keeps walk (next_by g s w c)
+  each_keeps w Free facts own comings undoomed says o h = free_keeps w says h
+  each_keeps w (Chosen k) facts own comings undoomed says o h = chosen_turn_keeps k w says h
+  each_keeps w (Instantiates n) facts own comings undoomed says o h = instantiating_keeps walk n w says own h o
+  each_keeps w Runs facts own comings undoomed says o h = running_keeps walk w h o
+  each_keeps w (control.Calls number words) facts own comings undoomed says o h = calling_keeps walk number words w facts own h o
+  each_keeps w Arrives facts own comings undoomed says o h = arriving_keeps walk w h o
+  each_keeps w (Lowers l plan) facts own comings undoomed says o h = lowers_keeps walk l plan w own h o.0 o.1
+  each_keeps w (Quiet n b) facts own comings undoomed says o h = nested_keeps walk n b w own h o.0 o.1 o.2
+  each_keeps w Back facts own comings undoomed says o h = back_keeps walk w facts h
+  each_keeps w GoesOn facts own comings undoomed says o h = going_keeps w comings h o
+  each_keeps w Resumes facts own comings undoomed says o h = resuming_keeps walk w facts comings h
+  each_keeps w (Delivers set receiver pick) facts own comings undoomed says o h = delivering_keeps walk set receiver pick w facts comings h o
+  each_keeps w Leaves facts own comings undoomed says o h = leaving_keeps walk w h o
+  each_keeps w (Doomed t why) facts own comings undoomed says o h = absurd undoomed
 
   -- what control says, with nothing in front
   own_free : (c : Control) (w : World) → IsControlOwn g c w → IsControlOwn g c (with_control Free w)
@@ -127,10 +130,10 @@ module _ {g : Graph} {s : Script} (walk : Walk g s) where
   own_free Leaves w h = h
   own_free (Doomed t why) w h = h
 
-  pub step_known : (w v : World) (labels : List Label) → (walk.Given → Facts g w) → (walk.Apart → IsControlOwn g w.control w) → Says w.control w.chain → ActsBy w.control (outlines_of w.tasks) w.chain → walk.Holds w → machine.next g s w ≡ Steps labels v
-      → walk.Holds v × Promises walk.Apart g s v.control v × ActsBy v.control (outlines_of v.tasks) v.chain
-  step_known w v labels facts own says o h e = elim (doomed_or_not w.control) [
-    | inl undoomed ↦ subst (Keeps walk) e (each_keeps (with_control Free w) w.control (λ given. record { called = (facts given).called; subtasks = (facts given).subtasks }) (λ apart. own_free w.control w (own apart)) undoomed says o (goes walk Free w h))
+  pub step_known : (w v : World) (labels : List Label) → (walk.Given → Facts g w) → (walk.Apart → IsControlOwn g w.control w) → (walk.Event → Comings g w.control (with_control Free w)) → Says w.control w.chain → ActsBy w.control (outlines_of w.tasks) w.chain → walk.Holds w → machine.next g s w ≡ Steps labels v
+      → walk.Holds v × Promises walk.Apart walk.Event g s v.control v × ActsBy v.control (outlines_of v.tasks) v.chain
+  step_known w v labels facts own comings says o h e = elim (doomed_or_not w.control) [
+    | inl undoomed ↦ subst (Keeps walk) e (each_keeps (with_control Free w) w.control (λ given. record { called = (facts given).called; subtasks = (facts given).subtasks }) (λ apart. own_free w.control w (own apart)) comings undoomed says o (goes walk Free w h))
     | inr d ↦ absurd (never d.0 d.1 (ap (λ (c : Control). next_by g s (with_control Free w) c) (sym d.2) ∙ e))
   ]
     where

@@ -1,5 +1,6 @@
 -- How tasks enter, call, are told, go on and are cancelled keeps what each change keeps.
 use Rattle.std.proofs.Common.{◌≡◌, ◌⊎◌, inl, inr, ℕ, Bool, true, false, List, [], ◌∷◌, length, refl, sym, subst, Option, Some, None, Result, Ok, Err}
+use Rattle.choices.specs.Drawing.{drawn, drawn_answer}
 use Rattle.std.specs.Prelude.{IsSome, slice_index}
 use Rattle.std.specs.List.{slice_get}
 use Rattle.wasm_store.specs.Store.{found_at}
@@ -19,13 +20,15 @@ use Rattle.script_reader.specs.Script.{Script}
 use Rattle.trace_show.specs.declared.label.Label.TheVariants as line
 use Rattle.trace_show.specs.declared.label.BlockReason.TheVariants as reason
 use Rattle.trace_show.specs.declared.trap.TrapName.TheVariants as trap
-use Rattle.abi_machine.specs.Control.{EndRef, Receiver, InWait, InCallback, EventCode, Free, Arrives, Back, Goes as GoesOn, Delivers}
+use Rattle.abi_machine.specs.Control.{EndRef, Receiver, InWait, InCallback, EventCode, Free, Arrives, Back, Goes as GoesOn, Resumes, Delivers}
 use Rattle.abi_machine.specs.World.{Entry, OwnHandle, BorrowHandle, OfSubtask, OfSet, OfEnd, Callee, Subtask, Caller, Nobody, Host, Guest, Wait, ForYield, ForSet, ForCall, ForCopy, ForCancel, TaskState, New as IsNew, Acting, AfterCall, AfterCancel, Begins, WaitsToEnter, InLoop, InBuiltin, Exited, Task, World, new_task}
-use Rattle.abi_machine.specs.Edits.{entry_added, in_state, with_cancellation, told, concluded}
+use Rattle.abi_machine.specs.Edits.{with_control, chained, entry_added, in_state, with_cancellation, told, concluded}
 use Rattle.abi_machine.specs.Canons.{func_address, memory_of, canon_at, options_of_canon, inst_of_canon, options_at, flag_at}
 use Rattle.abi_machine.specs.Reading.{table_of, entry_at, acting, func_of, task_at, subtask_of, kind_of, is_reentrant, may_leave}
 use Rattle.abi_machine.specs.Counting.{task_view, has_resolved, subtask_state, state_of, payload_of, ready}
 use Rattle.abi_machine.specs.Gate.{is_entry_free, may_arrive}
+use Rattle.abi_machine.specs.Choosing.{picks_of, chosen}
+use Rattle.abi_machine.specs.Scheduling.{is_some_ready}
 use Rattle.abi_machine.specs.Finding.{set_number, found_subtask, found_end}
 use Rattle.abi_machine.specs.Turn.{Turn, replied, blocked}
 use Rattle.abi_machine.specs.Entering.{with_arguments, arguments_passed, arguments_turn, entered, arriving_turn}
@@ -39,15 +42,18 @@ use Rattle.abi_machine.proofs.sound.known.Lifting.{arguments_keep}
 use Rattle.abi_machine.proofs.sound.Found.{guest_changed, func_changed, changed_there, acting_first, acting_is, acting_func}
 use Rattle.abi_machine.proofs.sound.Able.{resumed_blocked, removed_waits}
 use Rattle.abi_machine.proofs.sound.Outlines.{outline_there, Is, as_is, is_there, state_first, acting_waits}
-use Rattle.abi_machine.proofs.sound.Standing.{steady, first_back, first_asks}
+use Rattle.abi_machine.proofs.sound.Standing.{steady, task_there, first_back, first_asks}
 use Rattle.abi_machine.proofs.sound.acts.Keeping.{IsIn, acts_at, acts_by, new_acts, waits_stacked}
 use Rattle.abi_machine.specs.sound.Owners.{owner_of_func, IsLiftedApart}
 use Rattle.abi_machine.specs.sound.Subtasks.{IsUnawaited}
+use Rattle.abi_machine.specs.sound.Events.{HasReceiver, IsReadyAt, EventComes}
 use Rattle.abi_machine.proofs.sound.own.Belonging.{ref_starts, options_realloc, if_there, rewritten_on}
 use Rattle.abi_machine.proofs.sound.own.Tasks.{after_cancel_own, store_own, IsOfFunc, mine_is, lifted_by, stack_own}
 use Rattle.abi_machine.proofs.sound.known.Handles.{found_subtask_there}
 use Rattle.abi_machine.proofs.sound.known.Unawaited.{standing_unawaited, still_unawaited, behind_call, behind_wait, behind_cancel, IsNewSubtask, new_subtask}
-use Rattle.abi_machine.proofs.sound.known.Keeping.{Facts, CallsItsOwn, Walk, Keeps, Held, still, given_keeps, behind_keeps, either_keeps, goes, unless_keeps, chosen_keeps, on_keeps, blocked_keeps, waited_keeps, entry_keeps, acting_stack_keeps, removes, waits, lends, came_keeps}
+use Rattle.abi_machine.proofs.sound.known.Picking.{answer_there}
+use Rattle.abi_machine.proofs.sound.known.Events.{asked_comes, ready_found, first_ready, member_comes, GoesOnFrom, loop_has, loop_ready, set_ready}
+use Rattle.abi_machine.proofs.sound.known.Keeping.{Facts, Comings, CallsItsOwn, Walk, Keeps, Held, still, given_keeps, behind_keeps, either_keeps, goes, unless_keeps, chosen_keeps, on_keeps, blocked_keeps, waited_keeps, entry_keeps, acting_stack_keeps, removes, waits, lends, came_keeps}
 
 module _ {g : Graph} {s : Script} (walk : Walk g s) where
   -- the acting task acts again
@@ -183,20 +189,30 @@ module _ {g : Graph} {s : Script} (walk : Walk g s) where
   unfolding member_delivered
   member_keeps t f receiver member w facts mine h = given_keeps walk member _ (λ index e. delivered_keeps t f receiver index (entry_at w f.instance index) w refl facts mine h)
 
-  members_keep : (t : ℕ) (f : Lifted) (set : ℕ) (receiver : Receiver) (pick : Option ℕ) (members : List ℕ) (w : World) → (walk.Given → Facts g w) → Is (IsOfFunc f) t w → Held walk (stacked_receiver receiver) t w
-      → Keeps walk (members_turn g s t f set receiver pick members w)
-  unfolding members_turn
-  members_keep t f set receiver None [] w facts mine h = member_keeps t f receiver _ w facts mine h
-  members_keep t f set receiver None (index ∷ []) w facts mine h = member_keeps t f receiver _ w facts mine h
-  members_keep t f set receiver None (index ∷ other ∷ members) w facts mine h = chosen_keeps walk (length (index ∷ other ∷ members)) (λ k. Delivers set receiver (Some k)) w (λ k. (t, h.1)) tt h.0
-  members_keep t f set receiver (Some k) members w facts mine h = member_keeps t f receiver _ w facts mine h
+  -- one of several members is picked
+  several_keep : (t : ℕ) (f : Lifted) (set : ℕ) (receiver : Receiver) (index other : ℕ) (members : List ℕ) (w : World) → index ∷ other ∷ members ≡ ready w f.instance set → (walk.Event → HasReceiver receiver f)
+      → Is (IsOfFunc f) t w → Held walk (stacked_receiver receiver) t w → Keeps walk (chosen s (length (index ∷ other ∷ members)) (λ k. Delivers set receiver (Some k)) w)
+  several_keep t f set receiver index other members w same has mine h =
+      let count : ℕ = length (index ∷ other ∷ members) in
+      let answer : ℕ = drawn_answer count (picks_of s w) in
+      let there : IsReadyAt (Some answer) (ready w f.instance set) = subst (λ (l : List ℕ). IsSome (slice_get l answer)) same (answer_there index (other ∷ members) (picks_of s w)) in
+      chosen_keeps walk count (λ k. Delivers set receiver (Some k)) w (λ k. (t, h.1)) (λ event. member_comes g w t f set receiver (Some answer) (drawn count (picks_of s w)).used mine there (has event)) h.0
 
-  pub delivering_keeps : (set : ℕ) (receiver : Receiver) (pick : Option ℕ) (w : World) → (walk.Given → Facts g w) → walk.Holds w → OneActs (IsActing (stacked_receiver receiver)) (outlines_of w.tasks) w.chain
-      → Keeps walk (delivering_turn g s set receiver pick w)
+  members_keep : (t : ℕ) (f : Lifted) (set : ℕ) (receiver : Receiver) (pick : Option ℕ) (members : List ℕ) (w : World) → members ≡ ready w f.instance set → (walk.Event → HasReceiver receiver f) → (walk.Given → Facts g w) → Is (IsOfFunc f) t w
+      → Held walk (stacked_receiver receiver) t w → Keeps walk (members_turn g s t f set receiver pick members w)
+  unfolding members_turn
+  members_keep t f set receiver None [] w same has facts mine h = member_keeps t f receiver _ w facts mine h
+  members_keep t f set receiver None (index ∷ []) w same has facts mine h = member_keeps t f receiver _ w facts mine h
+  members_keep t f set receiver None (index ∷ other ∷ members) w same has facts mine h = several_keep t f set receiver index other members w same has mine h
+  members_keep t f set receiver (Some k) members w same has facts mine h = member_keeps t f receiver _ w facts mine h
+
+  pub delivering_keeps : (set : ℕ) (receiver : Receiver) (pick : Option ℕ) (w : World) → (walk.Given → Facts g w) → (walk.Event → Comings g (Delivers set receiver pick) w) → walk.Holds w
+      → OneActs (IsActing (stacked_receiver receiver)) (outlines_of w.tasks) w.chain → Keeps walk (delivering_turn g s set receiver pick w)
   unfolding delivering_turn
-  delivering_keeps set receiver pick w facts h o =
+  delivering_keeps set receiver pick w facts comings h o =
       given_keeps walk (acting w) _ (λ a e. given_keeps walk (func_of a.1.callee) _ (λ f i.
-      members_keep a.0 f set receiver pick (ready w f.instance set) w facts (mine_is w a f e i) (h, acts_at (IsActing (stacked_receiver receiver)) w a e o)))
+      members_keep a.0 f set receiver pick (ready w f.instance set) w refl (λ event. ((comings event).0 a.0 a.1 f (acting_first w a e) (acting_is w a e) i).1) facts (mine_is w a f e i)
+      (h, acts_at (IsActing (stacked_receiver receiver)) w a e o)))
 
   -- Blocked tasks go on.
 
@@ -208,34 +224,46 @@ module _ {g : Graph} {s : Script} (walk : Walk g s) where
   abbrev AreUnawaited : Wait → World → Type 0
   AreUnawaited wait w = (callee : ℕ) → (wait ≡ ForCall callee) ⊎ ((i : ℕ) × (index : ℕ) × (entry_at w i index ≡ Some (OfSubtask callee))) → walk.Given → IsUnawaited w.tasks callee
 
-  wait_keeps : (t : ℕ) (f : Lifted) (is_cancelled : Bool) (number : ℕ) (words : List ℕ) (wait : Wait) (w : World) → AreUnawaited wait w → Is (IsOfFunc f) t w → Held walk true t w → Keeps walk (wait_resumed g t f is_cancelled number words wait w)
+  -- a member of the set is ready that a task waited on in a canonical function, where it is not told that its cancellation is asked
+  abbrev IsReadyFor : Lifted → Bool → Wait → World → Type 0
+  IsReadyFor f is_cancelled wait w = (index : ℕ) → is_cancelled ≡ false → wait ≡ ForSet index → is_some_ready w f.instance index ≡ true
+
+  wait_keeps : (t : ℕ) (f : Lifted) (is_cancelled : Bool) (number : ℕ) (words : List ℕ) (wait : Wait) (w : World) → (walk.Event → IsReadyFor f is_cancelled wait w) → AreUnawaited wait w → Is (IsOfFunc f) t w → Held walk true t w
+      → Keeps walk (wait_resumed g t f is_cancelled number words wait w)
   unfolding wait_resumed told_payload told_result
-  wait_keeps t f is_cancelled number words ForYield w alone mine h = either_keeps walk is_cancelled _ _ (λ e. yielded_keeps t w h) (λ e. on_keeps walk t (0 ∷ []) w h)
-  wait_keeps t f is_cancelled number words (ForSet index) w alone mine h =
-      either_keeps walk is_cancelled _ _ (λ e. cancel_keeps t f (InWait number words) w mine h) (λ e. given_keeps walk (set_number w f.instance index) _ (λ set i. (goes walk _ w h.0, tt, (t, h.1))))
-  wait_keeps t f is_cancelled number words (ForCall callee) w alone mine h =
+  wait_keeps t f is_cancelled number words ForYield w some alone mine h = either_keeps walk is_cancelled _ _ (λ e. yielded_keeps t w h) (λ e. on_keeps walk t (0 ∷ []) w h)
+  wait_keeps t f is_cancelled number words (ForSet index) w some alone mine h =
+      either_keeps walk is_cancelled _ _ (λ e. cancel_keeps t f (InWait number words) w mine h)
+      (λ e. given_keeps walk (set_number w f.instance index) _ (λ set i. (goes walk _ w h.0, (λ event. member_comes g w t f set (InWait number words) None w.picks mine (ready_found w f.instance index set i (some event index e refl)) tt), (t, h.1))))
+  wait_keeps t f is_cancelled number words (ForCall callee) w some alone mine h =
       with_keeps w callee _ (λ task subtask there guest. on_keeps walk t subtask.result (told callee (subtask_state task) w) (subtask_keeps true t f.instance callee task subtask w (alone callee (inl refl)) h))
-  wait_keeps t f is_cancelled number words (ForCancel index) w alone mine h =
+  wait_keeps t f is_cancelled number words (ForCancel index) w some alone mine h =
       given_keeps walk (found_subtask w f.instance index) _ (λ callee e.
       with_keeps w callee _ (λ task subtask there guest.
       on_keeps walk t (state_of task ∷ []) (told callee (subtask_state task) w)
       (subtask_keeps true t f.instance callee task subtask w (alone callee (inr (f.instance, index, found_subtask_there w f.instance index callee e))) h)))
-  wait_keeps t f is_cancelled number words (ForCopy index) w alone mine h =
+  wait_keeps t f is_cancelled number words (ForCopy index) w some alone mine h =
       given_keeps walk (found_end w f.instance index) _ (λ e i. on_keeps walk t (payload_of w e ∷ []) (concluded e w) (end_told_keeps true t e w h))
 
-  polled_keeps : (t : ℕ) (f : Lifted) (set : ℕ) (members : List ℕ) (w : World) → Is (IsOfFunc f) t w → Held walk false t w → Keeps walk (set_polled g t f set members w)
+  polled_keeps : (t : ℕ) (f : Lifted) (set : ℕ) (members : List ℕ) (w : World) → members ≡ ready w f.instance set → (walk.Event → HasReceiver InCallback f) → Is (IsOfFunc f) t w → Held walk false t w → Keeps walk (set_polled g t f set members w)
   unfolding set_polled
-  polled_keeps t f set [] w mine h = none_keeps t f InCallback w mine h
-  polled_keeps t f set (index ∷ members) w mine h = (goes walk _ w h.0, tt, (t, h.1))
+  polled_keeps t f set [] w same has mine h = none_keeps t f InCallback w mine h
+  polled_keeps t f set (index ∷ members) w same has mine h =
+      (goes walk _ w h.0, (λ event. member_comes g w t f set InCallback None w.picks mine (first_ready w f.instance set index members same) (has event)), (t, h.1))
 
-  loop_keeps : (t : ℕ) (f : Lifted) (r : Result Next BadCode) (w : World) → Is (IsOfFunc f) t w → Held walk false t w → Keeps walk (next_resumed g t f r w)
+  -- the same of a task that waited on one in its loop
+  abbrev IsReadyNext : Lifted → Result Next BadCode → World → Type 0
+  IsReadyNext f r w = (index : ℕ) → r ≡ Ok (next.Wait index) → is_some_ready w f.instance index ≡ true
+
+  loop_keeps : (t : ℕ) (f : Lifted) (r : Result Next BadCode) (w : World) → (walk.Event → IsReadyNext f r w) → (walk.Event → HasReceiver InCallback f) → Is (IsOfFunc f) t w → Held walk false t w → Keeps walk (next_resumed g t f r w)
   unfolding next_resumed
-  loop_keeps t f (Ok next.Exit) w mine h = tt
-  loop_keeps t f (Ok next.Yield) w mine h = none_keeps t f InCallback w mine h
-  loop_keeps t f (Ok (next.Wait index)) w mine h = given_keeps walk (set_number w f.instance index) _ (λ set e. (goes walk _ w h.0, tt, (t, h.1)))
-  loop_keeps t f (Ok (next.Poll index)) w mine h =
-      given_keeps walk (set_number w f.instance index) _ (λ set e. polled_keeps t f set (ready w f.instance set) w mine h)
-  loop_keeps t f (Err why) w mine h = tt
+  loop_keeps t f (Ok next.Exit) w some has mine h = tt
+  loop_keeps t f (Ok next.Yield) w some has mine h = none_keeps t f InCallback w mine h
+  loop_keeps t f (Ok (next.Wait index)) w some has mine h =
+      given_keeps walk (set_number w f.instance index) _ (λ set e. (goes walk _ w h.0, (λ event. member_comes g w t f set InCallback None w.picks mine (ready_found w f.instance index set e (some event index refl)) (has event)), (t, h.1)))
+  loop_keeps t f (Ok (next.Poll index)) w some has mine h =
+      given_keeps walk (set_number w f.instance index) _ (λ set e. polled_keeps t f set (ready w f.instance set) w refl has mine h)
+  loop_keeps t f (Err why) w some has mine h = tt
 
   -- what a task that goes on waited for
   unawaited_again : (t number : ℕ) (words : List ℕ) (wait : Wait) (w : World) → (walk.Given → Facts g w) → Is (IsIn (InBuiltin number words wait)) t w → AreUnawaited wait (in_state t Acting w)
@@ -244,66 +272,76 @@ module _ {g : Graph} {s : Script} (walk : Walk g s) where
   unawaited_again t number words wait w facts a callee (inr at) given =
       still_unawaited w.tasks t callee (standing_unawaited g w at.0 at.1 callee (facts given).subtasks at.2)
 
-  resumed_keeps : (t : ℕ) (task : Task) (f : Lifted) (state : TaskState) (w : World) → (walk.Given → Facts g w) → Is (IsOfFunc f) t w → Is (IsIn state) t w → Is (StandsBy state) t w → walk.Holds w → Keeps walk (resumed g t task f state w)
+  resumed_keeps : (t : ℕ) (task : Task) (f : Lifted) (state : TaskState) (w : World) → (walk.Given → Facts g w) → (walk.Event → GoesOnFrom g w t task f state) → Is (IsOfFunc f) t w → Is (IsIn state) t w → Is (StandsBy state) t w → walk.Holds w
+      → Keeps walk (resumed g t task f state w)
   unfolding resumed loop_resumed
-  resumed_keeps t task f WaitsToEnter w facts mine c a h = entered_keeps t task f w (λ apart. lifted_by g w t f (walk.own apart w h) mine) a h
-  resumed_keeps t task f (InLoop word) w facts mine c a h =
+  resumed_keeps t task f WaitsToEnter w facts cause mine c a h = entered_keeps t task f w (λ apart. lifted_by g w t f (walk.own apart w h) mine) a h
+  resumed_keeps t task f (InLoop word) w facts cause mine c a h =
       let i : Held walk false t (in_state t Acting w) = acts_again false t w a h in
       let now : Is (IsOfFunc f) t (in_state t Acting w) = state_first (IsOfFunc f) (IsOfFunc f) w t Acting (λ o k. k) mine in
-      either_keeps walk (is_asked task.cancellation) _ _ (λ e. cancel_keeps t f InCallback (in_state t Acting w) now i) (λ e. loop_keeps t f (callback_of word) (in_state t Acting w) now i)
-  resumed_keeps t task f (InBuiltin number words wait) w facts mine c a h =
-      wait_keeps t f (is_to_be_told g number wait task w f.instance) number words wait (in_state t Acting w) (unawaited_again t number words wait w facts c)
+      either_keeps walk (is_asked task.cancellation) _ _ (λ e. cancel_keeps t f InCallback (in_state t Acting w) now i)
+      (λ e. loop_keeps t f (callback_of word) (in_state t Acting w) (λ event index says. loop_ready g w t task f word index (cause event) e says) (λ event. loop_has g w t task f word (cause event)) now i)
+  resumed_keeps t task f (InBuiltin number words wait) w facts cause mine c a h =
+      wait_keeps t f (is_to_be_told g number wait task w f.instance) number words wait (in_state t Acting w) (λ event index untold same. set_ready g w t task f number words wait index (cause event) untold same)
+      (unawaited_again t number words wait w facts c)
       (state_first (IsOfFunc f) (IsOfFunc f) w t Acting (λ o k. k) mine) (acts_again true t w a h)
-  resumed_keeps t task f IsNew w facts mine c a h = tt
-  resumed_keeps t task f Acting w facts mine c a h = tt
-  resumed_keeps t task f (AfterCall callee number words) w facts mine c a h = tt
-  resumed_keeps t task f (AfterCancel callee number words) w facts mine c a h = tt
-  resumed_keeps t task f (Begins n) w facts mine c a h = tt
-  resumed_keeps t task f Exited w facts mine c a h = tt
+  resumed_keeps t task f IsNew w facts cause mine c a h = tt
+  resumed_keeps t task f Acting w facts cause mine c a h = tt
+  resumed_keeps t task f (AfterCall callee number words) w facts cause mine c a h = tt
+  resumed_keeps t task f (AfterCancel callee number words) w facts cause mine c a h = tt
+  resumed_keeps t task f (Begins n) w facts cause mine c a h = tt
+  resumed_keeps t task f Exited w facts cause mine c a h = tt
 
-  pub resuming_keeps : (w : World) → (walk.Given → Facts g w) → walk.Holds w → Keeps walk (resuming_turn g w)
+  -- what is known of the task that goes on
+  from_state : (w : World) (a : ℕ × Task) (f : Lifted) → acting w ≡ Some a → func_of a.1.callee ≡ Some f → Comings g Resumes w → GoesOnFrom g w a.0 a.1 f a.1.state
+  from_state w a f e i comings =
+      record { there = acting_is w a e; is = refl; runs = i; cause = comings.0 a.0 a.1 f (acting_first w a e) (acting_is w a e) i; waits = comings.1 a.0 a.1 (acting_is w a e) }
+
+  pub resuming_keeps : (w : World) → (walk.Given → Facts g w) → (walk.Event → Comings g Resumes w) → walk.Holds w → Keeps walk (resuming_turn g w)
   unfolding resuming_turn
-  resuming_keeps w facts h =
+  resuming_keeps w facts comings h =
       given_keeps walk (acting w) _ (λ a e. given_keeps walk (func_of a.1.callee) _ (λ f i.
-      resumed_keeps a.0 a.1 f a.1.state w facts (mine_is w a f e i) (acting_first w a e, (outline_of a.1, outline_there w.tasks a.0 a.1 (acting_is w a e), refl)) (acts_so w a e h) h))
+      resumed_keeps a.0 a.1 f a.1.state w facts (λ event. from_state w a f e i (comings event)) (mine_is w a f e i) (acting_first w a e, (outline_of a.1, outline_there w.tasks a.0 a.1 (acting_is w a e), refl)) (acts_so w a e h) h))
 
   -- Cancellation: where no task runs, and by the acting task.
 
   idle_asked_keeps : (t : ℕ) (task : Task) (asked : Asked) (w : World) → slice_get w.tasks t ≡ Some task → IsSome (func_of task.callee) → (asked ≡ Removed → task.state ≡ WaitsToEnter) → (asked ≡ ResumeNow → IsBlocked task.state)
-      → w.chain ≡ [] → walk.Holds w → Keeps walk (asked_turn t asked Free w)
+      → (asked ≡ ResumeNow → EventComes g GoesOn (with_control Free (chained t (with_cancellation t cancellation.Asked w)))) → w.chain ≡ [] → walk.Holds w → Keeps walk (asked_turn t asked Free w)
   unfolding asked_turn
-  idle_asked_keeps t task Removed w there runs waits blocked idle h = (goes walk Free (after (IsRemoved t) w) (walk.removed t w task there runs (waits refl) idle h), tt, idle)
-  idle_asked_keeps t task ResumeNow w there runs waits blocked idle h =
+  idle_asked_keeps t task Removed w there runs waits blocked comes idle h = (goes walk Free (after (IsRemoved t) w) (walk.removed t w task there runs (waits refl) idle h), tt, idle)
+  idle_asked_keeps t task ResumeNow w there runs waits blocked comes idle h =
       let f : Task → Task = λ x. record x { cancellation = cancellation.Asked } in
       let v : World = with_cancellation t cancellation.Asked w in
       let now : slice_get v.tasks t ≡ Some (f task) = changed_there t f w.tasks task there in (
         goes walk GoesOn (after (ComesBack t) v) (walk.comes t v (f task) now runs (blocked refl) idle (walk.stays (IsCancelled t cancellation.Asked) w tt tt (λ apart. tt) h)),
-        tt,
+        (λ event. comes refl),
         (t, (refl, (outline_of (f task), outline_there v.tasks t (f task) now, blocked refl))),
       )
-  idle_asked_keeps t task Pending w there runs waits blocked idle h = (goes walk Free (with_cancellation t cancellation.Asked w) (walk.stays (IsCancelled t cancellation.Asked) w tt tt (λ apart. tt) h), tt, idle)
+  idle_asked_keeps t task Pending w there runs waits blocked comes idle h = (goes walk Free (with_cancellation t cancellation.Asked w) (walk.stays (IsCancelled t cancellation.Asked) w tt tt (λ apart. tt) h), tt, idle)
 
   pub idle_cancelled_keeps : (t : ℕ) (task : Task) (w : World) → slice_get w.tasks t ≡ Some task → w.chain ≡ [] → walk.Holds w → Keeps walk (cancelled_turn g t task Free w)
   unfolding cancelled_turn
   idle_cancelled_keeps t task w there idle h =
       given_keeps walk (func_of task.callee) _ (λ f e. idle_asked_keeps t task (cancel_case (is_entry_free w f.instance) (task_view g w t task)) w there (subst (λ (o : Option Lifted). IsSome o) (sym e) refl)
-      (λ i. removed_waits (is_entry_free w f.instance) (kind_of task) (flag_at g) task.state i) (λ i. resumed_blocked (is_entry_free w f.instance) (kind_of task) (flag_at g) task.state i) idle h)
+      (λ i. removed_waits (is_entry_free w f.instance) (kind_of task) (flag_at g) task.state i) (λ i. resumed_blocked (is_entry_free w f.instance) (kind_of task) (flag_at g) task.state i)
+      (λ i. asked_comes g w t task (is_entry_free w f.instance) there i) idle h)
 
   acting_asked_keeps : (t callee number : ℕ) (words : List ℕ) (task : Task) (asked : Asked) (w : World) → may_leave w ≡ true → slice_get w.tasks callee ≡ Some task → IsSome (func_of task.callee)
-      → (asked ≡ Removed → task.state ≡ WaitsToEnter) → (asked ≡ ResumeNow → IsBlocked task.state) → (walk.Given → IsUnawaited w.tasks callee) → (walk.Apart → CallsItsOwn g number t w) → Held walk true t w → Keeps walk (asked_turn callee asked Back (in_state t (AfterCancel callee number words) w))
+      → (asked ≡ Removed → task.state ≡ WaitsToEnter) → (asked ≡ ResumeNow → IsBlocked task.state)
+      → (asked ≡ ResumeNow → EventComes g GoesOn (with_control Free (chained callee (with_cancellation callee cancellation.Asked (in_state t (AfterCancel callee number words) w))))) → (walk.Given → IsUnawaited w.tasks callee) → (walk.Apart → CallsItsOwn g number t w) → Held walk true t w → Keeps walk (asked_turn callee asked Back (in_state t (AfterCancel callee number words) w))
   unfolding asked_turn
-  acting_asked_keeps t callee number words task Removed w free there runs waits blocked alone calls h =
+  acting_asked_keeps t callee number words task Removed w free there runs waits blocked comes alone calls h =
       let is : IsBlocked task.state = subst IsBlocked (sym (waits refl)) tt in (
         goes walk Back (after (IsRemoved callee) (after (Cancels t callee number words) w)) (walk.removed_asked t callee number words w task h.1 free there runs (waits refl) alone calls h.0),
         tt,
         (t, first_asks t callee number words w task h.1 there is (walk.chained w h.0)),
       )
-  acting_asked_keeps t callee number words task ResumeNow w free there runs waits blocked alone calls h = (
+  acting_asked_keeps t callee number words task ResumeNow w free there runs waits blocked comes alone calls h = (
     goes walk GoesOn (after (ComesBack callee) (after (IsCancelled callee cancellation.Asked) (after (Cancels t callee number words) w))) (walk.comes_asked t callee number words w task h.1 free there runs (blocked refl) alone calls h.0),
-    tt,
+    (λ event. comes refl),
     (callee, first_back t callee number words w task h.1 there (blocked refl) (walk.chained w h.0)),
   )
-  acting_asked_keeps t callee number words task Pending w free there runs waits blocked alone calls h =
+  acting_asked_keeps t callee number words task Pending w free there runs waits blocked comes alone calls h =
       let v : World = in_state t (AfterCancel callee number words) w in (
         goes walk Back (with_cancellation callee cancellation.Asked v) (walk.stays (IsCancelled callee cancellation.Asked) v tt tt (λ apart. tt) (walk.stays (Cancels t callee number words) w (h.1.0, free) (as_is (IsActing true) (WaitsWith true) t w (acting_waits true) h.1, subst (λ (o : Option Task). IsSome o) (sym there) refl, alone) calls h.0)),
         tt,
@@ -316,7 +354,8 @@ module _ {g : Graph} {s : Script} (walk : Walk g s) where
   acting_cancelled_keeps t callee number words task w free there alone calls h =
       let v : World = in_state t (AfterCancel callee number words) w in
       given_keeps walk (func_of task.callee) _ (λ f e. acting_asked_keeps t callee number words task (cancel_case (is_entry_free v f.instance) (task_view g v callee task)) w free there (subst (λ (o : Option Lifted). IsSome o) (sym e) refl)
-      (λ i. removed_waits (is_entry_free v f.instance) (kind_of task) (flag_at g) task.state i) (λ i. resumed_blocked (is_entry_free v f.instance) (kind_of task) (flag_at g) task.state i) alone calls h)
+      (λ i. removed_waits (is_entry_free v f.instance) (kind_of task) (flag_at g) task.state i) (λ i. resumed_blocked (is_entry_free v f.instance) (kind_of task) (flag_at g) task.state i)
+      (λ i. asked_comes g v callee task (is_entry_free v f.instance) (task_there t callee number words w task h.1 there (resumed_blocked (is_entry_free v f.instance) (kind_of task) (flag_at g) task.state i) (walk.chained w h.0)) i) alone calls h)
 
   cancel_open_keeps : (t number : ℕ) (words : List ℕ) (w : World) → (walk.Apart → CallsItsOwn g number t w) → HasFunc w.tasks t → Held walk true t w → Keeps walk (cancel_open g t number words w)
   unfolding cancel_open

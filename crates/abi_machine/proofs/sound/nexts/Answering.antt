@@ -77,7 +77,7 @@ use Rattle.abi_machine.specs.sound.Initial.{StartsNothing, InitRunsAlone}
 use Rattle.abi_machine.specs.sound.Numbers.{IsCalledAs, Each, NamesWhatIsThere}
 use Rattle.abi_machine.specs.sound.OpenCopies.{HoldsCopies}
 use Rattle.abi_machine.specs.sound.Acting.{outlines_of, RunsIn, IsRunning, OneActs}
-use Rattle.abi_machine.specs.sound.GoingOn.{HasNext, IsFuncThere, HasDestructors, NamesResource, NamesThere, IsCallable}
+use Rattle.abi_machine.specs.sound.GoingOn.{HasNext, IsFuncThere, IsResourceThere, NamesResource, NamesThere}
 use Rattle.abi_machine.proofs.sound.Found.{some_same, ok_same, renamed_ok}
 use Rattle.abi_machine.proofs.sound.Entries.{right_true}
 use Rattle.abi_machine.proofs.sound.Due.{channel_is}
@@ -146,19 +146,19 @@ destroyed_next t i number words resource r (Some ref) rep w there =
     either_next (nat_eq r.instance i) _ _ (λ e. given_next (found_at w.store.funcs (func_address w.store ref)) _ there (λ function k. tt))
     (λ e. call_next t number words (Destroys resource (destructor_of r.instance ref)) (destructor_of r.instance ref) (rep ∷ []) w)
 
-dropped_next : (g : Graph) (t i number : ℕ) (words : List ℕ) (x : Handle) (o : Ownership) (w : World) → IsSome (resource_at g x.resource) → HasDestructors g w.store → HasNext (dropped g t i number words x o w)
+dropped_next : (g : Graph) (t i number : ℕ) (words : List ℕ) (x : Handle) (o : Ownership) (w : World) → IsResourceThere g w.store x.resource → HasNext (dropped g t i number words x o w)
 unfolding dropped
-dropped_next g t i number words x (Borrow task) w there destructors = tt
-dropped_next g t i number words x Own w there destructors =
-    given_next (resource_at g x.resource) _ there (λ r e. destroyed_next t i number words x.resource r r.destructor x.rep w (destructors x.resource r e))
+dropped_next g t i number words x (Borrow task) w there = tt
+dropped_next g t i number words x Own w there =
+    found_next (resource_at g x.resource) there.0 _ there.1 (destroyed_next t i number words x.resource there.0 there.0.destructor x.rep w there.2)
 
-drop_next : (g : Graph) (t i number resource : ℕ) (words : List ℕ) (w : World) → IsSome (resource_at g resource) → HasDestructors g w.store → HasNext (resource_drop_turn g t i number resource words w)
+drop_next : (g : Graph) (t i number resource : ℕ) (words : List ℕ) (w : World) → IsResourceThere g w.store resource → HasNext (resource_drop_turn g t i number resource words w)
 unfolding resource_drop_turn
-drop_next g t i number resource words w there destructors =
+drop_next g t i number resource words w there =
     let answer : Result Handle TrapName = renamed refusal_name (dropped_in (view_at w i (slice_index words 0)) resource) in
     refused_next t answer w (λ x. dropped g t i number words x x.ownership (entry_removed i (slice_index words 0) w)) (λ x e.
     let names : x.resource ≡ resource = dropped_names (view_at w i (slice_index words 0)) resource x (renamed_ok refusal_name (dropped_in (view_at w i (slice_index words 0)) resource) x e) in
-    dropped_next g t i number words x x.ownership (entry_removed i (slice_index words 0) w) (subst (λ (n : ℕ). IsSome (resource_at g n)) (sym names) there) destructors)
+    dropped_next g t i number words x x.ownership (entry_removed i (slice_index words 0) w) (subst (λ (n : ℕ). IsResourceThere g w.store n) (sym names) there))
 
 -- Tasks.
 
@@ -387,12 +387,12 @@ new_ends_next t i kind element w =
 
 -- All of them.
 
-resource_next : (g : Graph) (t i number : ℕ) (op : ResourceOp) (resource : ℕ) (words : List ℕ) (w : World) → exempt_kind t words i (builtin.Resource op resource) ≡ None → NamesResource g (builtin.Resource op resource) → HasDestructors g w.store
+resource_next : (g : Graph) (t i number : ℕ) (op : ResourceOp) (resource : ℕ) (words : List ℕ) (w : World) → exempt_kind t words i (builtin.Resource op resource) ≡ None → NamesResource g w.store (builtin.Resource op resource)
     → HasNext (resource_turn g t i number op resource words w)
 unfolding resource_turn resource_new_turn
-resource_next g t i number resource_op.New resource words w none names destructors = entry_next t i (OwnHandle resource (slice_index words 0)) w (λ index v. replied t (index ∷ []) v) tt
-resource_next g t i number resource_op.Drop resource words w none names destructors = drop_next g t i number resource words w names destructors
-resource_next g t i number resource_op.Rep resource words w none names destructors = cc
+resource_next g t i number resource_op.New resource words w none names = entry_next t i (OwnHandle resource (slice_index words 0)) w (λ index v. replied t (index ∷ []) v) tt
+resource_next g t i number resource_op.Drop resource words w none names = drop_next g t i number resource words w names
+resource_next g t i number resource_op.Rep resource words w none names = cc
 
 plain_next : (g : Graph) (t : ℕ) (task : Task) (i number : ℕ) (op : PlainBuiltin) (words : List ℕ) (w : World) → AllByRecursion (NamesWhatIsThere w.tasks) w.insts → Each IsCalledAs w.tasks → HasNext (plain_turn g t task i number op words w)
 unfolding plain_turn pressure_set_turn pressure_inc_turn pressure_dec_turn set_new_turn
@@ -419,19 +419,18 @@ pub record AnswersBy (g : Graph) (w : World) : Type 0 where
   pub named : AllByRecursion (NamesWhatIsThere w.tasks) w.insts
   pub called : Each IsCalledAs w.tasks
   pub held : HoldsCopies g w
-  pub destructors : HasDestructors g w.store
 
-builtin_next : (g : Graph) (t : ℕ) (task : Task) (i number : ℕ) (b : BuiltinKind) (words : List ℕ) (w : World) → exempt_kind t words i b ≡ None → IsSome (canon_at g number) → NamesResource g b → IsActor g t task w → AnswersBy g w
+builtin_next : (g : Graph) (t : ℕ) (task : Task) (i number : ℕ) (b : BuiltinKind) (words : List ℕ) (w : World) → exempt_kind t words i b ≡ None → IsSome (canon_at g number) → NamesResource g w.store b → IsActor g t task w → AnswersBy g w
     → HasNext (builtin_turn g t task i number b words w)
 unfolding builtin_turn
-builtin_next g t task i number (builtin.Resource op resource) words w none made names actor h = resource_next g t i number op resource words w none names h.destructors
+builtin_next g t task i number (builtin.Resource op resource) words w none made names actor h = resource_next g t i number op resource words w none names
 builtin_next g t task i number (builtin.TaskReturn result options) words w none made names actor h = return_next g t task i result options words w actor
 builtin_next g t task i number (builtin.Plain op) words w none made names actor h = plain_next g t task i number op words w h.named h.called
 builtin_next g t task i number (builtin.Context op slot) words w none made names actor h = cc
 builtin_next g t task i number (builtin.Wait op cancellable memory) words w none made names actor h = wait_turn_next g t task i op number words w actor.2
 builtin_next g t task i number (builtin.End of_what element op) words w none made names actor h = ends_next g t i number of_what element op words w made h.held
 
-reply_next : (g : Graph) (t : ℕ) (task : Task) (number : ℕ) (c : CanonFunc) (words : List ℕ) (w : World) → exempt_of t words c ≡ None → IsSome (canon_at g number) → NamesThere g c → IsActor g t task w → AnswersBy g w → HasNext (reply g t task number c words w)
+reply_next : (g : Graph) (t : ℕ) (task : Task) (number : ℕ) (c : CanonFunc) (words : List ℕ) (w : World) → exempt_of t words c ≡ None → IsSome (canon_at g number) → NamesThere g w.store c → IsActor g t task w → AnswersBy g w → HasNext (reply g t task number c words w)
 unfolding reply
 reply_next g t task number (canon.Lower l) words w none made names actor h = call_next t number words (Func (lifted_of l)) (lifted_of l) words w
 reply_next g t task number (canon.Builtin b) words w none made names actor h = builtin_next g t task b.instance number b.kind words w none made names actor h
@@ -441,18 +440,19 @@ unfolding exempt_turn
 exempt_next t (Err why) w = tt
 exempt_next t (Ok answer) w = tt
 
-allowed_next : (g : Graph) (t : ℕ) (task : Task) (number : ℕ) (c : CanonFunc) (words : List ℕ) (o : Option Exempt) (w : World) → exempt_of t words c ≡ o → IsSome (canon_at g number) → NamesThere g c → (may_leave w ≡ true → IsActor g t task w) → AnswersBy g w
+allowed_next : (g : Graph) (t : ℕ) (task : Task) (number : ℕ) (c : CanonFunc) (words : List ℕ) (o : Option Exempt) (w : World) → exempt_of t words c ≡ o → IsSome (canon_at g number) → (may_leave w ≡ true → NamesThere g w.store c) → (may_leave w ≡ true → IsActor g t task w) → AnswersBy g w
     → HasNext (allowed g t task number c words o w)
 unfolding allowed
 allowed_next g t task number c words (Some exempt) w is made names actor h = exempt_next t (exempt w) w
-allowed_next g t task number c words None w is made names actor h = either_next (may_leave w) _ _ (λ free. reply_next g t task number c words w is made names (actor free) h) (λ e. tt)
+allowed_next g t task number c words None w is made names actor h = either_next (may_leave w) _ _ (λ free. reply_next g t task number c words w is made (names free) (actor free) h) (λ e. tt)
 
-pub calling_next : (g : Graph) (number : ℕ) (words : List ℕ) (w : World) → OneActs IsRunning (outlines_of w.tasks) w.chain → InitRunsAlone w.tasks w.chain → IsCallable g number → AnswersBy g w
+pub calling_next : (g : Graph) (number : ℕ) (words : List ℕ) (w : World) → OneActs IsRunning (outlines_of w.tasks) w.chain → InitRunsAlone w.tasks w.chain
+    → ((t : ℕ) (task : Task) → IsFirst t w.chain → slice_get w.tasks t ≡ Some task → IsSome (canon_at g number)) → (may_leave w ≡ true → (c : CanonFunc) → canon_at g number ≡ Some c → NamesThere g w.store c) → AnswersBy g w
     → ((t : ℕ) (task : Task) → slice_get w.tasks t ≡ Some task → IsSome (func_of task.callee) → HasCaller g task.caller) → HasNext (calling_turn g number words w)
 unfolding calling_turn
-calling_next g number words w acts alone there h caller =
+calling_next g number words w acts alone made names h caller =
     acting_next IsRunning w _ acts (λ t task first at p.
-    found_next (canon_at g number) there.0 _ there.1
-    (behind_next (line.Do t (builtin_of there.0) words ∷ []) _
-    (allowed_next g t task number there.0 words (exempt_of t words there.0) w refl (subst (λ (o : Option CanonFunc). IsSome o) (sym there.1) refl) there.2
+    given_next (canon_at g number) _ (made t task first at) (λ c e.
+    behind_next (line.Do t (builtin_of c) words ∷ []) _
+    (allowed_next g t task number c words (exempt_of t words c) w refl (made t task first at) (λ free. names free c e)
     (λ free. (let runs : IsSome (func_of task.callee) = runs_func w t task alone free at p.0 in (first, at, runs, caller t task at runs))) h)))

@@ -1,6 +1,6 @@
 -- What comes next where tasks enter, are called, go on, and get events.
 use Rattle.std.proofs.Common.{◌≡◌, ℕ, Bool, true, false, ◌&&◌, ◌||◌, ◌==◌, arith, List, [], ◌∷◌, length, refl, sym, subst, Option, Some, None, Result, Ok, Err, if◌then◌else◌}
-use Rattle.std.specs.Prelude.{IsSome, IfSome, filter, is_some}
+use Rattle.std.specs.Prelude.{IsSome, IfSome, filter}
 use Rattle.std.proofs.lemmas.Bool.Decides.{nat_tests}
 use Rattle.std.specs.Option.{unwrap_or}
 use Rattle.std.specs.List.{slice_get, range_with_len, AllByRecursion}
@@ -13,8 +13,7 @@ use Rattle.entry_gate.specs.declared.callback.Next.{Next}
 use Rattle.entry_gate.specs.declared.callback.Next.TheVariants as next
 use Rattle.handle_table.specs.History.{live, greatest}
 use Rattle.tasks.specs.Tasks.{is_asked}
-use Rattle.entry_gate.specs.declared.kind.Kind.TheVariants.{Sync, Callback, Stackful}
-use Rattle.comp_graph.specs.declared.graph.Options.{Options}
+use Rattle.entry_gate.specs.declared.kind.Kind.TheVariants.{Callback}
 use Rattle.comp_graph.specs.Graph.{Graph, Lifted}
 use Rattle.script_reader.specs.Script.{Script}
 use Rattle.trace_show.specs.declared.label.Label.TheVariants as line
@@ -22,7 +21,7 @@ use Rattle.trace_show.specs.declared.label.BlockReason.TheVariants as reason
 use Rattle.abi_machine.specs.Control.{EndRef, EventCode, SubtaskEvent, Receiver, InWait, InCallback, Delivers}
 use Rattle.abi_machine.specs.World.{Entry, OwnHandle, BorrowHandle, OfSubtask, OfSet, OfEnd, Inst, Callee, Subtask, Caller, Nobody, Host, Guest, Wait, ForYield, ForSet, ForCall, ForCopy, ForCancel, TaskState, New as IsNew, Acting, AfterCall, AfterCancel, Begins, WaitsToEnter, InLoop, InBuiltin, Exited, Task, World}
 use Rattle.abi_machine.specs.Edits.{changed_at, in_state, told}
-use Rattle.abi_machine.specs.Canons.{func_address, canon_at, options_at, flag_at, kind_of_options}
+use Rattle.abi_machine.specs.Canons.{func_address, canon_at, options_at, flag_at}
 use Rattle.abi_machine.specs.Reading.{table_of, table_in, entry_at, members_of, func_of, kind_of_func, is_reentrant}
 use Rattle.abi_machine.specs.Counting.{has_resolved, subtask_state, entry_has_event, has_news, news_of, ready}
 use Rattle.abi_machine.specs.Gate.{may_arrive}
@@ -39,10 +38,12 @@ use Rattle.abi_machine.specs.sound.Numbers.{IsNamed, NamesWhatIsThere}
 use Rattle.abi_machine.specs.sound.Loops.{HasSetAt, GoesOnBy, LoopsIn, LoopsSo}
 use Rattle.abi_machine.specs.sound.SetWaits.{WaitsOnSet}
 use Rattle.abi_machine.specs.sound.Guests.{WaitsAs, WaitAs}
-use Rattle.abi_machine.specs.sound.GoingOn.{HasNext, IsFuncThere, AreFuncsThere, HaveFuncs, WaitsThere, ResumesAt, HasReceiver, DeliversThere}
+use Rattle.abi_machine.specs.sound.Events.{HasReceiver, EventComes}
+use Rattle.abi_machine.specs.sound.GoingOn.{HasNext, IsFuncThere, AreFuncsThere, HaveFuncs, WaitsThere, ResumesAt}
 use Rattle.abi_machine.proofs.sound.Lists.{all_as}
 use Rattle.abi_machine.proofs.sound.Found.{guest_changed}
 use Rattle.abi_machine.proofs.sound.known.Handles.{found_subtask_there}
+use Rattle.abi_machine.proofs.sound.known.Events.{has_callback}
 use Rattle.abi_machine.proofs.sound.Aside.{channel_kept}
 use Rattle.abi_machine.proofs.sound.Outlines.{outline_there}
 use Rattle.abi_machine.proofs.sound.own.Belonging.{if_there}
@@ -228,7 +229,7 @@ receives (InWait number words) f s h there = tt
 receives InCallback f s h there = (h, there.callback)
 
 pub delivering_next : (g : Graph) (s : Script) (set : ℕ) (receiver : Receiver) (pick : Option ℕ) (P : Outline → Type 0) (w : World) → OneActs P (outlines_of w.tasks) w.chain
-    → ((o : Outline) → P o → IsSome (func_of o.callee)) → AllByRecursion (NamesWhatIsThere w.tasks) w.insts → DeliversThere set receiver pick w → HaveFuncs w.store w.tasks
+    → ((o : Outline) → P o → IsSome (func_of o.callee)) → AllByRecursion (NamesWhatIsThere w.tasks) w.insts → EventComes g (Delivers set receiver pick) w → HaveFuncs w.store w.tasks
     → HasNext (delivering_turn g s set receiver pick w)
 unfolding delivering_turn
 delivering_next g s set receiver pick P w acts runs named there funcs =
@@ -330,15 +331,6 @@ blocked_runs (AfterCall callee number words) o blocked h = absurd blocked
 blocked_runs (AfterCancel callee number words) o blocked h = absurd blocked
 blocked_runs (Begins n) o blocked h = absurd blocked
 blocked_runs Exited o blocked h = absurd blocked
-
--- a function of this kind has a callback
-callback_if : (is_async some : Bool) → (if is_async then (if some then Callback else Stackful) else Sync) ≡ Callback → some ≡ true
-callback_if true true e = refl
-callback_if true false e = cc
-callback_if false some e = cc
-
-pub has_callback : (options : Options) → kind_of_options options ≡ Callback → IsSome options.callback
-has_callback options e = callback_if options.is_async (is_some options.callback) e
 
 -- what a blocked task waits for is there, by what is kept and what else is asked
 pub resumable : (g : Graph) (w : World) (t : ℕ) (task : Task) (f : Lifted) → slice_get w.tasks t ≡ Some task → func_of task.callee ≡ Some f → HasCalled w.tasks t task.state → WaitsAs w.tasks task.callee task.state → LoopsSo w.insts task.callee task.state

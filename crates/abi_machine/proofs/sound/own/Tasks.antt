@@ -1,5 +1,5 @@
 -- Tasks that run code of the component instance of their function alone, and call what it made: each change keeps it.
-use Rattle.std.proofs.Common.{◌≡◌, ℕ, zero, suc, List, [], ◌∷◌, length, drop, sym, ap, ◌∙◌, subst, Option, Some}
+use Rattle.std.proofs.Common.{◌≡◌, ◌⊎◌, inl, inr, ℕ, zero, suc, List, [], ◌∷◌, length, drop, sym, ap, ◌∙◌, subst, Option, Some}
 use Rattle.std.specs.List.{slice_get, AllByRecursion}
 use Rattle.wasm_store.specs.Store.{Store}
 use Rattle.wasm_store.specs.Stack.{Stack}
@@ -60,12 +60,19 @@ pub calls_here : (g : Graph) (w : World) (a : ℕ × Task) (number : ℕ) (words
 calls_here g w a number words e c =
     (acting_first w a e, (outline_of a.1, outline_there w.tasks a.0 a.1 (acting_is w a e), c a.0 a.1 (acting_first w a e) (acting_is w a e)))
 
--- A store that comes of a move, or of other bytes in a memory.
-pub store_own : (g : Graph) (w : World) (store : Store) → IsOnward w.store store → IsOwnWorld g w → HasCanons g store × AreOwned g store × AllByRecursion (IsTaskOwn g (length store.instances)) w.tasks
+-- A store that comes of a move, or of other bytes in a memory, has the same code; and while task 0 acts there may be more.
+abbrev pub HasSameCode : Store → Store → Type 0
+HasSameCode s t = (t.funcs ≡ s.funcs) × (t.instances ≡ s.instances)
+
+abbrev pub IsOwnStore : Graph → World → Store → Type 0
+IsOwnStore g w store = HasCanons g store × AreOwned g store × AllByRecursion (IsTaskOwn g (length store.instances)) w.tasks × (HasSameCode w.store store ⊎ IsFirst 0 w.chain)
+
+pub store_own : (g : Graph) (w : World) (store : Store) → IsOnward w.store store → IsOwnWorld g w → IsOwnStore g w store
 store_own g w store x own = (
   onward_canons g w.store store x own.canons,
   onward_owned g w.store store x own.owned,
   subst (λ (n : ℕ). AllByRecursion (IsTaskOwn g n) w.tasks) (sym (ap length x.1)) own.each,
+  inl (x.0, x.1),
 )
 
 -- the answered stacks
@@ -114,6 +121,6 @@ nothing_starts w h first o zero task e =
 nothing_starts w h first o (suc n) task e = h.others n task e
 
 pub more_own : (g : Graph) (w : World) (store : Store) → IsMore g w.store store → IsOwnWorld g w → Alone w → IsFirst 0 w.chain → OneActs IsStarting (outlines_of w.tasks) w.chain
-    → HasCanons g store × AreOwned g store × AllByRecursion (IsTaskOwn g (length store.instances)) w.tasks
+    → IsOwnStore g w store
 more_own g w store more own h first o =
-    (more.canons, more.owned, tasks_recount g (length w.store.instances) (length store.instances) w.tasks (nothing_starts w h first o) own.each)
+    (more.canons, more.owned, tasks_recount g (length w.store.instances) (length store.instances) w.tasks (nothing_starts w h first o) own.each, inr first)

@@ -1,17 +1,15 @@
 -- The next moves of typed stacks are typed, and the next core instance can be made.
-use Rattle.std.proofs.Common.{◌≡◌, ℕ, suc, ◌+◌, Bool, true, false, is_some, List, [], ◌∷◌, ◌++◌, drop, length, refl, sym, ap, ◌∙◌, subst, Some, if◌then◌else◌}
+use Rattle.std.proofs.Common.{◌≡◌, ℕ, ◌+◌, Bool, true, false, is_some, List, [], ◌∷◌, ◌++◌, drop, length, refl, ap, ◌∙◌, subst, Some, if◌then◌else◌}
 use Rattle.std.specs.List.{slice_get}
 use Rattle.ca_types.specs.declared.types.FuncType.{FuncType}
 use Rattle.ca_types.specs.declared.core_type.FlatKind.TheVariants.{SyncLift, AsyncLift, CallbackLift}
 use Rattle.ca_types.specs.Flat.{flat_func}
 use Rattle.wasm_module.specs.declared.types.ValType.TheVariants.{I32}
 use Rattle.wasm_store.specs.Store.{Store}
-use Rattle.wasm_store.specs.Stack.{Stack}
 use Rattle.wasm_store.specs.Typed.{StackTyped}
 use Rattle.wasm_store.specs.Instantiation.{External, ImportsMatch}
 use Rattle.wasm_store.proofs.Moving.{moves_typed}
 use Rattle.wasm_store.proofs.Zips.{get_behind}
-use Rattle.entry_gate.specs.declared.kind.Kind.{Kind}
 use Rattle.entry_gate.specs.declared.kind.Kind.TheVariants.{Sync, Callback, Stackful}
 use Rattle.comp_graph.specs.declared.graph.Action.{Action}
 use Rattle.comp_graph.specs.declared.graph.Action.TheVariants.{Make}

@@ -1,5 +1,5 @@
 -- What core instances import is there where the core instances before were made.
-use Rattle.std.proofs.Common.{◌≡◌, ℕ, List, [], ◌∷◌, ◌++◌, map, refl, sym, ap, ◌∙◌, subst, Option, Some, None, append-nil, append_assoc}
+use Rattle.std.proofs.Common.{◌≡◌, ℕ, List, [], ◌∷◌, ◌++◌, map, refl, sym, ap, ◌∙◌, subst, Some, append-nil, append_assoc}
 use Rattle.std.specs.List.{slice_get, AllByRecursion, AllZip}
 use Rattle.std.specs.Option.{option_map, option_and_then}
 use Rattle.wasm_module.specs.declared.module.Import.{Import}

@@ -1,6 +1,6 @@
 -- Stacks and core instances stay typed where a graph is instantiated.
 use Rattle.std.proofs.Common.{◌≡◌, ℕ, zero, suc, ◌+◌, true, List, [], ◌∷◌, ◌++◌, drop, length, refl, sym, ap, ◌∙◌, subst, append-nil, Option, Some, None}
-use Rattle.std.specs.List.{slice_get, AllByRecursion}
+use Rattle.std.specs.List.{slice_get}
 use Rattle.wasm_typing.specs.Modules.{Typed}
 use Rattle.wasm_store.specs.Store.{Store}
 use Rattle.wasm_store.specs.Stack.{Stack}
@@ -14,11 +14,9 @@ use Rattle.wasm_store.proofs.Zips.{get_behind}
 use Rattle.comp_graph.specs.declared.graph.Action.{Action}
 use Rattle.comp_graph.specs.declared.graph.Action.TheVariants.{Begin, Make}
 use Rattle.comp_graph.specs.Graph.{CoreMake, Graph, HasImports, AreImported}
-use Rattle.script_reader.specs.Script.{Script}
-use Rattle.trace_show.specs.declared.label.Label.{Label}
 use Rattle.trace_show.specs.declared.trap.TrapName.TheVariants as trap
 use Rattle.abi_machine.specs.Control.{Control, Free, Instantiates, Runs, Doomed}
-use Rattle.abi_machine.specs.World.{Callee, Init, TaskState, New, Acting, AfterCall, AfterCancel, Begins, WaitsToEnter, InLoop, InBuiltin, Exited, Task, World}
+use Rattle.abi_machine.specs.World.{Callee, Init, TaskState, Acting, Begins, Exited, Task, World}
 use Rattle.abi_machine.specs.Edits.{changed_at, with_control, with_store, instance_begun, unchained, in_state, stacked}
 use Rattle.abi_machine.specs.Canons.{externals}
 use Rattle.abi_machine.specs.Reading.{has_exited, is_instantiated}
@@ -31,7 +29,7 @@ use Rattle.abi_machine.specs.sound.Controls.{Says}
 use Rattle.abi_machine.specs.sound.Acting.{outline_of, outlines_of, IsStarting, OneActs, ActsBy}
 use Rattle.abi_machine.specs.sound.Owners as owners
 use Rattle.abi_machine.specs.sound.MadeInstances.{IsTypedGraph, WereMade, WereMadeSoFar}
-use Rattle.abi_machine.specs.sound.TypedStacks.{gives, core_results, RunsTyped, StandsTyped, StandTyped, ActsTyped, IsTyped, InstantiationStaysTyped}
+use Rattle.abi_machine.specs.sound.TypedStacks.{core_results, RunsTyped, StandsTyped, StandTyped, ActsTyped, IsTyped, InstantiationStaysTyped}
 use Rattle.abi_machine.proofs.sound.Lists.{all_changed}
 use Rattle.abi_machine.proofs.sound.Found.{some_same, changed_there}
 use Rattle.abi_machine.proofs.sound.Outlines.{outline_there, is_what}

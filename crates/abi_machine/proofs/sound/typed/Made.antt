@@ -1,5 +1,5 @@
 -- Core instances that were made stay so, and one more is made.
-use Rattle.std.proofs.Common.{◌≡◌, ◌⊎◌, inl, inr, ◌+◌, ℕ, zero, suc, List, [], ◌∷◌, ◌++◌, drop, length, map, refl, sym, ap, ◌∙◌, subst, arith, append_assoc, length-append, Option, Some, None}
+use Rattle.std.proofs.Common.{◌≡◌, inl, inr, ◌+◌, ℕ, zero, suc, List, [], ◌∷◌, ◌++◌, drop, length, map, refl, sym, ap, ◌∙◌, subst, arith, append_assoc, length-append, Some}
 use Rattle.std.specs.List.{slice_get}
 use Rattle.wasm_module.specs.declared.module.DataSegment.{DataSegment}
 use Rattle.wasm_module.specs.declared.module.ElementSegment.{ElementSegment}
@@ -8,12 +8,11 @@ use Rattle.wasm_module.specs.declared.module.ModuleTree.{ModuleTree}
 use Rattle.wasm_module.specs.declared.types.FuncType.{FuncType}
 use Rattle.wasm_typing.specs.Modules.{Typed, ElementTyped}
 use Rattle.wasm_store.specs.Store.{Function, Host as HostFunction, Instance, Store, table_at, memory_at}
-use Rattle.wasm_store.specs.Instantiation.{External, new_func, allocated, element_written, data_written, init_value, Instantiation, Makes as IsMade, all_written, instance_of, instantiated, ImportsMatch, InRange}
+use Rattle.wasm_store.specs.Instantiation.{External, new_func, allocated, element_written, data_written, init_value, Makes as IsMade, all_written, instance_of, instantiated, ImportsMatch, InRange}
 use Rattle.wasm_store.specs.Typed.{StoreTyped, Extends}
 use Rattle.wasm_store.proofs.AddedModules.{Behind, allocated_typed, into_table_typed, into_memory_typed, entries_typed}
 use Rattle.wasm_store.proofs.Stores.{store_same, further, still}
 use Rattle.wasm_store.proofs.Zips.{get_behind, all_true}
-use Rattle.comp_graph.specs.declared.graph.CanonFunc.{CanonFunc}
 use Rattle.comp_graph.specs.Graph.{CoreMake, Graph, canon_type}
 use Rattle.abi_machine.specs.sound.Owners.{Makes, HasCanons}
 use Rattle.abi_machine.specs.sound.TypedStacks.{HostsAreCanons}
