@@ -43,7 +43,7 @@ ghost use Rattle.abi_machine.specs.sound.Guests.{FirstWaitsAs, WaitsAsStay};
 ghost use Rattle.abi_machine.specs.sound.Taken.{FirstCallsHaveTasks, CallsKeepTasks};
 ghost use Rattle.abi_machine.specs.sound.Events.{FirstHasEvents, EventsStay};
 ghost use Rattle.abi_machine.specs.sound.Exiting.{FirstResolvesFirst, ResolveFirstStays};
-ghost use Rattle.abi_machine.specs.sound.Deadlocks.{DeadlocksAreReal};
+ghost use Rattle.abi_machine.specs.sound.Deadlocks.{DeadlocksAreReal, ReachedDeadlocksAreReal};
 ghost use Rattle.abi_machine.specs.sound.Ending.{EndsComeWhere};
 
 /// Task 0 instantiates, and runs alone until it has exited; it never runs again, and no other task runs a start function. Control says
@@ -337,7 +337,9 @@ pub fn ends_have_causes()
 /// Where a run ends in deadlock no task runs, no item of the script is left, and the tasks that are named are those that have not exited, by
 /// rising number, but for task 0. What each waits for is missing: one that waits to enter is held back by backpressure, or a task that is named
 /// holds exclusive entry; one in its loop waits on a set without a ready member, and no cancellation is asked of it, or a task that is named holds
-/// exclusive entry; one in a built-in waits on such a set, for a task that has not resolved and is named, or for an end with nothing to tell.
+/// exclusive entry; one in a built-in waits on such a set, for a task that has not resolved and is named, or for an end with nothing to tell. So it is where a run
+/// comes to it.
 pub fn deadlocks_are_real()
-    ensures { DeadlocksAreReal }
+    ensures each { DeadlocksAreReal }
+    ensures reached { ReachedDeadlocksAreReal }
 {}
