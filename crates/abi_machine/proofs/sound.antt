@@ -60,3 +60,7 @@ pub mod Taking
 pub mod nexts
 pub mod Reached
 pub mod Functions
+pub mod Onward
+pub mod Ending
+pub mod Exiting
+pub mod Deadlocked

@@ -43,13 +43,16 @@ ghost use Rattle.abi_machine.specs.sound.Guests.{FirstWaitsAs, WaitsAsStay};
 ghost use Rattle.abi_machine.specs.sound.Cancels.{FirstHasCancels, CancelsStay};
 ghost use Rattle.abi_machine.specs.sound.Taken.{FirstCallsHaveTasks, CallsKeepTasks};
 ghost use Rattle.abi_machine.specs.sound.Events.{FirstHasEvents, EventsStay};
+ghost use Rattle.abi_machine.specs.sound.Exiting.{FirstResolvesFirst, ResolveFirstStays};
+ghost use Rattle.abi_machine.specs.sound.Deadlocks.{DeadlocksAreReal};
+ghost use Rattle.abi_machine.specs.sound.Ending.{EndsComeWhere};
 
 /// Task 0 instantiates, and runs alone until it has exited; it never runs again, and no other task runs a start function. Control says
 /// what is so: where a turn begins no task runs; elsewhere, but where control is back at a task or the run ends in a trap, the acting task
-/// acts, is new, or may be inside its instance; what is to be copied has room at the other end; and the task for which values are lowered
-/// has entered. A task that is new or waits to enter has not resolved, its caller was not told that it has, no live borrow handle names it,
-/// it called no other one, and it has no copy under way; a writable end stands in one place. So it is in the first world, and so it stays in
-/// every step.
+/// acts, is new, or may be inside its instance; what is to be copied has room at the other end; the task for which values are lowered
+/// has entered; and one that is to exit has resolved. A task that is new or waits to enter has not resolved, its caller was not told that
+/// it has, no live borrow handle names it, it called no other one, and it has no copy under way; a writable end stands in one place. So it
+/// is in the first world, and so it stays in every step.
 pub fn init_runs_alone()
     ensures first { FirstRunsAlone }
     ensures stays { StaysAlone }
@@ -326,4 +329,25 @@ pub fn instantiation_goes_on()
 pub fn functions_are_there()
     ensures there { ReachedFunctions }
     ensures goes_on { UsedGoOn }
+{}
+
+/// A task that runs a function resolves before it exits: where one has exited it has resolved. So it is in the first world, and so it stays in
+/// every step.
+pub fn tasks_resolve_first()
+    ensures first { FirstResolvesFirst }
+    ensures stays { ResolveFirstStays }
+{}
+
+/// A run ends by want of fuel only where all units are used, and in a trap only behind the step that came to it. Else it ends only where no task
+/// runs and there is no alternative: as done where all tasks have exited, and in deadlock where some have not.
+pub fn ends_have_causes()
+    ensures { EndsComeWhere }
+{}
+
+/// Where a run ends in deadlock no task runs, no item of the script is left, and the tasks that are named are those that have not exited, by
+/// rising number, but for task 0. What each waits for is missing: one that waits to enter is held back by backpressure, or a task that is named
+/// holds exclusive entry; one in its loop waits on a set without a ready member, and no cancellation is asked of it, or a task that is named holds
+/// exclusive entry; one in a built-in waits on such a set, for a task that has not resolved and is named, or for an end with nothing to tell.
+pub fn deadlocks_are_real()
+    ensures { DeadlocksAreReal }
 {}

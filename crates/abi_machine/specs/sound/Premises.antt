@@ -69,6 +69,10 @@ MayBecome NotAsked task = ⊥
 MayBecome Asked task = IsUnasked task
 MayBecome Delivered task = task.cancellation ≡ Asked
 
+-- A task that exits has resolved, where it runs a function: task 0 runs none.
+abbrev pub ExitsResolved : Task → Type 0
+ExitsResolved task = IsSome (func_of task.callee) → IsSome task.resolution
+
 -- A subtask that is new: nothing was told of it, and nothing is lent for it.
 abbrev pub IsNewSubtask : Subtask → Type 0
 IsNewSubtask subtask = (subtask.told ≡ Starting) × (subtask.lends ≡ [])
@@ -195,7 +199,7 @@ Comes g s (Acts t) w = IsFirst t w.chain × IsLetIn w.tasks t
 Comes g s (Begins n) w = IsFirst 0 w.chain × TaskIs w.tasks 0 (λ task. task.callee ≡ Init)
 Comes g s (Cancels t callee number words) w = IsFirst t w.chain × (may_leave w ≡ true) × TaskIs w.tasks t IsActing × IsGuest w.tasks callee
 Comes g s (Blocks t state) w = IsFirst t w.chain × IsBlocked state × ((may_leave w ≡ true) ⊎ HasFunc w.tasks t) × TaskIs w.tasks t (BlocksFrom state)
-Comes g s (Exits t) w = IsFirst t w.chain
+Comes g s (Exits t) w = IsFirst t w.chain × TaskIs w.tasks t ExitsResolved
 Comes g s (IsRemoved t) w = HasFunc w.tasks t × TaskIs w.tasks t IsRemovable × (borrows_of w t ≡ 0)
 Comes g s (Resolves t resolution) w = TaskIs w.tasks t (MayResolve resolution) × (borrows_of w t ≡ 0)
 Comes g s (IsCancelled t cancellation) w = TaskIs w.tasks t (MayBecome cancellation)
