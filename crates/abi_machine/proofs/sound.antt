@@ -44,6 +44,7 @@ pub mod Picking
 pub mod own
 pub mod Owning
 pub mod SetWaiting
+pub mod Cancelling
 pub mod OwnCalling
 pub mod CopyEdits
 pub mod Entered

@@ -26,6 +26,7 @@ pub mod Loans
 pub mod Borrows
 pub mod Loops
 pub mod Subtasks
+pub mod Cancels
 pub mod Picked
 pub mod Owners
 pub mod SetWaits

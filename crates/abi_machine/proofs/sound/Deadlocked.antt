@@ -21,11 +21,14 @@ use Rattle.tasks.specs.declared.subtask_state.SubtaskState.TheVariants.{Cancelle
 use Rattle.tasks.specs.Subtasks.{is_over}
 use Rattle.tasks.specs.Tasks.{is_asked, is_told, resolved_state}
 use Rattle.comp_graph.specs.Graph.{Graph, Lifted}
+use Rattle.trace_show.specs.declared.label.Label.{Label}
+use Rattle.script_reader.specs.Script.{Script}
 use Rattle.script_reader.specs.declared.script.Item.{Item}
 use Rattle.abi_machine.specs.declared.run_end.RunEnd.TheVariants.{Deadlock}
 use Rattle.stream_ends.specs.Ends.{is_pending}
 use Rattle.abi_machine.specs.Control.{EndRef, Control}
-use Rattle.abi_machine.specs.World.{Entry, Callee, Init, Wait, ForYield, ForSet, ForCall, ForCopy, ForCancel, TaskState, New, Acting, AfterCall, AfterCancel, Begins, WaitsToEnter, InLoop, InBuiltin, Exited, Task, World}
+use Rattle.abi_machine.specs.World.{Entry, Callee, Init, Wait, ForYield, ForSet, ForCall, ForCopy, ForCancel, TaskState, New, Acting, AfterCall, AfterCancel, Begins, WaitsToEnter, InLoop, InBuiltin, Exited, Task, World, first_world}
+use Rattle.abi_machine.specs.Run.{Reaches}
 use Rattle.abi_machine.specs.Reading.{table_in, func_of, kind_of, runs_in, is_in, has_exited, with_numbers, numbers_of, unfinished}
 use Rattle.abi_machine.specs.Counting.{passes, phase_of, has_resolved, end_of, ready}
 use Rattle.abi_machine.specs.Gate.{place_of, stay_of, gate_of, is_entry_free}
@@ -35,15 +38,21 @@ use Rattle.abi_machine.specs.sound.Changes.{IsBlocked}
 use Rattle.abi_machine.specs.sound.Chain.{IsThere, IsAside}
 use Rattle.abi_machine.specs.sound.Chain.{IsApart as ApartFrom}
 use Rattle.abi_machine.specs.sound.Initial.{RunsAlone}
+use Rattle.abi_machine.specs.sound.Tables.{HaveHistories}
 use Rattle.abi_machine.specs.sound.Acting.{StandsBy, outline_of, outlines_of, ActsBy, IsOrdered}
 use Rattle.abi_machine.specs.sound.Exiting.{HasExited, ResolvesFirst, ResolveFirst}
 use Rattle.abi_machine.specs.sound.Loops.{GoesOnBy, LoopsIn, LoopsSo, HaveLoops}
-use Rattle.abi_machine.specs.sound.Deadlocks.{IsAmong, IsHeldBy, NoneReady, LoopMisses, IsMissing, IsHeldUp, StandsStill, DeadlocksAreReal}
+use Rattle.abi_machine.specs.sound.Deadlocks.{IsAmong, IsHeldBy, NoneReady, LoopMisses, IsMissing, IsHeldUp, StandsStill, DeadlocksAreReal, ReachedDeadlocksAreReal}
 use Rattle.wasm_store.proofs.Lists.{all_at}
 use Rattle.abi_machine.proofs.sound.Found.{some_same}
 use Rattle.abi_machine.proofs.sound.Chained.{state_there}
 use Rattle.abi_machine.proofs.sound.Able.{all_kept}
 use Rattle.abi_machine.proofs.sound.Ending.{ends_come_where}
+use Rattle.abi_machine.proofs.sound.Alone.{first_runs_alone, stays_alone}
+use Rattle.abi_machine.proofs.sound.Histories.{first_has_histories, histories_stay}
+use Rattle.abi_machine.proofs.sound.Ordered.{first_ordered, order_stays}
+use Rattle.abi_machine.proofs.sound.Looping.{first_has_loops, loops_stay}
+use Rattle.abi_machine.proofs.sound.Exiting.{first_resolves_first, resolve_first_stays}
 use Rattle.abi_machine.proofs.sound.Outlines.{outline_there}
 
 -- No item is left, and no task is able.
@@ -344,3 +353,31 @@ deadlocks_are_real g s w named alone ordered loops first e =
       each = subst (λ (numbers : List ℕ). AllByRecursion (StandsStill w numbers) numbers) found.2
           (all_left (StandsStill w (unfinished w)) w.tasks (λ t task some there left. still g w alone ordered loops first idle none.1 t task there left));
     }
+
+-- What this asks of a world holds of each that a run reaches.
+record IsOrderly (w : World) : Type 0 where
+  alone : RunsAlone w
+  histories : HaveHistories w.insts
+  ordered : IsOrdered w
+  loops : HaveLoops w.tasks w.insts
+  resolved : ResolveFirst w.tasks
+
+first_orderly : (g : Graph) → IsOrderly (first_world g)
+first_orderly g = record { alone = first_runs_alone g; histories = first_has_histories g; ordered = first_ordered g; loops = first_has_loops g; resolved = first_resolves_first g }
+
+orderly_from : (g : Graph) (s : Script) (steps : List (List Label)) (w v : World) → IsOrderly w → Reaches g s w steps v → IsOrderly v
+orderly_from g s [] w v h r = subst IsOrderly (sym r) h
+orderly_from g s (labels ∷ steps) w v h r =
+    orderly_from g s steps r.0 v
+    (record {
+      alone = stays_alone g s w r.0 labels h.alone r.1;
+      histories = histories_stay g s w r.0 labels h.alone h.histories r.1;
+      ordered = order_stays g s w r.0 labels h.alone h.ordered r.1;
+      loops = loops_stay g s w r.0 labels h.alone h.ordered h.histories h.loops r.1;
+      resolved = resolve_first_stays g s w r.0 labels h.alone h.resolved r.1;
+    }) r.2
+
+pub reached_deadlocks_are_real : ReachedDeadlocksAreReal
+reached_deadlocks_are_real g s steps w named r e =
+    let h : IsOrderly w = orderly_from g s steps (first_world g) w (first_orderly g) r in
+    deadlocks_are_real g s w named h.alone h.ordered h.loops h.resolved e

@@ -11,14 +11,16 @@ use Rattle.stream_ends.specs.Ends.{is_pending}
 use Rattle.tasks.specs.Tasks.{is_asked}
 use Rattle.comp_graph.specs.Graph.{Graph, Lifted}
 use Rattle.script_reader.specs.Script.{Script}
+use Rattle.trace_show.specs.declared.label.Label.{Label}
 use Rattle.abi_machine.specs.declared.run_end.RunEnd.TheVariants.{Deadlock}
 use Rattle.abi_machine.specs.Control.{EndRef}
-use Rattle.abi_machine.specs.World.{Wait, ForYield, ForSet, ForCall, ForCopy, ForCancel, TaskState, WaitsToEnter, InLoop, InBuiltin, Task, World}
+use Rattle.abi_machine.specs.World.{Wait, ForYield, ForSet, ForCall, ForCopy, ForCancel, TaskState, WaitsToEnter, InLoop, InBuiltin, Task, World, first_world}
 use Rattle.abi_machine.specs.Reading.{backpressure_of, task_at, func_of, unfinished}
 use Rattle.abi_machine.specs.Counting.{has_resolved, end_of, ready}
 use Rattle.abi_machine.specs.Gate.{gate_of}
 use Rattle.abi_machine.specs.Finding.{found_subtask, set_number, found_end}
 use Rattle.abi_machine.specs.Turn.{Ends}
+use Rattle.abi_machine.specs.Run.{Reaches}
 use Rattle.abi_machine.specs.Next.{next}
 use Rattle.abi_machine.specs.sound.Chain.{IsThere}
 use Rattle.abi_machine.specs.sound.Initial.{RunsAlone}
@@ -79,3 +81,8 @@ pub record IsDeadlocked (s : Script) (w : World) (named : List ℕ) : Type 0 whe
 abbrev pub DeadlocksAreReal : Type 0
 DeadlocksAreReal =
     (g : Graph) (s : Script) (w : World) (named : List ℕ) → RunsAlone w → IsOrdered w → HaveLoops w.tasks w.insts → ResolveFirst w.tasks → next g s w ≡ Ends (Deadlock named) → IsDeadlocked s w named
+
+-- So it is where a run comes to it.
+abbrev pub ReachedDeadlocksAreReal : Type 0
+ReachedDeadlocksAreReal =
+    (g : Graph) (s : Script) (steps : List (List Label)) (w : World) (named : List ℕ) → Reaches g s (first_world g) steps w → next g s w ≡ Ends (Deadlock named) → IsDeadlocked s w named

@@ -39,6 +39,7 @@ use Rattle.abi_machine.specs.sound.EndPlaces.{IsFreshEnd}
 use Rattle.abi_machine.specs.sound.Entering.{HasEntered}
 use Rattle.abi_machine.specs.sound.Entered.{NamesEntered}
 use Rattle.abi_machine.specs.sound.GraphFuncs.{IsOfGraph}
+use Rattle.abi_machine.specs.sound.Subtasks.{CallIs}
 use Rattle.abi_machine.specs.sound.Taken.{MadeTask}
 
 -- One that is to wait until it may enter is new, and any other one acts before it blocks. One that blocks in its loop has a callback.
@@ -144,8 +145,13 @@ abbrev pub HasNoCopy : World → Entry → Type 0
 HasNoCopy w (OfEnd e) = (end_of w e).copy ≡ None
 HasNoCopy w entry = Unit {0}
 
+-- of which the caller was told that it has resolved, where it is a subtask
+abbrev pub WasDropped : List Task → Entry → Type 0
+WasDropped tasks (OfSubtask callee) = CallIs tasks callee (λ subtask. is_over subtask.told ≡ true)
+WasDropped tasks entry = Unit {0}
+
 abbrev pub IsTaken : World → Entry → Type 0
-IsTaken w entry = IsWaitable entry × HasNoCopy w entry
+IsTaken w entry = IsWaitable entry × HasNoCopy w entry × WasDropped w.tasks entry
 
 -- A read or write at an end that stands in a table and at which nothing is under way, by a task and a canonical function that are there.
 -- One of a future is of one value.
