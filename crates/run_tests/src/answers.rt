@@ -93,7 +93,7 @@ fn script_refused(alloc: Global, fault: ScriptFault) -> Result<String, Fail> {
     answer(alloc, 4, &line)
 }
 
-/// What a script comes to for the graph of a component that is read of bytes, of synchronous functions alone.
+/// What a script comes to for the graph of a component that is read of bytes, of synchronous functions alone that pass no end.
 fn scripted(
     alloc: Global,
     component: &Component,
@@ -117,7 +117,7 @@ fn scripted(
     }
 }
 
-/// The answer for a component whose graph has more than synchronous functions.
+/// The answer for a component whose graph has more than synchronous functions that pass no end.
 fn not_run(alloc: Global, component: &Component) -> Result<String, Fail> {
     let place = first_not_sync(component).ok_or("no such item")?;
     let why = LinkWhy::Limit;

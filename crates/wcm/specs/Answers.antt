@@ -1,7 +1,8 @@
 -- What a call of the program answers, from the command that its words lead to and what the files hold: a constructor for each row of the
 -- statuses. In this order they are decided: words that are no command; the component file; its linking; for `run` whether all functions
--- of the graph are synchronous, as those that are run; the script file, which is asked for behind such a graph alone; and the run. What
--- a run has for the output is the text of its trace, and behind it the text of what its last world leaves, where that is asked for.
+-- of the graph are synchronous and pass no end, as those that are run; the script file, which is asked for behind such a graph alone;
+-- and the run. What a run has for the output is the text of its trace, and behind it the text of what its last world leaves, where that
+-- is asked for.
 use Rattle.std.specs.Prelude.{◌≡◌, ℕ, Bool, true, if◌then◌else◌, List, [], ◌++◌, Option, Some, None}
 use Rattle.ca_base.specs.declared.refusal.Refusal.{Refusal}
 use Rattle.part_reader.specs.declared.fault.ComponentWhy.{ComponentWhy}
@@ -36,7 +37,7 @@ refused_answer refusal = record { status = Refused; out = []; err = refused_line
 abbrev pub link_refused_answer : LinkFault → Answer
 link_refused_answer fault = record { status = LinkRefused; out = []; err = link_refused_line fault }
 
--- that of a graph that is not run, whose component has the first item of more than synchronous functions at this place
+-- that of a graph that is not run, whose component has the first item of more than synchronous functions that pass no end at this place
 abbrev pub not_run_answer : ℕ → Answer
 not_run_answer place = link_refused_answer (record { place = place; why = Limit })
 
@@ -78,7 +79,7 @@ pub data Answers (held : List ℕ → Option (List ℕ)) : Option Command → An
   shown : (file : List ℕ) (g : Graph)
       → IsFileLinked held file g
       → Answers held (Some (Show file)) (shown_answer g)
-  -- 10: it is to be run, and is linked, and its graph has more than synchronous functions
+  -- 10: it is to be run, and is linked, and its graph has more than synchronous functions that pass no end
   not_run : (file script : List ℕ) (dump : Bool) (place : ℕ)
       → IsFileNotRun held file place
       → Answers held (Some (Run file script dump)) (not_run_answer place)

@@ -39,7 +39,7 @@ pub record HasNoGraph (held : List ℕ → Option (List ℕ)) (words : Option Co
   pub named : words ≡ Some command
   pub refused : IsFileNotLinked held (component_file command) fault
 
--- a component is to be run, and is linked, and its graph has more than synchronous functions
+-- a component is to be run, and is linked, and its graph has more than synchronous functions that pass no end
 pub record HasNotRun (held : List ℕ → Option (List ℕ)) (words : Option Command) : Type 0 where
   pub file : List ℕ
   pub script : List ℕ

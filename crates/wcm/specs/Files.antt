@@ -62,8 +62,8 @@ pub record IsFileLinked (held : List ℕ → Option (List ℕ)) (name : List ℕ
   pub read : IsComponentFile bytes component
   pub linked : IsLinked component g
 
--- The component file is of a component that is linked to a graph of more than synchronous functions, and the first of its items that
--- is more stands at this place.
+-- The component file is of a component that is linked to a graph of more than synchronous functions that pass no end, and the first of
+-- its items that is more stands at this place.
 pub record IsFileNotRun (held : List ℕ → Option (List ℕ)) (name : List ℕ) (place : ℕ) : Type 0 where
   pub bytes : List ℕ
   pub component : Component

@@ -212,7 +212,8 @@ fn shown_answer(alloc: Global, graph: &Graph) -> Result<Answer, Memory>
     })
 }
 
-/// The answer that a graph is not run, whose component has the first item of more than synchronous functions at this place.
+/// The answer that a graph is not run, whose component has the first item of more than synchronous functions that pass no end at this
+/// place.
 fn not_run_answer(alloc: Global, place: usize) -> Result<Answer, Memory>
     ensures { IfOk result (λ a. a ≡ not_run_answer place) }
 {
@@ -224,7 +225,7 @@ fn not_run_answer(alloc: Global, place: usize) -> Result<Answer, Memory>
     Ok(refusal(alloc, Status::LinkRefused, line))
 }
 
-/// The place of the first item of more than synchronous functions of a component, whose graph has such functions.
+/// The place of the first item of more than synchronous functions that pass no end of a component, whose graph has such functions.
 fn first_place(component: &Component, graph: &Graph) -> usize
     requires linked { IsLinked component.now graph.now }
     requires beyond { runs_synchronously graph.now ≡ false }
@@ -237,7 +238,7 @@ fn first_place(component: &Component, graph: &Graph) -> usize
     }
 }
 
-/// The answer for a graph of synchronous functions and the script file of this name; `dump` asks for what the run leaves.
+/// The answer for a graph of synchronous functions that pass no end and the script file of this name; `dump` asks for what the run leaves.
 fn script_answer<F: Files>(
     alloc: Global,
     graph: &Graph,
@@ -267,7 +268,7 @@ fn script_answer<F: Files>(
 }
 
 /// The answer for a component, its graph, and the script file of this name, which is asked for where all functions of the graph are
-/// synchronous; `dump` asks for what the run leaves.
+/// synchronous and pass no end; `dump` asks for what the run leaves.
 fn sync_answer<F: Files>(
     alloc: Global,
     component: &Component,

@@ -30,7 +30,7 @@ pub enum Status {
     WriteFault,
     /// Memory ran out.
     Memory,
-    /// The component is not linked, or it is to be run and has more than synchronous functions.
+    /// The component is not linked, or it is to be run and has more than synchronous functions that pass no end.
     LinkRefused,
 }
 

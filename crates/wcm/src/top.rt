@@ -42,12 +42,12 @@ fn write_answer<K: Sink>(answer: &Answer, out: &mut K, err: &mut K) -> Result<()
 /// answers how it ends. `words[0]` is the program's name. Every command reads and links the component file FILE. Then
 /// `check FILE` tells that it is linked, `show FILE` what can be called of it, and `run FILE SCRIPT` reads the script file,
 /// makes the core instances and then the script's calls, and writes the trace to the output; with `--dump` what the run
-/// leaves stands behind it. A graph of more than synchronous functions is not run. For words that are none of these a text for the
-/// user goes to the error output.
+/// leaves stands behind it. A graph of more than synchronous functions that pass no end is not run. For words that are none of these a
+/// text for the user goes to the error output.
 ///
 /// What it answers is a row of `Answers`, by the command that the words lead to and what the files may hold: what is told of them, or
-/// anything. They are told where the component file is, and, where `run` finds that one linked to a graph of synchronous functions, the
-/// script file too.
+/// anything. They are told where the component file is, and, where `run` finds that one linked to a graph of synchronous functions that
+/// pass no end, the script file too.
 #[tactic(auto, using(crate::proofs::Taken::grown_nil, crate::proofs::Taken::took, command_words::proofs::Plain::plain_is))]
 pub fn run_words<F: Files, K: Sink>(
     alloc: Global,

@@ -1,0 +1,3 @@
+pub mod FirstTypes
+pub mod First
+pub mod Listing

@@ -1,0 +1,5 @@
+pub mod Beginning
+pub mod Calling
+pub mod Following
+pub mod Moving
+pub mod Turning

@@ -1,0 +1,28 @@
+//! Runs of the machine of asynchronous calls, move by move (Component Model, CanonicalABI.md; Concurrency.md, "Summary").
+//!
+//! A move leads from a rest of what is kept up to the next one, or up to where values are to be passed, which its answer then says
+//! (`Passing`). The one clause of each function says what it makes of what is kept and of the stacks.
+//!
+//! - `beginning`: what is kept before a graph is instantiated
+//! - `moving`: one move, by where the run is, but for core code that runs
+//! - `running`: core code runs, and tasks that are lifted with `async` end
+//! - `calling`: calls of canonical functions by core code
+//! - `following`: events that come, and stacks that go on; `passing`: what is to be passed then
+//! - `turning`: where no task runs, the script's next item is taken or a task goes on
+#![tactic(auto, using(world_parts::proofs::Thens::then_gives, world_parts::proofs::Thens::then_traps, world_parts::proofs::Thens::then_spent, world_parts::proofs::Thens::then_stuck, world_stacks::proofs::Givens::given_some, world_stacks::proofs::Givens::given_none))]
+
+mod beginning;
+mod calling;
+mod following;
+mod moving;
+mod passing;
+mod running;
+mod turning;
+
+pub use beginning::{first_parts, first_stacks};
+pub use calling::call;
+pub use following::follow;
+pub use moving::make_move;
+pub use passing::Passing;
+pub use running::{end_async, run};
+pub use turning::turn;

@@ -1,0 +1,13 @@
+pub mod Fitting
+pub mod Lifted
+pub mod Slots
+pub mod Going
+pub mod Equations
+pub mod Stores
+pub mod Flats
+pub mod Arrived
+pub mod Tables
+pub mod Ranged
+pub mod Transport
+pub mod Named
+pub mod InRange

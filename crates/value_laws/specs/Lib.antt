@@ -1,0 +1,4 @@
+pub mod Fitting
+pub mod Carrying
+pub mod Arriving
+pub mod Transport
