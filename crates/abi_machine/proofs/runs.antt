@@ -40,6 +40,7 @@ pub mod NothingWritten
 pub mod Offered
 pub mod ReadTwice
 pub mod Removed
+pub mod Retold
 pub mod Reused
 pub mod Stayed
 pub mod Sunk

@@ -44,6 +44,7 @@ pub mod Picking
 pub mod own
 pub mod Owning
 pub mod SetWaiting
+pub mod Cancelling
 pub mod OwnCalling
 pub mod CopyEdits
 pub mod Entered
@@ -59,3 +60,7 @@ pub mod Taking
 pub mod nexts
 pub mod Reached
 pub mod Functions
+pub mod Onward
+pub mod Ending
+pub mod Exiting
+pub mod Deadlocked

@@ -8,3 +8,4 @@ pub mod Streams
 pub mod Transfers
 pub mod Futures
 pub mod Lowering
+pub mod Retold

@@ -26,6 +26,7 @@ pub mod Loans
 pub mod Borrows
 pub mod Loops
 pub mod Subtasks
+pub mod Cancels
 pub mod Picked
 pub mod Owners
 pub mod SetWaits
@@ -40,7 +41,10 @@ pub mod Taken
 pub mod Callees
 pub mod TypedGoing
 pub mod Guests
+pub mod Exiting
 pub mod Events
 pub mod GoingOn
 pub mod Starting
 pub mod Functions
+pub mod Ending
+pub mod Deadlocks

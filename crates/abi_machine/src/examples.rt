@@ -10,6 +10,7 @@ ghost use Rattle.abi_machine.specs.examples.Cancelling as cancelling;
 ghost use Rattle.abi_machine.specs.examples.Futures as futures;
 ghost use Rattle.abi_machine.specs.examples.Handles as handles;
 ghost use Rattle.abi_machine.specs.examples.Lowering as lowering;
+ghost use Rattle.abi_machine.specs.examples.Retold as retold;
 ghost use Rattle.abi_machine.specs.examples.Sets as sets;
 ghost use Rattle.abi_machine.specs.examples.Streams as streams;
 ghost use Rattle.abi_machine.specs.examples.Subtasks as subtasks;
@@ -40,6 +41,12 @@ pub fn cancellation_ends_a_wait()
 /// The cancellation of a call that waits in its loop comes to its callback at once, and the caller is told how it ended, once.
 pub fn calls_are_cancelled()
     ensures { Shows cancelling.twice one_call cancelling.twice_world cancelling.cancelled_twice (Trapped 1 trap.Delivered) 15 }
+{}
+
+/// While a task cancels a call, a poll in another task of its instance may be told that the call has returned, and then the task that cancels is
+/// told so once more: the task that is cancelled has itself cancelled one of that instance, which goes on at once.
+pub fn states_may_be_told_twice()
+    ensures { Shows retold.retold retold.both_called retold.retold_world retold.told_twice Done 30 }
 {}
 
 /// A call that waits to enter is removed by its cancellation. Nothing was lifted: a handle that it was to get stays with its caller.

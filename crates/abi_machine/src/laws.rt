@@ -40,15 +40,19 @@ ghost use Rattle.abi_machine.specs.sound.GoingOn.{WorldsGoOn, ReachedStand, Reac
 ghost use Rattle.abi_machine.specs.sound.Starting.{StartsTyped, StartedTyped, StartsGoOn};
 ghost use Rattle.abi_machine.specs.sound.Functions.{ReachedFunctions, UsedGoOn};
 ghost use Rattle.abi_machine.specs.sound.Guests.{FirstWaitsAs, WaitsAsStay};
+ghost use Rattle.abi_machine.specs.sound.Cancels.{FirstHasCancels, CancelsStay};
 ghost use Rattle.abi_machine.specs.sound.Taken.{FirstCallsHaveTasks, CallsKeepTasks};
 ghost use Rattle.abi_machine.specs.sound.Events.{FirstHasEvents, EventsStay};
+ghost use Rattle.abi_machine.specs.sound.Exiting.{FirstResolvesFirst, ResolveFirstStays};
+ghost use Rattle.abi_machine.specs.sound.Deadlocks.{DeadlocksAreReal, ReachedDeadlocksAreReal};
+ghost use Rattle.abi_machine.specs.sound.Ending.{EndsComeWhere};
 
 /// Task 0 instantiates, and runs alone until it has exited; it never runs again, and no other task runs a start function. Control says
 /// what is so: where a turn begins no task runs; elsewhere, but where control is back at a task or the run ends in a trap, the acting task
-/// acts, is new, or may be inside its instance; what is to be copied has room at the other end; and the task for which values are lowered
-/// has entered. A task that is new or waits to enter has not resolved, its caller was not told that it has, no live borrow handle names it,
-/// it called no other one, and it has no copy under way; a writable end stands in one place. So it is in the first world, and so it stays in
-/// every step.
+/// acts, is new, or may be inside its instance; what is to be copied has room at the other end; the task for which values are lowered
+/// has entered; and one that is to exit has resolved. A task that is new or waits to enter has not resolved, its caller was not told that
+/// it has, no live borrow handle names it, it called no other one, and it has no copy under way; a writable end stands in one place. So it
+/// is in the first world, and so it stays in every step.
 pub fn init_runs_alone()
     ensures first { FirstRunsAlone }
     ensures stays { StaysAlone }
@@ -276,6 +280,15 @@ pub fn waits_stay()
     ensures stays { WaitsAsStay }
 {}
 
+/// A subtask that a task cancels stands at its index in the table of the component instance whose function that task runs, until its caller is
+/// told that it has resolved, which it is not while the task is blocked until it has. Its cancellation is asked, or it has resolved while the
+/// task that cancels it acts; and one task at most cancels it. So it is in the first world, and so it stays in every step, where definitions
+/// stay apart.
+pub fn cancels_stay()
+    ensures first { FirstHasCancels }
+    ensures stays { CancelsStay }
+{}
+
 /// Each call of the script that was taken made a task, which has it as its caller: so it is in the first world, and so it stays in every step.
 pub fn calls_have_tasks()
     ensures first { FirstCallsHaveTasks }
@@ -293,7 +306,7 @@ pub fn events_come()
 /// In a world of which holds what is kept a step comes next, or the end, where what the rule of its control looks up besides is there: the
 /// export of a call and the call that a cancel names, what a core instance imports, a canonical function that a start function calls, and once all is instantiated the resource of
 /// which a handle is dropped with its destructor, core functions and moves of stacks, a function that gives places where one is asked for, and
-/// the end or the subtask at the index at which a blocked task waits. What is kept holds of each world that a run reaches, where definitions
+/// the end at the index at which a blocked task waits. What is kept holds of each world that a run reaches, where definitions
 /// stay apart.
 pub fn worlds_go_on()
     ensures each { WorldsGoOn }
@@ -311,9 +324,32 @@ pub fn instantiation_goes_on()
 
 /// Where besides a graph has all that its lifts, lowers and built-ins use, the core functions of what tasks run are in the store once all is
 /// instantiated, and so are destructors, up to a trap. So a step comes next, or the end, in each world that a run reaches, where items of the
-/// script, a rule for core code and the word of a realloc, a function that gives places where one is asked for, and the end or the subtask
-/// at the index at which a blocked task waits are there.
+/// script, a rule for core code and the word of a realloc, a function that gives places where one is asked for, and the end at the index
+/// at which a blocked task waits are there.
 pub fn functions_are_there()
     ensures there { ReachedFunctions }
     ensures goes_on { UsedGoOn }
+{}
+
+/// A task that runs a function resolves before it exits: where one has exited it has resolved. So it is in the first world, and so it stays in
+/// every step.
+pub fn tasks_resolve_first()
+    ensures first { FirstResolvesFirst }
+    ensures stays { ResolveFirstStays }
+{}
+
+/// A run ends by want of fuel only where all units are used, and in a trap only behind the step that came to it. Else it ends only where no task
+/// runs and there is no alternative: as done where all tasks have exited, and in deadlock where some have not.
+pub fn ends_have_causes()
+    ensures { EndsComeWhere }
+{}
+
+/// Where a run ends in deadlock no task runs, no item of the script is left, and the tasks that are named are those that have not exited, by
+/// rising number, but for task 0. What each waits for is missing: one that waits to enter is held back by backpressure, or a task that is named
+/// holds exclusive entry; one in its loop waits on a set without a ready member, and no cancellation is asked of it, or a task that is named holds
+/// exclusive entry; one in a built-in waits on such a set, for a task that has not resolved and is named, or for an end with nothing to tell. So it is where a run
+/// comes to it.
+pub fn deadlocks_are_real()
+    ensures each { DeadlocksAreReal }
+    ensures reached { ReachedDeadlocksAreReal }
 {}

@@ -32,7 +32,7 @@ one_kept : (P : ℕ → Type 0) (b : Bool) (n : ℕ) (task : Task) (others : Lis
 one_kept P true n task others h all = (h refl, all)
 one_kept P false n task others h all = all
 
-all_kept : (test : Task → Bool) (P : ℕ → Type 0) (n : ℕ) (tasks : List Task) → ((m : ℕ) (task : Task) → slice_get tasks m ≡ Some task → test task ≡ true → P (n + m))
+pub all_kept : (test : Task → Bool) (P : ℕ → Type 0) (n : ℕ) (tasks : List Task) → ((m : ℕ) (task : Task) → slice_get tasks m ≡ Some task → test task ≡ true → P (n + m))
     → AllByRecursion P (numbers_of test (with_numbers n tasks))
 all_kept test P n [] h = tt
 all_kept test P n (task ∷ tasks) h =

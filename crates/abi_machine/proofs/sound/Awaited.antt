@@ -119,7 +119,7 @@ index_is : (b : Bool) (next index : ℕ) (o : Option Entry) (entry other : Entry
 index_is true next index o entry other e h = inl (grind (arith, nat_tests), some_same h)
 index_is false next index o entry other e h = inr h
 
-subtask_same : (a b : ℕ) → OfSubtask a ≡ OfSubtask b → b ≡ a
+pub subtask_same : (a b : ℕ) → OfSubtask a ≡ OfSubtask b → b ≡ a
 subtask_same a b h = cc
 
 was_added : (insts : List Inst) (i callee j index other : ℕ) → StandsAt (changed_at i (λ inst. record inst { table = added (OfSubtask callee) inst.table }) insts) j index other → WasAdded insts i callee j index other
@@ -174,10 +174,10 @@ entry_added g w i (OfEnd e) new h = fewer g w.tasks w.insts _ (other_no_more w.i
 -- Tasks.
 
 -- what a change of a task leaves of the caller's side of its call
-abbrev KeepsCall : (Subtask → Type 0) → (Task → Task) → Type 0
+abbrev pub KeepsCall : (Subtask → Type 0) → (Task → Task) → Type 0
 KeepsCall P f = (x : Task) (subtask : Subtask) → subtask_of x.caller ≡ Some subtask → P subtask → (later : Subtask) × (subtask_of (f x).caller ≡ Some later) × P later
 
-same_call : (P : Subtask → Type 0) (f : Task → Task) → ((x : Task) → (f x).caller ≡ x.caller) → KeepsCall P f
+pub same_call : (P : Subtask → Type 0) (f : Task → Task) → ((x : Task) → (f x).caller ≡ x.caller) → KeepsCall P f
 same_call P f same x subtask e p = (subtask, ap subtask_of (same x) ∙ e, p)
 
 caller_some : (f : Subtask → Subtask) (c : Caller) (subtask : Subtask) → subtask_of c ≡ Some subtask → subtask_of (caller_changed f c) ≡ Some (f subtask)
@@ -185,16 +185,16 @@ caller_some f Nobody subtask e = cc
 caller_some f (Host call values) subtask e = cc
 caller_some f (Guest other) subtask e = ap (λ (x : Subtask). Some (f x)) (some_same e)
 
-by_call : (P : Subtask → Type 0) (f : Subtask → Subtask) → ((x : Subtask) → P x → P (f x)) → KeepsCall P (λ x. record x { caller = caller_changed f x.caller })
+pub by_call : (P : Subtask → Type 0) (f : Subtask → Subtask) → ((x : Subtask) → P x → P (f x)) → KeepsCall P (λ x. record x { caller = caller_changed f x.caller })
 by_call P f keeps x subtask e p = (f subtask, caller_some f x.caller subtask e, keeps subtask p)
 
-call_changed : (tasks : List Task) (u : ℕ) (f : Task → Task) (P : Subtask → Type 0) (callee : ℕ) → KeepsCall P f → CallIs tasks callee P → CallIs (changed_at u f tasks) callee P
+pub call_changed : (tasks : List Task) (u : ℕ) (f : Task → Task) (P : Subtask → Type 0) (callee : ℕ) → KeepsCall P f → CallIs tasks callee P → CallIs (changed_at u f tasks) callee P
 call_changed tasks u f P callee keeps h = elim (changed_kept u f tasks callee h.0 h.1) [
   | inl e ↦ (h.0, e, h.2)
   | inr e ↦ (f h.0, e, keeps h.0 h.2.0 h.2.1 h.2.2)
 ]
 
-call_more : (tasks : List Task) (new : Task) (P : Subtask → Type 0) (callee : ℕ) → CallIs tasks callee P → CallIs (tasks ++ new ∷ []) callee P
+pub call_more : (tasks : List Task) (new : Task) (P : Subtask → Type 0) (callee : ℕ) → CallIs tasks callee P → CallIs (tasks ++ new ∷ []) callee P
 call_more tasks new P callee h = (h.0, get_front tasks new callee h.0 h.1, h.2)
 
 -- what holds of the one that a task cancels, of other tasks
@@ -498,7 +498,7 @@ lent_changed g w u f same told h =
 abbrev Kept : Graph → World → Type 0
 Kept g w = IsNumbered w × HasSubtasks g w
 
-subtasks_kept : (g : Graph) (s : Script) (c : Change) (w : World) → MayCome g s c w → Besides (Unit {0}) g c w → Kept g w → HasSubtasks g (after c w)
+subtasks_kept : (g : Graph) (s : Script) (c : Change) (w : World) → MayCome g s c w → Besides (Unit {0}) ⊥ g c w → Kept g w → HasSubtasks g (after c w)
 subtasks_kept g s BeginsInstance w may b h = fewer g w.tasks w.insts _ (begun_no_more w.insts) h.1
 subtasks_kept g s (AddsEntry i entry) w may b h = entry_added g w i entry (b tt) h.1
 subtasks_kept g s (MakesSet i set) w may b h =
@@ -527,7 +527,7 @@ subtasks_kept g s (HasNewStack t k) w may b h = untouched g w.tasks w.insts t _ 
 subtasks_kept g s (HasStack t k) w may b h = untouched g w.tasks w.insts t _ (λ x. refl) (λ x. refl) h.1
 subtasks_kept g s (LosesStack t) w may b h = untouched g w.tasks w.insts t _ (λ x. refl) (λ x. refl) h.1
 subtasks_kept g s (IsAnswered t words) w may b h = untouched g w.tasks w.insts t _ (λ x. refl) (λ x. refl) h.1
-subtasks_kept g s (IsTold t state) w may b h = told_changed g w t (by_view delivered t state) (λ x. refl) (b tt) h.1
+subtasks_kept g s (IsTold t state) w may b h = told_changed g w t (by_view delivered t state) (λ x. refl) (b.0 tt) h.1
 subtasks_kept g s (IsLent t handle) w may b h = lent_changed g w t (λ subtask. by_view (with_lend handle) t subtask.told subtask) (λ x. refl) (λ x. refl) h.1
 subtasks_kept g s (HasResult t words) w may b h = lent_changed g w t (λ subtask. record subtask { result = words }) (λ x. refl) (λ x. refl) h.1
 subtasks_kept g s (MakesChannel kind element) w may b h = made_kept (HasSubtasks g) (λ v x k. k) (λ v x k. k) kind element w h.1
@@ -573,4 +573,4 @@ subtasks_stay g s w v labels alone o numbers called h e =
     (step_known
     (beside g s (in_order g s) (Unit {0}) ⊥ ⊥ (Kept g) (λ apart. absurd apart) (λ event. event) (λ apart u k. absurd apart) (λ c u may b belongs k. (numbered g s c u may k.0, subtasks_kept g s c u may b k))
     (λ t u may k. (numbered g s (ComesBack t) u may k.0, k.1)) (λ t u may k. (numbered g s (IsRemoved t) u may k.0, removed_subtasks g t u k.1)))
-    w v labels (λ given. record { called = called; subtasks = h }) (λ apart. absurd apart) (λ event. absurd event) alone.1 o.2 ((alone.0, o.0, o.1), (numbers, h)) e).0.1.1
+    w v labels (λ given. record { called = called; subtasks = h }) (λ asks. absurd asks) (λ apart. absurd apart) (λ event. absurd event) alone.1 o.2 ((alone.0, o.0, o.1), (numbers, h)) e).0.1.1

@@ -43,6 +43,18 @@ pub last_there : {A : Type 0} (xs : List A) (x : A) → slice_get (xs ++ x ∷ [
 last_there [] x = refl
 last_there (y ∷ xs) x = last_there xs x
 
+-- the same, with the number apart from the other one
+pub changed_apart : {A : Type 0} (n : ℕ) (f : A → A) (xs : List A) (m : ℕ) (y : A) → slice_get (changed_at n f xs) m ≡ Some y
+    → ((m ≡ n) × ((x : A) × (slice_get xs n ≡ Some x) × (y ≡ f x))) ⊎ ((n ≢ m) × (slice_get xs m ≡ Some y))
+changed_apart n f [] m y e = cc
+changed_apart zero f (x ∷ xs) zero y e = inl (refl, (x, refl, sym (some_same e)))
+changed_apart zero f (x ∷ xs) (suc m) y e = inr ((λ same. omega (arith, same)), e)
+changed_apart (suc n) f (x ∷ xs) zero y e = inr ((λ same. omega (arith, same)), e)
+changed_apart (suc n) f (x ∷ xs) (suc m) y e = elim (changed_apart n f xs m y e) [
+  | inl o ↦ inl (ap suc o.0, o.1)
+  | inr old ↦ inr ((λ same. old.0 (let less : n ≡ m = omega (arith, same) in less)), old.1)
+]
+
 pub no_first : {A : Type 0} (n : ℕ) (x : A) → slice_get [] n ≡ Some x → ⊥
 no_first n x e = cc
 

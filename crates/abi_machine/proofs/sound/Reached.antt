@@ -20,6 +20,9 @@ use Rattle.abi_machine.proofs.sound.Holding.{first_holds_copies, copies_stay_hel
 use Rattle.abi_machine.proofs.sound.Looping.{first_has_loops, loops_stay}
 use Rattle.abi_machine.proofs.sound.SetWaiting.{first_has_sets, sets_stay_there}
 use Rattle.abi_machine.proofs.sound.Owning.{first_is_own, own_stays}
+use Rattle.abi_machine.proofs.sound.Awaited.{first_has_subtasks, subtasks_stay}
+use Rattle.abi_machine.proofs.sound.Telling.{first_is_told, told_stays}
+use Rattle.abi_machine.proofs.sound.Cancelling.{first_has_cancels, cancels_stay}
 use Rattle.abi_machine.proofs.sound.Picking.{first_is_picked, picked_stays}
 use Rattle.abi_machine.proofs.sound.Taking.{first_calls_have_tasks, calls_keep_tasks}
 use Rattle.abi_machine.proofs.sound.Coming.{first_has_events, events_stay}
@@ -37,6 +40,9 @@ first_stands g s apart = record {
   copies = first_holds_copies g;
   loops = first_has_loops g;
   sets = first_has_sets g;
+  subtasks = first_has_subtasks g;
+  told = first_is_told g;
+  cancels = first_has_cancels g;
   own = (first_is_own g apart).0;
   control_own = (first_is_own g apart).1;
   picked = first_is_picked g s;
@@ -58,6 +64,9 @@ standing_stays g s w v labels apart h e =
       copies = copies_stay_held g s w v labels h.alone h.histories h.copies e;
       loops = loops_stay g s w v labels h.alone h.ordered h.histories h.loops e;
       sets = sets_stay_there g s w v labels apart h.alone h.ordered h.histories h.own h.control_own h.sets e;
+      subtasks = subtasks_stay g s w v labels h.alone h.ordered h.numbered h.called h.subtasks e;
+      told = told_stays g s w v labels h.alone h.told e;
+      cancels = cancels_stay g s w v labels apart h.alone h.ordered h.histories h.called h.subtasks h.told h.own h.control_own h.cancels e;
       own = own.0;
       control_own = own.1;
       picked = picked_stays g s w v labels h.alone h.ordered e;

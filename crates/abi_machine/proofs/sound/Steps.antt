@@ -117,13 +117,13 @@ module _ {g : Graph} {s : Script} (inv : Invariant g s) where
   each_keeps w Runs says h = running_keeps inv w (h, says)
   each_keeps w (control.Calls number words) says h = calling_keeps inv number words w (h, says)
   each_keeps w Arrives says h = arriving_keeps inv w says h
-  each_keeps w (Lowers l plan) says h = lowers_keeps inv l plan w (((h, says.0), says.1), says.2)
-  each_keeps w (Quiet n b) says h = nested_keeps inv n b w ((h, says.0), says.1, says.2)
+  each_keeps w (Lowers l plan) says h = lowers_keeps inv l plan w (((h, says.0), says.1, says.3), says.2)
+  each_keeps w (Quiet n b) says h = nested_keeps inv n b w ((h, says.0), says.1, says.2, says.3)
   each_keeps w Back says h = back_keeps inv w h
   each_keeps w GoesOn says h = going_keeps w says h
   each_keeps w Resumes says h = resuming_keeps inv w says h
   each_keeps w (Delivers set receiver pick) says h = delivering_keeps inv set receiver pick w (h, says)
-  each_keeps w Leaves says h = leaving_keeps inv w (h, says)
+  each_keeps w Leaves says h = leaving_keeps inv w says.1 (h, says.0)
   each_keeps w (Doomed t why) says h = tt
 
   pub step_keeps : (w v : World) (labels : List Label) → Agrees w.control w → inv.Holds w → machine.next g s w ≡ Steps labels v → inv.Holds v × Agrees v.control v

@@ -1,5 +1,5 @@
 -- What stands where an end or a subtask is taken out of its table: nothing is under way at the end.
-use Rattle.std.proofs.Common.{◌≡◌, ℕ, ◌&&◌, Bool, true, false, not, List, [], ◌∷◌, refl, subst, Option, Some, None, Result, Ok, Err, if◌then◌else◌}
+use Rattle.std.proofs.Common.{◌≡◌, ℕ, ◌&&◌, Bool, true, false, not, List, [], ◌∷◌, refl, sym, subst, Option, Some, None, Result, Ok, Err, if◌then◌else◌}
 use Rattle.std.specs.Prelude.{is_none}
 use Rattle.std.specs.Option.{option_map}
 use Rattle.ca_types.specs.declared.types.ValType.{ValType}
@@ -12,6 +12,7 @@ use Rattle.res_handles.specs.Ends as readable
 use Rattle.stream_ends.specs.declared.side.Side.{Side}
 use Rattle.stream_ends.specs.declared.side.Side.TheVariants.{Reader, Writer}
 use Rattle.stream_ends.specs.Ends.{is_idle}
+use Rattle.tasks.specs.Subtasks.{is_over}
 use Rattle.stream_ends.specs.declared.open_copy.OpenCopy.{OpenCopy}
 use Rattle.trace_show.specs.declared.trap.TrapName.TheVariants as trap
 use Rattle.abi_machine.specs.SameTypes.{same_held}
@@ -25,6 +26,7 @@ use Rattle.abi_machine.specs.Lifting as lifting
 use Rattle.abi_machine.specs.sound.Changes.{Stands}
 use Rattle.abi_machine.specs.sound.Agreeing.{Agrees}
 use Rattle.abi_machine.specs.sound.Premises.{IsTaken}
+use Rattle.abi_machine.specs.sound.Subtasks.{CallIs}
 use Rattle.abi_machine.proofs.sound.Found.{ok_same}
 
 pub behind_agrees : (chain : List ℕ) (w : World) → w.chain ≡ chain → Agrees (control_behind chain) w
@@ -63,16 +65,16 @@ lifted_end_taken w i index kind element x h = by (entry_at w i index) refl h
     by (Some (BorrowHandle of_type rep task)) e k = cc
     by (Some (OfSubtask callee)) e k = cc
     by (Some (OfSet set)) e k = cc
-    by (Some (OfEnd r)) e k = (OfEnd r, e, (tt, lifted_idle w r r.side i index kind element x k))
+    by (Some (OfEnd r)) e k = (OfEnd r, e, (tt, lifted_idle w r r.side i index kind element x k, tt))
 
-pub subtask_taken : (w : World) (i index callee : ℕ) → subtask_at w i index ≡ Ok callee → Stands w i index (IsTaken w)
-subtask_taken w i index callee h = by (entry_at w i index) refl h
+pub subtask_taken : (w : World) (i index callee : ℕ) → subtask_at w i index ≡ Ok callee → CallIs w.tasks callee (λ subtask. is_over subtask.told ≡ true) → Stands w i index (IsTaken w)
+subtask_taken w i index callee h told = by (entry_at w i index) refl h
   where
     by : (o : Option Entry) → entry_at w i index ≡ o → subtask_in o ≡ Ok callee → Stands w i index (IsTaken w)
     by None e k = cc
     by (Some (OwnHandle of_type rep)) e k = cc
     by (Some (BorrowHandle of_type rep task)) e k = cc
-    by (Some (OfSubtask other)) e k = (OfSubtask other, e, (tt, tt))
+    by (Some (OfSubtask other)) e k = (OfSubtask other, e, (tt, tt, subst (λ (n : ℕ). CallIs w.tasks n (λ subtask. is_over subtask.told ≡ true)) (sym (ok_same k)) told))
     by (Some (OfSet set)) e k = cc
     by (Some (OfEnd r)) e k = cc
 

@@ -1,6 +1,9 @@
 pub mod Handles
 pub mod Lifting
 pub mod Unawaited
+pub mod Asked
+pub mod Asking
+pub mod Ready
 pub mod Picking
 pub mod Events
 pub mod Keeping

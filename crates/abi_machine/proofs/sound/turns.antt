@@ -1,4 +1,5 @@
 pub mod Keeping
+pub mod Resolving
 pub mod Moving
 pub mod Waking
 pub mod Nesting

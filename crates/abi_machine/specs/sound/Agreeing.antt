@@ -1,13 +1,13 @@
 -- What control says of the rest (Component Model, Concurrency.md, "Summary"; CanonicalABI.md, "Stream State"): where a turn begins no task
 -- runs, and while a graph is instantiated task 0 alone runs; what the acting task is at; where elements are copied, that there is room for
--- them at the other end; and that the task for which values are lowered has entered.
-use Rattle.std.specs.Prelude.{◌≡◌, ◌≤◌, ℕ, ◌-◌, List, [], ◌∷◌, length, Option, Some, None}
+-- them at the other end; that the task for which values are lowered has entered; and that a task that is to exit has resolved.
+use Rattle.std.specs.Prelude.{◌≡◌, ◌≤◌, ℕ, ◌-◌, List, [], ◌∷◌, length, Option, Some, None, IsSome}
 use Rattle.builtin_kinds.specs.declared.EndKind.{EndKind}
 use Rattle.builtin_kinds.specs.declared.EndKind.TheVariants.{Stream, Future}
 use Rattle.stream_ends.specs.declared.side.Side.{Side}
 use Rattle.stream_ends.specs.declared.open_copy.OpenCopy.{OpenCopy}
 use Rattle.stream_ends.specs.Ends.{EndsView, other_side, end_at, standing_of}
-use Rattle.abi_machine.specs.Control.{EndRef, Then, Starts, Resolves, Transfers, Behind, InLowering, BeforeLeaving, Control, Free, Chosen, Instantiates, Runs, Calls, Arrives, Lowers, Quiet, Goes, Resumes, Delivers, Leaves}
+use Rattle.abi_machine.specs.Control.{EndRef, After, Replies, Finishes, Then, Starts, Resolves, Transfers, Behind, InLowering, BeforeLeaving, Control, Free, Chosen, Instantiates, Runs, Calls, Arrives, Lowers, Quiet, Goes, Resumes, Delivers, Leaves}
 use Rattle.abi_machine.specs.World.{New, Channel, Task, World}
 use Rattle.abi_machine.specs.Reading.{numbered}
 use Rattle.abi_machine.specs.sound.Firsts.{FirstIs, IsActing, MayBeInside}
@@ -49,6 +49,23 @@ abbrev pub LowersForEntered : Behind → List Task → Type 0
 LowersForEntered (InLowering l k) tasks = HasEntered tasks l.acts_for
 LowersForEntered BeforeLeaving tasks = Unit {0}
 
+-- The acting task has resolved, where it is to exit: after a result, behind a lowering, and behind nested code.
+abbrev pub FirstHasResolved : List Task → List ℕ → Type 0
+FirstHasResolved tasks chain = FirstIs tasks chain (λ task. IsSome task.resolution)
+
+abbrev pub HasResolvedFor : After → List Task → List ℕ → Type 0
+HasResolvedFor Replies tasks chain = Unit {0}
+HasResolvedFor (Finishes ended) tasks chain = FirstHasResolved tasks chain
+
+abbrev pub HasResolvedThen : Then → List Task → List ℕ → Type 0
+HasResolvedThen Starts tasks chain = Unit {0}
+HasResolvedThen (Resolves to after) tasks chain = HasResolvedFor after tasks chain
+HasResolvedThen (Transfers copying) tasks chain = Unit {0}
+
+abbrev pub HasResolvedBehind : Behind → List Task → List ℕ → Type 0
+HasResolvedBehind (InLowering l k) tasks chain = HasResolvedThen l.next tasks chain
+HasResolvedBehind BeforeLeaving tasks chain = FirstHasResolved tasks chain
+
 -- The acting task acts; it is new; it may be inside its instance.
 abbrev pub FirstActs : List Task → List ℕ → Type 0
 FirstActs tasks chain = FirstIs tasks chain IsActing
@@ -66,12 +83,12 @@ Tells (Instantiates n) tasks chain streams futures = chain ≡ 0 ∷ []
 Tells Runs tasks chain streams futures = FirstActs tasks chain
 Tells (Calls number words) tasks chain streams futures = FirstActs tasks chain
 Tells Arrives tasks chain streams futures = FirstIsNew tasks chain
-Tells (Lowers l plan) tasks chain streams futures = FirstActs tasks chain × IsDueBehind l.next streams futures × HasEntered tasks l.acts_for
-Tells (Quiet n b) tasks chain streams futures = FirstActs tasks chain × IsDueAfter b streams futures × LowersForEntered b tasks
+Tells (Lowers l plan) tasks chain streams futures = FirstActs tasks chain × IsDueBehind l.next streams futures × HasEntered tasks l.acts_for × HasResolvedThen l.next tasks chain
+Tells (Quiet n b) tasks chain streams futures = FirstActs tasks chain × IsDueAfter b streams futures × LowersForEntered b tasks × HasResolvedBehind b tasks chain
 Tells Goes tasks chain streams futures = FirstIsLetIn tasks chain
 Tells Resumes tasks chain streams futures = FirstIsLetIn tasks chain
 Tells (Delivers set receiver pick) tasks chain streams futures = FirstActs tasks chain
-Tells Leaves tasks chain streams futures = FirstActs tasks chain
+Tells Leaves tasks chain streams futures = FirstActs tasks chain × FirstHasResolved tasks chain
 Tells other tasks chain streams futures = Unit {0}
 
 -- what this control says of a world

@@ -23,11 +23,11 @@ use Rattle.script_reader.specs.Script.{Script}
 use Rattle.trace_show.specs.declared.label.Label.{Label}
 use Rattle.abi_machine.specs.LoweringOver.{Plan}
 use Rattle.abi_machine.specs.Control.{Lowering, HostedState, Going, AtCall, Behind, InLowering, BeforeLeaving, Control, Free, Chosen, Instantiates, Runs, Calls, Lowers, Quiet, Resumes, Delivers}
-use Rattle.abi_machine.specs.World.{Wait, ForCopy, ForCancel, TaskState, InBuiltin, Task, World, first_world}
+use Rattle.abi_machine.specs.World.{Wait, ForCopy, TaskState, InBuiltin, Task, World, first_world}
 use Rattle.abi_machine.specs.Edits.{with_control}
 use Rattle.abi_machine.specs.Canons.{func_address, externals, bytes_of, canon_at, resource_at}
 use Rattle.abi_machine.specs.Reading.{table_of, func_of, kind_of, may_leave}
-use Rattle.abi_machine.specs.Finding.{found_subtask, found_end}
+use Rattle.abi_machine.specs.Finding.{found_end}
 use Rattle.abi_machine.specs.Pausing.{Paused, Words, Failed, Asked, settle}
 use Rattle.abi_machine.specs.Turn.{Turn, Steps, Ends, Stuck}
 use Rattle.abi_machine.specs.Scheduling.{calls_taken}
@@ -43,6 +43,9 @@ use Rattle.abi_machine.specs.sound.Callers.{AreByCanons}
 use Rattle.abi_machine.specs.sound.OpenCopies.{HoldsCopies}
 use Rattle.abi_machine.specs.sound.Loops.{HaveLoops}
 use Rattle.abi_machine.specs.sound.SetWaits.{HaveSets}
+use Rattle.abi_machine.specs.sound.Subtasks.{HasSubtasks}
+use Rattle.abi_machine.specs.sound.Told.{AreTold}
+use Rattle.abi_machine.specs.sound.Cancels.{HasCancels}
 use Rattle.abi_machine.specs.sound.Guests.{WaitAs}
 use Rattle.abi_machine.specs.sound.Picked.{IsPicked}
 use Rattle.abi_machine.specs.sound.Taken.{CallsHaveTasks}
@@ -133,10 +136,9 @@ pub record IsCallable (g : Graph) (number : ℕ) (w : World) : Type 0 where
   pub made : (t : ℕ) (task : Task) → IsFirst t w.chain → slice_get w.tasks t ≡ Some task → func_of task.callee ≡ None → IsSome (canon_at g number)
   pub names : may_leave w ≡ true → (c : CanonFunc) → canon_at g number ≡ Some c → NamesThere g w.store c
 
--- What a blocked task waits for stands at its index.
+-- The end of the copy for which a blocked task waits stands at its index.
 abbrev pub WaitsThere : World → ℕ → Wait → Type 0
 WaitsThere w i (ForCopy index) = IsSome (found_end w i index)
-WaitsThere w i (ForCancel index) = IsSome (found_subtask w i index)
 WaitsThere w i wait = Unit {0}
 
 abbrev pub ResumesAt : World → Lifted → TaskState → Type 0
@@ -158,6 +160,9 @@ pub record IsStanding (g : Graph) (s : Script) (w : World) : Type 0 where
   pub copies : HoldsCopies g w
   pub loops : HaveLoops w.tasks w.insts
   pub sets : HaveSets w.tasks w.insts
+  pub subtasks : HasSubtasks g w
+  pub told : AreTold w.tasks
+  pub cancels : HasCancels w
   pub own : IsOwnWorld g w
   pub control_own : IsControlOwn g w.control w
   pub picked : IsPicked g s w.control w

@@ -39,6 +39,7 @@ use Rattle.abi_machine.specs.sound.EndPlaces.{IsFreshEnd}
 use Rattle.abi_machine.specs.sound.Entering.{HasEntered}
 use Rattle.abi_machine.specs.sound.Entered.{NamesEntered}
 use Rattle.abi_machine.specs.sound.GraphFuncs.{IsOfGraph}
+use Rattle.abi_machine.specs.sound.Subtasks.{CallIs}
 use Rattle.abi_machine.specs.sound.Taken.{MadeTask}
 
 -- One that is to wait until it may enter is new, and any other one acts before it blocks. One that blocks in its loop has a callback.
@@ -67,6 +68,10 @@ abbrev pub MayBecome : Cancellation → Task → Type 0
 MayBecome NotAsked task = ⊥
 MayBecome Asked task = IsUnasked task
 MayBecome Delivered task = task.cancellation ≡ Asked
+
+-- A task that exits has resolved, where it runs a function: task 0 runs none.
+abbrev pub ExitsResolved : Task → Type 0
+ExitsResolved task = IsSome (func_of task.callee) → IsSome task.resolution
 
 -- A subtask that is new: nothing was told of it, and nothing is lent for it.
 abbrev pub IsNewSubtask : Subtask → Type 0
@@ -140,8 +145,13 @@ abbrev pub HasNoCopy : World → Entry → Type 0
 HasNoCopy w (OfEnd e) = (end_of w e).copy ≡ None
 HasNoCopy w entry = Unit {0}
 
+-- of which the caller was told that it has resolved, where it is a subtask
+abbrev pub WasDropped : List Task → Entry → Type 0
+WasDropped tasks (OfSubtask callee) = CallIs tasks callee (λ subtask. is_over subtask.told ≡ true)
+WasDropped tasks entry = Unit {0}
+
 abbrev pub IsTaken : World → Entry → Type 0
-IsTaken w entry = IsWaitable entry × HasNoCopy w entry
+IsTaken w entry = IsWaitable entry × HasNoCopy w entry × WasDropped w.tasks entry
 
 -- A read or write at an end that stands in a table and at which nothing is under way, by a task and a canonical function that are there.
 -- One of a future is of one value.
@@ -189,7 +199,7 @@ Comes g s (Acts t) w = IsFirst t w.chain × IsLetIn w.tasks t
 Comes g s (Begins n) w = IsFirst 0 w.chain × TaskIs w.tasks 0 (λ task. task.callee ≡ Init)
 Comes g s (Cancels t callee number words) w = IsFirst t w.chain × (may_leave w ≡ true) × TaskIs w.tasks t IsActing × IsGuest w.tasks callee
 Comes g s (Blocks t state) w = IsFirst t w.chain × IsBlocked state × ((may_leave w ≡ true) ⊎ HasFunc w.tasks t) × TaskIs w.tasks t (BlocksFrom state)
-Comes g s (Exits t) w = IsFirst t w.chain
+Comes g s (Exits t) w = IsFirst t w.chain × TaskIs w.tasks t ExitsResolved
 Comes g s (IsRemoved t) w = HasFunc w.tasks t × TaskIs w.tasks t IsRemovable × (borrows_of w t ≡ 0)
 Comes g s (Resolves t resolution) w = TaskIs w.tasks t (MayResolve resolution) × (borrows_of w t ≡ 0)
 Comes g s (IsCancelled t cancellation) w = TaskIs w.tasks t (MayBecome cancellation)

@@ -46,7 +46,7 @@ use Rattle.trace_show.specs.declared.trap.TrapName.{TrapName}
 use Rattle.trace_show.specs.declared.trap.TrapName.TheVariants as trap
 use Rattle.abi_machine.specs.Traps.{task_name, renamed, refusal_name, set_name}
 use Rattle.abi_machine.specs.Control.{EndRef, Replies, InWait, Calls, Back, Doomed}
-use Rattle.abi_machine.specs.World.{Entry, OwnHandle, OfSet, OfEnd, Func, Destroys, Subtask, ForYield, ForSet, AfterCancel, InBuiltin, Task, World}
+use Rattle.abi_machine.specs.World.{Entry, OwnHandle, OfSubtask, OfSet, OfEnd, Func, Destroys, Subtask, ForYield, ForSet, AfterCancel, InBuiltin, Task, World}
 use Rattle.abi_machine.specs.Edits.{entry_added, entry_removed, left_set, in_state, resolved, joined, concluded, end_dropped, set_made, channel_made}
 use Rattle.abi_machine.specs.Canons.{func_address, memory_of, bytes_of, canon_at, options_at, builtin_of, lifted_of, resource_at, destructor_of}
 use Rattle.abi_machine.specs.Reading.{table_of, sets_in, backpressure_of, acting, func_of, is_reentrant, may_leave, channels}
@@ -70,20 +70,25 @@ use Rattle.abi_machine.specs.replies.Waiting.{set_new_turn, none_ready, by_ready
 use Rattle.abi_machine.specs.replies.Streams.{end_ref, both_indices, ends_added, channel_new_turn, placed_well, max_length, copy_turn, is_async_copy, copy_cancel_turn, is_unwritten, end_drop_turn}
 use Rattle.abi_machine.specs.Reply.{resource_turn, plain_turn, side_of, copy_size, end_turn, builtin_turn, reply, exempt_turn, allowed, calling_turn}
 use Rattle.abi_machine.specs.sound.Changes.{AddsEntry, MakesSet, RemovesEntry, RemovesWaitable, LeavesSet, JoinsSet, HasBackpressure, Cancels, Resolves as IsResolved, HasWord, MakesChannel, Concludes, DropsEnd, after, IsWaitable, Stands}
+use Rattle.abi_machine.specs.sound.Cancels.{IsOver}
 use Rattle.abi_machine.specs.sound.Acting.{Outline, outline_of, outlines_of, WaitsWith, IsActing, IsRunning, IsCalling, OneActs}
 use Rattle.abi_machine.proofs.sound.known.Lifting.{result_keeps}
-use Rattle.abi_machine.proofs.sound.Found.{renamed_ok, waitable_stands, end_stands, subtask_stands, set_stands, set_empty, set_few, inc_few, dec_few}
+use Rattle.abi_machine.proofs.sound.Found.{some_same, renamed_ok, waitable_stands, end_stands, subtask_stands, set_stands, set_empty, set_few, inc_few, dec_few}
 use Rattle.abi_machine.proofs.sound.Outlines.{Is, as_is, state_first, acting_waits}
 use Rattle.abi_machine.proofs.sound.Standing.{steady}
 use Rattle.abi_machine.proofs.sound.acts.Keeping.{acts_at, acts_by}
 use Rattle.abi_machine.specs.sound.Owners.{owner_of_canon, owner_of_func, IsStackOf, IsOwnStack, CallsOwn, IsControlOwn}
-use Rattle.abi_machine.specs.sound.Subtasks.{IsUnawaited}
+use Rattle.abi_machine.specs.sound.Subtasks.{CallIs, IsUnawaited}
 use Rattle.abi_machine.proofs.sound.own.Belonging.{ref_starts, canon_apart, canon_owner, resource_apart, own_here}
 use Rattle.abi_machine.proofs.sound.own.Tasks.{calls_here, IsOfFunc}
 use Rattle.abi_machine.proofs.sound.known.Handles.{IsHandle, handle_is_left, handle_unwaited, dropped_found, set_none_wait, subtask_there}
 use Rattle.abi_machine.proofs.sound.known.Unawaited.{standing_unawaited}
+use Rattle.abi_machine.proofs.sound.Entries.{not_false}
+use Rattle.abi_machine.proofs.sound.Takeable.{end_found}
+use Rattle.abi_machine.proofs.sound.known.Asked.{CancelsWell}
+use Rattle.abi_machine.proofs.sound.known.Asking.{over_resolved, one_callee, stands_here}
 use Rattle.abi_machine.proofs.sound.known.Events.{first_ready, instance_is, member_comes}
-use Rattle.abi_machine.proofs.sound.known.Keeping.{Facts, BlocksAs, CallsItsOwn, Walk, Keeps, Held, still, given_keeps, behind_keeps, either_keeps, goes, refused_keeps, unless_keeps, fault_keeps, runs_keeps, on_keeps, blocked_keeps, entry_keeps, acting_stack_keeps, removes, waits, lends}
+use Rattle.abi_machine.proofs.sound.known.Keeping.{Known, BlocksAs, CallsItsOwn, Walk, Keeps, Held, still, given_keeps, behind_keeps, either_keeps, goes, refused_keeps, unless_keeps, fault_keeps, runs_keeps, on_keeps, blocked_keeps, entry_keeps, acting_stack_keeps, removes, waits, lends}
 use Rattle.abi_machine.proofs.sound.known.Moving.{resolves_keeps}
 use Rattle.abi_machine.proofs.sound.known.Waking.{call_keeps, with_keeps, none_keeps, cancel_keeps, yielded_keeps, acting_cancelled_keeps}
 use Rattle.abi_machine.proofs.sound.acts.Nesting.{exempt_leaves}
@@ -152,7 +157,7 @@ module _ {g : Graph} {s : Script} (walk : Walk g s) where
   unfolding yield_turn
   yield_keeps t task number cancellable words w free calls h =
       either_keeps walk (cancellable && is_asked task.cancellation) (yield_cancelled t w) (blocked t (InBuiltin number words ForYield) reason.Yield w) (λ e. yielded_keeps walk t w h)
-      (λ e. blocked_keeps walk t (InBuiltin number words ForYield) reason.Yield w h.1.0 tt (inl free) tt calls (as_is (IsActing true) (WaitsWith true) t w (acting_waits true) h.1) h.0)
+      (λ e. blocked_keeps walk t (InBuiltin number words ForYield) reason.Yield w h.1.0 tt (inl free) tt (λ asks. tt) calls (as_is (IsActing true) (WaitsWith true) t w (acting_waits true) h.1) h.0)
 
   new_set_keeps : (t i : ℕ) (w : World) → Held walk true t w → Keeps walk (set_new_turn t i w)
   unfolding set_new_turn
@@ -165,7 +170,7 @@ module _ {g : Graph} {s : Script} (walk : Walk g s) where
   unfolding none_ready
   none_ready_keeps t f wait_op.Poll number words w free there calls mine h = none_keeps walk t f (InWait number words) w mine h
   none_ready_keeps t f wait_op.Wait number words w free there calls mine h =
-      blocked_keeps walk t (InBuiltin number words (ForSet (slice_index words 0))) (reason.Wait (slice_index words 0)) w h.1.0 tt (inl free) there calls (as_is (IsActing true) (WaitsWith true) t w (acting_waits true) h.1) h.0
+      blocked_keeps walk t (InBuiltin number words (ForSet (slice_index words 0))) (reason.Wait (slice_index words 0)) w h.1.0 tt (inl free) there (λ asks. tt) calls (as_is (IsActing true) (WaitsWith true) t w (acting_waits true) h.1) h.0
 
   by_ready_keeps : (t : ℕ) (f : Lifted) (op : WaitOp) (number : ℕ) (words : List ℕ) (set : ℕ) (members : List ℕ) (w : World) → (walk.Event → members ≡ ready w f.instance set) → may_leave w ≡ true → BlocksAs g t (InBuiltin number words (ForSet (slice_index words 0))) w → (walk.Apart → CallsItsOwn g number t w) → Is (IsOfFunc f) t w → Held walk true t w → Keeps walk (by_ready g t f op number words set members w)
   unfolding by_ready
@@ -264,11 +269,12 @@ module _ {g : Graph} {s : Script} (walk : Walk g s) where
       refused_keeps walk t (end_at w kind side element i index) w (λ e. unless t (is_copying (end_of w e)) trap.Busy w (idle e)) (h.0, h.1.0) (λ e j.
       unless_keeps walk t (is_copying (end_of w e)) trap.Busy w (idle e) (h.0, h.1.0) (λ k.
       unless_keeps walk t (is_unwritten kind side (end_of w e)) trap.UnwrittenFuture w (answers e) (h.0, h.1.0) (λ l.
-      on_keeps walk t [] (after (DropsEnd e) (after (RemovesWaitable i index) w)) (still walk true t (DropsEnd e) (after (RemovesWaitable i index) w) tt tt (λ apart. tt) tt (still walk true t (RemovesWaitable i index) w (end_stands w i kind side element index e j) tt (λ apart. tt) tt h)))))
+      on_keeps walk t [] (after (DropsEnd e) (after (RemovesWaitable i index) w)) (still walk true t (DropsEnd e) (after (RemovesWaitable i index) w) tt tt (λ apart. tt) tt (still walk true t (RemovesWaitable i index) w (end_stands w i kind side element index e j)
+      (λ asks callee at. absurd (let clash : OfEnd e ≡ OfSubtask callee = some_same (sym (end_found w i kind side element index e j).0 ∙ at) in let none : ⊥ = cc in none)) (λ apart. tt) tt h)))))
 
-  subtask_cancel_keeps : (t i number : ℕ) (words : List ℕ) (w : World) → (walk.Given → Facts g w) → may_leave w ≡ true → (walk.Apart → CallsItsOwn g number t w) → Held walk true t w → Keeps walk (subtask_cancel_turn g t i number words w)
+  subtask_cancel_keeps : (t i number : ℕ) (words : List ℕ) (w : World) → Known walk w → may_leave w ≡ true → owner_of_canon g number ≡ Some i → (walk.Apart → CallsItsOwn g number t w) → Held walk true t w → Keeps walk (subtask_cancel_turn g t i number words w)
   unfolding subtask_cancel_turn cancel_asked
-  subtask_cancel_keeps t i number words w facts free calls h =
+  subtask_cancel_keeps t i number words w facts free here calls h =
       let asking : ℕ → World = λ callee. in_state t (AfterCancel callee number words) w in
       let asks : ℕ → Task → Turn = λ callee task. cancel_asked g callee task (asking callee) in
       let unasked : ℕ → Task → Turn = λ callee task. unless t (not (is_unasked task.cancellation)) trap.Asked w (asks callee task) in
@@ -278,10 +284,12 @@ module _ {g : Graph} {s : Script} (walk : Walk g s) where
       unless_keeps walk t (is_over subtask.told) trap.Delivered w (unasked callee task) (h.0, h.1.0) (λ j.
       unless_keeps walk t (not (is_unasked task.cancellation)) trap.Asked w (asks callee task) (h.0, h.1.0) (λ k.
       let v : World = asking callee in
-      let alone : walk.Given → IsUnawaited w.tasks callee = λ given. standing_unawaited g w i (slice_index words 0) callee (facts given).subtasks (subtask_there w i (slice_index words 0) callee e) in
+      let alone : walk.Given → IsUnawaited w.tasks callee = λ given. standing_unawaited g w i (slice_index words 0) callee (facts.0 given).subtasks (subtask_there w i (slice_index words 0) callee e) in
+      let well : walk.Asks → CancelsWell w t callee words =
+      λ asks. ((task, there, not_false (is_unasked task.cancellation) k), stands_here g w t number i callee words h.1 (calls (walk.asks_apart asks)) here (subtask_there w i (slice_index words 0) callee e)) in
       either_keeps walk (has_resolved task) (silent Back v) (cancelled_turn g callee task Back v)
-      (λ f. (goes walk Back v (walk.stays (Cancels t callee number words) w (h.1.0, free) (as_is (IsActing true) (WaitsWith true) t w (acting_waits true) h.1, subst (λ (o : Option Task). IsSome o) (sym there) refl, alone) calls h.0), tt, (t, state_first IsCalling (IsActing true) w t (AfterCancel callee number words) (λ o k. tt) h.1)))
-      (λ f. acting_cancelled_keeps walk t callee number words task w free there alone calls h)))))
+      (λ f. (goes walk Back v (walk.stays (Cancels t callee number words) w (h.1.0, free) (as_is (IsActing true) (WaitsWith true) t w (acting_waits true) h.1, subst (λ (o : Option Task). IsSome o) (sym there) refl, alone, λ asks. (well asks, (task, there, over_resolved task f))) calls h.0), tt, (t, state_first IsCalling (IsActing true) w t (AfterCancel callee number words) (λ o k. tt) h.1)))
+      (λ f. acting_cancelled_keeps walk t callee number words task w free there alone well calls h)))))
 
   subtask_drop_keeps : (t i index : ℕ) (w : World) → Held walk true t w → Keeps walk (subtask_drop_turn t i index w)
   unfolding subtask_drop_turn
@@ -290,7 +298,8 @@ module _ {g : Graph} {s : Script} (walk : Walk g s) where
       let over : Task → Subtask → Turn = λ task subtask. unless t (not (is_over subtask.told)) trap.NotDelivered w answers in
       refused_keeps walk t (subtask_at w i index) w (λ callee. with_subtask_of w callee over) (h.0, h.1.0) (λ callee e. with_keeps walk w callee over (λ task subtask there guest.
       unless_keeps walk t (not (is_over subtask.told)) trap.NotDelivered w answers (h.0, h.1.0) (λ j.
-      on_keeps walk t [] (after (RemovesWaitable i index) w) (still walk true t (RemovesWaitable i index) w (subtask_stands w i index callee e) tt (λ apart. tt) tt h))))
+      on_keeps walk t [] (after (RemovesWaitable i index) w) (still walk true t (RemovesWaitable i index) w (subtask_stands w i index callee e)
+      (λ asks other at. subst (λ (n : ℕ). CallIs w.tasks n IsOver) (one_callee callee other (some_same (sym (subtask_there w i index callee e) ∙ at))) (task, there, (subtask, guest, not_false (is_over subtask.told) j))) (λ apart. tt) tt h))))
 
   pressure_keeps : (t i pressure : ℕ) (w : World) → (pressure ≤ most_backpressure) ⊎ (pressure ≤ backpressure_of w i) → Held walk true t w → Keeps walk (replied t [] (after (HasBackpressure i pressure) w))
   pressure_keeps t i pressure w few h = on_keeps walk t [] (after (HasBackpressure i pressure) w) (still walk true t (HasBackpressure i pressure) w few tt (λ apart. tt) tt h)
@@ -301,20 +310,20 @@ module _ {g : Graph} {s : Script} (walk : Walk g s) where
   resource_keeps t i number resource_op.Drop resource words w known free here calls h = drop_keeps t i number resource words w known free here calls h
   resource_keeps t i number resource_op.Rep resource words w known free here calls h = tt
 
-  plain_keeps : (t : ℕ) (task : Task) (i number : ℕ) (op : PlainBuiltin) (words : List ℕ) (w : World) → (walk.Given → Facts g w) → may_leave w ≡ true → (walk.Apart → CallsItsOwn g number t w) → Held walk true t w → Keeps walk (plain_turn g t task i number op words w)
+  plain_keeps : (t : ℕ) (task : Task) (i number : ℕ) (op : PlainBuiltin) (words : List ℕ) (w : World) → Known walk w → may_leave w ≡ true → owner_of_canon g number ≡ Some i → (walk.Apart → CallsItsOwn g number t w) → Held walk true t w → Keeps walk (plain_turn g t task i number op words w)
   unfolding plain_turn pressure_set_turn pressure_inc_turn pressure_dec_turn
-  plain_keeps t task i number plain.TaskCancel words w facts free calls h = task_cancel_keeps t task w h
-  plain_keeps t task i number plain.BackpressureSet words w facts free calls h = pressure_keeps t i (set_pressure (slice_index words 0)) w (inl (set_few (slice_index words 0))) h
-  plain_keeps t task i number plain.BackpressureInc words w facts free calls h =
+  plain_keeps t task i number plain.TaskCancel words w facts free here calls h = task_cancel_keeps t task w h
+  plain_keeps t task i number plain.BackpressureSet words w facts free here calls h = pressure_keeps t i (set_pressure (slice_index words 0)) w (inl (set_few (slice_index words 0))) h
+  plain_keeps t task i number plain.BackpressureInc words w facts free here calls h =
       unless_keeps walk t (nat_le most_backpressure (backpressure_of w i)) trap.PressureLimit w (replied t [] (after (HasBackpressure i (backpressure_of w i + 1)) w)) (h.0, h.1.0) (λ e. pressure_keeps t i (backpressure_of w i + 1) w (inl (inc_few (backpressure_of w i) e)) h)
-  plain_keeps t task i number plain.BackpressureDec words w facts free calls h =
+  plain_keeps t task i number plain.BackpressureDec words w facts free here calls h =
       unless_keeps walk t (nat_eq (backpressure_of w i) 0) trap.PressureZero w (replied t [] (after (HasBackpressure i (backpressure_of w i - 1)) w)) (h.0, h.1.0) (λ e. pressure_keeps t i (backpressure_of w i - 1) w (inr (dec_few (backpressure_of w i))) h)
-  plain_keeps t task i number (plain.SubtaskCancel is_async) words w facts free calls h = subtask_cancel_keeps t i number words w facts free calls h
-  plain_keeps t task i number plain.SubtaskDrop words w facts free calls h = subtask_drop_keeps t i (slice_index words 0) w h
-  plain_keeps t task i number (plain.Yield cancellable) words w facts free calls h = yield_keeps t task number cancellable words w free calls h
-  plain_keeps t task i number plain.WaitableSetNew words w facts free calls h = new_set_keeps t i w h
-  plain_keeps t task i number plain.WaitableSetDrop words w facts free calls h = set_drop_keeps t i (slice_index words 0) w h
-  plain_keeps t task i number plain.WaitableJoin words w facts free calls h = join_keeps t i (slice_index words 0) (slice_index words 1) w h
+  plain_keeps t task i number (plain.SubtaskCancel is_async) words w facts free here calls h = subtask_cancel_keeps t i number words w facts free here calls h
+  plain_keeps t task i number plain.SubtaskDrop words w facts free here calls h = subtask_drop_keeps t i (slice_index words 0) w h
+  plain_keeps t task i number (plain.Yield cancellable) words w facts free here calls h = yield_keeps t task number cancellable words w free calls h
+  plain_keeps t task i number plain.WaitableSetNew words w facts free here calls h = new_set_keeps t i w h
+  plain_keeps t task i number plain.WaitableSetDrop words w facts free here calls h = set_drop_keeps t i (slice_index words 0) w h
+  plain_keeps t task i number plain.WaitableJoin words w facts free here calls h = join_keeps t i (slice_index words 0) (slice_index words 1) w h
 
   ends_keep : (t i number : ℕ) (kind : EndKind) (element : Option ValType) (op : EndOp) (words : List ℕ) (w : World) → may_leave w ≡ true → (walk.Apart → CallsItsOwn g number t w) → Held walk true t w → Keeps walk (end_turn g t i number kind element op words w)
   unfolding end_turn
@@ -323,17 +332,17 @@ module _ {g : Graph} {s : Script} (walk : Walk g s) where
   ends_keep t i number kind element (end_op.Cancel side is_async) words w free calls h = copy_cancel_keeps t i kind (side_of side) element (slice_index words 0) w h
   ends_keep t i number kind element (end_op.Drop side) words w free calls h = end_drop_keeps t i kind (side_of side) element (slice_index words 0) w h
 
-  builtin_keeps : (t : ℕ) (task : Task) (i number : ℕ) (b : BuiltinKind) (words : List ℕ) (w : World) → (walk.Given → Facts g w) → IsSome (canon_at g number) → may_leave w ≡ true → owner_of_canon g number ≡ Some i
+  builtin_keeps : (t : ℕ) (task : Task) (i number : ℕ) (b : BuiltinKind) (words : List ℕ) (w : World) → Known walk w → IsSome (canon_at g number) → may_leave w ≡ true → owner_of_canon g number ≡ Some i
       → (walk.Apart → CallsItsOwn g number t w) → Is (λ o. o ≡ outline_of task) t w → Held walk true t w → Keeps walk (builtin_turn g t task i number b words w)
   unfolding builtin_turn
   builtin_keeps t task i number (builtin.Resource op resource) words w facts known free here calls is h = resource_keeps t i number op resource words w known free here calls h
   builtin_keeps t task i number (builtin.TaskReturn result options) words w facts known free here calls is h = return_keeps t task i result options words w h
-  builtin_keeps t task i number (builtin.Plain op) words w facts known free here calls is h = plain_keeps t task i number op words w facts free calls h
+  builtin_keeps t task i number (builtin.Plain op) words w facts known free here calls is h = plain_keeps t task i number op words w facts free here calls h
   builtin_keeps t task i number (builtin.Context op slot) words w facts known free here calls is h = tt
   builtin_keeps t task i number (builtin.Wait op cancellable memory) words w facts known free here calls is h = wait_turn_keeps t task i op number words w free here calls is h
   builtin_keeps t task i number (builtin.End of_what element op) words w facts known free here calls is h = ends_keep t i number of_what element op words w free calls h
 
-  reply_keeps : (t : ℕ) (task : Task) (number : ℕ) (c : CanonFunc) (words : List ℕ) (w : World) → (walk.Given → Facts g w) → canon_at g number ≡ Some c → IsSome (canon_at g number) → may_leave w ≡ true
+  reply_keeps : (t : ℕ) (task : Task) (number : ℕ) (c : CanonFunc) (words : List ℕ) (w : World) → Known walk w → canon_at g number ≡ Some c → IsSome (canon_at g number) → may_leave w ≡ true
       → (walk.Apart → CallsItsOwn g number t w) → Is (λ o. o ≡ outline_of task) t w → Held walk true t w → Keeps walk (reply g t task number c words w)
   unfolding reply
   reply_keeps t task number (canon.Lower l) words w facts there known free calls is h =
@@ -349,7 +358,7 @@ module _ {g : Graph} {s : Script} (walk : Walk g s) where
   exempted_keeps t (Err why) w keeps h = (goes walk (Doomed t why) w h.0, tt, h.1.0)
   exempted_keeps t (Ok answer) w keeps h = (let k : Running t answer.world = keeps answer refl in runs_keeps walk t answer.words answer.world k.0 k.1)
 
-  pub calling_keeps : (number : ℕ) (words : List ℕ) (w : World) → (walk.Given → Facts g w) → (walk.Apart → IsControlOwn g (Calls number words) w) → walk.Holds w → OneActs IsRunning (outlines_of w.tasks) w.chain → Keeps walk (calling_turn g number words w)
+  pub calling_keeps : (number : ℕ) (words : List ℕ) (w : World) → Known walk w → (walk.Apart → IsControlOwn g (Calls number words) w) → walk.Holds w → OneActs IsRunning (outlines_of w.tasks) w.chain → Keeps walk (calling_turn g number words w)
   unfolding calling_turn allowed
   calling_keeps number words w facts own h o =
       given_keeps walk (acting w) _ (λ a e. given_keeps walk (canon_at g number) _ (λ c i.

@@ -11,7 +11,7 @@ use Rattle.abi_machine.specs.sound.Changes.{Change, GoesTo, HasStore, SpendsUnit
 use Rattle.abi_machine.specs.sound.Owners.{IsApart, IsOwnWorld}
 use Rattle.abi_machine.specs.sound.Acting.{IsActing, WaitsWith}
 use Rattle.abi_machine.proofs.sound.Found.{func_changed, now_cancels, cancels_changed}
-use Rattle.abi_machine.proofs.sound.Outlines.{as_is, is_there, acting_waits}
+use Rattle.abi_machine.proofs.sound.Outlines.{Is, as_is, is_there, acting_waits}
 use Rattle.abi_machine.proofs.sound.acts.Keeping as order
 use Rattle.abi_machine.proofs.sound.acts.Keeping.{Order}
 use Rattle.abi_machine.proofs.sound.known.Keeping.{BlocksAs, Besides, Owns, Walk}
@@ -35,65 +35,67 @@ blocks_before g t (InLoop word) w b = tt
 blocks_before g t (InBuiltin number words wait) w b = waits_before g t number words wait w b
 blocks_before g t Exited w b = tt
 
-pub was_known : (F : Type 0) (g : Graph) (c : Change) (w : World) → Besides F g c w → order.Besides g c w
-was_known F g (GoesTo control) w b = tt
-was_known F g (HasStore store) w b = tt
-was_known F g SpendsUnit w b = tt
-was_known F g (UsesPicks picks) w b = tt
-was_known F g TakesItem w b = tt
-was_known F g BeginsInstance w b = tt
-was_known F g (AddsEntry i entry) w b = tt
-was_known F g (MakesSet i set) w b = tt
-was_known F g (RemovesEntry i index) w b = tt
-was_known F g (RemovesWaitable i index) w b = tt
-was_known F g (LeavesSet i index) w b = tt
-was_known F g (JoinsSet i index set) w b = tt
-was_known F g (HasBackpressure i backpressure) w b = tt
-was_known F g (IsCalled callee call values) w b = tt
-was_known F g (Calls number callee subtask words) w b = (b.0, b.1, b.2)
-was_known F g (ComesBack t) w b = b
-was_known F g (Acts t) w b = tt
-was_known F g (Begins n) w b = tt
-was_known F g (Cancels t callee number words) w b = b.0
-was_known F g (Blocks t state) w b = (blocks_before g t state w b.0, b.1)
-was_known F g (Exits t) w b = b
-was_known F g (IsRemoved t) w b = b
-was_known F g (Resolves t resolution) w b = tt
-was_known F g (IsCancelled t cancellation) w b = tt
-was_known F g (HasWord t slot word) w b = tt
-was_known F g (HasNewStack t k) w b = b
-was_known F g (HasStack t k) w b = b
-was_known F g (LosesStack t) w b = b
-was_known F g (IsAnswered t words) w b = b
-was_known F g (IsTold t state) w b = tt
-was_known F g (IsLent t handle) w b = tt
-was_known F g (HasResult t words) w b = tt
-was_known F g (MakesChannel kind element) w b = tt
-was_known F g (Offers e call) w b = tt
-was_known F g (Transfers e size values) w b = tt
-was_known F g (Concludes e) w b = tt
-was_known F g (DropsEnd e) w b = tt
+pub was_known : (F D : Type 0) (g : Graph) (c : Change) (w : World) → Besides F D g c w → order.Besides g c w
+was_known F D g (GoesTo control) w b = tt
+was_known F D g (HasStore store) w b = tt
+was_known F D g SpendsUnit w b = tt
+was_known F D g (UsesPicks picks) w b = tt
+was_known F D g TakesItem w b = tt
+was_known F D g BeginsInstance w b = tt
+was_known F D g (AddsEntry i entry) w b = tt
+was_known F D g (MakesSet i set) w b = tt
+was_known F D g (RemovesEntry i index) w b = tt
+was_known F D g (RemovesWaitable i index) w b = tt
+was_known F D g (LeavesSet i index) w b = tt
+was_known F D g (JoinsSet i index set) w b = tt
+was_known F D g (HasBackpressure i backpressure) w b = tt
+was_known F D g (IsCalled callee call values) w b = tt
+was_known F D g (Calls number callee subtask words) w b = (b.0, b.1, b.2)
+was_known F D g (ComesBack t) w b = b
+was_known F D g (Acts t) w b = tt
+was_known F D g (Begins n) w b = tt
+was_known F D g (Cancels t callee number words) w b = b.0
+was_known F D g (Blocks t state) w b = (blocks_before g t state w b.0, b.1)
+was_known F D g (Exits t) w b = b
+was_known F D g (IsRemoved t) w b = b
+was_known F D g (Resolves t resolution) w b = tt
+was_known F D g (IsCancelled t cancellation) w b = tt
+was_known F D g (HasWord t slot word) w b = tt
+was_known F D g (HasNewStack t k) w b = b
+was_known F D g (HasStack t k) w b = b
+was_known F D g (LosesStack t) w b = b
+was_known F D g (IsAnswered t words) w b = b
+was_known F D g (IsTold t state) w b = tt
+was_known F D g (IsLent t handle) w b = tt
+was_known F D g (HasResult t words) w b = tt
+was_known F D g (MakesChannel kind element) w b = tt
+was_known F D g (Offers e call) w b = tt
+was_known F D g (Transfers e size values) w b = tt
+was_known F D g (Concludes e) w b = tt
+was_known F D g (DropsEnd e) w b = tt
 
 -- It is kept, whatever of the order is.
 module _ (g : Graph) (s : Script) (o : Order g s) (F A E : Type 0) (K : World → Type 0) (graph : A → IsApart g) (events : E → A) (own : A → (w : World) → K w → IsOwnWorld g w)
-    (kept : (c : Change) (w : World) → MayCome g s c w → Besides F g c w → (A → Owns g c w) → K w → K (after c w))
+    (kept : (c : Change) (w : World) → MayCome g s c w → Besides F ⊥ g c w → (A → Owns g c w) → K w → K (after c w))
     (comes : (t : ℕ) (w : World) → MayCome g s (ComesBack t) w → K w → K (after (ComesBack t) w)) (removed : (t : ℕ) (w : World) → MayCome g s (IsRemoved t) w → K w → K (after (IsRemoved t) w)) where
   unfoldable pub beside : Walk g s
   beside = record {
     Given = F;
     Apart = A;
     Event = E;
+    Asks = ⊥;
     graph = graph;
     events = events;
+    asks_apart = λ none. absurd none;
     own = λ apart w h. own apart w h.1;
     Holds = λ w. o.Holds w × K w;
     alone = λ w h. o.alone w h.0;
     chained = λ w h. o.chained w h.0;
     stacked = λ w h. o.stacked w h.0;
-    stays = λ c w may b belongs h. (o.stays c w may (was_known F g c w b) h.0, kept c w may b belongs h.1);
+    stays = λ c w may b belongs h. (o.stays c w may (was_known F ⊥ g c w b) h.0, kept c w may b belongs h.1);
     comes = λ t w task there runs is idle h. (o.comes t w task there runs is idle h.0, comes t w ((task, there, runs), inl idle) h.1);
     removed = λ t w task there runs waits idle h. (o.removed t w task there runs waits idle h.0, removed t w (task, there, runs) h.1);
-    comes_asked = λ t callee number words w task a free there runs is alone calls h. (
+    comes_asked = λ t callee number words w task a free there runs is alone well calls h. (
       o.comes_asked t callee number words w task a free there runs is h.0,
       (
           let v : World = after (Cancels t callee number words) w in
@@ -103,16 +105,24 @@ module _ (g : Graph) (s : Script) (o : Order g s) (F A E : Type 0) (K : World �
             func_changed v.tasks callee callee asks (λ x. refl) (func_changed w.tasks t callee (λ x. record x { state = AfterCancel callee number words }) (λ x. refl) (task, there, runs)),
             cancels_changed v.tasks v.chain callee asks (λ x. refl) (inr (now_cancels w t callee number words a.0 (is_there (IsActing true) t w a))),
           )
-          (kept (IsCancelled callee Asked) v tt tt (λ apart. tt) (kept (Cancels t callee number words) w (a.0, free) (as_is (IsActing true) (WaitsWith true) t w (acting_waits true) a, some, alone) calls h.1))
+          (kept (IsCancelled callee Asked) v tt refl (λ apart. tt) (kept (Cancels t callee number words) w (a.0, free) (as_is (IsActing true) (WaitsWith true) t w (acting_waits true) a, some, alone, λ none. absurd none) calls h.1))
           ),
     );
-    removed_asked = λ t callee number words w task a free there runs waits alone calls h. (
+    removed_asked = λ t callee number words w task a free there runs waits alone well calls h. (
       o.removed_asked t callee number words w task a free there runs waits h.0,
       (
           let v : World = after (Cancels t callee number words) w in
           let some : IsSome (slice_get w.tasks callee) = subst (λ (x : Option Task). IsSome x) (sym there) refl in
           removed callee v (func_changed w.tasks t callee (λ x. record x { state = AfterCancel callee number words }) (λ x. refl) (task, there, runs))
-          (kept (Cancels t callee number words) w (a.0, free) (as_is (IsActing true) (WaitsWith true) t w (acting_waits true) a, some, alone) calls h.1)
+          (kept (Cancels t callee number words) w (a.0, free) (as_is (IsActing true) (WaitsWith true) t w (acting_waits true) a, some, alone, λ none. absurd none) calls h.1)
           ),
     );
+    pending_asked = λ t callee number words w task a free there alone well calls h. (
+        let v : World = after (Cancels t callee number words) w in
+        let some : IsSome (slice_get w.tasks callee) = subst (λ (x : Option Task). IsSome x) (sym there) refl in
+        let waits : Is (WaitsWith true) t w = as_is (IsActing true) (WaitsWith true) t w (acting_waits true) a in (
+          o.stays (IsCancelled callee Asked) v tt tt (o.stays (Cancels t callee number words) w (a.0, free) waits h.0),
+          kept (IsCancelled callee Asked) v tt refl (λ apart. tt) (kept (Cancels t callee number words) w (a.0, free) (waits, some, alone, λ none. absurd none) calls h.1),
+        )
+        );
   }

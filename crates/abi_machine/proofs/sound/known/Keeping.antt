@@ -1,12 +1,13 @@
 -- What a turn makes of the acting task and keeps, where what held at its start is known: steps by their kinds, answers, blocked tasks and what is
 -- lifted.
-use Rattle.std.proofs.Common.{◌≡◌, ◌<◌, ◌⊎◌, inr, ℕ, ◌+◌, Bool, true, false, nat_lt, List, [], ◌∷◌, length, drop, refl, sym, subst, Option, Some, None, Result, Ok, Err, if◌then◌else◌}
+use Rattle.std.proofs.Common.{◌≡◌, ◌<◌, ◌⊎◌, inr, ℕ, ◌+◌, Bool, true, false, nat_lt, List, [], ◌∷◌, length, drop, refl, sym, ◌∙◌, subst, Option, Some, None, Result, Ok, Err, if◌then◌else◌}
 use Rattle.std.specs.Prelude.{IsSome}
 use Rattle.std.specs.List.{slice_get}
 use Rattle.wasm_store.specs.Stack.{Stack}
 use Rattle.choices.specs.Drawing.{drawn, drawn_answer}
 use Rattle.handle_table.specs.History.{live_count, most_live, next_index}
 use Rattle.tasks.specs.declared.phase.Cancellation.TheVariants.{Asked}
+use Rattle.tasks.specs.Tasks.{is_unasked}
 use Rattle.tasks.specs.declared.subtask_state.SubtaskState.TheVariants.{Starting}
 use Rattle.comp_graph.specs.Graph.{Graph}
 use Rattle.script_reader.specs.Script.{Script}
@@ -25,7 +26,9 @@ use Rattle.abi_machine.specs.Counting.{waiters_of}
 use Rattle.abi_machine.specs.Lifting.{Kept, Stopped, Came, once_lifted}
 use Rattle.abi_machine.specs.Choosing.{picks_of, chosen}
 use Rattle.abi_machine.specs.Turn.{Turn, Steps, Ends, Stuck, doomed, behind, given, unless_refused, unless, unless_fault, goes_on_with, blocked, charged, with_entry}
-use Rattle.abi_machine.specs.sound.Premises.{IsTaken}
+use Rattle.abi_machine.specs.sound.Premises.{WasDropped, IsTaken}
+use Rattle.abi_machine.specs.sound.Firsts.{TaskIs}
+use Rattle.abi_machine.specs.sound.Cancels.{IsResolved, IsOver}
 use Rattle.abi_machine.specs.sound.Changes.{Change, GoesTo, SpendsUnit, HasStore, UsesPicks, AddsEntry, RemovesEntry, RemovesWaitable, IsCalled, Calls, ComesBack, Begins, Cancels, Blocks, IsRemoved, IsCancelled, Exits, HasNewStack, HasStack, LosesStack, IsAnswered, IsTold, IsLent, after, Stands, IsFirst, HasFunc, IsBlocked, MayCome}
 use Rattle.abi_machine.specs.sound.Chain.{IsChained}
 use Rattle.abi_machine.specs.sound.Acting.{outlines_of, HasStacks, WaitsWith, StandsBy, HaveStacks, IsActing, IsRunning, OneActs, ActsBy}
@@ -43,11 +46,13 @@ use Rattle.abi_machine.proofs.sound.Outlines.{Is, as_is, stacks_first, answered_
 use Rattle.abi_machine.proofs.sound.Standing.{IsSteady, steady}
 use Rattle.abi_machine.proofs.sound.acts.Keeping.{IsIn, left_acts, IsUntrapped, waits_stacked, less}
 use Rattle.abi_machine.proofs.sound.own.Tasks.{IsOwnStore, after_calls_own}
+use Rattle.abi_machine.proofs.sound.Found.{some_same}
 use Rattle.abi_machine.proofs.sound.known.Handles.{IsHandle, handle_is_left, handle_unwaited}
+use Rattle.abi_machine.proofs.sound.known.Asked.{TellsWell, CancelsWell, BlocksAsked, AskedFacts}
 
 -- What else is known where a change comes. A set that is removed is waited on by no task; and where what held at the start of the turn is given, a
 -- subtask that is added to a table was called by a canonical function that does not wait, and no task waits in a call for one that is told or
--- cancelled.
+-- cancelled. Where what held of cancellations is given, they are well asked and told, and a subtask that leaves its table was told that it has resolved.
 abbrev pub NoneWaits : World → ℕ → ℕ → Type 0
 NoneWaits w i index = (set : ℕ) → entry_at w i index ≡ Some (OfSet set) → waiters_of w i index ≡ 0
 
@@ -61,21 +66,24 @@ BlocksAs g t (InBuiltin number words (ForCall callee)) w = Is (IsIn (AfterCall c
 BlocksAs g t (InLoop word) w = Is (λ o. LoopsIn w.insts (func_of o.callee) word) t w
 BlocksAs g t state w = Unit {0}
 
-abbrev pub Besides : Type 0 → Graph → Change → World → Type 0
-Besides F g (ComesBack t) w = ⊥
-Besides F g (IsRemoved t) w = ⊥
-Besides F g (Calls number callee subtask words) w = (subtask.canon ≡ number) × Is (WaitsWith true) subtask.by w × IsSome (canon_at g number) × (subtask.told ≡ Starting)
-Besides F g (Cancels t callee number words) w = Is (WaitsWith true) t w × IsSome (slice_get w.tasks callee) × (F → IsUnawaited w.tasks callee)
-Besides F g (Blocks t state) w = BlocksAs g t state w × Is (StandsBy state) t w
-Besides F g (Exits t) w = Is (λ o. HasStacks false o.stacks) t w
-Besides F g (HasNewStack t k) w = Is MayHaveStacks t w
-Besides F g (HasStack t k) w = Is MayHaveStacks t w
-Besides F g (LosesStack t) w = Is MayHaveStacks t w
-Besides F g (IsAnswered t words) w = Is MayHaveStacks t w
-Besides F g (AddsEntry i entry) w = F → IsNewEntry g w entry
-Besides F g (RemovesEntry i index) w = NoneWaits w i index
-Besides F g (IsTold t state) w = F → IsUnawaited w.tasks t
-Besides F g change w = Unit {0}
+abbrev pub Besides : Type 0 → Type 0 → Graph → Change → World → Type 0
+Besides F D g (ComesBack t) w = ⊥
+Besides F D g (IsRemoved t) w = ⊥
+Besides F D g (Calls number callee subtask words) w = (subtask.canon ≡ number) × Is (WaitsWith true) subtask.by w × IsSome (canon_at g number) × (subtask.told ≡ Starting)
+Besides F D g (Cancels t callee number words) w =
+    Is (WaitsWith true) t w × IsSome (slice_get w.tasks callee) × (F → IsUnawaited w.tasks callee) × (D → CancelsWell w t callee words × TaskIs w.tasks callee IsResolved)
+Besides F D g (Blocks t state) w = BlocksAs g t state w × Is (StandsBy state) t w × (D → BlocksAsked t state w)
+Besides F D g (Exits t) w = Is (λ o. HasStacks false o.stacks) t w
+Besides F D g (IsCancelled t cancellation) w = is_unasked cancellation ≡ false
+Besides F D g (HasNewStack t k) w = Is MayHaveStacks t w
+Besides F D g (HasStack t k) w = Is MayHaveStacks t w
+Besides F D g (LosesStack t) w = Is MayHaveStacks t w
+Besides F D g (IsAnswered t words) w = Is MayHaveStacks t w
+Besides F D g (AddsEntry i entry) w = F → IsNewEntry g w entry
+Besides F D g (RemovesEntry i index) w = NoneWaits w i index
+Besides F D g (RemovesWaitable i index) w = D → (callee : ℕ) → entry_at w i index ≡ Some (OfSubtask callee) → CallIs w.tasks callee IsOver
+Besides F D g (IsTold t state) w = (F → IsUnawaited w.tasks t) × (D → TellsWell w t state)
+Besides F D g change w = Unit {0}
 
 -- Where the graph is apart: what comes is the component instance's own.
 abbrev pub CallsItsOwn : Graph → ℕ → ℕ → World → Type 0
@@ -127,20 +135,24 @@ pub record Walk (g : Graph) (s : Script) : Type 1 where
   pub Given : Type 0
   pub Apart : Type 0
   pub Event : Type 0
+  pub Asks : Type 0
   pub Holds : World → Type 0
   pub alone : (w : World) → Holds w → Alone w
   pub chained : (w : World) → Holds w → IsChained w
   pub stacked : (w : World) → Holds w → HaveStacks (outlines_of w.tasks)
   pub graph : Apart → IsApart g
   pub events : Event → Apart
+  pub asks_apart : Asks → Apart
   pub own : Apart → (w : World) → Holds w → IsOwnWorld g w
-  pub stays : (c : Change) (w : World) → MayCome g s c w → Besides Given g c w → (Apart → Owns g c w) → Holds w → Holds (after c w)
+  pub stays : (c : Change) (w : World) → MayCome g s c w → Besides Given Asks g c w → (Apart → Owns g c w) → Holds w → Holds (after c w)
   pub comes : (t : ℕ) (w : World) (task : Task) → slice_get w.tasks t ≡ Some task → IsSome (func_of task.callee) → IsBlocked task.state → w.chain ≡ [] → Holds w → Holds (after (ComesBack t) w)
   pub removed : (t : ℕ) (w : World) (task : Task) → slice_get w.tasks t ≡ Some task → IsSome (func_of task.callee) → task.state ≡ WaitsToEnter → w.chain ≡ [] → Holds w → Holds (after (IsRemoved t) w)
   pub comes_asked : (t callee number : ℕ) (words : List ℕ) (w : World) (task : Task) → Is (IsActing true) t w → may_leave w ≡ true → slice_get w.tasks callee ≡ Some task → IsSome (func_of task.callee)
-      → IsBlocked task.state → (Given → IsUnawaited w.tasks callee) → (Apart → CallsItsOwn g number t w) → Holds w → Holds (after (ComesBack callee) (after (IsCancelled callee Asked) (after (Cancels t callee number words) w)))
+      → IsBlocked task.state → (Given → IsUnawaited w.tasks callee) → (Asks → CancelsWell w t callee words) → (Apart → CallsItsOwn g number t w) → Holds w → Holds (after (ComesBack callee) (after (IsCancelled callee Asked) (after (Cancels t callee number words) w)))
   pub removed_asked : (t callee number : ℕ) (words : List ℕ) (w : World) (task : Task) → Is (IsActing true) t w → may_leave w ≡ true → slice_get w.tasks callee ≡ Some task → IsSome (func_of task.callee)
-      → task.state ≡ WaitsToEnter → (Given → IsUnawaited w.tasks callee) → (Apart → CallsItsOwn g number t w) → Holds w → Holds (after (IsRemoved callee) (after (Cancels t callee number words) w))
+      → task.state ≡ WaitsToEnter → (Given → IsUnawaited w.tasks callee) → (Asks → CancelsWell w t callee words) → (Apart → CallsItsOwn g number t w) → Holds w → Holds (after (IsRemoved callee) (after (Cancels t callee number words) w))
+  pub pending_asked : (t callee number : ℕ) (words : List ℕ) (w : World) (task : Task) → Is (IsActing true) t w → may_leave w ≡ true → slice_get w.tasks callee ≡ Some task
+      → (Given → IsUnawaited w.tasks callee) → (Asks → CancelsWell w t callee words) → (Apart → CallsItsOwn g number t w) → Holds w → Holds (after (IsCancelled callee Asked) (after (Cancels t callee number words) w))
 
 -- no choice
 pub behind_promised : (A E : Type 0) (g : Graph) (s : Script) (chain : List ℕ) (w : World) → Promises A E g s (control_behind chain) w
@@ -154,11 +166,15 @@ module _ {g : Graph} {s : Script} (walk : Walk g s) where
   Keeps (Ends end) = IsUntrapped end
   Keeps Stuck = Unit {0}
 
+  -- what is known of the start of a turn
+  abbrev pub Known : World → Type 0
+  Known w = (walk.Given → Facts g w) × (walk.Asks → AskedFacts g w)
+
   -- where a task acts, with a stack or without
   abbrev pub Held : Bool → ℕ → World → Type 0
   Held b t w = walk.Holds w × Is (IsActing b) t w
 
-  pub still : (b : Bool) (t : ℕ) (c : Change) (w : World) → MayCome g s c w → Besides walk.Given g c w → (walk.Apart → Owns g c w) → IsSteady c → Held b t w → Held b t (after c w)
+  pub still : (b : Bool) (t : ℕ) (c : Change) (w : World) → MayCome g s c w → Besides walk.Given walk.Asks g c w → (walk.Apart → Owns g c w) → IsSteady c → Held b t w → Held b t (after c w)
   still b t c w may besides own is h = (walk.stays c w may besides own h.0, steady (IsActing b) t c w is h.1)
 
   -- where it is the first of the chain
@@ -229,9 +245,9 @@ module _ {g : Graph} {s : Script} (walk : Walk g s) where
   pub acting_stack_keeps : (b : Bool) (t : ℕ) (k : Stack) (w : World) → (walk.Apart → HasOwnStack g t k w) → Held b t w → walk.Holds (with_control Runs (after (HasNewStack t k) w)) × Unit {0} × OneActs IsRunning (outlines_of (after (HasNewStack t k) w).tasks) w.chain
   acting_stack_keeps b t k w own h = new_stack_keeps t k w own h.0 (as_is (IsActing b) InTask t w (acting_runs b) h.1)
 
-  pub blocked_keeps : (t : ℕ) (state : TaskState) (reason : BlockReason) (w : World) → IsFirst t w.chain → IsBlocked state → (may_leave w ≡ true) ⊎ HasFunc w.tasks t → BlocksAs g t state w → (walk.Apart → BlocksOwn g t state w) → Is (StandsBy state) t w → walk.Holds w → Keeps (blocked t state reason w)
-  blocked_keeps t state reason w first is may known own stacks h =
-      (goes (control_behind (drop 1 w.chain)) (after (Blocks t state) w) (walk.stays (Blocks t state) w (first, is, may) (known, stacks) own h), behind_promised walk.Apart walk.Event g s (drop 1 w.chain) (with_control (control_behind (drop 1 w.chain)) (after (Blocks t state) w)), left_acts w t state first (walk.chained w h))
+  pub blocked_keeps : (t : ℕ) (state : TaskState) (reason : BlockReason) (w : World) → IsFirst t w.chain → IsBlocked state → (may_leave w ≡ true) ⊎ HasFunc w.tasks t → BlocksAs g t state w → (walk.Asks → BlocksAsked t state w) → (walk.Apart → BlocksOwn g t state w) → Is (StandsBy state) t w → walk.Holds w → Keeps (blocked t state reason w)
+  blocked_keeps t state reason w first is may known asked own stacks h =
+      (goes (control_behind (drop 1 w.chain)) (after (Blocks t state) w) (walk.stays (Blocks t state) w (first, is, may) (known, stacks, asked) own h), behind_promised walk.Apart walk.Event g s (drop 1 w.chain) (with_control (control_behind (drop 1 w.chain)) (after (Blocks t state) w)), left_acts w t state first (walk.chained w h))
 
   -- one that waits for a task that it called
   pub waited_keeps : (t callee number : ℕ) (words : List ℕ) (reason : BlockReason) (w : World) → Is (IsIn (AfterCall callee number words)) t w → (options_at g number).is_async ≡ false → HasFunc w.tasks t → walk.Holds w
@@ -241,7 +257,7 @@ module _ {g : Graph} {s : Script} (walk : Walk g s) where
       let behind : Control = control_behind (drop 1 w.chain) in
       subst (λ (all : List Task). walk.Holds (let v : World = record w { tasks = all; chain = drop 1 w.chain; control = behind } in v) × Promises walk.Apart walk.Event g s behind (let v : World = record w { tasks = all; chain = drop 1 w.chain; control = behind } in v) × ActsBy behind (outlines_of all) (drop 1 w.chain))
       (sym (changed_twice t (λ task. record task { state = Acting }) (λ task. record task { state = state }) w.tasks))
-      (goes behind (after (Blocks t state) w) (walk.stays (Blocks t state) w (a.0, tt, inr runs) ((a, sync), waits_stacked w t callee number words a (walk.stacked w h)) (λ apart. after_calls_own g w t callee number words (walk.own apart w h) a) h), behind_promised walk.Apart walk.Event g s (drop 1 w.chain) (with_control behind (after (Blocks t state) w)), left_acts w t state a.0 (walk.chained w h))
+      (goes behind (after (Blocks t state) w) (walk.stays (Blocks t state) w (a.0, tt, inr runs) ((a, sync), waits_stacked w t callee number words a (walk.stacked w h), λ asks. tt) (λ apart. after_calls_own g w t callee number words (walk.own apart w h) a) h), behind_promised walk.Apart walk.Event g s (drop 1 w.chain) (with_control behind (after (Blocks t state) w)), left_acts w t state a.0 (walk.chained w h))
 
   pub entry_keeps : (t i : ℕ) (entry : Entry) (w : World) (more : ℕ → World → Turn) → Leads t w
       → (live_count (table_of w i) < most_live → Keeps (more (next_index (table_of w i)) (entry_added i entry w))) → Keeps (with_entry t i entry w more)
@@ -255,7 +271,7 @@ module _ {g : Graph} {s : Script} (walk : Walk g s) where
   removes b t i index w may h = still b t (RemovesEntry i index) w (handle_is_left w i index may) (handle_unwaited w i index may) (λ apart. tt) tt h
 
   pub waits : (b : Bool) (t i index : ℕ) (w : World) → Stands w i index (IsTaken w) → Held b t w → Held b t (left_set i index (entry_removed i index w))
-  waits b t i index w may h = still b t (RemovesWaitable i index) w (may.0, may.1, may.2.0) tt (λ apart. tt) tt h
+  waits b t i index w may h = still b t (RemovesWaitable i index) w (may.0, may.1, may.2.0) (λ asks callee at. subst (WasDropped w.tasks) (some_same (sym may.1 ∙ at)) may.2.2) (λ apart. tt) tt h
 
   pub lends : (b : Bool) (t callee index : ℕ) (w : World) → Held b t w → Held b t (lent callee index w)
   lends b t callee index w h = still b t (IsLent callee index) w tt tt (λ apart. tt) tt h

@@ -70,7 +70,7 @@ module _ {g : Graph} {s : Script} (walk : Walk g s) where
   meeting_keeps t e call words index c OfferStands w free calls h =
       let k : Held walk true t (offered e call w) = still walk true t (Offers e call) w tt tt (λ apart. tt) tt h in
       either_keeps walk (options_at g call.canon).is_async _ _ (λ i. on_keeps walk t (blocked_word ∷ []) (offered e call w) k)
-      (λ i. blocked_keeps walk t (InBuiltin call.canon words (ForCopy index)) (reason.Copy index) (offered e call w) k.1.0 tt (inl (free_offered e call w free)) tt (λ apart. steady (λ (o : Outline). CallsOwn g (func_of o.callee) call.canon) t (Offers e call) w tt (calls apart)) (as_is (IsActing true) (WaitsWith true) t (offered e call w) (acting_waits true) k.1) k.0)
+      (λ i. blocked_keeps walk t (InBuiltin call.canon words (ForCopy index)) (reason.Copy index) (offered e call w) k.1.0 tt (inl (free_offered e call w free)) tt (λ asks. tt) (λ apart. steady (λ (o : Outline). CallsOwn g (func_of o.callee) call.canon) t (Offers e call) w tt (calls apart)) (as_is (IsActing true) (WaitsWith true) t (offered e call w) (acting_waits true) k.1) k.0)
 
   pub meets_keeps : (t i : ℕ) (e : EndRef) (call : OpenCopy) (words : List ℕ) (index : ℕ) (w : World) → may_leave w ≡ true → (walk.Apart → CallsItsOwn g call.canon t w) → Held walk true t w → Keeps walk (meets g t i e call words index w)
   unfolding meets

@@ -36,8 +36,9 @@ use Rattle.abi_machine.specs.sound.Owners.{IsControlOwn}
 use Rattle.abi_machine.proofs.sound.own.Exports.{named_apart}
 use Rattle.abi_machine.proofs.sound.acts.Turning.{IsUndoomed, doomed_or_not}
 use Rattle.abi_machine.proofs.sound.known.Picking.{picked_there}
+use Rattle.abi_machine.proofs.sound.known.Asked.{AskedFacts}
 use Rattle.abi_machine.proofs.sound.known.Events.{able_comes, going_comes}
-use Rattle.abi_machine.proofs.sound.known.Keeping.{Facts, Comings, Promises, Walk, Keeps, given_keeps, behind_keeps, either_keeps, goes, charged_keeps, chosen_keeps}
+use Rattle.abi_machine.proofs.sound.known.Keeping.{Facts, Known, Comings, Promises, Walk, Keeps, given_keeps, behind_keeps, either_keeps, goes, charged_keeps, chosen_keeps}
 use Rattle.abi_machine.proofs.sound.known.Moving.{leaving_keeps, running_keeps, instantiating_keeps}
 use Rattle.abi_machine.proofs.sound.known.Waking.{arriving_keeps, delivering_keeps, resuming_keeps, back_keeps, idle_cancelled_keeps}
 use Rattle.abi_machine.proofs.sound.known.Nesting.{nested_keeps, lowers_keeps}
@@ -97,7 +98,7 @@ module _ {g : Graph} {s : Script} (walk : Walk g s) where
 
   -- The machine.
 
-  pub each_keeps : (w : World) (c : Control) → (walk.Given → Facts g w) → (walk.Apart → IsControlOwn g c w) → (walk.Event → Comings g c w) → IsUndoomed c → Says c w.chain → ActsBy c (outlines_of w.tasks) w.chain → walk.Holds w → Keeps walk (next_by g s w c)
+  pub each_keeps : (w : World) (c : Control) → Known walk w → (walk.Apart → IsControlOwn g c w) → (walk.Event → Comings g c w) → IsUndoomed c → Says c w.chain → ActsBy c (outlines_of w.tasks) w.chain → walk.Holds w → Keeps walk (next_by g s w c)
   each_keeps w Free facts own comings undoomed says o h = free_keeps w says h
   each_keeps w (Chosen k) facts own comings undoomed says o h = chosen_turn_keeps k w says h
   each_keeps w (Instantiates n) facts own comings undoomed says o h = instantiating_keeps walk n w says own h o
@@ -130,10 +131,10 @@ module _ {g : Graph} {s : Script} (walk : Walk g s) where
   own_free Leaves w h = h
   own_free (Doomed t why) w h = h
 
-  pub step_known : (w v : World) (labels : List Label) → (walk.Given → Facts g w) → (walk.Apart → IsControlOwn g w.control w) → (walk.Event → Comings g w.control (with_control Free w)) → Says w.control w.chain → ActsBy w.control (outlines_of w.tasks) w.chain → walk.Holds w → machine.next g s w ≡ Steps labels v
+  pub step_known : (w v : World) (labels : List Label) → (walk.Given → Facts g w) → (walk.Asks → AskedFacts g w) → (walk.Apart → IsControlOwn g w.control w) → (walk.Event → Comings g w.control (with_control Free w)) → Says w.control w.chain → ActsBy w.control (outlines_of w.tasks) w.chain → walk.Holds w → machine.next g s w ≡ Steps labels v
       → walk.Holds v × Promises walk.Apart walk.Event g s v.control v × ActsBy v.control (outlines_of v.tasks) v.chain
-  step_known w v labels facts own comings says o h e = elim (doomed_or_not w.control) [
-    | inl undoomed ↦ subst (Keeps walk) e (each_keeps (with_control Free w) w.control (λ given. record { called = (facts given).called; subtasks = (facts given).subtasks }) (λ apart. own_free w.control w (own apart)) comings undoomed says o (goes walk Free w h))
+  step_known w v labels facts asked own comings says o h e = elim (doomed_or_not w.control) [
+    | inl undoomed ↦ subst (Keeps walk) e (each_keeps (with_control Free w) w.control ((λ given. record { called = (facts given).called; subtasks = (facts given).subtasks }), (λ asks. record { called = (asked asks).called; subtasks = (asked asks).subtasks; told = (asked asks).told; cancels = (asked asks).cancels })) (λ apart. own_free w.control w (own apart)) comings undoomed says o (goes walk Free w h))
     | inr d ↦ absurd (never d.0 d.1 (ap (λ (c : Control). next_by g s (with_control Free w) c) (sym d.2) ∙ e))
   ]
     where

@@ -15,7 +15,7 @@ use Rattle.abi_machine.proofs.sound.Outlines.{outline_back, Is}
 use Rattle.abi_machine.proofs.sound.Calling.{one_waits}
 use Rattle.abi_machine.proofs.sound.acts.Keeping.{IsIn}
 
-abbrev acts_again : Task → Task
+abbrev pub acts_again : Task → Task
 acts_again task = record task { state = Acting }
 
 -- the task of a number, which is in a state
@@ -67,7 +67,7 @@ IsNewSubtask g w callee = CallIs w.tasks callee (IsAsync g) × IsUnawaited w.tas
 call_is_async : (g : Graph) (tasks : List Task) (t callee number : ℕ) → Called tasks t number callee → (options_at g number).is_async ≡ true → CallIs tasks callee (IsAsync g)
 call_is_async g tasks t callee number h async = (h.0, h.1, (h.2.0, h.2.1, subst (λ (n : ℕ). (options_at g n).is_async ≡ true) (sym h.2.3) async))
 
-calls_acting : (tasks : List Task) (t callee : ℕ) (P : Subtask → Type 0) → CallIs tasks callee P → CallIs (changed_at t acts_again tasks) callee P
+pub calls_acting : (tasks : List Task) (t callee : ℕ) (P : Subtask → Type 0) → CallIs tasks callee P → CallIs (changed_at t acts_again tasks) callee P
 calls_acting tasks t callee P h = elim (changed_kept t acts_again tasks callee h.0 h.1) [
   | inl e ↦ (h.0, e, h.2)
   | inr e ↦ (acts_again h.0, e, h.2)

@@ -13,6 +13,8 @@ use Rattle.tasks.specs.declared.event.Asked.{Asked}
 use Rattle.tasks.specs.declared.event.Asked.TheVariants.{Removed, ResumeNow, Pending}
 use Rattle.tasks.specs.declared.phase.Cancellation.TheVariants as cancellation
 use Rattle.tasks.specs.Tasks.{cancel_case, is_asked}
+use Rattle.tasks.specs.Subtasks.{is_over}
+use Rattle.tasks.specs.declared.subtask_state.SubtaskState.{SubtaskState}
 use Rattle.wasm_store.specs.Step.{start}
 use Rattle.comp_graph.specs.declared.graph.FuncRef.{FuncRef}
 use Rattle.comp_graph.specs.Graph.{Graph, Lifted}
@@ -25,7 +27,7 @@ use Rattle.abi_machine.specs.World.{Entry, OwnHandle, BorrowHandle, OfSubtask, O
 use Rattle.abi_machine.specs.Edits.{with_control, chained, entry_added, in_state, with_cancellation, told, concluded}
 use Rattle.abi_machine.specs.Canons.{func_address, memory_of, canon_at, options_of_canon, inst_of_canon, options_at, flag_at}
 use Rattle.abi_machine.specs.Reading.{table_of, entry_at, acting, func_of, task_at, subtask_of, kind_of, is_reentrant, may_leave}
-use Rattle.abi_machine.specs.Counting.{task_view, has_resolved, subtask_state, state_of, payload_of, ready}
+use Rattle.abi_machine.specs.Counting.{task_view, has_resolved, subtask_state, state_of, payload_of, is_waited_for, ready}
 use Rattle.abi_machine.specs.Gate.{is_entry_free, may_arrive}
 use Rattle.abi_machine.specs.Choosing.{picks_of, chosen}
 use Rattle.abi_machine.specs.Scheduling.{is_some_ready}
@@ -52,8 +54,11 @@ use Rattle.abi_machine.proofs.sound.own.Tasks.{after_cancel_own, store_own, IsOf
 use Rattle.abi_machine.proofs.sound.known.Handles.{found_subtask_there}
 use Rattle.abi_machine.proofs.sound.known.Unawaited.{standing_unawaited, still_unawaited, behind_call, behind_wait, behind_cancel, IsNewSubtask, new_subtask}
 use Rattle.abi_machine.proofs.sound.known.Picking.{answer_there}
+use Rattle.abi_machine.proofs.sound.known.Asked.{TellsWell, CancelsWell, BlocksAsked}
+use Rattle.abi_machine.proofs.sound.known.Asking.{call_told, wait_told, open_told, cancelled_told, blocked_told, member_told, blocks_then}
+use Rattle.abi_machine.proofs.sound.known.Ready.{ready_unwaited}
 use Rattle.abi_machine.proofs.sound.known.Events.{asked_comes, ready_found, first_ready, member_comes, GoesOnFrom, loop_has, loop_ready, set_ready}
-use Rattle.abi_machine.proofs.sound.known.Keeping.{Facts, Comings, CallsItsOwn, Walk, Keeps, Held, still, given_keeps, behind_keeps, either_keeps, goes, unless_keeps, chosen_keeps, on_keeps, blocked_keeps, waited_keeps, entry_keeps, acting_stack_keeps, removes, waits, lends, came_keeps}
+use Rattle.abi_machine.proofs.sound.known.Keeping.{Known, Comings, CallsItsOwn, Walk, Keeps, Held, still, given_keeps, behind_keeps, either_keeps, goes, unless_keeps, chosen_keeps, on_keeps, blocked_keeps, waited_keeps, entry_keeps, acting_stack_keeps, removes, waits, lends, came_keeps}
 
 module _ {g : Graph} {s : Script} (walk : Walk g s) where
   -- the acting task acts again
@@ -92,7 +97,7 @@ module _ {g : Graph} {s : Script} (walk : Walk g s) where
       let n : Is IsNewOne a.0 w = acts_at IsNewOne w a e o in
       let k : Is (WaitsWith false) a.0 w = (n.0, (n.1.0, n.1.1, subst (λ (state : TaskState). StandsBy state n.1.0) n.1.2 (walk.stacked w h a.0 n.1.0 n.1.1))) in
       either_keeps walk (may_arrive w f.instance a.1) (entered g a.0 a.1 f w) (blocked a.0 WaitsToEnter reason.Entry w) (λ j. entered_keeps a.0 a.1 f w (λ apart. lifted_by g w a.0 f (walk.own apart w h) (mine_is w a f e i)) k h)
-      (λ j. blocked_keeps walk a.0 WaitsToEnter reason.Entry w (acting_first w a e) tt (inr (acting_func w a f e i)) tt (λ apart. tt) k h)))
+      (λ j. blocked_keeps walk a.0 WaitsToEnter reason.Entry w (acting_first w a e) tt (inr (acting_func w a f e i)) tt (λ asks. tt) (λ apart. tt) k h)))
 
   -- Tasks call and are told.
 
@@ -107,27 +112,28 @@ module _ {g : Graph} {s : Script} (walk : Walk g s) where
         new_acts (in_state t (AfterCall (length w.tasks) number words) w).tasks w.chain (new_task callee (Guest (called_by t number passed)) IsNew) refl,
       ))
 
-  subtask_keeps : (b : Bool) (t i callee : ℕ) (task : Task) (subtask : Subtask) (w : World) → (walk.Given → IsUnawaited w.tasks callee) → Held walk b t w → Held walk b t (subtask_told i callee task subtask w).world
-  subtask_keeps b t i callee task subtask w alone h = still walk b t (IsTold callee (subtask_state task)) w tt alone (λ apart. tt) tt h
+  subtask_keeps : (b : Bool) (t i callee : ℕ) (task : Task) (subtask : Subtask) (w : World) → (walk.Given → IsUnawaited w.tasks callee) → (walk.Asks → TellsWell w callee (subtask_state task)) → Held walk b t w
+      → Held walk b t (subtask_told i callee task subtask w).world
+  subtask_keeps b t i callee task subtask w alone well h = still walk b t (IsTold callee (subtask_state task)) w tt (alone, well) (λ apart. tt) tt h
 
   pub with_keeps : (w : World) (callee : ℕ) (more : Task → Subtask → Turn) → ((task : Task) (subtask : Subtask) → task_at w callee ≡ Some task → subtask_of task.caller ≡ Some subtask → Keeps walk (more task subtask))
       → Keeps walk (with_subtask_of w callee more)
   with_keeps w callee more h = given_keeps walk (task_at w callee) _ (λ task e. given_keeps walk (subtask_of task.caller) _ (λ subtask i. h task subtask e i))
 
   -- a task is back from a call
-  open_keeps : (t i callee : ℕ) (task : Task) (is_async : Bool) (number : ℕ) (words : List ℕ) (w : World) → (options_at g number).is_async ≡ is_async → (walk.Given → Facts g w) → IsGuest (in_state t Acting w).tasks callee
-      → HasFunc w.tasks t → Is (IsIn (AfterCall callee number words)) t w → walk.Holds w → Held walk true t (in_state t Acting w) → Keeps walk (call_open t i callee task is_async number words (in_state t Acting w))
+  open_keeps : (t i callee : ℕ) (task : Task) (is_async : Bool) (number : ℕ) (words : List ℕ) (w : World) → (options_at g number).is_async ≡ is_async → Known walk w → IsGuest (in_state t Acting w).tasks callee
+      → has_resolved task ≡ false → HasFunc w.tasks t → Is (IsIn (AfterCall callee number words)) t w → walk.Holds w → Held walk true t (in_state t Acting w) → Keeps walk (call_open t i callee task is_async number words (in_state t Acting w))
   unfolding call_open
-  open_keeps t i callee task true number words w async facts guest runs a h k =
+  open_keeps t i callee task true number words w async facts guest unresolved runs a h k =
       let v : World = in_state t Acting w in
-      let new : walk.Given → IsNewSubtask g v callee = λ given. new_subtask g w t callee number words (facts given).called (facts given).subtasks a async in
+      let new : walk.Given → IsNewSubtask g v callee = λ given. new_subtask g w t callee number words (facts.0 given).called (facts.0 given).subtasks a async in
       entry_keeps walk t i (OfSubtask callee) v (λ index u. replied t (call_state task index ∷ []) (told callee (subtask_state task) u)) (k.0, k.1.0) (λ few.
       on_keeps walk t (call_state task (next_index (table_of v i)) ∷ []) (told callee (subtask_state task) (entry_added i (OfSubtask callee) v))
-      (still walk true t (IsTold callee (subtask_state task)) (entry_added i (OfSubtask callee) v) tt (λ given. (new given).1) (λ apart. tt) tt
+      (still walk true t (IsTold callee (subtask_state task)) (entry_added i (OfSubtask callee) v) tt ((λ given. (new given).1), (λ asks. inr (unresolved, open_told g w t callee number words (facts.1 asks).subtasks a))) (λ apart. tt) tt
       (still walk true t (AddsEntry i (OfSubtask callee)) v (few, guest) new (λ apart. tt) tt k)))
-  open_keeps t i callee task false number words w sync facts guest runs a h k = waited_keeps walk t callee number words (reason.Call callee) w a sync runs h
+  open_keeps t i callee task false number words w sync facts guest unresolved runs a h k = waited_keeps walk t callee number words (reason.Call callee) w a sync runs h
 
-  back_call_keeps : (t i callee number : ℕ) (words : List ℕ) (w : World) → (walk.Given → Facts g w) → HasFunc w.tasks t → Is (IsIn (AfterCall callee number words)) t w → walk.Holds w
+  back_call_keeps : (t i callee number : ℕ) (words : List ℕ) (w : World) → Known walk w → HasFunc w.tasks t → Is (IsIn (AfterCall callee number words)) t w → walk.Holds w
       → Keeps walk (back_from_call g t i callee number words w)
   unfolding back_from_call call_resolved
   back_call_keeps t i callee number words w facts runs a h =
@@ -135,9 +141,10 @@ module _ {g : Graph} {s : Script} (walk : Walk g s) where
       with_keeps w callee _ (λ task subtask there guest.
       either_keeps walk (has_resolved task) _ _
       (λ e. on_keeps walk t (call_answer (options_at g number).is_async subtask.result) (told callee (subtask_state task) (in_state t Acting w))
-      (subtask_keeps true t i callee task subtask (in_state t Acting w) (λ given. behind_call g w t callee number words (facts given).called a) k))
+      (subtask_keeps true t i callee task subtask (in_state t Acting w) (λ given. behind_call g w t callee number words (facts.0 given).called a)
+      (λ asks. call_told g w t callee number words (subtask_state task) (facts.1 asks).subtasks a) k))
       (λ e. open_keeps t i callee task (options_at g number).is_async number words w refl facts
-      (guest_changed w.tasks t callee (λ task. record task { state = Acting }) (λ x k. k) (task, there, subst (λ (o : Option Subtask). IsSome o) (sym guest) refl)) runs a h k))
+      (guest_changed w.tasks t callee (λ task. record task { state = Acting }) (λ x k. k) (task, there, subst (λ (o : Option Subtask). IsSome o) (sym guest) refl)) e runs a h k))
 
   -- Events are delivered.
 
@@ -169,25 +176,31 @@ module _ {g : Graph} {s : Script} (walk : Walk g s) where
 
   pub cancel_keeps : (t : ℕ) (f : Lifted) (receiver : Receiver) (w : World) → Is (IsOfFunc f) t w → Held walk (stacked_receiver receiver) t w → Keeps walk (received_cancel g t f receiver w)
   unfolding received_cancel
-  cancel_keeps t f receiver w mine h = received_keeps t f receiver _ 0 (cancel_told t w) (steady (IsOfFunc f) t (IsCancelled t cancellation.Delivered) w tt mine) (still walk (stacked_receiver receiver) t (IsCancelled t cancellation.Delivered) w tt tt (λ apart. tt) tt h)
+  cancel_keeps t f receiver w mine h = received_keeps t f receiver _ 0 (cancel_told t w) (steady (IsOfFunc f) t (IsCancelled t cancellation.Delivered) w tt mine) (still walk (stacked_receiver receiver) t (IsCancelled t cancellation.Delivered) w tt refl (λ apart. tt) tt h)
 
   end_told_keeps : (b : Bool) (t : ℕ) (e : EndRef) (w : World) → Held walk b t w → Held walk b t (end_told e w).world
   end_told_keeps b t e w h = still walk b t (Concludes e) w tt tt (λ apart. tt) tt h
 
-  delivered_keeps : (t : ℕ) (f : Lifted) (receiver : Receiver) (index : ℕ) (entry : Option Entry) (w : World) → entry_at w f.instance index ≡ entry → (walk.Given → Facts g w) → Is (IsOfFunc f) t w → Held walk (stacked_receiver receiver) t w → Keeps walk (entry_delivered g t f receiver index entry w)
+  delivered_keeps : (t : ℕ) (f : Lifted) (receiver : Receiver) (index : ℕ) (entry : Option Entry) (w : World) → entry_at w f.instance index ≡ entry → (walk.Asks → is_waited_for w f.instance index ≡ false) → Known walk w → Is (IsOfFunc f) t w → Held walk (stacked_receiver receiver) t w
+      → Keeps walk (entry_delivered g t f receiver index entry w)
   unfolding entry_delivered
-  delivered_keeps t f receiver index None w at facts mine h = tt
-  delivered_keeps t f receiver index (Some (OfSubtask callee)) w at facts mine h =
+  delivered_keeps t f receiver index None w at unwaited facts mine h = tt
+  delivered_keeps t f receiver index (Some (OfSubtask callee)) w at unwaited facts mine h =
       with_keeps w callee _ (λ task subtask there guest. received_keeps t f receiver _ index _ (steady (IsOfFunc f) t (IsTold callee (subtask_state task)) w tt mine)
-      (subtask_keeps (stacked_receiver receiver) t f.instance callee task subtask w (λ given. standing_unawaited g w f.instance index callee (facts given).subtasks at) h))
-  delivered_keeps t f receiver index (Some (OfEnd e)) w at facts mine h = received_keeps t f receiver _ index (end_told e w) (steady (IsOfFunc f) t (Concludes e) w tt mine) (end_told_keeps (stacked_receiver receiver) t e w h)
-  delivered_keeps t f receiver index (Some (OwnHandle resource rep)) w at facts mine h = tt
-  delivered_keeps t f receiver index (Some (BorrowHandle resource rep task)) w at facts mine h = tt
-  delivered_keeps t f receiver index (Some (OfSet set)) w at facts mine h = tt
+      (subtask_keeps (stacked_receiver receiver) t f.instance callee task subtask w (λ given. standing_unawaited g w f.instance index callee (facts.0 given).subtasks at)
+      (λ asks. member_told g w f.instance index callee task subtask (facts.1 asks) at (unwaited asks) there guest) h))
+  delivered_keeps t f receiver index (Some (OfEnd e)) w at unwaited facts mine h = received_keeps t f receiver _ index (end_told e w) (steady (IsOfFunc f) t (Concludes e) w tt mine) (end_told_keeps (stacked_receiver receiver) t e w h)
+  delivered_keeps t f receiver index (Some (OwnHandle resource rep)) w at unwaited facts mine h = tt
+  delivered_keeps t f receiver index (Some (BorrowHandle resource rep task)) w at unwaited facts mine h = tt
+  delivered_keeps t f receiver index (Some (OfSet set)) w at unwaited facts mine h = tt
 
-  member_keeps : (t : ℕ) (f : Lifted) (receiver : Receiver) (member : Option ℕ) (w : World) → (walk.Given → Facts g w) → Is (IsOfFunc f) t w → Held walk (stacked_receiver receiver) t w → Keeps walk (member_delivered g t f receiver member w)
+  member_keeps : (t : ℕ) (f : Lifted) (receiver : Receiver) (member : Option ℕ) (w : World) → ((index : ℕ) → member ≡ Some index → is_waited_for w f.instance index ≡ false) → Known walk w → Is (IsOfFunc f) t w → Held walk (stacked_receiver receiver) t w → Keeps walk (member_delivered g t f receiver member w)
   unfolding member_delivered
-  member_keeps t f receiver member w facts mine h = given_keeps walk member _ (λ index e. delivered_keeps t f receiver index (entry_at w f.instance index) w refl facts mine h)
+  member_keeps t f receiver member w unwaited facts mine h = given_keeps walk member _ (λ index e. delivered_keeps t f receiver index (entry_at w f.instance index) w refl (λ asks. unwaited index e) facts mine h)
+
+  -- a member of those that are ready is not waited for
+  member_unwaited : (f : Lifted) (set place : ℕ) (members : List ℕ) (w : World) → members ≡ ready w f.instance set → (index : ℕ) → slice_get members place ≡ Some index → is_waited_for w f.instance index ≡ false
+  member_unwaited f set place members w same index e = ready_unwaited w f.instance set place index (subst (λ (l : List ℕ). slice_get l place ≡ Some index) same e)
 
   -- one of several members is picked
   several_keep : (t : ℕ) (f : Lifted) (set : ℕ) (receiver : Receiver) (index other : ℕ) (members : List ℕ) (w : World) → index ∷ other ∷ members ≡ ready w f.instance set → (walk.Event → HasReceiver receiver f)
@@ -198,15 +211,15 @@ module _ {g : Graph} {s : Script} (walk : Walk g s) where
       let there : IsReadyAt (Some answer) (ready w f.instance set) = subst (λ (l : List ℕ). IsSome (slice_get l answer)) same (answer_there index (other ∷ members) (picks_of s w)) in
       chosen_keeps walk count (λ k. Delivers set receiver (Some k)) w (λ k. (t, h.1)) (λ event. member_comes g w t f set receiver (Some answer) (drawn count (picks_of s w)).used mine there (has event)) h.0
 
-  members_keep : (t : ℕ) (f : Lifted) (set : ℕ) (receiver : Receiver) (pick : Option ℕ) (members : List ℕ) (w : World) → members ≡ ready w f.instance set → (walk.Event → HasReceiver receiver f) → (walk.Given → Facts g w) → Is (IsOfFunc f) t w
+  members_keep : (t : ℕ) (f : Lifted) (set : ℕ) (receiver : Receiver) (pick : Option ℕ) (members : List ℕ) (w : World) → members ≡ ready w f.instance set → (walk.Event → HasReceiver receiver f) → Known walk w → Is (IsOfFunc f) t w
       → Held walk (stacked_receiver receiver) t w → Keeps walk (members_turn g s t f set receiver pick members w)
   unfolding members_turn
-  members_keep t f set receiver None [] w same has facts mine h = member_keeps t f receiver _ w facts mine h
-  members_keep t f set receiver None (index ∷ []) w same has facts mine h = member_keeps t f receiver _ w facts mine h
+  members_keep t f set receiver None [] w same has facts mine h = member_keeps t f receiver _ w (member_unwaited f set 0 [] w same) facts mine h
+  members_keep t f set receiver None (index ∷ []) w same has facts mine h = member_keeps t f receiver _ w (member_unwaited f set 0 (index ∷ []) w same) facts mine h
   members_keep t f set receiver None (index ∷ other ∷ members) w same has facts mine h = several_keep t f set receiver index other members w same has mine h
-  members_keep t f set receiver (Some k) members w same has facts mine h = member_keeps t f receiver _ w facts mine h
+  members_keep t f set receiver (Some k) members w same has facts mine h = member_keeps t f receiver _ w (member_unwaited f set k members w same) facts mine h
 
-  pub delivering_keeps : (set : ℕ) (receiver : Receiver) (pick : Option ℕ) (w : World) → (walk.Given → Facts g w) → (walk.Event → Comings g (Delivers set receiver pick) w) → walk.Holds w
+  pub delivering_keeps : (set : ℕ) (receiver : Receiver) (pick : Option ℕ) (w : World) → Known walk w → (walk.Event → Comings g (Delivers set receiver pick) w) → walk.Holds w
       → OneActs (IsActing (stacked_receiver receiver)) (outlines_of w.tasks) w.chain → Keeps walk (delivering_turn g s set receiver pick w)
   unfolding delivering_turn
   delivering_keeps set receiver pick w facts comings h o =
@@ -218,31 +231,37 @@ module _ {g : Graph} {s : Script} (walk : Walk g s) where
 
   pub yielded_keeps : (t : ℕ) (w : World) → Held walk true t w → Keeps walk (yield_cancelled t w)
   unfolding yield_cancelled
-  yielded_keeps t w h = on_keeps walk t (1 ∷ []) (cancel_told t w).world (still walk true t (IsCancelled t cancellation.Delivered) w tt tt (λ apart. tt) tt h)
+  yielded_keeps t w h = on_keeps walk t (1 ∷ []) (cancel_told t w).world (still walk true t (IsCancelled t cancellation.Delivered) w tt refl (λ apart. tt) tt h)
 
   -- for which no task waits any more
   abbrev AreUnawaited : Wait → World → Type 0
   AreUnawaited wait w = (callee : ℕ) → (wait ≡ ForCall callee) ⊎ ((i : ℕ) × (index : ℕ) × (entry_at w i index ≡ Some (OfSubtask callee))) → walk.Given → IsUnawaited w.tasks callee
 
+  -- so that they are told of it well
+  abbrev AreToldWell : Lifted → Wait → World → Type 0
+  AreToldWell f wait w =
+      (callee : ℕ) (state : SubtaskState) → (wait ≡ ForCall callee) ⊎ ((index : ℕ) × (wait ≡ ForCancel index) × (entry_at w f.instance index ≡ Some (OfSubtask callee))) → walk.Asks → TellsWell w callee state
+
   -- a member of the set is ready that a task waited on in a canonical function, where it is not told that its cancellation is asked
   abbrev IsReadyFor : Lifted → Bool → Wait → World → Type 0
   IsReadyFor f is_cancelled wait w = (index : ℕ) → is_cancelled ≡ false → wait ≡ ForSet index → is_some_ready w f.instance index ≡ true
 
-  wait_keeps : (t : ℕ) (f : Lifted) (is_cancelled : Bool) (number : ℕ) (words : List ℕ) (wait : Wait) (w : World) → (walk.Event → IsReadyFor f is_cancelled wait w) → AreUnawaited wait w → Is (IsOfFunc f) t w → Held walk true t w
+  wait_keeps : (t : ℕ) (f : Lifted) (is_cancelled : Bool) (number : ℕ) (words : List ℕ) (wait : Wait) (w : World) → (walk.Event → IsReadyFor f is_cancelled wait w) → AreUnawaited wait w → AreToldWell f wait w → Is (IsOfFunc f) t w → Held walk true t w
       → Keeps walk (wait_resumed g t f is_cancelled number words wait w)
   unfolding wait_resumed told_payload told_result
-  wait_keeps t f is_cancelled number words ForYield w some alone mine h = either_keeps walk is_cancelled _ _ (λ e. yielded_keeps t w h) (λ e. on_keeps walk t (0 ∷ []) w h)
-  wait_keeps t f is_cancelled number words (ForSet index) w some alone mine h =
+  wait_keeps t f is_cancelled number words ForYield w some alone well mine h = either_keeps walk is_cancelled _ _ (λ e. yielded_keeps t w h) (λ e. on_keeps walk t (0 ∷ []) w h)
+  wait_keeps t f is_cancelled number words (ForSet index) w some alone well mine h =
       either_keeps walk is_cancelled _ _ (λ e. cancel_keeps t f (InWait number words) w mine h)
       (λ e. given_keeps walk (set_number w f.instance index) _ (λ set i. (goes walk _ w h.0, (λ event. member_comes g w t f set (InWait number words) None w.picks mine (ready_found w f.instance index set i (some event index e refl)) tt), (t, h.1))))
-  wait_keeps t f is_cancelled number words (ForCall callee) w some alone mine h =
-      with_keeps w callee _ (λ task subtask there guest. on_keeps walk t subtask.result (told callee (subtask_state task) w) (subtask_keeps true t f.instance callee task subtask w (alone callee (inl refl)) h))
-  wait_keeps t f is_cancelled number words (ForCancel index) w some alone mine h =
+  wait_keeps t f is_cancelled number words (ForCall callee) w some alone well mine h =
+      with_keeps w callee _ (λ task subtask there guest. on_keeps walk t subtask.result (told callee (subtask_state task) w) (subtask_keeps true t f.instance callee task subtask w (alone callee (inl refl)) (well callee (subtask_state task) (inl refl)) h))
+  wait_keeps t f is_cancelled number words (ForCancel index) w some alone well mine h =
       given_keeps walk (found_subtask w f.instance index) _ (λ callee e.
       with_keeps w callee _ (λ task subtask there guest.
       on_keeps walk t (state_of task ∷ []) (told callee (subtask_state task) w)
-      (subtask_keeps true t f.instance callee task subtask w (alone callee (inr (f.instance, index, found_subtask_there w f.instance index callee e))) h)))
-  wait_keeps t f is_cancelled number words (ForCopy index) w some alone mine h =
+      (subtask_keeps true t f.instance callee task subtask w (alone callee (inr (f.instance, index, found_subtask_there w f.instance index callee e)))
+      (well callee (subtask_state task) (inr (index, refl, found_subtask_there w f.instance index callee e))) h)))
+  wait_keeps t f is_cancelled number words (ForCopy index) w some alone well mine h =
       given_keeps walk (found_end w f.instance index) _ (λ e i. on_keeps walk t (payload_of w e ∷ []) (concluded e w) (end_told_keeps true t e w h))
 
   polled_keeps : (t : ℕ) (f : Lifted) (set : ℕ) (members : List ℕ) (w : World) → members ≡ ready w f.instance set → (walk.Event → HasReceiver InCallback f) → Is (IsOfFunc f) t w → Held walk false t w → Keeps walk (set_polled g t f set members w)
@@ -266,13 +285,19 @@ module _ {g : Graph} {s : Script} (walk : Walk g s) where
   loop_keeps t f (Err why) w some has mine h = tt
 
   -- what a task that goes on waited for
-  unawaited_again : (t number : ℕ) (words : List ℕ) (wait : Wait) (w : World) → (walk.Given → Facts g w) → Is (IsIn (InBuiltin number words wait)) t w → AreUnawaited wait (in_state t Acting w)
+  unawaited_again : (t number : ℕ) (words : List ℕ) (wait : Wait) (w : World) → Known walk w → Is (IsIn (InBuiltin number words wait)) t w → AreUnawaited wait (in_state t Acting w)
   unawaited_again t number words wait w facts a callee (inl same) given =
-      behind_wait g w t callee number words (facts given).called (subst (λ (x : Wait). Is (IsIn (InBuiltin number words x)) t w) same a)
+      behind_wait g w t callee number words (facts.0 given).called (subst (λ (x : Wait). Is (IsIn (InBuiltin number words x)) t w) same a)
   unawaited_again t number words wait w facts a callee (inr at) given =
-      still_unawaited w.tasks t callee (standing_unawaited g w at.0 at.1 callee (facts given).subtasks at.2)
+      still_unawaited w.tasks t callee (standing_unawaited g w at.0 at.1 callee (facts.0 given).subtasks at.2)
 
-  resumed_keeps : (t : ℕ) (task : Task) (f : Lifted) (state : TaskState) (w : World) → (walk.Given → Facts g w) → (walk.Event → GoesOnFrom g w t task f state) → Is (IsOfFunc f) t w → Is (IsIn state) t w → Is (StandsBy state) t w → walk.Holds w
+  told_again : (t number : ℕ) (words : List ℕ) (f : Lifted) (wait : Wait) (w : World) → Known walk w → Is (IsIn (InBuiltin number words wait)) t w → Is (IsOfFunc f) t w → AreToldWell f wait (in_state t Acting w)
+  told_again t number words f wait w facts a mine callee state (inl same) asks =
+      wait_told g w t callee number words state (facts.1 asks).subtasks (subst (λ (x : Wait). Is (IsIn (InBuiltin number words x)) t w) same a)
+  told_again t number words f wait w facts a mine callee state (inr at) asks =
+      blocked_told w t at.0 callee number words f state (facts.1 asks).cancels (subst (λ (x : Wait). Is (IsIn (InBuiltin number words x)) t w) at.1 a) mine at.2
+
+  resumed_keeps : (t : ℕ) (task : Task) (f : Lifted) (state : TaskState) (w : World) → Known walk w → (walk.Event → GoesOnFrom g w t task f state) → Is (IsOfFunc f) t w → Is (IsIn state) t w → Is (StandsBy state) t w → walk.Holds w
       → Keeps walk (resumed g t task f state w)
   unfolding resumed loop_resumed
   resumed_keeps t task f WaitsToEnter w facts cause mine c a h = entered_keeps t task f w (λ apart. lifted_by g w t f (walk.own apart w h) mine) a h
@@ -283,7 +308,7 @@ module _ {g : Graph} {s : Script} (walk : Walk g s) where
       (λ e. loop_keeps t f (callback_of word) (in_state t Acting w) (λ event index says. loop_ready g w t task f word index (cause event) e says) (λ event. loop_has g w t task f word (cause event)) now i)
   resumed_keeps t task f (InBuiltin number words wait) w facts cause mine c a h =
       wait_keeps t f (is_to_be_told g number wait task w f.instance) number words wait (in_state t Acting w) (λ event index untold same. set_ready g w t task f number words wait index (cause event) untold same)
-      (unawaited_again t number words wait w facts c)
+      (unawaited_again t number words wait w facts c) (told_again t number words f wait w facts c mine)
       (state_first (IsOfFunc f) (IsOfFunc f) w t Acting (λ o k. k) mine) (acts_again true t w a h)
   resumed_keeps t task f IsNew w facts cause mine c a h = tt
   resumed_keeps t task f Acting w facts cause mine c a h = tt
@@ -297,7 +322,7 @@ module _ {g : Graph} {s : Script} (walk : Walk g s) where
   from_state w a f e i comings =
       record { there = acting_is w a e; is = refl; runs = i; cause = comings.0 a.0 a.1 f (acting_first w a e) (acting_is w a e) i; waits = comings.1 a.0 a.1 (acting_is w a e) }
 
-  pub resuming_keeps : (w : World) → (walk.Given → Facts g w) → (walk.Event → Comings g Resumes w) → walk.Holds w → Keeps walk (resuming_turn g w)
+  pub resuming_keeps : (w : World) → Known walk w → (walk.Event → Comings g Resumes w) → walk.Holds w → Keeps walk (resuming_turn g w)
   unfolding resuming_turn
   resuming_keeps w facts comings h =
       given_keeps walk (acting w) _ (λ a e. given_keeps walk (func_of a.1.callee) _ (λ f i.
@@ -313,11 +338,11 @@ module _ {g : Graph} {s : Script} (walk : Walk g s) where
       let f : Task → Task = λ x. record x { cancellation = cancellation.Asked } in
       let v : World = with_cancellation t cancellation.Asked w in
       let now : slice_get v.tasks t ≡ Some (f task) = changed_there t f w.tasks task there in (
-        goes walk GoesOn (after (ComesBack t) v) (walk.comes t v (f task) now runs (blocked refl) idle (walk.stays (IsCancelled t cancellation.Asked) w tt tt (λ apart. tt) h)),
+        goes walk GoesOn (after (ComesBack t) v) (walk.comes t v (f task) now runs (blocked refl) idle (walk.stays (IsCancelled t cancellation.Asked) w tt refl (λ apart. tt) h)),
         (λ event. comes refl),
         (t, (refl, (outline_of (f task), outline_there v.tasks t (f task) now, blocked refl))),
       )
-  idle_asked_keeps t task Pending w there runs waits blocked comes idle h = (goes walk Free (with_cancellation t cancellation.Asked w) (walk.stays (IsCancelled t cancellation.Asked) w tt tt (λ apart. tt) h), tt, idle)
+  idle_asked_keeps t task Pending w there runs waits blocked comes idle h = (goes walk Free (with_cancellation t cancellation.Asked w) (walk.stays (IsCancelled t cancellation.Asked) w tt refl (λ apart. tt) h), tt, idle)
 
   pub idle_cancelled_keeps : (t : ℕ) (task : Task) (w : World) → slice_get w.tasks t ≡ Some task → w.chain ≡ [] → walk.Holds w → Keeps walk (cancelled_turn g t task Free w)
   unfolding cancelled_turn
@@ -328,51 +353,55 @@ module _ {g : Graph} {s : Script} (walk : Walk g s) where
 
   acting_asked_keeps : (t callee number : ℕ) (words : List ℕ) (task : Task) (asked : Asked) (w : World) → may_leave w ≡ true → slice_get w.tasks callee ≡ Some task → IsSome (func_of task.callee)
       → (asked ≡ Removed → task.state ≡ WaitsToEnter) → (asked ≡ ResumeNow → IsBlocked task.state)
-      → (asked ≡ ResumeNow → EventComes g GoesOn (with_control Free (chained callee (with_cancellation callee cancellation.Asked (in_state t (AfterCancel callee number words) w))))) → (walk.Given → IsUnawaited w.tasks callee) → (walk.Apart → CallsItsOwn g number t w) → Held walk true t w → Keeps walk (asked_turn callee asked Back (in_state t (AfterCancel callee number words) w))
+      → (asked ≡ ResumeNow → EventComes g GoesOn (with_control Free (chained callee (with_cancellation callee cancellation.Asked (in_state t (AfterCancel callee number words) w))))) → (walk.Given → IsUnawaited w.tasks callee) → (walk.Asks → CancelsWell w t callee words) → (walk.Apart → CallsItsOwn g number t w) → Held walk true t w → Keeps walk (asked_turn callee asked Back (in_state t (AfterCancel callee number words) w))
   unfolding asked_turn
-  acting_asked_keeps t callee number words task Removed w free there runs waits blocked comes alone calls h =
+  acting_asked_keeps t callee number words task Removed w free there runs waits blocked comes alone well calls h =
       let is : IsBlocked task.state = subst IsBlocked (sym (waits refl)) tt in (
-        goes walk Back (after (IsRemoved callee) (after (Cancels t callee number words) w)) (walk.removed_asked t callee number words w task h.1 free there runs (waits refl) alone calls h.0),
+        goes walk Back (after (IsRemoved callee) (after (Cancels t callee number words) w)) (walk.removed_asked t callee number words w task h.1 free there runs (waits refl) alone well calls h.0),
         tt,
         (t, first_asks t callee number words w task h.1 there is (walk.chained w h.0)),
       )
-  acting_asked_keeps t callee number words task ResumeNow w free there runs waits blocked comes alone calls h = (
-    goes walk GoesOn (after (ComesBack callee) (after (IsCancelled callee cancellation.Asked) (after (Cancels t callee number words) w))) (walk.comes_asked t callee number words w task h.1 free there runs (blocked refl) alone calls h.0),
+  acting_asked_keeps t callee number words task ResumeNow w free there runs waits blocked comes alone well calls h = (
+    goes walk GoesOn (after (ComesBack callee) (after (IsCancelled callee cancellation.Asked) (after (Cancels t callee number words) w))) (walk.comes_asked t callee number words w task h.1 free there runs (blocked refl) alone well calls h.0),
     (λ event. comes refl),
     (callee, first_back t callee number words w task h.1 there (blocked refl) (walk.chained w h.0)),
   )
-  acting_asked_keeps t callee number words task Pending w free there runs waits blocked comes alone calls h =
+  acting_asked_keeps t callee number words task Pending w free there runs waits blocked comes alone well calls h =
       let v : World = in_state t (AfterCancel callee number words) w in (
-        goes walk Back (with_cancellation callee cancellation.Asked v) (walk.stays (IsCancelled callee cancellation.Asked) v tt tt (λ apart. tt) (walk.stays (Cancels t callee number words) w (h.1.0, free) (as_is (IsActing true) (WaitsWith true) t w (acting_waits true) h.1, subst (λ (o : Option Task). IsSome o) (sym there) refl, alone) calls h.0)),
+        goes walk Back (with_cancellation callee cancellation.Asked v) (walk.pending_asked t callee number words w task h.1 free there alone well calls h.0),
         tt,
         (t, steady IsCalling t (IsCancelled callee cancellation.Asked) v tt (state_first IsCalling (IsActing true) w t (AfterCancel callee number words) (λ o k. tt) h.1)),
       )
 
-  pub acting_cancelled_keeps : (t callee number : ℕ) (words : List ℕ) (task : Task) (w : World) → may_leave w ≡ true → slice_get w.tasks callee ≡ Some task → (walk.Given → IsUnawaited w.tasks callee) → (walk.Apart → CallsItsOwn g number t w) → Held walk true t w
+  pub acting_cancelled_keeps : (t callee number : ℕ) (words : List ℕ) (task : Task) (w : World) → may_leave w ≡ true → slice_get w.tasks callee ≡ Some task → (walk.Given → IsUnawaited w.tasks callee) → (walk.Asks → CancelsWell w t callee words) → (walk.Apart → CallsItsOwn g number t w) → Held walk true t w
       → Keeps walk (cancelled_turn g callee task Back (in_state t (AfterCancel callee number words) w))
   unfolding cancelled_turn
-  acting_cancelled_keeps t callee number words task w free there alone calls h =
+  acting_cancelled_keeps t callee number words task w free there alone well calls h =
       let v : World = in_state t (AfterCancel callee number words) w in
       given_keeps walk (func_of task.callee) _ (λ f e. acting_asked_keeps t callee number words task (cancel_case (is_entry_free v f.instance) (task_view g v callee task)) w free there (subst (λ (o : Option Lifted). IsSome o) (sym e) refl)
       (λ i. removed_waits (is_entry_free v f.instance) (kind_of task) (flag_at g) task.state i) (λ i. resumed_blocked (is_entry_free v f.instance) (kind_of task) (flag_at g) task.state i)
-      (λ i. asked_comes g v callee task (is_entry_free v f.instance) (task_there t callee number words w task h.1 there (resumed_blocked (is_entry_free v f.instance) (kind_of task) (flag_at g) task.state i) (walk.chained w h.0)) i) alone calls h)
+      (λ i. asked_comes g v callee task (is_entry_free v f.instance) (task_there t callee number words w task h.1 there (resumed_blocked (is_entry_free v f.instance) (kind_of task) (flag_at g) task.state i) (walk.chained w h.0)) i) alone well calls h)
 
-  cancel_open_keeps : (t number : ℕ) (words : List ℕ) (w : World) → (walk.Apart → CallsItsOwn g number t w) → HasFunc w.tasks t → Held walk true t w → Keeps walk (cancel_open g t number words w)
+  cancel_open_keeps : (t number : ℕ) (words : List ℕ) (w : World) → (walk.Asks → BlocksAsked t (InBuiltin number words (ForCancel (first_of words))) w) → (walk.Apart → CallsItsOwn g number t w) → HasFunc w.tasks t → Held walk true t w → Keeps walk (cancel_open g t number words w)
   unfolding cancel_open
-  cancel_open_keeps t number words w calls runs h = either_keeps walk (flag_at g number) _ _ (λ e. on_keeps walk t (blocked_word ∷ []) w h)
-      (λ e. blocked_keeps walk t (InBuiltin number words (ForCancel (first_of words))) (reason.Cancel (first_of words)) w h.1.0 tt (inr runs) tt calls (as_is (IsActing true) (WaitsWith true) t w (acting_waits true) h.1) h.0)
+  cancel_open_keeps t number words w blocks calls runs h = either_keeps walk (flag_at g number) _ _ (λ e. on_keeps walk t (blocked_word ∷ []) w h)
+      (λ e. blocked_keeps walk t (InBuiltin number words (ForCancel (first_of words))) (reason.Cancel (first_of words)) w h.1.0 tt (inr runs) tt blocks calls (as_is (IsActing true) (WaitsWith true) t w (acting_waits true) h.1) h.0)
 
-  back_cancel_keeps : (t i callee number : ℕ) (words : List ℕ) (w : World) → (walk.Given → IsUnawaited w.tasks callee) → (walk.Apart → CallsItsOwn g number t w) → HasFunc w.tasks t → Held walk true t w → Keeps walk (back_from_cancel g t i callee number words w)
+  back_cancel_keeps : (t i callee number : ℕ) (words : List ℕ) (w : World) → (walk.Given → IsUnawaited w.tasks callee) → (walk.Asks → (state : SubtaskState) → is_over state ≡ true → TellsWell w callee state)
+      → ((task : Task) (subtask : Subtask) → slice_get w.tasks callee ≡ Some task → subtask_of task.caller ≡ Some subtask → has_resolved task ≡ false → walk.Asks → BlocksAsked t (InBuiltin number words (ForCancel (first_of words))) w)
+      → (walk.Apart → CallsItsOwn g number t w) → HasFunc w.tasks t → Held walk true t w → Keeps walk (back_from_cancel g t i callee number words w)
   unfolding back_from_cancel told_payload
-  back_cancel_keeps t i callee number words w alone calls runs h =
+  back_cancel_keeps t i callee number words w alone well blocks calls runs h =
       with_keeps w callee _ (λ task subtask there guest.
-      either_keeps walk (has_resolved task) _ _ (λ e. on_keeps walk t (state_of task ∷ []) (told callee (subtask_state task) w) (subtask_keeps true t i callee task subtask w alone h)) (λ e. cancel_open_keeps t number words w calls runs h))
+      either_keeps walk (has_resolved task) _ _ (λ e. on_keeps walk t (state_of task ∷ []) (told callee (subtask_state task) w) (subtask_keeps true t i callee task subtask w alone (λ asks. well asks (subtask_state task) e) h))
+      (λ e. cancel_open_keeps t number words w (blocks task subtask there guest e) calls runs h))
 
-  back_to_keeps : (t i : ℕ) (state : TaskState) (w : World) → (walk.Given → Facts g w) → Is (IsIn state) t w → HasFunc w.tasks t → walk.Holds w → Keeps walk (back_to g t i state w)
+  back_to_keeps : (t i : ℕ) (state : TaskState) (w : World) → Known walk w → Is (IsIn state) t w → HasFunc w.tasks t → walk.Holds w → Keeps walk (back_to g t i state w)
   unfolding back_to
   back_to_keeps t i (AfterCall callee number words) w facts a runs h = back_call_keeps t i callee number words w facts runs a h
   back_to_keeps t i (AfterCancel callee number words) w facts a runs h =
-      back_cancel_keeps t i callee number words (in_state t Acting w) (λ given. behind_cancel g w t callee number words (facts given).subtasks a)
+      back_cancel_keeps t i callee number words (in_state t Acting w) (λ given. behind_cancel g w t callee number words (facts.0 given).subtasks a)
+      (λ asks state over. cancelled_told w t callee number words state (facts.1 asks).cancels a over) (λ task subtask there guest unresolved asks. blocks_then g w t callee number words task subtask (facts.1 asks) a there guest unresolved)
       (λ apart. after_cancel_own g w t callee number words (walk.own apart w h) a) (func_changed w.tasks t t (λ x. record x { state = Acting }) (λ x. refl) runs)
       (acts_again true t w (a.0, (a.1.0, a.1.1, subst (λ (state : TaskState). StandsBy state a.1.0) a.1.2 (walk.stacked w h t a.1.0 a.1.1))) h)
   back_to_keeps t i IsNew w facts a runs h = tt
@@ -383,7 +412,7 @@ module _ {g : Graph} {s : Script} (walk : Walk g s) where
   back_to_keeps t i (InBuiltin number words wait) w facts a runs h = tt
   back_to_keeps t i Exited w facts a runs h = tt
 
-  pub back_keeps : (w : World) → (walk.Given → Facts g w) → walk.Holds w → Keeps walk (back_turn g w)
+  pub back_keeps : (w : World) → Known walk w → walk.Holds w → Keeps walk (back_turn g w)
   unfolding back_turn
   back_keeps w facts h =
       given_keeps walk (acting w) _ (λ a e. given_keeps walk (func_of a.1.callee) _ (λ f i.

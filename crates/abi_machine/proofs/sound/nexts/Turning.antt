@@ -136,7 +136,7 @@ worlds_go_on g s w h fed = by w.control h.ordered.2 h.alone.2 h.control_own h.pi
     by Resumes acts tells own picked comes fed =
         resuming_next g v h.ordered.1 acts caller h.numbered.entries
         (λ t task f first at runs.
-        resumable g v t task f at runs (h.called t task at) (h.waits t task at) (h.loops t task at) (λ index waits. h.sets t index task f at runs waits) (fed.1 t task f at runs) (fed.0 t task f first at runs))
+        resumable g v t task f at runs (h.called t task at) (h.waits t task at) (h.loops t task at) (λ index waits. h.sets t index task f at runs waits) (h.cancels.stands t task at) (fed.1 t task f at runs) (fed.0 t task f first at runs))
     by (Delivers set receiver pick) acts tells own picked comes fed = delivering_next g s set receiver pick (IsActing (stacked_receiver receiver)) v acts (λ o p. p.0) h.numbered.entries comes fed
     by Leaves acts tells own picked comes fed = leaving_next (IsActing false) v acts
     by (Doomed t why) acts tells own picked comes fed = tt

@@ -1,17 +1,15 @@
 -- What comes next where tasks enter, are called, go on, and get events.
-use Rattle.std.proofs.Common.{◌≡◌, ℕ, Bool, true, false, ◌&&◌, ◌||◌, ◌==◌, arith, List, [], ◌∷◌, length, refl, sym, subst, Option, Some, None, Result, Ok, Err, if◌then◌else◌}
-use Rattle.std.specs.Prelude.{IsSome, IfSome, filter}
-use Rattle.std.proofs.lemmas.Bool.Decides.{nat_tests}
+use Rattle.std.proofs.Common.{◌≡◌, ℕ, Bool, true, false, List, [], ◌∷◌, length, refl, sym, subst, Option, Some, None, Result, Ok, Err}
+use Rattle.std.specs.Prelude.{IsSome, IfSome}
 use Rattle.std.specs.Option.{unwrap_or}
-use Rattle.std.specs.List.{slice_get, range_with_len, AllByRecursion}
+use Rattle.std.specs.List.{slice_get, AllByRecursion}
 use Rattle.wasm_store.proofs.Lists.{all_at}
-use Rattle.waitables.specs.Sets.{is_one_of}
 use Rattle.wasm_store.specs.Store.{Store, found_at}
 use Rattle.entry_gate.specs.Callbacks.{callback_of}
 use Rattle.entry_gate.specs.declared.callback.BadCode.{BadCode}
 use Rattle.entry_gate.specs.declared.callback.Next.{Next}
 use Rattle.entry_gate.specs.declared.callback.Next.TheVariants as next
-use Rattle.handle_table.specs.History.{live, greatest}
+use Rattle.handle_table.specs.History.{live}
 use Rattle.tasks.specs.Tasks.{is_asked}
 use Rattle.entry_gate.specs.declared.kind.Kind.TheVariants.{Callback}
 use Rattle.comp_graph.specs.Graph.{Graph, Lifted}
@@ -22,10 +20,10 @@ use Rattle.abi_machine.specs.Control.{EndRef, EventCode, SubtaskEvent, Receiver,
 use Rattle.abi_machine.specs.World.{Entry, OwnHandle, BorrowHandle, OfSubtask, OfSet, OfEnd, Inst, Callee, Subtask, Caller, Nobody, Host, Guest, Wait, ForYield, ForSet, ForCall, ForCopy, ForCancel, TaskState, New as IsNew, Acting, AfterCall, AfterCancel, Begins, WaitsToEnter, InLoop, InBuiltin, Exited, Task, World}
 use Rattle.abi_machine.specs.Edits.{changed_at, in_state, told}
 use Rattle.abi_machine.specs.Canons.{func_address, canon_at, options_at, flag_at}
-use Rattle.abi_machine.specs.Reading.{table_of, table_in, entry_at, members_of, func_of, kind_of_func, is_reentrant}
-use Rattle.abi_machine.specs.Counting.{has_resolved, subtask_state, entry_has_event, has_news, news_of, ready}
+use Rattle.abi_machine.specs.Reading.{table_in, entry_at, func_of, kind_of_func, is_reentrant}
+use Rattle.abi_machine.specs.Counting.{has_resolved, subtask_state, entry_has_event, ready}
 use Rattle.abi_machine.specs.Gate.{may_arrive}
-use Rattle.abi_machine.specs.Finding.{set_in, set_number, accepted, found_subtask, found_end}
+use Rattle.abi_machine.specs.Finding.{set_in, set_number, accepted, subtask_in, found_subtask, found_end}
 use Rattle.abi_machine.specs.Turn.{replied, blocked}
 use Rattle.abi_machine.specs.Entering.{with_arguments, arguments_passed, arguments_turn, entered, arriving_turn}
 use Rattle.abi_machine.specs.Calling.{call_begun, call_state, Told, subtask_told, call_resolved, call_open, back_from_call}
@@ -39,11 +37,13 @@ use Rattle.abi_machine.specs.sound.Loops.{HasSetAt, GoesOnBy, LoopsIn, LoopsSo}
 use Rattle.abi_machine.specs.sound.SetWaits.{WaitsOnSet}
 use Rattle.abi_machine.specs.sound.Guests.{WaitsAs, WaitAs}
 use Rattle.abi_machine.specs.sound.Events.{HasReceiver, EventComes}
+use Rattle.abi_machine.specs.sound.Cancels.{CancelStands}
 use Rattle.abi_machine.specs.sound.GoingOn.{HasNext, IsFuncThere, AreFuncsThere, HaveFuncs, WaitsThere, ResumesAt}
 use Rattle.abi_machine.proofs.sound.Lists.{all_as}
 use Rattle.abi_machine.proofs.sound.Found.{guest_changed}
 use Rattle.abi_machine.proofs.sound.known.Handles.{found_subtask_there}
 use Rattle.abi_machine.proofs.sound.known.Events.{has_callback}
+use Rattle.abi_machine.proofs.sound.known.Ready.{ready_has_event}
 use Rattle.abi_machine.proofs.sound.Aside.{channel_kept}
 use Rattle.abi_machine.proofs.sound.Outlines.{outline_there}
 use Rattle.abi_machine.proofs.sound.own.Belonging.{if_there}
@@ -172,34 +172,6 @@ delivered_next g t f receiver index (Some (OwnHandle resource rep)) w event gues
 delivered_next g t f receiver index (Some (BorrowHandle resource rep task)) w event guest h = cc
 delivered_next g t f receiver index (Some (OfSet set)) w event guest h = cc
 delivered_next g t f receiver index None w event guest h = cc
-
--- what holds of each of some numbers holds of one that is among them
-one_among : (P : ℕ → Type 0) (told : List ℕ) (index : ℕ) → AllByRecursion P told → is_one_of told index ≡ true → P index
-one_among P [] index all e = cc
-one_among P (x ∷ told) index all e = by (x == index) refl e (λ k. one_among P told index all.1 k)
-  where
-    by : (b : Bool) → (x == index) ≡ b → b || is_one_of told index ≡ true → (is_one_of told index ≡ true → P index) → P index
-    by true same k others = let is : x ≡ index = grind (arith, nat_tests) in subst P is all.0
-    by false same k others = others k
-
-all_passing : {A : Type 0} (p : A → Bool) (xs : List A) → AllByRecursion (λ x. p x ≡ true) (filter p xs)
-all_passing p [] = tt
-all_passing {A} p (x ∷ xs) = by (p x) refl (all_passing p xs)
-  where
-    by : (b : Bool) → p x ≡ b → AllByRecursion (λ (y : A). p y ≡ true) (filter p xs) → AllByRecursion (λ (y : A). p y ≡ true) (if b then x ∷ filter p xs else filter p xs)
-    by true e others = (e, others)
-    by false e others = others
-
-news_both : (a b : Bool) → a && b ≡ true → a ≡ true
-news_both true b e = refl
-news_both false b e = cc
-
--- A ready member has an event.
-ready_has_event : (w : World) (i set place index : ℕ) → slice_get (ready w i set) place ≡ Some index → entry_has_event w (entry_at w i index) ≡ true
-ready_has_event w i set place index e =
-    let told : is_one_of (news_of w i) index ≡ true = all_at (λ (x : ℕ). is_one_of (news_of w i) x ≡ true) (ready w i set) place index (all_passing (is_one_of (news_of w i)) (members_of w i set)) e in
-    let news : has_news w i index ≡ true = one_among (λ x. has_news w i x ≡ true) (news_of w i) index (all_passing (has_news w i) (range_with_len 1 (greatest (table_of w i)))) told in
-    news_both (entry_has_event w (entry_at w i index)) _ news
 
 -- The subtask of a table was called by a task.
 pub named_guest : (w : World) (i index callee : ℕ) → AllByRecursion (NamesWhatIsThere w.tasks) w.insts → entry_at w i index ≡ Some (OfSubtask callee) → IsGuest w.tasks callee
@@ -334,27 +306,28 @@ blocked_runs Exited o blocked h = absurd blocked
 
 -- what a blocked task waits for is there, by what is kept and what else is asked
 pub resumable : (g : Graph) (w : World) (t : ℕ) (task : Task) (f : Lifted) → slice_get w.tasks t ≡ Some task → func_of task.callee ≡ Some f → HasCalled w.tasks t task.state → WaitsAs w.tasks task.callee task.state → LoopsSo w.insts task.callee task.state
-    → ((index : ℕ) → WaitsOnSet task index → HasSetAt (table_in (slice_get w.insts f.instance)) index) → AreFuncsThere w.store f → ResumesAt w f task.state → IsResumable w f task.state
-resumable g w t task f there runs called waits loops sets funcs at = by task.state refl called waits loops at
+    → ((index : ℕ) → WaitsOnSet task index → HasSetAt (table_in (slice_get w.insts f.instance)) index) → CancelStands w.tasks w.insts (func_of task.callee) task.state → AreFuncsThere w.store f → ResumesAt w f task.state → IsResumable w f task.state
+resumable g w t task f there runs called waits loops sets cancels funcs at = by task.state refl called waits loops (subst (λ (o : Option Lifted). CancelStands w.tasks w.insts o task.state) runs cancels) at
   where
-    waits_by : (number : ℕ) (words : List ℕ) (wait : Wait) → task.state ≡ InBuiltin number words wait → HasCalled w.tasks t (InBuiltin number words wait) → WaitsThere w f.instance wait → IsAwaited w f.instance wait
-    waits_by number words ForYield e called at = tt
-    waits_by number words (ForSet index) e called at = sets index (number, words, e)
-    waits_by number words (ForCall callee) e called at = called_guest w.tasks t number callee called
-    waits_by number words (ForCopy index) e called at = at
-    waits_by number words (ForCancel index) e called at = at
+    waits_by : (number : ℕ) (words : List ℕ) (wait : Wait) → task.state ≡ InBuiltin number words wait → HasCalled w.tasks t (InBuiltin number words wait) → CancelStands w.tasks w.insts (Some f) (InBuiltin number words wait)
+        → WaitsThere w f.instance wait → IsAwaited w f.instance wait
+    waits_by number words ForYield e called stands at = tt
+    waits_by number words (ForSet index) e called stands at = sets index (number, words, e)
+    waits_by number words (ForCall callee) e called stands at = called_guest w.tasks t number callee called
+    waits_by number words (ForCopy index) e called stands at = at
+    waits_by number words (ForCancel index) e called stands at = subst (λ (o : Option Entry). IsSome (accepted (subtask_in o))) (sym stands.1) refl
 
-    by : (state : TaskState) → task.state ≡ state → HasCalled w.tasks t state → WaitsAs w.tasks task.callee state → LoopsSo w.insts task.callee state → ResumesAt w f state → IsResumable w f state
-    by (InLoop word) e called waits loops at =
+    by : (state : TaskState) → task.state ≡ state → HasCalled w.tasks t state → WaitsAs w.tasks task.callee state → LoopsSo w.insts task.callee state → CancelStands w.tasks w.insts (Some f) state → ResumesAt w f state → IsResumable w f state
+    by (InLoop word) e called waits loops stands at =
         (subst (λ (o : Option Lifted). LoopsIn w.insts o word) runs loops, (has_callback f.options (subst (λ (o : Option Lifted). kind_of_func o ≡ Callback) runs waits), funcs.callback))
-    by (InBuiltin number words wait) e called waits loops at = waits_by number words wait e called at
-    by WaitsToEnter e called waits loops at = tt
-    by IsNew e called waits loops at = tt
-    by Acting e called waits loops at = tt
-    by (AfterCall callee number words) e called waits loops at = tt
-    by (AfterCancel callee number words) e called waits loops at = tt
-    by (Begins n) e called waits loops at = tt
-    by Exited e called waits loops at = tt
+    by (InBuiltin number words wait) e called waits loops stands at = waits_by number words wait e called stands at
+    by WaitsToEnter e called waits loops stands at = tt
+    by IsNew e called waits loops stands at = tt
+    by Acting e called waits loops stands at = tt
+    by (AfterCall callee number words) e called waits loops stands at = tt
+    by (AfterCancel callee number words) e called waits loops stands at = tt
+    by (Begins n) e called waits loops stands at = tt
+    by Exited e called waits loops stands at = tt
 
 pub resuming_next : (g : Graph) (w : World) → HaveStacks (outlines_of w.tasks) → OneActs WasBlocked (outlines_of w.tasks) w.chain
     → ((t : ℕ) (task : Task) → slice_get w.tasks t ≡ Some task → IsSome (func_of task.callee) → HasCaller g task.caller) → AllByRecursion (NamesWhatIsThere w.tasks) w.insts

@@ -320,7 +320,7 @@ module _ {g : Graph} {s : Script} (inv : Invariant g s) where
       unless_keeps inv t (is_unwritten kind side (end_of w e)) trap.UnwrittenFuture w (answers e) h (λ l.
       on_keeps inv t [] (after (DropsEnd e) (after (RemovesWaitable i index) w)) (stay inv (DropsEnd e) (after (RemovesWaitable i index) w) tt
       (ap (λ (x : End). x.copy) (end_same w (after (RemovesWaitable i index) w) e refl refl) ∙ not_copying (end_of w e).copy k)
-      (stay inv (RemovesWaitable i index) w tt (OfEnd e, (end_found w i kind side element index e j).0, (tt, not_copying (end_of w e).copy k)) h)))))
+      (stay inv (RemovesWaitable i index) w tt (OfEnd e, (end_found w i kind side element index e j).0, (tt, not_copying (end_of w e).copy k, tt)) h)))))
 
   subtask_cancel_keeps : (t i number : ℕ) (words : List ℕ) (w : World) → IsSome (task_at w t) → IsFirst t w.chain → may_leave w ≡ true → Acted inv w → Keeps inv (subtask_cancel_turn g t i number words w)
   unfolding subtask_cancel_turn cancel_asked
@@ -348,7 +348,7 @@ module _ {g : Graph} {s : Script} (inv : Invariant g s) where
       let over : Task → Subtask → Turn = λ task subtask. unless t (not (is_over subtask.told)) trap.NotDelivered w answers in
       refused_keeps inv t (subtask_at w i index) w (λ callee. with_subtask_of w callee over) h (λ callee e. with_keeps inv w callee over (λ task subtask there guest.
       unless_keeps inv t (not (is_over subtask.told)) trap.NotDelivered w answers h (λ j.
-      on_keeps inv t [] (after (RemovesWaitable i index) w) (stay inv (RemovesWaitable i index) w tt (subtask_taken w i index callee e) h))))
+      on_keeps inv t [] (after (RemovesWaitable i index) w) (stay inv (RemovesWaitable i index) w tt (subtask_taken w i index callee e (task, there, (subtask, guest, not_false (is_over subtask.told) j))) h))))
 
   pressure_keeps : (t i pressure : ℕ) (w : World) → (pressure ≤ most_backpressure) ⊎ (pressure ≤ backpressure_of w i) → Acted inv w → Keeps inv (replied t [] (after (HasBackpressure i pressure) w))
   pressure_keeps t i pressure w few h = on_keeps inv t [] (after (HasBackpressure i pressure) w) (stay inv (HasBackpressure i pressure) w tt few h)

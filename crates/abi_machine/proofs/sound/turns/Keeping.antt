@@ -111,7 +111,6 @@ abbrev pub IsOfActing : Control → Type 0
 IsOfActing Runs = Unit {0}
 IsOfActing (control.Calls number words) = Unit {0}
 IsOfActing (Delivers set receiver pick) = Unit {0}
-IsOfActing Leaves = Unit {0}
 IsOfActing (Doomed t why) = Unit {0}
 IsOfActing other = ⊥
 
@@ -156,7 +155,7 @@ module _ {g : Graph} {s : Script} (inv : Invariant g s) where
   acting_says Runs w is h = h
   acting_says (control.Calls number words) w is h = h
   acting_says (Delivers set receiver pick) w is h = h
-  acting_says Leaves w is h = h
+  acting_says Leaves w is h = absurd is
   acting_says (Doomed t why) w is h = tt
   acting_says Free w is h = absurd is
   acting_says (Chosen k) w is h = absurd is

@@ -44,7 +44,8 @@ use Rattle.abi_machine.specs.CoreSteps.{costs, func_ended, stack_ended, ended_ov
 use Rattle.abi_machine.specs.Instantiating.{started_up, made as core_made, action_turn, instantiating_turn}
 use Rattle.abi_machine.specs.sound.Changes.{HasStore, BeginsInstance, Begins as IsBegun, Exits, Resolves as IsResolved, HasStack, LosesStack, after, HasFunc}
 use Rattle.laid_types.specs.Handles.{held_borrow}
-use Rattle.abi_machine.specs.sound.Premises.{BlocksFrom, MayResolve, HasBorrowResult, PassBorrow}
+use Rattle.abi_machine.specs.sound.Premises.{BlocksFrom, MayResolve, ExitsResolved, HasBorrowResult, PassBorrow}
+use Rattle.abi_machine.specs.sound.Agreeing.{FirstHasResolved, HasResolvedFor}
 use Rattle.tasks.specs.declared.event.TaskTrap.TheVariants.{Resolved, BorrowLives}
 use Rattle.tasks.specs.declared.phase.Resolution.{Resolution}
 use Rattle.tasks.specs.Views.{TaskView}
@@ -55,6 +56,7 @@ use Rattle.abi_machine.proofs.sound.Found.{acting_first, acting_is, func_changed
 use Rattle.abi_machine.proofs.sound.Takeable.{behind_agrees}
 use Rattle.abi_machine.proofs.sound.Acted.{still_is, now_is, is_as, one_task, first_at, first_now, acting_inside}
 use Rattle.abi_machine.proofs.sound.Lifted.{result_keeps}
+use Rattle.abi_machine.proofs.sound.turns.Resolving.{has_resolved_for, resolution_there, init_no_func}
 use Rattle.abi_machine.proofs.sound.turns.Keeping.{Invariant, HasActing, Keeps, Acted, given_keeps, behind_keeps, stay, acts, goes, goes_on, refused_keeps, unless_keeps, fault_keeps, charged_keeps, on_keeps, blocked_keeps, new_stack_keeps, removes, waits, lends, came_keeps}
 use Rattle.abi_machine.specs.sound.Entered.{IsByEntered, HaveEntered}
 use Rattle.abi_machine.proofs.sound.Entered.{caller_entered, by_still}
@@ -92,21 +94,21 @@ no_fault v e = is_unresolved v.resolution (nat_lt 0 v.borrows) e
 module _ {g : Graph} {s : Script} (inv : Invariant g s) where
   -- Tasks resolve and exit.
 
-  pub finished_keeps : (follows : After) (w : World) → Acted inv w → Keeps inv (finished follows w)
+  pub finished_keeps : (follows : After) (w : World) → HasResolvedFor follows w.tasks w.chain → Acted inv w → Keeps inv (finished follows w)
   unfolding finished post_return
-  finished_keeps Replies w h = given_keeps inv (acting w) _ (λ a e. on_keeps inv a.0 [] w h)
-  finished_keeps (Finishes ended) w h = given_keeps inv (acting w) _ (λ a e. given_keeps inv (func_of a.1.callee) _ (λ f i. by a f f.options.post_return))
+  finished_keeps Replies w done h = given_keeps inv (acting w) _ (λ a e. on_keeps inv a.0 [] w h)
+  finished_keeps (Finishes ended) w done h = given_keeps inv (acting w) _ (λ a e. given_keeps inv (func_of a.1.callee) _ (λ f i. by a f f.options.post_return))
     where
       by : (a : ℕ × Task) (f : Lifted) (r : Option FuncRef) → Keeps inv (post_return a.0 f ended r w)
-      by a f None = goes_on inv Leaves w tt h
-      by a f (Some ref) = given_keeps inv (found_at w.store.funcs (func_address w.store ref)) _ (λ function e. goes inv _ w (h.1, tt, tt) h.0)
+      by a f None = goes inv Leaves w (h.1, done) h.0
+      by a f (Some ref) = given_keeps inv (found_at w.store.funcs (func_address w.store ref)) _ (λ function e. goes inv _ w (h.1, tt, tt, done) h.0)
 
-  passed_keeps : (t : ℕ) (caller : Caller) (follows : After) (result : Option TypedValue) (w : World) → IsByEntered w.tasks caller → Acted inv w → Keeps inv (passed_on g t caller follows result w)
+  passed_keeps : (t : ℕ) (caller : Caller) (follows : After) (result : Option TypedValue) (w : World) → IsByEntered w.tasks caller → HasResolvedFor follows w.tasks w.chain → Acted inv w → Keeps inv (passed_on g t caller follows result w)
   unfolding passed_on passed_to
-  passed_keeps t Nobody follows result w entered h = finished_keeps follows w h
-  passed_keeps t (Host call values) follows result w entered h = finished_keeps follows w h
-  passed_keeps t (Guest subtask) follows None w entered h = finished_keeps follows w h
-  passed_keeps t (Guest subtask) follows (Some result) w entered h = given_keeps inv (canon_at g subtask.canon) _ (λ c e. goes inv _ w (h.1, tt, entered) h.0)
+  passed_keeps t Nobody follows result w entered done h = finished_keeps follows w done h
+  passed_keeps t (Host call values) follows result w entered done h = finished_keeps follows w done h
+  passed_keeps t (Guest subtask) follows None w entered done h = finished_keeps follows w done h
+  passed_keeps t (Guest subtask) follows (Some result) w entered done h = given_keeps inv (canon_at g subtask.canon) _ (λ c e. goes inv _ w (h.1, tt, entered, done) h.0)
 
   -- what holds while the result of a task is lifted, and when it has come
   abbrev pub WhileLifted : ℕ → Task → World → Type 0
@@ -130,6 +132,8 @@ module _ {g : Graph} {s : Script} (inv : Invariant g s) where
       fault_keeps inv t task_name (resolving_fault (task_view g w t task)) w _ i.0 (λ none.
       behind_keeps inv (line.Return t result ∷ []) (passed_on g t task.caller follows result (resolved t Returned w))
       (passed_keeps t task.caller follows result (resolved t Returned w) (by_still w.tasks t _ (λ x. refl) task.caller i.1.2)
+      (has_resolved_for follows (resolved t Returned w).tasks w.chain (first_now (resolved t Returned w).tasks w.chain t (λ x. IsSome x.resolution) i.1.0
+      (now_is w.tasks t (λ x. record x { resolution = Some Returned }) (IsLike task) (λ x. IsSome x.resolution) (λ x k. refl) i.1.1)))
       (stay inv (IsResolved t Returned) w tt (resolvable t task w i.0.1 i.1 (no_fault (task_view g w t task) none), no_borrows (task_view g w t task) none) i.0)))
 
   pub resolves_keeps : (t : ℕ) (task : Task) (follows : After) (came : Came (Option TypedValue))
@@ -138,15 +142,23 @@ module _ {g : Graph} {s : Script} (inv : Invariant g s) where
   resolves_keeps t task follows came h =
       came_keeps inv (WhileLifted t task) t came (λ result w. resolves_to g t task follows result w) (λ w k. k.0) h (λ result k comes i. resolves_to_keeps t task follows result k.world i)
 
-  ending_keeps : (t : ℕ) (task : Task) (w : World) → Acted inv w → Keeps inv (ending_turn t task w)
+  ending_keeps : (t : ℕ) (task : Task) (w : World) → ActsLike t task w → Acted inv w → Keeps inv (ending_turn t task w)
   unfolding ending_turn
-  ending_keeps t task w h = unless_keeps inv t (is_none task.resolution) trap.Unresolved w _ h (λ e. goes_on inv Leaves w tt h)
+  ending_keeps t task w like h =
+      unless_keeps inv t (is_none task.resolution) trap.Unresolved w _ h
+      (λ e.
+      goes inv Leaves w (
+        h.1,
+        first_now w.tasks w.chain t (λ x. IsSome x.resolution) like.0
+            (is_as w.tasks t (IsLike task) (λ x. IsSome x.resolution) (λ x k. subst (λ (o : Option Resolution). IsSome o) (sym k.0) (resolution_there task.resolution e)) like.1),
+      ) h.0)
 
-  pub leaving_keeps : (w : World) → Acted inv w → Keeps inv (leaving_turn w)
+  pub leaving_keeps : (w : World) → FirstHasResolved w.tasks w.chain → Acted inv w → Keeps inv (leaving_turn w)
   unfolding leaving_turn
-  leaving_keeps w h =
+  leaving_keeps w done h =
       given_keeps inv (acting w) _ (λ a e.
-      goes inv (control_behind (drop 1 w.chain)) (after (Exits a.0) w) (behind_agrees (drop 1 w.chain) (after (Exits a.0) w) refl) (inv.stays (Exits a.0) w (acting_first w a e) h.0))
+      goes inv (control_behind (drop 1 w.chain)) (after (Exits a.0) w) (behind_agrees (drop 1 w.chain) (after (Exits a.0) w) refl) (inv.stays (Exits a.0) w
+      (acting_first w a e, is_as w.tasks a.0 (λ x. IsSome x.resolution) ExitsResolved (λ x k func. k) (first_at w.tasks w.chain a.0 (λ x. IsSome x.resolution) (acting_first w a e) done)) h.0))
 
   -- Core functions make moves.
 
@@ -154,20 +166,20 @@ module _ {g : Graph} {s : Script} (inv : Invariant g s) where
   blocks_looped : (t word : ℕ) (w : World) → IsFirst t w.chain → TaskIs w.tasks t (λ x. kind_of x ≡ Callback) → Acted inv w → TaskIs w.tasks t (BlocksFrom (InLoop word))
   blocks_looped t word w first looped h = (looped.0, looped.1, (one_task w.tasks t IsActing looped.0 looped.1 (first_at w.tasks w.chain t IsActing first h.1), looped.2))
 
-  next_keeps : (t : ℕ) (task : Task) (i word : ℕ) (r : Result Next BadCode) (w : World) → IsFirst t w.chain → HasFunc w.tasks t → TaskIs w.tasks t (λ x. kind_of x ≡ Callback) → Acted inv w → Keeps inv (next_turn t task i word r w)
+  next_keeps : (t : ℕ) (task : Task) (i word : ℕ) (r : Result Next BadCode) (w : World) → ActsLike t task w → HasFunc w.tasks t → TaskIs w.tasks t (λ x. kind_of x ≡ Callback) → Acted inv w → Keeps inv (next_turn t task i word r w)
   unfolding next_turn
-  next_keeps t task i word (Err why) w first runs looped h = goes_on inv (Doomed t trap.BadCode) w tt h
-  next_keeps t task i word (Ok next.Exit) w first runs looped h = ending_keeps t task w h
-  next_keeps t task i word (Ok next.Yield) w first runs looped h = blocked_keeps inv t (InLoop word) reason.Yield w first tt (inr runs) (blocks_looped t word w first looped h) h.0
-  next_keeps t task i word (Ok (next.Wait set)) w first runs looped h =
-      refused_keeps inv t (set_at w i set) w _ h (λ number e. blocked_keeps inv t (InLoop word) (reason.Wait set) w first tt (inr runs) (blocks_looped t word w first looped h) h.0)
-  next_keeps t task i word (Ok (next.Poll set)) w first runs looped h =
-      refused_keeps inv t (set_at w i set) w _ h (λ number e. blocked_keeps inv t (InLoop word) (reason.Poll set) w first tt (inr runs) (blocks_looped t word w first looped h) h.0)
+  next_keeps t task i word (Err why) w like runs looped h = goes_on inv (Doomed t trap.BadCode) w tt h
+  next_keeps t task i word (Ok next.Exit) w like runs looped h = ending_keeps t task w like h
+  next_keeps t task i word (Ok next.Yield) w like runs looped h = blocked_keeps inv t (InLoop word) reason.Yield w like.0 tt (inr runs) (blocks_looped t word w like.0 looped h) h.0
+  next_keeps t task i word (Ok (next.Wait set)) w like runs looped h =
+      refused_keeps inv t (set_at w i set) w _ h (λ number e. blocked_keeps inv t (InLoop word) (reason.Wait set) w like.0 tt (inr runs) (blocks_looped t word w like.0 looped h) h.0)
+  next_keeps t task i word (Ok (next.Poll set)) w like runs looped h =
+      refused_keeps inv t (set_at w i set) w _ h (λ number e. blocked_keeps inv t (InLoop word) (reason.Poll set) w like.0 tt (inr runs) (blocks_looped t word w like.0 looped h) h.0)
 
-  looping_keeps : (t : ℕ) (task : Task) (i : ℕ) (words : List ℕ) (w : World) → IsFirst t w.chain → HasFunc w.tasks t → TaskIs w.tasks t (λ x. kind_of x ≡ Callback) → Acted inv w → Keeps inv (looping_turn t task i words w)
+  looping_keeps : (t : ℕ) (task : Task) (i : ℕ) (words : List ℕ) (w : World) → ActsLike t task w → HasFunc w.tasks t → TaskIs w.tasks t (λ x. kind_of x ≡ Callback) → Acted inv w → Keeps inv (looping_turn t task i words w)
   unfolding looping_turn
-  looping_keeps t task i [] w first runs looped h = tt
-  looping_keeps t task i (word ∷ words) w first runs looped h = next_keeps t task i word (callback_of word) w first runs looped h
+  looping_keeps t task i [] w like runs looped h = tt
+  looping_keeps t task i (word ∷ words) w like runs looped h = next_keeps t task i word (callback_of word) w like runs looped h
 
   result_borrowed : (t : ℕ) (task : Task) (f : Lifted) (w : World) → func_of task.callee ≡ Some f → ActsLike t task w → held_borrow f.func_type.result ≡ true → PassBorrow g w
   result_borrowed t task f w is like b = inr (inl (t, is_as w.tasks t (IsLike task) HasBorrowResult (λ x k. (f, ap func_of k.2 ∙ is, b)) like.1))
@@ -177,9 +189,9 @@ module _ {g : Graph} {s : Script} (inv : Invariant g s) where
   unfolding func_ended returning_turn
   func_keeps t task f Sync words w kind is like runs h =
       resolves_keeps t task (Finishes words) _ (result_comes f.instance t _ task f.func_type.result f.options words w (λ v l b. result_borrowed t task f v is l b) h like)
-  func_keeps t task f Stackful words w kind is like runs h = ending_keeps t task w h
+  func_keeps t task f Stackful words w kind is like runs h = ending_keeps t task w like h
   func_keeps t task f Callback words w kind is like runs h =
-      looping_keeps t task f.instance words w like.0 runs (is_as w.tasks t (IsLike task) (λ x. kind_of x ≡ Callback) (λ x k. ap (λ (c : Callee). kind_of_func (func_of c)) k.2 ∙ kind) like.1) h
+      looping_keeps t task f.instance words w like runs (is_as w.tasks t (IsLike task) (λ x. kind_of x ≡ Callback) (λ x k. ap (λ (c : Callee). kind_of_func (func_of c)) k.2 ∙ kind) like.1) h
 
   stack_keeps : (t : ℕ) (task : Task) (state : TaskState) (words : List ℕ) (w : World) → ActsLike t task w → (IsSome (func_of task.callee) → HasFunc w.tasks t)
       → ((n : ℕ) → state ≡ Begins n → w.chain ≡ 0 ∷ []) → Acted inv w → Keeps inv (stack_ended g t task state words w)
@@ -241,7 +253,7 @@ module _ {g : Graph} {s : Script} (inv : Invariant g s) where
 
   action_keeps : (n : ℕ) (a : Option Action) (w : World) → w.chain ≡ 0 ∷ [] → inv.Holds w → Keeps inv (action_turn g n a w)
   unfolding action_turn
-  action_keeps n None w one h = goes inv Free (after (Exits 0) w) (ap (λ (l : List ℕ). drop 1 l) one) (inv.stays (Exits 0) w (ap (λ (l : List ℕ). slice_get l 0) one) h)
+  action_keeps n None w one h = goes inv Free (after (Exits 0) w) (ap (λ (l : List ℕ). drop 1 l) one) (inv.stays (Exits 0) w (ap (λ (l : List ℕ). slice_get l 0) one, is_as w.tasks 0 (λ x. x.callee ≡ Init) ExitsResolved (λ x k func. init_no_func x k func) (inv.there w h)) h)
   action_keeps n (Some (Begin number)) w one h = goes inv (Instantiates (n + 1)) (after BeginsInstance w) one (inv.stays BeginsInstance w tt h)
   action_keeps n (Some (Make number)) w one h =
       given_keeps inv (slice_get g.cores number) _ (λ c e. given_keeps inv (externals w.store c.imports) _ (λ imports i.

@@ -36,7 +36,8 @@ use Rattle.abi_machine.specs.replies.Context.{Exempt, Answers, rep_answered, con
 use Rattle.abi_machine.specs.sound.Changes.{HasStore, AddsEntry, HasWord, HasResult, Offers, Transfers as IsTransferred, after}
 use Rattle.laid_types.specs.Handles.{has_borrow, held_borrow}
 use Rattle.abi_machine.specs.sound.Premises.{HaveBorrowElement, IsCall}
-use Rattle.abi_machine.specs.sound.Agreeing.{IsDueAt, IsDueBehind, IsDueAfter}
+use Rattle.abi_machine.specs.sound.Agreeing.{IsDueAt, IsDueBehind, IsDueAfter, HasResolvedThen, HasResolvedBehind}
+use Rattle.abi_machine.proofs.sound.turns.Resolving.{resolved_still_for, resolved_still_behind}
 use Rattle.abi_machine.specs.sound.Firsts.{IsActing}
 use Rattle.abi_machine.specs.sound.Changes.{IsFirst}
 use Rattle.abi_machine.proofs.sound.Found.{ok_same, some_same, first_offered, free_offered, table_kept, added_once, entry_is_added}
@@ -109,7 +110,7 @@ module _ {g : Graph} {s : Script} (inv : Invariant g s) where
       → Keeps inv (moved_by g t e call read write reading writing count element w)
   unfolding moved_by elements_written elements_read
   moved_by_keeps t e call read write reading writing count None w h =
-      goes inv _ w (h.0.0.1, subst (λ (n : ℕ). IsDueAt e n w.streams w.futures) (sym (units_long count None)) h.0.1, h.2) h.0.0.0
+      goes inv _ w (h.0.0.1, subst (λ (n : ℕ). IsDueAt e n w.streams w.futures) (sym (units_long count None)) h.0.1, h.2, tt) h.0.0.0
   moved_by_keeps t e call read write reading writing count (Some element) w h =
       came_keeps inv (WhileMoving e count (Some element) (task_by read.by)) t (elements_written t write writing count element w) (λ values later. elements_read g t e call.length read reading element values later) (λ v k. k.0.0)
       (elements_keep (inst_of_canon writing) t (WhileMoving e count (Some element) (task_by read.by)) (has_borrow element ≡ true)
@@ -117,7 +118,7 @@ module _ {g : Graph} {s : Script} (inv : Invariant g s) where
       (λ index v used there k. ((lends inv t index v (inst_of_canon writing, there, inr (inr (inr (k.1 used)))) k.0.0, k.0.1), k.1, entered_still v.tasks t (task_by read.by) _ (λ x. refl) k.2)) element (λ b. b) _ _ count w h)
       (λ values k comes i.
       goes inv _ k.world
-      (i.0.0.1, subst (λ (n : ℕ). IsDueAt e n k.world.streams k.world.futures) (sym (values_long values count (lifted_long (inst_of_canon writing) t element _ _ count w values k comes))) i.0.1, i.2) i.0.0.0)
+      (i.0.0.1, subst (λ (n : ℕ). IsDueAt e n k.world.streams k.world.futures) (sym (values_long values count (lifted_long (inst_of_canon writing) t element _ _ count w values k comes))) i.0.1, i.2, tt) i.0.0.0)
 
   elements_moved_keep : (t : ℕ) (e : EndRef) (call : OpenCopy) (count : ℕ) (element : Option ValType) (offer : OpenCopy) (w : World) → WhileMoving e count element (task_by (read_of e.side call offer).by) w → Keeps inv (elements_moved g t e call count element offer w)
   unfolding elements_moved
@@ -153,7 +154,7 @@ module _ {g : Graph} {s : Script} (inv : Invariant g s) where
 
   -- what holds while what follows a lowering is due
   abbrev pub WithDue : Then → World → Type 0
-  WithDue follows w = Acted inv w × IsDueBehind follows w.streams w.futures
+  WithDue follows w = Acted inv w × IsDueBehind follows w.streams w.futures × HasResolvedThen follows w.tasks w.chain
 
   transferring_keeps : (copying : Copying) (w : World) → WithDue (Transfers copying) w → Keeps inv (transferring_turn copying w)
   unfolding transferring_turn
@@ -166,13 +167,13 @@ module _ {g : Graph} {s : Script} (inv : Invariant g s) where
 
   -- what holds while it runs
   abbrev pub WithNested : Behind → World → Type 0
-  WithNested b w = Acted inv w × IsDueAfter b w.streams w.futures × LowersForEntered b w.tasks
+  WithNested b w = Acted inv w × IsDueAfter b w.streams w.futures × LowersForEntered b w.tasks × HasResolvedBehind b w.tasks w.chain
 
   in_place_keeps : (n : Nested) (b : Behind) (k : Stack) (r : Result Answers TrapName) (w : World) → ((answer : Answers) → r ≡ Ok answer → WithNested b answer.world) → Acted inv w
       → Keeps inv (answered_in_place n b k r w)
   unfolding answered_in_place
   in_place_keeps n b k (Err why) w keeps h = goes_on inv (Doomed n.blame why) w tt h
-  in_place_keeps n b k (Ok answer) w keeps h = goes inv _ answer.world ((keeps answer refl).0.1, (keeps answer refl).1, (keeps answer refl).2) (keeps answer refl).0.0
+  in_place_keeps n b k (Ok answer) w keeps h = goes inv _ answer.world ((keeps answer refl).0.1, (keeps answer refl).1, (keeps answer refl).2, (keeps answer refl).3) (keeps answer refl).0.0
 
   calls_keeps : (n : Nested) (b : Behind) (k : Stack) (words : List ℕ) (c : CanonFunc) (w : World) → WithNested b w → Keeps inv (calls_host n b k words c w)
   unfolding calls_host answered_or_refused
@@ -183,19 +184,19 @@ module _ {g : Graph} {s : Script} (inv : Invariant g s) where
       by None e = goes_on inv _ w tt h.0
       by (Some exempt) e =
           in_place_keeps n b k (exempt w) w
-          (λ answer f. exempt_keeps (WithNested b) (λ t slot word v l. (stay inv (HasWord t slot word) v tt tt l.0, l.1, lowers_still b v.tasks t _ (λ x. refl) l.2)) n.acts_for words c exempt e w answer f h) h.0
+          (λ answer f. exempt_keeps (WithNested b) (λ t slot word v l. (stay inv (HasWord t slot word) v tt tt l.0, l.1, lowers_still b v.tasks t _ (λ x. refl) l.2, resolved_still_behind b v.tasks v.chain t _ (λ x. refl) l.3)) n.acts_for words c exempt e w answer f h) h.0
 
   nested_ends : (b : Behind) (words : List ℕ) (w : World) → WithNested b w → Keeps inv (nested_ended b words w)
   unfolding nested_ended
   nested_ends (InLowering l k) [] w h = tt
-  nested_ends (InLowering l k) (place ∷ words) w h = goes inv _ w (h.0.1, h.1, h.2) h.0.0
-  nested_ends BeforeLeaving words w h = goes_on inv Leaves w tt h.0
+  nested_ends (InLowering l k) (place ∷ words) w h = goes inv _ w (h.0.1, h.1, h.2, h.3) h.0.0
+  nested_ends BeforeLeaving words w h = goes inv Leaves w (h.0.1, h.3) h.0.0
 
   hosted_keeps : (n : Nested) (b : Behind) (t : HostedTurn) (w : World) → WithNested b w → Keeps inv (hosted g s n b t w)
   unfolding hosted
   hosted_keeps n b (On paid state store) w h =
       charged_keeps inv paid w (λ v. silent (Quiet (record n { state = state }) b) (with_store store v)) h.0.0
-      (λ units i. goes inv _ (with_store store (record w { units = units })) (h.0.1, h.1, h.2) (inv.stays (HasStore store) (record w { units = units }) tt i))
+      (λ units i. goes inv _ (with_store store (record w { units = units })) (h.0.1, h.1, h.2, h.3) (inv.stays (HasStore store) (record w { units = units }) tt i))
   hosted_keeps n b (EndsIn words) w h = nested_ends b words w h
   hosted_keeps n b (TrapsBy why) w h =
       charged_keeps inv true w (λ v. doomed n.blame (core_name why) v) h.0.0 (λ units i. goes_on inv (Doomed n.blame (core_name why)) (record w { units = units }) tt (i, h.0.1))
@@ -224,7 +225,7 @@ module _ {g : Graph} {s : Script} (inv : Invariant g s) where
           (λ table same.
           subst (λ (x : List (Event Entry)). WhileLowered follows t (with_table i (λ before. (settle t (k (Some (next_index (table_of w i)))) bytes x).table) (entry_added i (entry_of t entry) w))) same
           (more (Some (next_index (table_of w i))) (entry_added i (entry_of t entry) w)
-          ((stay inv (AddsEntry i (entry_of t entry)) w tt (less (live_count (table_of w i)) most_live e, entry_is_added w.tasks t entry, entry_is_fresh w t entry, entry_names w.tasks t entry h.1) h.0.0, h.0.1), h.1)))
+          ((stay inv (AddsEntry i (entry_of t entry)) w tt (less (live_count (table_of w i)) most_live e, entry_is_added w.tasks t entry, entry_is_fresh w t entry, entry_names w.tasks t entry h.1) h.0.0, h.0.1, h.0.2), h.1)))
       by false e = more None w h
 
   settled_keeps : (follows : Then) (i t : ℕ) (plan : Plan) (bytes : List ℕ) (w : World) → WhileLowered follows t w → WhileLowered follows t (with_table i (λ before. (settle t plan bytes (table_of w i)).table) w)
@@ -243,18 +244,19 @@ module _ {g : Graph} {s : Script} (inv : Invariant g s) where
   lowered_keeps : (follows : Then) (words : List ℕ) (w : World) → WithDue follows w → Keeps inv (lowered follows words w)
   unfolding lowered
   lowered_keeps Starts words w h = start_func_keeps words w h.0
-  lowered_keeps (Resolves to follows) words w h = finished_keeps inv follows (after (HasResult to words) w) (stay inv (HasResult to words) w tt tt h.0)
+  lowered_keeps (Resolves to follows) words w h =
+      finished_keeps inv follows (after (HasResult to words) w) (resolved_still_for follows w.tasks w.chain to _ (λ x. refl) h.2) (stay inv (HasResult to words) w tt tt h.0)
   lowered_keeps (Transfers copying) words w h = transferring_keeps copying w h
 
   paused_keeps : (l : Lowering) (p : Paused) (w : World) → WhileLowered l.next l.acts_for w → Keeps inv (paused l p w)
   unfolding paused
   paused_keeps l (Words words) w h = lowered_keeps l.next words w h.0
   paused_keeps l (Failed why) w h = goes_on inv _ w tt h.0.0
-  paused_keeps l (AsksNow ask k) w h = given_keeps inv (found_at w.store.funcs l.realloc) _ (λ f e. goes inv _ w (h.0.0.1, h.0.1, h.1) h.0.0.0)
+  paused_keeps l (AsksNow ask k) w h = given_keeps inv (found_at w.store.funcs l.realloc) _ (λ f e. goes inv _ w (h.0.0.1, h.0.1, h.1, h.0.2) h.0.0.0)
 
   pub lowers_keeps : (l : Lowering) (plan : Plan) (w : World) → WhileLowered l.next l.acts_for w → Keeps inv (lowers_turn l plan w)
   unfolding lowers_turn settled_turn
   lowers_keeps l plan w h =
       let settled : Settled = settle l.acts_for plan (bytes_of w.store l.memory) (table_of w l.inst) in
       paused_keeps l settled.paused (left_by l settled w)
-      (settled_keeps l.next l.inst l.acts_for plan (bytes_of w.store l.memory) (with_memory l.memory settled.bytes w) ((stay inv (HasStore _) w tt tt h.0.0, h.0.1), h.1))
+      (settled_keeps l.next l.inst l.acts_for plan (bytes_of w.store l.memory) (with_memory l.memory settled.bytes w) ((stay inv (HasStore _) w tt tt h.0.0, h.0.1, h.0.2), h.1))

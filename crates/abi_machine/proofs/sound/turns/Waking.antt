@@ -68,7 +68,7 @@ module _ {g : Graph} {s : Script} (inv : Invariant g s) where
   called_keeps : (t : ℕ) (f : Lifted) (caller : Caller) (w : World) → TaskIs w.tasks t (λ x. x.caller ≡ caller) → IsUntold caller → HasEntered w.tasks t → Acted inv w → Keeps inv (arguments_turn g t f caller w)
   unfolding arguments_turn with_arguments arguments_passed
   called_keeps t f Nobody w own untold entered h = tt
-  called_keeps t f (Host call values) w own untold entered h = goes inv _ w (h.1, tt, entered) h.0
+  called_keeps t f (Host call values) w own untold entered h = goes inv _ w (h.1, tt, entered, tt) h.0
   called_keeps t f (Guest subtask) w own untold entered h =
       given_keeps inv (canon_at g subtask.canon) _ (λ c e.
       came_keeps inv (Enters t subtask.canon) t (arguments_passed t f subtask c w) (λ v later. with_arguments g t f v later) (λ v k. k.0)
@@ -80,7 +80,7 @@ module _ {g : Graph} {s : Script} (inv : Invariant g s) where
       ))
       (options_of_canon c).is_async f.func_type (λ b. tt) _ subtask.words w
       (h, is_as w.tasks t (λ x. x.caller ≡ Guest subtask) (IsOpenOf subtask.canon) (λ x k. subst (IsOpenCall subtask.canon) (sym k) (refl, untold)) own, entered))
-      (λ v k comes i. goes inv _ k.world (i.0.1, tt, i.2) i.0.0))
+      (λ v k comes i. goes inv _ k.world (i.0.1, tt, i.2, tt) i.0.0))
 
   entered_keeps : (t : ℕ) (task : Task) (f : Lifted) (w : World) → IsFirst t w.chain → IsLetIn w.tasks t → slice_get w.tasks t ≡ Some task → HasNotEntered task.state → inv.Holds w
       → Keeps inv (entered g t task f w)

@@ -1,0 +1,2 @@
+mod DefinitionsApart
+mod GraphsTyped
