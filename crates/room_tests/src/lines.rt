@@ -1,14 +1,15 @@
 //! What a line says: what is lowered, the code of the modules' function, the options, the units of fuel, and a place in the memories.
 
-use crate::lowering::{add_type, write_all_stored, write_lowered, write_words};
+use crate::lowering::{write_all_stored, write_lowered, write_words};
 use crate::modules::{add_all, module_with};
 use ca_base::Fuel;
 use cases::Answers;
 use copy_engine::{HostCall, LowerOptions, StoreRoom};
-use laid_types::{LaidType, LaidTypes};
+use laid_types::LaidType;
 use std::alloc::Global;
 use std::fmt::Write;
 use std::test::Fail;
+use table_texts::{Made, put_made};
 use type_texts::{value_of, values_of};
 use wasm_store::Store;
 use wasm_typing::Valid;
@@ -119,18 +120,19 @@ fn write_over(
     write_call(&call, text)
 }
 
-/// Adds the type to a table, and writes what comes of lowering.
+/// Writes what comes of lowering a value of the line's type.
 fn write_typed(
     alloc: Global,
-    types: &mut LaidTypes,
     store: &mut Store,
     fuel: &mut Fuel,
     line: Line<'_>,
     text: &mut String,
 ) -> Result<(), Fail> {
-    let number = add_type(alloc, types, line.what.type_name)?;
-    let t = types.get(number).ok_or("no type")?;
-    write_over(alloc, store, fuel, line, &t, text)
+    let put = put_made(alloc, Made::OfWords, line.what.type_name)?;
+    match put.types.get(put.number) {
+        Some(t) => write_over(alloc, store, fuel, line, &t, text),
+        None => Err(Fail::new("no type")),
+    }
 }
 
 /// Writes the size of a memory, and four bytes at a place.
@@ -165,8 +167,7 @@ fn write_line(
 ) -> Result<(), Fail> {
     add_all(alloc, store, valid)?;
     let mut fuel = Fuel::new(line.units);
-    let mut types = LaidTypes::new(alloc);
-    write_typed(alloc, &mut types, store, &mut fuel, line, text)?;
+    write_typed(alloc, store, &mut fuel, line, text)?;
     write_store(store, &fuel, line.place, text)
 }
 

@@ -1,30 +1,14 @@
 //! What is lowered into a room, as text.
 
-ghost use Rattle.std.specs.Prelude.{◌≡◌, ◌||◌, false, true};
-ghost use Rattle.std.specs.List.{list_all};
-ghost use Rattle.ca_types.specs.Ends.{has_end};
-ghost use Rattle.ca_types.specs.Fits.{fits};
-ghost use Rattle.laid_types.specs.Handles.{has_handle};
-ghost use Rattle.value_lower.specs.Fitting.{AllFit};
-
-use ca_types::{Value, fits};
+use ca_types::Value;
 use copy_engine::{NestedTrap, StoreRoom};
-use laid_types::{LaidType, LaidTypes, ValTypeLayer};
+use laid_types::LaidType;
 use std::alloc::Global;
 use std::fmt::Write;
 use std::test::Fail;
+use table_texts::{may_all_lower, may_lower};
 use value_lower::{LowerError, LowerWhy, RoomEnd, Words};
 use wasm_store::Trap;
-
-/// Adds a type by its name to a table, and answers its number.
-pub(crate) fn add_type(alloc: Global, types: &mut LaidTypes, name: &str) -> Result<usize, Fail> {
-    let layer = match name {
-        "string" => ValTypeLayer::String,
-        "u32" => ValTypeLayer::U32,
-        _ => ValTypeLayer::List(types.add(alloc, &ValTypeLayer::U16)?),
-    };
-    Ok(types.add(alloc, &layer)?)
-}
 
 /// The name of a trap.
 fn trap_name(trap: NestedTrap) -> &'static str {
@@ -86,32 +70,6 @@ fn write_flat(
         Ok(words) => write_words(words.as_slice(), text),
         Err(error) => Ok(text.push_str(error_name(error))?),
     }
-}
-
-/// Whether values of a type hold a handle or an end.
-fn holds(t: &LaidType<'_>) -> bool
-    ensures { result ≡ (has_handle t.now || has_end t.now) }
-{
-    t.has_handle() || t.has_end()
-}
-
-/// Whether a value is of a type without handles and ends.
-fn may_lower(value: &Value, t: &LaidType<'_>) -> bool
-    ensures handles { result ≡ true → has_handle t.now ≡ false }
-    ensures ends { result ≡ true → has_end t.now ≡ false }
-    ensures fits { result ≡ true → fits value.now t.now ≡ true }
-{
-    !holds(t) && fits(value, t.val_type())
-}
-
-/// Whether values are of a type without handles and ends.
-#[tactic(auto, using(crate::proofs::Fit::all_fit))]
-fn may_all_lower(values: &[Value], t: &LaidType<'_>) -> bool
-    ensures handles { result ≡ true → has_handle t.now ≡ false }
-    ensures ends { result ≡ true → has_end t.now ≡ false }
-    ensures fit { result ≡ true → AllFit values.now t.now }
-{
-    !holds(t) && values.iter().all(|value| fits(value, t.val_type()))
 }
 
 /// Writes what comes of storing values one after the other from the place 8 on.
