@@ -1,2 +1,5 @@
+pub mod ElementsRead
+pub mod EndsOnce
 pub mod FirstTypes
+mod Marks
 pub mod Returning

@@ -1,6 +1,5 @@
 -- What `task.return` comes to, by the number of the type of its result.
-use Rattle.std.proofs.Common.{◌≡◌, ◌∙◌, ℕ, Bool, true, false, ◌&&◌, List, refl, sym, ap, subst, Option, Some, None}
-use Rattle.std.specs.List.{slice_get}
+use Rattle.std.proofs.Common.{◌≡◌, ◌∙◌, ℕ, Bool, false, ◌&&◌, List, refl, sym, ap, subst, Option, Some, None}
 use Rattle.ca_types.specs.declared.types.ValType.{ValType}
 use Rattle.laid_types.specs.Layers.{tree_of}
 use Rattle.comp_graph.specs.Graph.{builtin_type, numbered_value}
@@ -12,7 +11,7 @@ use Rattle.comp_tree.specs.declared.items.CanonOption.{CanonOption}
 use Rattle.link_spec.specs.Canons.{Given, options_of, stand_once, can_be_used}
 use Rattle.link_spec.specs.Builtins.{return_meaning}
 use Rattle.canon_types.specs.declared.builtins.Built.{Built}
-use Rattle.canon_types.specs.Built.{IsBuilt, IsBuiltinMeaning}
+use Rattle.canon_types.specs.Built.{IsBuiltinMeaning}
 
 -- the type of a number
 pub type_is : (values : List ValType) (number : Option ℕ) (type : Option ValType) → MayBeAt values number type → tree_of values number ≡ type

@@ -1,3 +1,4 @@
+pub mod EndNumbers
 pub mod Built
 pub mod Kinds
 pub mod Results

@@ -6,7 +6,8 @@ ghost use Rattle.comp_graph.specs.Needs.{core_val, taking, word, callback_type, 
 ghost use Rattle.comp_graph.specs.Graph as graph;
 
 use crate::needs::PARAM_LIMIT;
-use builtin_kinds::{ContextOp, PlainBuiltin};
+use builtin_kinds::{ContextOp, EndKind, PlainBuiltin};
+use comp_graph::EndOp;
 use laid_types::LaidType;
 use link_core_types::{CoreFuncType, FewTypes, passed};
 use wasm_module::ValType;
@@ -71,15 +72,44 @@ pub(crate) fn wait_type() -> CoreFuncType
     of_two_words(Some(ValType::I32))
 }
 
-/// The type of the core function that is called with each event of a task (Component Model, CanonicalABI.md, `canon lift`).
-pub fn callback_type() -> CoreFuncType
-    ensures { result ≡ callback_type }
+/// The type of a core function of three i32.
+fn of_three_words(returned: Option<ValType>) -> CoreFuncType
+    ensures { result ≡ taking 3 (option_to_list returned) }
 {
     let mut params = FewTypes::new();
     params.push(ValType::I32);
     params.push(ValType::I32);
     params.push(ValType::I32);
-    CoreFuncType::new(params, Some(ValType::I32))
+    CoreFuncType::new(params, returned)
+}
+
+/// The type of the core function that is called with each event of a task (Component Model, CanonicalABI.md, `canon lift`).
+pub fn callback_type() -> CoreFuncType
+    ensures { result ≡ callback_type }
+{
+    of_three_words(Some(ValType::I32))
+}
+
+/// The type of a read or a write: of an index and a place, and of a stream of a number of elements too.
+fn copy_type(kind: EndKind) -> CoreFuncType
+    ensures { result ≡ graph.copy_type kind }
+{
+    match kind {
+        EndKind::Stream => of_three_words(Some(ValType::I32)),
+        EndKind::Future => of_two_words(Some(ValType::I32)),
+    }
+}
+
+/// The type of a built-in of the ends of streams or futures (Component Model, CanonicalABI.md, `canon stream.new` and its fellows).
+pub(crate) fn end_type(kind: EndKind, op: &EndOp) -> CoreFuncType
+    ensures { result ≡ graph.end_type kind op.now }
+{
+    match op {
+        EndOp::New => of_nothing(Some(ValType::I64)),
+        EndOp::Copy { .. } => copy_type(kind),
+        EndOp::Cancel { .. } => of_word(Some(ValType::I32)),
+        EndOp::Drop { .. } => of_word(None),
+    }
 }
 
 /// The types of the core values in which a result is passed: of more than 16 it is one place in memory.

@@ -1,6 +1,6 @@
 //! Built-ins, with the types of their core functions, and what one comes to as it is written.
 
-ghost use Rattle.std.specs.Prelude.{◌≡◌, List, IfOk, IfSome};
+ghost use Rattle.std.specs.Prelude.{◌≡◌, List, Some, IfOk, IfSome};
 ghost use Rattle.std.specs.Option.{option_map};
 ghost use Rattle.ca_types.specs.declared.types.ValType.{ValType};
 ghost use Rattle.comp_graph.specs.Graph.{builtin_type};
@@ -9,10 +9,10 @@ ghost use Rattle.link_spec.specs.Builtins.{of_kind, none_such, context_meaning, 
 ghost use Rattle.canon_types.specs.declared.builtins.Built.{Built};
 ghost use Rattle.canon_types.specs.Built.{IsBuilt, IsBuiltinMeaning};
 
-use crate::builtin_types::{context_type, plain_type, return_type, wait_type};
-use builtin_kinds::{ContextOp, PlainBuiltin, WaitOp};
+use crate::builtin_types::{context_type, end_type, plain_type, return_type, wait_type};
+use builtin_kinds::{ContextOp, EndKind, PlainBuiltin, WaitOp};
 use ca_types::{Boxed, Shared, ValType};
-use comp_graph::{BuiltinKind, CoreRef, Options, graph_number};
+use comp_graph::{BuiltinKind, CoreRef, EndOp, Options, graph_number};
 use laid_types::LaidType;
 use link_core_types::CoreFuncType;
 use std::alloc::{AllocError, Global};
@@ -170,5 +170,31 @@ pub fn return_builtin(
         },
         core_type,
         passed,
+    })
+}
+
+/// A built-in of the ends of the streams or futures of a type, which has this number and in which these elements pass (Component Model,
+/// CanonicalABI.md, `canon stream.new` and its fellows). It fails for want of memory alone.
+pub fn end_builtin(
+    number: usize,
+    kind: EndKind,
+    element: &Option<LaidType<'_>>,
+    op: EndOp,
+) -> Result<Built, AllocError>
+    ensures kind { IfOk result (λ b. b.kind ≡ builtin.End kind element.now op) }
+    ensures typed { IfOk result (λ b. b.core_type ≡ builtin_type b.kind) }
+    ensures passed { IfOk result (λ b. b.passed ≡ Some number) }
+{
+    let core_type = end_type(kind, &op);
+    let passed = graph_number(number)?;
+    let shared = shared_type(element)?;
+    Ok(Built {
+        kind: BuiltinKind::End {
+            kind,
+            element: shared,
+            op,
+        },
+        core_type,
+        passed: Some(passed),
     })
 }

@@ -1,12 +1,14 @@
 -- Index spaces stand for what they stood for, where the tables grow.
 use Rattle.std.proofs.Common.{◌≡◌, ℕ, List, [], ◌∷◌, ◌++◌, Option, Some, None}
 use Rattle.std.specs.List.{slice_get}
+use Rattle.ca_types.specs.declared.types.ValType.{ValType}
 use Rattle.wasm_module.specs.declared.module.ModuleTree.{ModuleTree}
 use Rattle.comp_graph.specs.declared.graph.CanonFunc.{CanonFunc}
 use Rattle.comp_graph.specs.declared.graph.CanonFunc.TheVariants as canon_func
 use Rattle.comp_graph.specs.Closed.{Closed}
 use Rattle.comp_graph.specs.Graph.{numbered_value}
 use Rattle.comp_graph.specs.Passed.{TypeTable, MayBeAt, HasCanonType, AreCanonTypes}
+use Rattle.canon_types.specs.EndNumbers.{AreEndTypes}
 use Rattle.link_spec.specs.Definitions.{Lifted, Closure, Exports}
 use Rattle.link_spec.specs.Spaces.{Spaces}
 use Rattle.link_types.specs.declared.refs.TypeRef.{TypeRef}
@@ -42,6 +44,10 @@ canon_stays t u g n (canon_func.Builtin b) h = may_stay t.values u.values g.valu
 
 pub canons_stay : (t u : Table) → Grows t u → (numbers : List (Option ℕ)) (canons : List CanonFunc) → AreCanonTypes (type_table t) numbers canons → AreCanonTypes (type_table u) numbers canons
 canons_stay t u g = zips_weaker (HasCanonType (type_table t)) (HasCanonType (type_table u)) (canon_stays t u g)
+
+-- and those of the types of streams and futures
+pub ends_stay : (t u : Table) → Grows t u → (numbers : List ℕ) (types : List ValType) → AreEndTypes t.values numbers types → AreEndTypes u.values numbers types
+ends_stay t u g = zips_weaker (λ (n : ℕ) (x : ValType). slice_get t.values n ≡ Some x) (λ (n : ℕ) (x : ValType). slice_get u.values n ≡ Some x) g.values
 
 pub canons_more : (types : TypeTable) (numbers : List (Option ℕ)) (canons : List CanonFunc) (n : Option ℕ) (f : CanonFunc) (more : List (Option ℕ)) (made : List CanonFunc) → AreCanonTypes types numbers canons
     → HasCanonType types n f → more ≡ numbers ++ n ∷ [] → made ≡ canons ++ f ∷ [] → AreCanonTypes types more made

@@ -20,7 +20,8 @@ use Rattle.link_spec.specs.declared.fault.LinkFault.{LinkFault}
 use Rattle.comp_graph.specs.declared.graph.FuncRef.TheVariants as func_ref
 use Rattle.comp_graph.specs.Graph.{canon_type, builtin_type}
 use Rattle.link_spec.specs.Definitions.{Func, Closure, Exports, exports_of}
-use Rattle.link_spec.specs.Spaces.{Spaces, Linking, new_spaces, with_spaces, with_core_item, with_core_instance}
+use Rattle.link_spec.specs.Ends.{noted_type}
+use Rattle.link_spec.specs.Spaces.{Spaces, Linking, new_spaces, with_spaces, with_ends, with_core_item, with_core_instance}
 use Rattle.link_spec.specs.Canons.{given_by}
 use Rattle.link_spec.specs.Items.{core_instance_makes, instance_makes, alias_makes, lowered_with, makes_case}
 use Rattle.link_spec.specs.Linked.{begun, with_instance}
@@ -58,7 +59,7 @@ case_sets l n s (Item-F.CoreInstance c) new h = core_instance_sets l n s c new h
 case_sets l n s (Item-F.Component c) new e = set_by l n _ new e
 case_sets l n s (Item-F.Instance i) new h = instance_sets l n s i new h
 case_sets l n s (Item-F.Alias alias) new h = alias_sets l n s alias.sort alias.target new h
-case_sets l n s (Item-F.Type type) new (closed, is, e) = set_by l n _ new e
+case_sets l n s (Item-F.Type type) new (closed, is, e) = set_by (with_ends l (noted_type l.end_types closed)) n _ new e
 case_sets l n s (Item-F.Canon (Lift f options t)) new (item, core, type, is, of_core, there, of_type, once, lifts, e) = set_by l n _ new e
 case_sets l n s (Item-F.Canon (Lower f options)) new (func, is, there, once, lowers, e) = (with_core_item s (Func (func_ref.Canon (length l.canons)) (canon_type (lowered_with n func (given_by s options)))), ap (λ (l : Linking). l.scopes) e)
 case_sets l n s (Item-F.Canon (Builtin b)) new (kind, there, is, serves, e) = (with_core_item s (Func (func_ref.Canon (length l.canons)) (builtin_type kind)), ap (λ (l : Linking). l.scopes) e)

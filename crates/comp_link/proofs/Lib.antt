@@ -16,3 +16,4 @@ pub mod Told
 pub mod Wanting
 mod Whole
 pub mod Zips
+mod EndsFound

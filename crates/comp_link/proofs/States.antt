@@ -6,10 +6,12 @@ use Rattle.std.specs.Option.{option_map}
 use Rattle.std.proofs.lemmas.Option.{slice_get_read, slice_get-map}
 use Rattle.std.proofs.lemmas.List.{length-map}
 use Rattle.std.specs.Vec.{with_item}
+use Rattle.ca_types.specs.declared.types.ValType.{ValType}
 use Rattle.wasm_module.specs.declared.module.ModuleTree.{ModuleTree}
 use Rattle.comp_graph.specs.Passed.{AreCanonTypes}
+use Rattle.canon_types.specs.EndNumbers.{AreEndTypes}
 use Rattle.link_spec.specs.Definitions.{Closure, Exports}
-use Rattle.link_spec.specs.Spaces.{Spaces, Linking, with_spaces}
+use Rattle.link_spec.specs.Spaces.{Spaces, Linking, with_spaces, with_ends}
 use Rattle.link_spec.specs.Linked.{exports_at}
 use Rattle.link_types.specs.Table.{Grows}
 use Rattle.link_types.proofs.TypesGrow.{grows_refl}
@@ -22,7 +24,7 @@ use Rattle.comp_link.specs.declared.scope.Scope.{Scope}
 use Rattle.comp_link.specs.declared.linker.Linker.{Linker}
 use Rattle.comp_link.specs.State.{world_of, type_table, IsScope, IsKept, ended, IsLive, IsState, IsAt, IsThere}
 use Rattle.comp_link.proofs.Zips.{zips_weaker, zips_set, zips_reset, other_kept, map_set, zips_there, zips_read, last_is}
-use Rattle.comp_link.proofs.Growth.{kept_whole, kept_stays, instances_stay, canons_stay}
+use Rattle.comp_link.proofs.Growth.{kept_whole, kept_stays, instances_stay, canons_stay, ends_stay}
 
 pub same_world : (w : World) → WorldStays w w
 same_world w = record { components = λ number x h. h; bases = λ number x h. h; modules = λ number x h. h }
@@ -30,8 +32,8 @@ same_world w = record { components = λ number x h. h; bases = λ number x h. h;
 -- a state stays where the tables behind it have grown
 pub state_stays : (bases more : List Exports) (k m : Linker) (l : Linking)
     → Grows k.types m.types → WorldStays (world_of bases k) (world_of more m) → AreInstances m.types (world_of more m) m.instances
-    → m.scopes ≡ k.scopes → m.cores.makes ≡ k.cores.makes → m.canons ≡ k.canons → m.canon_types ≡ k.canon_types → m.plan ≡ k.plan → IsState bases k l → IsState more m l
-state_stays bases more k m l types world instances scopes cores canons canon_types plan h = record {
+    → m.scopes ≡ k.scopes → m.cores.makes ≡ k.cores.makes → m.canons ≡ k.canons → m.canon_types ≡ k.canon_types → m.plan ≡ k.plan → m.end_types ≡ k.end_types → IsState bases k l → IsState more m l
+state_stays bases more k m l types world instances scopes cores canons canon_types plan ends h = record {
   instances = instances;
   scopes = subst (λ (v : Linker). AllZip (IsKept m.types (world_of more m)) v.scopes.items l.scopes) (ap (λ scopes. record k { scopes = scopes }) (sym scopes))
       (zips_weaker (IsKept k.types (world_of bases k)) (IsKept m.types (world_of more m)) (kept_stays k.types m.types (world_of bases k) (world_of more m) types world) k.scopes.items l.scopes h.scopes);
@@ -41,6 +43,7 @@ state_stays bases more k m l types world instances scopes cores canons canon_typ
       (subst (λ (v : Linker). AreCanonTypes (type_table m.types) k.canon_types.items v.canons.items) (ap (λ canons. record k { canons = canons }) (sym canons))
       (canons_stay k.types m.types types k.canon_types.items k.canons.items h.canon_types));
   plan = h.plan ∙ ap (λ plan. plan.items) (sym plan);
+  ends = subst (λ (numbers : List ℕ). AreEndTypes m.types.values numbers l.end_types) (sym ends) (ends_stay k.types m.types types k.end_types l.end_types h.ends);
 }
 
 -- more types
@@ -55,6 +58,7 @@ types_grow bases k m l grows same h = subst (λ (v : Linker). IsState bases v l)
       canons = h.canons;
       canon_types = canons_stay k.types m.types grows k.canon_types.items k.canons.items h.canon_types;
       plan = h.plan;
+      ends = ends_stay k.types m.types grows k.end_types l.end_types h.ends;
     }
 
 pub at_grows : (bases : List Exports) (k m : Linker) (n : ℕ) (l : Linking) (s : Spaces) → Grows k.types m.types → m ≡ record k { types = m.types } → IsAt bases k n l s → IsAt bases m n l s
@@ -93,6 +97,7 @@ scope_set bases k n l s next old new is within becomes at = record {
   canons = at.state.canons;
   canon_types = at.state.canon_types;
   plan = at.state.plan;
+  ends = at.state.ends;
 }
 
 pub ended_set : (k : Linker) (n : ℕ) (old new : Scope) → old ≡ get_or k.scopes.items n old → n < length k.scopes.items → new.ended ≡ old.ended → ended (record k { scopes = with_item k.scopes n new }) ≡ ended k
@@ -108,6 +113,7 @@ scope_ended bases k n l old new is within types components over h = record {
   canons = h.canons;
   canon_types = h.canon_types;
   plan = h.plan;
+  ends = h.ends;
 }
   where
     kept : (s : Spaces) → IsKept k.types (world_of bases k) old s → IsKept k.types (world_of bases k) new s
@@ -130,6 +136,10 @@ before_live k m n more live = subst (λ (bs : List Bool). slice_get bs n ≡ Som
 pub last_live : (k m : Linker) (n : ℕ) → ended m ≡ ended k ++ false ∷ [] → n ≡ length k.scopes.items → IsLive m n
 last_live k m n more is = last_is (ended k) (ended m) false n more (is ∙ sym (length-map k.scopes.items (λ (scope : Scope). scope.ended)))
 
+-- other types of streams and futures
+pub ends_noted : (bases : List Exports) (k : Linker) (l : Linking) (numbers : List ℕ) (types : List ValType) → AreEndTypes k.types.values numbers types → IsState bases k l → IsState bases (record k { end_types = numbers }) (with_ends l types)
+ends_noted bases k l numbers types ends h = record { instances = h.instances; scopes = h.scopes; cores = h.cores; canons = h.canons; canon_types = h.canon_types; plan = h.plan; ends = ends }
+
 -- more components, and more core modules
 pub components_more : (bases : List Exports) (k m : Linker) (n : ℕ) (l : Linking) (s : Spaces) (c : Closure)
     → m ≡ record k { components = m.components } → m.components.items ≡ k.components.items ++ c ∷ [] → IsAt bases k n l s → IsAt bases m n l s
@@ -146,7 +156,7 @@ components_more bases k m n l s c same is at = subst (λ (v : Linker). IsAt base
     }
 
     state : IsState bases (record k { components = m.components }) l
-    state = state_stays bases bases k (record k { components = m.components }) l (grows_refl k.types) stays (instances_stay k.types k.types (world_of bases k) world (grows_refl k.types) stays k.instances refl at.state.instances) refl refl refl refl refl at.state
+    state = state_stays bases bases k (record k { components = m.components }) l (grows_refl k.types) stays (instances_stay k.types k.types (world_of bases k) world (grows_refl k.types) stays k.instances refl at.state.instances) refl refl refl refl refl refl at.state
 
 pub modules_more : (bases : List Exports) (k m : Linker) (n : ℕ) (l : Linking) (s : Spaces) (made : ModuleTree)
     → m ≡ record k { cores = m.cores } → m.cores ≡ record k.cores { modules = k.cores.modules ++ made ∷ [] } → IsAt bases k n l s → IsAt bases m n l s
@@ -163,13 +173,13 @@ modules_more bases k m n l s made same is at = subst (λ (v : Linker). IsAt base
     }
 
     state : IsState bases (record k { cores = m.cores }) l
-    state = state_stays bases bases k (record k { cores = m.cores }) l (grows_refl k.types) stays (instances_stay k.types k.types (world_of bases k) world (grows_refl k.types) stays k.instances refl at.state.instances) refl (ap (λ (cs : CoreLists). cs.makes) is) refl refl refl at.state
+    state = state_stays bases bases k (record k { cores = m.cores }) l (grows_refl k.types) stays (instances_stay k.types k.types (world_of bases k) world (grows_refl k.types) stays k.instances refl at.state.instances) refl (ap (λ (cs : CoreLists). cs.makes) is) refl refl refl refl at.state
 
 -- one instance more
 pub instance_more : (bases : List Exports) (k m : Linker) (l : Linking) (exports : Exports)
     → m ≡ record k { instances = m.instances } → AreInstances k.types (with_base (world_of bases k) exports) m.instances → IsState bases k l → IsState (bases ++ exports ∷ []) m l
 instance_more bases k m l exports same instances h = subst (λ (v : Linker). IsState (bases ++ exports ∷ []) v l) (sym same)
-    (state_stays bases (bases ++ exports ∷ []) k (record k { instances = m.instances }) l (grows_refl k.types) (more_bases (world_of bases k) exports) instances refl refl refl refl refl h)
+    (state_stays bases (bases ++ exports ∷ []) k (record k { instances = m.instances }) l (grows_refl k.types) (more_bases (world_of bases k) exports) instances refl refl refl refl refl refl h)
 
 -- an instance that was there, or is one more
 pub instance_given : (bases : List Exports) (k m : Linker) (l : Linking) (i : InstanceRef) (exports : Exports)
@@ -177,7 +187,7 @@ pub instance_given : (bases : List Exports) (k m : Linker) (l : Linking) (i : In
 instance_given bases k m l i exports same gives h = subst (λ (v : Linker). IsThere v l i exports) (sym same) (by gives)
   where
     by : GivesInstance k.types (world_of bases k) m.instances i exports → IsThere (record k { instances = m.instances }) l i exports
-    by (inl has) = record { bases = bases; state = record { instances = has.are; scopes = h.scopes; cores = h.cores; canons = h.canons; canon_types = h.canon_types; plan = h.plan }; instance = has.is }
+    by (inl has) = record { bases = bases; state = record { instances = has.are; scopes = h.scopes; cores = h.cores; canons = h.canons; canon_types = h.canon_types; plan = h.plan; ends = h.ends }; instance = has.is }
     by (inr has) = record {
       bases = bases ++ exports ∷ [];
       state = instance_more bases k (record k { instances = m.instances }) l exports refl has.are h;

@@ -12,12 +12,12 @@ use Rattle.comp_tree.specs.declared.externs.Export as read
 use Rattle.comp_graph.specs.Closed.{Closed, Extern}
 use Rattle.link_spec.specs.declared.fault.LinkWhy.{LinkWhy}
 use Rattle.link_spec.specs.declared.fault.LinkWhy.TheVariants as why
-use Rattle.link_spec.specs.Definitions.{Definition, AType, Exports, export_names, export_named, lacks}
+use Rattle.link_spec.specs.Definitions.{Definition, Exports, export_names, export_named, lacks}
 use Rattle.link_spec.specs.Types.{Meaning}
 use Rattle.link_spec.specs.Spaces.{Spaces, Linking, size_of, definition_at}
-use Rattle.link_spec.specs.Items.{lacking, wanted}
+use Rattle.link_spec.specs.Items.{lacking, wanted, type_made}
 use Rattle.link_spec.specs.Tests.{root_may_import, is_of_types}
-use Rattle.link_spec.specs.Computed.{Outcome, root_given, after, there_or, only_if, none_missing, as_asked, one_more, type_outcome, import_outcome, export_outcome}
+use Rattle.link_spec.specs.Computed.{Outcome, Makes, root_given, after, there_or, only_if, none_missing, as_asked, type_outcome, import_outcome, export_outcome}
 use Rattle.link_types.specs.Table.{Table}
 use Rattle.link_types.specs.declared.refs.InstanceTypeRef.{InstanceTypeRef}
 use Rattle.link_instances.specs.declared.references.DefinitionRef.{DefinitionRef}
@@ -147,8 +147,8 @@ module _ (l : Linking) (n : ℕ) (s : Spaces) (name : List ℕ) (meaning : Meani
 -- Types.
 
 module _ (l : Linking) (n : ℕ) (s : Spaces) (meaning : Meaning Closed) (closed : Closed) (there : meaning.is_there ≡ true) (none : meaning.missing ≡ None) (is : meaning.means ≡ Some closed) where
-  pub type_made : meaning.deep ≡ false → type_outcome l n s meaning ≡ Ok (one_more l n s (AType closed))
-  type_made shallow = rw (there, none, is, shallow) refl
+  pub type_told : meaning.deep ≡ false → type_outcome l n s meaning ≡ Ok (Makes (type_made l n s closed))
+  type_told shallow = rw (there, none, is, shallow) refl
 
   pub type_deep : meaning.deep ≡ true → type_outcome l n s meaning ≡ Err why.Limit
   type_deep deep = rw (there, none, is, deep) refl

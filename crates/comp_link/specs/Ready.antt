@@ -2,17 +2,18 @@
 -- index space has it yet.
 use Rattle.std.specs.Prelude.{◌≡◌, ℕ, true, List, Option, Some, None, Result, Ok, Err}
 use Rattle.comp_graph.specs.declared.graph.Options.{Options}
-use Rattle.comp_graph.specs.Closed.{Extern, Externs}
+use Rattle.comp_graph.specs.Closed.{Closed, Extern, Externs}
 use Rattle.link_spec.specs.declared.fault.LinkWhy.{LinkWhy}
 use Rattle.link_spec.specs.declared.fault.LinkWhy.TheVariants as why
 use Rattle.link_spec.specs.Canons.{Given, options_of}
 use Rattle.link_spec.specs.Definitions.{Lifted, Definition, AnInstance, Exports, types_of}
 use Rattle.link_spec.specs.Spaces.{Spaces, Linking, with_spaces}
-use Rattle.link_spec.specs.Items.{lower_made, with_import, with_export}
+use Rattle.link_spec.specs.Items.{type_made, lower_made, with_import, with_export}
 use Rattle.link_spec.specs.Tests.{are_types}
 use Rattle.link_spec.specs.Computed.{Outcome, Makes, as_asked}
 use Rattle.link_types.specs.declared.refs.InstanceTypeRef.{InstanceTypeRef}
-use Rattle.link_types.specs.Table.{Table, IsInstanceType}
+use Rattle.link_types.specs.declared.refs.TypeRef.{TypeRef}
+use Rattle.link_types.specs.Table.{Table, IsType, IsInstanceType}
 use Rattle.link_instances.specs.declared.references.LiftedRef.{LiftedRef}
 use Rattle.link_instances.specs.declared.references.DefinitionRef.{DefinitionRef}
 use Rattle.link_instances.specs.References.{World, IsLifted, Stands}
@@ -44,6 +45,10 @@ pub record IsLowering (t : Table) (l : Linking) (n : ℕ) (s : Spaces) (ref : Li
   pub stands : IsLifted t ref.0 lifted
   pub used : ref.1 ≡ options_of given
   pub makes : outcome ≡ Makes (lower_made l n s lifted given)
+
+-- The reference stands for the type of which an item makes this outcome.
+abbrev pub IsTyped : Table → Linking → ℕ → Spaces → TypeRef → Outcome → Type 0
+IsTyped t l n s ref outcome = (closed : Closed) × IsType t ref closed × (outcome ≡ Makes (type_made l n s closed))
 
 -- what an import and an export make of a definition
 abbrev pub imported : Linking → ℕ → Spaces → List ℕ → Definition → Outcome

@@ -14,7 +14,6 @@ ghost use Rattle.link_spec.specs.Canons as canons;
 ghost use Rattle.link_spec.specs.ValueTypes.{close_held};
 ghost use Rattle.link_spec.specs.ValueTypes as value_types;
 ghost use Rattle.link_spec.specs.Builtins.{are_options_there, return_meaning, builtin_meaning};
-ghost use Rattle.link_spec.specs.Builtins as meanings;
 ghost use Rattle.link_spec.specs.Items.{builtin_made};
 ghost use Rattle.link_spec.specs.Computed.{Makes, builtin_outcome};
 ghost use Rattle.link_types.specs.Table.{Table};
@@ -25,6 +24,7 @@ ghost use Rattle.canon_types.specs.Built.{IsBuilt, IsBuiltinMeaning};
 ghost use Rattle.comp_link.specs.State.{IsScope, IsAt, IsMade, ended};
 ghost use Rattle.comp_link.specs.Told.{IsTold};
 
+use crate::ends::end_at;
 use crate::link_fault::ItemError;
 use crate::linker::Linker;
 use crate::scope::Scope;
@@ -36,7 +36,7 @@ use canon_types::{
     return_needs_memory, stand_once, wait_builtin,
 };
 use comp_graph::CoreRef;
-use comp_tree::{CanonBuiltin, CanonEndOp, CanonOption, CoreSort, Sort, ValTypeRef};
+use comp_tree::{CanonBuiltin, CanonOption, CoreSort, Sort, ValTypeRef};
 use laid_types::LaidType;
 use link_core_exports::Given;
 use link_meanings::held_value;
@@ -45,32 +45,10 @@ use link_types::Types;
 use std::alloc::{AllocError, Global};
 
 /// Whether a type is there.
-fn type_is_there(scope: &Scope<'_>, index: u32) -> bool
+pub(crate) fn type_is_there(scope: &Scope<'_>, index: u32) -> bool
     ensures { (t : Table) (w : World) (s : Spaces) → IsScope t w scope.now s → result ≡ nat_lt index (length s.types) }
 {
     (index as usize) < scope.size(Sort::Type)
-}
-
-/// Whether what options name is there that a built-in of ends has.
-fn are_end_options_there(scope: &Scope<'_>, op: &CanonEndOp) -> bool
-    ensures { (t : Table) (w : World) (s : Spaces) → IsScope t w scope.now s → result ≡ meanings.are_end_options_there s op.now }
-{
-    match op {
-        CanonEndOp::Copy { side: _, options } => scope.are_there(options.as_slice()),
-        CanonEndOp::New
-        | CanonEndOp::Cancel {
-            side: _,
-            is_async: _,
-        }
-        | CanonEndOp::Drop { side: _ } => true,
-    }
-}
-
-/// Whether the type is there that a built-in of ends names, and what its options name.
-fn end_is_there(scope: &Scope<'_>, end_type: u32, op: &CanonEndOp) -> bool
-    ensures { (t : Table) (w : World) (s : Spaces) → IsScope t w scope.now s → result ≡ (nat_lt end_type (length s.types) && meanings.are_end_options_there s op.now) }
-{
-    type_is_there(scope, end_type) && are_end_options_there(scope, op)
 }
 
 /// The memory of an index.
@@ -198,11 +176,9 @@ fn meaning_at(
         CanonBuiltin::Resource { op: _, resource } => {
             Ok(no_builtin(type_is_there(linker.scope(n), *resource)))
         }
-        CanonBuiltin::End {
-            kind: _,
-            end_type,
-            op,
-        } => Ok(no_builtin(end_is_there(linker.scope(n), *end_type, op))),
+        CanonBuiltin::End { kind, end_type, op } => end_at(
+            alloc, &*linker, n, *kind, *end_type, op,
+        ),
     }
 }
 

@@ -40,12 +40,11 @@ pub fn graph_of<'a>(alloc: Global, linker: Linker<'a>) -> Result<Graph<'a>, Allo
     let funcs = graph_funcs(alloc, &linker)?;
     let count = graph_number(linker.scopes.len())?;
     let resources = Seq::new(alloc);
-    let ends = Seq::new(alloc);
     let types = GraphTypes {
         types: linker.types.into_func_types(),
         canons: Seq::from_vec(linker.canon_types),
         exports: Seq::from_vec(funcs.types),
-        ends,
+        ends: Seq::from_vec(linker.end_types.into_numbers()),
     };
     Ok(Graph::new(
         Seq::from_vec(linker.plan),

@@ -6,7 +6,7 @@
 //! either.
 //!
 //! - `linking`: from a component to its graph, item by item
-//! - `core_instances`, `core_aliases`, `lifts`, `lowers`, `builtins`, `aliases`, `types`, `instances`, `imports` and `exports`: what
+//! - `core_instances`, `core_aliases`, `lifts`, `lowers`, `builtins`, `ends`, `aliases`, `types`, `instances`, `imports` and `exports`: what
 //!   each kind of item makes
 //! - `used`: what lowers and built-ins use of what options give
 //! - `named` and `seen`: definitions under names, and definitions as they are asked for
@@ -21,6 +21,7 @@ mod builtins;
 mod canons;
 mod core_aliases;
 mod core_instances;
+mod ends;
 mod exports;
 mod graphs;
 mod imports;

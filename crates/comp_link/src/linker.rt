@@ -5,7 +5,7 @@ ghost use Rattle.std.specs.List.{slice_get};
 ghost use Rattle.std.specs.Option.{option_and_then, option_copied};
 ghost use Rattle.ca_base.specs.Faults.{IfFault};
 ghost use Rattle.wasm_module.specs.declared.module.ModuleTree.{ModuleTree};
-ghost use Rattle.comp_graph.specs.Closed.{Extern, Externs};
+ghost use Rattle.comp_graph.specs.Closed.{Closed, Extern, Externs};
 ghost use Rattle.comp_graph.specs.Graph.{canon_type};
 ghost use Rattle.comp_graph.specs.Passed.{HasCanonType};
 ghost use Rattle.canon_types.specs.Built.{IsBuilt};
@@ -13,10 +13,10 @@ ghost use Rattle.link_spec.specs.Definitions.{CoreItem, extern_of, Lifted, Closu
 ghost use Rattle.link_spec.specs.Tests.{are_types};
 ghost use Rattle.link_spec.specs.Spaces.{Spaces, Linking, with_core_item, with_core_instance, with_definition, with_spaces};
 ghost use Rattle.link_spec.specs.Canons.{Given, options_of};
-ghost use Rattle.link_spec.specs.Items.{core_made, with_canon, lower_made, builtin_made, with_import, with_export};
+ghost use Rattle.link_spec.specs.Items.{core_made, type_made, with_canon, lower_made, builtin_made, with_import, with_export};
 ghost use Rattle.link_spec.specs.Linked.{root_begun, begun, with_instance};
 ghost use Rattle.link_spec.specs.Computed.{imports_outcome};
-ghost use Rattle.link_types.specs.Table.{IsName, IsExtern, IsInstanceType};
+ghost use Rattle.link_types.specs.Table.{IsName, IsExtern, IsType, IsInstanceType};
 ghost use Rattle.link_instances.specs.declared.references.DefinitionRef.{DefinitionRef};
 ghost use Rattle.link_instances.specs.References.{IsInstance, IsLifted, IsListing};
 ghost use Rattle.link_instances.specs.References as references;
@@ -30,13 +30,13 @@ use crate::link_fault::ItemError;
 use crate::scope::{Scope, Standing};
 use ca_base::{Name, Seq};
 use ca_types::Shared;
-use canon_types::{Built, lower_type};
+use canon_types::{Built, EndNumbers, canon_number, lower_type, note, type_number};
 use comp_graph::{Action, Builtin, CanonFunc, CoreExtern, Options, graph_number};
 use comp_tree::{Component, CoreArgument};
 use link_core_exports::{CoreExports, CoreItem, CoreModule, Cores, InlineExports};
 use link_core_types::CoreFuncType;
 use link_instances::{DefinitionRef, Fit, InstanceRef, Instances, LiftedRef};
-use link_types::{ExternRef, InstanceTypeRef, Listing, Types};
+use link_types::{ExternRef, InstanceTypeRef, Listing, TypeRef, Types};
 use std::alloc::{AllocError, Global};
 
 /// The number of the root, which begins first.
@@ -64,6 +64,8 @@ pub struct Linker<'a> {
     pub canon_types: Vec<Option<u32>>,
     /// What is made, in file order.
     pub plan: Vec<Action>,
+    /// The numbers of the types of streams and futures that components define and built-ins name.
+    pub end_types: EndNumbers,
 }
 
 impl<'a> Linker<'a> {
@@ -87,6 +89,7 @@ impl<'a> Linker<'a> {
             canons: Vec::new(alloc),
             canon_types: Vec::new(alloc),
             plan,
+            end_types: EndNumbers::new(alloc),
         })
     }
 
@@ -196,6 +199,21 @@ impl<'a> Linker<'a> {
         Ok(())
     }
 
+    /// Adds a type, which is noted where it is one of streams or futures.
+    pub fn add_type(&mut self, n: usize, of: TypeRef) -> Result<(), AllocError>
+        requires { n < length self.old.scopes.items }
+        ensures ok { OnOk result ((bases : List Exports) (l : Linking) (s : Spaces) (closed : Closed) → IsAt bases self.old n l s → IsType self.old.types of closed → IsState bases self.new (type_made l n s closed)) }
+        ensures scopes { OnOk result (length self.new.scopes.items ≡ length self.old.scopes.items) }
+        ensures live { OnOk result (ended self.new ≡ ended self.old) }
+    {
+        // No type stands at two numbers.
+        self.types.are_distinct();
+        let number = type_number(&self.types, of)?;
+        note(&mut self.end_types, number)?;
+        self.add(n, DefinitionRef::Type(of))?;
+        Ok(())
+    }
+
     /// Adds a core module.
     pub fn add_module(&mut self, n: usize, made: Shared<CoreModule<'a>>) -> Result<(), AllocError>
         requires { n < length self.old.scopes.items }
@@ -271,7 +289,8 @@ impl<'a> Linker<'a> {
         Ok(())
     }
 
-    /// Adds a core function that the Canonical ABI makes, with the number of the type of what it passes, and with its core type.
+    /// Adds a core function that the Canonical ABI makes, with the number of the type of what it passes, which is noted where it is one
+    /// of streams or futures, and with its core type.
     fn add_canon(
         &mut self,
         n: usize,
@@ -284,8 +303,12 @@ impl<'a> Linker<'a> {
         ensures scopes { OnOk result (length self.new.scopes.items ≡ length self.old.scopes.items) }
         ensures live { OnOk result (ended self.new ≡ ended self.old) }
     {
+        // No type stands at two numbers.
+        self.types.are_distinct();
         let number = graph_number(self.canons.len())?;
         let item = CoreItem::made(number, core_type);
+        let named = canon_number(&canon, passed);
+        note(&mut self.end_types, named)?;
         self.canon_types.push(passed)?;
         self.canons.push(canon)?;
         self.scopes[n].add_core_item(item)?;

@@ -5,21 +5,20 @@ ghost use Rattle.std.specs.List.{AllZip};
 ghost use Rattle.link_spec.specs.Definitions.{Exports};
 ghost use Rattle.link_spec.specs.Spaces.{Spaces, Linking, levels_at};
 ghost use Rattle.link_spec.specs.Types as types_read;
-ghost use Rattle.link_spec.specs.Computed.{type_outcome, one_more};
+ghost use Rattle.link_spec.specs.Computed.{type_outcome};
 ghost use Rattle.link_types.specs.Table.{Table, IsType};
 ghost use Rattle.link_instances.specs.References.{World};
 ghost use Rattle.link_meanings.specs.Meant.{IsMeaning};
 ghost use Rattle.link_meanings.specs.Levels.{AreLevels};
 ghost use Rattle.comp_link.specs.State.{IsKept, IsAt, IsMade, ended};
 ghost use Rattle.comp_link.specs.Told.{IsTold};
-ghost use Rattle.comp_link.specs.Ready.{IsReady};
+ghost use Rattle.comp_link.specs.Ready.{IsTyped};
 
 use crate::link_fault::{ItemError, missing};
 use crate::linker::{Linker, item_numbered};
 use crate::scope::Scope;
 use ca_base::MemoryOr;
 use comp_tree::DefType;
-use link_instances::DefinitionRef;
 use link_meanings::{Level, meaning_of};
 use link_spec::LinkWhy;
 use link_types::{Meant, TypeRef};
@@ -86,15 +85,16 @@ fn meaning_at<'a>(
     meaning_of(alloc, &mut linker.types, &levels, def_type)
 }
 
-/// The definition of a type.
-fn type_definition<'a>(
+/// The type that an item makes.
+fn type_meant<'a>(
     alloc: Global,
     linker: &mut Linker<'a>,
     n: usize,
     def_type: &'a DefType,
-) -> Result<DefinitionRef, ItemError>
+) -> Result<TypeRef, ItemError>
     requires { n < length linker.old.scopes.items }
-    ensures made { (bases : List Exports) (l : Linking) (s : Spaces) → IsAt bases linker.old n l s → IsTold (IsReady linker.new l (one_more l n s)) result (type_outcome l n s (types_read.meaning_of def_type.now (levels_at l (n ∷ s.around)))) }
+    ensures made { (bases : List Exports) (l : Linking) (s : Spaces) → IsAt bases linker.old n l s → IsTold (IsTyped linker.new.types l n s) result (type_outcome l n s (types_read.meaning_of def_type.now (levels_at l (n ∷ s.around)))) }
+    ensures at { (bases : List Exports) (l : Linking) (s : Spaces) → IsAt bases linker.old n l s → IsAt bases linker.new n l s }
     ensures scopes { linker.new.scopes ≡ linker.old.scopes }
 {
     let meant = meaning_at(alloc, linker, n, def_type)?;
@@ -110,7 +110,7 @@ fn type_definition<'a>(
     if meant.deep {
         return Err(MemoryOr::Fault(LinkWhy::Limit));
     }
-    Ok(DefinitionRef::Type(closed))
+    Ok(closed)
 }
 
 /// Links a type.
@@ -125,7 +125,7 @@ pub fn link_type<'a>(
     ensures scopes { OnOk result (length linker.new.scopes.items ≡ length linker.old.scopes.items) }
     ensures live { OnOk result (ended linker.new ≡ ended linker.old) }
 {
-    let definition = type_definition(alloc, linker, n, def_type)?;
-    linker.add(n, definition)?;
+    let meant = type_meant(alloc, linker, n, def_type)?;
+    linker.add_type(n, meant)?;
     Ok(())
 }

@@ -1,8 +1,10 @@
 -- What can be called of a component whose types are written so has marked types, with ends or without, with labels that are many or
 -- counted. What is read has counted labels, and so has what passes no end.
-use Rattle.std.proofs.Common.{◌≡◌, ℕ, Bool, true, false, List, ◌∷◌, map, sym, subst, Option, Some, None}
+use Rattle.std.proofs.Common.{◌≡◌, ℕ, Bool, true, false, List, ◌∷◌, ◌∙◌, map, sym, subst, Option, Some, None}
 use Rattle.std.specs.List.{slice_get}
 use Rattle.std.specs.Option.{option_map, option_and_then, IfSome}
+use Rattle.ca_types.specs.declared.types.ValType.{ValType}
+use Rattle.ca_types.specs.declared.types.Param.{Param}
 use Rattle.ca_types.specs.declared.types.FuncType.{FuncType}
 use Rattle.ca_types.specs.declared.exports.Export as exported_func
 use Rattle.ca_base.specs.declared.placed.Placed.{Placed}
@@ -12,18 +14,22 @@ use Rattle.comp_tree.specs.declared.items.Item.{Item}
 use Rattle.comp_tree.specs.declared.items.Item.TheOpen.{Item-F}
 use Rattle.comp_tree.specs.declared.items.Component.{Component}
 use Rattle.comp_graph.specs.declared.graph.CanonFunc.{CanonFunc}
+use Rattle.comp_graph.specs.Graph.{Graph}
 use Rattle.comp_graph.specs.Closed.{Closed, OfFunc, OfType, OfInstance, Externs, EmptyType, WithExtern, func_of}
 use Rattle.link_spec.specs.Definitions.{Lifted, types_of}
 use Rattle.link_spec.specs.Spaces.{Spaces, Linking, Level, level_of, listed_level, levels_at}
 use Rattle.link_spec.specs.Types.{meaning_of}
 use Rattle.link_spec.specs.Items.{StandsFor, wanted}
-use Rattle.link_spec.specs.Linked.{exports_at, Links, root_begun, callables, export_of, graph_of}
-use Rattle.link_spec.proofs.Holding.{all_mapped, all_flat, all_at, holds_at, if_weaker, if_mapped, if_found}
+use Rattle.link_spec.specs.Linked.{exports_at, Links, root_begun, callables, export_of, graph_of, IsLinked}
+use Rattle.link_spec.proofs.Holding.{all_weaker, all_mapped, all_flat, all_at, holds_at, if_weaker, if_mapped, if_found}
+use Rattle.comp_reader.specs.Binary.{IsComponent}
+use Rattle.canonical_machine.specs.Sound.{AreBytes}
 use Rattle.canonical_machine.specs.Synchronous.{called_type}
 use Rattle.sync_items.specs.Graphs.{passes_no_ends}
-use Rattle.graph_laws.specs.Laws.{ReadTypesAreCounted}
+use Rattle.graph_laws.specs.Laws.{ReadTypesAreCounted, ReadTypesAreLabelled}
 use Rattle.graph_laws.proofs.ComponentTypes.{types_have}
-use Rattle.graph_laws.proofs.Marked.{HasMarkedTypes, HasMarkedFuncs}
+use Rattle.graph_laws.specs.Counted.{is_labelled, HasLabelledTypes}
+use Rattle.graph_laws.proofs.Marked.{is_marked, HasMarkedTypes, HasMarkedFuncs, marked_labelled}
 use Rattle.graph_laws.proofs.Unended.{closed_up}
 use Rattle.graph_laws.proofs.TypesStand as stands
 use Rattle.graph_laws.proofs.TypesStand.{shape_has, behind_have}
@@ -106,6 +112,22 @@ module _ (ends many : Bool) where
         canons = held.canons;
       }
 
+labelled_types : (f : FuncType) → HasMarkedTypes true false f → HasLabelledTypes f
+labelled_types f h = record {
+  params = all_weaker (λ (p : Param). is_marked true false p.val_type ≡ true) (λ (p : Param). is_labelled p.val_type ≡ true) (λ p k. sym (marked_labelled p.val_type) ∙ k) f.params h.params;
+  returned = if_weaker (λ (t : ValType). is_marked true false t ≡ true) (λ (t : ValType). is_labelled t ≡ true) (λ t k. sym (marked_labelled t) ∙ k) f.result h.returned;
+}
+
+marked_read : (bytes : List ℕ) (c : Component) (g : Graph) → AreBytes bytes → IsComponent bytes c → IsLinked c g → HasMarkedFuncs true false g
+marked_read bytes c g are read (l, links, is) = subst (HasMarkedFuncs true false) (sym is) (linked_counted true false c l (types_have bytes c are read) links)
+
+pub read_types_are_labelled : ReadTypesAreLabelled
+read_types_are_labelled bytes c g are read linked =
+    let h = marked_read bytes c g are read linked in
+    record {
+      exports = all_weaker (λ (e : exported_func.Export). HasMarkedTypes true false e.func_type) (λ (e : exported_func.Export). HasLabelledTypes e.func_type) (λ e k. labelled_types e.func_type k) g.exports h.exports;
+      canons = all_weaker (λ (f : CanonFunc). HasMarkedTypes true false (called_type f)) (λ (f : CanonFunc). HasLabelledTypes (called_type f)) (λ f k. labelled_types (called_type f) k) g.canons h.canons;
+    }
+
 pub read_types_are_counted : ReadTypesAreCounted
-read_types_are_counted bytes c g are read (l, links, is) none =
-    closed_up g (subst (HasMarkedFuncs true false) (sym is) (linked_counted true false c l (types_have bytes c are read) links)) none
+read_types_are_counted bytes c g are read linked none = closed_up g (marked_read bytes c g are read linked) none

@@ -1,7 +1,7 @@
 -- What a type means is marked, with ends or without, with labels that are many or counted, where all types around it are, and it is
 -- written so.
 use Rattle.std.proofs.Common.{◌≡◌, ◌∙◌, ◌^◌, ℕ, suc, Bool, true, false, cond, List, [], ◌∷◌, length, map, refl, ap, Option, Some, None}
-use Rattle.std.specs.Prelude.{◌||◌, nat_le, nat_lt, is_none, IfSome}
+use Rattle.std.specs.Prelude.{◌&&◌, ◌||◌, nat_le, nat_lt, is_none, IfSome}
 use Rattle.std.specs.Option.{option_map, option_and_then}
 use Rattle.std.specs.List.{slice_get, AllByRecursion}
 use Rattle.std.specs.Str.{bytes_eq}
@@ -39,7 +39,6 @@ use Rattle.link_spec.specs.Types.{close_param, close_params, close_func, all_wit
 use Rattle.link_spec.proofs.Holding.{all_at, if_weaker, if_mapped, if_found, if_cond}
 use Rattle.graph_laws.proofs.Counting.{length_mapped}
 use Rattle.graph_laws.proofs.Marked.{is_marked, HasMarkedTypes, marked_in, marked_is}
-use Rattle.graph_laws.proofs.SpacesApart.{if_always}
 use Rattle.graph_laws.proofs.TypesStand as stands
 
 either_way : (a b : Bool) → b ≡ true → (a || b) ≡ true
@@ -169,6 +168,14 @@ module _ (ends many : Bool) where
   result_counted (Some o) None h k = by_out (val_type.Result (Some o) None) (F.Result (Some o) None) (seen.out_result (Some o) None) (and_from (is_counted o) true h refl)
   result_counted (Some o) (Some e) h k = by_out (val_type.Result (Some o) (Some e)) (F.Result (Some o) (Some e)) (seen.out_result (Some o) (Some e)) (and_from (is_counted o) (is_counted e) h k)
 
+  stream_counted : (o : Option ValType) → ends ≡ true → IsHeldCounted o → IsCountedType (val_type.Stream o)
+  stream_counted None e k = by_out (val_type.Stream None) (F.Stream None) (seen.out_stream None) (and_from ends true e refl)
+  stream_counted (Some t) e k = by_out (val_type.Stream (Some t)) (F.Stream (Some t)) (seen.out_stream (Some t)) (and_from ends (is_counted t) e k)
+
+  future_counted : (o : Option ValType) → ends ≡ true → IsHeldCounted o → IsCountedType (val_type.Future o)
+  future_counted None e k = by_out (val_type.Future None) (F.Future None) (seen.out_future None) (and_from ends true e refl)
+  future_counted (Some t) e k = by_out (val_type.Future (Some t)) (F.Future (Some t)) (seen.out_future (Some t)) (and_from ends (is_counted t) e k)
+
   parts_counted : (types : List (Option Closed)) (type : DefValType) → AllByRecursion IsKnownCounted types → is_few type ≡ true → is_well_made type ≡ true → IfSome (close_parts types type) IsCountedType
   parts_counted types (written.Primitive type) h few made = leaf_counted type
   parts_counted types (written.Record fields) h few made =
@@ -197,9 +204,11 @@ module _ (ends many : Bool) where
   parts_counted types (written.Own resource) h few made = tt
   parts_counted types (written.Borrow resource) h few made = tt
   parts_counted types (written.Stream element) h few made =
-      if_mapped val_type.Stream IsCountedType (close_held types element) (if_always (λ o. IsCountedType (val_type.Stream o)) (close_held types element) (λ o. by_out (val_type.Stream o) (F.Stream o) (seen.out_stream o) few))
+      if_mapped val_type.Stream IsCountedType (close_held types element)
+      (if_weaker IsHeldCounted (λ (o : Option ValType). IsCountedType (val_type.Stream o)) (λ o k. stream_counted o few k) (close_held types element) (held_counted types element h))
   parts_counted types (written.Future element) h few made =
-      if_mapped val_type.Future IsCountedType (close_held types element) (if_always (λ o. IsCountedType (val_type.Future o)) (close_held types element) (λ o. by_out (val_type.Future o) (F.Future o) (seen.out_future o) few))
+      if_mapped val_type.Future IsCountedType (close_held types element)
+      (if_weaker IsHeldCounted (λ (o : Option ValType). IsCountedType (val_type.Future o)) (λ o k. future_counted o few k) (close_held types element) (held_counted types element h))
 
   def_counted : (types : List (Option Closed)) (type : DefValType) → AllByRecursion IsKnownCounted types → is_few type ≡ true → IfSome (close_def types type) IsCountedType
   def_counted types type h few = by_test (is_well_made type) refl

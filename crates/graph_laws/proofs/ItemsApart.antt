@@ -5,6 +5,7 @@ use Rattle.std.specs.Option.{option_map, option_and_then, IfSome}
 use Rattle.std.specs.Str.{bytes_eq}
 use Rattle.wasm_module.specs.declared.module.Export.{Export}
 use Rattle.wasm_module.specs.declared.module.ExportDesc.{ExportDesc}
+use Rattle.ca_types.specs.declared.types.ValType.{ValType}
 use Rattle.wasm_module.specs.declared.module.ExportDesc.TheVariants as offered
 use Rattle.wasm_module.specs.declared.module.Import.{Import}
 use Rattle.wasm_module.specs.declared.module.ModuleTree.{ModuleTree}
@@ -35,7 +36,8 @@ use Rattle.comp_graph.specs.CoreItems.{core_func_of, table_space, memory_space}
 use Rattle.comp_graph.specs.Closed.{Extern, OfFunc, OfType, OfInstance}
 use Rattle.comp_graph.specs.Graph.{CoreMake, Graph, canon_type}
 use Rattle.link_spec.specs.Definitions.{CoreItem, Func, Table, Memory, Global, extern_of, item_of, CoreExport, core_named, listed, exports_of, Definition, AFunc, AType, AComponent, AnInstance, AModule, Exports, EmptyInstance, WithExport, export_named}
-use Rattle.link_spec.specs.Spaces.{Spaces, Linking, core_item_at, definition_at, with_core_item, with_core_instance, with_definition, with_spaces, outer_definition, outer_at}
+use Rattle.link_spec.specs.Spaces.{Spaces, Linking, core_item_at, definition_at, with_core_item, with_core_instance, with_definition, with_spaces, with_ends, outer_definition, outer_at}
+use Rattle.link_spec.specs.Ends.{noted_type}
 use Rattle.link_spec.specs.Canons.{given_by}
 use Rattle.link_spec.specs.Builtins.{builtin_meaning}
 use Rattle.link_spec.specs.Items.{argument_named, import_found, FindsItem, IsInline, core_made, core_instance_makes, instance_makes, alias_makes, lifted_with, lift_makes, with_canon, lowered_with, lower_makes, builtin_makes, IsImported, import_makes, said, IsExported, export_makes, makes_case}
@@ -91,6 +93,12 @@ with_spaces_apart l n s h k = record { scopes = at_set (AreSpacesApart (made_by 
 
 made_reached : (l : Linking) (n : ℕ) (s : Spaces) (new : Linking) → new ≡ with_spaces l n s → IsLinkingApart l → AreSpacesApart (made_by l) n s → IsReachedApart l new
 made_reached l n s new e h k = subst (IsReachedApart l) (sym e) (record { apart = with_spaces_apart l n s h k; keeps = keeps_itself (made_by l) })
+
+ends_apart : (l : Linking) (types : List ValType) → IsLinkingApart l → IsLinkingApart (with_ends l types)
+ends_apart l types h = record { scopes = h.scopes; imports = h.imports; lowers = h.lowers; planned = h.planned }
+
+ends_reached : (l : Linking) (types : List ValType) (new : Linking) → IsReachedApart (with_ends l types) new → IsReachedApart l new
+ends_reached l types new r = record { apart = r.apart; keeps = r.keeps }
 
 defined_reached : (l : Linking) (n : ℕ) (s : Spaces) (d : Definition) (new : Linking) → IsLinkingApart l → AreSpacesApart (made_by l) n s → new ≡ with_spaces l n (with_definition s d) → IsDefinedApart (made_by l) d → IsReachedApart l new
 defined_reached l n s d new h k made is = made_reached l n (with_definition s d) new made h (with_defined_apart (made_by l) n s d k is)
@@ -236,7 +244,9 @@ case_reached l n s (Item-F.CoreInstance c) new h k makes = core_instance_reached
 case_reached l n s (Item-F.Component c) new h k made = defined_reached l n s (AComponent (record { items = c.items; around = n ∷ s.around })) new h k made tt
 case_reached l n s (Item-F.Instance i) new h k makes = instance_reached l n s i new h k makes
 case_reached l n s (Item-F.Alias alias) new h k makes = alias_reached l n s alias.sort alias.target new h k makes
-case_reached l n s (Item-F.Type type) new h k (closed, means, made) = defined_reached l n s (AType closed) new h k made tt
+case_reached l n s (Item-F.Type type) new h k (closed, means, made) =
+    let types = noted_type l.end_types closed in
+    ends_reached l types new (defined_reached (with_ends l types) n s (AType closed) new (ends_apart l types h) k made tt)
 case_reached l n s (Item-F.Canon (Lift f options t)) new h k makes = lift_reached l n s f options t new h k makes
 case_reached l n s (Item-F.Canon (Lower f options)) new h k makes = lower_reached l n s f options new h k makes
 case_reached l n s (Item-F.Canon (Builtin b)) new h k makes = builtin_reached l n s b new h k makes

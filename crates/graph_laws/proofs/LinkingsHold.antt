@@ -4,6 +4,7 @@ use Rattle.std.proofs.Common.{◌≡◌, ℕ, List, [], ◌∷◌, ◌++◌, len
 use Rattle.std.specs.List.{slice_get, AllByRecursion}
 use Rattle.std.specs.Option.{option_and_then, IfSome}
 use Rattle.ca_base.specs.declared.placed.Placed.{Placed}
+use Rattle.ca_types.specs.declared.types.ValType.{ValType}
 use Rattle.ca_types.specs.declared.types.FuncType.{FuncType}
 use Rattle.comp_tree.specs.declared.core_instances.CoreInstance.{CoreInstance}
 use Rattle.comp_tree.specs.declared.core_instances.CoreInstance.TheVariants as made_core
@@ -29,7 +30,8 @@ use Rattle.comp_graph.specs.declared.graph.CanonFunc.TheVariants as canon_func
 use Rattle.comp_graph.specs.Closed.{Closed, Extern, OfFunc, OfType, OfInstance, Externs, func_of}
 use Rattle.comp_graph.specs.Graph.{canon_type}
 use Rattle.link_spec.specs.Definitions.{Func, exports_of, Lifted, Closure, Definition, AFunc, AType, AComponent, AnInstance, AModule, Exports, EmptyInstance, WithExport, export_named, types_of}
-use Rattle.link_spec.specs.Spaces.{Spaces, Linking, new_spaces, levels_at, definition_at, with_core_item, with_core_instance, with_definition, with_spaces, outer_definition, outer_at}
+use Rattle.link_spec.specs.Spaces.{Spaces, Linking, new_spaces, levels_at, definition_at, with_core_item, with_core_instance, with_definition, with_spaces, with_ends, outer_definition, outer_at}
+use Rattle.link_spec.specs.Ends.{noted_type}
 use Rattle.link_spec.specs.Canons.{given_by}
 use Rattle.link_spec.specs.Builtins.{builtin_meaning}
 use Rattle.link_spec.specs.Types.{meaning_of}
@@ -53,6 +55,9 @@ pub record AreSteps (K : Known) (S : Item-F Item Component → Type 0) : Type 0 
 module _ (K : Known) where
   spaces_made : (l : Linking) (n : ℕ) (s : Spaces) (new : Linking) → new ≡ with_spaces l n s → IsLinking K l → AreSpaces K s → IsLinking K new
   spaces_made l n s new e h k = subst (IsLinking K) (sym e) (record { scopes = all_set (AreSpaces K) l.scopes n s h.scopes k; canons = h.canons })
+
+  ends_held : (l : Linking) (types : List ValType) → IsLinking K l → IsLinking K (with_ends l types)
+  ends_held l types h = record { scopes = h.scopes; canons = h.canons }
 
   defined : (l : Linking) (n : ℕ) (s : Spaces) (d : Definition) (new : Linking) → IsLinking K l → AreSpaces K s → new ≡ with_spaces l n (with_definition s d) → IsDefined K d → IsLinking K new
   defined l n s d new h k made is = spaces_made l n (with_definition s d) new made h (with_defined K s d k is)
@@ -170,7 +175,9 @@ module _ (K : Known) (S : Item-F Item Component → Type 0) (are : AreSteps K S)
   case_held l n s (Item-F.Component c) new has h k made = defined K l n s (AComponent (record { items = c.items; around = n ∷ s.around })) new h k made (are.components c has)
   case_held l n s (Item-F.Instance i) new has h k makes = instance_held K l n s i new h k makes
   case_held l n s (Item-F.Alias alias) new has h k makes = alias_held K l n s alias.sort alias.target new h k makes
-  case_held l n s (Item-F.Type type) new has h k (closed, means, made) = defined K l n s (AType closed) new h k made (are.types l n s type closed has h means)
+  case_held l n s (Item-F.Type type) new has h k (closed, means, made) =
+      let types = noted_type l.end_types closed in
+      defined K (with_ends l types) n s (AType closed) new (ends_held K l types h) k made (are.types l n s type closed has h means)
   case_held l n s (Item-F.Canon (Lift f options t)) new has h k makes = lift_held l n s f options t new has h k makes
   case_held l n s (Item-F.Canon (Lower f options)) new has h k makes = lower_held l n s f options new has h k makes
   case_held l n s (Item-F.Canon (Builtin b)) new has h k makes = builtin_held l n s b new has h k makes

@@ -18,7 +18,7 @@ use Rattle.comp_graph.specs.Graph.{Graph}
 use Rattle.canonical_machine.specs.Synchronous.{called_type}
 use Rattle.value_lift.proofs.Layers.{by_layer}
 use Rattle.value_reader.specs.Writable.{all_true, true_if_some}
-use Rattle.graph_laws.specs.Counted.{counted_step, counted_case, counted_field, is_counted}
+use Rattle.graph_laws.specs.Counted.{counted_step, counted_case, counted_field, is_counted, labelled_step, is_labelled}
 
 abbrev pub Layer : Type 0
 Layer = F.ValType-F ValType Case Field
@@ -35,8 +35,8 @@ marked_step ends many (F.Option part) = part
 marked_step ends many (F.Result ok err) = true_if_some ok && true_if_some err
 marked_step ends many (F.Own resource) = false
 marked_step ends many (F.Borrow resource) = false
-marked_step ends many (F.Stream element) = ends
-marked_step ends many (F.Future element) = ends
+marked_step ends many (F.Stream element) = ends && true_if_some element
+marked_step ends many (F.Future element) = ends && true_if_some element
 marked_step ends many _ = true
 
 abbrev pub is_marked : Bool → Bool → ValType → Bool
@@ -89,3 +89,32 @@ step_same (F.Future element) = refl
 
 pub marked_same : (t : ValType) → is_marked false false t ≡ is_counted t
 marked_same t = ap (λ (step : F.ValType-F Bool Bool Bool → Bool). fold-ValType Bool Bool Bool step counted_case counted_field t) (fun_ext step_same)
+
+-- With ends, and with labels that are counted.
+labelled_same : (y : F.ValType-F Bool Bool Bool) → marked_step true false y ≡ labelled_step y
+labelled_same F.Bool = refl
+labelled_same F.S8 = refl
+labelled_same F.U8 = refl
+labelled_same F.S16 = refl
+labelled_same F.U16 = refl
+labelled_same F.S32 = refl
+labelled_same F.U32 = refl
+labelled_same F.S64 = refl
+labelled_same F.U64 = refl
+labelled_same F.Char = refl
+labelled_same F.String = refl
+labelled_same (F.Record fields) = refl
+labelled_same (F.Variant cases) = refl
+labelled_same (F.List element) = refl
+labelled_same (F.Tuple parts) = refl
+labelled_same (F.Flags labels) = refl
+labelled_same (F.Enum labels) = refl
+labelled_same (F.Option part) = refl
+labelled_same (F.Result ok err) = refl
+labelled_same (F.Own resource) = refl
+labelled_same (F.Borrow resource) = refl
+labelled_same (F.Stream element) = refl
+labelled_same (F.Future element) = refl
+
+pub marked_labelled : (t : ValType) → is_marked true false t ≡ is_labelled t
+marked_labelled t = ap (λ (step : F.ValType-F Bool Bool Bool → Bool). fold-ValType Bool Bool Bool step counted_case counted_field t) (fun_ext labelled_same)

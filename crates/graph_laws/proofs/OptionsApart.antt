@@ -3,6 +3,8 @@ use Rattle.std.proofs.Common.{◌≡◌, ℕ, List, map, Option, Some}
 use Rattle.std.specs.List.{slice_get}
 use Rattle.std.specs.Option.{option_and_then, IfSome}
 use Rattle.ca_types.specs.declared.types.ValType.{ValType}
+use Rattle.comp_tree.specs.declared.builtins.CanonEndOp.{CanonEndOp}
+use Rattle.comp_tree.specs.declared.builtins.CanonEndOp.TheVariants as read_op
 use Rattle.comp_tree.specs.declared.builtins.CanonBuiltin.{CanonBuiltin}
 use Rattle.comp_tree.specs.declared.builtins.CanonBuiltin.TheVariants as read_builtin
 use Rattle.comp_tree.specs.declared.items.CanonOption.{CanonOption}
@@ -15,11 +17,11 @@ use Rattle.comp_graph.specs.Graph.{Graph}
 use Rattle.link_spec.specs.Definitions.{CoreItem, Func, Table, Memory, Global}
 use Rattle.link_spec.specs.Spaces.{Spaces}
 use Rattle.link_spec.specs.Canons.{memory_index, realloc_index, post_return_index, callback_index, first_index, given_by, options_of}
-use Rattle.link_spec.specs.Builtins.{builtin_meaning}
+use Rattle.link_spec.specs.Builtins.{elements_at, end_op_of, builtin_meaning}
 use Rattle.link_spec.specs.ValueTypes.{close_held}
 use Rattle.link_spec.proofs.Holding.{all_at, holds_at, if_weaker, if_mapped, if_found, if_each}
 use Rattle.canonical_machine.specs.Owners.{owner_of_core, owner_of_func}
-use Rattle.graph_laws.proofs.Owning.{OwnsOptions, OwnsKind, IsItemOf, AreSpacesApart}
+use Rattle.graph_laws.proofs.Owning.{OwnsOptions, OwnsEnd, OwnsKind, IsItemOf, AreSpacesApart}
 use Rattle.graph_laws.proofs.SpacesApart.{if_always}
 
 module _ (g : Graph) (owner : ℕ) (s : Spaces) (apart : AreSpacesApart g owner s) where
@@ -60,6 +62,12 @@ module _ (g : Graph) (owner : ℕ) (s : Spaces) (apart : AreSpacesApart g owner 
       if_found core_memory_of (IsItemOf g owner) (λ (m : CoreRef). owner_of_core g m.instance ≡ Some owner) memory_own (slice_get s.core_memories index)
       (all_at (IsItemOf g owner) s.core_memories index apart.core.memories_of)
 
+  end_own : (op : CanonEndOp) → OwnsEnd g owner (end_op_of (given_by s) op)
+  end_own read_op.New = tt
+  end_own (read_op.Copy side options) = options_own options
+  end_own (read_op.Cancel side is_async) = tt
+  end_own (read_op.Drop side) = tt
+
   builtin_uses : (b : CanonBuiltin) → IfSome (builtin_meaning s b).means (OwnsKind g owner)
   builtin_uses (read_builtin.Plain b) = tt
   builtin_uses (read_builtin.Context op slot) = tt
@@ -69,7 +77,10 @@ module _ (g : Graph) (owner : ℕ) (s : Spaces) (apart : AreSpacesApart g owner 
   builtin_uses (read_builtin.Wait op cancellable memory) =
       if_mapped (λ (m : CoreRef). builtin.Wait op cancellable m) (OwnsKind g owner) (option_and_then core_memory_of (slice_get s.core_memories memory))
       (if_weaker (λ (m : CoreRef). owner_of_core g m.instance ≡ Some owner) (λ (m : CoreRef). OwnsKind g owner (builtin.Wait op cancellable m)) (λ m e. e) (option_and_then core_memory_of (slice_get s.core_memories memory)) (memory_at memory))
-  builtin_uses other = tt
+  builtin_uses (read_builtin.End kind end_type op) =
+      if_mapped (λ (element : Option ValType). builtin.End kind element (end_op_of (given_by s) op)) (OwnsKind g owner) (elements_at s kind end_type)
+      (if_always (λ (element : Option ValType). OwnsKind g owner (builtin.End kind element (end_op_of (given_by s) op))) (elements_at s kind end_type) (λ element. end_own op))
+  builtin_uses (read_builtin.Resource op resource) = tt
 
   pub builtin_own : (b : CanonBuiltin) (kind : BuiltinKind) → (builtin_meaning s b).means ≡ Some kind → OwnsKind g owner kind
   builtin_own b kind is = holds_at (OwnsKind g owner) (builtin_meaning s b).means kind (builtin_uses b) is

@@ -88,10 +88,10 @@ abbrev one_core : CoreMake
 one_core = record { of_module = of_one; imports = []; owner = 1 }
 
 abbrev child_begun : Linking
-child_begun = record { scopes = root_spaces ∷ new_spaces (Some EmptyInstance) (0 ∷ []) ∷ []; cores = []; canons = []; plan = Begin 0 ∷ Begin 1 ∷ [] }
+child_begun = record { scopes = root_spaces ∷ new_spaces (Some EmptyInstance) (0 ∷ []) ∷ []; cores = []; canons = []; plan = Begin 0 ∷ Begin 1 ∷ []; end_types = [] }
 
 abbrev child_linked : Spaces → Linking
-child_linked s = record { scopes = s ∷ child_spaces ∷ []; cores = one_core ∷ []; canons = []; plan = Begin 0 ∷ Begin 1 ∷ Make 0 ∷ [] }
+child_linked s = record { scopes = s ∷ child_spaces ∷ []; cores = one_core ∷ []; canons = []; plan = Begin 0 ∷ Begin 1 ∷ Make 0 ∷ []; end_types = [] }
 
 child_runs : (inside : Run) → run inside child_begun 1 (placed_from 10 child) ≡ Ok (child_linked root_spaces)
 child_runs inside = simp layers refl
@@ -127,7 +127,7 @@ with_caller = record with_lowered {
 }
 
 abbrev all_made : Spaces → Linking
-all_made s = record { scopes = s ∷ child_spaces ∷ []; cores = both.cores; canons = both.canons; plan = both.plan }
+all_made s = record { scopes = s ∷ child_spaces ∷ []; cores = both.cores; canons = both.canons; plan = both.plan; end_types = [] }
 
 calls_one : (inside : Run) → run inside lowered_linked 0 (placed_from 5 calling) ≡ Ok (all_made with_caller)
 calls_one inside = simp layers refl

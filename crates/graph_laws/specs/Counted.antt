@@ -1,6 +1,7 @@
--- Types whose values functions pass, as they are read and linked (Component Model, Explainer.md, "Type Definitions"; Binary.md, `defvaltype`): they hold no handle
--- and no end of a stream or a future, flags have at most 32 labels, and the cases of a variant and the labels of an enum are counted by
--- 32 bits.
+-- Types whose values functions pass, as they are read and linked (Component Model, Explainer.md, "Type Definitions"; Binary.md,
+-- `defvaltype`): they hold no handle, flags have at most 32 labels, and the cases of a variant and the labels of an enum are counted by
+-- 32 bits, also in what passes in a stream or a future. Where a function passes no end of a stream or a future, that is so of all that
+-- it passes, and there is no end in it.
 use Rattle.std.specs.Prelude.{◌≡◌, ◌^◌, ◌&&◌, nat_lt, nat_le, Bool, true, false, length}
 use Rattle.std.specs.List.{AllByRecursion}
 use Rattle.std.specs.Option.{IfSome}
@@ -48,3 +49,30 @@ pub record HasCountedTypes (type : FuncType) : Type 0 where
 pub record HasCountedFuncs (g : Graph) : Type 0 where
   pub exports : AllByRecursion (λ (e : Export). HasCountedTypes e.func_type) g.exports
   pub canons : AllByRecursion (λ (f : CanonFunc). HasCountedTypes (called_type f)) g.canons
+
+-- The same of types that may hold ends: what passes in a stream or a future is so, too.
+abbrev pub labelled_step : ValType-F Bool Bool Bool → Bool
+labelled_step (ValType-F.Record fields) = all_true fields
+labelled_step (ValType-F.Variant cases) = nat_lt (length cases) (2 ^ 32) && all_true cases
+labelled_step (ValType-F.List element) = element
+labelled_step (ValType-F.Tuple parts) = all_true parts
+labelled_step (ValType-F.Flags labels) = nat_le (length labels) 32
+labelled_step (ValType-F.Enum labels) = nat_lt (length labels) (2 ^ 32)
+labelled_step (ValType-F.Option part) = part
+labelled_step (ValType-F.Result ok err) = true_if_some ok && true_if_some err
+labelled_step (ValType-F.Own resource) = false
+labelled_step (ValType-F.Borrow resource) = false
+labelled_step (ValType-F.Stream element) = true_if_some element
+labelled_step (ValType-F.Future element) = true_if_some element
+labelled_step _ = true
+
+abbrev pub is_labelled : ValType → Bool
+is_labelled = fold-ValType Bool Bool Bool labelled_step counted_case counted_field
+
+pub record HasLabelledTypes (type : FuncType) : Type 0 where
+  pub params : AllByRecursion (λ (p : Param). is_labelled p.val_type ≡ true) type.params
+  pub returned : IfSome type.result (λ t. is_labelled t ≡ true)
+
+pub record HasLabelledFuncs (g : Graph) : Type 0 where
+  pub exports : AllByRecursion (λ (e : Export). HasLabelledTypes e.func_type) g.exports
+  pub canons : AllByRecursion (λ (f : CanonFunc). HasLabelledTypes (called_type f)) g.canons

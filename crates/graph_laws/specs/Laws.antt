@@ -17,7 +17,7 @@ use Rattle.link_spec.specs.Linked.{IsLinked}
 use Rattle.canonical_machine.specs.Sound.{AreBytes, HasBytes, Makes, IsSoundGraph, IsSound}
 use Rattle.canonical_machine.specs.Owners.{IsApart}
 use Rattle.canonical_machine.specs.Plain.{IsPlain}
-use Rattle.graph_laws.specs.Counted.{HasCountedFuncs}
+use Rattle.graph_laws.specs.Counted.{HasCountedFuncs, HasLabelledFuncs}
 
 -- A module that is valid, no memory of which begins with more pages than any may have, and whose data are bytes.
 pub record IsSoundModule (m : ModuleTree) : Type 0 where
@@ -58,8 +58,13 @@ ReadGraphsAreSound =
     (bytes : List ℕ) (c : Component) (g : Graph)
     → AreBytes bytes → IsComponent bytes c → IsLinked c g → runs_now g ≡ true → IsSoundGraph g
 
--- What functions of a graph pass that is read of bytes and linked has types whose labels are counted, where no function passes the end
--- of a stream or a future.
+-- What functions of a graph pass that is read of bytes and linked has types whose labels are counted, also in what passes in streams and
+-- futures, and which hold no handle. Where no function passes the end of a stream or a future, they hold no end either.
+abbrev pub ReadTypesAreLabelled : Type 0
+ReadTypesAreLabelled =
+    (bytes : List ℕ) (c : Component) (g : Graph)
+    → AreBytes bytes → IsComponent bytes c → IsLinked c g → HasLabelledFuncs g
+
 abbrev pub ReadTypesAreCounted : Type 0
 ReadTypesAreCounted =
     (bytes : List ℕ) (c : Component) (g : Graph)

@@ -1,7 +1,7 @@
 //! What holds of every linked graph, and of the modules that are read.
 
 ghost use Rattle.canonical_machine.specs.Sound.{AreBytes};
-ghost use Rattle.graph_laws.specs.Laws.{LinkedGraphsAreSound, PlansMakeInOrder, LinkedGraphsAreApart, ReadModulesAreTyped, ReadDataAreBytes, ReadModulesAreSound, ReadGraphsAreSound, ReadTypesAreCounted, CountedGraphsArePlain, CallsAreSound, OtherItemsAreFound};
+ghost use Rattle.graph_laws.specs.Laws.{LinkedGraphsAreSound, PlansMakeInOrder, LinkedGraphsAreApart, ReadModulesAreTyped, ReadDataAreBytes, ReadModulesAreSound, ReadGraphsAreSound, ReadTypesAreLabelled, ReadTypesAreCounted, CountedGraphsArePlain, CallsAreSound, OtherItemsAreFound};
 
 use link_spec::laws::graphs_are_sound;
 
@@ -42,6 +42,12 @@ pub fn read_graphs_are_sound()
 /// A file of the program is one of bytes, as the laws of what is read of it ask.
 pub fn files_are_bytes(file: &[u8])
     ensures { AreBytes file.now }
+{}
+
+/// The types of what functions of a component pass that is read of bytes and linked have counted labels, also in what passes in streams
+/// and futures: flags at most 32, and a variant and an enum fewer than 2^32. They hold no handle.
+pub fn read_types_are_labelled()
+    ensures { ReadTypesAreLabelled }
 {}
 
 /// The types of what functions of a component pass that is read of bytes and linked have counted labels, where none of its functions

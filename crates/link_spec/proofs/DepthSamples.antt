@@ -7,6 +7,7 @@ use Rattle.std.proofs.lemmas.Bool.Decides.{nat_tests}
 use Rattle.ca_types.specs.declared.types.ValType.{ValType}
 use Rattle.ca_types.specs.declared.types.ValType.TheVariants as leaves
 use Rattle.ca_types.specs.declared.types.ValType.TheViews as val_type
+use Rattle.ca_types.specs.declared.types.ValType.TheViews.{outs-U32, outs-List}
 use Rattle.laid_types.specs.Depth.{depth}
 use Rattle.comp_tree.specs.declared.types.PrimValType.TheVariants.{U32}
 use Rattle.comp_tree.specs.declared.types.ValTypeRef.TheVariants as type_ref
@@ -47,7 +48,7 @@ abbrev spaces : ℕ → Spaces
 spaces n = record (new_spaces None []) { types = known n }
 
 abbrev so_far : ℕ → Linking
-so_far n = record { scopes = spaces n ∷ []; cores = []; canons = []; plan = Begin 0 ∷ [] }
+so_far n = record { scopes = spaces n ∷ []; cores = []; canons = []; plan = Begin 0 ∷ []; end_types = [] }
 
 pub known_length : (n : ℕ) → length (known n) ≡ suc n
 known_length zero = refl
@@ -97,7 +98,7 @@ made inside n (suc more) at h =
     let within : suc (suc n) ≤ depth_limit = omega (arith, h) in
     let left : suc n + more ≤ 31 = omega (arith, h) in
     let same : suc n + more ≡ n + suc more = omega arith in
-    rw (list_outcome n (meant (Some (Value (nested (suc n))))) (shallow_list n within)) (made inside (suc n) more (at + 1) left ∙ ap (λ (k : ℕ). Ok (so_far k)) same)
+    rw (list_outcome n (meant (Some (Value (nested (suc n))))) (shallow_list n within), outs-List (nested n)) (made inside (suc n) more (at + 1) left ∙ ap (λ (k : ℕ). Ok (so_far k)) same)
 
 abbrev limit_at : ℕ → LinkFault
 limit_at place = record { place = place; why = why.Limit }
@@ -111,11 +112,11 @@ refused inside n (suc more) at h =
     let within : suc (suc n) ≤ depth_limit = omega (arith, h) in
     let left : suc n + more ≡ 31 = omega (arith, h) in
     let same : (at + 1) + more ≡ at + suc more = omega arith in
-    rw (list_outcome n (meant (Some (Value (nested (suc n))))) (shallow_list n within)) (refused inside (suc n) more (at + 1) left ∙ ap (λ (place : ℕ). Err (limit_at place)) same)
+    rw (list_outcome n (meant (Some (Value (nested (suc n))))) (shallow_list n within), outs-List (nested n)) (refused inside (suc n) more (at + 1) left ∙ ap (λ (place : ℕ). Err (limit_at place)) same)
 
 -- The component, which begins with u32.
 first : (inside : Run) (count : ℕ) → run inside root_begun 0 (lists count).items ≡ run inside (so_far 0) 0 (placed_from 1 (lists_of 0 count))
-first inside count = simp (outs-Type, value_rolled, leaf_depth) refl
+first inside count = simp (outs-Type, value_rolled, leaf_depth, outs-U32) refl
 
 pub within : (inside : Run) → answer_of (run inside root_begun 0 (lists 31).items) ≡ begins (0 ∷ [])
 within inside = ap answer_of (first inside 31 ∙ made inside 0 31 1 (omega arith))

@@ -14,7 +14,8 @@ use Rattle.comp_tree.specs.declared.items.Item.{Item, out-Item}
 use Rattle.comp_tree.specs.declared.items.Item.TheOpen.{Item-F}
 use Rattle.comp_tree.specs.declared.items.Component.{Component}
 use Rattle.link_spec.specs.Definitions.{extern_of, Closure, Exports, exports_of}
-use Rattle.link_spec.specs.Spaces.{Spaces, Linking, new_spaces, with_spaces, with_core_instance}
+use Rattle.link_spec.specs.Ends.{noted_type}
+use Rattle.link_spec.specs.Spaces.{Spaces, Linking, new_spaces, with_spaces, with_ends, with_core_instance}
 use Rattle.link_spec.specs.Items.{instance_limit, core_made, core_instance_makes, instance_makes, alias_makes, makes_case}
 use Rattle.link_spec.specs.Linked.{begun, with_instance, leads_by_making, leads_by_instance, no_items, item_links, root_begun}
 use Rattle.link_spec.specs.Laws.{IsFew, FewInstances, GraphsAreFew}
@@ -51,7 +52,7 @@ case_few l n s (Item-F.CoreInstance c) new made h = core_instance_few l n s c ne
 case_few l n s (Item-F.Component c) new made h = few_made l n _ new made h
 case_few l n s (Item-F.Instance i) new made h = instance_few l n s i new made h
 case_few l n s (Item-F.Alias alias) new made h = alias_few l n s alias.sort alias.target new made h
-case_few l n s (Item-F.Type type) new (closed, is, made) h = few_made l n _ new made h
+case_few l n s (Item-F.Type type) new (closed, is, made) h = few_made (with_ends l (noted_type l.end_types closed)) n _ new made h
 case_few l n s (Item-F.Canon (Lift f options t)) new (item, core, type, is, of_item, there, of_type, once, fits, made) h = few_made l n _ new made h
 case_few l n s (Item-F.Canon (Lower f options)) new (func, is, there, once, fits, made) h = subst IsFew (sym made) (few_with l n _ h)
 case_few l n s (Item-F.Canon (Builtin b)) new (kind, there, is, serves, made) h = subst IsFew (sym made) (few_with l n _ h)

@@ -14,7 +14,8 @@ use Rattle.comp_tree.specs.declared.items.Item.{Item, out-Item}
 use Rattle.comp_tree.specs.declared.items.Item.TheOpen.{Item-F}
 use Rattle.comp_tree.specs.declared.items.Component.{Component}
 use Rattle.link_spec.specs.Definitions.{Closure, Exports, exports_of}
-use Rattle.link_spec.specs.Spaces.{Spaces, Linking, new_spaces, with_spaces, with_core_instance}
+use Rattle.link_spec.specs.Ends.{noted_type}
+use Rattle.link_spec.specs.Spaces.{Spaces, Linking, new_spaces, with_spaces, with_ends, with_core_instance}
 use Rattle.link_spec.specs.Items.{core_instance_makes, instance_makes, alias_makes, makes_case, item_makes}
 use Rattle.link_spec.specs.Linked.{begun, with_instance, Links, leads_by_making, leads_by_instance, no_items, item_links}
 
@@ -41,7 +42,7 @@ case_length l n s (Item-F.CoreInstance c) new made = core_instance_length l n s 
 case_length l n s (Item-F.Component c) new made = made_length l n _ new made
 case_length l n s (Item-F.Instance i) new made = instance_length l n s i new made
 case_length l n s (Item-F.Alias alias) new made = alias_length l n s alias.sort alias.target new made
-case_length l n s (Item-F.Type type) new (closed, is, made) = made_length l n _ new made
+case_length l n s (Item-F.Type type) new (closed, is, made) = made_length (with_ends l (noted_type l.end_types closed)) n _ new made
 case_length l n s (Item-F.Canon (Lift f options t)) new (item, core, type, is, of_item, there, of_type, once, fits, made) = made_length l n _ new made
 case_length l n s (Item-F.Canon (Lower f options)) new (func, is, there, once, fits, made) = ap (λ (l : Linking). length l.scopes) made ∙ length-set l.scopes n _
 case_length l n s (Item-F.Canon (Builtin b)) new (kind, there, is, serves, made) = ap (λ (l : Linking). length l.scopes) made ∙ length-set l.scopes n _

@@ -8,20 +8,23 @@ use Rattle.ca_types.specs.declared.types.FuncType.{FuncType}
 use Rattle.ca_types.specs.declared.types.ValType.{ValType}
 use Rattle.wasm_module.specs.declared.types.Limits.{Limits}
 use Rattle.wasm_module.specs.declared.types.FuncType as core
+use Rattle.builtin_kinds.specs.declared.EndKind.{EndKind}
 use Rattle.comp_graph.specs.declared.graph.FuncRef.{FuncRef}
 use Rattle.comp_graph.specs.declared.graph.CanonFunc.{CanonFunc}
 use Rattle.comp_graph.specs.CoreItems.{CoreItem, Func, Table, Memory, Global, core_func_of, core_memory_of}
-use Rattle.comp_graph.specs.Graph.{CoreMake, core_type, IsIn, IsItem, IsMemoryThere, IsLiftThere, AreOptionsThere, IsBuiltinThere, IsCanonThere}
+use Rattle.comp_graph.specs.Graph.{CoreMake, core_type, IsIn, IsItem, IsMemoryThere, IsLiftThere, AreOptionsThere, IsBuiltinThere, IsCanonThere, lowers_list}
 use Rattle.comp_graph.specs.Needs.{lift_type, realloc_type, callback_type, post_return_type, lower_needs_memory, lower_needs_realloc, task_return_needs_memory}
 use Rattle.comp_graph.specs.declared.graph.BuiltinKind.{BuiltinKind}
 use Rattle.comp_graph.specs.declared.graph.BuiltinKind.TheVariants as builtin
 use Rattle.comp_tree.specs.declared.builtins.CanonBuiltin.{CanonBuiltin}
 use Rattle.comp_tree.specs.declared.builtins.CanonBuiltin.TheVariants as read_builtin
+use Rattle.comp_tree.specs.declared.builtins.CanonEndOp.{CanonEndOp}
+use Rattle.comp_tree.specs.declared.builtins.CanonEndOp.TheVariants as read_op
 use Rattle.comp_tree.specs.declared.items.CanonOption.{CanonOption}
 use Rattle.link_spec.specs.Definitions.{Lifted}
 use Rattle.link_spec.specs.Canons.{Given, given_by, options_of, IsOfCoreType, CanBeLifted, CanBeUsed, CanBeLowered, stand_once, can_be_used}
 use Rattle.link_spec.specs.ValueTypes.{close_held}
-use Rattle.link_spec.specs.Builtins.{return_meaning, builtin_meaning}
+use Rattle.link_spec.specs.Builtins.{return_meaning, elements_at, end_meaning, builtin_meaning}
 use Rattle.link_spec.specs.Items.{lifted_with, lowered_with}
 use Rattle.link_spec.specs.Spaces.{Spaces}
 use Rattle.link_spec.proofs.Holding.{all_at, holds_at, if_weaker, if_mapped, if_then, if_both}
@@ -129,6 +132,20 @@ return_there cores canons n (Some type) options given k serves =
       memory_given = λ needs. memory_given cores canons given.memory k.memory (fits.memory_given needs);
     }
 
+end_there : (cores : List CoreMake) (canons : List CanonFunc) (n : ℕ) (kind : EndKind) (elements : Option (Option ValType)) (given : List CanonOption → Given) (op : CanonEndOp) → ((options : List CanonOption) → IsGiven cores canons (given options))
+    → (end_meaning true kind elements given op).serves ≡ true → IfSome (end_meaning true kind elements given op).means (IsBuiltinThere cores canons [] n)
+end_there cores canons n kind None given op k serves = tt
+end_there cores canons n kind (Some element) given read_op.New k serves = tt
+end_there cores canons n kind (Some element) given (read_op.Copy side options) k serves =
+    let fits = (used_told (is_some element) (lowers_list side element) (given options)).0 (both (can_be_used (is_some element) (lowers_list side element) (given options)) (stand_once options) serves).0 in
+    record {
+      options = used_there cores canons (is_some element) (lowers_list side element) (given options) (k options) fits;
+      memory_given = λ needs. memory_given cores canons (given options).memory (k options).memory (fits.memory_given needs);
+      realloc_given = λ needs. func_given realloc_type (given options).realloc fits.realloc (fits.realloc_given needs);
+    }
+end_there cores canons n kind (Some element) given (read_op.Cancel side is_async) k serves = tt
+end_there cores canons n kind (Some element) given (read_op.Drop side) k serves = tt
+
 builtin_is : (cores : List CoreMake) (canons : List CanonFunc) (n : ℕ) (s : Spaces) (b : CanonBuiltin) → AllByRecursion (IsMemoryItem cores canons) s.core_memories → ((options : List CanonOption) → IsGiven cores canons (given_by s options))
     → (builtin_meaning s b).serves ≡ true → IfSome (builtin_meaning s b).means (IsBuiltinThere cores canons [] n)
 builtin_is cores canons n s (read_builtin.Plain b) h g serves = tt
@@ -138,7 +155,8 @@ builtin_is cores canons n s (read_builtin.Wait op cancellable memory) h g serves
     (given_memory cores canons (slice_get s.core_memories memory) (all_at (IsMemoryItem cores canons) s.core_memories memory h))
 builtin_is cores canons n s (read_builtin.TaskReturn result options) h g serves =
     return_there cores canons n (close_held (map Some s.types) result) options (given_by s options) (g options) serves
-builtin_is cores canons n s other h g serves = tt
+builtin_is cores canons n s (read_builtin.End kind end_type op) h g serves = end_there cores canons n kind (elements_at s kind end_type) (given_by s) op g serves
+builtin_is cores canons n s (read_builtin.Resource op resource) h g serves = tt
 
 pub builtin_there : (cores : List CoreMake) (canons : List CanonFunc) (n : ℕ) (s : Spaces) (b : CanonBuiltin) (kind : BuiltinKind) → AllByRecursion (IsMemoryItem cores canons) s.core_memories
     → ((options : List CanonOption) → IsGiven cores canons (given_by s options)) → (builtin_meaning s b).means ≡ Some kind → (builtin_meaning s b).serves ≡ true → IsBuiltinThere cores canons [] n kind

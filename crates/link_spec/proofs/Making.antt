@@ -24,12 +24,12 @@ use Rattle.comp_tree.specs.declared.items.Item.{Item, out-Item}
 use Rattle.comp_tree.specs.declared.items.Item.TheOpen.{Item-F}
 use Rattle.comp_tree.specs.declared.items.Component.{Component}
 use Rattle.comp_graph.specs.Closed.{Extern, OfFunc, OfType, OfInstance}
-use Rattle.link_spec.specs.Definitions.{CoreItem, CoreExport, Definition, AFunc, AType, AnInstance, Exports, EmptyInstance, WithExport, seen_as}
+use Rattle.link_spec.specs.Definitions.{CoreItem, CoreExport, Definition, AFunc, AnInstance, Exports, EmptyInstance, WithExport, seen_as}
 use Rattle.link_spec.specs.Canons.{given_by}
 use Rattle.link_spec.specs.Builtins.{BuiltinMeaning, builtin_meaning}
 use Rattle.link_spec.specs.Types.{Meaning}
 use Rattle.link_spec.specs.Spaces.{Spaces, Linking, definition_at, with_spaces, with_core_item, with_core_instance, with_definition}
-use Rattle.link_spec.specs.Items.{FindsItem, IsInline, core_made, core_instance_makes, AreNamed, instance_makes, alias_makes, lifted_with, lift_makes, lower_made, lower_makes, builtin_made, builtin_makes, IsImported, with_import, import_makes, said, IsExported, with_export, export_makes, makes_case}
+use Rattle.link_spec.specs.Items.{FindsItem, IsInline, core_made, core_instance_makes, AreNamed, instance_makes, alias_makes, type_made, lifted_with, lift_makes, lower_made, lower_makes, builtin_made, builtin_makes, IsImported, with_import, import_makes, said, IsExported, with_export, export_makes, makes_case}
 use Rattle.link_spec.specs.Laws.{MakesOnce, BeginsOnce}
 use Rattle.link_spec.proofs.Lists.{same_zip}
 
@@ -139,7 +139,7 @@ case_once l n s (Item-F.Component c) a b h k = h ∙ sym k
 case_once l n s (Item-F.Instance i) a b h k = instance_once l n s i a b h k
 case_once l n s (Item-F.Alias alias) a b h k = alias_once l n s alias.sort alias.target a b h k
 case_once l n s (Item-F.Type type) a b (closed, is, made) (closed', is', made') =
-    both_made (λ closed. with_spaces l n (with_definition s (AType closed))) closed closed' a b (one_value _ closed closed' is.0 is'.0) made made'
+    both_made (type_made l n s) closed closed' a b (one_value _ closed closed' is.0 is'.0) made made'
 case_once l n s (Item-F.Canon (Lift f options t)) a b h k = lift_once l n s f options t a b h k
 case_once l n s (Item-F.Canon (Lower f options)) a b h k = lower_once l n s f options a b h k
 case_once l n s (Item-F.Canon (Builtin built)) a b h k = builtin_once l n s (builtin_meaning s built) a b h k

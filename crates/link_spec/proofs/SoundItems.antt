@@ -10,6 +10,7 @@ use Rattle.wasm_module.specs.declared.module.ExportDesc.{ExportDesc}
 use Rattle.wasm_module.specs.declared.module.ExportDesc.TheVariants as offered
 use Rattle.wasm_module.specs.declared.module.Import.{Import}
 use Rattle.wasm_module.specs.declared.module.ModuleTree.{ModuleTree}
+use Rattle.ca_types.specs.declared.types.ValType.{ValType}
 use Rattle.wasm_module.specs.Spaces.{type_of_func, global_space}
 use Rattle.comp_graph.specs.CoreItems.{table_space, memory_space}
 use Rattle.comp_graph.specs.declared.graph.FuncRef.TheVariants as func_ref
@@ -35,7 +36,8 @@ use Rattle.comp_tree.specs.declared.items.Item.TheOpen.{Item-F}
 use Rattle.comp_tree.specs.declared.items.Component.{Component}
 use Rattle.comp_graph.specs.Closed.{Extern, OfFunc, OfType, OfInstance, func_of}
 use Rattle.link_spec.specs.Definitions.{CoreItem, Func, Table, Memory, Global, extern_of, item_of, CoreFits, CoreExport, core_named, listed, exports_of, Definition, AFunc, AType, AComponent, AnInstance, AModule, Exports, WithExport, export_named}
-use Rattle.link_spec.specs.Spaces.{CoreMake, Spaces, Linking, Level, level_of, listed_level, levels_at, core_item_at, definition_at, with_core_item, with_core_instance, with_definition, with_spaces, outer_definition, outer_at}
+use Rattle.link_spec.specs.Spaces.{CoreMake, Spaces, Linking, Level, level_of, listed_level, levels_at, core_item_at, definition_at, with_core_item, with_core_instance, with_definition, with_spaces, with_ends, outer_definition, outer_at}
+use Rattle.link_spec.specs.Ends.{noted_type}
 use Rattle.link_spec.specs.Canons.{memory_index, realloc_index, post_return_index, callback_index, first_index, given_by}
 use Rattle.link_spec.specs.Builtins.{builtin_meaning}
 use Rattle.link_spec.specs.Types.{meaning_of}
@@ -91,6 +93,12 @@ pub record IsReached (R : ModuleTree → Type 0) (l new : Linking) : Type 0 wher
 module _ (R : ModuleTree → Type 0) where
   pub with_spaces_sound : (l : Linking) (n : ℕ) (s : Spaces) → IsLinkingSound R l → AreSpacesSound R l.cores l.canons s → IsLinkingSound R (with_spaces l n s)
   with_spaces_sound l n s h k = record { scopes = all_set (AreSpacesSound R l.cores l.canons) l.scopes n s h.scopes k; imported = h.imported; made = h.made; called = h.called; modules_have = h.modules_have }
+
+  ends_sound : (l : Linking) (types : List ValType) → IsLinkingSound R l → IsLinkingSound R (with_ends l types)
+  ends_sound l types h = record { scopes = h.scopes; imported = h.imported; made = h.made; called = h.called; modules_have = h.modules_have }
+
+  ends_reached : (l : Linking) (types : List ValType) (new : Linking) → IsReached R (with_ends l types) new → IsReached R l new
+  ends_reached l types new r = record { sound = r.sound; more = r.more; longer = r.longer; others = r.others; wider = r.wider }
 
   made_reached : (l : Linking) (n : ℕ) (s : Spaces) (new : Linking) → new ≡ with_spaces l n s → IsLinkingSound R l → AreSpacesSound R l.cores l.canons s → IsReached R l new
   made_reached l n s new e h k = subst (IsReached R l) (sym e) (record { sound = with_spaces_sound l n s h k; more = []; longer = sym (append-nil l.cores); others = []; wider = sym (append-nil l.canons) })
@@ -274,8 +282,10 @@ module _ (R : ModuleTree → Type 0) where
   case_reached l n s (Item-F.Instance i) new has h k makes = instance_reached l n s i new h k makes
   case_reached l n s (Item-F.Alias alias) new has h k makes = alias_reached l n s alias.sort alias.target new h k makes
   case_reached l n s (Item-F.Type type) new has h k (closed, means, made) =
-      defined_reached l n s (AType closed) new h k made
-      (holds_at IsApart (meaning_of type (levels_at l (n ∷ s.around))).means closed (meaning_apart type (levels_at l (n ∷ s.around)) (levels_apart l (n ∷ s.around) h)) means.0)
+      let types = noted_type l.end_types closed in
+      ends_reached l types new
+      (defined_reached (with_ends l types) n s (AType closed) new (ends_sound l types h) k made
+      (holds_at IsApart (meaning_of type (levels_at l (n ∷ s.around))).means closed (meaning_apart type (levels_at l (n ∷ s.around)) (levels_apart l (n ∷ s.around) h)) means.0))
   case_reached l n s (Item-F.Canon (Lift f options t)) new has h k makes = lift_reached l n s f options t new h k makes
   case_reached l n s (Item-F.Canon (Lower f options)) new has h k makes = lower_reached l n s f options new h k makes
   case_reached l n s (Item-F.Canon (Builtin b)) new has h k makes = builtin_reached l n s b new h k makes

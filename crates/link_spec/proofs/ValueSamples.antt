@@ -3,7 +3,7 @@ use Rattle.std.proofs.Common.{◌≡◌, ◌∙◌, ℕ, suc, List, [], ◌∷�
 use Rattle.std.specs.Prelude.{codes}
 use Rattle.ca_types.specs.declared.types.ValType.{ValType}
 use Rattle.ca_types.specs.declared.types.ValType.TheViews as val_type
-use Rattle.ca_types.specs.declared.types.ValType.TheViews.{rolls-List, rolls-Record}
+use Rattle.ca_types.specs.declared.types.ValType.TheViews.{outs-U32, outs-List, outs-Record, rolls-List, rolls-Record}
 use Rattle.ca_types.specs.declared.types.ValType.TheOpen as F
 use Rattle.ca_types.specs.declared.types.ValType.TheFolds.{fold-roll-ValType}
 use Rattle.ca_types.specs.declared.types.Field.{Field}
@@ -28,7 +28,7 @@ record_depth fields =
     ∙ fold-roll-ValType ℕ ℕ ℕ depth_step depth_case depth_field (F.Record fields)
     ∙ ap (λ ds. suc (greatest ds)) (map_alike _ _ (fold_field ℕ ℕ ℕ depth_step depth_case depth_field) fields)
 
-ruleset layers = (outs-Type, value_rolled, leaf_depth, list_depth, record_depth)
+ruleset layers = (outs-Type, value_rolled, leaf_depth, list_depth, record_depth, outs-U32, outs-List, outs-Record)
 
 pub empty : (inside : Run) → answer_of (run inside root_begun 0 (root (record_of [] 0 ∷ [])).items) ≡ fault 0 why.Typing
 empty inside = simp layers refl

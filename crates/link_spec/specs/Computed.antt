@@ -31,12 +31,12 @@ use Rattle.link_spec.specs.declared.fault.LinkWhy.{LinkWhy}
 use Rattle.link_spec.specs.declared.fault.LinkWhy.TheVariants as why
 use Rattle.link_spec.specs.declared.fault.LinkFault.{LinkFault}
 use Rattle.comp_graph.specs.Closed.{Closed, Extern, OfInstance, func_of}
-use Rattle.link_spec.specs.Definitions.{CoreItem, CoreExport, core_named, Lifted, Closure, Definition, AFunc, AType, AComponent, AnInstance, AModule, Exports, EmptyInstance, WithExport, export_names, export_named, lacks, seen_as, types_of}
+use Rattle.link_spec.specs.Definitions.{CoreItem, CoreExport, core_named, Lifted, Closure, Definition, AFunc, AComponent, AnInstance, AModule, Exports, EmptyInstance, WithExport, export_names, export_named, lacks, seen_as, types_of}
 use Rattle.link_spec.specs.Canons.{Given, given_by, stand_once, is_option_there, can_be_lifted, can_be_lowered}
 use Rattle.link_spec.specs.Builtins.{BuiltinMeaning, builtin_meaning}
 use Rattle.link_spec.specs.Types.{Meaning, meaning_of}
 use Rattle.link_spec.specs.Spaces.{Spaces, Linking, core_size, size_of, core_item_at, definition_at, with_core_item, with_core_instance, with_definition, with_spaces, levels_at, outer_at}
-use Rattle.link_spec.specs.Items.{instance_limit, argument_named, core_made, lifted_with, lower_made, builtin_made, wanted, lacking, with_import, said, with_export}
+use Rattle.link_spec.specs.Items.{instance_limit, argument_named, core_made, type_made, lifted_with, lower_made, builtin_made, wanted, lacking, with_import, said, with_export}
 use Rattle.link_spec.specs.Linked.{begun, with_instance, root_begun, graph_of}
 use Rattle.link_spec.specs.Tests.{are_distinct, all_fit, is_core_of, is_of_sort, fits, root_may_import}
 
@@ -156,7 +156,7 @@ type_outcome l n s meaning =
     none_missing meaning.missing (
     after (there_or why.Typing meaning.means) (λ closed.
     only_if (not meaning.deep) why.Limit (
-    Ok (one_more l n s (AType closed))))))
+    Ok (Makes (type_made l n s closed))))))
 
 -- Lifts.
 

@@ -3,7 +3,7 @@
 -- and "Import and Export Definitions"; CanonicalABI.md, `canon lift` and `canon lower`). At one item the reasons come in the order in which
 -- `LinkWhy` has them. The instantiation of a component makes more than one item can say; its own reasons are here, and what its
 -- component's items make stands in `Linked`.
-use Rattle.std.specs.Prelude.{◌≡◌, ◌<◌, ◌≤◌, ◌⊎◌, ℕ, Bool, true, false, cond, List, [], ◌∷◌, ◌++◌, length, map, set, Option, Some, None}
+use Rattle.std.specs.Prelude.{◌≡◌, ◌<◌, ◌≤◌, ◌⊎◌, ℕ, true, false, cond, List, [], ◌∷◌, ◌++◌, length, map, set, Option, Some, None}
 use Rattle.std.specs.Option.{option_map, option_and_then, MatchOption}
 use Rattle.std.specs.List.{slice_get, AllByRecursion, AllZip}
 use Rattle.std.specs.Str.{bytes_eq}
@@ -44,8 +44,9 @@ use Rattle.link_spec.specs.Definitions.{CoreItem, Func, extern_of, CoreExport, c
 pub use Rattle.comp_graph.specs.Graph.{instance_limit}
 use Rattle.link_spec.specs.Canons.{IsOptionThere, StandOnce, Given, given_by, options_of, CanBeLifted, CanBeLowered}
 use Rattle.link_spec.specs.Builtins.{BuiltinMeaning, builtin_meaning}
+use Rattle.link_spec.specs.Ends.{noted_type, noted_canon}
 use Rattle.link_spec.specs.Types.{Meaning, meaning_of, desc_meaning}
-use Rattle.link_spec.specs.Spaces.{Spaces, Make, Linking, core_size, size_of, core_item_at, definition_at, IsOfCoreSort, IsOfSort, with_core_item, with_core_instance, with_definition, with_spaces, levels_at, outer_at}
+use Rattle.link_spec.specs.Spaces.{Spaces, Make, Linking, core_size, size_of, core_item_at, definition_at, IsOfCoreSort, IsOfSort, with_core_item, with_core_instance, with_definition, with_spaces, with_ends, levels_at, outer_at}
 
 -- an item for which something holds
 abbrev pub AnyByRecursion : {A : Type 0} → (A → Type 0) → List A → Type 0
@@ -119,6 +120,7 @@ core_made l n s m imports = record {
   cores = l.cores ++ record { of_module = m; imports = map extern_of imports; owner = n } ∷ [];
   canons = l.canons;
   plan = l.plan ++ Make (length l.cores) ∷ [];
+  end_types = l.end_types;
 }
 
 abbrev pub core_instance_makes : Linking → ℕ → Spaces → CoreInstance → Linking → Type 0
@@ -205,9 +207,12 @@ type_has meaning why = ⊥
 abbrev pub StandsFor : Meaning Closed → Closed → Type 0
 StandsFor meaning closed = (meaning.means ≡ Some closed) × (meaning.deep ≡ false)
 
+-- one type more, which is noted where it is one of streams or futures
+abbrev pub type_made : Linking → ℕ → Spaces → Closed → Linking
+type_made l n s closed = with_spaces (with_ends l (noted_type l.end_types closed)) n (with_definition s (AType closed))
+
 abbrev pub type_makes : Linking → ℕ → Spaces → Meaning Closed → Linking → Type 0
-type_makes l n s meaning new =
-    (closed : Closed) × StandsFor meaning closed × (new ≡ with_spaces l n (with_definition s (AType closed)))
+type_makes l n s meaning new = (closed : Closed) × StandsFor meaning closed × (new ≡ type_made l n s closed)
 
 -- Lifts: an index that is not there, also of an option; a type that is none of functions; an option twice, or a core item that cannot
 -- be lifted with the options.
@@ -233,13 +238,14 @@ lift_makes l n s f options t new =
     × StandOnce options × CanBeLifted type item (given_by s options)
     × (new ≡ with_spaces l n (with_definition s (AFunc (lifted_with n type core (given_by s options)))))
 
--- One core function more, which the Canonical ABI makes.
+-- One core function more, which the Canonical ABI makes, and whose type is noted where it is a built-in of ends.
 abbrev pub with_canon : Linking → ℕ → Spaces → CanonFunc → Linking
 with_canon l n s f = record {
   scopes = set l.scopes n (with_core_item s (Func (func_ref.Canon (length l.canons)) (canon_type f)));
   cores = l.cores;
   canons = l.canons ++ f ∷ [];
   plan = l.plan;
+  end_types = noted_canon l.end_types f;
 }
 
 -- Lowers: an index that is not there, also of an option; an option twice, or a function that cannot be lowered with the options.

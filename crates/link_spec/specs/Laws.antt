@@ -128,12 +128,9 @@ HasSoundType (canon_func.Builtin b) = Unit {0}
 abbrev pub LoweredTypesAreSound : Type 0
 LoweredTypesAreSound = (c : Component) (g : Graph) → IsLinked c g → AllByRecursion HasSoundType g.canons
 
--- No resources of a graph are defined, and no built-in names a type of streams or futures.
+-- No resources of a graph are defined.
 abbrev pub GraphsHaveNoResources : Type 0
 GraphsHaveNoResources = (c : Component) (g : Graph) → IsLinked c g → g.resources ≡ []
-
-abbrev pub GraphsHaveNoEnds : Type 0
-GraphsHaveNoEnds = (c : Component) (g : Graph) → IsLinked c g → g.end_types ≡ []
 
 -- The names of the root's exports are distinct. The functions that can be called are those among them, and those of instances
 -- among them under `name#function`: where no name of the root has a `#`, no two of them have one name. Else they may: the root

@@ -3,6 +3,7 @@ pub mod Canons
 pub mod Computed
 pub mod Definitions
 pub mod Distinct
+pub mod Ends
 pub mod Examples
 pub mod Items
 pub mod Laws

@@ -51,6 +51,7 @@ begun l c arguments = record {
   cores = l.cores;
   canons = l.canons;
   plan = l.plan ++ Begin (length l.scopes) ∷ [];
+  end_types = l.end_types;
 }
 
 -- the exports of a component instance
@@ -97,7 +98,7 @@ pub data IsRefusedAt : Linking → ℕ → List (Placed Item) → LinkFault → 
 
 -- the root begins
 abbrev pub root_begun : Linking
-root_begun = record { scopes = new_spaces None [] ∷ []; cores = []; canons = []; plan = Begin 0 ∷ [] }
+root_begun = record { scopes = new_spaces None [] ∷ []; cores = []; canons = []; plan = Begin 0 ∷ []; end_types = [] }
 
 -- A function that can be called from outside, under its written name.
 pub record Callable : Type 0 where
@@ -126,8 +127,8 @@ abbrev pub callables : Exports → List Callable
 callables EmptyInstance = []
 callables (WithExport others name d) = callables others ++ called (name, d)
 
--- What a component is linked to: what is made, in file order, and the functions that can be called. No resources are defined, and no
--- built-in that is linked names a type of streams or futures.
+-- What a component is linked to: what is made, in file order, the functions that can be called, and the types of streams and futures that
+-- components define and built-ins name. No resources are defined.
 abbrev pub export_of : Callable → Export
 export_of c = record { name = c.name; func_type = c.func.func_type }
 
@@ -143,7 +144,7 @@ graph_of l = record {
   resources = [];
   exports = map export_of (callables (exports_at l 0));
   lifts = map lift_of (callables (exports_at l 0));
-  end_types = [];
+  end_types = l.end_types;
 }
 
 -- the component is linked to the graph; it is refused at this place, for this reason

@@ -5,6 +5,7 @@
 use Rattle.std.specs.Prelude.{ℕ, List, [], ◌∷◌, ◌++◌, length, map, set, Option, Some, None}
 use Rattle.std.specs.Option.{option_map, option_and_then}
 use Rattle.std.specs.List.{slice_get, flat_map}
+use Rattle.ca_types.specs.declared.types.ValType.{ValType}
 use Rattle.wasm_module.specs.declared.module.ModuleTree.{ModuleTree}
 use Rattle.comp_tree.specs.declared.core_instances.CoreSort.{CoreSort}
 use Rattle.comp_tree.specs.declared.core_instances.CoreSort.TheVariants as core_sort
@@ -56,13 +57,14 @@ new_spaces arguments around = record {
   around = around;
 }
 
--- the component instances, the core instances and the core functions of the Canonical ABI so far, by their numbers, and what was
--- made so far
+-- the component instances, the core instances and the core functions of the Canonical ABI so far, by their numbers, what was made
+-- so far, and the types of streams and futures so far
 pub record Linking : Type 0 where
   pub scopes : List Spaces
   pub cores : List CoreMake
   pub canons : List CanonFunc
   pub plan : List Action
+  pub end_types : List ValType
 
 -- how many definitions a space has
 abbrev pub core_size : Spaces → CoreSort → ℕ
@@ -137,6 +139,10 @@ with_definition s (AnInstance exports) = record s { instances = s.instances ++ e
 -- the linking with these spaces of a component instance
 abbrev pub with_spaces : Linking → ℕ → Spaces → Linking
 with_spaces l n s = record l { scopes = set l.scopes n s }
+
+-- the linking with these types of streams and futures
+abbrev pub with_ends : Linking → List ValType → Linking
+with_ends l types = record l { end_types = types }
 
 -- What an outer alias sees of a level: its types, each with its meaning, and its components. A type without a meaning stands in an
 -- instance type that is refused, and there `bool` may stand in the place of one that is too deep.

@@ -17,15 +17,15 @@ pub enum LinkWhy {
     #[error("nothing has the name `{}`", .0.as_str())]
     Missing(Name),
     /// A name or a label stands twice where it may not, or what is there is of another sort or type than what is asked for; a
-    /// record, variant, tuple, enum or flags type is empty, or flags have more than 32 labels (Component Model, Explainer.md,
-    /// "Type Definitions").
+    /// record, variant, tuple, enum or flags type is empty, or flags have more than 32 labels; the type of a built-in of streams or of
+    /// futures is none of these, or the built-in is one of resources (Component Model, Explainer.md, "Type Definitions").
     #[error("a name stands twice, or a type is not what it may be")]
     Typing,
     /// An option of a lift or of a lower stands twice; a core function that it uses is of another type than it needs; a lift has a
     /// `post-return` with `async`, or a `callback` without; a lower has a `post-return` or a `callback`; something passes in memory,
     /// or asks for a place there, and no memory is given, or no function that gives places; a built-in names a word that a task does
-    /// not have; or it is one of resources, of streams, of futures or of results (Component Model, CanonicalABI.md, "Canonical ABI
-    /// Options", "Flattening", `canon lift`, `canon lower` and the built-ins).
+    /// not have, or has options that do not serve it (Component Model, CanonicalABI.md, "Canonical ABI Options", "Flattening",
+    /// `canon lift`, `canon lower` and the built-ins).
     #[error("a canonical function cannot be made of what it is given")]
     Canon,
     /// There are more than 256 component instances, more than 256 core instances, or more than 32 value types in one another; or the

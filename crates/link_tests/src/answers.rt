@@ -5,12 +5,12 @@
 
 ghost use Rattle.std.specs.Prelude.{◌<◌, length};
 
-use builtin_kinds::{ContextOp, PlainBuiltin, WaitOp};
+use builtin_kinds::{ContextOp, EndKind, EndSide, PlainBuiltin, WaitOp};
 use ca_base::{MemoryOr, ReadError, Refusal};
 use ca_types::ValType;
 use comp_graph::{
-    Action, Builtin, BuiltinKind, CanonFunc, CoreExtern, CoreMake, CoreRef, FuncRef, Graph, Lift,
-    Lower, Options,
+    Action, Builtin, BuiltinKind, CanonFunc, CoreExtern, CoreMake, CoreRef, EndOp, FuncRef, Graph,
+    Lift, Lower, Options,
 };
 use comp_link::{LinkFault, LinkWhy, link};
 use comp_reader::{Component, ComponentWhy, read_component};
@@ -201,6 +201,84 @@ fn write_type(alloc: Global, text: &mut String, val_type: Option<&ValType>) -> R
     Ok(())
 }
 
+/// The word of what ends belong to.
+fn kind_word(kind: EndKind) -> &'static str {
+    match kind {
+        EndKind::Stream => "stream",
+        EndKind::Future => "future",
+    }
+}
+
+/// The word of what is done with an end.
+fn op_word(op: &EndOp) -> &'static str {
+    match op {
+        EndOp::New => "new",
+        EndOp::Copy {
+            side: EndSide::Readable,
+            ..
+        } => "read",
+        EndOp::Copy {
+            side: EndSide::Writable,
+            ..
+        } => "write",
+        EndOp::Cancel {
+            side: EndSide::Readable,
+            ..
+        } => "cancel-read",
+        EndOp::Cancel {
+            side: EndSide::Writable,
+            ..
+        } => "cancel-write",
+        EndOp::Drop {
+            side: EndSide::Readable,
+        } => "drop-readable",
+        EndOp::Drop {
+            side: EndSide::Writable,
+        } => "drop-writable",
+    }
+}
+
+/// Writes what is done with an end uses.
+fn write_op(text: &mut String, op: &EndOp) -> Result<(), AllocError> {
+    match op {
+        EndOp::Copy { side: _, options } => write_options(text, *options.get()),
+        EndOp::Cancel { side: _, is_async } => write_flag(text, "async", *is_async),
+        EndOp::New | EndOp::Drop { side: _ } => Ok(()),
+    }
+}
+
+/// Writes the type of ends in which values of this type pass, if anything does.
+fn write_ends(
+    alloc: Global,
+    text: &mut String,
+    word: &str,
+    passed: Option<&ValType>,
+) -> Result<(), Fail> {
+    text.push_str(word)?;
+    if let Some(val_type) = passed {
+        text.push('<')?;
+        text.push_str(type_told(alloc, val_type)?.as_str())?;
+        text.push('>')?;
+    }
+    Ok(())
+}
+
+/// Writes what a built-in of ends is.
+fn write_end(
+    alloc: Global,
+    text: &mut String,
+    kind: EndKind,
+    op: &EndOp,
+    passed: Option<&ValType>,
+) -> Result<(), Fail> {
+    let word = kind_word(kind);
+    let done = op_word(op);
+    write!(text, "{word}.{done} ")?;
+    write_ends(alloc, text, word, passed)?;
+    write_op(text, op)?;
+    Ok(())
+}
+
 /// Writes what a built-in is that passes values of this type.
 fn write_kind(
     alloc: Global,
@@ -221,7 +299,12 @@ fn write_kind(
             write_type(alloc, text, passed)?;
             write_options(text, *options.get())?
         }
-        _ => text.push_str("of a type")?,
+        BuiltinKind::End {
+            kind,
+            element: _,
+            op,
+        } => write_end(alloc, text, *kind, op, passed)?,
+        BuiltinKind::Resource { .. } => text.push_str("of a resource")?,
     }
     Ok(())
 }
@@ -327,7 +410,10 @@ fn fault_text(alloc: Global, fault: LinkFault) -> Result<String, AllocError> {
 }
 
 /// The graph of a component, or its fault.
-fn graph_of(alloc: Global, component: &Component) -> Result<Graph<'_>, MemoryOr<LinkFault>> {
+pub(crate) fn graph_of(
+    alloc: Global,
+    component: &Component,
+) -> Result<Graph<'_>, MemoryOr<LinkFault>> {
     link(alloc, component)
 }
 
@@ -346,7 +432,10 @@ fn told(alloc: Global, component: Component) -> Result<String, Fail> {
 }
 
 /// The component of bytes, or its refusal.
-fn component_of(alloc: Global, bytes: &[u8]) -> Result<Component, ReadError<ComponentWhy>> {
+pub(crate) fn component_of(
+    alloc: Global,
+    bytes: &[u8],
+) -> Result<Component, ReadError<ComponentWhy>> {
     read_component(alloc, bytes)
 }
 

@@ -34,7 +34,9 @@
 //! - `builtin`: built-ins, their core types, and what uses the core functions
 //! - `returns`: built-ins that return a result
 //! - `streams`: types of streams and futures, and functions over them
+//! - `ends`: built-ins of the ends of streams and futures
 //! - `unlinked`: what is read and not linked yet
+//! - `noted`: the types of streams and futures that graphs tell, each in a line
 //!
 //! Answers tell a definition of a core instance as `INSTANCE.INDEX`, and a core function that the Canonical ABI makes as `canon N`,
 //! where N is its number in the order of linking, from 0 on. Behind the lines of core instances there is a line for each of these.
@@ -42,15 +44,17 @@
 //! uses, told as behind an export, and what the function lifts, told as an export tells it behind its name. For a built-in it is
 //! `builtin INSTANCE NAME`, with what the built-in names behind it.
 //!
-//! The module `components` has the bytes of cases, and `answers` the answers as text.
+//! The module `components` has the bytes of cases, `answers` the answers as text, and `noted` those of the table of that name.
 #![tactic(auto)]
 
 mod answers;
 mod components;
+mod noted;
 
 use answers::answer_of;
 use cases::{Answers, Tables, paragraphs_told, run_tables};
 use components::bytes_of_lines;
+use noted::noted_of;
 use std::alloc::Global;
 use std::test::Fail;
 
@@ -65,12 +69,26 @@ impl Answers for Linked {
     }
 }
 
-/// The tables, which are of one kind.
+/// Components that are linked, of which the types of streams and futures are told.
+struct EndsNoted;
+
+impl Answers for EndsNoted {
+    fn answer(alloc: Global, given: &str) -> Result<String, Fail> {
+        let (_title, lines) = given.split_once('\n').ok_or("no bytes")?;
+        let bytes = bytes_of_lines(alloc, lines)?;
+        noted_of(alloc, &bytes)
+    }
+}
+
+/// The tables, which are of two kinds.
 struct LinkTables;
 
 impl Tables for LinkTables {
-    fn told(alloc: Global, _kind: &str, text: &str) -> Result<String, Fail> {
-        paragraphs_told::<Linked>(alloc, text)
+    fn told(alloc: Global, kind: &str, text: &str) -> Result<String, Fail> {
+        match kind {
+            "noted" => paragraphs_told::<EndsNoted>(alloc, text),
+            _ => paragraphs_told::<Linked>(alloc, text),
+        }
     }
 }
 

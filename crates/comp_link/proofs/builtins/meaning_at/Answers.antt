@@ -1,4 +1,4 @@
-use Rattle.std.proofs.Common.{◌≡◌, Bool, sym, subst}
+use Rattle.std.proofs.Common.{Bool, sym, subst}
 use Rattle.link_spec.specs.Builtins.{none_such}
 use Rattle.canon_types.specs.Built.{IsBuiltinMeaning}
 use Rattle.comp_link.specs.State.{world_of}
@@ -25,7 +25,4 @@ returns-in-Resource-clause-means c = λ bases l s at.
     (subst (λ (b : Bool). IsBuiltinMeaning k.types.values c.no_builtin.result (none_such b)) (c.type_is_there.ensures k.types (world_of bases k) s (c.scope-in-Resource.ensures bases l s at)) (c.no_builtin.ensures k.types.values))
 
 pub returns-in-End-clause-means : goal.returns-in-End-clause-means
-returns-in-End-clause-means c = λ bases l s at.
-    let k = c.args.linker.now in
-    rw c.in-End.is
-    (subst (λ (b : Bool). IsBuiltinMeaning k.types.values c.no_builtin-in-End.result (none_such b)) (c.end_is_there.ensures k.types (world_of bases k) s (c.scope-in-End.ensures bases l s at)) (c.no_builtin-in-End.ensures k.types.values))
+returns-in-End-clause-means c = rw c.in-End.is c.end_at.ensures

@@ -1,4 +1,4 @@
-use Rattle.std.proofs.Common.{◌≡◌, ◌&&◌, Bool, List, length, map, subst, Option, Some}
+use Rattle.std.proofs.Common.{Bool, List, map, subst, Option, Some}
 use Rattle.std.proofs.lemmas.Result.{IfOk-weaker}
 use Rattle.ca_types.specs.declared.types.ValType.{ValType}
 use Rattle.comp_tree.specs.declared.builtins.CanonBuiltin.TheVariants as read_builtin
@@ -6,8 +6,8 @@ use Rattle.comp_graph.specs.Passed.{MayBeAt}
 use Rattle.link_spec.specs.Canons.{Given, given_by}
 use Rattle.link_spec.specs.Definitions.{Exports}
 use Rattle.link_spec.specs.Spaces.{Spaces, Linking}
-use Rattle.link_spec.specs.ValueTypes.{held_within, close_held}
-use Rattle.link_spec.specs.Builtins.{are_options_there, return_meaning, builtin_meaning}
+use Rattle.link_spec.specs.ValueTypes.{close_held}
+use Rattle.link_spec.specs.Builtins.{return_meaning, builtin_meaning}
 use Rattle.link_meanings.specs.Meant.{IsFoundAs}
 use Rattle.canon_types.specs.declared.builtins.BuiltinMeant.{BuiltinMeant}
 use Rattle.canon_types.specs.Built.{IsBuiltinMeaning}

@@ -1,4 +1,3 @@
-use Rattle.std.proofs.Common.{◌≡◌}
 use Rattle.canon_types.proofs.Returning.{returns_none, returns_some}
 use Rattle.comp_link.proofs.builtins.returning.Goals as goal
 

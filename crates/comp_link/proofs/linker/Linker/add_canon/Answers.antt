@@ -3,6 +3,7 @@ use Rattle.wasm_module.specs.declared.types.FuncType.{FuncType}
 use Rattle.comp_graph.specs.declared.graph.FuncRef.TheVariants as func_ref
 use Rattle.comp_graph.specs.Graph.{canon_type}
 use Rattle.comp_graph.specs.Passed.{AreCanonTypes}
+use Rattle.canon_types.proofs.EndsOnce.{canon_noted}
 use Rattle.link_spec.specs.Definitions.{CoreItem, Func}
 use Rattle.link_spec.specs.Spaces.{with_core_item}
 use Rattle.comp_link.specs.State.{world_of, type_table, IsScope}
@@ -29,6 +30,8 @@ returns-clause-ok c bases l s at passes is =
       canons = rw (at.state.canons, c.in_ok-push-2.ensures.items) refl;
       canon_types = typed;
       plan = at.state.plan;
+      ends = rw (c.in_ok-note.ensures, c.canon_number-named.ensures)
+          (canon_noted (type_table k.types) c.are_distinct.ensures.values k.end_types l.end_types c.args.passed c.args.canon at.state.ends passes);
     }
 
 pub returns-clause-live : goal.returns-clause-live

@@ -23,6 +23,7 @@ returns-clause-ok c bases l closure given h around is =
       canons = h.canons;
       canon_types = h.canon_types;
       plan = rw (h.plan, c.in_ok-push-2.ensures.items, number) refl;
+      ends = h.ends;
     }
 
 pub returns-clause-live : goal.returns-clause-live

@@ -21,6 +21,7 @@ returns-clause-ok c =
       canons = sym c.new-8.ensures.items;
       canon_types = rw (c.new-9.ensures.items, c.new-8.ensures.items) tt;
       plan = sym (c.in_ok-push.ensures.items ∙ ap (λ (before : List Action). before ++ Begin 0 ∷ []) c.new-plan.ensures.items);
+      ends = rw c.new-10.ensures tt;
     }
 
 pub returns-clause-live : goal.returns-clause-live
