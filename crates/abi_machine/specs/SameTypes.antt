@@ -1,69 +1,8 @@
--- Whether types of values are the same, as a test (Component Model, Explainer.md, "Type Definitions"): a fold over the one gives a test of
--- the other. The ends of streams and futures, and the results of tasks, are compared by their types.
---
--- `link_spec` has the same test among those of closed types, and `laid_types` has it of types of values, below both.
-use Rattle.std.specs.Prelude.{ℕ, Bool, true, false, ◌&&◌, ◌==◌, List, [], ◌∷◌, map, Option, Some, None}
-use Rattle.std.specs.Str.{bytes_eq}
-use Rattle.ca_types.specs.declared.types.ValType.{ValType, out-ValType, fold-ValType}
-use Rattle.ca_types.specs.declared.types.ValType.TheOpen.{ValType-F, Field-F, Case-F}
-use Rattle.ca_types.specs.declared.types.Case.{Case}
-use Rattle.ca_types.specs.declared.types.Field.{Field}
-
--- as many items as tests, each of which passes its own
-abbrev pub all_pass : {A : Type 0} → List (A → Bool) → List A → Bool
-all_pass [] [] = true
-all_pass [] (x ∷ xs) = false
-all_pass (test ∷ tests) [] = false
-all_pass (test ∷ tests) (x ∷ xs) = test x && all_pass tests xs
-
--- a part that is there passes its test, and one is there where there is a test
-abbrev pub held_passes : {A : Type 0} → Option (A → Bool) → Option A → Bool
-held_passes None None = true
-held_passes None (Some x) = false
-held_passes (Some test) None = false
-held_passes (Some test) (Some x) = test x
-
-abbrev pub same_names : List (List ℕ) → List (List ℕ) → Bool
-same_names labels others = all_pass (map bytes_eq labels) others
-
--- a layer of a type, with tests in place of its parts, and one of the other type
-abbrev pub same_layer : ValType-F (ValType → Bool) (Case → Bool) (Field → Bool) → ValType-F ValType Case Field → Bool
-same_layer ValType-F.Bool ValType-F.Bool = true
-same_layer ValType-F.S8 ValType-F.S8 = true
-same_layer ValType-F.U8 ValType-F.U8 = true
-same_layer ValType-F.S16 ValType-F.S16 = true
-same_layer ValType-F.U16 ValType-F.U16 = true
-same_layer ValType-F.S32 ValType-F.S32 = true
-same_layer ValType-F.U32 ValType-F.U32 = true
-same_layer ValType-F.S64 ValType-F.S64 = true
-same_layer ValType-F.U64 ValType-F.U64 = true
-same_layer ValType-F.Char ValType-F.Char = true
-same_layer ValType-F.String ValType-F.String = true
-same_layer (ValType-F.Record fields) (ValType-F.Record others) = all_pass fields others
-same_layer (ValType-F.Variant cases) (ValType-F.Variant others) = all_pass cases others
-same_layer (ValType-F.List element) (ValType-F.List other) = element other
-same_layer (ValType-F.Tuple parts) (ValType-F.Tuple others) = all_pass parts others
-same_layer (ValType-F.Flags labels) (ValType-F.Flags others) = same_names labels others
-same_layer (ValType-F.Enum labels) (ValType-F.Enum others) = same_names labels others
-same_layer (ValType-F.Option payload) (ValType-F.Option other) = payload other
-same_layer (ValType-F.Result ok err) (ValType-F.Result other_ok other_err) = held_passes ok other_ok && held_passes err other_err
-same_layer (ValType-F.Own number) (ValType-F.Own other) = number == other
-same_layer (ValType-F.Borrow number) (ValType-F.Borrow other) = number == other
-same_layer (ValType-F.Stream element) (ValType-F.Stream other) = held_passes element other
-same_layer (ValType-F.Future value) (ValType-F.Future other) = held_passes value other
-same_layer layer other = false
-
-abbrev pub same_step : ValType-F (ValType → Bool) (Case → Bool) (Field → Bool) → ValType → Bool
-same_step layer other = same_layer layer (out-ValType other)
-
-abbrev pub same_case : Case-F (ValType → Bool) (Case → Bool) (Field → Bool) → Case → Bool
-same_case c other = bytes_eq c.label other.label && held_passes c.payload other.payload
-
-abbrev pub same_field : Field-F (ValType → Bool) (Case → Bool) (Field → Bool) → Field → Bool
-same_field f other = bytes_eq f.label other.label && f.val_type other.val_type
-
-abbrev pub same_val : ValType → ValType → Bool
-same_val = fold-ValType (ValType → Bool) (Case → Bool) (Field → Bool) same_step same_case same_field
+-- Whether types of values are the same, as a test (Component Model, Explainer.md, "Type Definitions"), also where there may be none. The ends of
+-- streams and futures, and the results of tasks, are compared by their types.
+use Rattle.std.specs.Prelude.{Bool, Option, Some, None}
+use Rattle.ca_types.specs.declared.types.ValType.{ValType}
+pub use Rattle.laid_types.specs.SameTypes.{all_pass, held_passes, same_names, same_layer, same_step, same_case, same_field, same_val}
 
 abbrev pub same_held : Option ValType → Option ValType → Bool
 same_held None other = held_passes None other

@@ -14,6 +14,7 @@ pub mod Told
 pub mod Holders
 pub mod Copies
 pub mod OpenCopies
+pub mod CopyWaits
 pub mod Counts
 pub mod Chain
 pub mod Acting
@@ -24,6 +25,8 @@ pub mod Entering
 pub mod PassedTypes
 pub mod Loans
 pub mod Borrows
+pub mod LentHandles
+pub mod Rising
 pub mod Loops
 pub mod Subtasks
 pub mod Cancels
@@ -33,7 +36,9 @@ pub mod SetWaits
 pub mod OwnCallers
 pub mod Entered
 pub mod EndPlaces
+pub mod EndsPassed
 pub mod Writers
+pub mod Readers
 pub mod TypedStacks
 pub mod MadeInstances
 pub mod GraphFuncs
@@ -42,9 +47,18 @@ pub mod Callees
 pub mod TypedGoing
 pub mod Guests
 pub mod Exiting
+pub mod Stages
+pub mod Lines
 pub mod Events
 pub mod GoingOn
+pub mod CopiesReached
 pub mod Starting
 pub mod Functions
 pub mod Ending
 pub mod Deadlocks
+pub mod Scripts
+pub mod CallsFit
+pub mod Fitting
+pub mod Places
+pub mod Waiting
+pub mod Answers

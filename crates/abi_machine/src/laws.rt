@@ -15,11 +15,15 @@ ghost use Rattle.abi_machine.specs.sound.Told.{FirstIsTold, ToldStays};
 ghost use Rattle.abi_machine.specs.sound.Copies.{FirstIsCopied, CopiesStay};
 ghost use Rattle.abi_machine.specs.sound.Counts.{FirstAddsUp, CountsStay};
 ghost use Rattle.abi_machine.specs.sound.OpenCopies.{FirstHoldsCopies, CopiesStayHeld};
+ghost use Rattle.abi_machine.specs.sound.CopyWaits.{FirstAwaitsCopies, CopiesStayAwaited};
+ghost use Rattle.abi_machine.specs.sound.CopiesReached.{ReachedAwait};
 ghost use Rattle.abi_machine.specs.sound.Holders.{FirstHasOneHolder, OneHolderStays};
 ghost use Rattle.abi_machine.specs.sound.OwnCallers.{FirstByOwn, ByOwnStay};
 ghost use Rattle.abi_machine.specs.sound.Loans.{FirstHoldsLoans, LoansStay};
 ghost use Rattle.abi_machine.specs.sound.PassedTypes.{FirstHoldsNoBorrow, NoBorrowStays};
 ghost use Rattle.abi_machine.specs.sound.Borrows.{BorrowsAreGivenBack};
+ghost use Rattle.abi_machine.specs.sound.LentHandles.{HandlesStayLent};
+ghost use Rattle.abi_machine.specs.sound.Rising.{StatesRise, SubtasksStayUntold};
 ghost use Rattle.abi_machine.specs.sound.Loops.{FirstHasLoops, LoopsStay};
 ghost use Rattle.abi_machine.specs.sound.Owners.{FirstIsOwn, OwnStays};
 ghost use Rattle.abi_machine.specs.sound.Picked.{FirstIsPicked, PickedStays};
@@ -36,6 +40,7 @@ ghost use Rattle.abi_machine.specs.sound.TypedStacks.{
   StayTypedLater,
 };
 ghost use Rattle.abi_machine.specs.sound.Writers.{FirstHasWriters, WritersStayInOnePlace};
+ghost use Rattle.abi_machine.specs.sound.Readers.{FirstHasReaders, ReadersStayInOnePlace};
 ghost use Rattle.abi_machine.specs.sound.GoingOn.{WorldsGoOn, ReachedStand, ReachedGoOn};
 ghost use Rattle.abi_machine.specs.sound.Starting.{StartsTyped, StartedTyped, StartsGoOn};
 ghost use Rattle.abi_machine.specs.sound.Functions.{ReachedFunctions, UsedGoOn};
@@ -44,15 +49,22 @@ ghost use Rattle.abi_machine.specs.sound.Cancels.{FirstHasCancels, CancelsStay};
 ghost use Rattle.abi_machine.specs.sound.Taken.{FirstCallsHaveTasks, CallsKeepTasks};
 ghost use Rattle.abi_machine.specs.sound.Events.{FirstHasEvents, EventsStay};
 ghost use Rattle.abi_machine.specs.sound.Exiting.{FirstResolvesFirst, ResolveFirstStays};
+ghost use Rattle.abi_machine.specs.sound.Stages.{TasksGoOn};
+ghost use Rattle.abi_machine.specs.sound.Lines.{LinesTellTasks, ReachedLinesTell};
 ghost use Rattle.abi_machine.specs.sound.Deadlocks.{DeadlocksAreReal, ReachedDeadlocksAreReal};
 ghost use Rattle.abi_machine.specs.sound.Ending.{EndsComeWhere};
+ghost use Rattle.abi_machine.specs.sound.Scripts.{ItemsAreThere, ScriptsGoOn};
+ghost use Rattle.abi_machine.specs.sound.Answers.{AnswersAreWords};
+ghost use Rattle.abi_machine.specs.sound.Waiting.{NoneIsAble, WaitsAreThere};
+ghost use Rattle.abi_machine.specs.sound.Places.{PlacesAreGiven, PlacesGoOn};
+ghost use Rattle.abi_machine.specs.sound.Fitting.{FirstFits, CallsStayFit, CopiesStayFit};
 
 /// Task 0 instantiates, and runs alone until it has exited; it never runs again, and no other task runs a start function. Control says
 /// what is so: where a turn begins no task runs; elsewhere, but where control is back at a task or the run ends in a trap, the acting task
 /// acts, is new, or may be inside its instance; what is to be copied has room at the other end; the task for which values are lowered
 /// has entered; and one that is to exit has resolved. A task that is new or waits to enter has not resolved, its caller was not told that
-/// it has, no live borrow handle names it, it called no other one, and it has no copy under way; a writable end stands in one place. So it
-/// is in the first world, and so it stays in every step.
+/// it has, no live borrow handle names it, it called no other one, and it has no copy under way; a writable end stands in one place, and so
+/// does a readable one, or it is passed, where the script's calls pass no end. So it is in the first world, and so it stays in every step.
 pub fn init_runs_alone()
     ensures first { FirstRunsAlone }
     ensures stays { StaysAlone }
@@ -194,6 +206,20 @@ pub fn borrows_are_given_back()
     ensures { BorrowsAreGivenBack }
 {}
 
+/// From where a handle is lent for a call up to where the caller is told that the task has resolved, it stays lent, and what stands at its index
+/// in the table of the instance that calls stays there: so it is in every step, where definitions stay apart and the types of results and elements
+/// hold no borrow.
+pub fn handles_stay_lent()
+    ensures { HandlesStayLent }
+{}
+
+/// The state of a task that its caller was told last rises from step to step, and stays once it says that the task has resolved. A subtask stays in
+/// its table, at its index, until its caller was told that.
+pub fn states_rise()
+    ensures rises { StatesRise }
+    ensures stays { SubtasksStayUntold }
+{}
+
 /// The word of a task in its loop says that it yields, waits or polls, and where it waits or polls a set stands at that index in the table
 /// of its instance: so it is in the first world, and so it stays in every step.
 pub fn loops_stay()
@@ -237,12 +263,20 @@ pub fn writers_stay_in_one_place()
     ensures stays { WritersStayInOnePlace }
 {}
 
-/// The store is typed, functions of the host are the graph's canonical functions, each task that waits in one goes on typed with words of
-/// its results, and the stack of the acting task, or of nested code, is typed where it makes moves, and has given words of the parameters
-/// where it has called a canonical function; and the core instances that were made are the graph's, and have what their modules say. So it is
-/// in the first world, and so it stays where core instances are made, where the acting task's stack makes moves and goes on to make some,
-/// calls a canonical function, or was that of a start function, and where nested code makes moves. An acting task that waits in a canonical function goes
-/// on typed with words of its results. What waits typed in a store waits typed in each one that extends it with the same core instances.
+/// A readable end of a stream or a future stands in one table at most, at one index, and is of one that was made. Those that are passed in
+/// values stand in no table meanwhile, and what is left of the plan of a lowering adds each of them once at most: so it is in the first world,
+/// and so it stays in every step, where the arguments of the script's calls hold no end.
+pub fn readers_stay_in_one_place()
+    ensures first { FirstHasReaders }
+    ensures stays { ReadersStayInOnePlace }
+{}
+
+/// The store is typed, functions of the host are the graph's canonical functions, each task that waits in one goes on typed with words of its
+/// results, and the stack of the acting task, or of nested code, is typed where it makes moves, and has given words of the parameters where it
+/// has called a canonical function; and the core instances that were made are the graph's, and have what their modules say. So it is in the
+/// first world, and so it stays where core instances are made, where the acting task's stack makes moves and goes on to make some, calls a
+/// canonical function, or was that of a start function, and where nested code makes moves. An acting task that waits in a canonical function
+/// goes on typed with words of its results. What waits typed in a store waits typed in each one that extends it with the same core instances.
 pub fn core_moves_stay_typed()
     ensures first { FirstTyped }
     ensures instances { InstantiationStaysTyped }
@@ -289,25 +323,35 @@ pub fn cancels_stay()
     ensures stays { CancelsStay }
 {}
 
+/// Where a task waits for a copy the end stands at its index in the table of the component instance whose function the task runs, and the copy under
+/// way there is the task's own, by the canonical function in which it waits: so it is in the first world, and so it stays in every step, where
+/// definitions stay apart and the arguments of the script's calls hold no end. In each world that a run reaches then the end is there for whose copy
+/// a task waits.
+pub fn copies_stay_awaited()
+    ensures first { FirstAwaitsCopies }
+    ensures stays { CopiesStayAwaited }
+    ensures reached { ReachedAwait }
+{}
+
 /// Each call of the script that was taken made a task, which has it as its caller: so it is in the first world, and so it stays in every step.
 pub fn calls_have_tasks()
     ensures first { FirstCallsHaveTasks }
     ensures stays { CallsKeepTasks }
 {}
 
-/// A task that goes on from a wait on a set has a ready member there, or is told that its cancellation is asked. Where the event of a member
-/// comes to a task, the member that was picked is there, and the function of the task has a callback where this gets the event. So it is in the
-/// first world, and so it stays in every step, where definitions stay apart.
+/// A task that goes on from a wait on a set has a ready member there, or is told that its cancellation is asked; one that goes on from a call
+/// has called a task that has resolved; and where one goes on from a copy its end stands at its index. Where the event of a member comes to a
+/// task, the member that was picked is there, and the function of the task has a callback where this gets the event. So it is in the first
+/// world, and so it stays in every step, where definitions stay apart.
 pub fn events_come()
     ensures first { FirstHasEvents }
     ensures stays { EventsStay }
 {}
 
 /// In a world of which holds what is kept a step comes next, or the end, where what the rule of its control looks up besides is there: the
-/// export of a call and the call that a cancel names, what a core instance imports, a canonical function that a start function calls, and once all is instantiated the resource of
-/// which a handle is dropped with its destructor, core functions and moves of stacks, a function that gives places where one is asked for, and
-/// the end at the index at which a blocked task waits. What is kept holds of each world that a run reaches, where definitions
-/// stay apart.
+/// export of a call and the call that a cancel names, what a core instance imports, a canonical function that a start function calls, and once
+/// all is instantiated the resource of which a handle is dropped with its destructor, core functions and moves of stacks, and a function
+/// that gives places where one is asked for. What is kept holds of each world that a run reaches, where definitions stay apart.
 pub fn worlds_go_on()
     ensures each { WorldsGoOn }
     ensures stand { ReachedStand }
@@ -338,6 +382,19 @@ pub fn tasks_resolve_first()
     ensures stays { ResolveFirstStays }
 {}
 
+/// A task stays the task of its number: it runs the same, for the same caller, by the same canonical function with the same words. Once it has entered
+/// it stays behind its entry, what it resolved to stays, and once it has exited it stays so. So it is in every step.
+pub fn tasks_go_on()
+    ensures { TasksGoOn }
+{}
+
+/// The lines of a step tell what tasks do, but for task 0: each task is made, enters, returns or is cancelled, and exits, in this order, by one line
+/// each, where only one that is cancelled may not have entered. So the lines of a run up to a world tell how far each task is in it.
+pub fn lines_tell_tasks()
+    ensures each { LinesTellTasks }
+    ensures reached { ReachedLinesTell }
+{}
+
 /// A run ends by want of fuel only where all units are used, and in a trap only behind the step that came to it. Else it ends only where no task
 /// runs and there is no alternative: as done where all tasks have exited, and in deadlock where some have not.
 pub fn ends_have_causes()
@@ -346,10 +403,50 @@ pub fn ends_have_causes()
 
 /// Where a run ends in deadlock no task runs, no item of the script is left, and the tasks that are named are those that have not exited, by
 /// rising number, but for task 0. What each waits for is missing: one that waits to enter is held back by backpressure, or a task that is named
-/// holds exclusive entry; one in its loop waits on a set without a ready member, and no cancellation is asked of it, or a task that is named holds
-/// exclusive entry; one in a built-in waits on such a set, for a task that has not resolved and is named, or for an end with nothing to tell. So it is where a run
-/// comes to it.
+/// holds exclusive entry; one in its loop waits on a set without a ready member, and no cancellation is asked of it, or a task that is named
+/// holds exclusive entry; one in a built-in waits on such a set, for a task that has not resolved and is named, or for an end with nothing to
+/// tell. So it is where a run comes to it.
 pub fn deadlocks_are_real()
     ensures each { DeadlocksAreReal }
     ensures reached { ReachedDeadlocksAreReal }
+{}
+
+/// Where each call of a script names an export of the graph, with values of its parameters' types, and each cancel one of the calls before it, what
+/// the next item names is there in every world. So a step comes next, or the end, in each world that a run of such a script reaches, where a rule for
+/// core code and the word of a realloc, and a function that gives places where one is asked for, are there.
+pub fn scripts_are_there()
+    ensures items { ItemsAreThere }
+    ensures goes_on { ScriptsGoOn }
+{}
+
+/// Where a script is for the graph, a task that it called runs a function with values of the types of its parameters. One that another task
+/// called runs the function that the canonical function lowers by which it was called, or a destructor where that is a built-in, which drops
+/// handles. The canonical function of each copy under way reads or writes, as the end does, elements of the same type as those of the stream or
+/// the future. So it is in the first world, and so it stays in every step.
+pub fn calls_stay_fit()
+    ensures first { FirstFits }
+    ensures calls { CallsStayFit }
+    ensures copies { CopiesStayFit }
+{}
+
+/// Where besides a script is for the graph, a lowering asks for a place only where it has a function that gives places, in each world that a run
+/// reaches, and so it does behind a realloc. So a step comes next, or the end, where a rule for core code and the word of a realloc are there.
+pub fn places_are_given()
+    ensures given { PlacesAreGiven }
+    ensures goes_on { PlacesGoOn }
+{}
+
+/// Where a run ends in deadlock no task is able to go on. In each world that a run reaches the set on which a task waits or which it polls stands at
+/// its index, the task that it called and for which it waits is there, and so is the subtask that it cancels, where definitions stay apart.
+pub fn waits_are_there()
+    ensures able { NoneIsAble }
+    ensures there { WaitsAreThere }
+{}
+
+/// What a step answers to core code that called a canonical function of the graph is words of the types that this one gives back, where
+/// representations, words of context and what is kept of the results of calls that are over are such words. Where a wait, a cancel or a copy is
+/// answered that is one i32, and where a destructor has run on a further stack no word; that the canonical function at which the task waits is
+/// of such a kind is not told. To other code nothing is answered.
+pub fn answers_are_words()
+    ensures { AnswersAreWords }
 {}

@@ -20,13 +20,15 @@ mod laws;
 mod run_end;
 
 pub use laws::{
-    borrows_are_given_back, by_canons_stay, called_stay, callees_stay, calls_have_tasks,
-    cancels_stay, copies_stay, copies_stay_held, core_moves_stay_typed, counts_stay,
-    deadlocks_are_real, definitions_stay_apart, ends_have_causes, events_come, functions_are_there,
-    histories_stay, init_runs_alone, instantiation_goes_on, limits_stay, loans_stay, loops_stay,
-    members_stay, no_borrow_is_passed, nothing_is_held, numbers_stay, one_holder_stays, one_run,
-    own_callers_stay, picked_is_there, set_waits_stay, steps_are_changes, subtasks_stay,
-    tasks_resolve_first, tasks_stay_ordered, told_states_stay, typed_code_goes_on, waits_stay,
-    worlds_go_on, writers_stay_in_one_place,
+    answers_are_words, borrows_are_given_back, by_canons_stay, called_stay, callees_stay,
+    calls_have_tasks, calls_stay_fit, cancels_stay, copies_stay, copies_stay_awaited,
+    copies_stay_held, core_moves_stay_typed, counts_stay, deadlocks_are_real,
+    definitions_stay_apart, ends_have_causes, events_come, functions_are_there, handles_stay_lent,
+    histories_stay, init_runs_alone, instantiation_goes_on, limits_stay, lines_tell_tasks,
+    loans_stay, loops_stay, members_stay, no_borrow_is_passed, nothing_is_held, numbers_stay,
+    one_holder_stays, one_run, own_callers_stay, picked_is_there, places_are_given,
+    readers_stay_in_one_place, scripts_are_there, set_waits_stay, states_rise, steps_are_changes,
+    subtasks_stay, tasks_go_on, tasks_resolve_first, tasks_stay_ordered, told_states_stay,
+    typed_code_goes_on, waits_are_there, waits_stay, worlds_go_on, writers_stay_in_one_place,
 };
 pub use run_end::RunEnd;

@@ -1,2 +1,4 @@
 mod DefinitionsApart
+mod EndsTold
 mod GraphsTyped
+mod ScriptsFor

@@ -1,9 +1,10 @@
 //! What the laws of asynchronous calls ask of a graph holds of every linked one.
 
-ghost use Rattle.async_graph_laws.specs.Laws.{LinkedDefinitionsAreApart, LinkedGraphsAreTyped, ReadGraphsAreTyped, LinkedGraphsAreUsed};
+ghost use Rattle.async_graph_laws.specs.Laws.{LinkedDefinitionsAreApart, LinkedGraphsAreTyped, ReadGraphsAreTyped, LinkedGraphsAreUsed, LinkedGraphsTellEnds, CallsAreForGraphs, ReadScriptsAreForGraphs};
 
 use graph_laws::laws::read_modules_are_typed;
 use link_spec::laws::graphs_are_sound;
+use script_reader::scripts_call_exports;
 
 /// In a linked graph what a core instance imports, the core function of a lift, a destructor, and what the options of canonical definitions give,
 /// callbacks too, were made by their own component instance; and the plan makes each core instance, in order. So a task runs code of the
@@ -23,3 +24,19 @@ pub fn linked_graphs_are_typed()
     graphs_are_sound();
     read_modules_are_typed();
 }
+
+/// A script that cancels no call, and whose items call exports of a graph that has what its lifts use, with values of their parameters' types, is for
+/// that graph; and so is one that is read for the exports of a linked graph, which cancels none yet. So what its items name is there in every world.
+pub fn scripts_are_for_graphs()
+    ensures calls { CallsAreForGraphs }
+    ensures read { ReadScriptsAreForGraphs }
+{
+    graphs_are_sound();
+    scripts_call_exports();
+}
+
+/// The types of streams and futures that a linked graph tells are such, none of them stands twice, and the type of each built-in of ends is
+/// among them: so each such built-in has one number among them.
+pub fn linked_graphs_tell_ends()
+    ensures { LinkedGraphsTellEnds }
+{}

@@ -31,6 +31,10 @@ use Rattle.abi_machine.proofs.sound.Aside.{channel_kept, made_kept}
 use Rattle.abi_machine.proofs.sound.Unresolved.{unresolved_kept}
 use Rattle.abi_machine.proofs.sound.OnePlace.{writers_kept}
 use Rattle.abi_machine.proofs.sound.Entered.{entered_kept, first_entered}
+use Rattle.abi_machine.specs.sound.EndsPassed.{ReadersStand, ReadersPass}
+use Rattle.abi_machine.proofs.sound.ends.Readers.{readers_kept}
+use Rattle.abi_machine.specs.sound.Lines.{Mark, marks_of}
+use Rattle.abi_machine.proofs.sound.Marks.{marks_by}
 use Rattle.abi_machine.proofs.sound.turns.Keeping.{Invariant}
 use Rattle.abi_machine.proofs.sound.Steps.{step_keeps}
 
@@ -375,31 +379,35 @@ agrees_says (Doomed t why) w h = tt
 first_writers : WritersStand [] [] []
 first_writers = record { once = λ i index j other e side a b. (let clash : None ≡ Some (OfEnd e) = a in cc); made = λ i index e side a. (let clash : None ≡ Some (OfEnd e) = a in cc) }
 
+pub first_readers : ReadersStand [] [] []
+first_readers = record { once = λ i index j other e side a b. (let clash : None ≡ Some (OfEnd e) = a in cc); made = λ i index e side a. (let clash : None ≡ Some (OfEnd e) = a in cc) }
+
 pub first_runs_alone : FirstRunsAlone
-first_runs_alone g = (record { init = new_task Init world.Nobody Acting; there = refl; instantiates = refl; alone = refl; others = others_none g }, refl, refl, (λ new. absurd new, tt), first_writers, first_entered g)
+first_runs_alone g = (record { init = new_task Init world.Nobody Acting; there = refl; instantiates = refl; alone = refl; others = others_none g }, refl, refl, (λ new. absurd new, tt), first_writers, first_entered g, λ none. first_readers)
 
 init_there : (w : World) → Alone w → TaskIs w.tasks 0 (λ task. task.callee ≡ Init)
 init_there w h = (h.init, h.there, h.instantiates)
 
 -- what every change keeps by itself
-abbrev IsAlone : World → Type 0
-IsAlone w = Alone w × EnterUnresolved w.tasks × WritersStandOnce w × HaveEntered w
+abbrev pub IsAlone : World → Type 0
+IsAlone w = Alone w × EnterUnresolved w.tasks × WritersStandOnce w × HaveEntered w × ReadersPass w
 
 abbrev alone_by_itself : (g : Graph) (s : Script) → Invariant g s
 alone_by_itself g s = record {
-  Holds = IsAlone;
-  stays = λ c u may k. (stands_alone g s c u (comes_may g s c u may) k.0, unresolved_kept g s c u may k.1, writers_kept g s c u may k.2, entered_kept g s c u may k.3);
-  there = λ u k. init_there u k.0;
-  alone = λ u t task n k. begins_alone u t task n k.0;
-  enters = λ u t task k there. all_at EntersUnresolved u.tasks t task k.1 there;
-  writers = λ u k. k.2;
-  entered = λ u k. k.3;
+  Holds = λ marks u. IsAlone u;
+  stays = λ marks c u may k. (stands_alone g s c u (comes_may g s c u may) k.0, unresolved_kept g s c u may k.1, writers_kept g s c u may k.2, entered_kept g s c u may k.3, readers_kept g s c u may k.4);
+  there = λ marks u k. init_there u k.0;
+  alone = λ marks u t task n k. begins_alone u t task n k.0;
+  enters = λ marks u t task k there. all_at EntersUnresolved u.tasks t task k.1 there;
+  writers = λ marks u k. k.2;
+  entered = λ marks u k. k.3;
+  readers = λ marks u k. k.4;
 }
 
 pub stays_alone : StaysAlone
 stays_alone g s w v labels h e =
-    let k : IsAlone v × Agrees v.control v = step_keeps (alone_by_itself g s) w v labels h.2 (h.0, h.3, h.4, h.5) e in
-    (k.0.0, agrees_says v.control v k.1, k.1, k.0.1, k.0.2, k.0.3)
+    let k : IsAlone v × Agrees v.control v = step_keeps (alone_by_itself g s) w v labels h.2 (h.0, h.3, h.4, h.5, h.6) e in
+    (k.0.0, agrees_says v.control v k.1, k.1, k.0.1, k.0.2, k.0.3, k.0.4)
 
 -- So writable ends stay in one place.
 pub first_has_writers : FirstHasWriters
@@ -408,21 +416,26 @@ first_has_writers g = first_writers
 pub writers_stay : WritersStayInOnePlace
 writers_stay g s w v labels h e = (stays_alone g s w v labels h e).4
 
--- What every change keeps stays, beside task 0.
-abbrev beside_alone : (g : Graph) (s : Script) (K : World → Type 0) → ((c : Change) (w : World) → Comes g s c w → K w → K (after c w)) → Invariant g s
+-- What every change keeps stays, beside task 0, behind the marks of the lines.
+abbrev beside_alone : (g : Graph) (s : Script) (K : List Mark → World → Type 0) → ((marks : List Mark) (c : Change) (w : World) → Comes g s c w → IsAlone w → K marks w → K (marks ++ marks_by c w) (after c w)) → Invariant g s
 beside_alone g s K keep = record {
-  Holds = λ u. Alone u × EnterUnresolved u.tasks × WritersStandOnce u × HaveEntered u × K u;
-  stays = λ c u may k. (stands_alone g s c u (comes_may g s c u may) k.0, unresolved_kept g s c u may k.1, writers_kept g s c u may k.2, entered_kept g s c u may k.3, keep c u may k.4);
-  there = λ u k. init_there u k.0;
-  alone = λ u t task n k. begins_alone u t task n k.0;
-  enters = λ u t task k there. all_at EntersUnresolved u.tasks t task k.1 there;
-  writers = λ u k. k.2;
-  entered = λ u k. k.3;
+  Holds = λ marks u. Alone u × EnterUnresolved u.tasks × WritersStandOnce u × HaveEntered u × ReadersPass u × K marks u;
+  stays = λ marks c u may k. (stands_alone g s c u (comes_may g s c u may) k.0, unresolved_kept g s c u may k.1, writers_kept g s c u may k.2, entered_kept g s c u may k.3, readers_kept g s c u may k.4, keep marks c u may (k.0, k.1, k.2, k.3, k.4) k.5);
+  there = λ marks u k. init_there u k.0;
+  alone = λ marks u t task n k. begins_alone u t task n k.0;
+  enters = λ marks u t task k there. all_at EntersUnresolved u.tasks t task k.1 there;
+  writers = λ marks u k. k.2;
+  entered = λ marks u k. k.3;
+  readers = λ marks u k. k.4;
 }
+
+pub marked_so : (g : Graph) (s : Script) (K : List Mark → World → Type 0) → ((marks : List Mark) (c : Change) (w : World) → Comes g s c w → IsAlone w → K marks w → K (marks ++ marks_by c w) (after c w))
+    → (w v : World) (labels : List Label) → RunsAlone w → K [] w → next g s w ≡ Steps labels v → K (marks_of labels) v
+marked_so g s K keep w v labels alone h e = (step_keeps (beside_alone g s K keep) w v labels alone.2 (alone.0, alone.3, alone.4, alone.5, alone.6, h) e).0.5
 
 pub kept_so : (g : Graph) (s : Script) (K : World → Type 0) → ((c : Change) (w : World) → Comes g s c w → K w → K (after c w)) → (w v : World) (labels : List Label) → RunsAlone w → K w
     → next g s w ≡ Steps labels v → K v
-kept_so g s K keep w v labels alone h e = (step_keeps (beside_alone g s K keep) w v labels alone.2 (alone.0, alone.3, alone.4, alone.5, h) e).0.4
+kept_so g s K keep w v labels alone h e = marked_so g s (λ marks u. K u) (λ marks c u may alone k. keep c u may k) w v labels alone h e
 
 pub kept_alone : (g : Graph) (s : Script) (K : World → Type 0) → ((c : Change) (w : World) → MayCome g s c w → K w → K (after c w)) → (w v : World) (labels : List Label) → RunsAlone w → K w
     → next g s w ≡ Steps labels v → K v

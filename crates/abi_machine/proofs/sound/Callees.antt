@@ -104,7 +104,7 @@ pub if_map : {A : Type 0} (P Q : A → Type 0) (o : Option A) → ((x : A) → P
 if_map P Q None f h = tt
 if_map P Q (Some x) f h = f x h
 
-type_more : (cores more : List CoreMake) (canons others : List CanonFunc) (f : FuncRef) (type : core.FuncType) → core_type cores canons f ≡ Some type
+pub type_more : (cores more : List CoreMake) (canons others : List CanonFunc) (f : FuncRef) (type : core.FuncType) → core_type cores canons f ≡ Some type
     → core_type (cores ++ more) (canons ++ others) f ≡ Some type
 type_more cores more canons others (func_ref.Instance f) type h =
     let c = then_some (λ (c : CoreMake). type_of_func c.of_module f.index) (slice_get cores f.instance) type h in

@@ -38,5 +38,5 @@ unfolding beside in_order
 events_stay g s w v labels apart alone o own says waits comes e =
     promised g s v.control v
     (step_known
-    (beside g s (in_order g s) ⊥ (Unit {0}) (Unit {0}) (IsOwnWorld g) (λ a. apart) (λ event. event) (λ a u h. h) (λ c u may b belongs h. own_kept g s c u may (belongs tt) h) (λ t u may h. h) (λ t u may h. own_removed g t u h))
-    w v labels (λ none. absurd none) (λ asks. absurd asks) (λ a. says) (λ event. (comes, waits)) alone.1 o.2 ((alone.0, o.0, o.1), own) e).1
+    (beside g s (in_order g s) ⊥ (Unit {0}) (Unit {0}) ⊥ (IsOwnWorld g) (λ a. apart) (λ event. event) (λ a u h. h) (λ c u may b belongs h. own_kept g s c u may (belongs tt) h) (λ t u may h. h) (λ t u may h. own_removed g t u h))
+    w v labels (λ none. absurd none) (λ asks. absurd asks) (λ copies. absurd copies) (λ a. says) (λ event. (comes, waits)) alone.1 o.2 ((alone.0, o.0, o.1), own) e).1

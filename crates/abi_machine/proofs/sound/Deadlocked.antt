@@ -56,10 +56,10 @@ use Rattle.abi_machine.proofs.sound.Exiting.{first_resolves_first, resolve_first
 use Rattle.abi_machine.proofs.sound.Outlines.{outline_there}
 
 -- No item is left, and no task is able.
-abbrev IsNone : Option Item → List ℕ → Type 0
+abbrev pub IsNone : Option Item → List ℕ → Type 0
 IsNone o all = (o ≡ None) × (all ≡ [])
 
-none_of : (o : Option Item) (all : List ℕ) → item_first o (map GoesOn all) ≡ [] → IsNone o all
+pub none_of : (o : Option Item) (all : List ℕ) → item_first o (map GoesOn all) ≡ [] → IsNone o all
 none_of None [] e = (refl, refl)
 none_of None (t ∷ all) e = cc
 none_of (Some i) all e = cc
@@ -72,7 +72,7 @@ none_first : (b : Bool) (n : ℕ) (task : Task) (others : List (ℕ × Task)) �
 none_first true n task others e = cc
 none_first false n task others e = (refl, e)
 
-none_passes : (test : Task → Bool) (n : ℕ) (tasks : List Task) (m : ℕ) (task : Task) → numbers_of test (with_numbers n tasks) ≡ [] → slice_get tasks m ≡ Some task → test task ≡ false
+pub none_passes : (test : Task → Bool) (n : ℕ) (tasks : List Task) (m : ℕ) (task : Task) → numbers_of test (with_numbers n tasks) ≡ [] → slice_get tasks m ≡ Some task → test task ≡ false
 none_passes test n [] m task e there = cc
 none_passes test n (x ∷ tasks) zero task e there =
     let first = (none_first (test x) n x (filter (λ (y : ℕ × Task). test y.1) (with_numbers (n + 1) tasks)) e).0 in

@@ -58,7 +58,6 @@ use Rattle.abi_machine.specs.Choosing.{chosen}
 use Rattle.abi_machine.specs.Copying.{meets}
 use Rattle.abi_machine.specs.CoreSteps.{costs, moved, running_turn}
 use Rattle.abi_machine.specs.Delivering.{yield_cancelled}
-use Rattle.abi_machine.specs.Instantiating.{made}
 use Rattle.abi_machine.specs.Nested.{HostedTurn, On, EndsIn, TrapsBy, CallsHost, NoRule, hosted_next, nested_ended, answered_in_place, answered_or_refused, calls_host, hosted, nested_turn}
 use Rattle.abi_machine.specs.Reply.{resource_turn, plain_turn, side_of, copy_size, end_turn, builtin_turn, reply, exempt_turn, allowed, calling_turn}
 use Rattle.abi_machine.specs.Returning.{result_passed}

@@ -54,7 +54,7 @@ use Rattle.abi_machine.proofs.sound.typed.Starting.{Phase, phase_goes, first_pha
 use Rattle.abi_machine.proofs.sound.Reached.{reached_stand, reached_go_on}
 
 -- Each core function of the graph is in a store.
-abbrev AllMade : Graph → Store → Type 0
+abbrev pub AllMade : Graph → Store → Type 0
 AllMade g s = (f : FuncRef) (type : FuncType) → core_type g.cores g.canons f ≡ Some type → IsFuncThere s f
 
 found_some : {A : Type 0} (xs : List A) (o : Option ℕ) (n : ℕ) (x : A) → o ≡ Some n → slice_get xs n ≡ Some x → IsSome (found_at xs o)
@@ -76,16 +76,16 @@ made_same s t (func_ref.Instance f) same h =
     (subst (λ (is : List Instance). IsSome (found_at s.funcs (option_and_then (λ (i : Instance). slice_get i.funcs f.index) (slice_get is f.instance)))) (sym same.1) h)
 
 -- What is kept in each step.
-record Kept (g : Graph) (w : World) : Type 0 where
-  alone : RunsAlone w
-  ordered : IsOrdered w
-  own : IsOwnWorld g w
-  says : IsControlOwn g w.control w
-  callees : HaveCallees g w.tasks
-  before : is_instantiated w.tasks ≡ false → Phase g w
-  then_made : is_instantiated w.tasks ≡ true → IsDoomed w.control ⊎ AllMade g w.store
+pub record Kept (g : Graph) (w : World) : Type 0 where
+  pub alone : RunsAlone w
+  pub ordered : IsOrdered w
+  pub own : IsOwnWorld g w
+  pub says : IsControlOwn g w.control w
+  pub callees : HaveCallees g w.tasks
+  pub before : is_instantiated w.tasks ≡ false → Phase g w
+  pub then_made : is_instantiated w.tasks ≡ true → IsDoomed w.control ⊎ AllMade g w.store
 
-first_kept : (g : Graph) → IsApart g → IsTypedGraph g → Kept g (first_world g)
+pub first_kept : (g : Graph) → IsApart g → IsTypedGraph g → Kept g (first_world g)
 first_kept g apart sound = record {
   alone = first_runs_alone g;
   ordered = first_ordered g;
@@ -126,7 +126,7 @@ module _ (g : Graph) (s : Script) (w v : World) (labels : List Label) (apart : I
       by true done = absurd (let clash : true ≡ false = sym (stays_started g s w v labels h.alone done e) ∙ not_yet in let none : ⊥ = cc in none)
       by false yet = phase_then yet
 
-  kept_on : Kept g v
+  pub kept_on : Kept g v
   kept_on =
       let own = own_stays g s w v labels apart h.alone h.ordered h.own h.says e in
       record {
@@ -276,7 +276,7 @@ fed_then g s w used h done funcs destructors (Lowers l plan) is fed = (fed, func
 fed_then g s w used h done funcs destructors (Quiet n b) is fed = fed
 fed_then g s w used h done funcs destructors Back is fed = tt
 fed_then g s w used h done funcs destructors GoesOn is fed = tt
-fed_then g s w used h done funcs destructors Resumes is fed = (fed, funcs)
+fed_then g s w used h done funcs destructors Resumes is fed = funcs
 fed_then g s w used h done funcs destructors (Delivers set receiver pick) is fed = funcs
 fed_then g s w used h done funcs destructors Leaves is fed = tt
 fed_then g s w used h done funcs destructors (Doomed t why) is fed = tt

@@ -104,6 +104,6 @@ pub code_stays : (g : Graph) (s : Script) (w v : World) (labels : List Label) �
 unfolding beside in_order
 code_stays g s w v labels apart alone o own says done e =
     (step_known
-    (beside g s (in_order g s) ⊥ (Unit {0}) ⊥ (Code g w.store) (λ a. apart) (λ event. absurd event) (λ a u k. k.own) (λ c u may b belongs k. kept g s w.store c u may (belongs tt) k) (λ t u may k. back g s w.store t u may k)
+    (beside g s (in_order g s) ⊥ (Unit {0}) ⊥ ⊥ (Code g w.store) (λ a. apart) (λ event. absurd event) (λ a u k. k.own) (λ c u may b belongs k. kept g s w.store c u may (belongs tt) k) (λ t u may k. back g s w.store t u may k)
     (λ t u may k. removed g s w.store t u may k))
-    w v labels (λ none. absurd none) (λ asks. absurd asks) (λ a. says) (λ event. absurd event) alone.1 o.2 ((alone.0, o.0, o.1), record { alone = alone.0; done = done; own = own; same = (refl, refl) }) e).0.1.same
+    w v labels (λ none. absurd none) (λ asks. absurd asks) (λ copies. absurd copies) (λ a. says) (λ event. absurd event) alone.1 o.2 ((alone.0, o.0, o.1), record { alone = alone.0; done = done; own = own; same = (refl, refl) }) e).0.1.same

@@ -38,12 +38,12 @@ use Rattle.abi_machine.proofs.sound.Looping.{runs_here}
 use Rattle.abi_machine.proofs.sound.OwnCalling.{by_own_stay}
 
 -- A task calls by canonical functions of its own instance.
-abbrev CallsByOwn : Graph → List Task → Task → Type 0
+abbrev pub CallsByOwn : Graph → List Task → Task → Type 0
 CallsByOwn g tasks task =
     (subtask : Subtask) (c : CanonFunc) (caller : Task) → subtask_of task.caller ≡ Some subtask → canon_at g subtask.canon ≡ Some c → slice_get tasks subtask.by ≡ Some caller
     → runs_in (inst_of_canon c) caller ≡ true
 
-abbrev CallByOwn : Graph → List Task → Type 0
+abbrev pub CallByOwn : Graph → List Task → Type 0
 CallByOwn g tasks = AllByRecursion (CallsByOwn g tasks) tasks
 
 calls_own : (g : Graph) (tasks : List Task) (by : Caller) (subtask : Subtask) (c : CanonFunc) (caller : Task) → subtask_of by ≡ Some subtask → canon_at g subtask.canon ≡ Some c
@@ -56,7 +56,7 @@ calls_own g tasks (Guest y) subtask c caller e i there h =
     let made_it : option_map inst_of_canon (canon_at g y.canon) ≡ Some (inst_of_canon c) = ap (option_map inst_of_canon) (ap (λ (z : Subtask). canon_at g z.canon) same ∙ i) in
     runs_here (inst_of_canon c) 0 (func_of caller.callee) made.0 made.1 (some_same (sym made.2 ∙ made_it))
 
-call_own : (g : Graph) (tasks : List Task) → AreByOwn g tasks → CallByOwn g tasks
+pub call_own : (g : Graph) (tasks : List Task) → AreByOwn g tasks → CallByOwn g tasks
 call_own g tasks h =
     all_as (λ (x : Task). IsByOwn g tasks x.caller) (CallsByOwn g tasks) (λ x k subtask c caller e i there. calls_own g tasks x.caller subtask c caller e i there k) tasks h
 
@@ -124,7 +124,7 @@ made_own : (g : Graph) (kind : EndKind) (element : Option ValType) (w : World) �
 made_own g Stream element w h = h
 made_own g Future element w h = h
 
-own_before : (g : Graph) (c : Change) (w : World) → Own g (after c w) → Own g w
+pub own_before : (g : Graph) (c : Change) (w : World) → Own g (after c w) → Own g w
 own_before g (IsCalled callee call values) w h = more_own g w.tasks (new_task callee (Host call values) New) h
 own_before g (Calls number callee subtask words) w h =
     let f : Task → Task = λ task. record task { state = AfterCall (length w.tasks) number words } in
@@ -241,7 +241,7 @@ lent_kept g w t handle may none holds x there h = elim may.2 [
 -- Tables that are changed.
 
 -- what is not lent does not stand among what is
-none_of_sum : {A : Type 0} (f : A → ℕ) (xs : List A) (n : ℕ) → fold (λ a x. a + f x) n xs ≡ 0 → (n ≡ 0) × AllByRecursion (λ x. f x ≡ 0) xs
+pub none_of_sum : {A : Type 0} (f : A → ℕ) (xs : List A) (n : ℕ) → fold (λ a x. a + f x) n xs ≡ 0 → (n ≡ 0) × AllByRecursion (λ x. f x ≡ 0) xs
 none_of_sum f [] n e = (e, tt)
 none_of_sum f (x ∷ xs) n e =
     let rest = none_of_sum f xs (n + f x) e in
@@ -270,7 +270,7 @@ all_both P Q [] h k = tt
 all_both P Q (x ∷ xs) h k = ((h.0, k.0), all_both P Q xs h.1 k.1)
 
 -- Where a task calls by canonical functions of its instance, a handle of which nothing is lent is not among its loans.
-unlent_apart : (g : Graph) (w : World) (i gone : ℕ) (x : Task) (subtask : Subtask) (c : CanonFunc) → subtask_of x.caller ≡ Some subtask → canon_at g subtask.canon ≡ Some c → CallsByOwn g w.tasks x
+pub unlent_apart : (g : Graph) (w : World) (i gone : ℕ) (x : Task) (subtask : Subtask) (c : CanonFunc) → subtask_of x.caller ≡ Some subtask → canon_at g subtask.canon ≡ Some c → CallsByOwn g w.tasks x
     → IsSome (slice_get w.tasks subtask.by) → lends_for (λ t. passes (runs_in i) (task_at w t)) gone (subtask_of x.caller) ≡ 0 → inst_of_canon c ≡ i → AllByRecursion (λ handle. gone ≢ handle) subtask.lends
 unlent_apart g w i gone x subtask c e is own there none at =
     let caller = some_there (slice_get w.tasks subtask.by) there in
@@ -308,7 +308,7 @@ add_keeps w i entry history j index =
     handle_kept w.insts i _ j index
     (λ old inst is at found k. live_added inst.table entry old index (all_at (λ (x : Inst). IsHistory x.table) w.insts i inst history found) k)
 
-waitable_is_no_handle : (entry : Entry) → IsWaitable entry → IsHandle entry → ⊥
+pub waitable_is_no_handle : (entry : Entry) → IsWaitable entry → IsHandle entry → ⊥
 waitable_is_no_handle (OwnHandle resource rep) waits is = waits
 waitable_is_no_handle (BorrowHandle resource rep task) waits is = waits
 waitable_is_no_handle (OfSubtask callee) waits is = is
@@ -396,13 +396,13 @@ beside_made g Stream element w h = h
 beside_made g Future element w h = h
 
 -- what is known of a world beside its loans
-record IsKnownOf (g : Graph) (w : World) : Type 0 where
-  history : HaveHistories w.insts
-  none : PassesNoBorrow g
-  holds : HoldsNoBorrow w
-  own : CallByOwn g w.tasks
+pub record IsKnownOf (g : Graph) (w : World) : Type 0 where
+  pub history : HaveHistories w.insts
+  pub none : PassesNoBorrow g
+  pub holds : HoldsNoBorrow w
+  pub own : CallByOwn g w.tasks
 
-loans_kept : (g : Graph) (s : Script) (c : Change) (w : World) → Comes g s c w → IsKnownOf g w → Has g w → Has g (after c w)
+pub loans_kept : (g : Graph) (s : Script) (c : Change) (w : World) → Comes g s c w → IsKnownOf g w → Has g w → Has g (after c w)
 loans_kept g s BeginsInstance w may known h = insts_loans g w.tasks w.insts _ (begun_keeps w.insts) h
 loans_kept g s (AddsEntry i entry) w may known h = insts_loans g w.tasks w.insts _ (add_keeps w i entry known.history) h
 loans_kept g s (MakesSet i set) w may known h =

@@ -168,7 +168,7 @@ Loops w = HaveLoops w.tasks w.insts
 abbrev Kept : World → Type 0
 Kept w = HaveHistories w.insts × Loops w
 
-loops_kept : (g : Graph) (s : Script) (c : Change) (w : World) → MayCome g s c w → Besides ⊥ ⊥ g c w → Kept w → Loops (after c w)
+loops_kept : (g : Graph) (s : Script) (c : Change) (w : World) → MayCome g s c w → Besides ⊥ ⊥ ⊥ g c w → Kept w → Loops (after c w)
 loops_kept g s BeginsInstance w may b h = begun_stays w.tasks w.insts h.1
 loops_kept g s (AddsEntry i entry) w may b h = entry_stays w.tasks w.insts i _ entry (λ x index set history there. live_added x.table entry (OfSet set) index history there) h.0 h.1
 loops_kept g s (MakesSet i set) w may b h =
@@ -225,5 +225,5 @@ pub loops_stay : LoopsStay
 unfolding beside in_order
 loops_stay g s w v labels alone o history h e =
     (step_known
-    (beside g s (in_order g s) ⊥ ⊥ ⊥ Kept (λ apart. absurd apart) (λ event. event) (λ apart u k. absurd apart) (λ c u may b belongs k. (histories_kept g s c u may k.0, loops_kept g s c u may b k)) (λ t u may k. k) (λ t u may k. removed_loops t u k))
-    w v labels (λ none. absurd none) (λ asks. absurd asks) (λ apart. absurd apart) (λ event. absurd event) alone.1 o.2 ((alone.0, o.0, o.1), (history, h)) e).0.1.1
+    (beside g s (in_order g s) ⊥ ⊥ ⊥ ⊥ Kept (λ apart. absurd apart) (λ event. event) (λ apart u k. absurd apart) (λ c u may b belongs k. (histories_kept g s c u may k.0, loops_kept g s c u may b k)) (λ t u may k. k) (λ t u may k. removed_loops t u k))
+    w v labels (λ none. absurd none) (λ asks. absurd asks) (λ copies. absurd copies) (λ apart. absurd apart) (λ event. absurd event) alone.1 o.2 ((alone.0, o.0, o.1), (history, h)) e).0.1.1

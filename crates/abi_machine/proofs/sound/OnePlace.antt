@@ -77,7 +77,7 @@ removed_so false y o h = h
 pub remove_none : (gone : ℕ) → AddsNone (λ inst. record inst { table = Remove gone ∷ inst.table })
 remove_none gone inst index x k = removed_so (nat_eq gone index) x (live inst.table index) k
 
-begun_back : (insts : List Inst) (j index : ℕ) (e : EndRef) → EndStandsAt (insts ++ new_inst ∷ []) j index e → EndStandsAt insts j index e
+pub begun_back : (insts : List Inst) (j index : ℕ) (e : EndRef) → EndStandsAt (insts ++ new_inst ∷ []) j index e → EndStandsAt insts j index e
 begun_back insts j index e there = by (slice_get (insts ++ new_inst ∷ []) j) refl there
   where
     none : (y : Inst) → y ≡ new_inst → live y.table index ≡ Some (OfEnd e) → ⊥
@@ -96,10 +96,10 @@ pub added_so : {A : Type 0} (b : Bool) (x y : A) (o : Option A) → (if b then S
 added_so true x y o h = inl (refl, some_same h)
 added_so false x y o h = inr h
 
-abbrev IsNewAt : List Inst → ℕ → Entry → ℕ → ℕ → EndRef → Type 0
+abbrev pub IsNewAt : List Inst → ℕ → Entry → ℕ → ℕ → EndRef → Type 0
 IsNewAt insts i entry j index e = (j ≡ i) × (index ≡ next_index (table_in (slice_get insts i))) × (entry ≡ OfEnd e)
 
-add_back : (insts : List Inst) (i : ℕ) (entry : Entry) (j index : ℕ) (e : EndRef) → EndStandsAt (changed_at i (λ inst. record inst { table = added entry inst.table }) insts) j index e
+pub add_back : (insts : List Inst) (i : ℕ) (entry : Entry) (j index : ℕ) (e : EndRef) → EndStandsAt (changed_at i (λ inst. record inst { table = added entry inst.table }) insts) j index e
     → IsNewAt insts i entry j index e ⊎ EndStandsAt insts j index e
 add_back insts i entry j index e there = elim (table_back insts i (λ inst. record inst { table = added entry inst.table }) j index (OfEnd e) there) [
   | inl new ↦ by new.1.0 new.0 new.1.1 new.1.2
@@ -119,7 +119,7 @@ add_back insts i entry j index e there = elim (table_back insts i (λ inst. reco
       | inr old ↦ inr (subst (λ (o : Option Inst). live (table_in o) index ≡ Some (OfEnd e)) (sym found) old)
     ]
 
-reads_no_write : (s : Side) → s ≡ Reader → s ≡ Writer → ⊥
+pub reads_no_write : (s : Side) → s ≡ Reader → s ≡ Writer → ⊥
 reads_no_write s a b = (let clash : Reader ≡ Writer = sym a ∙ b in cc)
 
 add_stands : (w : World) (i : ℕ) (entry : Entry) → IsFreshEnd w entry → WritersStandOnce w → WritersStand (after (AddsEntry i entry) w).insts w.streams w.futures

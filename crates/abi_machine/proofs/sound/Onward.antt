@@ -36,7 +36,7 @@ use Rattle.trace_show.specs.declared.typed.TypedValue.{TypedValue}
 use Rattle.abi_machine.specs.declared.run_end.RunEnd.{RunEnd}
 use Rattle.abi_machine.specs.declared.run_end.RunEnd.TheVariants.{Fuel}
 use Rattle.abi_machine.specs.LoweringOver.{Plan}
-use Rattle.abi_machine.specs.Control.{EndRef, After, Replies, Finishes, Copying, Then, Starts, Resolves, Transfers, Lowering, EventCode, NoEvent, SubtaskEvent, TaskCancelled, Receiver, InWait, InCallback, Control, Calls}
+use Rattle.abi_machine.specs.Control.{EndRef, After, Replies, Finishes, Copying, Then, Starts, Resolves, Transfers, Lowering, EventCode, NoEvent, SubtaskEvent, TaskCancelled, Receiver, InWait, InCallback, Control}
 use Rattle.abi_machine.specs.World.{Entry, OwnHandle, BorrowHandle, OfSubtask, OfSet, OfEnd, Callee, Subtask, Caller, Nobody, Host, Guest, Wait, ForYield, ForSet, ForCall, ForCopy, ForCancel, TaskState, New, Acting, AfterCall, AfterCancel, WaitsToEnter, InLoop, InBuiltin, Exited, Task, Channel, World}
 use Rattle.abi_machine.specs.World as world
 use Rattle.abi_machine.specs.Traps.{task_name}
@@ -53,7 +53,7 @@ use Rattle.abi_machine.specs.Calling.{Told, call_state, call_begun, call_resolve
 use Rattle.abi_machine.specs.Cancelling.{asked_turn, cancelled_turn, cancel_open, back_from_cancel, back_to, back_turn}
 use Rattle.abi_machine.specs.Choosing.{chosen}
 use Rattle.abi_machine.specs.Copying.{Met, AtOnce, Moves as Copies, Stands, met_by, other_offer, read_of, write_of, is_within, moved_by, elements_written, elements_read, elements_moved, meeting_turn, meets, transferring_turn}
-use Rattle.abi_machine.specs.CoreSteps.{costs, func_ended, stack_ended, ended_over, moved}
+use Rattle.abi_machine.specs.CoreSteps.{func_ended, stack_ended, ended_over, moved}
 use Rattle.abi_machine.specs.Delivering.{event_line, nothing_told, cancel_told, end_told, event_of_end, is_to_be_told, callback_started, received, received_none, received_cancel, entry_delivered, member_delivered, members_turn, delivering_turn, yield_cancelled, told_payload, told_result, wait_resumed, set_polled, next_resumed, loop_resumed, resumed, resuming_turn}
 use Rattle.abi_machine.specs.Entering.{with_arguments, arguments_passed, arguments_turn, entered, arriving_turn}
 use Rattle.abi_machine.specs.Instantiating.{started_up, made, action_turn, instantiating_turn}

@@ -73,7 +73,7 @@ module _ (g : Graph) where
   abbrev AreBy : World → Type 0
   AreBy w = AreByOwn g w.tasks
 
-  kept_by : (c : Change) (w : World) → Besides ⊥ ⊥ g c w → Owns g c w → AreBy w → AreBy (after c w)
+  kept_by : (c : Change) (w : World) → Besides ⊥ ⊥ ⊥ g c w → Owns g c w → AreBy w → AreBy (after c w)
   kept_by (IsCalled callee call values) w b own h = more_so w.tasks (new_task callee (Host call values) New) tt h
   kept_by (Calls number callee subtask words) w b own h =
       let f : Task → Task = λ task. record task { state = AfterCall (length w.tasks) number words } in
@@ -133,6 +133,6 @@ pub by_own_stay : ByOwnStay
 unfolding beside in_order
 by_own_stay g s w v labels apart alone o own says h e =
     (step_known
-    (beside g s (in_order g s) ⊥ (Unit {0}) ⊥ (Kept g) (λ a. apart) (λ event. absurd event) (λ a u k. k.0)
+    (beside g s (in_order g s) ⊥ (Unit {0}) ⊥ ⊥ (Kept g) (λ a. apart) (λ event. absurd event) (λ a u k. k.0)
     (λ c u may b belongs k. (own_kept g s c u may (belongs tt) k.0, kept_by g c u b (belongs tt) k.1)) (λ t u may k. k) (λ t u may k. (own_removed g t u k.0, removed_by g t u k.1)))
-    w v labels (λ none. absurd none) (λ asks. absurd asks) (λ a. says) (λ event. absurd event) alone.1 o.2 ((alone.0, o.0, o.1), (own, h)) e).0.1.1
+    w v labels (λ none. absurd none) (λ asks. absurd asks) (λ copies. absurd copies) (λ a. says) (λ event. absurd event) alone.1 o.2 ((alone.0, o.0, o.1), (own, h)) e).0.1.1

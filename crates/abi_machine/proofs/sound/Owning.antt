@@ -60,6 +60,6 @@ pub own_stays : OwnStays
 unfolding beside in_order
 own_stays g s w v labels apart alone o own says e =
     let k = step_known
-    (beside g s (in_order g s) ⊥ (Unit {0}) ⊥ (IsOwnWorld g) (λ a. apart) (λ event. absurd event) (λ a u h. h) (λ c u may b belongs h. own_kept g s c u may (belongs tt) h) (λ t u may h. h) (λ t u may h. own_removed g t u h))
-    w v labels (λ none. absurd none) (λ asks. absurd asks) (λ a. says) (λ event. absurd event) alone.1 o.2 ((alone.0, o.0, o.1), own) e in
+    (beside g s (in_order g s) ⊥ (Unit {0}) ⊥ ⊥ (IsOwnWorld g) (λ a. apart) (λ event. absurd event) (λ a u h. h) (λ c u may b belongs h. own_kept g s c u may (belongs tt) h) (λ t u may h. h) (λ t u may h. own_removed g t u h))
+    w v labels (λ none. absurd none) (λ asks. absurd asks) (λ copies. absurd copies) (λ a. says) (λ event. absurd event) alone.1 o.2 ((alone.0, o.0, o.1), own) e in
     (k.0.1, promised g s v.control v k.1)

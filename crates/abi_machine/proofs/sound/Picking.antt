@@ -16,8 +16,8 @@ unfolding beside in_order
 picked_stays g s w v labels alone o e =
     promised v.control v
     (step_known
-    (beside g s (in_order g s) ⊥ ⊥ ⊥ (λ u. Unit {0}) (λ apart. absurd apart) (λ event. event) (λ apart u k. absurd apart) (λ c u may b belongs k. tt) (λ t u may k. tt) (λ t u may k. tt))
-    w v labels (λ none. absurd none) (λ asks. absurd asks) (λ apart. absurd apart) (λ event. absurd event) alone.1 o.2 ((alone.0, o.0, o.1), tt) e).1
+    (beside g s (in_order g s) ⊥ ⊥ ⊥ ⊥ (λ u. Unit {0}) (λ apart. absurd apart) (λ event. event) (λ apart u k. absurd apart) (λ c u may b belongs k. tt) (λ t u may k. tt) (λ t u may k. tt))
+    w v labels (λ none. absurd none) (λ asks. absurd asks) (λ copies. absurd copies) (λ apart. absurd apart) (λ event. absurd event) alone.1 o.2 ((alone.0, o.0, o.1), tt) e).1
   where
     promised : (c : Control) (u : World) → Promises ⊥ ⊥ g s c u → IsPicked g s c u
     promised Free u h = tt

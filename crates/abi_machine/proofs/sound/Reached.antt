@@ -28,7 +28,7 @@ use Rattle.abi_machine.proofs.sound.Taking.{first_calls_have_tasks, calls_keep_t
 use Rattle.abi_machine.proofs.sound.Coming.{first_has_events, events_stay}
 use Rattle.abi_machine.proofs.sound.nexts.Turning.{worlds_go_on}
 
-first_stands : (g : Graph) (s : Script) → IsApart g → IsStanding g s (first_world g)
+pub first_stands : (g : Graph) (s : Script) → IsApart g → IsStanding g s (first_world g)
 first_stands g s apart = record {
   alone = first_runs_alone g;
   histories = first_has_histories g;
@@ -50,7 +50,7 @@ first_stands g s apart = record {
   events = first_has_events g;
 }
 
-standing_stays : (g : Graph) (s : Script) (w v : World) (labels : List Label) → IsApart g → IsStanding g s w → next g s w ≡ Steps labels v → IsStanding g s v
+pub standing_stays : (g : Graph) (s : Script) (w v : World) (labels : List Label) → IsApart g → IsStanding g s w → next g s w ≡ Steps labels v → IsStanding g s v
 standing_stays g s w v labels apart h e =
     let own = own_stays g s w v labels apart h.alone h.ordered h.own h.control_own e in
     record {

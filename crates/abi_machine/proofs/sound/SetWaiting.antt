@@ -143,7 +143,7 @@ Sets w = HaveSets w.tasks w.insts
 abbrev Kept : Graph → World → Type 0
 Kept g w = HaveHistories w.insts × IsOwnWorld g w × Sets w
 
-sets_kept : (g : Graph) (s : Script) (c : Change) (w : World) → MayCome g s c w → Besides ⊥ ⊥ g c w → Owns g c w → HaveHistories w.insts → Sets w → Sets (after c w)
+sets_kept : (g : Graph) (s : Script) (c : Change) (w : World) → MayCome g s c w → Besides ⊥ ⊥ ⊥ g c w → Owns g c w → HaveHistories w.insts → Sets w → Sets (after c w)
 sets_kept g s BeginsInstance w may b own history h = begun_stays w.tasks w.insts h
 sets_kept g s (AddsEntry i entry) w may b own history h = entry_stays w.tasks w.insts i _ (λ x index set old there. live_added x.table entry (OfSet set) index old there) history h
 sets_kept g s (MakesSet i set) w may b own history h =
@@ -202,6 +202,6 @@ pub sets_stay_there : SetsStay
 unfolding beside in_order
 sets_stay_there g s w v labels apart alone o history own says h e =
     (step_known
-    (beside g s (in_order g s) ⊥ (Unit {0}) ⊥ (Kept g) (λ a. apart) (λ event. absurd event) (λ a u k. k.1)
+    (beside g s (in_order g s) ⊥ (Unit {0}) ⊥ ⊥ (Kept g) (λ a. apart) (λ event. absurd event) (λ a u k. k.1)
     (λ c u may b belongs k. (histories_kept g s c u may k.0, own_kept g s c u may (belongs tt) k.1, sets_kept g s c u may b (belongs tt) k.0 k.2)) (λ t u may k. k) (λ t u may k. removed_sets g t u k))
-    w v labels (λ none. absurd none) (λ asks. absurd asks) (λ a. says) (λ event. absurd event) alone.1 o.2 ((alone.0, o.0, o.1), (history, own, h)) e).0.1.2
+    w v labels (λ none. absurd none) (λ asks. absurd asks) (λ copies. absurd copies) (λ a. says) (λ event. absurd event) alone.1 o.2 ((alone.0, o.0, o.1), (history, own, h)) e).0.1.2

@@ -79,7 +79,7 @@ subtask_taken w i index callee h told = by (entry_at w i index) refl h
     by (Some (OfEnd r)) e k = cc
 
 -- An end is found as one of a kind.
-same_kind_is : (a b : EndKind) (rest : Bool) → (same_kind a b && rest) ≡ true → a ≡ b
+pub same_kind_is : (a b : EndKind) (rest : Bool) → (same_kind a b && rest) ≡ true → a ≡ b
 same_kind_is Stream Stream rest e = refl
 same_kind_is Stream Future rest e = cc
 same_kind_is Future Stream rest e = cc

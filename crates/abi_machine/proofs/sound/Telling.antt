@@ -214,7 +214,7 @@ new_subtask_told subtask e = record { rises = subst (λ (s : SubtaskState). code
 abbrev Has : World → Type 0
 Has w = AreTold w.tasks
 
-told_kept : (g : Graph) (s : Script) (c : Change) (w : World) → Comes g s c w → Has w → Has (after c w)
+pub told_kept : (g : Graph) (s : Script) (c : Change) (w : World) → Comes g s c w → Has w → Has (after c w)
 told_kept g s (IsCalled callee call values) w may h = all_more IsTold w.tasks (new_task callee (Host call values) New) h (new_told callee (Host call values) tt)
 told_kept g s (Calls number callee subtask words) w may h =
     all_more IsTold _ (new_task callee (Guest subtask) New) (all_changed IsTold subtask.by _ w.tasks (λ x e k. started_told x _ (omega arith) k) h)

@@ -2,7 +2,9 @@ pub mod Handles
 pub mod Lifting
 pub mod Unawaited
 pub mod Asked
+pub mod Copying
 pub mod Asking
+pub mod Awaiting
 pub mod Ready
 pub mod Picking
 pub mod Events

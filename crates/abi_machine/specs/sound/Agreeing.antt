@@ -1,17 +1,19 @@
 -- What control says of the rest (Component Model, Concurrency.md, "Summary"; CanonicalABI.md, "Stream State"): where a turn begins no task
 -- runs, and while a graph is instantiated task 0 alone runs; what the acting task is at; where elements are copied, that there is room for
--- them at the other end; that the task for which values are lowered has entered; and that a task that is to exit has resolved.
-use Rattle.std.specs.Prelude.{◌≡◌, ◌≤◌, ℕ, ◌-◌, List, [], ◌∷◌, length, Option, Some, None, IsSome}
+-- them at the other end; that the task for which values are lowered has entered; that a task that is to exit has resolved; and, where the script
+-- passes no end, that what is left of a plan adds readable ends that stand nowhere, each once.
+use Rattle.std.specs.Prelude.{◌≡◌, ◌≤◌, ℕ, ◌-◌, List, [], ◌∷◌, length, Some, None, IsSome}
 use Rattle.builtin_kinds.specs.declared.EndKind.{EndKind}
 use Rattle.builtin_kinds.specs.declared.EndKind.TheVariants.{Stream, Future}
 use Rattle.stream_ends.specs.declared.side.Side.{Side}
 use Rattle.stream_ends.specs.declared.open_copy.OpenCopy.{OpenCopy}
 use Rattle.stream_ends.specs.Ends.{EndsView, other_side, end_at, standing_of}
 use Rattle.abi_machine.specs.Control.{EndRef, After, Replies, Finishes, Then, Starts, Resolves, Transfers, Behind, InLowering, BeforeLeaving, Control, Free, Chosen, Instantiates, Runs, Calls, Arrives, Lowers, Quiet, Goes, Resumes, Delivers, Leaves}
-use Rattle.abi_machine.specs.World.{New, Channel, Task, World}
-use Rattle.abi_machine.specs.Reading.{numbered}
+use Rattle.abi_machine.specs.World.{New, Inst, Channel, Task, World}
 use Rattle.abi_machine.specs.sound.Firsts.{FirstIs, IsActing, MayBeInside}
 use Rattle.abi_machine.specs.sound.Entering.{HasEntered}
+pub use Rattle.abi_machine.specs.sound.EndPlaces.{channel_in}
+use Rattle.abi_machine.specs.sound.EndsPassed.{PassesBehind, PassesOnce, HostPassesNoEnd}
 
 -- So many elements are to go over, to or from the end of a call: nothing is under way there, and an offer with room for them stands at the
 -- other end. A future has one value.
@@ -24,11 +26,6 @@ pub record IsDue (kind : EndKind) (side : Side) (count : ℕ) (ends : EndsView) 
   pub offer : OpenCopy
   pub stands : standing_of (end_at (other_side side) ends).copy ≡ Some offer
   pub room : FitsIn kind count offer
-
--- the stream or the future of a number, among these streams and futures
-abbrev pub channel_in : EndKind → ℕ → List Channel → List Channel → Option Channel
-channel_in Stream number streams futures = numbered streams number
-channel_in Future number streams futures = numbered futures number
 
 abbrev pub IsDueAt : EndRef → ℕ → List Channel → List Channel → Type 0
 IsDueAt e count streams futures =
@@ -76,21 +73,21 @@ FirstIsNew tasks chain = FirstIs tasks chain (λ task. task.state ≡ New)
 abbrev pub FirstIsLetIn : List Task → List ℕ → Type 0
 FirstIsLetIn tasks chain = FirstIs tasks chain (MayBeInside tasks)
 
-abbrev pub Tells : Control → List Task → List ℕ → List Channel → List Channel → Type 0
-Tells Free tasks chain streams futures = chain ≡ []
-Tells (Chosen k) tasks chain streams futures = chain ≡ []
-Tells (Instantiates n) tasks chain streams futures = chain ≡ 0 ∷ []
-Tells Runs tasks chain streams futures = FirstActs tasks chain
-Tells (Calls number words) tasks chain streams futures = FirstActs tasks chain
-Tells Arrives tasks chain streams futures = FirstIsNew tasks chain
-Tells (Lowers l plan) tasks chain streams futures = FirstActs tasks chain × IsDueBehind l.next streams futures × HasEntered tasks l.acts_for × HasResolvedThen l.next tasks chain
-Tells (Quiet n b) tasks chain streams futures = FirstActs tasks chain × IsDueAfter b streams futures × LowersForEntered b tasks × HasResolvedBehind b tasks chain
-Tells Goes tasks chain streams futures = FirstIsLetIn tasks chain
-Tells Resumes tasks chain streams futures = FirstIsLetIn tasks chain
-Tells (Delivers set receiver pick) tasks chain streams futures = FirstActs tasks chain
-Tells Leaves tasks chain streams futures = FirstActs tasks chain × FirstHasResolved tasks chain
-Tells other tasks chain streams futures = Unit {0}
+abbrev pub Tells : Control → List Task → List ℕ → List Channel → List Channel → List Inst → Type 0
+Tells Free tasks chain streams futures insts = chain ≡ []
+Tells (Chosen k) tasks chain streams futures insts = chain ≡ []
+Tells (Instantiates n) tasks chain streams futures insts = chain ≡ 0 ∷ []
+Tells Runs tasks chain streams futures insts = FirstActs tasks chain
+Tells (Calls number words) tasks chain streams futures insts = FirstActs tasks chain
+Tells Arrives tasks chain streams futures insts = FirstIsNew tasks chain
+Tells (Lowers l plan) tasks chain streams futures insts = FirstActs tasks chain × IsDueBehind l.next streams futures × HasEntered tasks l.acts_for × HasResolvedThen l.next tasks chain × (HostPassesNoEnd tasks → PassesOnce (Lowers l plan) insts streams futures)
+Tells (Quiet n b) tasks chain streams futures insts = FirstActs tasks chain × IsDueAfter b streams futures × LowersForEntered b tasks × HasResolvedBehind b tasks chain × (HostPassesNoEnd tasks → PassesBehind b insts streams futures)
+Tells Goes tasks chain streams futures insts = FirstIsLetIn tasks chain
+Tells Resumes tasks chain streams futures insts = FirstIsLetIn tasks chain
+Tells (Delivers set receiver pick) tasks chain streams futures insts = FirstActs tasks chain
+Tells Leaves tasks chain streams futures insts = FirstActs tasks chain × FirstHasResolved tasks chain
+Tells other tasks chain streams futures insts = Unit {0}
 
 -- what this control says of a world
 abbrev pub Agrees : Control → World → Type 0
-Agrees control w = Tells control w.tasks w.chain w.streams w.futures
+Agrees control w = Tells control w.tasks w.chain w.streams w.futures w.insts

@@ -1,6 +1,6 @@
 -- Writable ends (Component Model, CanonicalABI.md, "Stream State" and "Future State", `canon stream.new`, `lift_stream`): each stands in one table at
 -- most, at one index, and is of a stream or a future that was made. Only readable ends are passed.
-use Rattle.std.specs.Prelude.{◌≡◌, ◌≤◌, ◌⊎◌, ℕ, List, length, Some}
+use Rattle.std.specs.Prelude.{◌≡◌, ◌≤◌, ◌⊎◌, ℕ, List, length, Option, Some}
 use Rattle.std.specs.List.{slice_get}
 use Rattle.handle_table.specs.History.{live}
 use Rattle.builtin_kinds.specs.declared.EndKind.{EndKind}
@@ -8,7 +8,7 @@ use Rattle.builtin_kinds.specs.declared.EndKind.TheVariants.{Stream, Future}
 use Rattle.stream_ends.specs.declared.side.Side.TheVariants.{Reader, Writer}
 use Rattle.abi_machine.specs.Control.{EndRef}
 use Rattle.abi_machine.specs.World.{Entry, OfEnd, Inst, Channel, World}
-use Rattle.abi_machine.specs.Reading.{table_in}
+use Rattle.abi_machine.specs.Reading.{table_in, numbered}
 
 -- An end stands at an index of the table of an instance; or in none.
 abbrev pub EndStandsAt : List Inst → ℕ → ℕ → EndRef → Type 0
@@ -16,6 +16,11 @@ EndStandsAt insts i index e = live (table_in (slice_get insts i)) index ≡ Some
 
 abbrev pub EndStandsNowhere : List Inst → EndRef → Type 0
 EndStandsNowhere insts e = (i index : ℕ) → EndStandsAt insts i index e → ⊥
+
+-- the stream or the future of a number, among these streams and futures
+abbrev pub channel_in : EndKind → ℕ → List Channel → List Channel → Option Channel
+channel_in Stream number streams futures = numbered streams number
+channel_in Future number streams futures = numbered futures number
 
 -- how many streams, or futures, were made
 abbrev pub made_count : EndKind → List Channel → List Channel → ℕ

@@ -1,6 +1,7 @@
 -- Events that come (Component Model, CanonicalABI.md, `canon waitable-set.wait`, `canon lift`, "Waitable Set State"; Concurrency.md,
--- "Cancellation"): a task that goes on from a wait on a set has a ready member there, or is told that its cancellation is asked; and where the
--- event of a member comes to a task, the member that was picked is there, and the task has a callback where this gets the event.
+-- "Cancellation"): a task that goes on from a wait on a set has a ready member there, or is told that its cancellation is asked; one that goes on from a
+-- call has called a task that has resolved, and one that goes on from a copy has its end at its index; and where the event of a member comes to a task,
+-- the member that was picked is there, and the task has a callback where this gets the event.
 use Rattle.std.specs.Prelude.{◌≡◌, ℕ, true, false, List, Option, Some, IsSome, Result, Ok}
 use Rattle.std.specs.List.{slice_get}
 use Rattle.std.specs.Option.{unwrap_or}
@@ -13,11 +14,12 @@ use Rattle.comp_graph.specs.Graph.{Graph, Lifted}
 use Rattle.script_reader.specs.Script.{Script}
 use Rattle.trace_show.specs.declared.label.Label.{Label}
 use Rattle.abi_machine.specs.Control.{Receiver, InWait, InCallback, Control, Free, Goes, Resumes, Delivers}
-use Rattle.abi_machine.specs.World.{Wait, ForSet, TaskState, InLoop, InBuiltin, Task, World, first_world}
+use Rattle.abi_machine.specs.World.{Wait, ForSet, ForCall, ForCopy, TaskState, InLoop, InBuiltin, Task, World, first_world}
 use Rattle.abi_machine.specs.Edits.{with_control}
 use Rattle.abi_machine.specs.Reading.{func_of}
 use Rattle.abi_machine.specs.Counting.{ready}
-use Rattle.abi_machine.specs.Scheduling.{is_some_ready}
+use Rattle.abi_machine.specs.Scheduling.{is_some_ready, is_task_resolved}
+use Rattle.abi_machine.specs.Finding.{found_end}
 use Rattle.abi_machine.specs.Delivering.{is_to_be_told}
 use Rattle.abi_machine.specs.Turn.{Steps}
 use Rattle.abi_machine.specs.Next as machine
@@ -27,9 +29,12 @@ use Rattle.abi_machine.specs.sound.Acting.{IsOrdered}
 use Rattle.abi_machine.specs.sound.Guests.{WaitAs}
 use Rattle.abi_machine.specs.sound.Owners.{IsApart, IsOwnWorld, IsControlOwn}
 
--- Why a task goes on that waits on a set: in a canonical function, and in its loop.
+-- Why a task goes on: where it waits on a set, in a canonical function and in its loop; for a task that it called, which has resolved; and for a copy,
+-- whose end stands at its index.
 abbrev pub EndsWait : Graph → World → Lifted → Task → ℕ → Wait → Type 0
 EndsWait g w f task number (ForSet index) = is_to_be_told g number (ForSet index) task w f.instance ≡ false → is_some_ready w f.instance index ≡ true
+EndsWait g w f task number (ForCall callee) = is_task_resolved w callee ≡ true
+EndsWait g w f task number (ForCopy index) = IsSome (found_end w f.instance index)
 EndsWait g w f task number wait = Unit {0}
 
 abbrev pub EndsLoop : World → Lifted → Task → Result Next BadCode → Type 0

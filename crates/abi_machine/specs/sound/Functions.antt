@@ -8,7 +8,7 @@ use Rattle.comp_graph.specs.declared.graph.Resource.{Resource}
 use Rattle.comp_graph.specs.Graph.{Graph}
 use Rattle.script_reader.specs.Script.{Script}
 use Rattle.trace_show.specs.declared.label.Label.{Label}
-use Rattle.abi_machine.specs.Control.{Control, Free, Chosen, Runs, Lowers, Quiet, Resumes}
+use Rattle.abi_machine.specs.Control.{Control, Free, Chosen, Runs, Lowers, Quiet}
 use Rattle.abi_machine.specs.World.{World, first_world}
 use Rattle.abi_machine.specs.Edits.{with_control}
 use Rattle.abi_machine.specs.Canons.{resource_at}
@@ -18,7 +18,7 @@ use Rattle.abi_machine.specs.Run.{Reaches}
 use Rattle.abi_machine.specs.sound.Owners.{IsApart}
 use Rattle.abi_machine.specs.sound.MadeInstances.{IsTypedGraph}
 use Rattle.abi_machine.specs.sound.Callees.{IsUsedGraph}
-use Rattle.abi_machine.specs.sound.GoingOn.{HasNext, IsFuncThere, HaveFuncs, IsNextThere, RunsOn, AsksOf, HostedOn, ResumesThere}
+use Rattle.abi_machine.specs.sound.GoingOn.{HasNext, IsFuncThere, HaveFuncs, IsNextThere, RunsOn, AsksOf, HostedOn}
 use Rattle.abi_machine.specs.sound.Starting.{IsDoomed}
 
 abbrev pub HaveDestructors : Graph → Store → Type 0
@@ -36,7 +36,6 @@ IsFedThen g s (Chosen k) w = IsNextThere g s w
 IsFedThen g s Runs w = RunsOn w
 IsFedThen g s (Lowers l plan) w = AsksOf l plan w
 IsFedThen g s (Quiet n b) w = HostedOn b w.store n.state
-IsFedThen g s Resumes w = ResumesThere w
 IsFedThen g s control w = Unit {0}
 
 abbrev pub UsedGoOn : Type 0

@@ -23,11 +23,10 @@ use Rattle.script_reader.specs.Script.{Script}
 use Rattle.trace_show.specs.declared.label.Label.{Label}
 use Rattle.abi_machine.specs.LoweringOver.{Plan}
 use Rattle.abi_machine.specs.Control.{Lowering, HostedState, Going, AtCall, Behind, InLowering, BeforeLeaving, Control, Free, Chosen, Instantiates, Runs, Calls, Lowers, Quiet, Resumes, Delivers}
-use Rattle.abi_machine.specs.World.{Wait, ForCopy, TaskState, InBuiltin, Task, World, first_world}
+use Rattle.abi_machine.specs.World.{Task, World, first_world}
 use Rattle.abi_machine.specs.Edits.{with_control}
 use Rattle.abi_machine.specs.Canons.{func_address, externals, bytes_of, canon_at, resource_at}
 use Rattle.abi_machine.specs.Reading.{table_of, func_of, kind_of, may_leave}
-use Rattle.abi_machine.specs.Finding.{found_end}
 use Rattle.abi_machine.specs.Pausing.{Paused, Words, Failed, Asked, settle}
 use Rattle.abi_machine.specs.Turn.{Turn, Steps, Ends, Stuck}
 use Rattle.abi_machine.specs.Scheduling.{calls_taken}
@@ -136,18 +135,6 @@ pub record IsCallable (g : Graph) (number : ℕ) (w : World) : Type 0 where
   pub made : (t : ℕ) (task : Task) → IsFirst t w.chain → slice_get w.tasks t ≡ Some task → func_of task.callee ≡ None → IsSome (canon_at g number)
   pub names : may_leave w ≡ true → (c : CanonFunc) → canon_at g number ≡ Some c → NamesThere g w.store c
 
--- The end of the copy for which a blocked task waits stands at its index.
-abbrev pub WaitsThere : World → ℕ → Wait → Type 0
-WaitsThere w i (ForCopy index) = IsSome (found_end w i index)
-WaitsThere w i wait = Unit {0}
-
-abbrev pub ResumesAt : World → Lifted → TaskState → Type 0
-ResumesAt w f (InBuiltin number words wait) = WaitsThere w f.instance wait
-ResumesAt w f state = Unit {0}
-
-abbrev pub ResumesThere : World → Type 0
-ResumesThere w = (t : ℕ) (task : Task) (f : Lifted) → IsFirst t w.chain → slice_get w.tasks t ≡ Some task → func_of task.callee ≡ Some f → ResumesAt w f task.state
-
 -- What is kept, of which the rules are fed.
 pub record IsStanding (g : Graph) (s : Script) (w : World) : Type 0 where
   pub alone : RunsAlone w
@@ -178,7 +165,7 @@ IsFed g s Runs w = RunsOn w × HaveFuncs w.store w.tasks
 IsFed g s (Calls number words) w = IsCallable g number w
 IsFed g s (Lowers l plan) w = AsksOf l plan w × HaveFuncs w.store w.tasks
 IsFed g s (Quiet n b) w = HostedOn b w.store n.state
-IsFed g s Resumes w = ResumesThere w × HaveFuncs w.store w.tasks
+IsFed g s Resumes w = HaveFuncs w.store w.tasks
 IsFed g s (Delivers set receiver pick) w = HaveFuncs w.store w.tasks
 IsFed g s control w = Unit {0}
 

@@ -33,9 +33,12 @@ use Rattle.abi_machine.specs.Scheduling.{is_call, calls_taken}
 use Rattle.abi_machine.specs.replies.Pressure.{most_backpressure}
 use Rattle.abi_machine.specs.replies.Streams.{max_length}
 use Rattle.abi_machine.specs.sound.Changes.{Change, SpendsUnit, UsesPicks, TakesItem, AddsEntry, MakesSet, RemovesEntry, RemovesWaitable, JoinsSet, HasBackpressure, IsCalled, Calls, ComesBack, Acts, Begins, Cancels, Blocks, Exits, IsRemoved, Resolves, IsCancelled, IsTold, IsLent, MakesChannel, Offers, Transfers, DropsEnd, IsWaitable, Stands, IsLeft, IsAdded, IsFirst, IsGuest, HasFunc, FirstCancels, IsBlocked}
+use Rattle.abi_machine.specs.sound.Chain.{IsThere}
 use Rattle.abi_machine.specs.sound.Firsts.{TaskIs, IsActing, IsLetIn}
 use Rattle.abi_machine.specs.sound.Agreeing.{IsDueAt, channel_in}
+use Rattle.abi_machine.specs.sound.CallsFit.{IsNextCall, IsCalledBy, CopiesAt}
 use Rattle.abi_machine.specs.sound.EndPlaces.{IsFreshEnd}
+use Rattle.abi_machine.specs.sound.EndsPassed.{HostPassesNoEnd, IsFreshReader, AreOfScript}
 use Rattle.abi_machine.specs.sound.Entering.{HasEntered}
 use Rattle.abi_machine.specs.sound.Entered.{NamesEntered}
 use Rattle.abi_machine.specs.sound.GraphFuncs.{IsOfGraph}
@@ -72,6 +75,10 @@ MayBecome Delivered task = task.cancellation ≡ Asked
 -- A task that exits has resolved, where it runs a function: task 0 runs none.
 abbrev pub ExitsResolved : Task → Type 0
 ExitsResolved task = IsSome (func_of task.callee) → IsSome task.resolution
+
+-- Any other task acts, and has resolved.
+abbrev pub ExitsFrom : ℕ → Task → Type 0
+ExitsFrom t task = 1 ≤ t → IsActing task × IsSome task.resolution
 
 -- A subtask that is new: nothing was told of it, and nothing is lent for it.
 abbrev pub IsNewSubtask : Subtask → Type 0
@@ -153,7 +160,8 @@ WasDropped tasks entry = Unit {0}
 abbrev pub IsTaken : World → Entry → Type 0
 IsTaken w entry = IsWaitable entry × HasNoCopy w entry × WasDropped w.tasks entry
 
--- A read or write at an end that stands in a table and at which nothing is under way, by a task and a canonical function that are there.
+-- A read or write at an end that stands in a table and at which nothing is under way, by a task and a canonical function that are there. This one
+-- reads or writes at such ends.
 -- One of a future is of one value.
 abbrev pub IsSizeIn : EndKind → ℕ → Type 0
 IsSizeIn Stream size = size ≤ max_length
@@ -174,6 +182,7 @@ pub record IsCall (g : Graph) (w : World) (e : EndRef) (call : OpenCopy) : Type 
   pub held : entry_at w inst index ≡ Some (OfEnd e)
   pub quiet : (end_of w e).copy ≡ None
   pub not_done : (end_of w e).done ≡ false
+  pub copies : CopiesAt g w.streams w.futures e canon
 
 -- An item that is taken is there, and where it calls a function this call, which is the next one, made its task.
 abbrev pub IsTakeable : Script → World → Type 0
@@ -184,22 +193,22 @@ abbrev pub Comes : Graph → Script → Change → World → Type 0
 Comes g s SpendsUnit w = w.units < s.fuel
 Comes g s (UsesPicks picks) w = (count : ℕ) × (picks ≡ (drawn count (picks_of s w)).used)
 Comes g s TakesItem w = IsTakeable s w
-Comes g s (AddsEntry i entry) w = (live_count (table_of w i) < most_live) × IsAdded w.tasks entry × IsFreshEnd w entry × NamesEntered w.tasks entry
+Comes g s (AddsEntry i entry) w = (live_count (table_of w i) < most_live) × IsAdded w.tasks entry × IsFreshEnd w entry × NamesEntered w.tasks entry × (HostPassesNoEnd w.tasks → IsFreshReader w entry)
 Comes g s (MakesSet i set) w = (live_count (table_of w i) < most_live) × (set ≡ length (sets_in (slice_get w.insts i)))
 Comes g s (RemovesEntry i index) w = Stands w i index (IsFree w i index)
 Comes g s (RemovesWaitable i index) w = Stands w i index (IsTaken w)
 Comes g s (JoinsSet i index set) w = Stands w i index IsWaitable × ((other : ℕ) × (entry_at w i other ≡ Some (OfSet set)))
 Comes g s (HasBackpressure i backpressure) w = (backpressure ≤ most_backpressure) ⊎ (backpressure ≤ backpressure_of w i)
-Comes g s (IsCalled callee call values) w = IsSome (func_of callee) × (w.chain ≡ []) × (ReturnsBorrow callee → GraphPassesBorrow g) × IsOfGraph g callee
+Comes g s (IsCalled callee call values) w = IsSome (func_of callee) × (w.chain ≡ []) × (ReturnsBorrow callee → GraphPassesBorrow g) × IsOfGraph g callee × IsNextCall g s w callee values × AreOfScript s values
 Comes g s (Calls number callee subtask words) w =
     IsSome (func_of callee) × IsSome (task_at w subtask.by) × IsFirst subtask.by w.chain × (may_leave w ≡ true) × TaskIs w.tasks subtask.by IsActing
-    × IsNewSubtask subtask × (ReturnsBorrow callee → GraphPassesBorrow g) × IsOfGraph g callee
+    × IsNewSubtask subtask × (ReturnsBorrow callee → GraphPassesBorrow g) × IsOfGraph g callee × IsCalledBy g subtask.canon callee
 Comes g s (ComesBack t) w = HasFunc w.tasks t × ((w.chain ≡ []) ⊎ FirstCancels w.tasks w.chain)
-Comes g s (Acts t) w = IsFirst t w.chain × IsLetIn w.tasks t
+Comes g s (Acts t) w = IsFirst t w.chain × IsLetIn w.tasks t × TaskIs w.tasks t (λ task. IsThere task.state)
 Comes g s (Begins n) w = IsFirst 0 w.chain × TaskIs w.tasks 0 (λ task. task.callee ≡ Init)
 Comes g s (Cancels t callee number words) w = IsFirst t w.chain × (may_leave w ≡ true) × TaskIs w.tasks t IsActing × IsGuest w.tasks callee
 Comes g s (Blocks t state) w = IsFirst t w.chain × IsBlocked state × ((may_leave w ≡ true) ⊎ HasFunc w.tasks t) × TaskIs w.tasks t (BlocksFrom state)
-Comes g s (Exits t) w = IsFirst t w.chain × TaskIs w.tasks t ExitsResolved
+Comes g s (Exits t) w = IsFirst t w.chain × TaskIs w.tasks t ExitsResolved × TaskIs w.tasks t (ExitsFrom t)
 Comes g s (IsRemoved t) w = HasFunc w.tasks t × TaskIs w.tasks t IsRemovable × (borrows_of w t ≡ 0)
 Comes g s (Resolves t resolution) w = TaskIs w.tasks t (MayResolve resolution) × (borrows_of w t ≡ 0)
 Comes g s (IsCancelled t cancellation) w = TaskIs w.tasks t (MayBecome cancellation)

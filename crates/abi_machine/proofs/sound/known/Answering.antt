@@ -1,6 +1,6 @@
 -- The answers of built-ins keep what each change keeps.
-use Rattle.std.proofs.Common.{arith, ◌≡◌, ◌≤◌, ◌⊎◌, inl, inr, ℕ, zero, suc, ◌+◌, ◌-◌, ◌*◌, ◌%◌, ◌&&◌, Bool, true, not, nat_eq, nat_lt, nat_le, List, [], ◌∷◌, length, refl, sym, ap, ◌∙◌, subst, Option, Some, None, Result, Ok, Err, if◌then◌else◌}
-use Rattle.std.specs.Prelude.{IsSome, slice_index}
+use Rattle.std.proofs.Common.{arith, ◌≡◌, ◌≤◌, ◌⊎◌, inl, inr, ℕ, zero, suc, ◌+◌, ◌-◌, ◌*◌, ◌%◌, ◌&&◌, Bool, true, false, not, nat_eq, nat_lt, nat_le, List, [], ◌∷◌, length, refl, sym, ap, ◌∙◌, subst, Option, Some, None, Result, Ok, Err, if◌then◌else◌}
+use Rattle.std.specs.Prelude.{IsSome, is_some, slice_index}
 use Rattle.std.specs.List.{slice_get}
 use Rattle.std.proofs.lemmas.Bool.Decides.{nat_tests}
 use Rattle.std.specs.Option.{IfSome}
@@ -87,6 +87,7 @@ use Rattle.abi_machine.proofs.sound.Entries.{not_false}
 use Rattle.abi_machine.proofs.sound.Takeable.{end_found}
 use Rattle.abi_machine.proofs.sound.known.Asked.{CancelsWell}
 use Rattle.abi_machine.proofs.sound.known.Asking.{over_resolved, one_callee, stands_here}
+use Rattle.abi_machine.proofs.sound.known.Awaiting.{cancel_alone}
 use Rattle.abi_machine.proofs.sound.known.Events.{first_ready, instance_is, member_comes}
 use Rattle.abi_machine.proofs.sound.known.Keeping.{Known, BlocksAs, CallsItsOwn, Walk, Keeps, Held, still, given_keeps, behind_keeps, either_keeps, goes, refused_keeps, unless_keeps, fault_keeps, runs_keeps, on_keeps, blocked_keeps, entry_keeps, acting_stack_keeps, removes, waits, lends}
 use Rattle.abi_machine.proofs.sound.known.Moving.{resolves_keeps}
@@ -94,6 +95,10 @@ use Rattle.abi_machine.proofs.sound.known.Waking.{call_keeps, with_keeps, none_k
 use Rattle.abi_machine.proofs.sound.acts.Nesting.{exempt_leaves}
 use Rattle.abi_machine.proofs.sound.acts.Answering.{acts_free}
 use Rattle.abi_machine.proofs.sound.known.Nesting.{meets_keeps}
+
+not_copying : (o : Option OpenCopy) → is_some o ≡ false → o ≡ None
+not_copying None e = refl
+not_copying (Some copy) e = cc
 
 module _ {g : Graph} {s : Script} (walk : Walk g s) where
   -- Built-ins.
@@ -157,7 +162,7 @@ module _ {g : Graph} {s : Script} (walk : Walk g s) where
   unfolding yield_turn
   yield_keeps t task number cancellable words w free calls h =
       either_keeps walk (cancellable && is_asked task.cancellation) (yield_cancelled t w) (blocked t (InBuiltin number words ForYield) reason.Yield w) (λ e. yielded_keeps walk t w h)
-      (λ e. blocked_keeps walk t (InBuiltin number words ForYield) reason.Yield w h.1.0 tt (inl free) tt (λ asks. tt) calls (as_is (IsActing true) (WaitsWith true) t w (acting_waits true) h.1) h.0)
+      (λ e. blocked_keeps walk t (InBuiltin number words ForYield) reason.Yield w h.1.0 tt (inl free) tt (λ asks. tt) (λ copies. tt) calls (as_is (IsActing true) (WaitsWith true) t w (acting_waits true) h.1) h.0)
 
   new_set_keeps : (t i : ℕ) (w : World) → Held walk true t w → Keeps walk (set_new_turn t i w)
   unfolding set_new_turn
@@ -170,7 +175,7 @@ module _ {g : Graph} {s : Script} (walk : Walk g s) where
   unfolding none_ready
   none_ready_keeps t f wait_op.Poll number words w free there calls mine h = none_keeps walk t f (InWait number words) w mine h
   none_ready_keeps t f wait_op.Wait number words w free there calls mine h =
-      blocked_keeps walk t (InBuiltin number words (ForSet (slice_index words 0))) (reason.Wait (slice_index words 0)) w h.1.0 tt (inl free) there (λ asks. tt) calls (as_is (IsActing true) (WaitsWith true) t w (acting_waits true) h.1) h.0
+      blocked_keeps walk t (InBuiltin number words (ForSet (slice_index words 0))) (reason.Wait (slice_index words 0)) w h.1.0 tt (inl free) there (λ asks. tt) (λ copies. tt) calls (as_is (IsActing true) (WaitsWith true) t w (acting_waits true) h.1) h.0
 
   by_ready_keeps : (t : ℕ) (f : Lifted) (op : WaitOp) (number : ℕ) (words : List ℕ) (set : ℕ) (members : List ℕ) (w : World) → (walk.Event → members ≡ ready w f.instance set) → may_leave w ≡ true → BlocksAs g t (InBuiltin number words (ForSet (slice_index words 0))) w → (walk.Apart → CallsItsOwn g number t w) → Is (IsOfFunc f) t w → Held walk true t w → Keeps walk (by_ready g t f op number words set members w)
   unfolding by_ready
@@ -237,10 +242,10 @@ module _ {g : Graph} {s : Script} (walk : Walk g s) where
       either_keeps walk (nat_eq size 0) more (unless t askew trap.Misaligned w (unless t outside trap.Bounds w more)) (λ e. keeps)
       (λ e. unless_keeps walk t askew trap.Misaligned w (unless t outside trap.Bounds w more) (h.0, h.1.0) (λ f. unless_keeps walk t outside trap.Bounds w more (h.0, h.1.0) (λ j. keeps)))
 
-  copy_keeps : (t i number : ℕ) (kind : EndKind) (side : Side) (element : Option ValType) (options : Options) (words : List ℕ) (size : ℕ) (w : World) → may_leave w ≡ true → (walk.Apart → CallsItsOwn g number t w) → Held walk true t w
+  copy_keeps : (t i number : ℕ) (kind : EndKind) (side : Side) (element : Option ValType) (options : Options) (words : List ℕ) (size : ℕ) (w : World) → may_leave w ≡ true → owner_of_canon g number ≡ Some i → (walk.Apart → CallsItsOwn g number t w) → Held walk true t w
       → Keeps walk (copy_turn g t i number kind side element options words size w)
   unfolding copy_turn
-  copy_keeps t i number kind side element options words size w free calls h =
+  copy_keeps t i number kind side element options words size w free here calls h =
       let bytes : List ℕ = bytes_of w.store (memory_of w.store options) in
       let call : OpenCopy = new_copy (copy_by.Task t) number (slice_index words 1) size in
       let met : EndRef → Turn = λ e. meets g t i e call words (slice_index words 0) w in
@@ -251,15 +256,15 @@ module _ {g : Graph} {s : Script} (walk : Walk g s) where
       unless_keeps walk t (is_copying (end_of w e)) trap.Busy w (done e) (h.0, h.1.0) (λ k.
       unless_keeps walk t (end_of w e).done trap.DoneEnd w (long e) (h.0, h.1.0) (λ l.
       unless_keeps walk t (nat_lt max_length size) trap.TooLong w (placed e) (h.0, h.1.0) (λ m.
-      placed_keeps t bytes element (slice_index words 1) size w (met e) h (meets_keeps walk t i e call words (slice_index words 0) w free calls h)))))
+      placed_keeps t bytes element (slice_index words 1) size w (met e) h (meets_keeps walk t i e call words (slice_index words 0) w free (not_copying (end_of w e).copy k) refl (end_found w i kind side element (slice_index words 0) e j).0 here calls h)))))
 
-  copy_cancel_keeps : (t i : ℕ) (kind : EndKind) (side : Side) (element : Option ValType) (index : ℕ) (w : World) → Held walk true t w → Keeps walk (copy_cancel_turn g t i kind side element index w)
+  copy_cancel_keeps : (t i : ℕ) (kind : EndKind) (side : Side) (element : Option ValType) (index : ℕ) (w : World) → Known walk w → Held walk true t w → Keeps walk (copy_cancel_turn g t i kind side element index w)
   unfolding copy_cancel_turn
-  copy_cancel_keeps t i kind side element index w h =
+  copy_cancel_keeps t i kind side element index w facts h =
       let stale : EndRef → Bool = λ e. not (passes (is_async_copy g) (end_of w e).copy) in
       let answers : EndRef → Turn = λ e. replied t (payload_of w e ∷ []) (concluded e w) in
       refused_keeps walk t (end_at w kind side element i index) w (λ e. unless t (stale e) trap.NotCopying w (answers e)) (h.0, h.1.0) (λ e j.
-      unless_keeps walk t (stale e) trap.NotCopying w (answers e) (h.0, h.1.0) (λ k. on_keeps walk t (payload_of w e ∷ []) (concluded e w) (still walk true t (Concludes e) w tt tt (λ apart. tt) tt h)))
+      unless_keeps walk t (stale e) trap.NotCopying w (answers e) (h.0, h.1.0) (λ k. on_keeps walk t (payload_of w e ∷ []) (concluded e w) (still walk true t (Concludes e) w tt (λ copies. cancel_alone g w e (facts.2 copies) (not_false (passes (is_async_copy g) (end_of w e).copy) k)) (λ apart. tt) tt h)))
 
   end_drop_keeps : (t i : ℕ) (kind : EndKind) (side : Side) (element : Option ValType) (index : ℕ) (w : World) → Held walk true t w → Keeps walk (end_drop_turn t i kind side element index w)
   unfolding end_drop_turn
@@ -270,7 +275,7 @@ module _ {g : Graph} {s : Script} (walk : Walk g s) where
       unless_keeps walk t (is_copying (end_of w e)) trap.Busy w (idle e) (h.0, h.1.0) (λ k.
       unless_keeps walk t (is_unwritten kind side (end_of w e)) trap.UnwrittenFuture w (answers e) (h.0, h.1.0) (λ l.
       on_keeps walk t [] (after (DropsEnd e) (after (RemovesWaitable i index) w)) (still walk true t (DropsEnd e) (after (RemovesWaitable i index) w) tt tt (λ apart. tt) tt (still walk true t (RemovesWaitable i index) w (end_stands w i kind side element index e j)
-      (λ asks callee at. absurd (let clash : OfEnd e ≡ OfSubtask callee = some_same (sym (end_found w i kind side element index e j).0 ∙ at) in let none : ⊥ = cc in none)) (λ apart. tt) tt h)))))
+      ((λ asks callee at. absurd (let clash : OfEnd e ≡ OfSubtask callee = some_same (sym (end_found w i kind side element index e j).0 ∙ at) in let none : ⊥ = cc in none)), (OfEnd e, (end_found w i kind side element index e j).0, not_copying (end_of w e).copy k)) (λ apart. tt) tt h)))))
 
   subtask_cancel_keeps : (t i number : ℕ) (words : List ℕ) (w : World) → Known walk w → may_leave w ≡ true → owner_of_canon g number ≡ Some i → (walk.Apart → CallsItsOwn g number t w) → Held walk true t w → Keeps walk (subtask_cancel_turn g t i number words w)
   unfolding subtask_cancel_turn cancel_asked
@@ -299,7 +304,7 @@ module _ {g : Graph} {s : Script} (walk : Walk g s) where
       refused_keeps walk t (subtask_at w i index) w (λ callee. with_subtask_of w callee over) (h.0, h.1.0) (λ callee e. with_keeps walk w callee over (λ task subtask there guest.
       unless_keeps walk t (not (is_over subtask.told)) trap.NotDelivered w answers (h.0, h.1.0) (λ j.
       on_keeps walk t [] (after (RemovesWaitable i index) w) (still walk true t (RemovesWaitable i index) w (subtask_stands w i index callee e)
-      (λ asks other at. subst (λ (n : ℕ). CallIs w.tasks n IsOver) (one_callee callee other (some_same (sym (subtask_there w i index callee e) ∙ at))) (task, there, (subtask, guest, not_false (is_over subtask.told) j))) (λ apart. tt) tt h))))
+      ((λ asks other at. subst (λ (n : ℕ). CallIs w.tasks n IsOver) (one_callee callee other (some_same (sym (subtask_there w i index callee e) ∙ at))) (task, there, (subtask, guest, not_false (is_over subtask.told) j))), (OfSubtask callee, subtask_there w i index callee e, tt)) (λ apart. tt) tt h))))
 
   pressure_keeps : (t i pressure : ℕ) (w : World) → (pressure ≤ most_backpressure) ⊎ (pressure ≤ backpressure_of w i) → Held walk true t w → Keeps walk (replied t [] (after (HasBackpressure i pressure) w))
   pressure_keeps t i pressure w few h = on_keeps walk t [] (after (HasBackpressure i pressure) w) (still walk true t (HasBackpressure i pressure) w few tt (λ apart. tt) tt h)
@@ -325,12 +330,12 @@ module _ {g : Graph} {s : Script} (walk : Walk g s) where
   plain_keeps t task i number plain.WaitableSetDrop words w facts free here calls h = set_drop_keeps t i (slice_index words 0) w h
   plain_keeps t task i number plain.WaitableJoin words w facts free here calls h = join_keeps t i (slice_index words 0) (slice_index words 1) w h
 
-  ends_keep : (t i number : ℕ) (kind : EndKind) (element : Option ValType) (op : EndOp) (words : List ℕ) (w : World) → may_leave w ≡ true → (walk.Apart → CallsItsOwn g number t w) → Held walk true t w → Keeps walk (end_turn g t i number kind element op words w)
+  ends_keep : (t i number : ℕ) (kind : EndKind) (element : Option ValType) (op : EndOp) (words : List ℕ) (w : World) → Known walk w → may_leave w ≡ true → owner_of_canon g number ≡ Some i → (walk.Apart → CallsItsOwn g number t w) → Held walk true t w → Keeps walk (end_turn g t i number kind element op words w)
   unfolding end_turn
-  ends_keep t i number kind element end_op.New words w free calls h = new_ends_keep t i kind element w h
-  ends_keep t i number kind element (end_op.Copy side options) words w free calls h = copy_keeps t i number kind (side_of side) element options words (copy_size kind words) w free calls h
-  ends_keep t i number kind element (end_op.Cancel side is_async) words w free calls h = copy_cancel_keeps t i kind (side_of side) element (slice_index words 0) w h
-  ends_keep t i number kind element (end_op.Drop side) words w free calls h = end_drop_keeps t i kind (side_of side) element (slice_index words 0) w h
+  ends_keep t i number kind element end_op.New words w facts free here calls h = new_ends_keep t i kind element w h
+  ends_keep t i number kind element (end_op.Copy side options) words w facts free here calls h = copy_keeps t i number kind (side_of side) element options words (copy_size kind words) w free here calls h
+  ends_keep t i number kind element (end_op.Cancel side is_async) words w facts free here calls h = copy_cancel_keeps t i kind (side_of side) element (slice_index words 0) w facts h
+  ends_keep t i number kind element (end_op.Drop side) words w facts free here calls h = end_drop_keeps t i kind (side_of side) element (slice_index words 0) w h
 
   builtin_keeps : (t : ℕ) (task : Task) (i number : ℕ) (b : BuiltinKind) (words : List ℕ) (w : World) → Known walk w → IsSome (canon_at g number) → may_leave w ≡ true → owner_of_canon g number ≡ Some i
       → (walk.Apart → CallsItsOwn g number t w) → Is (λ o. o ≡ outline_of task) t w → Held walk true t w → Keeps walk (builtin_turn g t task i number b words w)
@@ -340,7 +345,7 @@ module _ {g : Graph} {s : Script} (walk : Walk g s) where
   builtin_keeps t task i number (builtin.Plain op) words w facts known free here calls is h = plain_keeps t task i number op words w facts free here calls h
   builtin_keeps t task i number (builtin.Context op slot) words w facts known free here calls is h = tt
   builtin_keeps t task i number (builtin.Wait op cancellable memory) words w facts known free here calls is h = wait_turn_keeps t task i op number words w free here calls is h
-  builtin_keeps t task i number (builtin.End of_what element op) words w facts known free here calls is h = ends_keep t i number of_what element op words w free calls h
+  builtin_keeps t task i number (builtin.End of_what element op) words w facts known free here calls is h = ends_keep t i number of_what element op words w facts free here calls h
 
   reply_keeps : (t : ℕ) (task : Task) (number : ℕ) (c : CanonFunc) (words : List ℕ) (w : World) → Known walk w → canon_at g number ≡ Some c → IsSome (canon_at g number) → may_leave w ≡ true
       → (walk.Apart → CallsItsOwn g number t w) → Is (λ o. o ≡ outline_of task) t w → Held walk true t w → Keeps walk (reply g t task number c words w)

@@ -34,17 +34,17 @@ use Rattle.abi_machine.proofs.sound.acts.Keeping.{IsIn}
 use Rattle.abi_machine.proofs.sound.known.Unawaited.{acts_again, in_this_state, calls_acting}
 use Rattle.abi_machine.proofs.sound.known.Asked.{NoOther, NoneBlocked, TellsWell, BlocksAsked, AskedFacts}
 
-none_both : (b : Bool) (P : Type 0) → b ≡ true → b ≡ false → P
+pub none_both : (b : Bool) (P : Type 0) → b ≡ true → b ≡ false → P
 none_both b P is is_not = absurd (let clash : true ≡ false = sym is ∙ is_not in let none : ⊥ = cc in none)
 
-equal_self : (n : ℕ) → nat_eq n n ≡ true
+pub equal_self : (n : ℕ) → nat_eq n n ≡ true
 equal_self n = grind (arith, nat_tests)
 
 or_right : (a b : Bool) → b ≡ true → (a || b) ≡ true
 or_right true b e = refl
 or_right false b e = e
 
-both_true : (a b : Bool) → a ≡ true → b ≡ true → (a && b) ≡ true
+pub both_true : (a b : Bool) → a ≡ true → b ≡ true → (a && b) ≡ true
 both_true true b e k = k
 both_true false b e k = cc
 
@@ -171,7 +171,7 @@ blocked_told w t index callee number words f state h a mine at = by (is_over sta
         inr (e, calls_acting w.tasks t callee IsNotOver (subst (λ (n : ℕ). CallIs w.tasks n IsNotOver) same says.2))
 
 -- A member that is ready is not waited for.
-any_passes : (P : Task → Bool) (tasks : List Task) (u : ℕ) (x : Task) → slice_get tasks u ≡ Some x → P x ≡ true → list_any P tasks ≡ true
+pub any_passes : (P : Task → Bool) (tasks : List Task) (u : ℕ) (x : Task) → slice_get tasks u ≡ Some x → P x ≡ true → list_any P tasks ≡ true
 any_passes P [] u x there passes = cc
 any_passes P (y ∷ tasks) zero x there passes = ap (λ (b : Bool). b || list_any P tasks) (ap P (some_same there) ∙ passes)
 any_passes P (y ∷ tasks) (suc u) x there passes = or_right (P y) (list_any P tasks) (any_passes P tasks u x there passes)

@@ -35,48 +35,48 @@ blocks_before g t (InLoop word) w b = tt
 blocks_before g t (InBuiltin number words wait) w b = waits_before g t number words wait w b
 blocks_before g t Exited w b = tt
 
-pub was_known : (F D : Type 0) (g : Graph) (c : Change) (w : World) → Besides F D g c w → order.Besides g c w
-was_known F D g (GoesTo control) w b = tt
-was_known F D g (HasStore store) w b = tt
-was_known F D g SpendsUnit w b = tt
-was_known F D g (UsesPicks picks) w b = tt
-was_known F D g TakesItem w b = tt
-was_known F D g BeginsInstance w b = tt
-was_known F D g (AddsEntry i entry) w b = tt
-was_known F D g (MakesSet i set) w b = tt
-was_known F D g (RemovesEntry i index) w b = tt
-was_known F D g (RemovesWaitable i index) w b = tt
-was_known F D g (LeavesSet i index) w b = tt
-was_known F D g (JoinsSet i index set) w b = tt
-was_known F D g (HasBackpressure i backpressure) w b = tt
-was_known F D g (IsCalled callee call values) w b = tt
-was_known F D g (Calls number callee subtask words) w b = (b.0, b.1, b.2)
-was_known F D g (ComesBack t) w b = b
-was_known F D g (Acts t) w b = tt
-was_known F D g (Begins n) w b = tt
-was_known F D g (Cancels t callee number words) w b = b.0
-was_known F D g (Blocks t state) w b = (blocks_before g t state w b.0, b.1)
-was_known F D g (Exits t) w b = b
-was_known F D g (IsRemoved t) w b = b
-was_known F D g (Resolves t resolution) w b = tt
-was_known F D g (IsCancelled t cancellation) w b = tt
-was_known F D g (HasWord t slot word) w b = tt
-was_known F D g (HasNewStack t k) w b = b
-was_known F D g (HasStack t k) w b = b
-was_known F D g (LosesStack t) w b = b
-was_known F D g (IsAnswered t words) w b = b
-was_known F D g (IsTold t state) w b = tt
-was_known F D g (IsLent t handle) w b = tt
-was_known F D g (HasResult t words) w b = tt
-was_known F D g (MakesChannel kind element) w b = tt
-was_known F D g (Offers e call) w b = tt
-was_known F D g (Transfers e size values) w b = tt
-was_known F D g (Concludes e) w b = tt
-was_known F D g (DropsEnd e) w b = tt
+pub was_known : (F D C : Type 0) (g : Graph) (c : Change) (w : World) → Besides F D C g c w → order.Besides g c w
+was_known F D C g (GoesTo control) w b = tt
+was_known F D C g (HasStore store) w b = tt
+was_known F D C g SpendsUnit w b = tt
+was_known F D C g (UsesPicks picks) w b = tt
+was_known F D C g TakesItem w b = tt
+was_known F D C g BeginsInstance w b = tt
+was_known F D C g (AddsEntry i entry) w b = tt
+was_known F D C g (MakesSet i set) w b = tt
+was_known F D C g (RemovesEntry i index) w b = tt
+was_known F D C g (RemovesWaitable i index) w b = tt
+was_known F D C g (LeavesSet i index) w b = tt
+was_known F D C g (JoinsSet i index set) w b = tt
+was_known F D C g (HasBackpressure i backpressure) w b = tt
+was_known F D C g (IsCalled callee call values) w b = tt
+was_known F D C g (Calls number callee subtask words) w b = (b.0, b.1, b.2)
+was_known F D C g (ComesBack t) w b = b
+was_known F D C g (Acts t) w b = tt
+was_known F D C g (Begins n) w b = tt
+was_known F D C g (Cancels t callee number words) w b = b.0
+was_known F D C g (Blocks t state) w b = (blocks_before g t state w b.0, b.1)
+was_known F D C g (Exits t) w b = b
+was_known F D C g (IsRemoved t) w b = b
+was_known F D C g (Resolves t resolution) w b = tt
+was_known F D C g (IsCancelled t cancellation) w b = tt
+was_known F D C g (HasWord t slot word) w b = tt
+was_known F D C g (HasNewStack t k) w b = b
+was_known F D C g (HasStack t k) w b = b
+was_known F D C g (LosesStack t) w b = b
+was_known F D C g (IsAnswered t words) w b = b
+was_known F D C g (IsTold t state) w b = tt
+was_known F D C g (IsLent t handle) w b = tt
+was_known F D C g (HasResult t words) w b = tt
+was_known F D C g (MakesChannel kind element) w b = tt
+was_known F D C g (Offers e call) w b = tt
+was_known F D C g (Transfers e size values) w b = tt
+was_known F D C g (Concludes e) w b = tt
+was_known F D C g (DropsEnd e) w b = tt
 
 -- It is kept, whatever of the order is.
-module _ (g : Graph) (s : Script) (o : Order g s) (F A E : Type 0) (K : World → Type 0) (graph : A → IsApart g) (events : E → A) (own : A → (w : World) → K w → IsOwnWorld g w)
-    (kept : (c : Change) (w : World) → MayCome g s c w → Besides F ⊥ g c w → (A → Owns g c w) → K w → K (after c w))
+module _ (g : Graph) (s : Script) (o : Order g s) (F A E C : Type 0) (K : World → Type 0) (graph : A → IsApart g) (events : E → A) (own : A → (w : World) → K w → IsOwnWorld g w)
+    (kept : (c : Change) (w : World) → MayCome g s c w → Besides F ⊥ C g c w → (A → Owns g c w) → K w → K (after c w))
     (comes : (t : ℕ) (w : World) → MayCome g s (ComesBack t) w → K w → K (after (ComesBack t) w)) (removed : (t : ℕ) (w : World) → MayCome g s (IsRemoved t) w → K w → K (after (IsRemoved t) w)) where
   unfoldable pub beside : Walk g s
   beside = record {
@@ -84,6 +84,7 @@ module _ (g : Graph) (s : Script) (o : Order g s) (F A E : Type 0) (K : World �
     Apart = A;
     Event = E;
     Asks = ⊥;
+    Copies = C;
     graph = graph;
     events = events;
     asks_apart = λ none. absurd none;
@@ -92,7 +93,7 @@ module _ (g : Graph) (s : Script) (o : Order g s) (F A E : Type 0) (K : World �
     alone = λ w h. o.alone w h.0;
     chained = λ w h. o.chained w h.0;
     stacked = λ w h. o.stacked w h.0;
-    stays = λ c w may b belongs h. (o.stays c w may (was_known F ⊥ g c w b) h.0, kept c w may b belongs h.1);
+    stays = λ c w may b belongs h. (o.stays c w may (was_known F ⊥ C g c w b) h.0, kept c w may b belongs h.1);
     comes = λ t w task there runs is idle h. (o.comes t w task there runs is idle h.0, comes t w ((task, there, runs), inl idle) h.1);
     removed = λ t w task there runs waits idle h. (o.removed t w task there runs waits idle h.0, removed t w (task, there, runs) h.1);
     comes_asked = λ t callee number words w task a free there runs is alone well calls h. (

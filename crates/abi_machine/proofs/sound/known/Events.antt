@@ -31,7 +31,7 @@ use Rattle.abi_machine.specs.Edits.{with_control, set_view, chained, changed_at,
 use Rattle.abi_machine.specs.Canons.{kind_of_options, flag_at}
 use Rattle.abi_machine.specs.Reading.{table_of, entry_at, members_of, numbered, channels, func_of, kind_of, kind_of_func, runs_in, subtask_of}
 use Rattle.abi_machine.specs.Counting.{passes, phase_of, channel_end, end_of, subtask_state, subtask_has_event, entry_has_event, waits_at, is_waited_for, has_news, ready}
-use Rattle.abi_machine.specs.Finding.{set_number}
+use Rattle.abi_machine.specs.Finding.{set_number, found_end}
 use Rattle.abi_machine.specs.Scheduling.{is_some_ready, wait_is_over, loop_is_over, is_able_in, is_able}
 use Rattle.abi_machine.specs.Delivering.{is_to_be_told}
 use Rattle.abi_machine.specs.sound.Changes.{IsFirst}
@@ -50,6 +50,10 @@ or_left : (a b : Bool) → a || b ≡ true → b ≡ false → a ≡ true
 or_left true b e none = refl
 or_left false b e none = let clash : true ≡ false = sym e ∙ none in cc
 
+some_passes : {A : Type 0} (p : A → Bool) (o : Option A) → passes p o ≡ true → IsSome o
+some_passes p None e = cc
+some_passes p (Some x) e = refl
+
 able_loop : (w : World) (f : Lifted) (task : Task) (r : Result Next BadCode) → loop_is_over w f.instance task r ≡ true → EndsLoop w f task r
 able_loop w f task (Ok next.Exit) e = tt
 able_loop w f task (Ok next.Yield) e = tt
@@ -60,8 +64,8 @@ able_loop w f task (Err why) e = tt
 able_wait : (g : Graph) (w : World) (f : Lifted) (task : Task) (number : ℕ) (wait : Wait) → wait_is_over g w f.instance task number wait ≡ true → EndsWait g w f task number wait
 able_wait g w f task number ForYield e = tt
 able_wait g w f task number (ForSet index) e = λ untold. or_left (is_some_ready w f.instance index) (is_to_be_told g number (ForSet index) task w f.instance) e untold
-able_wait g w f task number (ForCall callee) e = tt
-able_wait g w f task number (ForCopy index) e = tt
+able_wait g w f task number (ForCall callee) e = e
+able_wait g w f task number (ForCopy index) e = some_passes (λ (x : EndRef). is_pending (end_of w x)) (found_end w f.instance index) e
 able_wait g w f task number (ForCancel index) e = tt
 
 able_cause : (g : Graph) (w : World) (f : Lifted) (task : Task) (state : TaskState) → is_able_in g w f.instance task state ≡ true → HasCause g w f task state
@@ -94,8 +98,8 @@ module _ (w : World) (chain : List ℕ) (control : Control) (units picks taken :
   wait_later : (g : Graph) (f : Lifted) (task : Task) (number : ℕ) (wait : Wait) → EndsWait g w f task number wait → EndsWait g then_world f task number wait
   wait_later g f task number ForYield h = tt
   wait_later g f task number (ForSet index) h = λ untold. some_ready_same w chain control units picks taken f.instance index ∙ h untold
-  wait_later g f task number (ForCall callee) h = tt
-  wait_later g f task number (ForCopy index) h = tt
+  wait_later g f task number (ForCall callee) h = h
+  wait_later g f task number (ForCopy index) h = h
   wait_later g f task number (ForCancel index) h = tt
 
   cause_later : (g : Graph) (f : Lifted) (task : Task) (state : TaskState) → HasCause g w f task state → HasCause g then_world f task state
@@ -144,8 +148,8 @@ asked_wait g u f task free number words ForYield e = tt
 asked_wait g u f task free number words (ForSet index) e =
     λ untold. not_both (is_cancellable free (kind_of task) (blocked_at.Set index) (flag_at g number)) (is_some_ready u f.instance index ≡ true)
     (resumed_true (is_cancellable free (kind_of task) (blocked_at.Set index) (flag_at g number)) e) untold
-asked_wait g u f task free number words (ForCall callee) e = tt
-asked_wait g u f task free number words (ForCopy index) e = tt
+asked_wait g u f task free number words (ForCall callee) e = cc
+asked_wait g u f task free number words (ForCopy index) e = cc
 asked_wait g u f task free number words (ForCancel index) e = tt
 
 asked_cause : (g : Graph) (u : World) (f : Lifted) (task : Task) (free : Bool) (state : TaskState) → phase_case free (kind_of task) (phase_of (flag_at g) state) ≡ ResumeNow → HasCause g u f (asks task) state

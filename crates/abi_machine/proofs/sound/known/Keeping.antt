@@ -22,14 +22,14 @@ use Rattle.abi_machine.specs.World.{Entry, OfSubtask, OfSet, ForSet, ForCall, Ta
 use Rattle.abi_machine.specs.Edits.{with_control, entry_added, entry_removed, left_set, unit_spent, in_state, control_behind, answered_stacks, lent}
 use Rattle.abi_machine.specs.Canons.{canon_at, options_at}
 use Rattle.abi_machine.specs.Reading.{table_in, table_of, entry_at, func_of, may_leave}
-use Rattle.abi_machine.specs.Counting.{waiters_of}
+use Rattle.abi_machine.specs.Counting.{waiters_of, end_of}
 use Rattle.abi_machine.specs.Lifting.{Kept, Stopped, Came, once_lifted}
 use Rattle.abi_machine.specs.Choosing.{picks_of, chosen}
 use Rattle.abi_machine.specs.Turn.{Turn, Steps, Ends, Stuck, doomed, behind, given, unless_refused, unless, unless_fault, goes_on_with, blocked, charged, with_entry}
-use Rattle.abi_machine.specs.sound.Premises.{WasDropped, IsTaken}
+use Rattle.abi_machine.specs.sound.Premises.{HasNoCopy, WasDropped, IsTaken}
 use Rattle.abi_machine.specs.sound.Firsts.{TaskIs}
 use Rattle.abi_machine.specs.sound.Cancels.{IsResolved, IsOver}
-use Rattle.abi_machine.specs.sound.Changes.{Change, GoesTo, SpendsUnit, HasStore, UsesPicks, AddsEntry, RemovesEntry, RemovesWaitable, IsCalled, Calls, ComesBack, Begins, Cancels, Blocks, IsRemoved, IsCancelled, Exits, HasNewStack, HasStack, LosesStack, IsAnswered, IsTold, IsLent, after, Stands, IsFirst, HasFunc, IsBlocked, MayCome}
+use Rattle.abi_machine.specs.sound.Changes.{Change, GoesTo, SpendsUnit, HasStore, UsesPicks, AddsEntry, RemovesEntry, RemovesWaitable, IsCalled, Calls, ComesBack, Begins, Cancels, Blocks, IsRemoved, IsCancelled, Exits, HasNewStack, HasStack, LosesStack, IsAnswered, IsTold, IsLent, Offers, Concludes, after, Stands, IsFirst, HasFunc, IsBlocked, MayCome}
 use Rattle.abi_machine.specs.sound.Chain.{IsChained}
 use Rattle.abi_machine.specs.sound.Acting.{outlines_of, HasStacks, WaitsWith, StandsBy, HaveStacks, IsActing, IsRunning, OneActs, ActsBy}
 use Rattle.abi_machine.specs.sound.Called.{HaveCalled}
@@ -49,10 +49,12 @@ use Rattle.abi_machine.proofs.sound.own.Tasks.{IsOwnStore, after_calls_own}
 use Rattle.abi_machine.proofs.sound.Found.{some_same}
 use Rattle.abi_machine.proofs.sound.known.Handles.{IsHandle, handle_is_left, handle_unwaited}
 use Rattle.abi_machine.proofs.sound.known.Asked.{TellsWell, CancelsWell, BlocksAsked, AskedFacts}
+use Rattle.abi_machine.proofs.sound.known.Copying.{NoneAwaits, BlocksCopying, CopyFacts}
 
 -- What else is known where a change comes. A set that is removed is waited on by no task; and where what held at the start of the turn is given, a
 -- subtask that is added to a table was called by a canonical function that does not wait, and no task waits in a call for one that is told or
 -- cancelled. Where what held of cancellations is given, they are well asked and told, and a subtask that leaves its table was told that it has resolved.
+-- What leaves a table has no copy under way, nor has an end where a call comes; and where what held of copies is given, none waits for one that is told.
 abbrev pub NoneWaits : World → ℕ → ℕ → Type 0
 NoneWaits w i index = (set : ℕ) → entry_at w i index ≡ Some (OfSet set) → waiters_of w i index ≡ 0
 
@@ -66,24 +68,26 @@ BlocksAs g t (InBuiltin number words (ForCall callee)) w = Is (IsIn (AfterCall c
 BlocksAs g t (InLoop word) w = Is (λ o. LoopsIn w.insts (func_of o.callee) word) t w
 BlocksAs g t state w = Unit {0}
 
-abbrev pub Besides : Type 0 → Type 0 → Graph → Change → World → Type 0
-Besides F D g (ComesBack t) w = ⊥
-Besides F D g (IsRemoved t) w = ⊥
-Besides F D g (Calls number callee subtask words) w = (subtask.canon ≡ number) × Is (WaitsWith true) subtask.by w × IsSome (canon_at g number) × (subtask.told ≡ Starting)
-Besides F D g (Cancels t callee number words) w =
+abbrev pub Besides : Type 0 → Type 0 → Type 0 → Graph → Change → World → Type 0
+Besides F D C g (ComesBack t) w = ⊥
+Besides F D C g (IsRemoved t) w = ⊥
+Besides F D C g (Calls number callee subtask words) w = (subtask.canon ≡ number) × Is (WaitsWith true) subtask.by w × IsSome (canon_at g number) × (subtask.told ≡ Starting)
+Besides F D C g (Cancels t callee number words) w =
     Is (WaitsWith true) t w × IsSome (slice_get w.tasks callee) × (F → IsUnawaited w.tasks callee) × (D → CancelsWell w t callee words × TaskIs w.tasks callee IsResolved)
-Besides F D g (Blocks t state) w = BlocksAs g t state w × Is (StandsBy state) t w × (D → BlocksAsked t state w)
-Besides F D g (Exits t) w = Is (λ o. HasStacks false o.stacks) t w
-Besides F D g (IsCancelled t cancellation) w = is_unasked cancellation ≡ false
-Besides F D g (HasNewStack t k) w = Is MayHaveStacks t w
-Besides F D g (HasStack t k) w = Is MayHaveStacks t w
-Besides F D g (LosesStack t) w = Is MayHaveStacks t w
-Besides F D g (IsAnswered t words) w = Is MayHaveStacks t w
-Besides F D g (AddsEntry i entry) w = F → IsNewEntry g w entry
-Besides F D g (RemovesEntry i index) w = NoneWaits w i index
-Besides F D g (RemovesWaitable i index) w = D → (callee : ℕ) → entry_at w i index ≡ Some (OfSubtask callee) → CallIs w.tasks callee IsOver
-Besides F D g (IsTold t state) w = (F → IsUnawaited w.tasks t) × (D → TellsWell w t state)
-Besides F D g change w = Unit {0}
+Besides F D C g (Blocks t state) w = BlocksAs g t state w × Is (StandsBy state) t w × (D → BlocksAsked t state w) × (C → BlocksCopying g t state w)
+Besides F D C g (Exits t) w = Is (λ o. HasStacks false o.stacks) t w
+Besides F D C g (IsCancelled t cancellation) w = is_unasked cancellation ≡ false
+Besides F D C g (HasNewStack t k) w = Is MayHaveStacks t w
+Besides F D C g (HasStack t k) w = Is MayHaveStacks t w
+Besides F D C g (LosesStack t) w = Is MayHaveStacks t w
+Besides F D C g (IsAnswered t words) w = Is MayHaveStacks t w
+Besides F D C g (AddsEntry i entry) w = F → IsNewEntry g w entry
+Besides F D C g (RemovesEntry i index) w = NoneWaits w i index
+Besides F D C g (RemovesWaitable i index) w = (D → (callee : ℕ) → entry_at w i index ≡ Some (OfSubtask callee) → CallIs w.tasks callee IsOver) × Stands w i index (HasNoCopy w)
+Besides F D C g (IsTold t state) w = (F → IsUnawaited w.tasks t) × (D → TellsWell w t state)
+Besides F D C g (Offers e call) w = (end_of w e).copy ≡ None
+Besides F D C g (Concludes e) w = C → NoneAwaits w e
+Besides F D C g change w = Unit {0}
 
 -- Where the graph is apart: what comes is the component instance's own.
 abbrev pub CallsItsOwn : Graph → ℕ → ℕ → World → Type 0
@@ -136,6 +140,7 @@ pub record Walk (g : Graph) (s : Script) : Type 1 where
   pub Apart : Type 0
   pub Event : Type 0
   pub Asks : Type 0
+  pub Copies : Type 0
   pub Holds : World → Type 0
   pub alone : (w : World) → Holds w → Alone w
   pub chained : (w : World) → Holds w → IsChained w
@@ -144,7 +149,7 @@ pub record Walk (g : Graph) (s : Script) : Type 1 where
   pub events : Event → Apart
   pub asks_apart : Asks → Apart
   pub own : Apart → (w : World) → Holds w → IsOwnWorld g w
-  pub stays : (c : Change) (w : World) → MayCome g s c w → Besides Given Asks g c w → (Apart → Owns g c w) → Holds w → Holds (after c w)
+  pub stays : (c : Change) (w : World) → MayCome g s c w → Besides Given Asks Copies g c w → (Apart → Owns g c w) → Holds w → Holds (after c w)
   pub comes : (t : ℕ) (w : World) (task : Task) → slice_get w.tasks t ≡ Some task → IsSome (func_of task.callee) → IsBlocked task.state → w.chain ≡ [] → Holds w → Holds (after (ComesBack t) w)
   pub removed : (t : ℕ) (w : World) (task : Task) → slice_get w.tasks t ≡ Some task → IsSome (func_of task.callee) → task.state ≡ WaitsToEnter → w.chain ≡ [] → Holds w → Holds (after (IsRemoved t) w)
   pub comes_asked : (t callee number : ℕ) (words : List ℕ) (w : World) (task : Task) → Is (IsActing true) t w → may_leave w ≡ true → slice_get w.tasks callee ≡ Some task → IsSome (func_of task.callee)
@@ -168,13 +173,13 @@ module _ {g : Graph} {s : Script} (walk : Walk g s) where
 
   -- what is known of the start of a turn
   abbrev pub Known : World → Type 0
-  Known w = (walk.Given → Facts g w) × (walk.Asks → AskedFacts g w)
+  Known w = (walk.Given → Facts g w) × (walk.Asks → AskedFacts g w) × (walk.Copies → CopyFacts g w)
 
   -- where a task acts, with a stack or without
   abbrev pub Held : Bool → ℕ → World → Type 0
   Held b t w = walk.Holds w × Is (IsActing b) t w
 
-  pub still : (b : Bool) (t : ℕ) (c : Change) (w : World) → MayCome g s c w → Besides walk.Given walk.Asks g c w → (walk.Apart → Owns g c w) → IsSteady c → Held b t w → Held b t (after c w)
+  pub still : (b : Bool) (t : ℕ) (c : Change) (w : World) → MayCome g s c w → Besides walk.Given walk.Asks walk.Copies g c w → (walk.Apart → Owns g c w) → IsSteady c → Held b t w → Held b t (after c w)
   still b t c w may besides own is h = (walk.stays c w may besides own h.0, steady (IsActing b) t c w is h.1)
 
   -- where it is the first of the chain
@@ -245,9 +250,9 @@ module _ {g : Graph} {s : Script} (walk : Walk g s) where
   pub acting_stack_keeps : (b : Bool) (t : ℕ) (k : Stack) (w : World) → (walk.Apart → HasOwnStack g t k w) → Held b t w → walk.Holds (with_control Runs (after (HasNewStack t k) w)) × Unit {0} × OneActs IsRunning (outlines_of (after (HasNewStack t k) w).tasks) w.chain
   acting_stack_keeps b t k w own h = new_stack_keeps t k w own h.0 (as_is (IsActing b) InTask t w (acting_runs b) h.1)
 
-  pub blocked_keeps : (t : ℕ) (state : TaskState) (reason : BlockReason) (w : World) → IsFirst t w.chain → IsBlocked state → (may_leave w ≡ true) ⊎ HasFunc w.tasks t → BlocksAs g t state w → (walk.Asks → BlocksAsked t state w) → (walk.Apart → BlocksOwn g t state w) → Is (StandsBy state) t w → walk.Holds w → Keeps (blocked t state reason w)
-  blocked_keeps t state reason w first is may known asked own stacks h =
-      (goes (control_behind (drop 1 w.chain)) (after (Blocks t state) w) (walk.stays (Blocks t state) w (first, is, may) (known, stacks, asked) own h), behind_promised walk.Apart walk.Event g s (drop 1 w.chain) (with_control (control_behind (drop 1 w.chain)) (after (Blocks t state) w)), left_acts w t state first (walk.chained w h))
+  pub blocked_keeps : (t : ℕ) (state : TaskState) (reason : BlockReason) (w : World) → IsFirst t w.chain → IsBlocked state → (may_leave w ≡ true) ⊎ HasFunc w.tasks t → BlocksAs g t state w → (walk.Asks → BlocksAsked t state w) → (walk.Copies → BlocksCopying g t state w) → (walk.Apart → BlocksOwn g t state w) → Is (StandsBy state) t w → walk.Holds w → Keeps (blocked t state reason w)
+  blocked_keeps t state reason w first is may known asked copying own stacks h =
+      (goes (control_behind (drop 1 w.chain)) (after (Blocks t state) w) (walk.stays (Blocks t state) w (first, is, may) (known, stacks, asked, copying) own h), behind_promised walk.Apart walk.Event g s (drop 1 w.chain) (with_control (control_behind (drop 1 w.chain)) (after (Blocks t state) w)), left_acts w t state first (walk.chained w h))
 
   -- one that waits for a task that it called
   pub waited_keeps : (t callee number : ℕ) (words : List ℕ) (reason : BlockReason) (w : World) → Is (IsIn (AfterCall callee number words)) t w → (options_at g number).is_async ≡ false → HasFunc w.tasks t → walk.Holds w
@@ -257,7 +262,7 @@ module _ {g : Graph} {s : Script} (walk : Walk g s) where
       let behind : Control = control_behind (drop 1 w.chain) in
       subst (λ (all : List Task). walk.Holds (let v : World = record w { tasks = all; chain = drop 1 w.chain; control = behind } in v) × Promises walk.Apart walk.Event g s behind (let v : World = record w { tasks = all; chain = drop 1 w.chain; control = behind } in v) × ActsBy behind (outlines_of all) (drop 1 w.chain))
       (sym (changed_twice t (λ task. record task { state = Acting }) (λ task. record task { state = state }) w.tasks))
-      (goes behind (after (Blocks t state) w) (walk.stays (Blocks t state) w (a.0, tt, inr runs) ((a, sync), waits_stacked w t callee number words a (walk.stacked w h), λ asks. tt) (λ apart. after_calls_own g w t callee number words (walk.own apart w h) a) h), behind_promised walk.Apart walk.Event g s (drop 1 w.chain) (with_control behind (after (Blocks t state) w)), left_acts w t state a.0 (walk.chained w h))
+      (goes behind (after (Blocks t state) w) (walk.stays (Blocks t state) w (a.0, tt, inr runs) ((a, sync), waits_stacked w t callee number words a (walk.stacked w h), (λ asks. tt), (λ copies. tt)) (λ apart. after_calls_own g w t callee number words (walk.own apart w h) a) h), behind_promised walk.Apart walk.Event g s (drop 1 w.chain) (with_control behind (after (Blocks t state) w)), left_acts w t state a.0 (walk.chained w h))
 
   pub entry_keeps : (t i : ℕ) (entry : Entry) (w : World) (more : ℕ → World → Turn) → Leads t w
       → (live_count (table_of w i) < most_live → Keeps (more (next_index (table_of w i)) (entry_added i entry w))) → Keeps (with_entry t i entry w more)
@@ -271,7 +276,7 @@ module _ {g : Graph} {s : Script} (walk : Walk g s) where
   removes b t i index w may h = still b t (RemovesEntry i index) w (handle_is_left w i index may) (handle_unwaited w i index may) (λ apart. tt) tt h
 
   pub waits : (b : Bool) (t i index : ℕ) (w : World) → Stands w i index (IsTaken w) → Held b t w → Held b t (left_set i index (entry_removed i index w))
-  waits b t i index w may h = still b t (RemovesWaitable i index) w (may.0, may.1, may.2.0) (λ asks callee at. subst (WasDropped w.tasks) (some_same (sym may.1 ∙ at)) may.2.2) (λ apart. tt) tt h
+  waits b t i index w may h = still b t (RemovesWaitable i index) w (may.0, may.1, may.2.0) ((λ asks callee at. subst (WasDropped w.tasks) (some_same (sym may.1 ∙ at)) may.2.2), (may.0, may.1, may.2.1)) (λ apart. tt) tt h
 
   pub lends : (b : Bool) (t callee index : ℕ) (w : World) → Held b t w → Held b t (lent callee index w)
   lends b t callee index w h = still b t (IsLent callee index) w tt tt (λ apart. tt) tt h

@@ -122,7 +122,7 @@ module _ {g : Graph} {s : Script} (walk : Walk g s) where
 
   -- A task blocks in its loop.
   looped_keeps : (t word : ℕ) (why : BlockReason) (w : World) → HasFunc w.tasks t → Is (λ o. LoopsIn w.insts (func_of o.callee) word) t w → Held walk false t w → Keeps walk (blocked t (InLoop word) why w)
-  looped_keeps t word why w runs loops h = blocked_keeps walk t (InLoop word) why w h.1.0 tt (inr runs) loops (λ asks. tt) (λ apart. tt) (as_is (IsActing false) (WaitsWith false) t w (acting_waits false) h.1) h.0
+  looped_keeps t word why w runs loops h = blocked_keeps walk t (InLoop word) why w h.1.0 tt (inr runs) loops (λ asks. tt) (λ copies. tt) (λ apart. tt) (as_is (IsActing false) (WaitsWith false) t w (acting_waits false) h.1) h.0
 
   next_keeps : (t : ℕ) (task : Task) (f : Lifted) (word : ℕ) (r : Result Next BadCode) (w : World) → callback_of word ≡ r → HasFunc w.tasks t → Is (λ o. func_of o.callee ≡ Some f) t w → Held walk false t w
       → Keeps walk (next_turn t task f.instance word r w)

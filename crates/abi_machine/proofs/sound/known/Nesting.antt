@@ -1,5 +1,5 @@
 -- Reads and writes, nested code and lowerings keep what each change keeps.
-use Rattle.std.proofs.Common.{◌≡◌, inl, ℕ, true, false, nat_eq, List, [], ◌∷◌, length, refl, sym, subst, Option, Some, None, Result, Ok, Err}
+use Rattle.std.proofs.Common.{◌≡◌, ◌∙◌, inl, ℕ, true, false, nat_eq, List, [], ◌∷◌, length, refl, sym, subst, Option, Some, None, Result, Ok, Err}
 use Rattle.wasm_store.specs.Store.{Store, found_at}
 use Rattle.wasm_store.specs.Step.{start}
 use Rattle.wasm_store.specs.Stack.{Stack}
@@ -15,23 +15,27 @@ use Rattle.trace_show.specs.declared.trap.TrapName.TheVariants as trap
 use Rattle.abi_machine.specs.Traps.{core_name}
 use Rattle.abi_machine.specs.LoweringOver.{New, NewOwn, NewBorrow, NewEnd, Plan}
 use Rattle.abi_machine.specs.Control.{EndRef, Copying, Then, Starts, Resolves, Transfers, Lowering, Nested, Behind, InLowering, BeforeLeaving, Quiet, Leaves, Doomed}
-use Rattle.abi_machine.specs.World.{ForCopy, InBuiltin, Channel, World}
+use Rattle.abi_machine.specs.World.{OfEnd, ForCopy, InBuiltin, Channel, World}
 use Rattle.abi_machine.specs.Edits.{with_store, with_memory, offered, transferred}
 use Rattle.abi_machine.specs.Canons.{func_address, bytes_of, canon_at, inst_of_canon, options_of_canon, options_at, builtin_of}
-use Rattle.abi_machine.specs.Reading.{table_of, acting, func_of, may_leave, channel_at}
+use Rattle.abi_machine.specs.Reading.{table_of, entry_at, acting, func_of, may_leave, channel_at}
+use Rattle.abi_machine.specs.Counting.{end_of}
 use Rattle.abi_machine.specs.Pausing.{ask_words, Paused, Words, Failed, Asked as AsksNow, Settled, settle, entry_of}
 use Rattle.abi_machine.specs.Turn.{silent, doomed}
-use Rattle.abi_machine.specs.Copying.{blocked_word, completed, Met, AtOnce, Moves, Stands as OfferStands, met_by, other_offer, read_of, write_of, elements_written, elements_read, moved_by, elements_moved, meeting_turn, meets, is_within, transferring_turn}
+use Rattle.abi_machine.specs.Copying.{blocked_word, completed, Met, AtOnce, Moves, Stands as OfferStands, met_by, other_offer, read_of, write_of, task_by, elements_written, elements_read, moved_by, elements_moved, meeting_turn, meets, is_within, transferring_turn}
 use Rattle.abi_machine.specs.Nested.{HostedTurn, On, EndsIn, TrapsBy, CallsHost, NoRule, hosted_next, nested_ended, answered_in_place, answered_or_refused, calls_host, hosted, nested_turn}
 use Rattle.abi_machine.specs.Lowering.{started, lowered, paused, left_by, settled_turn, lowers_turn}
 use Rattle.abi_machine.specs.replies.Context.{Exempt, Answers, exempt_of}
 use Rattle.abi_machine.specs.sound.Changes.{HasStore, AddsEntry, HasWord, HasResult, Offers, Transfers as IsTransferred, after, IsFirst}
 use Rattle.abi_machine.specs.sound.Acting.{Outline, outlines_of, WaitsWith, IsActing, OneActs, FollowsFor, LowersFor, BehindFor, stacked_then, stacked_behind}
+use Rattle.abi_machine.proofs.sound.Due.{channel_is}
+use Rattle.abi_machine.proofs.sound.known.Copying.{BlocksCopying}
+use Rattle.abi_machine.proofs.sound.known.Awaiting.{blocks_copying}
 use Rattle.abi_machine.proofs.sound.known.Lifting.{elements_keep}
 use Rattle.abi_machine.proofs.sound.Found.{entry_is_added, free_offered}
 use Rattle.abi_machine.proofs.sound.Outlines.{as_is, acting_waits}
 use Rattle.abi_machine.proofs.sound.acts.Keeping.{is_first, acts_at}
-use Rattle.abi_machine.specs.sound.Owners.{IsCanonApart, IsStackOf, CallsOwn, IsHostedBy, HasOwnRealloc, IsBehindOwn}
+use Rattle.abi_machine.specs.sound.Owners.{owner_of_canon, IsCanonApart, IsStackOf, CallsOwn, IsHostedBy, HasOwnRealloc, IsBehindOwn}
 use Rattle.abi_machine.proofs.sound.Standing.{steady}
 use Rattle.abi_machine.proofs.sound.own.Moved.{IsOnward}
 use Rattle.abi_machine.proofs.sound.own.Belonging.{found_of, ref_starts, options_realloc, resumed_of, IsTurnOf, hosted_of, onward_address, rewritten_on, canon_apart}
@@ -63,21 +67,24 @@ module _ {g : Graph} {s : Script} (walk : Walk g s) where
       given_keeps walk (canon_at g (read_of e.side call offer).canon) _ (λ reading i. given_keeps walk (canon_at g (write_of e.side call offer).canon) _ (λ writing j.
       moved_by_keeps t e call (read_of e.side call offer) (write_of e.side call offer) reading writing count element w (λ apart. canon_apart g (read_of e.side call offer).canon reading (walk.graph apart) i) h))
 
-  meeting_keeps : (t : ℕ) (e : EndRef) (call : OpenCopy) (words : List ℕ) (index : ℕ) (c : Channel) (m : Met) (w : World) → may_leave w ≡ true → (walk.Apart → CallsItsOwn g call.canon t w) → Held walk true t w → Keeps walk (meeting_turn g t e call words index c m w)
+  meeting_keeps : (t : ℕ) (e : EndRef) (call : OpenCopy) (words : List ℕ) (index : ℕ) (c : Channel) (m : Met) (w : World) → may_leave w ≡ true → (end_of w e).copy ≡ None
+      → (m ≡ OfferStands → (options_at g call.canon).is_async ≡ false → BlocksCopying g t (InBuiltin call.canon words (ForCopy index)) (offered e call w)) → (walk.Apart → CallsItsOwn g call.canon t w) → Held walk true t w
+      → Keeps walk (meeting_turn g t e call words index c m w)
   unfolding meeting_turn
-  meeting_keeps t e call words index c (AtOnce payload) w free calls h = on_keeps walk t (payload ∷ []) (offered e call w) (still walk true t (Offers e call) w tt tt (λ apart. tt) tt h)
-  meeting_keeps t e call words index c (Moves count) w free calls h = given_keeps walk (other_offer e.side c.ends.view) _ (λ offer i. elements_moved_keep t e call count _ offer w h)
-  meeting_keeps t e call words index c OfferStands w free calls h =
-      let k : Held walk true t (offered e call w) = still walk true t (Offers e call) w tt tt (λ apart. tt) tt h in
+  meeting_keeps t e call words index c (AtOnce payload) w free quiet copies calls h = on_keeps walk t (payload ∷ []) (offered e call w) (still walk true t (Offers e call) w tt quiet (λ apart. tt) tt h)
+  meeting_keeps t e call words index c (Moves count) w free quiet copies calls h = given_keeps walk (other_offer e.side c.ends.view) _ (λ offer i. elements_moved_keep t e call count _ offer w h)
+  meeting_keeps t e call words index c OfferStands w free quiet copies calls h =
+      let k : Held walk true t (offered e call w) = still walk true t (Offers e call) w tt quiet (λ apart. tt) tt h in
       either_keeps walk (options_at g call.canon).is_async _ _ (λ i. on_keeps walk t (blocked_word ∷ []) (offered e call w) k)
-      (λ i. blocked_keeps walk t (InBuiltin call.canon words (ForCopy index)) (reason.Copy index) (offered e call w) k.1.0 tt (inl (free_offered e call w free)) tt (λ asks. tt) (λ apart. steady (λ (o : Outline). CallsOwn g (func_of o.callee) call.canon) t (Offers e call) w tt (calls apart)) (as_is (IsActing true) (WaitsWith true) t (offered e call w) (acting_waits true) k.1) k.0)
+      (λ i. blocked_keeps walk t (InBuiltin call.canon words (ForCopy index)) (reason.Copy index) (offered e call w) k.1.0 tt (inl (free_offered e call w free)) tt (λ asks. tt) (λ given. copies refl i) (λ apart. steady (λ (o : Outline). CallsOwn g (func_of o.callee) call.canon) t (Offers e call) w tt (calls apart)) (as_is (IsActing true) (WaitsWith true) t (offered e call w) (acting_waits true) k.1) k.0)
 
-  pub meets_keeps : (t i : ℕ) (e : EndRef) (call : OpenCopy) (words : List ℕ) (index : ℕ) (w : World) → may_leave w ≡ true → (walk.Apart → CallsItsOwn g call.canon t w) → Held walk true t w → Keeps walk (meets g t i e call words index w)
+  pub meets_keeps : (t i : ℕ) (e : EndRef) (call : OpenCopy) (words : List ℕ) (index : ℕ) (w : World) → may_leave w ≡ true → (end_of w e).copy ≡ None → task_by call.by ≡ t → entry_at w i index ≡ Some (OfEnd e)
+      → owner_of_canon g call.canon ≡ Some i → (walk.Apart → CallsItsOwn g call.canon t w) → Held walk true t w → Keeps walk (meets g t i e call words index w)
   unfolding meets
-  meets_keeps t i e call words index w free calls h =
+  meets_keeps t i e call words index w free quiet of_task here own calls h =
       given_keeps walk (channel_at w e.kind e.number) _ (λ c j.
       unless_keeps walk t (is_within g i e.side c.element c.ends.view) trap.SameInstance w (meeting_turn g t e call words index c (met_by e.kind e.side call c.ends.view) w) (h.0, h.1.0)
-      (λ k. meeting_keeps t e call words index c (met_by e.kind e.side call c.ends.view) w free calls h))
+      (λ k. meeting_keeps t e call words index c (met_by e.kind e.side call c.ends.view) w free quiet (λ stands sync. blocks_copying g w t i index words e call c own here (channel_is e.kind e.number w ∙ j) stands of_task sync) calls h))
 
   transferring_keeps : (copying : Copying) (w : World) → walk.Holds w → OneActs (IsActing true) (outlines_of w.tasks) w.chain → Keeps walk (transferring_turn copying w)
   unfolding transferring_turn

@@ -37,6 +37,7 @@ use Rattle.abi_machine.proofs.sound.own.Exports.{named_apart}
 use Rattle.abi_machine.proofs.sound.acts.Turning.{IsUndoomed, doomed_or_not}
 use Rattle.abi_machine.proofs.sound.known.Picking.{picked_there}
 use Rattle.abi_machine.proofs.sound.known.Asked.{AskedFacts}
+use Rattle.abi_machine.proofs.sound.known.Copying.{CopyFacts}
 use Rattle.abi_machine.proofs.sound.known.Events.{able_comes, going_comes}
 use Rattle.abi_machine.proofs.sound.known.Keeping.{Facts, Known, Comings, Promises, Walk, Keeps, given_keeps, behind_keeps, either_keeps, goes, charged_keeps, chosen_keeps}
 use Rattle.abi_machine.proofs.sound.known.Moving.{leaving_keeps, running_keeps, instantiating_keeps}
@@ -131,10 +132,10 @@ module _ {g : Graph} {s : Script} (walk : Walk g s) where
   own_free Leaves w h = h
   own_free (Doomed t why) w h = h
 
-  pub step_known : (w v : World) (labels : List Label) → (walk.Given → Facts g w) → (walk.Asks → AskedFacts g w) → (walk.Apart → IsControlOwn g w.control w) → (walk.Event → Comings g w.control (with_control Free w)) → Says w.control w.chain → ActsBy w.control (outlines_of w.tasks) w.chain → walk.Holds w → machine.next g s w ≡ Steps labels v
+  pub step_known : (w v : World) (labels : List Label) → (walk.Given → Facts g w) → (walk.Asks → AskedFacts g w) → (walk.Copies → CopyFacts g w) → (walk.Apart → IsControlOwn g w.control w) → (walk.Event → Comings g w.control (with_control Free w)) → Says w.control w.chain → ActsBy w.control (outlines_of w.tasks) w.chain → walk.Holds w → machine.next g s w ≡ Steps labels v
       → walk.Holds v × Promises walk.Apart walk.Event g s v.control v × ActsBy v.control (outlines_of v.tasks) v.chain
-  step_known w v labels facts asked own comings says o h e = elim (doomed_or_not w.control) [
-    | inl undoomed ↦ subst (Keeps walk) e (each_keeps (with_control Free w) w.control ((λ given. record { called = (facts given).called; subtasks = (facts given).subtasks }), (λ asks. record { called = (asked asks).called; subtasks = (asked asks).subtasks; told = (asked asks).told; cancels = (asked asks).cancels })) (λ apart. own_free w.control w (own apart)) comings undoomed says o (goes walk Free w h))
+  step_known w v labels facts asked copying own comings says o h e = elim (doomed_or_not w.control) [
+    | inl undoomed ↦ subst (Keeps walk) e (each_keeps (with_control Free w) w.control ((λ given. record { called = (facts given).called; subtasks = (facts given).subtasks }), (λ asks. record { called = (asked asks).called; subtasks = (asked asks).subtasks; told = (asked asks).told; cancels = (asked asks).cancels }), (λ copies. record { once = (copying copies).once; awaits = (copying copies).awaits })) (λ apart. own_free w.control w (own apart)) comings undoomed says o (goes walk Free w h))
     | inr d ↦ absurd (never d.0 d.1 (ap (λ (c : Control). next_by g s (with_control Free w) c) (sym d.2) ∙ e))
   ]
     where

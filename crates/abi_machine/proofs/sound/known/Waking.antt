@@ -56,6 +56,8 @@ use Rattle.abi_machine.proofs.sound.known.Unawaited.{standing_unawaited, still_u
 use Rattle.abi_machine.proofs.sound.known.Picking.{answer_there}
 use Rattle.abi_machine.proofs.sound.known.Asked.{TellsWell, CancelsWell, BlocksAsked}
 use Rattle.abi_machine.proofs.sound.known.Asking.{call_told, wait_told, open_told, cancelled_told, blocked_told, member_told, blocks_then}
+use Rattle.abi_machine.proofs.sound.known.Copying.{NoneAwaits}
+use Rattle.abi_machine.proofs.sound.known.Awaiting.{member_alone, again_alone}
 use Rattle.abi_machine.proofs.sound.known.Ready.{ready_unwaited}
 use Rattle.abi_machine.proofs.sound.known.Events.{asked_comes, ready_found, first_ready, member_comes, GoesOnFrom, loop_has, loop_ready, set_ready}
 use Rattle.abi_machine.proofs.sound.known.Keeping.{Known, Comings, CallsItsOwn, Walk, Keeps, Held, still, given_keeps, behind_keeps, either_keeps, goes, unless_keeps, chosen_keeps, on_keeps, blocked_keeps, waited_keeps, entry_keeps, acting_stack_keeps, removes, waits, lends, came_keeps}
@@ -97,7 +99,7 @@ module _ {g : Graph} {s : Script} (walk : Walk g s) where
       let n : Is IsNewOne a.0 w = acts_at IsNewOne w a e o in
       let k : Is (WaitsWith false) a.0 w = (n.0, (n.1.0, n.1.1, subst (λ (state : TaskState). StandsBy state n.1.0) n.1.2 (walk.stacked w h a.0 n.1.0 n.1.1))) in
       either_keeps walk (may_arrive w f.instance a.1) (entered g a.0 a.1 f w) (blocked a.0 WaitsToEnter reason.Entry w) (λ j. entered_keeps a.0 a.1 f w (λ apart. lifted_by g w a.0 f (walk.own apart w h) (mine_is w a f e i)) k h)
-      (λ j. blocked_keeps walk a.0 WaitsToEnter reason.Entry w (acting_first w a e) tt (inr (acting_func w a f e i)) tt (λ asks. tt) (λ apart. tt) k h)))
+      (λ j. blocked_keeps walk a.0 WaitsToEnter reason.Entry w (acting_first w a e) tt (inr (acting_func w a f e i)) tt (λ asks. tt) (λ copies. tt) (λ apart. tt) k h)))
 
   -- Tasks call and are told.
 
@@ -178,25 +180,25 @@ module _ {g : Graph} {s : Script} (walk : Walk g s) where
   unfolding received_cancel
   cancel_keeps t f receiver w mine h = received_keeps t f receiver _ 0 (cancel_told t w) (steady (IsOfFunc f) t (IsCancelled t cancellation.Delivered) w tt mine) (still walk (stacked_receiver receiver) t (IsCancelled t cancellation.Delivered) w tt refl (λ apart. tt) tt h)
 
-  end_told_keeps : (b : Bool) (t : ℕ) (e : EndRef) (w : World) → Held walk b t w → Held walk b t (end_told e w).world
-  end_told_keeps b t e w h = still walk b t (Concludes e) w tt tt (λ apart. tt) tt h
+  end_told_keeps : (b : Bool) (t : ℕ) (e : EndRef) (w : World) → (walk.Copies → NoneAwaits w e) → Held walk b t w → Held walk b t (end_told e w).world
+  end_told_keeps b t e w alone h = still walk b t (Concludes e) w tt alone (λ apart. tt) tt h
 
-  delivered_keeps : (t : ℕ) (f : Lifted) (receiver : Receiver) (index : ℕ) (entry : Option Entry) (w : World) → entry_at w f.instance index ≡ entry → (walk.Asks → is_waited_for w f.instance index ≡ false) → Known walk w → Is (IsOfFunc f) t w → Held walk (stacked_receiver receiver) t w
+  delivered_keeps : (t : ℕ) (f : Lifted) (receiver : Receiver) (index : ℕ) (entry : Option Entry) (w : World) → entry_at w f.instance index ≡ entry → is_waited_for w f.instance index ≡ false → Known walk w → Is (IsOfFunc f) t w → Held walk (stacked_receiver receiver) t w
       → Keeps walk (entry_delivered g t f receiver index entry w)
   unfolding entry_delivered
   delivered_keeps t f receiver index None w at unwaited facts mine h = tt
   delivered_keeps t f receiver index (Some (OfSubtask callee)) w at unwaited facts mine h =
       with_keeps w callee _ (λ task subtask there guest. received_keeps t f receiver _ index _ (steady (IsOfFunc f) t (IsTold callee (subtask_state task)) w tt mine)
       (subtask_keeps (stacked_receiver receiver) t f.instance callee task subtask w (λ given. standing_unawaited g w f.instance index callee (facts.0 given).subtasks at)
-      (λ asks. member_told g w f.instance index callee task subtask (facts.1 asks) at (unwaited asks) there guest) h))
-  delivered_keeps t f receiver index (Some (OfEnd e)) w at unwaited facts mine h = received_keeps t f receiver _ index (end_told e w) (steady (IsOfFunc f) t (Concludes e) w tt mine) (end_told_keeps (stacked_receiver receiver) t e w h)
+      (λ asks. member_told g w f.instance index callee task subtask (facts.1 asks) at unwaited there guest) h))
+  delivered_keeps t f receiver index (Some (OfEnd e)) w at unwaited facts mine h = received_keeps t f receiver _ index (end_told e w) (steady (IsOfFunc f) t (Concludes e) w tt mine) (end_told_keeps (stacked_receiver receiver) t e w (λ copies. member_alone g w f.instance index e (facts.2 copies) at unwaited) h)
   delivered_keeps t f receiver index (Some (OwnHandle resource rep)) w at unwaited facts mine h = tt
   delivered_keeps t f receiver index (Some (BorrowHandle resource rep task)) w at unwaited facts mine h = tt
   delivered_keeps t f receiver index (Some (OfSet set)) w at unwaited facts mine h = tt
 
   member_keeps : (t : ℕ) (f : Lifted) (receiver : Receiver) (member : Option ℕ) (w : World) → ((index : ℕ) → member ≡ Some index → is_waited_for w f.instance index ≡ false) → Known walk w → Is (IsOfFunc f) t w → Held walk (stacked_receiver receiver) t w → Keeps walk (member_delivered g t f receiver member w)
   unfolding member_delivered
-  member_keeps t f receiver member w unwaited facts mine h = given_keeps walk member _ (λ index e. delivered_keeps t f receiver index (entry_at w f.instance index) w refl (λ asks. unwaited index e) facts mine h)
+  member_keeps t f receiver member w unwaited facts mine h = given_keeps walk member _ (λ index e. delivered_keeps t f receiver index (entry_at w f.instance index) w refl (unwaited index e) facts mine h)
 
   -- a member of those that are ready is not waited for
   member_unwaited : (f : Lifted) (set place : ℕ) (members : List ℕ) (w : World) → members ≡ ready w f.instance set → (index : ℕ) → slice_get members place ≡ Some index → is_waited_for w f.instance index ≡ false
@@ -246,23 +248,27 @@ module _ {g : Graph} {s : Script} (walk : Walk g s) where
   abbrev IsReadyFor : Lifted → Bool → Wait → World → Type 0
   IsReadyFor f is_cancelled wait w = (index : ℕ) → is_cancelled ≡ false → wait ≡ ForSet index → is_some_ready w f.instance index ≡ true
 
-  wait_keeps : (t : ℕ) (f : Lifted) (is_cancelled : Bool) (number : ℕ) (words : List ℕ) (wait : Wait) (w : World) → (walk.Event → IsReadyFor f is_cancelled wait w) → AreUnawaited wait w → AreToldWell f wait w → Is (IsOfFunc f) t w → Held walk true t w
+  -- and no other task waits for the copy for which it did
+  abbrev IsAlone : Lifted → Wait → World → Type 0
+  IsAlone f wait w = (index : ℕ) (e : EndRef) → wait ≡ ForCopy index → found_end w f.instance index ≡ Some e → walk.Copies → NoneAwaits w e
+
+  wait_keeps : (t : ℕ) (f : Lifted) (is_cancelled : Bool) (number : ℕ) (words : List ℕ) (wait : Wait) (w : World) → (walk.Event → IsReadyFor f is_cancelled wait w) → AreUnawaited wait w → AreToldWell f wait w → IsAlone f wait w → Is (IsOfFunc f) t w → Held walk true t w
       → Keeps walk (wait_resumed g t f is_cancelled number words wait w)
   unfolding wait_resumed told_payload told_result
-  wait_keeps t f is_cancelled number words ForYield w some alone well mine h = either_keeps walk is_cancelled _ _ (λ e. yielded_keeps t w h) (λ e. on_keeps walk t (0 ∷ []) w h)
-  wait_keeps t f is_cancelled number words (ForSet index) w some alone well mine h =
+  wait_keeps t f is_cancelled number words ForYield w some alone well none mine h = either_keeps walk is_cancelled _ _ (λ e. yielded_keeps t w h) (λ e. on_keeps walk t (0 ∷ []) w h)
+  wait_keeps t f is_cancelled number words (ForSet index) w some alone well none mine h =
       either_keeps walk is_cancelled _ _ (λ e. cancel_keeps t f (InWait number words) w mine h)
       (λ e. given_keeps walk (set_number w f.instance index) _ (λ set i. (goes walk _ w h.0, (λ event. member_comes g w t f set (InWait number words) None w.picks mine (ready_found w f.instance index set i (some event index e refl)) tt), (t, h.1))))
-  wait_keeps t f is_cancelled number words (ForCall callee) w some alone well mine h =
+  wait_keeps t f is_cancelled number words (ForCall callee) w some alone well none mine h =
       with_keeps w callee _ (λ task subtask there guest. on_keeps walk t subtask.result (told callee (subtask_state task) w) (subtask_keeps true t f.instance callee task subtask w (alone callee (inl refl)) (well callee (subtask_state task) (inl refl)) h))
-  wait_keeps t f is_cancelled number words (ForCancel index) w some alone well mine h =
+  wait_keeps t f is_cancelled number words (ForCancel index) w some alone well none mine h =
       given_keeps walk (found_subtask w f.instance index) _ (λ callee e.
       with_keeps w callee _ (λ task subtask there guest.
       on_keeps walk t (state_of task ∷ []) (told callee (subtask_state task) w)
       (subtask_keeps true t f.instance callee task subtask w (alone callee (inr (f.instance, index, found_subtask_there w f.instance index callee e)))
       (well callee (subtask_state task) (inr (index, refl, found_subtask_there w f.instance index callee e))) h)))
-  wait_keeps t f is_cancelled number words (ForCopy index) w some alone well mine h =
-      given_keeps walk (found_end w f.instance index) _ (λ e i. on_keeps walk t (payload_of w e ∷ []) (concluded e w) (end_told_keeps true t e w h))
+  wait_keeps t f is_cancelled number words (ForCopy index) w some alone well none mine h =
+      given_keeps walk (found_end w f.instance index) _ (λ e i. on_keeps walk t (payload_of w e ∷ []) (concluded e w) (end_told_keeps true t e w (λ copies. none index e refl i copies) h))
 
   polled_keeps : (t : ℕ) (f : Lifted) (set : ℕ) (members : List ℕ) (w : World) → members ≡ ready w f.instance set → (walk.Event → HasReceiver InCallback f) → Is (IsOfFunc f) t w → Held walk false t w → Keeps walk (set_polled g t f set members w)
   unfolding set_polled
@@ -297,6 +303,10 @@ module _ {g : Graph} {s : Script} (walk : Walk g s) where
   told_again t number words f wait w facts a mine callee state (inr at) asks =
       blocked_told w t at.0 callee number words f state (facts.1 asks).cancels (subst (λ (x : Wait). Is (IsIn (InBuiltin number words x)) t w) at.1 a) mine at.2
 
+  alone_again : (t number : ℕ) (words : List ℕ) (f : Lifted) (wait : Wait) (w : World) → Known walk w → Is (IsIn (InBuiltin number words wait)) t w → Is (IsOfFunc f) t w → IsAlone f wait (in_state t Acting w)
+  alone_again t number words f wait w facts a mine index e same found copies =
+      again_alone g w t number words index f e (facts.2 copies) (subst (λ (x : Wait). Is (IsIn (InBuiltin number words x)) t w) same a) mine found
+
   resumed_keeps : (t : ℕ) (task : Task) (f : Lifted) (state : TaskState) (w : World) → Known walk w → (walk.Event → GoesOnFrom g w t task f state) → Is (IsOfFunc f) t w → Is (IsIn state) t w → Is (StandsBy state) t w → walk.Holds w
       → Keeps walk (resumed g t task f state w)
   unfolding resumed loop_resumed
@@ -308,7 +318,7 @@ module _ {g : Graph} {s : Script} (walk : Walk g s) where
       (λ e. loop_keeps t f (callback_of word) (in_state t Acting w) (λ event index says. loop_ready g w t task f word index (cause event) e says) (λ event. loop_has g w t task f word (cause event)) now i)
   resumed_keeps t task f (InBuiltin number words wait) w facts cause mine c a h =
       wait_keeps t f (is_to_be_told g number wait task w f.instance) number words wait (in_state t Acting w) (λ event index untold same. set_ready g w t task f number words wait index (cause event) untold same)
-      (unawaited_again t number words wait w facts c) (told_again t number words f wait w facts c mine)
+      (unawaited_again t number words wait w facts c) (told_again t number words f wait w facts c mine) (alone_again t number words f wait w facts c mine)
       (state_first (IsOfFunc f) (IsOfFunc f) w t Acting (λ o k. k) mine) (acts_again true t w a h)
   resumed_keeps t task f IsNew w facts cause mine c a h = tt
   resumed_keeps t task f Acting w facts cause mine c a h = tt
@@ -385,7 +395,7 @@ module _ {g : Graph} {s : Script} (walk : Walk g s) where
   cancel_open_keeps : (t number : ℕ) (words : List ℕ) (w : World) → (walk.Asks → BlocksAsked t (InBuiltin number words (ForCancel (first_of words))) w) → (walk.Apart → CallsItsOwn g number t w) → HasFunc w.tasks t → Held walk true t w → Keeps walk (cancel_open g t number words w)
   unfolding cancel_open
   cancel_open_keeps t number words w blocks calls runs h = either_keeps walk (flag_at g number) _ _ (λ e. on_keeps walk t (blocked_word ∷ []) w h)
-      (λ e. blocked_keeps walk t (InBuiltin number words (ForCancel (first_of words))) (reason.Cancel (first_of words)) w h.1.0 tt (inr runs) tt blocks calls (as_is (IsActing true) (WaitsWith true) t w (acting_waits true) h.1) h.0)
+      (λ e. blocked_keeps walk t (InBuiltin number words (ForCancel (first_of words))) (reason.Cancel (first_of words)) w h.1.0 tt (inr runs) tt blocks (λ copies. tt) calls (as_is (IsActing true) (WaitsWith true) t w (acting_waits true) h.1) h.0)
 
   back_cancel_keeps : (t i callee number : ℕ) (words : List ℕ) (w : World) → (walk.Given → IsUnawaited w.tasks callee) → (walk.Asks → (state : SubtaskState) → is_over state ≡ true → TellsWell w callee state)
       → ((task : Task) (subtask : Subtask) → slice_get w.tasks callee ≡ Some task → subtask_of task.caller ≡ Some subtask → has_resolved task ≡ false → walk.Asks → BlocksAsked t (InBuiltin number words (ForCancel (first_of words))) w)

@@ -120,7 +120,7 @@ worlds_go_on g s w h fed = by w.control h.ordered.2 h.alone.2 h.control_own h.pi
     caller : (t : ℕ) (task : Task) → slice_get w.tasks t ≡ Some task → IsSome (func_of task.callee) → HasCaller g task.caller
     caller t task at runs = has_caller g t task (h.numbered.called t task at) runs (all_at (λ (x : Task). IsByCanon g x.caller) w.tasks t task h.by_canons at)
 
-    by : (c : Control) → ActsBy c (outlines_of w.tasks) w.chain → Tells c w.tasks w.chain w.streams w.futures → IsControlOwn g c w → IsPicked g s c w → EventComes g c v → IsFed g s c v → HasNext (next_by g s v c)
+    by : (c : Control) → ActsBy c (outlines_of w.tasks) w.chain → Tells c w.tasks w.chain w.streams w.futures w.insts → IsControlOwn g c w → IsPicked g s c w → EventComes g c v → IsFed g s c v → HasNext (next_by g s v c)
     by Free acts tells own picked comes fed = free_next g s v (h.numbered.called, h.taken) fed
     by (Chosen k) acts tells own picked comes fed = chosen_turn_next g s k v (h.numbered.called, h.taken) fed picked
     by (Instantiates n) acts tells own picked comes fed = instantiating_next g n v fed
@@ -136,7 +136,7 @@ worlds_go_on g s w h fed = by w.control h.ordered.2 h.alone.2 h.control_own h.pi
     by Resumes acts tells own picked comes fed =
         resuming_next g v h.ordered.1 acts caller h.numbered.entries
         (λ t task f first at runs.
-        resumable g v t task f at runs (h.called t task at) (h.waits t task at) (h.loops t task at) (λ index waits. h.sets t index task f at runs waits) (h.cancels.stands t task at) (fed.1 t task f at runs) (fed.0 t task f first at runs))
+        resumable g v t task f at runs (h.called t task at) (h.waits t task at) (h.loops t task at) (λ index waits. h.sets t index task f at runs waits) (h.cancels.stands t task at) (fed t task f at runs) (comes t task f first at runs))
     by (Delivers set receiver pick) acts tells own picked comes fed = delivering_next g s set receiver pick (IsActing (stacked_receiver receiver)) v acts (λ o p. p.0) h.numbered.entries comes fed
     by Leaves acts tells own picked comes fed = leaving_next (IsActing false) v acts
     by (Doomed t why) acts tells own picked comes fed = tt

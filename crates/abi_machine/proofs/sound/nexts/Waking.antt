@@ -36,9 +36,9 @@ use Rattle.abi_machine.specs.sound.Numbers.{IsNamed, NamesWhatIsThere}
 use Rattle.abi_machine.specs.sound.Loops.{HasSetAt, GoesOnBy, LoopsIn, LoopsSo}
 use Rattle.abi_machine.specs.sound.SetWaits.{WaitsOnSet}
 use Rattle.abi_machine.specs.sound.Guests.{WaitsAs, WaitAs}
-use Rattle.abi_machine.specs.sound.Events.{HasReceiver, EventComes}
+use Rattle.abi_machine.specs.sound.Events.{HasReceiver, EndsWait, HasCause, EventComes}
 use Rattle.abi_machine.specs.sound.Cancels.{CancelStands}
-use Rattle.abi_machine.specs.sound.GoingOn.{HasNext, IsFuncThere, AreFuncsThere, HaveFuncs, WaitsThere, ResumesAt}
+use Rattle.abi_machine.specs.sound.GoingOn.{HasNext, IsFuncThere, AreFuncsThere, HaveFuncs}
 use Rattle.abi_machine.proofs.sound.Lists.{all_as}
 use Rattle.abi_machine.proofs.sound.Found.{guest_changed}
 use Rattle.abi_machine.proofs.sound.known.Handles.{found_subtask_there}
@@ -213,7 +213,7 @@ delivering_next g s set receiver pick P w acts runs named there funcs =
 
 -- Blocked tasks go on.
 
-set_found : (w : World) (i index : ℕ) → HasSetAt (table_in (slice_get w.insts i)) index → IsSome (set_number w i index)
+pub set_found : (w : World) (i index : ℕ) → HasSetAt (table_in (slice_get w.insts i)) index → IsSome (set_number w i index)
 set_found w i index h = subst (λ (o : Option Entry). IsSome (accepted (set_in o))) (sym h.1) refl
 
 polled_next : (g : Graph) (t : ℕ) (f : Lifted) (set : ℕ) (members : List ℕ) (w : World) → Receives InCallback f w.store → HasNext (set_polled g t f set members w)
@@ -306,18 +306,18 @@ blocked_runs Exited o blocked h = absurd blocked
 
 -- what a blocked task waits for is there, by what is kept and what else is asked
 pub resumable : (g : Graph) (w : World) (t : ℕ) (task : Task) (f : Lifted) → slice_get w.tasks t ≡ Some task → func_of task.callee ≡ Some f → HasCalled w.tasks t task.state → WaitsAs w.tasks task.callee task.state → LoopsSo w.insts task.callee task.state
-    → ((index : ℕ) → WaitsOnSet task index → HasSetAt (table_in (slice_get w.insts f.instance)) index) → CancelStands w.tasks w.insts (func_of task.callee) task.state → AreFuncsThere w.store f → ResumesAt w f task.state → IsResumable w f task.state
+    → ((index : ℕ) → WaitsOnSet task index → HasSetAt (table_in (slice_get w.insts f.instance)) index) → CancelStands w.tasks w.insts (func_of task.callee) task.state → AreFuncsThere w.store f → HasCause g w f task task.state → IsResumable w f task.state
 resumable g w t task f there runs called waits loops sets cancels funcs at = by task.state refl called waits loops (subst (λ (o : Option Lifted). CancelStands w.tasks w.insts o task.state) runs cancels) at
   where
     waits_by : (number : ℕ) (words : List ℕ) (wait : Wait) → task.state ≡ InBuiltin number words wait → HasCalled w.tasks t (InBuiltin number words wait) → CancelStands w.tasks w.insts (Some f) (InBuiltin number words wait)
-        → WaitsThere w f.instance wait → IsAwaited w f.instance wait
+        → EndsWait g w f task number wait → IsAwaited w f.instance wait
     waits_by number words ForYield e called stands at = tt
     waits_by number words (ForSet index) e called stands at = sets index (number, words, e)
     waits_by number words (ForCall callee) e called stands at = called_guest w.tasks t number callee called
     waits_by number words (ForCopy index) e called stands at = at
     waits_by number words (ForCancel index) e called stands at = subst (λ (o : Option Entry). IsSome (accepted (subtask_in o))) (sym stands.1) refl
 
-    by : (state : TaskState) → task.state ≡ state → HasCalled w.tasks t state → WaitsAs w.tasks task.callee state → LoopsSo w.insts task.callee state → CancelStands w.tasks w.insts (Some f) state → ResumesAt w f state → IsResumable w f state
+    by : (state : TaskState) → task.state ≡ state → HasCalled w.tasks t state → WaitsAs w.tasks task.callee state → LoopsSo w.insts task.callee state → CancelStands w.tasks w.insts (Some f) state → HasCause g w f task state → IsResumable w f state
     by (InLoop word) e called waits loops stands at =
         (subst (λ (o : Option Lifted). LoopsIn w.insts o word) runs loops, (has_callback f.options (subst (λ (o : Option Lifted). kind_of_func o ≡ Callback) runs waits), funcs.callback))
     by (InBuiltin number words wait) e called waits loops stands at = waits_by number words wait e called stands at

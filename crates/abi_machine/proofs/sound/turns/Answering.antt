@@ -69,7 +69,7 @@ use Rattle.abi_machine.specs.replies.Pressure.{most_backpressure, pressure_inc_t
 use Rattle.abi_machine.specs.replies.Waiting.{set_new_turn, none_ready, by_ready, event_size, event_align, is_cancelled, event_turn, wait_turn, view_of_set, set_drop_turn, joins, join_turn}
 use Rattle.abi_machine.specs.replies.Streams.{end_ref, both_indices, ends_added, channel_new_turn, placed_well, max_length, copy_turn, is_async_copy, copy_cancel_turn, is_unwritten, end_drop_turn}
 use Rattle.abi_machine.specs.Reply.{resource_turn, plain_turn, side_of, copy_size, end_turn, builtin_turn, reply, exempt_turn, allowed, calling_turn}
-use Rattle.abi_machine.specs.sound.Changes.{AddsEntry, MakesSet, RemovesEntry, RemovesWaitable, LeavesSet, JoinsSet, HasBackpressure, Cancels, Resolves as IsResolved, HasWord, MakesChannel, Concludes, DropsEnd, after, IsWaitable, Stands}
+use Rattle.abi_machine.specs.sound.Changes.{AddsEntry, MakesSet, RemovesEntry, RemovesWaitable, LeavesSet, JoinsSet, HasBackpressure, Cancels, HasWord, MakesChannel, Concludes, DropsEnd, after, IsWaitable, Stands}
 use Rattle.laid_types.specs.Handles.{held_borrow}
 use Rattle.abi_machine.specs.sound.Premises.{IsSizeIn, passed_type, GraphPassesBorrow}
 use Rattle.tasks.specs.declared.event.TaskTrap.{TaskTrap}
@@ -84,11 +84,17 @@ use Rattle.abi_machine.proofs.sound.OnePlace.{new_is_made, new_nowhere}
 use Rattle.abi_machine.proofs.sound.Takeable.{subtask_taken, end_found}
 use Rattle.abi_machine.proofs.sound.Acted.{one_task, first_at, changed_where}
 use Rattle.abi_machine.proofs.sound.Entries.{right_true, not_false, asked_is, told_is, unasked_is, unresolved_is}
-use Rattle.abi_machine.proofs.sound.turns.Keeping.{Invariant, Keeps, Acted, given_keeps, behind_keeps, either_keeps, stay, goes, goes_on, refused_keeps, unless_keeps, fault_keeps, on_keeps, blocked_keeps, entry_keeps, new_stack_keeps}
+use Rattle.abi_machine.specs.sound.Lines as mark
+use Rattle.abi_machine.proofs.sound.LiftLines.{result_unmarked}
+use Rattle.abi_machine.proofs.sound.turns.Keeping.{Invariant, Keeps, Acted, given_keeps, behind_keeps, either_keeps, stay, goes, goes_on, refused_keeps, unless_keeps, fault_keeps, on_keeps, blocked_keeps, entry_keeps, new_stack_keeps, ahead, resolves_now}
 use Rattle.abi_machine.proofs.sound.turns.Moving.{ActsLike, acts_like, no_fault, no_borrows, result_comes, resolves_keeps}
+use Rattle.abi_machine.specs.sound.CallsFit.{IsCopyBy}
+use Rattle.abi_machine.proofs.sound.CopyKinds.{IsDropper, IsKind, dropper, copy_is, copies_at}
 use Rattle.abi_machine.proofs.sound.turns.Waking.{IsToCancel, call_keeps, with_keeps, none_keeps, cancel_keeps, yielded_keeps, cancelled_keeps}
 use Rattle.abi_machine.proofs.sound.turns.Nesting.{exempt_keeps, meets_keeps}
 use Rattle.abi_machine.proofs.sound.Entered.{acts_entered}
+use Rattle.abi_machine.proofs.sound.ends.Lifting.{result_brings}
+use Rattle.abi_machine.proofs.sound.ends.Readers.{reader_is_fresh}
 
 -- what is known of a task that is looked up, of a fault that is not found, and of a copy
 is_there : (tasks : List Task) (t : ℕ) (task : Task) → slice_get tasks t ≡ Some task → IsSome (slice_get tasks t)
@@ -146,28 +152,28 @@ module _ {g : Graph} {s : Script} (inv : Invariant g s) where
   unfolding resource_new_turn
   new_handle_keeps t i resource rep w h =
       entry_keeps inv t i (OwnHandle resource rep) w (λ index v. replied t (index ∷ []) v) h (λ few.
-      on_keeps inv t (next_index (table_of w i) ∷ []) (entry_added i (OwnHandle resource rep) w) (stay inv (AddsEntry i (OwnHandle resource rep)) w tt (few, tt, tt, tt) h))
+      on_keeps inv t (next_index (table_of w i) ∷ []) (entry_added i (OwnHandle resource rep) w) (stay inv (AddsEntry i (OwnHandle resource rep)) w tt (few, tt, tt, tt, λ none. tt) h))
 
-  destroyed_keeps : (t i number : ℕ) (words : List ℕ) (resource : ℕ) (r : Resource) (destructor : Option FuncRef) (rep : ℕ) (w : World) → resource_at g resource ≡ Some r → r.destructor ≡ destructor → IsSome (task_at w t) → IsFirst t w.chain → may_leave w ≡ true → Acted inv w
+  destroyed_keeps : (t i number : ℕ) (words : List ℕ) (resource : ℕ) (r : Resource) (destructor : Option FuncRef) (rep : ℕ) (w : World) → resource_at g resource ≡ Some r → r.destructor ≡ destructor → IsDropper g number → IsSome (task_at w t) → IsFirst t w.chain → may_leave w ≡ true → Acted inv w
       → Keeps inv (destroyed t i number words resource r destructor rep w)
   unfolding destroyed destroyed_here
-  destroyed_keeps t i number words resource r None rep w at is there first free h =
+  destroyed_keeps t i number words resource r None rep w at is by there first free h =
       unless_keeps inv t (not (nat_eq r.instance i) && is_reentrant w r.instance t) trap.Reentrant w (replied t [] w) h (λ e. on_keeps inv t [] w h)
-  destroyed_keeps t i number words resource r (Some ref) rep w at is there first free h =
+  destroyed_keeps t i number words resource r (Some ref) rep w at is by there first free h =
       either_keeps inv (nat_eq r.instance i) _ _ (λ e. given_keeps inv (found_at w.store.funcs (func_address w.store ref)) _ (λ function j. new_stack_keeps inv t _ w h))
-      (λ e. call_keeps inv t number words (Destroys resource (destructor_of r.instance ref)) (destructor_of r.instance ref) (rep ∷ []) w refl (λ b. absurd (no_result r.instance ref b.0 b.1 b.2)) (r, ref, at, is, refl) there first free h)
+      (λ e. call_keeps inv t number words (Destroys resource (destructor_of r.instance ref)) (destructor_of r.instance ref) (rep ∷ []) w refl (λ b. absurd (no_result r.instance ref b.0 b.1 b.2)) (r, ref, at, is, refl) (canon.Builtin by.0, by.1, (tt, by.2)) there first free h)
 
-  dropped_keeps : (t i number : ℕ) (words : List ℕ) (x : Handle) (o : Ownership) (w : World) → IsSome (task_at w t) → IsFirst t w.chain → may_leave w ≡ true → Acted inv w → Keeps inv (dropped g t i number words x o w)
+  dropped_keeps : (t i number : ℕ) (words : List ℕ) (x : Handle) (o : Ownership) (w : World) → IsDropper g number → IsSome (task_at w t) → IsFirst t w.chain → may_leave w ≡ true → Acted inv w → Keeps inv (dropped g t i number words x o w)
   unfolding dropped
-  dropped_keeps t i number words x (Borrow task) w there first free h = on_keeps inv t [] w h
-  dropped_keeps t i number words x Own w there first free h = given_keeps inv (resource_at g x.resource) _ (λ r e. destroyed_keeps t i number words x.resource r r.destructor x.rep w e refl there first free h)
+  dropped_keeps t i number words x (Borrow task) w by there first free h = on_keeps inv t [] w h
+  dropped_keeps t i number words x Own w by there first free h = given_keeps inv (resource_at g x.resource) _ (λ r e. destroyed_keeps t i number words x.resource r r.destructor x.rep w e refl by there first free h)
 
-  drop_keeps : (t i number resource : ℕ) (words : List ℕ) (w : World) → IsSome (task_at w t) → IsFirst t w.chain → may_leave w ≡ true → Acted inv w → Keeps inv (resource_drop_turn g t i number resource words w)
+  drop_keeps : (t i number resource : ℕ) (words : List ℕ) (w : World) → IsDropper g number → IsSome (task_at w t) → IsFirst t w.chain → may_leave w ≡ true → Acted inv w → Keeps inv (resource_drop_turn g t i number resource words w)
   unfolding resource_drop_turn
-  drop_keeps t i number resource words w there first free h =
+  drop_keeps t i number resource words w by there first free h =
       let answer : Result Handle TrapName = renamed refusal_name (dropped_in (view_at w i (slice_index words 0)) resource) in
       refused_keeps inv t answer w (λ x. dropped g t i number words x x.ownership (entry_removed i (slice_index words 0) w)) h (λ x e.
-      dropped_keeps t i number words x x.ownership (entry_removed i (slice_index words 0) w) there first free
+      dropped_keeps t i number words x x.ownership (entry_removed i (slice_index words 0) w) by there first free
       (stay inv (RemovesEntry i (slice_index words 0)) w tt (dropped_free w i (slice_index words 0) resource x (renamed_ok refusal_name (dropped_in (view_at w i (slice_index words 0)) resource) x e)) h))
 
   return_keeps : (t : ℕ) (task : Task) (i : ℕ) (result : Option ValType) (options : Options) (words : List ℕ) (w : World) → (held_borrow result ≡ true → GraphPassesBorrow g) → ActsLike t task w → Acted inv w
@@ -179,15 +185,16 @@ module _ {g : Graph} {s : Script} (inv : Invariant g s) where
       fault_keeps inv t task_name (asking_fault (task_view g w t task)) w _ h (λ none. given_keeps inv (func_of task.callee) _ (λ f e.
       unless_keeps inv t (not (same_held result f.func_type.result)) trap.WrongResult w (unless t (apart f) trap.WrongOptions w answers) h (λ j.
       unless_keeps inv t (apart f) trap.WrongOptions w answers h (λ k.
-      resolves_keeps inv t task Replies _ (result_comes inv i t _ task result options words w (λ v l b. inl (returns b)) h like)))))
+      resolves_keeps inv t task Replies _ w (result_brings i t flat_param_limit result options words w) (inv.readers [] w h.0) (result_comes inv i t _ task result options words w (λ v l b. inl (returns b)) h like)
+      (result_unmarked i t flat_param_limit result options words w)))))
 
   task_cancel_keeps : (t : ℕ) (task : Task) (w : World) → slice_get w.tasks t ≡ Some task → IsFirst t w.chain → Acted inv w → Keeps inv (task_cancel_turn g t task w)
   unfolding task_cancel_turn
   task_cancel_keeps t task w there first h =
       fault_keeps inv t task_name (cancel_fault (task_view g w t task)) w _ h (λ none.
       let free = no_cancel_fault (task_view g w t task) none in
-      on_keeps inv t [] (resolved t Cancelled w)
-      (stay inv (IsResolved t Cancelled) w tt ((task, there, (one_task w.tasks t IsActing task there (first_at w.tasks w.chain t IsActing first h.1), free.1, free.0)), free.2) h))
+      on_keeps (ahead (mark.IsCancelled t ∷ []) inv) t [] (resolved t Cancelled w)
+      (resolves_now inv t Cancelled w ((task, there, (one_task w.tasks t IsActing task there (first_at w.tasks w.chain t IsActing first h.1), free.1, free.0)), free.2) h))
 
   yield_keeps : (t : ℕ) (task : Task) (number : ℕ) (cancellable : Bool) (words : List ℕ) (w : World) → slice_get w.tasks t ≡ Some task → IsFirst t w.chain → may_leave w ≡ true → Acted inv w → Keeps inv (yield_turn t task number cancellable words w)
   unfolding yield_turn
@@ -256,9 +263,9 @@ module _ {g : Graph} {s : Script} (inv : Invariant g s) where
       let both : ℕ → World → Turn = λ first u. with_entry t i writable u (λ second x. replied t (both_indices first second ∷ []) x) in
       entry_keeps inv t i readable v both j (λ few.
       let u : World = entry_added i readable v in
-      let k : Acted inv u = stay inv (AddsEntry i readable) v tt (few, tt, inl refl, tt) j in
+      let k : Acted inv u = stay inv (AddsEntry i readable) v tt (few, tt, inl refl, tt, λ none. reader_is_fresh kind element w (inv.readers [] w h.0) none) j in
       entry_keeps inv t i writable u (λ second x. replied t (both_indices (next_index (table_of v i)) second ∷ []) x) k (λ more.
-      on_keeps inv t (both_indices (next_index (table_of v i)) (next_index (table_of u i)) ∷ []) (entry_added i writable u) (stay inv (AddsEntry i writable) u tt (more, tt, inr (new_is_made i kind element w, new_nowhere i kind element w (inv.writers w h.0)), tt) k)))
+      on_keeps inv t (both_indices (next_index (table_of v i)) (next_index (table_of u i)) ∷ []) (entry_added i writable u) (stay inv (AddsEntry i writable) u tt (more, tt, inr (new_is_made i kind element w, new_nowhere i kind element w (inv.writers [] w h.0)), tt, λ none. inl refl) k)))
 
   placed_keeps : (t : ℕ) (bytes : List ℕ) (element : Option ValType) (place size : ℕ) (w : World) (more : Turn) → Acted inv w → Keeps inv more → Keeps inv (placed_well t bytes element place size w more)
   unfolding placed_well
@@ -270,9 +277,10 @@ module _ {g : Graph} {s : Script} (inv : Invariant g s) where
       (λ e. unless_keeps inv t askew trap.Misaligned w (unless t outside trap.Bounds w more) h (λ f. unless_keeps inv t outside trap.Bounds w more h (λ j. keeps)))
 
   copy_keeps : (t i number : ℕ) (kind : EndKind) (side : Side) (element : Option ValType) (options : Options) (words : List ℕ) (size : ℕ) (w : World) → IsSome (canon_at g number)
-      → (size ≤ max_length → IsSizeIn kind size) → IsSome (task_at w t) → IsFirst t w.chain → may_leave w ≡ true → Acted inv w → Keeps inv (copy_turn g t i number kind side element options words size w)
+      → (size ≤ max_length → IsSizeIn kind size) → ((x : Option ValType) → same_held x element ≡ true → IsCopyBy g kind side x number) → IsSome (task_at w t) → IsFirst t w.chain → may_leave w ≡ true → Acted inv w
+      → Keeps inv (copy_turn g t i number kind side element options words size w)
   unfolding copy_turn
-  copy_keeps t i number kind side element options words size w made fits there first free h =
+  copy_keeps t i number kind side element options words size w made fits by there first free h =
       let bytes : List ℕ = bytes_of w.store (memory_of w.store options) in
       let call : OpenCopy = new_copy (copy_by.Task t) number (slice_index words 1) size in
       let met : EndRef → Turn = λ e. meets g t i e call words (slice_index words 0) w in
@@ -300,6 +308,7 @@ module _ {g : Graph} {s : Script} (inv : Invariant g s) where
         held = (end_found w i kind side element (slice_index words 0) e j).0;
         quiet = not_copying (end_of w e).copy k;
         not_done = l;
+        copies = copies_at g w i kind side element (slice_index words 0) number e by j;
       }) first free h)))))
 
   copy_cancel_keeps : (t i : ℕ) (kind : EndKind) (side : Side) (element : Option ValType) (index : ℕ) (w : World) → Acted inv w → Keeps inv (copy_cancel_turn g t i kind side element index w)
@@ -334,7 +343,7 @@ module _ {g : Graph} {s : Script} (inv : Invariant g s) where
       unless_keeps inv t (is_over subtask.told) trap.Delivered w (unasked callee task) h (λ j.
       unless_keeps inv t (not (is_unasked task.cancellation)) trap.Asked w (asks callee task) h (λ k.
       let v : World = asking callee in
-      let l : inv.Holds v = inv.stays (Cancels t callee number words) w (first, free, first_at w.tasks w.chain t IsActing first h.1, (task, there, subst (λ (o : Option Subtask). IsSome o) (sym guest) refl)) h.0 in
+      let l : inv.Holds [] v = inv.stays [] (Cancels t callee number words) w (first, free, first_at w.tasks w.chain t IsActing first h.1, (task, there, subst (λ (o : Option Subtask). IsSome o) (sym guest) refl)) h.0 in
       either_keeps inv (has_resolved task) (silent Back v) (cancelled_turn g callee task Back v) (λ f. goes inv Back v tt l)
       (λ f.
       cancelled_keeps inv callee task Back v
@@ -353,11 +362,11 @@ module _ {g : Graph} {s : Script} (inv : Invariant g s) where
   pressure_keeps : (t i pressure : ℕ) (w : World) → (pressure ≤ most_backpressure) ⊎ (pressure ≤ backpressure_of w i) → Acted inv w → Keeps inv (replied t [] (after (HasBackpressure i pressure) w))
   pressure_keeps t i pressure w few h = on_keeps inv t [] (after (HasBackpressure i pressure) w) (stay inv (HasBackpressure i pressure) w tt few h)
 
-  resource_keeps : (t i number : ℕ) (op : ResourceOp) (resource : ℕ) (words : List ℕ) (w : World) → IsSome (task_at w t) → IsFirst t w.chain → may_leave w ≡ true → Acted inv w → Keeps inv (resource_turn g t i number op resource words w)
+  resource_keeps : (t i number : ℕ) (op : ResourceOp) (resource : ℕ) (words : List ℕ) (w : World) → IsKind g number (builtin.Resource op resource) → IsSome (task_at w t) → IsFirst t w.chain → may_leave w ≡ true → Acted inv w → Keeps inv (resource_turn g t i number op resource words w)
   unfolding resource_turn
-  resource_keeps t i number resource_op.New resource words w there first free h = new_handle_keeps t i resource (slice_index words 0) w h
-  resource_keeps t i number resource_op.Drop resource words w there first free h = drop_keeps t i number resource words w there first free h
-  resource_keeps t i number resource_op.Rep resource words w there first free h = tt
+  resource_keeps t i number resource_op.New resource words w by there first free h = new_handle_keeps t i resource (slice_index words 0) w h
+  resource_keeps t i number resource_op.Drop resource words w by there first free h = drop_keeps t i number resource words w (dropper g number resource by) there first free h
+  resource_keeps t i number resource_op.Rep resource words w by there first free h = tt
 
   plain_keeps : (t : ℕ) (task : Task) (i number : ℕ) (op : PlainBuiltin) (words : List ℕ) (w : World) → slice_get w.tasks t ≡ Some task → IsFirst t w.chain → may_leave w ≡ true → Acted inv w → Keeps inv (plain_turn g t task i number op words w)
   unfolding plain_turn pressure_set_turn pressure_inc_turn pressure_dec_turn
@@ -374,26 +383,26 @@ module _ {g : Graph} {s : Script} (inv : Invariant g s) where
   plain_keeps t task i number plain.WaitableSetDrop words w there first free h = set_drop_keeps t i (slice_index words 0) w h
   plain_keeps t task i number plain.WaitableJoin words w there first free h = join_keeps t i (slice_index words 0) (slice_index words 1) w h
 
-  ends_keep : (t i number : ℕ) (kind : EndKind) (element : Option ValType) (op : EndOp) (words : List ℕ) (w : World) → (held_borrow element ≡ true → GraphPassesBorrow g) → IsSome (canon_at g number) → IsSome (task_at w t) → IsFirst t w.chain → may_leave w ≡ true → Acted inv w → Keeps inv (end_turn g t i number kind element op words w)
+  ends_keep : (t i number : ℕ) (kind : EndKind) (element : Option ValType) (op : EndOp) (words : List ℕ) (w : World) → (held_borrow element ≡ true → GraphPassesBorrow g) → IsSome (canon_at g number) → IsKind g number (builtin.End kind element op) → IsSome (task_at w t) → IsFirst t w.chain → may_leave w ≡ true → Acted inv w → Keeps inv (end_turn g t i number kind element op words w)
   unfolding end_turn
-  ends_keep t i number kind element end_op.New words w passes made there first free h = new_ends_keep t i kind element w passes h
-  ends_keep t i number kind element (end_op.Copy side options) words w passes made there first free h = copy_keeps t i number kind (side_of side) element options words (copy_size kind words) w made (size_fits kind words) there first free h
-  ends_keep t i number kind element (end_op.Cancel side is_async) words w passes made there first free h = copy_cancel_keeps t i kind (side_of side) element (slice_index words 0) w h
-  ends_keep t i number kind element (end_op.Drop side) words w passes made there first free h = end_drop_keeps t i kind (side_of side) element (slice_index words 0) w h
+  ends_keep t i number kind element end_op.New words w passes made is there first free h = new_ends_keep t i kind element w passes h
+  ends_keep t i number kind element (end_op.Copy side options) words w passes made is there first free h = copy_keeps t i number kind (side_of side) element options words (copy_size kind words) w made (size_fits kind words) (copy_is g number kind element side options is) there first free h
+  ends_keep t i number kind element (end_op.Cancel side is_async) words w passes made is there first free h = copy_cancel_keeps t i kind (side_of side) element (slice_index words 0) w h
+  ends_keep t i number kind element (end_op.Drop side) words w passes made is there first free h = end_drop_keeps t i kind (side_of side) element (slice_index words 0) w h
 
-  builtin_keeps : (t : ℕ) (task : Task) (i number : ℕ) (b : BuiltinKind) (words : List ℕ) (w : World) → (held_borrow (passed_value b) ≡ true → GraphPassesBorrow g) → IsSome (canon_at g number) → slice_get w.tasks t ≡ Some task → IsFirst t w.chain → may_leave w ≡ true → Acted inv w → Keeps inv (builtin_turn g t task i number b words w)
+  builtin_keeps : (t : ℕ) (task : Task) (i number : ℕ) (b : BuiltinKind) (words : List ℕ) (w : World) → (held_borrow (passed_value b) ≡ true → GraphPassesBorrow g) → IsSome (canon_at g number) → IsKind g number b → slice_get w.tasks t ≡ Some task → IsFirst t w.chain → may_leave w ≡ true → Acted inv w → Keeps inv (builtin_turn g t task i number b words w)
   unfolding builtin_turn
-  builtin_keeps t task i number (builtin.Resource op resource) words w returns made there first free h = resource_keeps t i number op resource words w (is_there w.tasks t task there) first free h
-  builtin_keeps t task i number (builtin.TaskReturn result options) words w returns made there first free h = return_keeps t task i result options words w returns (acts_like t task w first there (inv.entered w h.0)) h
-  builtin_keeps t task i number (builtin.Plain op) words w returns made there first free h = plain_keeps t task i number op words w there first free h
-  builtin_keeps t task i number (builtin.Context op slot) words w returns made there first free h = tt
-  builtin_keeps t task i number (builtin.Wait op cancellable memory) words w returns made there first free h = wait_turn_keeps t task i op number words w there first free h
-  builtin_keeps t task i number (builtin.End of_what element op) words w returns made there first free h = ends_keep t i number of_what element op words w returns made (is_there w.tasks t task there) first free h
+  builtin_keeps t task i number (builtin.Resource op resource) words w returns made is there first free h = resource_keeps t i number op resource words w is (is_there w.tasks t task there) first free h
+  builtin_keeps t task i number (builtin.TaskReturn result options) words w returns made is there first free h = return_keeps t task i result options words w returns (acts_like t task w first there (inv.entered [] w h.0)) h
+  builtin_keeps t task i number (builtin.Plain op) words w returns made is there first free h = plain_keeps t task i number op words w there first free h
+  builtin_keeps t task i number (builtin.Context op slot) words w returns made is there first free h = tt
+  builtin_keeps t task i number (builtin.Wait op cancellable memory) words w returns made is there first free h = wait_turn_keeps t task i op number words w there first free h
+  builtin_keeps t task i number (builtin.End of_what element op) words w returns made is there first free h = ends_keep t i number of_what element op words w returns made is (is_there w.tasks t task there) first free h
 
   reply_keeps : (t : ℕ) (task : Task) (number : ℕ) (c : CanonFunc) (words : List ℕ) (w : World) → (held_borrow (passed_type c) ≡ true → GraphPassesBorrow g) → canon_at g number ≡ Some c → IsSome (canon_at g number) → slice_get w.tasks t ≡ Some task → IsFirst t w.chain → may_leave w ≡ true → Acted inv w → Keeps inv (reply g t task number c words w)
   unfolding reply
-  reply_keeps t task number (canon.Lower l) words w returns is made there first free h = call_keeps inv t number words (Func (lifted_of l)) (lifted_of l) words w refl (λ b. returns (subst (λ (x : Lifted). held_borrow x.func_type.result ≡ true) (sym (some_same b.1)) b.2)) (inr (number, l, is, refl)) (is_there w.tasks t task there) first free h
-  reply_keeps t task number (canon.Builtin b) words w returns is made there first free h = builtin_keeps t task b.instance number b.kind words w returns made there first free h
+  reply_keeps t task number (canon.Lower l) words w returns is made there first free h = call_keeps inv t number words (Func (lifted_of l)) (lifted_of l) words w refl (λ b. returns (subst (λ (x : Lifted). held_borrow x.func_type.result ≡ true) (sym (some_same b.1)) b.2)) (inr (number, l, is, refl)) (canon.Lower l, is, refl) (is_there w.tasks t task there) first free h
+  reply_keeps t task number (canon.Builtin b) words w returns is made there first free h = builtin_keeps t task b.instance number b.kind words w returns made (b, is, refl) there first free h
 
   exempted_keeps : (t : ℕ) (r : Result Answers TrapName) (w : World) → ((answer : Answers) → r ≡ Ok answer → Acted inv answer.world) → Acted inv w → Keeps inv (exempt_turn t r w)
   unfolding exempt_turn
@@ -404,7 +413,7 @@ module _ {g : Graph} {s : Script} (inv : Invariant g s) where
   unfolding calling_turn allowed
   calling_keeps number words w h =
       given_keeps inv (acting w) _ (λ a e. given_keeps inv (canon_at g number) _ (λ c i.
-      behind_keeps inv (line.Do a.0 (builtin_of c) words ∷ []) (allowed g a.0 a.1 number c words (exempt_of a.0 words c) w) (by a e c i (exempt_of a.0 words c) refl)))
+      behind_keeps inv (line.Do a.0 (builtin_of c) words ∷ []) (allowed g a.0 a.1 number c words (exempt_of a.0 words c) w) refl (by a e c i (exempt_of a.0 words c) refl)))
     where
       by : (a : ℕ × Task) → acting w ≡ Some a → (c : CanonFunc) → canon_at g number ≡ Some c → (o : Option Exempt) → exempt_of a.0 words c ≡ o → Keeps inv (allowed g a.0 a.1 number c words o w)
       by a e c i (Some exempt) f =

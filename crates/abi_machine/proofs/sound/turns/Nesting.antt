@@ -25,11 +25,11 @@ use Rattle.abi_machine.specs.LoweringOver.{New, Plan, Gives, Fails, Asks, Size, 
 use Rattle.abi_machine.specs.Control.{EndRef, Copying, Then, Starts, Resolves, Transfers, Lowering, Nested, Behind, InLowering, BeforeLeaving, Quiet, Leaves, Doomed}
 use Rattle.abi_machine.specs.World.{Entry, ForCopy, InBuiltin, Channel, World}
 use Rattle.abi_machine.specs.Edits.{with_store, with_memory, with_table, added, entry_added, offered, transferred, word_set}
-use Rattle.abi_machine.specs.Canons.{func_address, bytes_of, canon_at, inst_of_canon, options_at, builtin_of}
+use Rattle.abi_machine.specs.Canons.{func_address, memory_of, bytes_of, canon_at, inst_of_canon, options_of_canon, options_at, builtin_of, defines}
 use Rattle.abi_machine.specs.Reading.{table_of, acting, func_of, may_leave, channel_at}
 use Rattle.abi_machine.specs.Pausing.{Paused, Words, Failed, Asked as AsksNow, Settled, settle, index_in, with_new, entry_of}
 use Rattle.abi_machine.specs.Turn.{silent, doomed}
-use Rattle.abi_machine.specs.Copying.{blocked_word, completed, Met, AtOnce, Moves, Stands as OfferStands, met_by, other_offer, read_of, write_of, elements_written, elements_read, moved_by, elements_moved, meeting_turn, meets, is_within, transferring_turn}
+use Rattle.abi_machine.specs.Copying.{blocked_word, completed, Met, AtOnce, Moves, Stands as OfferStands, met_by, other_offer, next_place, read_of, write_of, elements_written, elements_read, moved_by, elements_moved, meeting_turn, meets, is_within, transferring_turn}
 use Rattle.abi_machine.specs.Nested.{HostedTurn, On, EndsIn, TrapsBy, CallsHost, NoRule, hosted_next, nested_ended, answered_in_place, answered_or_refused, calls_host, hosted, nested_turn}
 use Rattle.abi_machine.specs.Lowering.{started, lowered, paused, left_by, settled_turn, lowers_turn}
 use Rattle.abi_machine.specs.replies.Context.{Exempt, Answers, rep_answered, context_answer, exempt_kind, exempt_of}
@@ -43,6 +43,7 @@ use Rattle.abi_machine.specs.sound.Changes.{IsFirst}
 use Rattle.abi_machine.proofs.sound.Found.{ok_same, some_same, first_offered, free_offered, table_kept, added_once, entry_is_added}
 use Rattle.abi_machine.proofs.sound.Acted.{first_at}
 use Rattle.abi_machine.proofs.sound.Lifted.{elements_keep}
+use Rattle.abi_machine.proofs.sound.LiftLines.{elements_unmarked}
 use Rattle.abi_machine.proofs.sound.turns.Keeping.{Invariant, less, Keeps, Acted, given_keeps, behind_keeps, either_keeps, stay, goes, goes_on, unless_keeps, charged_keeps, on_keeps, blocked_keeps, new_stack_keeps, removes, waits, lends, came_keeps}
 use Rattle.abi_machine.proofs.sound.OnePlace.{entry_is_fresh}
 use Rattle.abi_machine.proofs.sound.Due.{met_fits, channel_is, due_at, lifted_long, values_long, units_long}
@@ -57,6 +58,12 @@ use Rattle.abi_machine.specs.sound.Agreeing.{channel_in, LowersForEntered}
 use Rattle.abi_machine.specs.sound.Entering.{HasEntered}
 use Rattle.abi_machine.specs.sound.Entered.{HaveEntered}
 use Rattle.abi_machine.proofs.sound.Entered.{entered_still, lowers_still, entry_names, called_entered}
+use Rattle.abi_machine.specs.sound.EndsPassed.{ends_of, ButNew, AddsOnce, IsOnTheWay, PassesBehind, HostPassesNoEnd}
+use Rattle.abi_machine.proofs.sound.ends.Apart.{adds_as}
+use Rattle.abi_machine.proofs.sound.ends.Lowered.{elements_plan_adds}
+use Rattle.abi_machine.proofs.sound.ends.Brought.{hosts_before, came_passes}
+use Rattle.abi_machine.proofs.sound.ends.Lifting.{elements_lifted_bring}
+use Rattle.abi_machine.proofs.sound.ends.Settled.{PausedAdds, settled_passes, entry_reads, but_is, added_passes}
 
 -- What is answered also where the instance may not be left keeps what words of context keep.
 
@@ -110,15 +117,16 @@ module _ {g : Graph} {s : Script} (inv : Invariant g s) where
       → Keeps inv (moved_by g t e call read write reading writing count element w)
   unfolding moved_by elements_written elements_read
   moved_by_keeps t e call read write reading writing count None w h =
-      goes inv _ w (h.0.0.1, subst (λ (n : ℕ). IsDueAt e n w.streams w.futures) (sym (units_long count None)) h.0.1, h.2, tt) h.0.0.0
+      goes inv _ w (h.0.0.1, subst (λ (n : ℕ). IsDueAt e n w.streams w.futures) (sym (units_long count None)) h.0.1, h.2, tt, λ none. tt) h.0.0.0
   moved_by_keeps t e call read write reading writing count (Some element) w h =
       came_keeps inv (WhileMoving e count (Some element) (task_by read.by)) t (elements_written t write writing count element w) (λ values later. elements_read g t e call.length read reading element values later) (λ v k. k.0.0)
       (elements_keep (inst_of_canon writing) t (WhileMoving e count (Some element) (task_by read.by)) (has_borrow element ≡ true)
       (λ i index v may k. ((removes inv i index v may k.0.0, k.0.1), k.1, k.2)) (λ i index v may k. ((waits inv i index v may k.0.0, k.0.1), k.1, k.2))
       (λ index v used there k. ((lends inv t index v (inst_of_canon writing, there, inr (inr (inr (k.1 used)))) k.0.0, k.0.1), k.1, entered_still v.tasks t (task_by read.by) _ (λ x. refl) k.2)) element (λ b. b) _ _ count w h)
+      (elements_unmarked (inst_of_canon writing) t element _ _ count w)
       (λ values k comes i.
       goes inv _ k.world
-      (i.0.0.1, subst (λ (n : ℕ). IsDueAt e n k.world.streams k.world.futures) (sym (values_long values count (lifted_long (inst_of_canon writing) t element _ _ count w values k comes))) i.0.1, i.2, tt) i.0.0.0)
+      (i.0.0.1, subst (λ (n : ℕ). IsDueAt e n k.world.streams k.world.futures) (sym (values_long values count (lifted_long (inst_of_canon writing) t element _ _ count w values k comes))) i.0.1, i.2, tt, λ none. elements_plan_adds (defines g (inst_of_canon reading)) (IsOnTheWay k.world.insts k.world.streams k.world.futures) element values (next_place element read) (came_passes w ends_of (elements_written t write writing count element w) values k (elements_lifted_bring (inst_of_canon writing) t element (bytes_of w.store (memory_of w.store (options_of_canon writing))) (next_place element write) count w) comes (inv.readers [] w h.0.0.0) none)) i.0.0.0)
 
   elements_moved_keep : (t : ℕ) (e : EndRef) (call : OpenCopy) (count : ℕ) (element : Option ValType) (offer : OpenCopy) (w : World) → WhileMoving e count element (task_by (read_of e.side call offer).by) w → Keeps inv (elements_moved g t e call count element offer w)
   unfolding elements_moved
@@ -135,7 +143,7 @@ module _ {g : Graph} {s : Script} (inv : Invariant g s) where
       elements_moved_keep t e call count c.element offer w (
         (h, due_at w e c count offer there may.quiet i (met_fits e.kind e.side call c.ends.view count offer meets i)),
         (λ b. (e.kind, e.number, c, channel_is e.kind e.number w ∙ there, b)),
-        reader_entered w e c call offer (inv.entered w h.0) (channel_is e.kind e.number w ∙ there) i (called_entered g w e call may),
+        reader_entered w e c call offer (inv.entered [] w h.0) (channel_is e.kind e.number w ∙ there) i (called_entered g w e call may),
       ))
   meeting_keeps t e call words index c OfferStands w there meets may first free h =
       let k : Acted inv (offered e call w) = stay inv (Offers e call) w tt may h in
@@ -167,36 +175,37 @@ module _ {g : Graph} {s : Script} (inv : Invariant g s) where
 
   -- what holds while it runs
   abbrev pub WithNested : Behind → World → Type 0
-  WithNested b w = Acted inv w × IsDueAfter b w.streams w.futures × LowersForEntered b w.tasks × HasResolvedBehind b w.tasks w.chain
+  WithNested b w =
+      Acted inv w × IsDueAfter b w.streams w.futures × LowersForEntered b w.tasks × HasResolvedBehind b w.tasks w.chain × (HostPassesNoEnd w.tasks → PassesBehind b w.insts w.streams w.futures)
 
   in_place_keeps : (n : Nested) (b : Behind) (k : Stack) (r : Result Answers TrapName) (w : World) → ((answer : Answers) → r ≡ Ok answer → WithNested b answer.world) → Acted inv w
       → Keeps inv (answered_in_place n b k r w)
   unfolding answered_in_place
   in_place_keeps n b k (Err why) w keeps h = goes_on inv (Doomed n.blame why) w tt h
-  in_place_keeps n b k (Ok answer) w keeps h = goes inv _ answer.world ((keeps answer refl).0.1, (keeps answer refl).1, (keeps answer refl).2, (keeps answer refl).3) (keeps answer refl).0.0
+  in_place_keeps n b k (Ok answer) w keeps h = goes inv _ answer.world ((keeps answer refl).0.1, (keeps answer refl).1, (keeps answer refl).2, (keeps answer refl).3, (keeps answer refl).4) (keeps answer refl).0.0
 
   calls_keeps : (n : Nested) (b : Behind) (k : Stack) (words : List ℕ) (c : CanonFunc) (w : World) → WithNested b w → Keeps inv (calls_host n b k words c w)
   unfolding calls_host answered_or_refused
   calls_keeps n b k words c w h =
-      either_keeps inv (nat_eq (inst_of_canon c) n.inst) _ _ (λ e. behind_keeps inv (line.Do n.acts_for (builtin_of c) words ∷ []) (answered_or_refused n b k (exempt_of n.acts_for words c) w) (by (exempt_of n.acts_for words c) refl)) (λ e. tt)
+      either_keeps inv (nat_eq (inst_of_canon c) n.inst) _ _ (λ e. behind_keeps inv (line.Do n.acts_for (builtin_of c) words ∷ []) (answered_or_refused n b k (exempt_of n.acts_for words c) w) refl (by (exempt_of n.acts_for words c) refl)) (λ e. tt)
     where
       by : (o : Option Exempt) → exempt_of n.acts_for words c ≡ o → Keeps inv (answered_or_refused n b k o w)
       by None e = goes_on inv _ w tt h.0
       by (Some exempt) e =
           in_place_keeps n b k (exempt w) w
-          (λ answer f. exempt_keeps (WithNested b) (λ t slot word v l. (stay inv (HasWord t slot word) v tt tt l.0, l.1, lowers_still b v.tasks t _ (λ x. refl) l.2, resolved_still_behind b v.tasks v.chain t _ (λ x. refl) l.3)) n.acts_for words c exempt e w answer f h) h.0
+          (λ answer f. exempt_keeps (WithNested b) (λ t slot word v l. (stay inv (HasWord t slot word) v tt tt l.0, l.1, lowers_still b v.tasks t _ (λ x. refl) l.2, resolved_still_behind b v.tasks v.chain t _ (λ x. refl) l.3, λ none. l.4 (hosts_before t _ v.tasks (λ x k. k) none))) n.acts_for words c exempt e w answer f h) h.0
 
   nested_ends : (b : Behind) (words : List ℕ) (w : World) → WithNested b w → Keeps inv (nested_ended b words w)
   unfolding nested_ended
   nested_ends (InLowering l k) [] w h = tt
-  nested_ends (InLowering l k) (place ∷ words) w h = goes inv _ w (h.0.1, h.1, h.2, h.3) h.0.0
+  nested_ends (InLowering l k) (place ∷ words) w h = goes inv _ w (h.0.1, h.1, h.2, h.3, λ none. h.4 none place) h.0.0
   nested_ends BeforeLeaving words w h = goes inv Leaves w (h.0.1, h.3) h.0.0
 
   hosted_keeps : (n : Nested) (b : Behind) (t : HostedTurn) (w : World) → WithNested b w → Keeps inv (hosted g s n b t w)
   unfolding hosted
   hosted_keeps n b (On paid state store) w h =
       charged_keeps inv paid w (λ v. silent (Quiet (record n { state = state }) b) (with_store store v)) h.0.0
-      (λ units i. goes inv _ (with_store store (record w { units = units })) (h.0.1, h.1, h.2, h.3) (inv.stays (HasStore store) (record w { units = units }) tt i))
+      (λ units i. goes inv _ (with_store store (record w { units = units })) (h.0.1, h.1, h.2, h.3, h.4) (inv.stays [] (HasStore store) (record w { units = units }) tt i))
   hosted_keeps n b (EndsIn words) w h = nested_ends b words w h
   hosted_keeps n b (TrapsBy why) w h =
       charged_keeps inv true w (λ v. doomed n.blame (core_name why) v) h.0.0 (λ units i. goes_on inv (Doomed n.blame (core_name why)) (record w { units = units }) tt (i, h.0.1))
@@ -213,10 +222,15 @@ module _ {g : Graph} {s : Script} (inv : Invariant g s) where
   abbrev pub WhileLowered : Then → ℕ → World → Type 0
   WhileLowered follows t w = WithDue follows w × HasEntered w.tasks t
 
+  -- what is left of a plan passes readable ends once, where the script passes none
+  abbrev AddsSo : Plan → World → Type 0
+  AddsSo plan w = HostPassesNoEnd w.tasks → AddsOnce plan (IsOnTheWay w.insts w.streams w.futures)
+
   adds_keep : (follows : Then) (i t : ℕ) (entry : New) (k : Option ℕ → Plan) (bytes : List ℕ) (w : World)
-      → ((o : Option ℕ) (v : World) → WhileLowered follows t v → WhileLowered follows t (with_table i (λ before. (settle t (k o) bytes (table_of v i)).table) v)) → WhileLowered follows t w
+      → ((o : Option ℕ) (v : World) → AddsSo (k o) v → WhileLowered follows t v → WhileLowered follows t (with_table i (λ before. (settle t (k o) bytes (table_of v i)).table) v)) → AddsSo (Adds entry k) w
+      → WhileLowered follows t w
       → WhileLowered follows t (with_table i (λ before. (settle t (k (index_in (table_of w i))) bytes (with_new (entry_of t entry) (table_of w i))).table) w)
-  adds_keep follows i t entry k bytes w more h = by (nat_lt (live_count (table_of w i)) most_live) refl
+  adds_keep follows i t entry k bytes w more passes h = by (nat_lt (live_count (table_of w i)) most_live) refl
     where
       by : (b : Bool) → nat_lt (live_count (table_of w i)) most_live ≡ b
           → WhileLowered follows t (with_table i (λ before. (settle t (k (if b then Some (next_index (table_of w i)) else None)) bytes (if b then added (entry_of t entry) (table_of w i) else table_of w i)).table) w)
@@ -225,16 +239,17 @@ module _ {g : Graph} {s : Script} (inv : Invariant g s) where
           (λ table same.
           subst (λ (x : List (Event Entry)). WhileLowered follows t (with_table i (λ before. (settle t (k (Some (next_index (table_of w i)))) bytes x).table) (entry_added i (entry_of t entry) w))) same
           (more (Some (next_index (table_of w i))) (entry_added i (entry_of t entry) w)
-          ((stay inv (AddsEntry i (entry_of t entry)) w tt (less (live_count (table_of w i)) most_live e, entry_is_added w.tasks t entry, entry_is_fresh w t entry, entry_names w.tasks t entry h.1) h.0.0, h.0.1, h.0.2), h.1)))
-      by false e = more None w h
+          (λ none. adds_as (k (Some (next_index (table_of w i)))) (ButNew entry (IsOnTheWay w.insts w.streams w.futures)) _ (λ e b. added_passes w t i entry e b) ((passes none).1 (Some (next_index (table_of w i)))))
+          ((stay inv (AddsEntry i (entry_of t entry)) w tt (less (live_count (table_of w i)) most_live e, entry_is_added w.tasks t entry, entry_is_fresh w t entry, entry_names w.tasks t entry h.1, λ none. entry_reads w t entry (passes none).0) h.0.0, h.0.1, h.0.2), h.1)))
+      by false e = more None w (λ none. adds_as (k None) (ButNew entry (IsOnTheWay w.insts w.streams w.futures)) _ (λ e b. but_is entry (IsOnTheWay w.insts w.streams w.futures) e b) ((passes none).1 None)) h
 
-  settled_keeps : (follows : Then) (i t : ℕ) (plan : Plan) (bytes : List ℕ) (w : World) → WhileLowered follows t w → WhileLowered follows t (with_table i (λ before. (settle t plan bytes (table_of w i)).table) w)
-  settled_keeps follows i t (Gives words) bytes w h = subst (WhileLowered follows t) (sym (table_kept i w)) h
-  settled_keeps follows i t (Fails why) bytes w h = subst (WhileLowered follows t) (sym (table_kept i w)) h
-  settled_keeps follows i t (Asks ask k) bytes w h = subst (WhileLowered follows t) (sym (table_kept i w)) h
-  settled_keeps follows i t (Size k) bytes w h = settled_keeps follows i t (k (length bytes)) bytes w h
-  settled_keeps follows i t (Put place more k) bytes w h = settled_keeps follows i t k (written place more bytes) w h
-  settled_keeps follows i t (Adds entry k) bytes w h = adds_keep follows i t entry k bytes w (λ o v j. settled_keeps follows i t (k o) bytes v j) h
+  settled_keeps : (follows : Then) (i t : ℕ) (plan : Plan) (bytes : List ℕ) (w : World) → AddsSo plan w → WhileLowered follows t w → WhileLowered follows t (with_table i (λ before. (settle t plan bytes (table_of w i)).table) w)
+  settled_keeps follows i t (Gives words) bytes w passes h = subst (WhileLowered follows t) (sym (table_kept i w)) h
+  settled_keeps follows i t (Fails why) bytes w passes h = subst (WhileLowered follows t) (sym (table_kept i w)) h
+  settled_keeps follows i t (Asks ask k) bytes w passes h = subst (WhileLowered follows t) (sym (table_kept i w)) h
+  settled_keeps follows i t (Size k) bytes w passes h = settled_keeps follows i t (k (length bytes)) bytes w (λ none. passes none (length bytes)) h
+  settled_keeps follows i t (Put place more k) bytes w passes h = settled_keeps follows i t k (written place more bytes) w passes h
+  settled_keeps follows i t (Adds entry k) bytes w passes h = adds_keep follows i t entry k bytes w (λ o v more j. settled_keeps follows i t (k o) bytes v more j) passes h
 
   start_func_keeps : (words : List ℕ) (w : World) → Acted inv w → Keeps inv (started words w)
   unfolding started
@@ -248,15 +263,15 @@ module _ {g : Graph} {s : Script} (inv : Invariant g s) where
       finished_keeps inv follows (after (HasResult to words) w) (resolved_still_for follows w.tasks w.chain to _ (λ x. refl) h.2) (stay inv (HasResult to words) w tt tt h.0)
   lowered_keeps (Transfers copying) words w h = transferring_keeps copying w h
 
-  paused_keeps : (l : Lowering) (p : Paused) (w : World) → WhileLowered l.next l.acts_for w → Keeps inv (paused l p w)
+  paused_keeps : (l : Lowering) (p : Paused) (w : World) → (HostPassesNoEnd w.tasks → PausedAdds p (IsOnTheWay w.insts w.streams w.futures)) → WhileLowered l.next l.acts_for w → Keeps inv (paused l p w)
   unfolding paused
-  paused_keeps l (Words words) w h = lowered_keeps l.next words w h.0
-  paused_keeps l (Failed why) w h = goes_on inv _ w tt h.0.0
-  paused_keeps l (AsksNow ask k) w h = given_keeps inv (found_at w.store.funcs l.realloc) _ (λ f e. goes inv _ w (h.0.0.1, h.0.1, h.1, h.0.2) h.0.0.0)
+  paused_keeps l (Words words) w passes h = lowered_keeps l.next words w h.0
+  paused_keeps l (Failed why) w passes h = goes_on inv _ w tt h.0.0
+  paused_keeps l (AsksNow ask k) w passes h = given_keeps inv (found_at w.store.funcs l.realloc) _ (λ f e. goes inv _ w (h.0.0.1, h.0.1, h.1, h.0.2, passes) h.0.0.0)
 
-  pub lowers_keeps : (l : Lowering) (plan : Plan) (w : World) → WhileLowered l.next l.acts_for w → Keeps inv (lowers_turn l plan w)
+  pub lowers_keeps : (l : Lowering) (plan : Plan) (w : World) → AddsSo plan w → WhileLowered l.next l.acts_for w → Keeps inv (lowers_turn l plan w)
   unfolding lowers_turn settled_turn
-  lowers_keeps l plan w h =
+  lowers_keeps l plan w passes h =
       let settled : Settled = settle l.acts_for plan (bytes_of w.store l.memory) (table_of w l.inst) in
-      paused_keeps l settled.paused (left_by l settled w)
-      (settled_keeps l.next l.inst l.acts_for plan (bytes_of w.store l.memory) (with_memory l.memory settled.bytes w) ((stay inv (HasStore _) w tt tt h.0.0, h.0.1, h.0.2), h.1))
+      paused_keeps l settled.paused (left_by l settled w) (λ none. settled_passes l.acts_for l.inst plan (bytes_of w.store l.memory) w (passes none))
+      (settled_keeps l.next l.inst l.acts_for plan (bytes_of w.store l.memory) (with_memory l.memory settled.bytes w) passes ((stay inv (HasStore _) w tt tt h.0.0, h.0.1, h.0.2), h.1))
