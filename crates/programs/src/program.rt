@@ -45,8 +45,8 @@ pub struct Program<'g, 'a> {
     pub canons: Vec<Option<FuncNumbers>>,
     /// The number of the type of the result or of the elements of each canonical function that is a built-in and has one.
     pub values: Vec<Option<usize>>,
-    /// The number of the type of the stream or the future of each canonical function that is a built-in of ends; any number of another one.
-    pub ends: Vec<usize>,
+    /// The number of the type of the stream or the future of each canonical function that is a built-in of ends, in the order of the graph's.
+    pub ends: &'g [Option<u32>],
     /// The calls of the script, in order.
     pub calls: Vec<CallNumbers>,
     /// The numbers of the resources that each component instance defines.

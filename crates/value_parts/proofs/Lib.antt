@@ -5,3 +5,4 @@ pub mod Limits
 pub mod Types
 pub mod Settling
 pub mod Kept
+pub mod Chains

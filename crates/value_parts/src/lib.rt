@@ -9,6 +9,7 @@
 //! - `loans`: what lifting moved in a table
 //! - `memories`: the bytes of memories
 //! - `names`: the names of traps
+//! - `to_pass`: what is to be passed behind a move, and what passes it
 #![tactic(auto, using(world_parts::proofs::Thens::thens))]
 
 mod lifting;
@@ -16,7 +17,9 @@ mod loans;
 mod memories;
 mod names;
 mod passing;
+mod to_pass;
 
 pub use lifting::{Origin, lift_elements, takes_more};
 pub use names::lift_name;
 pub use passing::{lift_arguments, lift_ended, lift_returned};
+pub use to_pass::{PassesValues, Passing};

@@ -1,0 +1,4 @@
+pub mod Lowers
+pub mod Types
+pub mod Settling
+pub mod Entered
