@@ -9,7 +9,7 @@ use Rattle.world_parts.specs.Held.{Held}
 use Rattle.world_stacks.specs.Views.{PileView}
 use Rattle.world_stacks.specs.Piles.{PileTyped}
 use Rattle.world_stacks.specs.Running.{RunsAt}
-use Rattle.machine_runs.specs.declared.passing.Passing.{Passing}
+use Rattle.value_parts.specs.declared.to_pass.Passing.{Passing}
 use Rattle.machine_runs.specs.Moving.{TypedOf, passing_of, RunMoves}
 
 -- the acting task, where it is known

@@ -12,8 +12,8 @@ use Rattle.world_parts.specs.Events.{delivers, polls, received_none, received_ca
 use Rattle.world_stacks.specs.Views.{PileView}
 use Rattle.world_stacks.specs.Piles.{new_pile, gone_on, at_pile}
 use Rattle.world_stacks.specs.Moving.{started_on}
-use Rattle.machine_runs.specs.declared.passing.Passing.{Passing}
-use Rattle.machine_runs.specs.declared.passing.Passing.TheVariants as passing
+use Rattle.value_parts.specs.declared.to_pass.Passing.{Passing}
+use Rattle.value_parts.specs.declared.to_pass.Passing.TheVariants as passing
 
 -- An event comes to the acting task, or none, where one is to come.
 abbrev pub heard : Views → Flow → Held → Done Flow

@@ -3,3 +3,7 @@ pub mod Calling
 pub mod Following
 pub mod Moving
 pub mod Turning
+pub mod Leading
+pub mod Stepping
+pub mod Worlds
+pub mod Playing

@@ -1,8 +1,6 @@
 -- Moves (Component Model, Concurrency.md, "Summary"): from a rest up to the next one, or up to where values are to be passed.
 use Rattle.std.specs.Prelude.{◌≡◌, ℕ, ◌-◌, List, length, Option, Some, None, Result, Ok, Err}
 use Rattle.std.specs.List.{slice_get}
-use Rattle.entry_gate.specs.declared.kind.Kind.{Kind}
-use Rattle.entry_gate.specs.declared.kind.Kind.TheVariants.{Sync, Callback, Stackful}
 use Rattle.wasm_store.specs.Store.{Store}
 use Rattle.comp_graph.specs.Graph.{Graph}
 use Rattle.world_parts.specs.declared.parts.Parts.{Parts}
@@ -12,18 +10,17 @@ use Rattle.world_parts.specs.declared.parts.Flow.{Flow}
 use Rattle.world_parts.specs.declared.parts.Flow.TheVariants as flow
 use Rattle.world_parts.specs.declared.parts.Stop.{Stop}
 use Rattle.world_parts.specs.declared.parts.Stop.TheVariants as stop
-use Rattle.world_parts.specs.Held.{Held, Done, Gives, Stuck, after, given}
-use Rattle.world_parts.specs.Slots.{word_in}
+use Rattle.world_parts.specs.Held.{Held, Done, Gives, Stuck, after}
 use Rattle.world_parts.specs.Calls.{back}
-use Rattle.world_parts.specs.Going.{arrives, leaves, ending, loops, resumes}
+use Rattle.world_parts.specs.Going.{arrives, leaves, resumes}
 use Rattle.world_parts.specs.Turning.{goes}
 use Rattle.world_stacks.specs.Views.{PileView}
 use Rattle.world_stacks.specs.Piles.{PileTyped}
 use Rattle.world_stacks.specs.Running.{RunsAt}
 use Rattle.world_stacks.specs.Instantiating.{instantiates}
 use Rattle.replies.specs.Seen.{seen}
-use Rattle.machine_runs.specs.declared.passing.Passing.{Passing}
-use Rattle.machine_runs.specs.declared.passing.Passing.TheVariants as passing
+use Rattle.value_parts.specs.declared.to_pass.Passing.{Passing}
+use Rattle.value_parts.specs.declared.to_pass.Passing.TheVariants as passing
 use Rattle.machine_runs.specs.Calling.{calls}
 use Rattle.machine_runs.specs.Following.{followed}
 
@@ -78,9 +75,3 @@ abbrev pub RunMoves : Option ℕ → List PileView → Held → Result Passing S
 RunMoves None piles h result new later = result ≡ Err stop.Stuck
 RunMoves (Some t) piles h result new later =
     (ended : Result (Option (List ℕ)) Stop) × RunsAt (slice_get piles t) t piles h ended new later × (result ≡ passing_of ended)
-
--- The core function or the callback of a task that is lifted with `async` has ended with these words: it exits, or blocks in its loop.
-abbrev pub async_ended : ℕ → Kind → List ℕ → Held → Done Flow
-async_ended t Sync words h = Stuck
-async_ended t Callback words h = given (word_in words 0) (λ word. loops t word h)
-async_ended t Stackful words h = ending t h

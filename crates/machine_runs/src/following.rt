@@ -7,10 +7,10 @@ ghost use Rattle.world_stacks.specs.Over.{Leads};
 ghost use Rattle.replies.specs.Seen.{seen};
 ghost use Rattle.machine_runs.specs.Following.{heard, with_piles, answered_now, started_now, stacked, followed};
 
-use crate::passing::Passing;
 use comp_graph::{FuncRef, Graph};
 use event_replies::{deliver, poll, receive_cancel, receive_none};
 use std::alloc::Global;
+use value_parts::Passing;
 use world_parts::{Flow, Part, Parts, Stop};
 use world_stacks::{Stacks, go_on, start_on};
 

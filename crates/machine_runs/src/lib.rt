@@ -5,24 +5,32 @@
 //!
 //! - `beginning`: what is kept before a graph is instantiated
 //! - `moving`: one move, by where the run is, but for core code that runs
-//! - `running`: core code runs, and tasks that are lifted with `async` end
+//! - `running`: core code runs
 //! - `calling`: calls of canonical functions by core code
-//! - `following`: events that come, and stacks that go on; `passing`: what is to be passed then
+//! - `following`: events that come, and stacks that go on
 //! - `turning`: where no task runs, the script's next item is taken or a task goes on
+//! - `stepping`: one step, by what is to be passed and where the run is
+//! - `world`: worlds in a run; `ending`: how runs end; `running_script`: runs of scripts, whose trace goes out as they go
 #![tactic(auto, using(world_parts::proofs::Thens::then_gives, world_parts::proofs::Thens::then_traps, world_parts::proofs::Thens::then_spent, world_parts::proofs::Thens::then_stuck, world_stacks::proofs::Givens::given_some, world_stacks::proofs::Givens::given_none))]
 
 mod beginning;
 mod calling;
+mod ending;
 mod following;
 mod moving;
-mod passing;
 mod running;
+mod running_script;
+mod stepping;
 mod turning;
+mod world;
 
 pub use beginning::{first_parts, first_stacks};
 pub use calling::call;
+pub use ending::{LastLine, RunEnd};
 pub use following::follow;
 pub use moving::make_move;
-pub use passing::Passing;
-pub use running::{end_async, run};
+pub use running::run;
+pub use running_script::{Ran, run_script};
+pub use stepping::{Step, make_step};
 pub use turning::turn;
+pub use world::World;

@@ -6,11 +6,11 @@ ghost use Rattle.machine_runs.specs.Moving.{woken, moved_on, instantiated, moves
 
 use crate::calling::call;
 use crate::following::follow;
-use crate::passing::Passing;
 use comp_graph::Graph;
 use replies::back;
 use std::alloc::Global;
 use task_turns::{arrive, go_now, leave, resume};
+use value_parts::Passing;
 use world_parts::{Flow, Part, Parts, Rest, Stop};
 use world_stacks::{Stacks, instantiate};
 

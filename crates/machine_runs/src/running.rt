@@ -1,15 +1,13 @@
-//! Core code runs, and tasks that are lifted with `async` end.
+//! Core code runs.
 
 ghost use Rattle.std.specs.List.{slice_get};
-ghost use Rattle.world_parts.specs.Held.{Does, held};
+ghost use Rattle.world_parts.specs.Held.{held};
 ghost use Rattle.world_stacks.specs.Piles.{PileTyped};
-ghost use Rattle.machine_runs.specs.Moving.{RunMoves, acting_of, IsActingTyped, async_ended};
+ghost use Rattle.machine_runs.specs.Moving.{RunMoves, acting_of, IsActingTyped};
 
-use crate::passing::Passing;
-use entry_gate::Kind;
 use std::alloc::Global;
-use task_turns::{end, loop_word};
-use world_parts::{Flow, Part, Parts, Stop, word_in};
+use value_parts::Passing;
+use world_parts::{Part, Parts, Stop};
 use world_stacks::{Stacks, run_on};
 
 /// The acting task's stack runs, up to its end, to a call of a canonical function, to a trap or to where fuel is wanting (Core 2.0, section 4.4).
@@ -39,26 +37,5 @@ fn run_task(alloc: Global, parts: &mut Parts, stacks: &mut Stacks, task: u32) ->
         Ok(Some(words)) => Ok(Passing::Ended(words)),
         Ok(None) => Ok(Passing::Nothing),
         Err(stop) => Err(stop),
-    }
-}
-
-/// The core function or the callback of a task that is lifted with `async` has ended with these words: it exits, or blocks in its loop
-/// (Component Model, CanonicalABI.md, `canon lift`, `unpack_callback_result`).
-///
-/// # Errors
-///
-/// The traps `BadCode`, `Unresolved`, `Absent` and `OtherKind`, and `Memory`; and `Stuck` where the task is lifted without `async`.
-pub fn end_async(parts: &mut Parts, task: u32, kind: Kind, words: &[u64]) -> Part<Flow>
-    ensures { Does (async_ended task kind words.now) parts.old result parts.new }
-{
-    match kind {
-        Kind::Sync => Err(Stop::Stuck),
-        Kind::Callback => {
-            let Some(word) = word_in(words, 0) else {
-                return Err(Stop::Stuck);
-            };
-            loop_word(parts, task, word)
-        }
-        Kind::Stackful => end(parts, task),
     }
 }

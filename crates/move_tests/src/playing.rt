@@ -1,12 +1,13 @@
 //! Moves and turns, as far as they go without code that runs and values that are passed.
 
 use comp_graph::Graph;
-use machine_runs::{Passing, first_parts, first_stacks, make_move, turn};
+use machine_runs::{first_parts, first_stacks, make_move, turn};
 use programs::{CallNumbers, Program};
 use script_reader::{Item, Script};
 use std::alloc::{AllocError, Global};
 use std::test::Fail;
 use trace_show::label_text;
+use value_parts::Passing;
 use world_parts::{Part, Parts, Rest, Stop, Turned};
 use world_stacks::Stacks;
 
@@ -104,7 +105,7 @@ pub fn played(alloc: Global, graph: &Graph<'_>, script: &Script) -> Result<Strin
         exports: Vec::new(alloc),
         canons: Vec::new(alloc),
         values: Vec::new(alloc),
-        ends: Vec::new(alloc),
+        ends: graph.types().canons.as_slice(),
         calls: calls_of(alloc, script)?,
         resources: Vec::new(alloc),
     };

@@ -1,0 +1,228 @@
+-- Runs whose trace goes out as they go.
+use Rattle.std.proofs.Common.{◌≡◌, ◌<◌, ◌+◌, arith, slice_index_or, ℕ, zero, suc, List, [], ◌∷◌, ◌++◌, length, take, drop, refl, sym, ap, ◌∙◌, subst, append_assoc, append-nil, Option, Some, None, Result, Ok, Err, OnOk, OnErr, ◌⊎◌, inl, inr, Bool}
+use Rattle.std.proofs.lemmas.Grind.{flat_map-append}
+use Rattle.std.proofs.Math.Seq.{take-append-add, take-length}
+use Rattle.std.specs.Option.{option_map}
+use Rattle.ca_base.specs.declared.memory.MemoryOr.{MemoryOr}
+use Rattle.ca_base.specs.declared.memory.MemoryOr.TheVariants.{Memory}
+use Rattle.ca_io.specs.Bytes.{grown, TookFront}
+use Rattle.programs.specs.declared.program.Program.{Program}
+use Rattle.trace_show.specs.declared.label.Label.{Label}
+use Rattle.trace_show.specs.LabelText.{label_text, trace_text}
+use Rattle.trace_show.specs.Trace.{put_so_far, HasPutCause}
+use Rattle.world_parts.specs.declared.parts.Flow.{Flow}
+use Rattle.world_parts.specs.declared.parts.Parts.{Parts}
+use Rattle.world_parts.specs.declared.parts.Stop.{Stop}
+use Rattle.world_parts.specs.declared.parts.Stop.TheVariants as stop
+use Rattle.trace_show.specs.declared.trap.TrapName.{TrapName}
+use Rattle.world_parts.specs.Held.{Held, held, Done}
+use Rattle.world_stacks.specs.Views.{PileView}
+use Rattle.value_parts.specs.declared.to_pass.Passing.{Passing}
+use Rattle.machine_runs.specs.declared.stepping.Step.{Step}
+use Rattle.machine_runs.specs.declared.stepping.Step.TheVariants as step
+use Rattle.machine_runs.specs.declared.ending.RunEnd.{RunEnd}
+use Rattle.machine_runs.specs.declared.ending.LastLine.{LastLine}
+use Rattle.machine_runs.specs.declared.running_script.Ran.{Ran}
+use Rattle.machine_runs.specs.Leading.{LeadsToOne}
+use Rattle.machine_runs.specs.Moving.{acting_of}
+use Rattle.machine_runs.specs.Worlds.{Point, StaysSound, StepsTo, StepGives, free_line, trap_line, fuel_line, last_line, kept_behind, with_last, handed_on, Goes, Reached, HasRule, IsSound}
+use Rattle.machine_runs.specs.Playing.{Took, Puts, TellsAll, Plays, PlaysOn, ScriptRuns}
+
+-- Texts that go out one behind the other.
+pub grown_twice : (s : Option (List ℕ)) (a b : List ℕ) → grown (grown s a) b ≡ grown s (a ++ b)
+grown_twice None a b = refl
+grown_twice (Some t) a b = ap (λ (xs : List ℕ). Some xs) (append_assoc t a b)
+
+pub grown_none : (s : Option (List ℕ)) → grown s [] ≡ s
+grown_none None = refl
+grown_none (Some t) = ap (λ (xs : List ℕ). Some xs) (append-nil t)
+
+pub text_more : (s : Option (List ℕ)) (before more : List Label) → grown (grown s (trace_text before)) (trace_text more) ≡ grown s (trace_text (before ++ more))
+text_more s before more = grown_twice s (trace_text before) (trace_text more) ∙ ap (grown s) (sym (flat_map-append label_text before more))
+
+text_last : (s : Option (List ℕ)) (lines : List Label) (last : Label) → grown (grown s (trace_text lines)) (label_text last) ≡ grown s (trace_text (lines ++ last ∷ []))
+text_last s lines last = ap (grown (grown s (trace_text lines))) (sym (append-nil (label_text last))) ∙ text_more s lines (last ∷ [])
+
+-- A front of a text is one of the text with more behind.
+front : (n : ℕ) (ys rest : List ℕ) → (m : ℕ) × (take m (ys ++ rest) ≡ take n ys)
+front zero ys rest = (0, refl)
+front (suc n) [] rest = (0, refl)
+front (suc n) (y ∷ ys) rest = let m = front n ys rest in (suc m.0, ap (λ (xs : List ℕ). y ∷ xs) m.1)
+
+pub took_more : (taken text : Option (List ℕ)) (more : List ℕ) → Took taken text → Took taken (grown text more)
+took_more taken None more h = h
+took_more taken (Some xs) more h = let m = front h.0 xs more in (m.0, h.1 ∙ ap (λ (ys : List ℕ). Some ys) (sym m.1))
+
+-- What a put or a flush took that failed is a front of the text so far.
+pub took_front : (before taken : Option (List ℕ)) (kept line : List ℕ) → TookFront before taken (kept ++ line) → Took taken (grown (grown before kept) line)
+took_front None taken kept line h = (0, h.1)
+took_front (Some t) taken kept line h =
+    (length t + h.0, h.1 ∙ ap (λ (xs : List ℕ). Some xs) (sym (take-append-add t (kept ++ line) h.0) ∙ ap (take (length t + h.0)) (sym (append_assoc t kept line))))
+
+pub took_kept : (before taken : Option (List ℕ)) (kept : List ℕ) → TookFront before taken kept → Took taken (grown before kept)
+took_kept None taken kept h = (0, h.1)
+took_kept (Some t) taken kept h = (length t + h.0, h.1 ∙ ap (λ (xs : List ℕ). Some xs) (sym (take-append-add t kept h.0)))
+
+-- A put or a flush fails.
+pub put_fails : (before taken : Option (List ℕ)) (kept line : List ℕ) → TookFront before taken (kept ++ line) → Took taken (grown (put_so_far before kept) line)
+put_fails before taken kept line h = took_front before taken kept line h
+
+-- What was taken is a front of the text so far.
+took_same : (taken : Option (List ℕ)) → Took taken taken
+took_same None = (0, refl)
+took_same (Some t) = (length t, ap (λ (xs : List ℕ). Some xs) (sym (take-length t)))
+
+pub took_so_far : (taken : Option (List ℕ)) (kept : List ℕ) → Took taken (put_so_far taken kept)
+took_so_far taken kept = took_more taken taken kept (took_same taken)
+
+pub took_all : (taken text : Option (List ℕ)) → taken ≡ text → Took taken text
+took_all taken text e = subst (Took taken) e (took_same taken)
+
+pub flush_fails : (before mid taken : Option (List ℕ)) (kept held line : List ℕ) → put_so_far mid held ≡ grown (put_so_far before kept) line → TookFront mid taken held
+    → Took taken (grown (put_so_far before kept) line)
+flush_fails before mid taken kept held line e h = subst (Took taken) e (took_kept mid taken held h)
+
+-- Lines that are put, one behind the other: the text of the others is to follow.
+pub line_at : (lines : List Label) (k : ℕ) (line : Label) → k < length lines → line ≡ slice_index_or lines k line → drop k lines ≡ line ∷ drop (suc k) lines
+line_at [] k line h e = absurd (omega (arith, h))
+line_at (first ∷ lines) zero line h e = ap (λ (l : Label). l ∷ lines) (sym e)
+line_at (first ∷ lines) (suc k) line h e = line_at lines k line (omega (arith, h)) e
+
+line_told : (s : Option (List ℕ)) (line : Label) (some others : List Label) (all : Option (List ℕ)) → some ≡ line ∷ others → grown s (trace_text some) ≡ all
+    → grown (grown s (label_text line)) (trace_text others) ≡ all
+line_told s line some others all e h = grown_twice s (label_text line) (trace_text others) ∙ sym (ap (λ (ls : List Label). grown s (trace_text ls)) e) ∙ h
+
+pub puts_more : (s next : Option (List ℕ)) (lines : List Label) (k : ℕ) (line : Label) (all : Option (List ℕ)) → grown s (trace_text (drop k lines)) ≡ all → next ≡ grown s (label_text line)
+    → k < length lines → line ≡ slice_index_or lines k line → grown next (trace_text (drop (k + 1) lines)) ≡ all
+puts_more s next lines k line all h e within is =
+    let one : suc k ≡ k + 1 = omega arith in
+    subst (λ (n : ℕ). grown next (trace_text (drop n lines)) ≡ all) one (ap (λ (t : Option (List ℕ)). grown t (trace_text (drop (suc k) lines))) e ∙ line_told s line (drop k lines) (drop (suc k) lines) all (line_at lines k line within is) h)
+
+pub puts_end : {E : Type 0} (before mid taken so_far : Option (List ℕ)) (kept : List ℕ) (lines : List Label) (k : ℕ) (line : Label) (e : MemoryOr E)
+    → grown (put_so_far mid kept) (trace_text (drop k lines)) ≡ grown before (trace_text lines) → TookFront mid taken (kept ++ label_text line)
+    → k < length lines → line ≡ slice_index_or lines k line → (let r : Result (Unit {0}) (MemoryOr E) = Err e in Puts before lines r so_far taken)
+puts_end before mid taken so_far kept lines k line e h t within is =
+    subst (Took taken) (line_told (put_so_far mid kept) line (drop k lines) (drop (suc k) lines) (grown before (trace_text lines)) (line_at lines k line within is) h)
+    (took_more taken (grown (put_so_far mid kept) (label_text line)) (trace_text (drop (suc k) lines)) (took_front mid taken kept (label_text line) t))
+
+-- Causes, one behind the other.
+pub cause_then : {T U E : Type 0} (a b c : ℕ) (x : T) (r : Result U (MemoryOr E)) → (let s : Result T (MemoryOr E) = Ok x in HasPutCause a b s) → HasPutCause b c r → HasPutCause a c r
+cause_then {T} {U} {E} a b c x r h k = subst (λ (n : ℕ). HasPutCause n c r) h.told k
+
+-- The last line goes out behind others.
+pub told_end : {E : Type 0} (before : Option (List ℕ)) (lines : List Label) (last : Option LastLine) (e : MemoryOr E) (mid so_far taken : Option (List ℕ))
+    → (let r : Result (Unit {0}) (MemoryOr E) = Err e in Puts before lines r mid taken) → (let r : Result (Unit {0}) (MemoryOr E) = Err e in TellsAll before lines last r so_far taken)
+told_end before lines None e mid so_far taken h = h
+told_end before lines (Some last) e mid so_far taken h =
+    subst (Took taken) (text_last before lines last.line) (took_more taken (grown before (trace_text lines)) (label_text last.line) h)
+
+pub told_last : {E : Type 0} (before : Option (List ℕ)) (lines : List Label) (last : LastLine) (r : Result (Unit {0}) (MemoryOr E)) (mid so_far taken : Option (List ℕ))
+    → mid ≡ grown before (trace_text lines) → OnOk r (taken ≡ grown mid (label_text last.line)) → OnErr r (Took taken (grown mid (label_text last.line)))
+    → TellsAll before lines (Some last) r so_far taken
+told_last before lines last (Ok done) mid so_far taken e h f = h ∙ ap (λ (s : Option (List ℕ)). grown s (label_text last.line)) e ∙ text_last before lines last.line
+told_last before lines last (Err x) mid so_far taken e h f =
+    subst (Took taken) (ap (λ (s : Option (List ℕ)). grown s (label_text last.line)) e ∙ text_last before lines last.line) f
+
+module _ (R : Program → Passing → Held → Done Flow → Type 0) (p : Program) (a : Point) where
+  -- What a step came to.
+  pub next_goes : (x : Passing) (new : Parts) (piles : List PileView) → LeadsToOne (StepsTo R p a) (Ok (step.GoesOn x)) new piles
+      → StepGives R p a None (record { held = held new; piles = piles; passing = x })
+  next_goes x new piles m = subst (StepsTo R p a) m.2 m.1
+
+  pub next_ends : (b : Point) (new : Parts) (piles : List PileView) (last : LastLine) → LeadsToOne (StepsTo R p a) (Ok step.Ends) new piles → last ≡ free_line (held new).live
+      → b.held ≡ held new → StepGives R p a (Some last) b
+  next_ends b new piles last m e same =
+      (m.0, m.1, ap last_line m.2 ∙ ap (λ (l : LastLine). Some l) (sym e), ap kept_behind m.2 ∙ ap (λ (h : Held). Some h) (sym same))
+
+  pub next_traps : (b : Point) (why : TrapName) (new : Parts) (piles : List PileView) (last : LastLine)
+      → (let r : Result Step Stop = Err (stop.Trap why) in LeadsToOne (StepsTo R p a) r new piles) → trap_line why (acting_of (held new)) ≡ Some last → b.held ≡ held new → StepGives R p a (Some last) b
+  next_traps b why new piles last m e same = (m.0, m.1, ap last_line m.2 ∙ e, ap kept_behind m.2 ∙ ap (λ (h : Held). Some h) (sym same))
+
+  pub next_wants : (b : Point) (new : Parts) (piles : List PileView) (last : LastLine)
+      → (let r : Result Step Stop = Err stop.NoFuel in LeadsToOne (StepsTo R p a) r new piles) → last ≡ fuel_line → b.held ≡ held new → StepGives R p a (Some last) b
+  next_wants b new piles last m e same =
+      (m.0, m.1, ap last_line m.2 ∙ ap (λ (l : LastLine). Some l) (sym e), ap kept_behind m.2 ∙ ap (λ (h : Held). Some h) (sym same))
+
+  pub never_stuck : (new : Parts) (piles : List PileView) → IsSound R p a → (let r : Result Step Stop = Err stop.Stuck in LeadsToOne (StepsTo R p a) r new piles) → ⊥
+  never_stuck new piles s m = subst HasRule m.2 (s.rules m.0 m.1)
+
+  pub one_acts : (why : TrapName) (new : Parts) (piles : List PileView) → IsSound R p a → (let r : Result Step Stop = Err (stop.Trap why) in LeadsToOne (StepsTo R p a) r new piles)
+      → (t : ℕ) × (acting_of (held new) ≡ Some t)
+  one_acts why new piles s m = subst HasRule m.2 (s.rules m.0 m.1)
+
+  -- A step, with its lines.
+  pub plays_none : {E : Type 0} (taken : Option (List ℕ)) (kept : List ℕ) (c : Point) (e : MemoryOr E) (so_far : Option (List ℕ))
+      → (let r : Result (Option RunEnd) (MemoryOr E) = Err e in Plays R p a (put_so_far taken kept) r c so_far taken)
+  plays_none taken kept c e so_far = ([], inl refl, took_more taken (put_so_far taken kept) [] (took_so_far taken kept))
+
+  pub plays_end : {E : Type 0} (before : Option (List ℕ)) (lines : List Label) (last : Option LastLine) (b c : Point) (e : MemoryOr E) (mid so_far taken : Option (List ℕ)) → StepGives R p a last b
+      → lines ≡ b.held.labels → (let r : Result (Unit {0}) (MemoryOr E) = Err e in TellsAll before lines last r mid taken)
+      → (let r : Result (Option RunEnd) (MemoryOr E) = Err e in Plays R p a before r c so_far taken)
+  plays_end before lines None b c e mid so_far taken g is t = (lines, inr (None, b, g, is), t)
+  plays_end before lines (Some last) b c e mid so_far taken g is t =
+      (with_last lines (Some last), inr (Some last, b, g, ap (λ (ls : List Label). with_last ls (Some last)) is), t)
+
+  pub plays_ok : (E : Type 0) (before : Option (List ℕ)) (lines : List Label) (last : Option LastLine) (b c : Point) (o : Option RunEnd) (so_far taken : Option (List ℕ)) → StepGives R p a last b
+      → lines ≡ b.held.labels → c ≡ handed_on b → o ≡ option_map (λ (l : LastLine). l.end) last → (let r : Result (Unit {0}) (MemoryOr E) = Ok tt in TellsAll before lines last r so_far taken)
+      → (let r : Result (Option RunEnd) (MemoryOr E) = Ok o in Plays R p a before r c so_far taken)
+  plays_ok E before lines None b c o so_far taken g e same is t =
+      subst (λ (x : Option RunEnd). let r : Result (Option RunEnd) (MemoryOr E) = Ok x in Plays R p a before r c so_far taken) (sym is) (lines, (b, g, e, same), t)
+  plays_ok E before lines (Some last) b c o so_far taken g e same is t =
+      subst (λ (x : Option RunEnd). let r : Result (Option RunEnd) (MemoryOr E) = Ok x in Plays R p a before r c so_far taken) (sym is)
+      (with_last lines (Some last), (last, b, g, refl, ap (λ (ls : List Label). with_last ls (Some last)) e, ap (λ (q : Point). q.held) same), t)
+
+  -- Steps behind steps.
+  pub reached_none : Reached R p a [] a
+  reached_none = record { count = zero; steps = (refl, refl) }
+
+  pub reached_more : (before more : List Label) (b c : Point) → Reached R p a before b → Goes R p b more c → Reached R p a (before ++ more) c
+  reached_more before more b c h g = record { count = suc h.count; steps = (b, before, more, h.steps, g, refl) }
+
+  -- Steps have led to a world, and their lines have gone out.
+  abbrev pub At : Option (List ℕ) → Option (List ℕ) → Point → Type 0
+  At start so_far b = (lines : List Label) × Reached R p a lines b × (so_far ≡ grown start (trace_text lines))
+
+  pub on_first : (start : Option (List ℕ)) → At start start a
+  on_first start = ([], reached_none, sym (grown_none start))
+
+  pub on_more : (E : Type 0) (start mid so_far taken : Option (List ℕ)) (b c : Point) (o : Option RunEnd) → At start mid b → o ≡ None
+      → (let r : Result (Option RunEnd) (MemoryOr E) = Ok o in Plays R p b mid r c so_far taken) → At start so_far c
+  on_more E start mid so_far taken b c o at is t =
+      let u : (let r : Result (Option RunEnd) (MemoryOr E) = Ok None in Plays R p b mid r c so_far taken)
+      = subst (λ (x : Option RunEnd). let r : Result (Option RunEnd) (MemoryOr E) = Ok x in Plays R p b mid r c so_far taken) is t in
+      (at.0 ++ u.0, reached_more at.0 u.0 b c at.1 u.1, u.2 ∙ ap (λ (s : Option (List ℕ)). grown s (trace_text u.0)) at.2 ∙ text_more start at.0 u.0)
+
+  pub on_ends : (E : Type 0) (start mid so_far taken : Option (List ℕ)) (b c : Point) (end : RunEnd) (o : Option RunEnd) → At start mid b → o ≡ Some end
+      → (let r : Result (Option RunEnd) (MemoryOr E) = Ok o in Plays R p b mid r c so_far taken) → (let r : Result RunEnd (MemoryOr E) = Ok end in PlaysOn R p a start r c taken)
+  on_ends E start mid so_far taken b c end o at is t =
+      let u : (let r : Result (Option RunEnd) (MemoryOr E) = Ok (Some end) in Plays R p b mid r c so_far taken)
+      = subst (λ (x : Option RunEnd). let r : Result (Option RunEnd) (MemoryOr E) = Ok x in Plays R p b mid r c so_far taken) is t in (
+        at.0 ++ u.0,
+        record { before = at.0; last = b; more = u.0; goes = at.1; ends = u.1; lines_are = refl },
+        u.2 ∙ ap (λ (s : Option (List ℕ)). grown s (trace_text u.0)) at.2 ∙ text_more start at.0 u.0,
+      )
+
+  pub on_fails : {E : Type 0} (start mid so_far taken : Option (List ℕ)) (b c : Point) (x : MemoryOr E) → At start mid b
+      → (let r : Result (Option RunEnd) (MemoryOr E) = Err x in Plays R p b mid r c so_far taken) → (let r : Result RunEnd (MemoryOr E) = Err x in PlaysOn R p a start r c taken)
+  on_fails start mid so_far taken b c x at (lines, inl none, t) =
+      (at.0, inl (b, at.1), subst (Took taken) (ap (λ (ls : List Label). grown mid (trace_text ls)) none ∙ grown_none mid ∙ at.2) t)
+  on_fails start mid so_far taken b c x at (lines, inr told, t) =
+      (at.0 ++ lines, inr (b, at.0, lines, at.1, told, refl), subst (Took taken) (ap (λ (s : Option (List ℕ)). grown s (trace_text lines)) at.2 ∙ text_more start at.0 lines) t)
+
+  pub on_out : (E : Type 0) (start taken : Option (List ℕ)) (kept : List ℕ) (b : Point) → At start (put_so_far taken kept) b
+      → (let r : Result RunEnd (MemoryOr E) = Err Memory in PlaysOn R p a start r b taken)
+  on_out E start taken kept b at = (at.0, inl (b, at.1), subst (Took taken) at.2 (took_so_far taken kept))
+
+  -- A run that came to its end, of which no dump is made; and one that did not begin.
+  pub no_dump : {E : Type 0} (start taken : Option (List ℕ)) (b : Point) (end : RunEnd) (dumps : Bool) (e : MemoryOr E)
+      → (let r : Result RunEnd (MemoryOr E) = Ok end in PlaysOn R p a start r b taken) → (let r : Result Ran (MemoryOr E) = Err e in ScriptRuns R p a dumps start r taken)
+  no_dump start taken b end dumps e h =
+      (h.0, inr (h.1.last, h.1.before, h.1.more, h.1.goes, (Some h.1.ends.0, h.1.ends.1, h.1.ends.2, h.1.ends.4), h.1.lines_are), took_all taken (grown start (trace_text h.0)) h.2)
+
+  pub no_world : {E : Type 0} (taken : Option (List ℕ)) (kept : List ℕ) (dumps : Bool) (e : MemoryOr E)
+      → (let r : Result Ran (MemoryOr E) = Err e in ScriptRuns R p a dumps (put_so_far taken kept) r taken)
+  no_world taken kept dumps e = ([], inl (a, reached_none), took_more taken (put_so_far taken kept) [] (took_so_far taken kept))
+
+-- What holds of a world holds of the same one.
+pub sound_at : (R : Program → Passing → Held → Done Flow → Type 0) (p : Program) (a b : Point) → a ≡ b → StaysSound R p b → StaysSound R p a
+sound_at R p a b e h = subst (StaysSound R p) (sym e) h

@@ -1,0 +1,24 @@
+use Rattle.std.proofs.Common.{◌∙◌}
+use Rattle.std.proofs.lemmas.Result.{err_from_is_err_and}
+use Rattle.trace_show.specs.Trace.{put_so_far}
+use Rattle.machine_runs.proofs.Played.{puts_more, puts_end}
+use Rattle.machine_runs.proofs.running_script.put_lines.Goals as goal
+
+pub loop-line-preserved : goal.loop-line-preserved
+loop-line-preserved g c =
+    let taken = g.K.Sink.taken in
+    record {
+      same_sink = c.in_ok-put.ensures.same_sink ∙ c.loop-line.invariant.same_sink;
+      faults = c.in_ok-put.ensures.cause.told ∙ c.loop-line.invariant.faults;
+      text = puts_more (put_so_far (taken c.loop-line.trace.sink.now) c.loop-line.trace.kept.now.items) (put_so_far (taken c.put.new.self.sink.now) c.put.new.self.kept.now.items)
+          c.args.lines.now c.loop-line.line-index c.line-item.result _ c.loop-line.invariant.text c.in_ok-put.ensures.ok c.loop-line-test.true c.line-item.is;
+    }
+
+pub returns-in_err-put-clause-puts : goal.returns-in_err-put-clause-puts
+returns-in_err-put-clause-puts g c =
+    let taken = g.K.Sink.taken in
+    let p = err_from_is_err_and c.from_residual.result c.from_residual.ensures.1 in
+    rw p.1
+    (puts_end (put_so_far (taken c.args.trace.now.sink.now) c.args.trace.now.kept.now.items) (taken c.loop-line.trace.sink.now) (taken c.put.new.self.sink.now)
+    (put_so_far (taken c.put.new.self.sink.now) c.put.new.self.kept.now.items) c.loop-line.trace.kept.now.items c.args.lines.now c.loop-line.line-index c.line-item.result p.0
+    c.loop-line.invariant.text c.in_err-put.ensures.failed c.loop-line-test.true c.line-item.is)

@@ -1,0 +1,231 @@
+//! Runs of scripts, whose trace goes out as they go.
+
+ghost use Rattle.std.specs.Prelude.{◌≡◌, IfOk, OnOk, OnErr};
+ghost use Rattle.std.specs.Option.{option_map};
+ghost use Rattle.machine_runs.specs.declared.ending.LastLine.{LastLine};
+ghost use Rattle.laid_types.specs.SameTypes.{AreDistinct};
+ghost use Rattle.ca_io.specs.Bytes.{grown};
+ghost use Rattle.trace_show.specs.Trace.{put_so_far, HasPutCause};
+ghost use Rattle.trace_show.specs.LabelText.{label_text, trace_text};
+ghost use Rattle.world_parts.specs.Held.{held};
+ghost use Rattle.machine_runs.specs.Worlds.{point_of, first_point, StepGives, IsSound, StaysSound};
+ghost use Rattle.machine_runs.specs.Playing.{dump_if, Took, Puts, TellsAll, Plays, PlaysOn, ScriptRuns};
+
+use crate::ending::{LastLine, RunEnd, free_line, fuel_line, trap_line};
+use crate::stepping::Step;
+use crate::world::World;
+use ca_base::{Bytes, Memory, MemoryOr};
+use ca_io::{Failed, Sink};
+use programs::Program;
+use std::alloc::Global;
+use trace_show::{Label, Trace};
+use value_parts::PassesValues;
+use world_dumps::dump_text;
+use world_parts::{Parts, Stop};
+
+/// A run that came to its end.
+#[derive(Drop)]
+pub struct Ran {
+    /// How it ended.
+    pub end: RunEnd,
+    /// The text of what it left, where that was asked for.
+    pub dump: Option<Bytes>,
+}
+
+/// Puts lines, in order.
+#[tactic(auto, using(crate::proofs::Played::puts_more, crate::proofs::Played::puts_end))]
+fn put_lines<K: Sink>(
+    alloc: Global,
+    lines: &[Label],
+    trace: &mut Trace<'_, K>,
+) -> Result<(), MemoryOr<Failed>>
+    ensures same_sink { trace.new.sink.ghost_name ≡ trace.old.sink.ghost_name }
+    ensures puts { Puts (put_so_far (K.taken trace.old.sink.now) trace.old.kept.now.items) lines.now result (put_so_far (K.taken trace.new.sink.now) trace.new.kept.now.items) (K.taken trace.new.sink.now) }
+    ensures cause { HasPutCause (K.faults trace.old.sink.now) (K.faults trace.new.sink.now) result }
+{
+    for line in lines {
+        trace.put(alloc, line)?;
+    }
+    Ok(())
+}
+
+/// Makes a step. The answer is the last line, where that ends the run.
+#[tactic(auto, using(crate::proofs::Played::next_goes, crate::proofs::Played::next_ends, crate::proofs::Played::next_traps, crate::proofs::Played::next_wants, crate::proofs::Played::never_stuck, crate::proofs::Played::one_acts))]
+fn next<V: PassesValues>(
+    alloc: Global,
+    program: &Program<'_, '_>,
+    world: &mut World,
+) -> Result<Option<LastLine>, Memory>
+    requires distinct { AreDistinct program.now.types.now }
+    requires sound { IsSound V.may_pass program.now (point_of world.old) }
+    ensures { IfOk result (λ last. StepGives V.may_pass program.now (point_of world.old) last (point_of world.new)) }
+{
+    match world.step::<V>(alloc, program) {
+        Ok(Step::GoesOn(passing)) => {
+            world.passing = passing;
+            Ok(None)
+        }
+        Ok(Step::Ends) => {
+            let last = free_line(alloc, &world.parts.tasks.live)?;
+            Ok(Some(last))
+        }
+        Err(Stop::Trap(name)) => Ok(Some(trap_line(&world.parts, name))),
+        Err(Stop::NoFuel) => Ok(Some(fuel_line())),
+        Err(Stop::Stuck) => unreachable!(),
+        Err(Stop::Memory) => Err(Memory),
+    }
+}
+
+/// Puts lines, and the last line of a run, if it is there. Behind that one all is written.
+#[tactic(auto, using(crate::proofs::Played::told_end, crate::proofs::Played::told_last, crate::proofs::Played::cause_then))]
+fn tell<K: Sink>(
+    alloc: Global,
+    lines: &[Label],
+    last: &Option<LastLine>,
+    trace: &mut Trace<'_, K>,
+) -> Result<(), MemoryOr<Failed>>
+    ensures same_sink { trace.new.sink.ghost_name ≡ trace.old.sink.ghost_name }
+    ensures tells { TellsAll (put_so_far (K.taken trace.old.sink.now) trace.old.kept.now.items) lines.now last.now result (put_so_far (K.taken trace.new.sink.now) trace.new.kept.now.items) (K.taken trace.new.sink.now) }
+    ensures cause { HasPutCause (K.faults trace.old.sink.now) (K.faults trace.new.sink.now) result }
+{
+    put_lines(alloc, lines, trace)?;
+    match last {
+        Some(last) => put_last(alloc, &last.line, trace),
+        None => Ok(()),
+    }
+}
+
+/// Puts a line, and writes all out.
+#[tactic(auto, using(crate::proofs::Played::put_fails, crate::proofs::Played::flush_fails))]
+fn put_last<K: Sink>(
+    alloc: Global,
+    line: &Label,
+    trace: &mut Trace<'_, K>,
+) -> Result<(), MemoryOr<Failed>>
+    ensures same_sink { trace.new.sink.ghost_name ≡ trace.old.sink.ghost_name }
+    ensures ok { OnOk result (K.taken trace.new.sink.now ≡ grown (put_so_far (K.taken trace.old.sink.now) trace.old.kept.now.items) (label_text line.now)) }
+    ensures failed { OnErr result (Took (K.taken trace.new.sink.now) (grown (put_so_far (K.taken trace.old.sink.now) trace.old.kept.now.items) (label_text line.now))) }
+    ensures cause { HasPutCause (K.faults trace.old.sink.now) (K.faults trace.new.sink.now) result }
+{
+    trace.put(alloc, line)?;
+    match trace.flush() {
+        Ok(()) => Ok(()),
+        Err(failed) => Err(MemoryOr::Fault(failed)),
+    }
+}
+
+/// Makes a step, whose lines go out. The answer is how the run ends, where it does.
+#[tactic(auto, using(crate::proofs::Played::plays_none, crate::proofs::Played::plays_end, crate::proofs::Played::plays_ok))]
+fn play<V: PassesValues, K: Sink>(
+    alloc: Global,
+    program: &Program<'_, '_>,
+    world: &mut World,
+    trace: &mut Trace<'_, K>,
+) -> Result<Option<RunEnd>, MemoryOr<Failed>>
+    requires distinct { AreDistinct program.now.types.now }
+    requires sound { IsSound V.may_pass program.now (point_of world.old) }
+    ensures same_sink { trace.new.sink.ghost_name ≡ trace.old.sink.ghost_name }
+    ensures plays { Plays V.may_pass program.now (point_of world.old) (put_so_far (K.taken trace.old.sink.now) trace.old.kept.now.items) result (point_of world.new) (put_so_far (K.taken trace.new.sink.now) trace.new.kept.now.items) (K.taken trace.new.sink.now) }
+    ensures cause { HasPutCause (K.faults trace.old.sink.now) (K.faults trace.new.sink.now) result }
+{
+    let last = next::<V>(alloc, program, world)?;
+    let lines = world.take_lines(alloc);
+    let told = tell(alloc, lines.as_slice(), &last, trace);
+    let end = end_of(&last);
+    drop(lines);
+    drop(last);
+    match told {
+        Ok(()) => Ok(end),
+        Err(fault) => Err(fault),
+    }
+}
+
+/// How the run ends, where it does.
+fn end_of(last: &Option<LastLine>) -> Option<RunEnd>
+    ensures { result ≡ option_map (λ (l : LastLine). l.end) last.now }
+{
+    match last {
+        Some(last) => Some(last.end),
+        None => None,
+    }
+}
+
+/// Makes steps up to where the run ends. More than can be counted are not made.
+#[tactic(auto, using(crate::proofs::Played::on_first, crate::proofs::Played::on_ends, crate::proofs::Played::on_fails, crate::proofs::Played::on_out))]
+fn play_on<V: PassesValues, K: Sink>(
+    alloc: Global,
+    program: &Program<'_, '_>,
+    world: &mut World,
+    trace: &mut Trace<'_, K>,
+) -> Result<RunEnd, MemoryOr<Failed>>
+    requires distinct { AreDistinct program.now.types.now }
+    requires sound { StaysSound V.may_pass program.now (point_of world.old) }
+    ensures same_sink { trace.new.sink.ghost_name ≡ trace.old.sink.ghost_name }
+    ensures plays { PlaysOn V.may_pass program.now (point_of world.old) (put_so_far (K.taken trace.old.sink.now) trace.old.kept.now.items) result (point_of world.new) (K.taken trace.new.sink.now) }
+    ensures cause { HasPutCause (K.faults trace.old.sink.now) (K.faults trace.new.sink.now) result }
+{
+    for _step in 0..u64::MAX {
+        match play::<V, K>(alloc, program, world, trace)? {
+            Some(end) => return Ok(end),
+            None => {}
+        }
+    }
+    Err(MemoryOr::Memory)
+}
+
+/// The text of what a run left, where that is asked for.
+fn dump_if(alloc: Global, parts: &Parts, dumps: bool) -> Result<Option<Bytes>, Memory>
+    ensures { IfOk result (λ dump. dump ≡ dump_if dumps (held parts.now)) }
+{
+    if dumps {
+        let text = dump_text(alloc, parts)?;
+        Ok(Some(text))
+    } else {
+        Ok(None)
+    }
+}
+
+/// The run of a script from a world on.
+#[tactic(auto, using(crate::proofs::Played::no_dump))]
+fn run_world<V: PassesValues, K: Sink>(
+    alloc: Global,
+    program: &Program<'_, '_>,
+    world: &mut World,
+    trace: &mut Trace<'_, K>,
+    dumps: bool,
+) -> Result<Ran, MemoryOr<Failed>>
+    requires distinct { AreDistinct program.now.types.now }
+    requires sound { StaysSound V.may_pass program.now (point_of world.old) }
+    ensures same_sink { trace.new.sink.ghost_name ≡ trace.old.sink.ghost_name }
+    ensures runs { ScriptRuns V.may_pass program.now (point_of world.old) dumps (put_so_far (K.taken trace.old.sink.now) trace.old.kept.now.items) result (K.taken trace.new.sink.now) }
+    ensures cause { HasPutCause (K.faults trace.old.sink.now) (K.faults trace.new.sink.now) result }
+{
+    let end = play_on::<V, K>(alloc, program, world, trace)?;
+    let dump = dump_if(alloc, &world.parts, dumps)?;
+    Ok(Ran { end, dump })
+}
+
+/// Runs a script over a graph: the graph is instantiated, and then what the script says happens (Component Model, Concurrency.md, "Summary"). The
+/// trace goes out as the run goes. Behind its last line all of it is written; the text of what the run left is the caller's to write.
+///
+/// # Errors
+///
+/// `Fault` where a write failed, and `Memory` where memory, or numbers, ran out. The sink has then taken some front of the text of the run.
+#[tactic(auto, using(crate::proofs::Played::sound_at, crate::proofs::Played::no_world))]
+pub fn run_script<V: PassesValues, K: Sink>(
+    alloc: Global,
+    program: &Program<'_, '_>,
+    trace: &mut Trace<'_, K>,
+    dumps: bool,
+) -> Result<Ran, MemoryOr<Failed>>
+    requires distinct { AreDistinct program.now.types.now }
+    requires sound { StaysSound V.may_pass program.now (first_point program.now.graph.now program.now.script.now) }
+    ensures same_sink { trace.new.sink.ghost_name ≡ trace.old.sink.ghost_name }
+    ensures runs { ScriptRuns V.may_pass program.now (first_point program.now.graph.now program.now.script.now) dumps (put_so_far (K.taken trace.old.sink.now) trace.old.kept.now.items) result (K.taken trace.new.sink.now) }
+    ensures cause { HasPutCause (K.faults trace.old.sink.now) (K.faults trace.new.sink.now) result }
+{
+    let mut world = World::new(alloc, program.graph, program.script)?;
+    let ran = run_world::<V, K>(alloc, program, &mut world, trace, dumps);
+    world.give_up();
+    ran
+}
