@@ -8,21 +8,20 @@
 //! stream 1 and `write:1` a write, `drop-read:1` drops the end that reads, and `told-write:1` tells the end that writes what came of its copy.
 
 use builtin_kinds::EndKind;
-use ca_base::{Fuel, Seq};
+use ca_base::{Bytes, Memory};
 use cases::Answers;
 use channels::Channel;
-use choices::Picks;
 use entry_gate::Kind;
 use instances::{EndEntry, Instance, WorldEntry};
 use res_handles::{Handle, Ownership};
 use std::alloc::{AllocError, Global};
 use std::test::Fail;
 use stream_ends::{By, Side};
-use task_table::{Callee, Caller, TaskSlot, Tasks};
+use task_table::{Callee, Caller, TaskSlot};
 use tasks::TaskEvent;
-use wasm_store::Store;
+use world_cases::{let_go, nothing};
 use world_dumps::dump_text;
-use world_parts::{Feed, Parts, Rest};
+use world_parts::Parts;
 
 /// The numbers of a text with commas between them.
 fn numbers(alloc: Global, text: &str) -> Result<Vec<u32>, AllocError> {
@@ -40,27 +39,6 @@ fn at(numbers: &[u32], place: usize) -> u32 {
     match numbers.get(place) {
         Some(number) => *number,
         None => 0,
-    }
-}
-
-/// A world that has nothing.
-fn nothing(alloc: Global) -> Parts {
-    Parts {
-        store: Store::new(alloc),
-        memories: Vec::new(alloc),
-        instances: Vec::new(alloc),
-        tasks: Tasks::new(alloc),
-        streams: Vec::new(alloc),
-        futures: Vec::new(alloc),
-        chain: Vec::new(alloc),
-        rest: Rest::Free,
-        feed: Feed {
-            left: Fuel::new(100),
-            picks: Picks::new(alloc),
-            taken: 0,
-            moves: 0,
-            labels: Seq::new(alloc),
-        },
     }
 }
 
@@ -154,13 +132,9 @@ fn entry_of(name: &str, numbers: &[u32]) -> WorldEntry {
     }
 }
 
-/// Does what a word says.
-fn fill(alloc: Global, word: &str, parts: &mut Parts) -> Result<(), Fail> {
-    let Some((name, rest)) = word.split_once(':') else {
-        return make(alloc, word, parts);
-    };
-    let numbers = numbers(alloc, rest)?;
-    let first = at(&numbers, 0);
+/// Does what a word says with numbers.
+fn fill_at(alloc: Global, name: &str, numbers: &[u32], parts: &mut Parts) {
+    let first = at(numbers, 0);
     match name {
         "enter" => {
             let _entered = parts.advance(first, TaskEvent::Enter);
@@ -169,22 +143,39 @@ fn fill(alloc: Global, word: &str, parts: &mut Parts) -> Result<(), Fail> {
             let _returned = parts.advance(first, TaskEvent::Return);
         }
         "set" => add_set(alloc, parts, first as usize),
-        "lend" | "join" => change(
-            name,
-            parts,
-            first as usize,
-            at(&numbers, 1),
-            at(&numbers, 2),
-        ),
+        "lend" | "join" => change(name, parts, first as usize, at(numbers, 1), at(numbers, 2)),
         "remove" => {
-            let _removed = parts.remove_entry(first as usize, at(&numbers, 1));
+            let _removed = parts.remove_entry(first as usize, at(numbers, 1));
         }
         "read" | "write" | "drop-read" | "told-write" => flow(name, parts, first as usize),
         _ => {
-            let _index = parts.add_entry(first as usize, entry_of(name, &numbers));
+            let _index = parts.add_entry(first as usize, entry_of(name, numbers));
         }
     }
+}
+
+/// Does what a word says.
+fn fill(alloc: Global, word: &str, parts: &mut Parts) -> Result<(), Fail> {
+    let Some((name, rest)) = word.split_once(':') else {
+        return make(alloc, word, parts);
+    };
+    let numbers = numbers(alloc, rest)?;
+    fill_at(alloc, name, &numbers, parts);
     Ok(())
+}
+
+/// The text of what is kept of a world.
+fn text_of(alloc: Global, parts: &Parts) -> Result<Bytes, Memory> {
+    dump_text(alloc, parts)
+}
+
+/// The text of what is kept of a world that words fill.
+fn filled(alloc: Global, words: &str, parts: &mut Parts) -> Result<String, Fail> {
+    for word in words.split_whitespace() {
+        fill(alloc, word, parts)?;
+    }
+    let text = text_of(alloc, parts)?;
+    Ok(String::from_str(alloc, str::from_utf8(text.as_slice())?)?)
 }
 
 /// Worlds, each with the text of what is kept.
@@ -194,10 +185,8 @@ impl Answers for Dumped {
     fn answer(alloc: Global, given: &str) -> Result<String, Fail> {
         let (_title, words) = given.split_once('\n').ok_or("no words")?;
         let mut parts = nothing(alloc);
-        for word in words.split_whitespace() {
-            fill(alloc, word, &mut parts)?;
-        }
-        let text = dump_text(alloc, &parts)?;
-        Ok(String::from_str(alloc, str::from_utf8(text.as_slice())?)?)
+        let text = filled(alloc, words, &mut parts);
+        let_go(parts);
+        text
     }
 }

@@ -8,10 +8,11 @@ ghost use Rattle.std.specs.List.{slice_get};
 ghost use Rattle.comp_graph.specs.Passed.{HasCanonType};
 
 use crate::canons::{Canon, canon_named, core_func, lift_named};
-use crate::tabling::{Numbers, table};
+use crate::tabling::{Numbers, number_all};
 use ca_base::{Name, Seq};
 use ca_types::Export;
 use comp_graph::{CanonFunc, FuncTypes, Graph, GraphTypes, Lift, Resource};
+use link_types::Types;
 use std::alloc::Global;
 use std::marker::Model;
 use std::test::Fail;
@@ -176,6 +177,19 @@ impl Linking {
         Ok(())
     }
 
+    /// Adds what all instances make, and answers the resources.
+    fn add_all(
+        &mut self,
+        alloc: Global,
+        numbers: &Numbers,
+        names: &[String],
+    ) -> Result<Seq<Resource>, Fail> {
+        for instance in 0..INSTANCES {
+            self.add_instance(alloc, numbers, instance, names)?;
+        }
+        resources(alloc)
+    }
+
     /// The graph, with these resources.
     fn into_graph(self, alloc: Global, resources: Seq<Resource>) -> Graph<'static> {
         let types = GraphTypes {
@@ -197,20 +211,28 @@ impl Linking {
     }
 }
 
+/// A resource of an instance, with the destructor of its instance or without one.
+fn resource(instance: u32, has_destructor: bool) -> Resource {
+    let destructor = if has_destructor {
+        Some(core_func(instance, 2))
+    } else {
+        None
+    };
+    Resource {
+        instance,
+        destructor,
+    }
+}
+
 /// The resources.
 fn resources(alloc: Global) -> Result<Seq<Resource>, Fail> {
-    let mut resources = Seq::new(alloc);
-    for instance in 0..2u32 {
-        resources.push(Resource {
-            instance,
-            destructor: Some(core_func(instance, 2)),
-        })?;
-        resources.push(Resource {
-            instance,
-            destructor: None,
-        })?;
-    }
-    Ok(resources)
+    let resources = [
+        resource(0, true),
+        resource(0, false),
+        resource(1, true),
+        resource(1, false),
+    ];
+    Ok(Seq::from_vec(Vec::from_slice(alloc, &resources)?))
 }
 
 /// A graph with the names of the canonical functions of each instance.
@@ -224,20 +246,30 @@ pub struct NamedGraph {
     pub numbers: Numbers,
 }
 
-/// The graph of all cases.
-pub fn graph(alloc: Global) -> Result<NamedGraph, Fail> {
-    let (types, numbers) = table(alloc)?;
+/// The graph over a table of types.
+fn graph_over(alloc: Global, types: FuncTypes, numbers: Numbers) -> Result<NamedGraph, Fail> {
     let names = all_names(alloc)?;
     let mut linking = Linking::new(alloc, types);
-    for instance in 0..INSTANCES {
-        linking.add_instance(alloc, &numbers, instance, &names)?;
+    match linking.add_all(alloc, &numbers, &names) {
+        Ok(resources) => Ok(NamedGraph {
+            graph: linking.into_graph(alloc, resources),
+            names,
+            numbers,
+        }),
+        Err(fail) => Err(fail),
     }
-    let resources = resources(alloc)?;
-    Ok(NamedGraph {
-        graph: linking.into_graph(alloc, resources),
-        names,
-        numbers,
-    })
+}
+
+/// The graph of all cases.
+pub fn graph(alloc: Global) -> Result<NamedGraph, Fail> {
+    let mut types = Types::new(alloc);
+    let numbers = number_all(alloc, &mut types)?;
+    graph_over(alloc, types.into_func_types(), numbers)
+}
+
+/// Lets a graph go.
+pub fn let_go(named: NamedGraph) {
+    drop(named)
 }
 
 impl NamedGraph {

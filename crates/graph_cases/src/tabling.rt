@@ -4,7 +4,7 @@ ghost use Rattle.std.specs.Prelude.{◌≡◌, true};
 ghost use Rattle.laid_types.specs.Layers.{IsThere};
 
 use builtin_kinds::EndKind;
-use comp_graph::{FuncTypes, graph_number};
+use comp_graph::graph_number;
 use laid_types::ValTypeLayer;
 use link_types::Types;
 use std::alloc::Global;
@@ -83,7 +83,7 @@ fn all_ends(
 }
 
 /// Numbers all types, and that of functions of no parameter and no result as the first one of functions.
-fn number_all(alloc: Global, types: &mut Types<'_>) -> Result<Numbers, Fail> {
+pub(crate) fn number_all(alloc: Global, types: &mut Types<'_>) -> Result<Numbers, Fail> {
     let byte = types.value_type(alloc, &ValTypeLayer::U8)?;
     let word = types.value_type(alloc, &ValTypeLayer::U32)?;
     let text = types.value_type(alloc, &ValTypeLayer::String)?;
@@ -95,11 +95,4 @@ fn number_all(alloc: Global, types: &mut Types<'_>) -> Result<Numbers, Fail> {
         streams: all_ends(alloc, types, EndKind::Stream, byte, word, text)?,
         futures: all_ends(alloc, types, EndKind::Future, byte, word, text)?,
     })
-}
-
-/// The table of all types, and their numbers.
-pub(crate) fn table(alloc: Global) -> Result<(FuncTypes, Numbers), Fail> {
-    let mut types = Types::new(alloc);
-    let numbers = number_all(alloc, &mut types)?;
-    Ok((types.into_func_types(), numbers))
 }

@@ -40,33 +40,39 @@ pub(crate) fn answer_of(alloc: Global, bytes: &[u8]) -> Result<String, Fail> {
 }
 
 /// The preamble of a component.
-const PREAMBLE: &str = "00 61 73 6D 0D 00 01 00";
+pub(crate) const PREAMBLE: &[u8] = &[0x00, 0x61, 0x73, 0x6D, 0x0D, 0x00, 0x01, 0x00];
 
 /// What stands in front of the bytes of a line.
-fn start_of(name: &str) -> Option<&'static str> {
+fn start_of(name: &str) -> Option<&'static [u8]> {
     match name {
-        "file" => Some(""),
+        "file" => Some(&[]),
         "sections" => Some(PREAMBLE),
         _ => None,
     }
 }
 
-/// What becomes of the component of a line: a title, `file` for the bytes of a whole file or `sections` for those behind the
-/// preamble, and the bytes, with a `|` between them.
+/// The bytes of a start and a text behind it.
+fn bytes_behind(alloc: Global, start: &[u8], code: &str) -> Result<Vec<u8>, Fail> {
+    let mut bytes = Vec::from_slice(alloc, start)?;
+    let part = bytes_of(alloc, code)?;
+    bytes.extend_from_slice(&part)?;
+    Ok(bytes)
+}
+
+/// What becomes of the component of a line.
 pub(crate) struct InLine;
 
 impl Answers for InLine {
     fn answer(alloc: Global, given: &str) -> Result<String, Fail> {
-        let (head, hex) = given.rsplit_once('|').ok_or("no bytes")?;
+        let (head, code) = given.rsplit_once('|').ok_or("no bytes")?;
         let (_title, name) = head.trim().rsplit_once("| ").ok_or("no start")?;
         let start = start_of(name).ok_or("another start")?;
-        let text = format!(in alloc; "{start}{hex}")?;
-        let bytes = bytes_of(alloc, text.as_str())?;
+        let bytes = bytes_behind(alloc, start, code)?;
         answer_of(alloc, &bytes)
     }
 }
 
-/// What becomes of the component of a paragraph: a line of a title, and lines of the bytes of a file.
+/// What becomes of the component of a paragraph.
 pub(crate) struct InLines;
 
 impl Answers for InLines {

@@ -1,20 +1,20 @@
 //! Canonical functions of components as text.
 
+use crate::texts::write_behind;
 use crate::value_types::write_held;
 use builtin_kinds::{ContextOp, EndKind, EndSide, PlainBuiltin, ResourceOp, WaitOp};
 use comp_tree::{Canon, CanonBuiltin, CanonEndOp, CanonOption};
 use std::alloc::AllocError;
-use std::fmt::Write;
 
 /// Writes an option of a canonical function.
 fn write_option(text: &mut String, option: CanonOption) -> Result<(), AllocError> {
     match option {
         CanonOption::Utf8 => text.push_str(", utf8"),
-        CanonOption::Memory(index) => write!(text, ", memory {index}"),
-        CanonOption::Realloc(index) => write!(text, ", realloc {index}"),
-        CanonOption::PostReturn(index) => write!(text, ", post-return {index}"),
+        CanonOption::Memory(index) => write_behind(text, ", memory ", index),
+        CanonOption::Realloc(index) => write_behind(text, ", realloc ", index),
+        CanonOption::PostReturn(index) => write_behind(text, ", post-return ", index),
         CanonOption::Async => text.push_str(", async"),
-        CanonOption::Callback(index) => write!(text, ", callback {index}"),
+        CanonOption::Callback(index) => write_behind(text, ", callback ", index),
     }
 }
 
@@ -122,7 +122,8 @@ fn write_end(
     end_type: u32,
     op: &CanonEndOp,
 ) -> Result<(), AllocError> {
-    write!(text, "of type {end_type}: ")?;
+    write_behind(text, "of type ", end_type)?;
+    text.push_str(": ")?;
     write_kind(text, kind)?;
     write_end_op(text, op)
 }
@@ -131,7 +132,8 @@ fn write_end(
 fn write_builtin(text: &mut String, builtin: &CanonBuiltin) -> Result<(), AllocError> {
     match builtin {
         CanonBuiltin::Resource { op, resource } => {
-            write!(text, "{} of type {resource}", resource_name(*op))
+            text.push_str(resource_name(*op))?;
+            write_behind(text, " of type ", *resource)
         }
         CanonBuiltin::TaskReturn { result, options } => {
             text.push_str("task.return of ")?;
@@ -139,13 +141,17 @@ fn write_builtin(text: &mut String, builtin: &CanonBuiltin) -> Result<(), AllocE
             write_options(text, options.as_slice())
         }
         CanonBuiltin::Plain(plain) => write_plain(text, *plain),
-        CanonBuiltin::Context { op, slot } => write!(text, "{} {slot}", context_name(*op)),
+        CanonBuiltin::Context { op, slot } => {
+            text.push_str(context_name(*op))?;
+            write_behind(text, " ", *slot)
+        }
         CanonBuiltin::Wait {
             op,
             cancellable,
             memory,
         } => {
-            write!(text, "{} into memory {memory}", wait_name(*op))?;
+            text.push_str(wait_name(*op))?;
+            write_behind(text, " into memory ", *memory)?;
             write_flag(text, *cancellable, " cancellable")
         }
         CanonBuiltin::End { kind, end_type, op } => write_end(text, *kind, *end_type, op),
@@ -160,14 +166,12 @@ pub(crate) fn write_canon(text: &mut String, canon: &Canon) -> Result<(), AllocE
             options,
             func_type,
         } => {
-            write!(
-                text,
-                "lift of core function {core_func} at type {func_type}"
-            )?;
+            write_behind(text, "lift of core function ", *core_func)?;
+            write_behind(text, " at type ", *func_type)?;
             write_options(text, options.as_slice())
         }
         Canon::Lower { func, options } => {
-            write!(text, "lowered function {func}")?;
+            write_behind(text, "lowered function ", *func)?;
             write_options(text, options.as_slice())
         }
         Canon::Builtin(builtin) => write_builtin(text, builtin),

@@ -1,6 +1,7 @@
 //! The items of components as text.
 
 use crate::builtins::write_canon;
+use crate::texts::{write_behind, write_debug};
 use crate::types::{write_alias, write_type};
 use ca_base::{Name, Placed};
 use comp_tree::{
@@ -8,7 +9,7 @@ use comp_tree::{
     Item, NamedDefinition,
 };
 use std::alloc::AllocError;
-use std::fmt::{Debug, Write};
+use std::fmt::Debug;
 use wasm_typing::Valid;
 
 /// Writes a name behind a space.
@@ -20,12 +21,9 @@ fn write_name(text: &mut String, name: &Name) -> Result<(), AllocError> {
 /// Writes a core module.
 fn write_module(text: &mut String, valid: &Valid) -> Result<(), AllocError> {
     let tree = valid.tree();
-    let types = tree.types.len();
-    let funcs = tree.funcs.len();
-    write!(
-        text,
-        "core module of {types} types and {funcs} functions, exporting"
-    )?;
+    write_debug(text, "core module of ", tree.types.len())?;
+    write_debug(text, " types and ", tree.funcs.len())?;
+    text.push_str(" functions, exporting")?;
     for export in tree.exports.as_slice() {
         write_name(text, &export.name)?;
     }
@@ -41,14 +39,15 @@ fn write_named<S: Copy + Debug>(
 ) -> Result<(), AllocError> {
     text.push(',')?;
     write_name(text, name)?;
-    write!(text, " is {sort:?} {index}")
+    write_debug(text, " is ", sort)?;
+    write_behind(text, " ", index)
 }
 
 /// Writes an argument of a core module.
 fn write_core_argument(text: &mut String, argument: &CoreArgument) -> Result<(), AllocError> {
     text.push(',')?;
     write_name(text, &argument.name)?;
-    write!(text, " from core instance {}", argument.instance)
+    write_behind(text, " from core instance ", argument.instance)
 }
 
 /// Writes the arguments of a core module.
@@ -72,7 +71,7 @@ fn write_core_exports(text: &mut String, exports: &[CoreInlineExport]) -> Result
 fn write_core_instance(text: &mut String, made: &CoreInstance) -> Result<(), AllocError> {
     match made {
         CoreInstance::Instantiate { module, arguments } => {
-            write!(text, "instance of core module {module}")?;
+            write_behind(text, "instance of core module ", *module)?;
             write_core_arguments(text, arguments.as_slice())
         }
         CoreInstance::Inline(exports) => write_core_exports(text, exports.as_slice()),
@@ -94,7 +93,7 @@ fn write_instance(text: &mut String, made: &Instance) -> Result<(), AllocError> 
             component,
             arguments,
         } => {
-            write!(text, "instance of component {component}")?;
+            write_behind(text, "instance of component ", *component)?;
             write_definitions(text, arguments.as_slice())
         }
         Instance::Inline(exports) => {
@@ -108,13 +107,13 @@ fn write_instance(text: &mut String, made: &Instance) -> Result<(), AllocError> 
 fn write_import(text: &mut String, import: &Import) -> Result<(), AllocError> {
     text.push_str("import")?;
     write_name(text, &import.name)?;
-    write!(text, ": {:?}", import.desc)
+    write_debug(text, ": ", import.desc)
 }
 
 /// Writes what an export is to be, if that is said.
 fn write_desc(text: &mut String, desc: Option<ExternDesc>) -> Result<(), AllocError> {
     match desc {
-        Some(desc) => write!(text, ", {desc:?}"),
+        Some(desc) => write_debug(text, ", ", desc),
         None => Ok(()),
     }
 }
@@ -123,7 +122,8 @@ fn write_desc(text: &mut String, desc: Option<ExternDesc>) -> Result<(), AllocEr
 fn write_export(text: &mut String, export: &Export) -> Result<(), AllocError> {
     text.push_str("export")?;
     write_name(text, &export.name)?;
-    write!(text, " of {:?} {}", export.sort, export.index)?;
+    write_debug(text, " of ", export.sort)?;
+    write_behind(text, " ", export.index)?;
     write_desc(text, export.desc)
 }
 
@@ -147,8 +147,8 @@ pub(crate) fn write_items(text: &mut String, read: &Component) -> Result<(), All
 /// Writes an item at its place behind a line break.
 #[cycle(items)]
 fn write_placed(text: &mut String, placed: &Placed<Item>) -> Result<(), AllocError> {
-    let place = placed.place;
-    write!(text, "\n{place} ")?;
+    write_debug(text, "\n", placed.place)?;
+    text.push(' ')?;
     match &placed.item {
         Item::CoreModule(valid) => write_module(text, valid.get()),
         Item::CoreInstance(made) => write_core_instance(text, made),

@@ -1,9 +1,9 @@
 //! The types of components as text.
 
+use crate::texts::{write_behind, write_debug};
 use crate::value_types::{write_def_val_type, write_held, write_labelled};
 use comp_tree::{Alias, AliasTarget, DefType, FuncType, InstanceDecl};
 use std::alloc::AllocError;
-use std::fmt::Write;
 
 /// Writes a function type.
 fn write_func_type(text: &mut String, func_type: &FuncType) -> Result<(), AllocError> {
@@ -19,18 +19,25 @@ fn write_func_type(text: &mut String, func_type: &FuncType) -> Result<(), AllocE
 fn write_target(text: &mut String, target: &AliasTarget) -> Result<(), AllocError> {
     match target {
         AliasTarget::InstanceExport { instance, name } => {
-            write!(text, "{} of instance {instance}", name.as_str())
+            text.push_str(name.as_str())?;
+            write_behind(text, " of instance ", *instance)
         }
         AliasTarget::CoreInstanceExport { instance, name } => {
-            write!(text, "{} of core instance {instance}", name.as_str())
+            text.push_str(name.as_str())?;
+            write_behind(text, " of core instance ", *instance)
         }
-        AliasTarget::Outer { up, index } => write!(text, "{index}, {up} levels up"),
+        AliasTarget::Outer { up, index } => {
+            write_behind(text, "", *index)?;
+            write_behind(text, ", ", *up)?;
+            text.push_str(" levels up")
+        }
     }
 }
 
 /// Writes an alias.
 pub(crate) fn write_alias(text: &mut String, alias: &Alias) -> Result<(), AllocError> {
-    write!(text, "alias of {:?} ", alias.sort)?;
+    write_debug(text, "alias of ", alias.sort)?;
+    text.push(' ')?;
     write_target(text, &alias.target)
 }
 
@@ -38,7 +45,7 @@ pub(crate) fn write_alias(text: &mut String, alias: &Alias) -> Result<(), AllocE
 fn write_resource_type(text: &mut String, destructor: Option<u32>) -> Result<(), AllocError> {
     match destructor {
         None => text.push_str("resource type"),
-        Some(index) => write!(text, "resource type, destructor {index}"),
+        Some(index) => write_behind(text, "resource type, destructor ", index),
     }
 }
 
@@ -70,7 +77,9 @@ fn write_inner(text: &mut String, decl: &InstanceDecl) -> Result<(), AllocError>
         InstanceDecl::Type(def_type) => write_type(text, def_type),
         InstanceDecl::Alias(alias) => write_alias(text, alias),
         InstanceDecl::Export { name, desc } => {
-            write!(text, "export {}: {desc:?}", name.as_str())
+            text.push_str("export ")?;
+            text.push_str(name.as_str())?;
+            write_debug(text, ": ", *desc)
         }
     }
 }

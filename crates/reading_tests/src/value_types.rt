@@ -1,15 +1,15 @@
 //! The types of values of components as text.
 
+use crate::texts::{write_behind, write_debug};
 use ca_base::Name;
 use comp_tree::{Case, DefValType, Field, ValTypeRef};
 use std::alloc::AllocError;
-use std::fmt::Write;
 
 /// Writes a value type.
 pub(crate) fn write_val_type(text: &mut String, val_type: ValTypeRef) -> Result<(), AllocError> {
     match val_type {
-        ValTypeRef::Primitive(primitive) => write!(text, "{primitive:?}"),
-        ValTypeRef::Index(index) => write!(text, "type {index}"),
+        ValTypeRef::Primitive(primitive) => write_debug(text, "", primitive),
+        ValTypeRef::Index(index) => write_behind(text, "type ", index),
     }
 }
 
@@ -30,7 +30,9 @@ pub(crate) fn write_labelled(
     label: &Name,
     val_type: Option<ValTypeRef>,
 ) -> Result<(), AllocError> {
-    write!(text, " {}: ", label.as_str())?;
+    text.push(' ')?;
+    text.push_str(label.as_str())?;
+    text.push_str(": ")?;
     write_held(text, val_type)?;
     text.push(',')
 }
@@ -68,7 +70,9 @@ fn write_places(text: &mut String, places: &[ValTypeRef]) -> Result<(), AllocErr
 fn write_labels(text: &mut String, front: &str, labels: &[Name]) -> Result<(), AllocError> {
     text.push_str(front)?;
     for label in labels {
-        write!(text, " {},", label.as_str())?;
+        text.push(' ')?;
+        text.push_str(label.as_str())?;
+        text.push(',')?;
     }
     Ok(())
 }
@@ -107,7 +111,7 @@ pub(crate) fn write_def_val_type(
     val_type: &DefValType,
 ) -> Result<(), AllocError> {
     match val_type {
-        DefValType::Primitive(primitive) => write!(text, "value type {primitive:?}"),
+        DefValType::Primitive(primitive) => write_debug(text, "value type ", *primitive),
         DefValType::Record(fields) => write_fields(text, fields.as_slice()),
         DefValType::Variant(cases) => write_cases(text, cases.as_slice()),
         DefValType::List(element) => write_over(text, "list type of ", *element),
@@ -116,8 +120,8 @@ pub(crate) fn write_def_val_type(
         DefValType::Enum(labels) => write_labels(text, "enum type of", labels.as_slice()),
         DefValType::Option(payload) => write_over(text, "option type of ", *payload),
         DefValType::Result { ok, err } => write_outcomes(text, *ok, *err),
-        DefValType::Own(resource) => write!(text, "owning handle of type {resource}"),
-        DefValType::Borrow(resource) => write!(text, "borrowed handle of type {resource}"),
+        DefValType::Own(resource) => write_behind(text, "owning handle of type ", *resource),
+        DefValType::Borrow(resource) => write_behind(text, "borrowed handle of type ", *resource),
         DefValType::Stream(element) => write_ends(text, "stream type of ", *element),
         DefValType::Future(element) => write_ends(text, "future type of ", *element),
     }

@@ -4,25 +4,26 @@
 //! A case is a paragraph: a title, and lines that do something in a world of three component instances, each with the answer that is wanted.
 //! The file `stdin` names the tables, and the file `stdout` has how many steps are in each.
 //!
-//! - `worlds`: the world in which a case begins
 //! - `setting`: what is set up; `calling`: calls of canonical functions; `telling`: answers as text
-//! - `steps`: what the lines of a case do
+//! - `saying`: what a line says; `playing`: the world that lines change; `steps`: what they do there; `driving`: cases, each in its world
 //! - `returning` and `running`: what `task.return` tests; what is looked up of a graph and a script
 #![tactic(auto)]
 
 mod calling;
+mod driving;
+mod playing;
 mod returning;
 mod running;
+mod saying;
 mod setting;
 mod steps;
 mod telling;
-mod worlds;
 
-use cases::{Tables, lines_told, run_tables, steps_told};
+use cases::{Tables, lines_told, run_tables};
+use driving::plays_told;
 use running::{Copies, Lookups};
 use std::alloc::Global;
 use std::test::Fail;
-use steps::Played;
 
 /// The tables, by the names of their kinds.
 struct AllTables;
@@ -30,7 +31,7 @@ struct AllTables;
 impl Tables for AllTables {
     fn told(alloc: Global, kind: &str, text: &str) -> Result<String, Fail> {
         match kind {
-            "steps" => steps_told::<Played>(alloc, text),
+            "steps" => plays_told(alloc, text),
             "lookups" => lines_told::<Lookups>(alloc, text, " = "),
             "copies" => lines_told::<Copies>(alloc, text, " ="),
             _ => Err(Fail::new("another kind")),

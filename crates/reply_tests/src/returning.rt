@@ -30,18 +30,11 @@ fn number_named(named: &NamedGraph, name: &str) -> Option<usize> {
     }
 }
 
-/// The memory of the core instance of a number, counted from 1, or none for 0.
-fn memory_of(number: u32) -> Option<CoreRef> {
-    match number.checked_sub(1) {
-        Some(instance) => Some(CoreRef { instance, index: 0 }),
-        None => None,
-    }
-}
-
-/// Options with the memory of the core instance of a number.
+/// Options with the memory of the core instance of a number, counted from 1, or none for 0.
 fn options_with(memory: u32) -> Options {
+    let memory = memory.checked_sub(1);
     Options {
-        memory: memory_of(memory),
+        memory: memory.map(|instance| CoreRef { instance, index: 0 }),
         realloc: None,
         post_return: None,
         callback: None,

@@ -22,293 +22,74 @@
 //!   cancellation is, and its borrow handles; `rest`: where the run is, and the running tasks; `able`: the tasks that can go on;
 //!   `bytes 1 16 8`: bytes of a memory; `stream 1`, `future 1`: the offer that stands; `may-leave`
 
-use crate::calling::{call, resumed};
-use crate::returning::checked;
-use crate::setting::{
-    add_borrow, add_own, admit, fill, give_picks, keep, lend, lift, pass, press, start, take,
-};
+use crate::calling::resumed;
+use crate::playing::Played;
+use crate::saying::{Said, front, numbers_of, words_of};
+use crate::setting::{admit, take};
 use crate::telling::{
-    done, stopped, turned, write_came, write_entry, write_flowed, write_lines, write_numbers,
-    write_offer, write_rest, write_task,
+    write_came, write_done, write_entry, write_flowed, write_lines, write_moving, write_numbers,
+    write_offer, write_rest, write_task, write_turned,
 };
-use crate::worlds::world;
 use builtin_kinds::EndKind;
-use ca_base::{Fuel, Seq};
-use ca_types::Value;
-use cases::Steps;
-use copy_replies::{CopySide, Moving, complete, moving_of};
+use ca_base::Seq;
 use event_replies::able;
-use graph_cases::{NamedGraph, graph};
-use graph_views::canon_at;
-use replies::{back, begin, cancel_call, may_leave, return_value};
+use replies::{back, cancel_call, may_leave};
 use std::alloc::{AllocError, Global};
 use std::fmt::Write;
 use std::test::Fail;
 use task_turns::{arrive, end, enter, go_now, leave, loop_word, turn};
-use trace_show::{Copied, TypedValue, TypedValues};
-use world_parts::{Copying, Flow, Part, Parts, Stop};
+use world_cases::{add_borrow, add_own, fill, keep, lend, lift, pass, press};
+use world_parts::Stop;
 
-/// A world that lines change.
-#[derive(Drop)]
-pub(crate) struct Played {
-    named: NamedGraph,
-    parts: Parts,
-    /// The task of the last call that met an offer, and what is to go over.
-    copying: Option<(u32, Copying)>,
-}
-
-/// The numbers of a text.
-fn numbers_of(alloc: Global, text: &str) -> Result<Vec<u32>, Fail> {
-    let mut numbers = Vec::new(alloc);
-    for word in text.split_whitespace() {
-        if let Ok(number) = word.parse::<u32>() {
-            numbers.push(number)?;
-        }
-    }
-    Ok(numbers)
-}
-
-/// The words of a text.
-fn words_of(alloc: Global, text: &str) -> Result<Vec<u64>, Fail> {
-    let mut words = Vec::new(alloc);
-    for word in text.split_whitespace() {
-        words.push(word.parse::<u64>()?)?;
-    }
-    Ok(words)
-}
-
-/// The number at a place, 0 where there is none.
-fn nth(numbers: &[u32], place: usize) -> u32 {
-    match numbers.get(place) {
-        Some(number) => *number,
-        None => 0,
-    }
-}
-
-/// The instance of the number at a place, counted from 1.
-fn instance(numbers: &[u32], place: usize) -> usize {
-    nth(numbers, place).saturating_sub(1) as usize
-}
-
-/// Writes one side of what goes over.
-fn write_side(text: &mut String, side: CopySide) -> Result<(), Fail> {
-    let (task, place) = (side.task, side.place);
-    let instance = side.instance.saturating_add(1);
-    match side.memory {
-        Some(address) => write!(text, "T{task} in I{instance} memory {address} at {place}")?,
-        None => write!(text, "T{task} in I{instance}")?,
-    }
-    Ok(())
-}
-
-/// Writes what goes over.
-fn write_moving(text: &mut String, moving: Part<Moving>) -> Result<(), Fail> {
-    match moving {
-        Ok(moving) => {
-            let (number, count) = (moving.number, moving.count);
-            let letter = match moving.kind {
-                EndKind::Stream => "S",
-                EndKind::Future => "F",
-            };
-            write!(text, "{letter}{number} {count} from ")?;
-            write_side(text, moving.writer)?;
-            text.push_str(" to ")?;
-            write_side(text, moving.reader)
-        }
-        Err(why) => Ok(text.push_str(stopped(why))?),
-    }
-}
-
-/// Elements that went over: these bytes, or so many that hold nothing.
-fn copied(
-    alloc: Global,
-    named: &NamedGraph,
-    count: u32,
-    bytes: &[u32],
-) -> Result<Copied, AllocError> {
-    let number = Some(named.numbers.byte);
-    let Some(val_type) = named.graph.types().types.value(number) else {
-        return Err(AllocError);
-    };
-    if bytes.is_empty() {
-        return Ok(Copied::Units(count));
-    }
-    let mut values = Seq::new(alloc);
-    for byte in bytes {
-        values.push(Value::U8((*byte % 256) as u8))?;
-    }
-    let val_type = val_type.share()?;
-    Ok(Copied::Values(TypedValues { values, val_type }))
-}
-
-/// The result of a task: the number behind that of the task, as a u32, or none.
-fn result_of(named: &NamedGraph, numbers: &[u32]) -> Result<Option<TypedValue>, AllocError> {
-    let Some(number) = numbers.get(1) else {
-        return Ok(None);
-    };
-    let Some(val_type) = named.graph.types().types.value(Some(named.numbers.word)) else {
-        return Err(AllocError);
-    };
-    let value = Value::U32(*number);
-    let val_type = val_type.share()?;
-    Ok(Some(TypedValue { value, val_type }))
+/// What is written, or that it is not for want of memory.
+fn wrote(came: Result<(), AllocError>) -> Result<(), Fail> {
+    Ok(came?)
 }
 
 impl Played {
-    /// A canonical function is called by a task.
-    fn call(&mut self, alloc: Global, task: u32, rest: &str) -> Result<Part<Flow>, Fail> {
-        let (name, words) = rest.split_once(' ').unwrap_or((rest, ""));
-        let words = words_of(alloc, words)?;
-        let Ok(at) = self.parts.instance_of(task) else {
-            return Ok(Err(Stop::Stuck));
-        };
-        let number = self.named.canon(at, name).ok_or("no such function")?;
-        let came = call(
-            alloc,
-            &self.named.graph,
-            &mut self.parts,
-            task,
-            number,
-            &words,
-        );
-        if let Ok(Flow::Copies(copying)) = &came {
-            self.copying = Some((task, *copying));
-        }
-        Ok(came)
-    }
-
-    /// The line of a call.
-    fn begun(&mut self, alloc: Global, rest: &str) -> Result<Part<()>, Fail> {
-        let (task, rest) = rest.split_once(' ').ok_or("no function")?;
-        let task = task.parse::<u32>()?;
-        let (name, words) = rest.split_once(' ').unwrap_or((rest, ""));
-        let words = words_of(alloc, words)?;
-        let number = self.named.canon(0, name).ok_or("no such function")?;
-        let Some(canon) = canon_at(&self.named.graph, number) else {
-            return Ok(Err(Stop::Stuck));
-        };
-        Ok(begin(alloc, &mut self.parts, task, canon, &words))
-    }
-
-    /// What `task.return` tests of a task: the types of the result and of the function, and the memory of the core instance of a number.
-    fn checked(&self, rest: &str, numbers: &[u32]) -> Part<()> {
-        let (given, rest) = rest.split_once(' ').unwrap_or((rest, ""));
-        let (wanted, _) = rest.split_once(' ').unwrap_or((rest, ""));
-        checked(
-            &self.named,
-            &self.parts,
-            nth(numbers, 0),
-            given,
-            wanted,
-            nth(numbers, 1),
-        )
-    }
-
-    /// What goes over for the last call.
-    fn moving(&self) -> Part<Moving> {
-        let Some((task, copying)) = self.copying else {
-            return Err(Stop::Stuck);
-        };
-        moving_of(&self.named.graph, &self.parts, task, copying)
-    }
-
-    /// The last call is completed, with these elements.
-    fn complete(&mut self, alloc: Global, bytes: &[u32]) -> Part<Flow> {
-        let moving = self.moving()?;
-        let Ok(copied) = copied(alloc, &self.named, moving.count, bytes) else {
-            return Err(Stop::Memory);
-        };
-        complete(alloc, &mut self.parts, moving, copied)
-    }
-
-    /// What a word lets the machine do, where it is one of those after which something is to be done.
-    fn flow(
+    /// Calls a canonical function by a name.
+    fn write_call(
         &mut self,
         alloc: Global,
-        name: &str,
+        task: u32,
         rest: &str,
-        numbers: &[u32],
-    ) -> Option<Part<Flow>> {
-        let first = nth(numbers, 0);
-        let parts = &mut self.parts;
-        match name {
-            "take" => {
-                let (kind, _) = rest.split_once(' ').unwrap_or((rest, ""));
-                Some(take(alloc, parts, kind, instance(numbers, 0)))
-            }
-            "cancel" => Some(cancel_call(parts, first)),
-            "arrive" => Some(arrive(parts)),
-            "admit" => Some(admit(parts)),
-            "back" => Some(back(alloc, &self.named.graph, parts)),
-            "leave" => Some(leave(parts)),
-            "end" => Some(end(parts, first)),
-            "loop" => Some(loop_word(parts, first, nth(numbers, 1))),
-            "resume" => Some(resumed(alloc, &self.named.graph, parts)),
-            "complete" => Some(self.complete(alloc, numbers)),
-            _ => None,
-        }
-    }
-
-    /// A task resolves with a result.
-    fn return_by(&mut self, numbers: &[u32]) -> Part<()> {
-        let Ok(result) = result_of(&self.named, numbers) else {
-            return Err(Stop::Memory);
+        text: &mut String,
+    ) -> Result<(), Fail> {
+        let (name, words) = front(rest);
+        let Ok(at) = self.parts.instance_of(task) else {
+            return wrote(write_flowed(text, Err(Stop::Stuck)));
         };
-        return_value(&mut self.parts, nth(numbers, 0), result)
+        let number = self.named.canon(at, name).ok_or("no such function")?;
+        let words = words_of(alloc, words)?;
+        wrote(write_flowed(text, self.call(alloc, task, number, &words)))
     }
 
-    /// What a word does, where it is one of those without an answer.
-    fn part(&mut self, alloc: Global, name: &str, numbers: &[u32]) -> Option<Part<()>> {
-        let parts = &mut self.parts;
-        match name {
-            "return" => Some(self.return_by(numbers)),
-            "enter" => Some(enter(parts, nth(numbers, 0))),
-            "lift" => Some(lift(parts, instance(numbers, 0))),
-            "go-now" => Some(go_now(parts)),
-            "keep" => Some(keep(alloc, parts, nth(numbers, 0), nth(numbers, 1))),
-            "lend" => Some(lend(
-                parts,
-                instance(numbers, 0),
-                nth(numbers, 1),
-                nth(numbers, 2),
-                nth(numbers, 3),
-            )),
-            "press" => Some(press(parts, instance(numbers, 0), nth(numbers, 1))),
-            _ => None,
-        }
+    /// Writes the line of a call.
+    fn write_begin(&mut self, alloc: Global, rest: &str, text: &mut String) -> Result<(), Fail> {
+        let (task, rest) = rest.split_once(' ').ok_or("no function")?;
+        let task = task.parse::<u32>()?;
+        let (name, words) = front(rest);
+        let number = self.named.canon(0, name).ok_or("no such function")?;
+        let words = words_of(alloc, words)?;
+        wrote(write_done(text, self.begin(alloc, task, number, &words)))
     }
 
-    /// The number that a word answers, where it is one of those that do.
-    fn number(&mut self, name: &str, numbers: &[u32]) -> Option<Part<u32>> {
-        let at = instance(numbers, 0);
-        let parts = &mut self.parts;
-        match name {
-            "own" => Some(add_own(parts, at, nth(numbers, 1), nth(numbers, 2))),
-            "borrow" => Some(add_borrow(
-                parts,
-                at,
-                nth(numbers, 1),
-                nth(numbers, 2),
-                nth(numbers, 3),
-            )),
-            "fill" => Some(fill(parts, at, nth(numbers, 1))),
-            "pass" => Some(pass(parts, at, nth(numbers, 1), instance(numbers, 2))),
-            _ => None,
-        }
-    }
-
-    /// Writes what stands at an index of an instance.
-    fn write_entry(
+    /// Writes what stands at indices of an instance.
+    fn write_entries(
         &self,
         alloc: Global,
         at: usize,
-        index: u32,
+        indices: &[u32],
         text: &mut String,
-    ) -> Result<(), Fail> {
-        match self.parts.entry(at, index) {
-            Ok(entry) => Ok(write_entry(alloc, text, &self.parts, at, entry)?),
-            Err(why) => Ok(text.push_str(stopped(why))?),
+    ) -> Result<(), AllocError> {
+        for (place, index) in indices.iter().enumerate() {
+            if place > 0 {
+                text.push_str(", ")?;
+            }
+            write!(text, "{index} ")?;
+            write_entry(alloc, text, &self.parts, at, *index)?;
         }
+        Ok(())
     }
 
     /// Writes all that stands in the table of an instance.
@@ -318,27 +99,19 @@ impl Played {
         };
         let indices = instance.indices(alloc)?;
         if indices.is_empty() {
-            text.push_str("empty")?;
+            return wrote(text.push_str("empty"));
         }
-        for (place, index) in indices.as_slice().iter().enumerate() {
-            if place > 0 {
-                text.push_str(", ")?;
-            }
-            write!(text, "{index} ")?;
-            self.write_entry(alloc, at, *index, text)?;
-        }
-        Ok(())
+        wrote(self.write_entries(alloc, at, indices.as_slice(), text))
     }
 
     /// Writes bytes of a memory.
-    fn write_bytes(&self, numbers: &[u32], text: &mut String) -> Result<(), Fail> {
-        let memory = instance(numbers, 0);
+    fn write_bytes(&self, said: Said<'_>, text: &mut String) -> Result<(), Fail> {
+        let memory = said.at(0);
         if memory >= self.parts.store.memory_count() {
             return Err(Fail::new("no memory"));
         }
-        let bytes = self.parts.store.memory(memory);
-        let (place, count) = (nth(numbers, 1), nth(numbers, 2));
-        for byte in bytes.iter().skip(place as usize).take(count as usize) {
+        let bytes = self.parts.store.memory(memory).iter();
+        for byte in bytes.skip(said.nth(1) as usize).take(said.nth(2) as usize) {
             write!(text, "{byte:02x}")?;
         }
         Ok(())
@@ -347,57 +120,114 @@ impl Played {
     /// Writes the tasks that can go on.
     fn write_able(&self, alloc: Global, text: &mut String) -> Result<(), Fail> {
         match able(alloc, &self.named.graph, &self.parts) {
-            Ok(tasks) => Ok(write_numbers(text, tasks.as_slice())?),
+            Ok(tasks) => wrote(write_numbers(text, tasks.as_slice())),
             Err(_) => Err(Fail::new("want of memory")),
         }
     }
 
-    /// Writes what a word asks of the world.
-    fn write_told(
-        &self,
-        alloc: Global,
-        name: &str,
-        numbers: &[u32],
-        text: &mut String,
-    ) -> Result<(), Fail> {
-        let first = nth(numbers, 0);
-        match name {
-            "entry" => self.write_entry(alloc, instance(numbers, 0), nth(numbers, 1), text)?,
-            "table" => self.write_table(alloc, instance(numbers, 0), text)?,
-            "task" => write_task(text, &self.parts, first)?,
-            "rest" => write_rest(text, &self.parts)?,
-            "able" => self.write_able(alloc, text)?,
-            "bytes" => self.write_bytes(numbers, text)?,
-            "stream" => write_offer(text, &self.parts, EndKind::Stream, first)?,
-            "future" => write_offer(text, &self.parts, EndKind::Future, first)?,
-            "move" => write_moving(text, self.moving())?,
-            "may-leave" => text.push_str(if may_leave(&self.parts) { "yes" } else { "no" })?,
-            _ => return Err(Fail::new("no such word")),
-        }
-        Ok(())
+    /// Whether the acting task may leave its instance.
+    fn leaves(&self) -> &'static str {
+        if may_leave(&self.parts) { "yes" } else { "no" }
     }
 
-    /// A call of the script whose task enters or waits to, without lines.
-    fn write_start(
+    /// Writes what a line asks of the world.
+    fn write_told(&self, alloc: Global, said: Said<'_>, text: &mut String) -> Result<(), Fail> {
+        let (parts, first) = (&self.parts, said.nth(0));
+        match said.name {
+            "entry" => wrote(write_entry(alloc, text, parts, said.at(0), said.nth(1))),
+            "table" => self.write_table(alloc, said.at(0), text),
+            "task" => wrote(write_task(text, parts, first)),
+            "rest" => wrote(write_rest(text, parts)),
+            "able" => self.write_able(alloc, text),
+            "bytes" => self.write_bytes(said, text),
+            "stream" => wrote(write_offer(text, parts, EndKind::Stream, first)),
+            "future" => wrote(write_offer(text, parts, EndKind::Future, first)),
+            "move" => wrote(write_moving(text, self.moving())),
+            "may-leave" => wrote(text.push_str(self.leaves())),
+            _ => Err(Fail::new("no such word")),
+        }
+    }
+
+    /// Does what a line says that answers a number; what another line says.
+    fn write_number(
         &mut self,
         alloc: Global,
-        rest: &str,
-        numbers: &[u32],
+        said: Said<'_>,
         text: &mut String,
     ) -> Result<(), Fail> {
-        let (kind, _) = rest.split_once(' ').unwrap_or((rest, ""));
-        let started = start(alloc, &mut self.parts, kind, instance(numbers, 0));
-        self.parts.feed.labels = Seq::new(alloc);
-        Ok(write_came(text, started)?)
+        let (at, second, third) = (said.at(0), said.nth(1), said.nth(2));
+        let parts = &mut self.parts;
+        match said.name {
+            "start" => wrote(write_came(text, self.start(alloc, said))),
+            "own" => wrote(write_came(text, add_own(parts, at, second, third))),
+            "borrow" => {
+                let added = add_borrow(parts, at, second, third, said.nth(3));
+                wrote(write_came(text, added))
+            }
+            "fill" => wrote(write_came(text, fill(parts, at, second))),
+            "pass" => wrote(write_came(text, pass(parts, at, second, said.at(2)))),
+            _ => self.write_told(alloc, said, text),
+        }
     }
 
-    /// A turn, with an item left or not, and the tasks that can go on.
-    fn write_turn(&mut self, has_item: bool, tasks: &[u32], text: &mut String) -> Result<(), Fail> {
-        let came = turn(&mut self.parts, has_item, tasks);
-        Ok(text.push_str(turned(came))?)
+    /// Does what a line says that has no answer; what another line says.
+    fn write_part(&mut self, alloc: Global, said: Said<'_>, text: &mut String) -> Result<(), Fail> {
+        let (at, first, second) = (said.at(0), said.nth(0), said.nth(1));
+        let parts = &mut self.parts;
+        match said.name {
+            "return" => wrote(write_done(text, self.resolve(said))),
+            "check" => wrote(write_done(text, self.check(said))),
+            "enter" => wrote(write_done(text, enter(parts, first))),
+            "lift" => wrote(write_done(text, lift(parts, at))),
+            "go-now" => wrote(write_done(text, go_now(parts))),
+            "keep" => wrote(write_done(text, keep(alloc, parts, first, second))),
+            "lend" => {
+                let lent = lend(parts, at, second, said.nth(2), said.nth(3));
+                wrote(write_done(text, lent))
+            }
+            "press" => wrote(write_done(text, press(parts, at, second))),
+            _ => self.write_number(alloc, said, text),
+        }
     }
 
-    /// Does what a word says, and writes its answer.
+    /// Does what a line says after which something is to be done; what another line says.
+    fn write_flow(&mut self, alloc: Global, said: Said<'_>, text: &mut String) -> Result<(), Fail> {
+        let (at, first) = (said.at(0), said.nth(0));
+        let (parts, graph) = (&mut self.parts, &self.named.graph);
+        match said.name {
+            "take" => wrote(write_flowed(text, take(alloc, parts, said.second().0, at))),
+            "cancel" => wrote(write_flowed(text, cancel_call(parts, first))),
+            "arrive" => wrote(write_flowed(text, arrive(parts))),
+            "admit" => wrote(write_flowed(text, admit(parts))),
+            "back" => wrote(write_flowed(text, back(alloc, graph, parts))),
+            "leave" => wrote(write_flowed(text, leave(parts))),
+            "end" => wrote(write_flowed(text, end(parts, first))),
+            "loop" => wrote(write_flowed(text, loop_word(parts, first, said.nth(1)))),
+            "resume" => wrote(write_flowed(text, resumed(alloc, graph, parts))),
+            "complete" => wrote(write_flowed(text, self.complete(alloc, said.numbers))),
+            _ => self.write_part(alloc, said, text),
+        }
+    }
+
+    /// Does what a line says of turns and of what the script gives; what another line says.
+    fn write_turn(&mut self, alloc: Global, said: Said<'_>, text: &mut String) -> Result<(), Fail> {
+        match said.name {
+            "begin" => self.write_begin(alloc, said.rest, text),
+            "go" => wrote(write_turned(text, turn(&mut self.parts, false, said.numbers))),
+            "turn" => {
+                let tasks = said.numbers.get(1..).unwrap_or(&[]);
+                let came = turn(&mut self.parts, said.nth(0) == 1, tasks);
+                wrote(write_turned(text, came))
+            }
+            "picks" | "fuel" => {
+                self.give(said)?;
+                wrote(text.push_str("ok"))
+            }
+            _ => self.write_flow(alloc, said, text),
+        }
+    }
+
+    /// Does what a line says.
     fn write_act(
         &mut self,
         alloc: Global,
@@ -406,58 +236,31 @@ impl Played {
         text: &mut String,
     ) -> Result<(), Fail> {
         let numbers = numbers_of(alloc, rest)?;
-        if let Some(came) = self.flow(alloc, name, rest, &numbers) {
-            return Ok(write_flowed(text, &came)?);
-        }
-        if let Some(came) = self.part(alloc, name, &numbers) {
-            return Ok(text.push_str(done(came))?);
-        }
-        if let Some(came) = self.number(name, &numbers) {
-            return Ok(write_came(text, came)?);
-        }
-        match name {
-            "start" => self.write_start(alloc, rest, &numbers, text),
-            "check" => Ok(text.push_str(done(self.checked(rest, &numbers)))?),
-            "begin" => {
-                let begun = self.begun(alloc, rest)?;
-                Ok(text.push_str(done(begun))?)
-            }
-            "go" => self.write_turn(false, &numbers, text),
-            "turn" => self.write_turn(nth(&numbers, 0) == 1, numbers.get(1..).unwrap_or(&[]), text),
-            "picks" => {
-                give_picks(&mut self.parts, &numbers)?;
-                Ok(text.push_str("ok")?)
-            }
-            "fuel" => {
-                self.parts.feed.left = Fuel::new(u64::from(nth(&numbers, 0)));
-                Ok(text.push_str("ok")?)
-            }
-            _ => self.write_told(alloc, name, &numbers, text),
-        }
+        let numbers = numbers.as_slice();
+        self.write_turn(
+            alloc,
+            Said {
+                name,
+                rest,
+                numbers,
+            },
+            text,
+        )
     }
-}
 
-impl Steps for Played {
-    fn step(&mut self, alloc: Global, line: &str, text: &mut String) -> Result<(), Fail> {
+    /// Does what a line says, and writes what comes of it with the lines of the trace.
+    pub(crate) fn write_step(
+        &mut self,
+        alloc: Global,
+        line: &str,
+        text: &mut String,
+    ) -> Result<(), Fail> {
         self.parts.feed.labels = Seq::new(alloc);
-        let (name, rest) = line.split_once(' ').unwrap_or((line, ""));
+        let (name, rest) = front(line);
         match name.parse::<u32>() {
-            Ok(task) => {
-                let came = self.call(alloc, task, rest)?;
-                write_flowed(text, &came)?;
-            }
+            Ok(task) => self.write_call(alloc, task, rest, text)?,
             Err(_) => self.write_act(alloc, name, rest, text)?,
         }
-        write_lines(alloc, text, self.parts.feed.labels.as_slice())?;
-        Ok(())
-    }
-
-    fn begin(alloc: Global, title: &str) -> Result<Played, Fail> {
-        let is_made = !title.starts_with("While all is made");
-        Ok(Played {
-            named: graph(alloc)?,
-            parts: world(alloc, is_made)?,
-            copying: None,
-        })
+        wrote(write_lines(alloc, text, self.parts.feed.labels.as_slice()))
     }
 }

@@ -2,6 +2,7 @@
 
 use builtin_kinds::EndKind;
 use comp_graph::{CoreRef, FuncRef};
+use copy_replies::{CopySide, Moving};
 use instances::{EndEntry, WorldEntry};
 use res_handles::{Handle, Ownership};
 use std::alloc::{AllocError, Global};
@@ -12,7 +13,7 @@ use trace_show::{Label, label_text};
 use world_parts::{Copying, Flow, Part, Parts, Rest, Stop, Turned};
 
 /// Why nothing is answered.
-pub(crate) fn stopped(why: Stop) -> &'static str {
+fn stopped(why: Stop) -> &'static str {
     match why {
         Stop::Trap(name) => name.as_str(),
         Stop::NoFuel => "no-fuel",
@@ -21,10 +22,21 @@ pub(crate) fn stopped(why: Stop) -> &'static str {
     }
 }
 
+/// Writes a text, and a number behind it.
+pub(crate) fn write_behind(text: &mut String, front: &str, number: u64) -> Result<(), AllocError> {
+    text.push_str(front)?;
+    write!(text, "{number}")
+}
+
+/// Writes a text, and a number of 32 bits behind it.
+pub(crate) fn write_after(text: &mut String, front: &str, number: u32) -> Result<(), AllocError> {
+    write_behind(text, front, u64::from(number))
+}
+
 /// Writes words, with a space before each.
-pub(crate) fn write_words(text: &mut String, words: &[u64]) -> Result<(), AllocError> {
+fn write_words(text: &mut String, words: &[u64]) -> Result<(), AllocError> {
     for word in words {
-        write!(text, " {word}")?;
+        write_behind(text, " ", *word)?;
     }
     Ok(())
 }
@@ -36,7 +48,7 @@ pub(crate) fn write_numbers(text: &mut String, numbers: &[u32]) -> Result<(), Al
         if place > 0 {
             text.push_str(", ")?;
         }
-        write!(text, "{number}")?;
+        write_after(text, "", *number)?;
     }
     text.push(')')
 }
@@ -44,15 +56,12 @@ pub(crate) fn write_numbers(text: &mut String, numbers: &[u32]) -> Result<(), Al
 /// Writes a core function, as the number of its instance and its index.
 fn write_func(text: &mut String, func: FuncRef) -> Result<(), AllocError> {
     match func {
-        FuncRef::Instance(CoreRef { instance, index }) => write!(text, "core {instance}.{index}"),
-        FuncRef::Canon(number) => write!(text, "canon {number}"),
+        FuncRef::Instance(CoreRef { instance, index }) => {
+            write_after(text, "core ", instance)?;
+            write_after(text, ".", index)
+        }
+        FuncRef::Canon(number) => write_after(text, "canon ", number),
     }
-}
-
-/// Writes how many elements are to go over.
-fn write_copying(text: &mut String, copying: Copying) -> Result<(), AllocError> {
-    let Copying { count, .. } = copying;
-    write!(text, "copies {count}")
 }
 
 /// Writes what is to be done.
@@ -70,44 +79,44 @@ fn write_flow(text: &mut String, flow: &Flow) -> Result<(), AllocError> {
         }
         Flow::Enters => text.push_str("enters"),
         Flow::Returns => text.push_str("returns"),
-        Flow::Copies(copying) => write_copying(text, *copying),
-        Flow::Delivers(_, set) => write!(text, "delivers of set {set}"),
-        Flow::Polls(_, set) => write!(text, "polls set {set}"),
+        Flow::Copies(Copying { count, .. }) => write_after(text, "copies ", *count),
+        Flow::Delivers(_, set) => write_behind(text, "delivers of set ", *set),
+        Flow::Polls(_, set) => write_behind(text, "polls set ", *set),
         Flow::HearsNone(_) => text.push_str("hears none"),
         Flow::HearsCancel(_) => text.push_str("hears cancel"),
     }
 }
 
 /// Writes what a part that goes on came to.
-pub(crate) fn write_flowed(text: &mut String, came: &Part<Flow>) -> Result<(), AllocError> {
+pub(crate) fn write_flowed(text: &mut String, came: Part<Flow>) -> Result<(), AllocError> {
     match came {
-        Ok(flow) => write_flow(text, flow),
-        Err(why) => text.push_str(stopped(*why)),
+        Ok(flow) => write_flow(text, &flow),
+        Err(why) => text.push_str(stopped(why)),
     }
 }
 
-/// What a part without an answer came to.
-pub(crate) fn done(came: Part<()>) -> &'static str {
+/// Writes what a part without an answer came to.
+pub(crate) fn write_done(text: &mut String, came: Part<()>) -> Result<(), AllocError> {
     match came {
-        Ok(()) => "ok",
-        Err(why) => stopped(why),
+        Ok(()) => text.push_str("ok"),
+        Err(why) => text.push_str(stopped(why)),
     }
 }
 
-/// What a turn came to.
-pub(crate) fn turned(came: Part<Turned>) -> &'static str {
+/// Writes what a turn came to.
+pub(crate) fn write_turned(text: &mut String, came: Part<Turned>) -> Result<(), AllocError> {
     match came {
-        Ok(Turned::Ends) => "ends",
-        Ok(Turned::TakesItem) => "item",
-        Ok(Turned::GoesOn) => "goes",
-        Err(why) => stopped(why),
+        Ok(Turned::Ends) => text.push_str("ends"),
+        Ok(Turned::TakesItem) => text.push_str("item"),
+        Ok(Turned::GoesOn) => text.push_str("goes"),
+        Err(why) => text.push_str(stopped(why)),
     }
 }
 
 /// Writes a number, or why there is none.
 pub(crate) fn write_came(text: &mut String, came: Part<u32>) -> Result<(), AllocError> {
     match came {
-        Ok(number) => write!(text, "{number}"),
+        Ok(number) => write_after(text, "", number),
         Err(why) => text.push_str(stopped(why)),
     }
 }
@@ -131,7 +140,7 @@ fn rest_name(rest: Rest) -> &'static str {
 pub(crate) fn write_rest(text: &mut String, parts: &Parts) -> Result<(), AllocError> {
     text.push_str(rest_name(parts.rest))?;
     for task in &parts.chain {
-        write!(text, " T{task}")?;
+        write_after(text, " T", *task)?;
     }
     Ok(())
 }
@@ -171,9 +180,17 @@ fn write_handle(text: &mut String, handle: Handle) -> Result<(), AllocError> {
         ownership,
     } = handle;
     match ownership {
-        Ownership::Own => write!(text, "own R{resource} {rep} {lends}"),
-        Ownership::Borrow(task) => write!(text, "borrow R{resource} {rep} T{task} {lends}"),
+        Ownership::Own => {
+            write_after(text, "own R", resource)?;
+            write_after(text, " ", rep)?;
+        }
+        Ownership::Borrow(task) => {
+            write_after(text, "borrow R", resource)?;
+            write_after(text, " ", rep)?;
+            write_after(text, " T", task)?;
+        }
     }
+    write_behind(text, " ", lends)
 }
 
 /// Writes the indices of the members of a set.
@@ -216,24 +233,27 @@ fn end_state(parts: &Parts, end: EndEntry) -> &'static str {
 /// Writes an end, and whether its entry says so where it is idle.
 fn write_end(text: &mut String, parts: &Parts, end: EndEntry) -> Result<(), AllocError> {
     let (kind, letter) = match parts.kind_of_end(end) {
-        EndKind::Stream => ("stream", "S"),
-        EndKind::Future => ("future", "F"),
+        EndKind::Stream => ("stream-", " S"),
+        EndKind::Future => ("future-", " F"),
     };
     let side = match end.side {
         Side::Reader => "readable",
         Side::Writer => "writable",
     };
-    let number = end.number;
     let state = end_state(parts, end);
-    write!(text, "{kind}-{side} {letter}{number} {state}")?;
+    text.push_str(kind)?;
+    text.push_str(side)?;
+    write_after(text, letter, end.number)?;
+    text.push(' ')?;
+    text.push_str(state)?;
     if end.is_idle != (state == "idle") {
         text.push_str(" unlike its entry")?;
     }
     Ok(())
 }
 
-/// Writes what stands at an index.
-pub(crate) fn write_entry(
+/// Writes an entry, if there is one.
+fn write_there(
     alloc: Global,
     text: &mut String,
     parts: &Parts,
@@ -244,11 +264,26 @@ pub(crate) fn write_entry(
         None => text.push_str("none"),
         Some(WorldEntry::Handle(handle)) => write_handle(text, handle),
         Some(WorldEntry::Subtask(callee)) => {
-            write!(text, "subtask T{callee} ")?;
+            write_after(text, "subtask T", callee)?;
+            text.push(' ')?;
             write_came(text, parts.payload(callee))
         }
         Some(WorldEntry::Set(set)) => write_set(alloc, text, parts, at, set),
         Some(WorldEntry::End(end)) => write_end(text, parts, end),
+    }
+}
+
+/// Writes what stands at an index of an instance.
+pub(crate) fn write_entry(
+    alloc: Global,
+    text: &mut String,
+    parts: &Parts,
+    at: usize,
+    index: u32,
+) -> Result<(), AllocError> {
+    match parts.entry(at, index) {
+        Ok(entry) => write_there(alloc, text, parts, at, entry),
+        Err(why) => text.push_str(stopped(why)),
     }
 }
 
@@ -285,11 +320,12 @@ pub(crate) fn write_task(text: &mut String, parts: &Parts, task: u32) -> Result<
     let Some(slot) = parts.tasks.slot(task) else {
         return text.push_str("none");
     };
-    let phase = phase_name(slot.task.phase());
-    let resolution = resolution_name(slot.task.resolution());
-    let cancellation = cancellation_name(slot.task.cancellation());
-    let borrows = slot.task.borrows();
-    write!(text, "{phase} {resolution} {cancellation} {borrows}")
+    text.push_str(phase_name(slot.task.phase()))?;
+    text.push(' ')?;
+    text.push_str(resolution_name(slot.task.resolution()))?;
+    text.push(' ')?;
+    text.push_str(cancellation_name(slot.task.cancellation()))?;
+    write_behind(text, " ", slot.task.borrows())
 }
 
 /// Writes the offer that stands at a stream or a future: its side, its task, its place, and how many of its elements are copied.
@@ -305,11 +341,44 @@ pub(crate) fn write_offer(
     let Some(offer) = channel.standing() else {
         return text.push_str("none");
     };
-    let side = match offer.side {
-        Side::Reader => "read",
-        Side::Writer => "write",
-    };
     let By::Task(task) = offer.by;
-    let (place, length, copied) = (offer.place, offer.length, offer.copied);
-    write!(text, "{side} T{task} at {place}: {copied} of {length}")
+    let side = match offer.side {
+        Side::Reader => "read T",
+        Side::Writer => "write T",
+    };
+    write_after(text, side, task)?;
+    write_after(text, " at ", offer.place)?;
+    write_after(text, ": ", offer.copied)?;
+    write_after(text, " of ", offer.length)
+}
+
+/// Writes one side of what goes over.
+fn write_side(text: &mut String, side: CopySide) -> Result<(), AllocError> {
+    write_after(text, "T", side.task)?;
+    write_behind(text, " in I", side.instance.saturating_add(1) as u64)?;
+    match side.memory {
+        Some(address) => {
+            write_behind(text, " memory ", address as u64)?;
+            write_after(text, " at ", side.place)
+        }
+        None => Ok(()),
+    }
+}
+
+/// Writes what goes over.
+pub(crate) fn write_moving(text: &mut String, moving: Part<Moving>) -> Result<(), AllocError> {
+    let moving = match moving {
+        Ok(moving) => moving,
+        Err(why) => return text.push_str(stopped(why)),
+    };
+    let letter = match moving.kind {
+        EndKind::Stream => "S",
+        EndKind::Future => "F",
+    };
+    write_after(text, letter, moving.number)?;
+    write_after(text, " ", moving.count)?;
+    text.push_str(" from ")?;
+    write_side(text, moving.writer)?;
+    text.push_str(" to ")?;
+    write_side(text, moving.reader)
 }

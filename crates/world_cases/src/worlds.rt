@@ -1,5 +1,4 @@
-//! The world in which a case begins: three component instances, each with a memory of a page, a fourth core
-//! instance that has the first one's memory, and task 0, which is over or instantiates.
+//! Worlds in which cases begin.
 
 use ca_base::{Fuel, Seq};
 use cases::bytes_of;
@@ -30,7 +29,7 @@ fn feed(alloc: Global) -> Feed {
 }
 
 /// A world without instances and tasks.
-fn nothing(alloc: Global) -> Parts {
+pub fn nothing(alloc: Global) -> Parts {
     Parts {
         store: Store::new(alloc),
         memories: Vec::new(alloc),
@@ -53,19 +52,20 @@ fn add_core(alloc: Global, store: &mut Store, valid: &Valid) -> Result<(), Fail>
     Ok(())
 }
 
-/// Adds so many component instances, each with a core instance of the same number.
-fn add_instances(
-    alloc: Global,
-    parts: &mut Parts,
-    valid: &Valid,
-    count: usize,
-) -> Result<(), Fail> {
-    for number in 0..count {
+/// Adds three component instances, each with a core instance of the same number.
+fn add_instances(alloc: Global, parts: &mut Parts, valid: &Valid) -> Result<(), Fail> {
+    for number in 0..3 {
         add_core(alloc, &mut parts.store, valid)?;
         parts.memories.push(Some(number))?;
         parts.instances.push(Instance::new(alloc))?;
     }
     Ok(())
+}
+
+/// Adds component instances of the module of bytes.
+fn add_of(alloc: Global, parts: &mut Parts, module: &[u8]) -> Result<(), Fail> {
+    let valid = valid_of(alloc, module)?;
+    add_instances(alloc, parts, &valid)
 }
 
 /// Makes task 0, which instantiates.
@@ -81,16 +81,20 @@ fn end_first(parts: &mut Parts) {
     let _closed = parts.close(0);
 }
 
-/// A world in which all is instantiated, or not yet.
-pub(crate) fn world(alloc: Global, is_made: bool) -> Result<Parts, Fail> {
+/// Adds three component instances to a world without anything, each with a memory of a page, a fourth core instance that has the first one's
+/// memory, and task 0, which is over or instantiates.
+pub fn add_all(alloc: Global, parts: &mut Parts, is_made: bool) -> Result<(), Fail> {
     let module = bytes_of(alloc, MODULE)?;
-    let valid = valid_of(alloc, &module)?;
-    let mut parts = nothing(alloc);
-    add_instances(alloc, &mut parts, &valid, 3)?;
+    add_of(alloc, parts, &module)?;
     parts.memories.push(Some(0))?;
-    add_first(alloc, &mut parts);
+    add_first(alloc, parts);
     if is_made {
-        end_first(&mut parts);
+        end_first(parts);
     }
-    Ok(parts)
+    Ok(())
+}
+
+/// Lets a world go.
+pub fn let_go(parts: Parts) {
+    drop(parts)
 }
