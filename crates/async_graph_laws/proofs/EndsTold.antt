@@ -1,5 +1,5 @@
 -- Every linked graph tells the types of streams and futures that its built-ins name, each once.
-use Rattle.std.proofs.Common.{◌≡◌, ◌∙◌, ℕ, zero, suc, Bool, true, false, cond, not, ◌||◌, ◌&&◌, List, [], ◌∷◌, ◌++◌, length, refl, sym, ap, subst, Option, Some}
+use Rattle.std.proofs.Common.{◌≡◌, ◌∙◌, ℕ, zero, suc, Bool, true, false, cond, not, ◌||◌, ◌&&◌, List, [], ◌∷◌, ◌++◌, length, refl, sym, ap, subst, Option, Some, None}
 use Rattle.std.specs.List.{slice_get, AllByRecursion}
 use Rattle.ca_base.specs.declared.placed.Placed.{Placed}
 use Rattle.ca_types.specs.declared.types.ValType.{ValType}
@@ -19,6 +19,7 @@ use Rattle.comp_tree.specs.declared.instances.Instance.TheVariants as made
 use Rattle.comp_tree.specs.declared.instances.Sort.{Sort}
 use Rattle.comp_tree.specs.declared.instances.AliasTarget.{AliasTarget}
 use Rattle.comp_tree.specs.declared.instances.AliasTarget.TheVariants as target
+use Rattle.comp_tree.specs.declared.types.DefType.{DefType, out-DefType}
 use Rattle.comp_tree.specs.declared.items.Canon.TheVariants.{Lift, Lower, Builtin}
 use Rattle.comp_tree.specs.declared.items.Item.{Item, out-Item}
 use Rattle.comp_tree.specs.declared.items.Item.TheOpen.{Item-F}
@@ -26,7 +27,8 @@ use Rattle.comp_tree.specs.declared.items.Component.{Component}
 use Rattle.link_spec.specs.Same.{same_val}
 use Rattle.link_spec.specs.Ends.{ends_case, is_of_ends, is_type_among, noted, noted_type, noted_kind}
 use Rattle.link_spec.specs.Spaces.{Spaces, Linking}
-use Rattle.link_spec.specs.Items.{core_instance_makes, instance_makes, alias_makes, makes_case}
+use Rattle.link_spec.specs.Resources.{resource_written}
+use Rattle.link_spec.specs.Items.{core_instance_makes, instance_makes, alias_makes, type_meaning, defined_makes, makes_case}
 use Rattle.link_spec.specs.Linked.{begun, with_instance, Links, leads_by_making, leads_by_instance, no_items, item_links, root_begun}
 use Rattle.link_spec.proofs.Holding.{all_push, all_weaker, last_there}
 use Rattle.link_spec.proofs.SameValues.{val_told}
@@ -189,13 +191,18 @@ alias_told l n s sort (target.InstanceExport instance name) new (d, is, of_sort,
 alias_told l n s sort (target.CoreInstanceExport instance name) new (item, is, of_sort, e) h = subst IsTold (sym e) h
 alias_told l n s sort (target.Outer up index) new (d, is, e) h = subst IsTold (sym e) h
 
+defined_told : (l : Linking) (n : ℕ) (s : Spaces) (written : Option (Option ℕ)) (type : DefType) (new : Linking) → defined_makes l n s written (type_meaning l n s type) new → IsTold l → IsTold new
+defined_told l n s (Some None) type new e h = subst IsTold (sym e) h
+defined_told l n s (Some (Some f)) type new (item, core, is, of_item, fits, e) h = subst IsTold (sym e) h
+defined_told l n s None type new (closed, is, e) h = subst IsTold (sym e) (type_told l.end_types l.canons closed h)
+
 case_told : (l : Linking) (n : ℕ) (s : Spaces) (shape : Item-F Item Component) (new : Linking) → makes_case l n s shape new → IsTold l → IsTold new
 case_told l n s (Item-F.CoreModule m) new e h = subst IsTold (sym e) h
 case_told l n s (Item-F.CoreInstance c) new k h = core_instance_told l n s c new k h
 case_told l n s (Item-F.Component c) new e h = subst IsTold (sym e) h
 case_told l n s (Item-F.Instance i) new k h = instance_told l n s i new k h
 case_told l n s (Item-F.Alias alias) new k h = alias_told l n s alias.sort alias.target new k h
-case_told l n s (Item-F.Type type) new (closed, is, e) h = subst IsTold (sym e) (type_told l.end_types l.canons closed h)
+case_told l n s (Item-F.Type type) new k h = defined_told l n s (resource_written (out-DefType type)) type new k h
 case_told l n s (Item-F.Canon (Lift f options t)) new (item, core, type, is, of_item, there, of_type, once, fits, e) h = subst IsTold (sym e) h
 case_told l n s (Item-F.Canon (Lower f options)) new (func, is, there, once, fits, e) h = subst IsTold (sym e) (one_more l.end_types l.canons _ h tt)
 case_told l n s (Item-F.Canon (Builtin b)) new (kind, there, is, serves, e) h = subst IsTold (sym e) (kind_told l.end_types l.canons n kind h)

@@ -12,7 +12,7 @@ use Rattle.comp_graph.specs.declared.graph.BuiltinKind.{BuiltinKind}
 use Rattle.comp_graph.specs.declared.graph.BuiltinKind.TheVariants as builtin
 use Rattle.comp_graph.specs.declared.graph.CanonFunc.{CanonFunc}
 use Rattle.comp_graph.specs.declared.graph.CanonFunc.TheVariants as canon_func
-use Rattle.comp_graph.specs.Closed.{Closed, Value, Func, Instance}
+use Rattle.comp_graph.specs.Closed.{Closed, Value, Func, Resource, Instance}
 use Rattle.comp_graph.specs.Graph.{ends_type, numbered_value}
 use Rattle.comp_graph.specs.Passed.{MayBeAt, TypeTable, HasCanonType, types_at}
 use Rattle.link_spec.specs.Same.{same_val}
@@ -92,6 +92,7 @@ pub type_noted : (t : Table) → AreApart t.values → (numbers : List ℕ) (typ
     → AreEndTypes t.values (with_number numbers (type_number t.values ref)) (noted_type types closed)
 type_noted t apart numbers types (type_ref.Value number) (Value v) h is = value_noted t.values apart numbers types number v h is
 type_noted t apart numbers types (type_ref.Func ref) (Func type) h is = h
+type_noted t apart numbers types (type_ref.Resource number) (Resource other) h is = h
 type_noted t apart numbers types (type_ref.Instance ref) (Instance externs) h is = h
 type_noted t apart numbers types ref closed h is = absurd is
 

@@ -2,11 +2,11 @@
 
 ghost use Rattle.std.specs.Prelude.{◌≡◌, map, option_to_list};
 ghost use Rattle.ca_types.specs.Flat.{at_most, flat_payload};
-ghost use Rattle.comp_graph.specs.Needs.{core_val, taking, word, callback_type, task_return_type};
+ghost use Rattle.comp_graph.specs.Needs.{core_val, taking, word, callback_type, destructor_type, task_return_type};
 ghost use Rattle.comp_graph.specs.Graph as graph;
 
 use crate::needs::PARAM_LIMIT;
-use builtin_kinds::{ContextOp, EndKind, PlainBuiltin};
+use builtin_kinds::{ContextOp, EndKind, PlainBuiltin, ResourceOp};
 use comp_graph::EndOp;
 use laid_types::LaidType;
 use link_core_types::{CoreFuncType, FewTypes, passed};
@@ -36,6 +36,25 @@ fn of_two_words(returned: Option<ValType>) -> CoreFuncType
     params.push(ValType::I32);
     params.push(ValType::I32);
     CoreFuncType::new(params, returned)
+}
+
+/// The type of the core function that is called with what a handle represents when it is dropped (Component Model, Explainer.md,
+/// "Type Definitions": `resourcetype`).
+pub fn destructor_type() -> CoreFuncType
+    ensures { result ≡ destructor_type }
+{
+    of_word(None)
+}
+
+/// The type of a built-in of a resource (Component Model, CanonicalABI.md, `canon resource.new` and its fellows).
+pub(crate) fn resource_type(op: ResourceOp) -> CoreFuncType
+    ensures { result ≡ graph.resource_type op }
+{
+    match op {
+        ResourceOp::New => of_word(Some(ValType::I32)),
+        ResourceOp::Drop => of_word(None),
+        ResourceOp::Rep => of_word(Some(ValType::I32)),
+    }
 }
 
 /// The type of a built-in that names nothing (Component Model, CanonicalABI.md, `canon task.cancel` and its fellows).

@@ -1,18 +1,21 @@
 //! Built-ins, with the types of their core functions, and what one comes to as it is written.
 
-ghost use Rattle.std.specs.Prelude.{◌≡◌, List, Some, IfOk, IfSome};
-ghost use Rattle.std.specs.Option.{option_map};
+ghost use Rattle.std.specs.Prelude.{◌≡◌, true, false, List, None, Some, IfOk, IfSome};
+ghost use Rattle.std.specs.Option.{option_map, option_map_or};
 ghost use Rattle.ca_types.specs.declared.types.ValType.{ValType};
 ghost use Rattle.comp_graph.specs.Graph.{builtin_type};
 ghost use Rattle.comp_graph.specs.declared.graph.BuiltinKind.TheVariants as builtin;
-ghost use Rattle.link_spec.specs.Builtins.{of_kind, none_such, context_meaning, wait_meaning};
+ghost use Rattle.link_spec.specs.Builtins.{of_kind, context_meaning, wait_meaning, resource_meaning};
+ghost use Rattle.link_spec.specs.Resources.{resource_numbered, resource_serves};
 ghost use Rattle.canon_types.specs.declared.builtins.Built.{Built};
 ghost use Rattle.canon_types.specs.Built.{IsBuilt, IsBuiltinMeaning};
 
-use crate::builtin_types::{context_type, end_type, plain_type, return_type, wait_type};
-use builtin_kinds::{ContextOp, EndKind, PlainBuiltin, WaitOp};
+use crate::builtin_types::{
+    context_type, end_type, plain_type, resource_type, return_type, wait_type,
+};
+use builtin_kinds::{ContextOp, EndKind, PlainBuiltin, ResourceOp, WaitOp};
 use ca_types::{Boxed, Shared, ValType};
-use comp_graph::{BuiltinKind, CoreRef, EndOp, Options, graph_number};
+use comp_graph::{BuiltinKind, CoreRef, EndOp, Options, Resource, graph_number};
 use laid_types::LaidType;
 use link_core_types::CoreFuncType;
 use std::alloc::{AllocError, Global};
@@ -38,13 +41,13 @@ pub struct BuiltinMeant {
     pub is_there: bool,
     /// What it is, where its types are such as it asks for.
     pub means: Option<Built>,
-    /// Whether its options, or its word of the task, serve it.
+    /// Whether its options, its word of the task, or its resource serve it.
     pub serves: bool,
 }
 
 /// One whose type is none such as it asks for, where its indices are there or not.
 pub fn no_builtin(is_there: bool) -> BuiltinMeant
-    ensures { (values : List ValType) → IsBuiltinMeaning values result (none_such is_there) }
+    ensures { (values : List ValType) → IsBuiltinMeaning values result (record { is_there = is_there; means = None; serves = true }) }
 {
     BuiltinMeant {
         is_there,
@@ -81,6 +84,66 @@ pub fn context_builtin(op: ContextOp, slot: u32) -> BuiltinMeant
         }),
         serves: slot < WORDS,
     }
+}
+
+/// The resource of a number, counted from 1.
+#[tactic(auto, using(crate::proofs::Numbered::none_numbered, crate::proofs::Numbered::one_numbered))]
+fn resource_numbered(resources: &[Resource], number: usize) -> Option<Resource>
+    ensures { result ≡ resource_numbered resources.now number }
+{
+    if number == 0 {
+        return None;
+    }
+    resources.get(number - 1).copied()
+}
+
+/// Whether a resource serves a built-in of the component instance of a number: the one that defines it makes handles of it and tells what
+/// they represent, and each one drops them.
+fn resource_serves(n: usize, op: ResourceOp, resource: Resource) -> bool
+    ensures { result ≡ resource_serves n op resource }
+{
+    match op {
+        ResourceOp::New => resource.instance as usize == n,
+        ResourceOp::Drop => true,
+        ResourceOp::Rep => resource.instance as usize == n,
+    }
+}
+
+/// The same of the resource of a number, if it is there.
+fn number_serves(resources: &[Resource], n: usize, op: ResourceOp, number: usize) -> bool
+    ensures { result ≡ option_map_or (resource_serves n op) (resource_numbered resources.now number) false }
+{
+    match resource_numbered(resources, number) {
+        Some(resource) => resource_serves(n, op, resource),
+        None => false,
+    }
+}
+
+/// A built-in of the component instance of a number, of the resource of a number, where its type is one of resources (Component Model,
+/// CanonicalABI.md, `canon resource.new` and its fellows). It fails for want of memory alone.
+pub fn resource_builtin(
+    resources: &[Resource],
+    n: usize,
+    is_there: bool,
+    op: ResourceOp,
+    number: Option<usize>,
+) -> Result<BuiltinMeant, AllocError>
+    ensures { IfOk result (λ m. (values : List ValType) → IsBuiltinMeaning values m (resource_meaning resources.now n is_there op number)) }
+{
+    let Some(number) = number else {
+        return Ok(no_builtin(is_there));
+    };
+    let serves = number_serves(resources, n, op, number);
+    let resource = graph_number(number)?;
+    Ok(BuiltinMeant {
+        is_there,
+        means: Some(Built {
+            kind: BuiltinKind::Resource { op, resource },
+            core_type: resource_type(op),
+            passed: None,
+        }),
+        serves,
+    })
 }
 
 /// A built-in that asks for an event of a set, which goes into this memory.

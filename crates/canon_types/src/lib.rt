@@ -18,10 +18,10 @@ mod func_types;
 mod needs;
 mod options;
 
-pub use builtin_types::callback_type;
+pub use builtin_types::{callback_type, destructor_type};
 pub use builtins::{
-    Built, BuiltinMeant, context_builtin, end_builtin, no_builtin, plain_builtin, return_builtin,
-    wait_builtin,
+    Built, BuiltinMeant, context_builtin, end_builtin, no_builtin, plain_builtin, resource_builtin,
+    return_builtin, wait_builtin,
 };
 pub use elements::{elements_of, lowers_list};
 pub use end_types::{EndNumbers, canon_number, note, type_number};

@@ -22,10 +22,11 @@ root_called k l P root live (bases, h) scope is called =
     subst P (sym here) (called (world_of bases k) s.0.exports h.instances (is bases l s.0 s.1).exports)
 
 pub graph_told : (k : Linker) (l : Linking) (g : Graph) → state.Stands k l → g.plan ≡ k.plan.items → g.instance_count ≡ length k.scopes.items → g.cores ≡ k.cores.makes
-    → g.canons ≡ k.canons.items → g.resources ≡ [] → g.exports ≡ map export_of (callables (exports_at l 0)) → g.lifts ≡ map lift_of (callables (exports_at l 0)) → g.end_types ≡ l.end_types → g ≡ graph_of l
+    → g.canons ≡ k.canons.items → g.resources ≡ k.resources.items → g.exports ≡ map export_of (callables (exports_at l 0)) → g.lifts ≡ map lift_of (callables (exports_at l 0)) → g.end_types ≡ l.end_types → g ≡ graph_of l
 graph_told k l g (bases, h) plan count cores canons resources exports lifts ends =
     let a : g.plan ≡ l.plan = plan ∙ sym h.plan in
     let b : g.instance_count ≡ length l.scopes = count ∙ sym (as_many bases k l h) in
     let c : g.cores ≡ l.cores = cores ∙ sym h.cores in
     let d : g.canons ≡ l.canons = canons ∙ sym h.canons in
-    λ x. (let made : Graph = record { plan = a x; instance_count = b x; cores = c x; canons = d x; resources = resources x; exports = exports x; lifts = lifts x; end_types = ends x } in made)
+    let e : g.resources ≡ l.resources = resources ∙ sym h.resources in
+    λ x. (let made : Graph = record { plan = a x; instance_count = b x; cores = c x; canons = d x; resources = e x; exports = exports x; lifts = lifts x; end_types = ends x } in made)

@@ -11,7 +11,7 @@ use Rattle.comp_tree.specs.declared.core_instances.CoreInstance.TheVariants as m
 use Rattle.comp_tree.specs.declared.items.CanonOption.{CanonOption}
 use Rattle.comp_graph.specs.declared.graph.FuncRef.{FuncRef}
 use Rattle.comp_graph.specs.CoreItems.{core_func_of}
-use Rattle.comp_graph.specs.Closed.{Closed, Value, Func, Instance}
+use Rattle.comp_graph.specs.Closed.{Closed, Value, Func, Resource, Instance}
 use Rattle.link_spec.specs.declared.fault.LinkWhy.{LinkWhy}
 use Rattle.link_spec.specs.declared.fault.LinkWhy.TheVariants as why
 use Rattle.link_spec.specs.Definitions.{CoreItem, Lifted}
@@ -85,11 +85,17 @@ module _ (n : ℕ) (s : Spaces) (f : ℕ) (options : List CanonOption) (t : ℕ)
           → lifted_of n s f options t ≡ Err why.Typing
       other_type table (type_ref.Value val) (Value type) other h of = rw (is, are, h) refl
       other_type table (type_ref.Instance ref) (Instance type) other h of = rw (is, are, h) refl
+      other_type table (type_ref.Resource number) (Resource own) other h of = rw (is, are, h) refl
       other_type table (type_ref.Func ref) type other h of = absurd (other ref refl)
       other_type table (type_ref.Value val) (Func type) other h of = absurd of
       other_type table (type_ref.Value val) (Instance type) other h of = absurd of
+      other_type table (type_ref.Value val) (Resource own) other h of = absurd of
+      other_type table (type_ref.Resource number) (Value type) other h of = absurd of
+      other_type table (type_ref.Resource number) (Func type) other h of = absurd of
+      other_type table (type_ref.Resource number) (Instance type) other h of = absurd of
       other_type table (type_ref.Instance ref) (Value type) other h of = absurd of
       other_type table (type_ref.Instance ref) (Func type) other h of = absurd of
+      other_type table (type_ref.Instance ref) (Resource own) other h of = absurd of
 
       pub of_parts : (type : Closed) (of_func : FuncType) → slice_get s.types t ≡ Some type → type ≡ Func of_func → lifted_of n s f options t ≡ lifted_to n of_func item options (given_by s options)
       of_parts type of_func h e = rw (is, are, h, e) refl
@@ -97,4 +103,5 @@ module _ (n : ℕ) (s : Spaces) (f : ℕ) (options : List CanonOption) (t : ℕ)
 pub of_func_type : (table : Table) (ref : FuncTypeRef) (type : Closed) → IsType table (type_ref.Func ref) type → (f : FuncType) × (type ≡ Func f) × IsFunc table ref f
 of_func_type table ref (Func f) is = (f, refl, is)
 of_func_type table ref (Value type) is = absurd is
+of_func_type table ref (Resource number) is = absurd is
 of_func_type table ref (Instance type) is = absurd is

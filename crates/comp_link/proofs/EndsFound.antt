@@ -1,7 +1,7 @@
 -- The types of ends, by their numbers.
 use Rattle.std.proofs.Common.{◌≡◌, ℕ, refl, Option, Some, None}
 use Rattle.std.specs.Option.{option_and_then}
-use Rattle.comp_graph.specs.Closed.{Closed, Value, Func, Instance, value_of}
+use Rattle.comp_graph.specs.Closed.{Closed, Value, Func, Resource, Instance, value_of}
 use Rattle.link_types.specs.declared.refs.TypeRef.{TypeRef}
 use Rattle.link_types.specs.declared.refs.TypeRef.TheVariants as type_ref
 use Rattle.link_types.specs.Table.{Table, IsValue, IsType}
@@ -11,6 +11,7 @@ use Rattle.link_meanings.specs.References.{value_ref}
 value_is : (t : Table) (ref : TypeRef) (c : Closed) → IsType t ref c → IsFoundAs (IsValue t) (value_ref ref) (value_of c)
 value_is t (type_ref.Value number) (Value v) h = (v, refl, h)
 value_is t (type_ref.Func ref) (Func type) h = refl
+value_is t (type_ref.Resource number) (Resource other) h = refl
 value_is t (type_ref.Instance ref) (Instance externs) h = refl
 value_is t ref c h = absurd h
 

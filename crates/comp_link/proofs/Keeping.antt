@@ -19,11 +19,15 @@ use Rattle.link_spec.specs.declared.fault.LinkWhy.{LinkWhy}
 use Rattle.link_spec.specs.declared.fault.LinkFault.{LinkFault}
 use Rattle.comp_graph.specs.declared.graph.FuncRef.TheVariants as func_ref
 use Rattle.comp_graph.specs.Graph.{canon_type, builtin_type}
+use Rattle.comp_tree.specs.declared.types.DefType.{out-DefType}
+use Rattle.comp_graph.specs.Closed.{Closed}
+use Rattle.link_spec.specs.Meaning.{Meaning}
+use Rattle.link_spec.specs.Resources.{resource_written}
 use Rattle.link_spec.specs.Definitions.{Func, Closure, Exports, exports_of}
 use Rattle.link_spec.specs.Ends.{noted_type}
 use Rattle.link_spec.specs.Spaces.{Spaces, Linking, new_spaces, with_spaces, with_ends, with_core_item, with_core_instance}
 use Rattle.link_spec.specs.Canons.{given_by}
-use Rattle.link_spec.specs.Items.{core_instance_makes, instance_makes, alias_makes, lowered_with, makes_case}
+use Rattle.link_spec.specs.Items.{core_instance_makes, instance_makes, alias_makes, defined_makes, type_meaning, lowered_with, makes_case}
 use Rattle.link_spec.specs.Linked.{begun, with_instance}
 use Rattle.link_spec.specs.Computed.{after, Outcome, Makes, Starts, item_outcome, Run, behind, placed_at, step, run, run_within}
 use Rattle.link_spec.specs.Laws.{IsOutcome}
@@ -53,13 +57,18 @@ alias_sets l n s sort (target.InstanceExport instance name) new (d, is, of_sort,
 alias_sets l n s sort (target.CoreInstanceExport instance name) new (item, is, of_sort, e) = set_by l n _ new e
 alias_sets l n s sort (target.Outer up index) new (d, is, e) = set_by l n _ new e
 
+type_sets : (l : Linking) (n : ℕ) (s : Spaces) (destructor : Option (Option ℕ)) (meaning : Meaning Closed) (new : Linking) → defined_makes l n s destructor meaning new → IsSet l n new
+type_sets l n s (Some None) meaning new e = (_, ap (λ (l : Linking). l.scopes) e)
+type_sets l n s (Some (Some f)) meaning new (item, core, is, of_item, of_type, e) = (_, ap (λ (l : Linking). l.scopes) e)
+type_sets l n s None meaning new (closed, is, e) = set_by (with_ends l (noted_type l.end_types closed)) n _ new e
+
 case_sets : (l : Linking) (n : ℕ) (s : Spaces) (shape : Item-F Item Component) (new : Linking) → makes_case l n s shape new → IsSet l n new
 case_sets l n s (Item-F.CoreModule m) new e = set_by l n _ new e
 case_sets l n s (Item-F.CoreInstance c) new h = core_instance_sets l n s c new h
 case_sets l n s (Item-F.Component c) new e = set_by l n _ new e
 case_sets l n s (Item-F.Instance i) new h = instance_sets l n s i new h
 case_sets l n s (Item-F.Alias alias) new h = alias_sets l n s alias.sort alias.target new h
-case_sets l n s (Item-F.Type type) new (closed, is, e) = set_by (with_ends l (noted_type l.end_types closed)) n _ new e
+case_sets l n s (Item-F.Type type) new h = type_sets l n s (resource_written (out-DefType type)) (type_meaning l n s type) new h
 case_sets l n s (Item-F.Canon (Lift f options t)) new (item, core, type, is, of_core, there, of_type, once, lifts, e) = set_by l n _ new e
 case_sets l n s (Item-F.Canon (Lower f options)) new (func, is, there, once, lowers, e) = (with_core_item s (Func (func_ref.Canon (length l.canons)) (canon_type (lowered_with n func (given_by s options)))), ap (λ (l : Linking). l.scopes) e)
 case_sets l n s (Item-F.Canon (Builtin b)) new (kind, there, is, serves, e) = (with_core_item s (Func (func_ref.Canon (length l.canons)) (builtin_type kind)), ap (λ (l : Linking). l.scopes) e)

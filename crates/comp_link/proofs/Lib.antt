@@ -1,6 +1,7 @@
 mod Calling
 pub mod CanonParts
 pub mod CoreParts
+mod EndsFound
 pub mod Growth
 mod Keeping
 pub mod LevelsSeen
@@ -8,6 +9,7 @@ pub mod Loops
 pub mod NamedSteps
 mod Passing
 mod Reaching
+mod ResourceParts
 pub mod Scopes
 pub mod SeenTold
 pub mod States
@@ -16,4 +18,3 @@ pub mod Told
 pub mod Wanting
 mod Whole
 pub mod Zips
-mod EndsFound

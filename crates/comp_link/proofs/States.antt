@@ -32,8 +32,8 @@ same_world w = record { components = λ number x h. h; bases = λ number x h. h;
 -- a state stays where the tables behind it have grown
 pub state_stays : (bases more : List Exports) (k m : Linker) (l : Linking)
     → Grows k.types m.types → WorldStays (world_of bases k) (world_of more m) → AreInstances m.types (world_of more m) m.instances
-    → m.scopes ≡ k.scopes → m.cores.makes ≡ k.cores.makes → m.canons ≡ k.canons → m.canon_types ≡ k.canon_types → m.plan ≡ k.plan → m.end_types ≡ k.end_types → IsState bases k l → IsState more m l
-state_stays bases more k m l types world instances scopes cores canons canon_types plan ends h = record {
+    → m.scopes ≡ k.scopes → m.cores.makes ≡ k.cores.makes → m.canons ≡ k.canons → m.canon_types ≡ k.canon_types → m.resources ≡ k.resources → m.plan ≡ k.plan → m.end_types ≡ k.end_types → IsState bases k l → IsState more m l
+state_stays bases more k m l types world instances scopes cores canons canon_types resources plan ends h = record {
   instances = instances;
   scopes = subst (λ (v : Linker). AllZip (IsKept m.types (world_of more m)) v.scopes.items l.scopes) (ap (λ scopes. record k { scopes = scopes }) (sym scopes))
       (zips_weaker (IsKept k.types (world_of bases k)) (IsKept m.types (world_of more m)) (kept_stays k.types m.types (world_of bases k) (world_of more m) types world) k.scopes.items l.scopes h.scopes);
@@ -42,6 +42,7 @@ state_stays bases more k m l types world instances scopes cores canons canon_typ
   canon_types = subst (λ (v : Linker). AreCanonTypes (type_table m.types) v.canon_types.items m.canons.items) (ap (λ canon_types. record k { canon_types = canon_types }) (sym canon_types))
       (subst (λ (v : Linker). AreCanonTypes (type_table m.types) k.canon_types.items v.canons.items) (ap (λ canons. record k { canons = canons }) (sym canons))
       (canons_stay k.types m.types types k.canon_types.items k.canons.items h.canon_types));
+  resources = h.resources ∙ ap (λ resources. resources.items) (sym resources);
   plan = h.plan ∙ ap (λ plan. plan.items) (sym plan);
   ends = subst (λ (numbers : List ℕ). AreEndTypes m.types.values numbers l.end_types) (sym ends) (ends_stay k.types m.types types k.end_types l.end_types h.ends);
 }
@@ -57,6 +58,7 @@ types_grow bases k m l grows same h = subst (λ (v : Linker). IsState bases v l)
       cores = h.cores;
       canons = h.canons;
       canon_types = canons_stay k.types m.types grows k.canon_types.items k.canons.items h.canon_types;
+      resources = h.resources;
       plan = h.plan;
       ends = ends_stay k.types m.types grows k.end_types l.end_types h.ends;
     }
@@ -96,6 +98,7 @@ scope_set bases k n l s next old new is within becomes at = record {
   cores = at.state.cores;
   canons = at.state.canons;
   canon_types = at.state.canon_types;
+  resources = at.state.resources;
   plan = at.state.plan;
   ends = at.state.ends;
 }
@@ -112,6 +115,7 @@ scope_ended bases k n l old new is within types components over h = record {
   cores = h.cores;
   canons = h.canons;
   canon_types = h.canon_types;
+  resources = h.resources;
   plan = h.plan;
   ends = h.ends;
 }
@@ -138,7 +142,7 @@ last_live k m n more is = last_is (ended k) (ended m) false n more (is ∙ sym (
 
 -- other types of streams and futures
 pub ends_noted : (bases : List Exports) (k : Linker) (l : Linking) (numbers : List ℕ) (types : List ValType) → AreEndTypes k.types.values numbers types → IsState bases k l → IsState bases (record k { end_types = numbers }) (with_ends l types)
-ends_noted bases k l numbers types ends h = record { instances = h.instances; scopes = h.scopes; cores = h.cores; canons = h.canons; canon_types = h.canon_types; plan = h.plan; ends = ends }
+ends_noted bases k l numbers types ends h = record { instances = h.instances; scopes = h.scopes; cores = h.cores; canons = h.canons; canon_types = h.canon_types; resources = h.resources; plan = h.plan; ends = ends }
 
 -- more components, and more core modules
 pub components_more : (bases : List Exports) (k m : Linker) (n : ℕ) (l : Linking) (s : Spaces) (c : Closure)
@@ -156,7 +160,7 @@ components_more bases k m n l s c same is at = subst (λ (v : Linker). IsAt base
     }
 
     state : IsState bases (record k { components = m.components }) l
-    state = state_stays bases bases k (record k { components = m.components }) l (grows_refl k.types) stays (instances_stay k.types k.types (world_of bases k) world (grows_refl k.types) stays k.instances refl at.state.instances) refl refl refl refl refl refl at.state
+    state = state_stays bases bases k (record k { components = m.components }) l (grows_refl k.types) stays (instances_stay k.types k.types (world_of bases k) world (grows_refl k.types) stays k.instances refl at.state.instances) refl refl refl refl refl refl refl at.state
 
 pub modules_more : (bases : List Exports) (k m : Linker) (n : ℕ) (l : Linking) (s : Spaces) (made : ModuleTree)
     → m ≡ record k { cores = m.cores } → m.cores ≡ record k.cores { modules = k.cores.modules ++ made ∷ [] } → IsAt bases k n l s → IsAt bases m n l s
@@ -173,13 +177,13 @@ modules_more bases k m n l s made same is at = subst (λ (v : Linker). IsAt base
     }
 
     state : IsState bases (record k { cores = m.cores }) l
-    state = state_stays bases bases k (record k { cores = m.cores }) l (grows_refl k.types) stays (instances_stay k.types k.types (world_of bases k) world (grows_refl k.types) stays k.instances refl at.state.instances) refl (ap (λ (cs : CoreLists). cs.makes) is) refl refl refl refl at.state
+    state = state_stays bases bases k (record k { cores = m.cores }) l (grows_refl k.types) stays (instances_stay k.types k.types (world_of bases k) world (grows_refl k.types) stays k.instances refl at.state.instances) refl (ap (λ (cs : CoreLists). cs.makes) is) refl refl refl refl refl at.state
 
 -- one instance more
 pub instance_more : (bases : List Exports) (k m : Linker) (l : Linking) (exports : Exports)
     → m ≡ record k { instances = m.instances } → AreInstances k.types (with_base (world_of bases k) exports) m.instances → IsState bases k l → IsState (bases ++ exports ∷ []) m l
 instance_more bases k m l exports same instances h = subst (λ (v : Linker). IsState (bases ++ exports ∷ []) v l) (sym same)
-    (state_stays bases (bases ++ exports ∷ []) k (record k { instances = m.instances }) l (grows_refl k.types) (more_bases (world_of bases k) exports) instances refl refl refl refl refl refl h)
+    (state_stays bases (bases ++ exports ∷ []) k (record k { instances = m.instances }) l (grows_refl k.types) (more_bases (world_of bases k) exports) instances refl refl refl refl refl refl refl h)
 
 -- an instance that was there, or is one more
 pub instance_given : (bases : List Exports) (k m : Linker) (l : Linking) (i : InstanceRef) (exports : Exports)
@@ -187,7 +191,7 @@ pub instance_given : (bases : List Exports) (k m : Linker) (l : Linking) (i : In
 instance_given bases k m l i exports same gives h = subst (λ (v : Linker). IsThere v l i exports) (sym same) (by gives)
   where
     by : GivesInstance k.types (world_of bases k) m.instances i exports → IsThere (record k { instances = m.instances }) l i exports
-    by (inl has) = record { bases = bases; state = record { instances = has.are; scopes = h.scopes; cores = h.cores; canons = h.canons; canon_types = h.canon_types; plan = h.plan; ends = h.ends }; instance = has.is }
+    by (inl has) = record { bases = bases; state = record { instances = has.are; scopes = h.scopes; cores = h.cores; canons = h.canons; canon_types = h.canon_types; resources = h.resources; plan = h.plan; ends = h.ends }; instance = has.is }
     by (inr has) = record {
       bases = bases ++ exports ∷ [];
       state = instance_more bases k (record k { instances = m.instances }) l exports refl has.are h;

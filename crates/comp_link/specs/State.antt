@@ -1,6 +1,6 @@
 -- Linking as it stands (Component Model, Explainer.md, "Index Spaces"): the component instances that have begun, with their index
--- spaces as references into tables, the core instances, the core functions of the Canonical ABI, the plan, and the types of streams and
--- futures. What stands behind the references is told by the lists of exports that the instances so far have.
+-- spaces as references into tables, the core instances, the core functions of the Canonical ABI, the resources, the plan, and the types
+-- of streams and futures. What stands behind the references is told by the lists of exports that the instances so far have.
 use Rattle.std.specs.Prelude.{◌≡◌, ℕ, Bool, false, List, map, Option, Some, None}
 use Rattle.std.specs.List.{slice_get, AllZip}
 use Rattle.wasm_module.specs.declared.module.ModuleTree.{ModuleTree}
@@ -78,6 +78,7 @@ pub record IsState (bases : List Exports) (k : Linker) (l : Linking) : Type 0 wh
   pub cores : l.cores ≡ k.cores.makes
   pub canons : l.canons ≡ k.canons.items
   pub canon_types : AreCanonTypes (type_table k.types) k.canon_types.items k.canons.items
+  pub resources : l.resources ≡ k.resources.items
   pub plan : l.plan ≡ k.plan.items
   pub ends : AreEndTypes k.types.values k.end_types l.end_types
 

@@ -1,6 +1,6 @@
 //! Linking of built-ins.
 
-ghost use Rattle.std.specs.Prelude.{◌≡◌, ◌<◌, ◌&&◌, false, nat_lt, List, map, Option, Some, IfOk, OnOk, length};
+ghost use Rattle.std.specs.Prelude.{◌≡◌, ◌<◌, ◌&&◌, ℕ, false, nat_lt, List, map, Option, Some, IfOk, OnOk, length};
 ghost use Rattle.std.specs.List.{slice_get};
 ghost use Rattle.std.specs.Option.{option_and_then};
 ghost use Rattle.ca_types.specs.declared.types.ValType.{ValType};
@@ -27,12 +27,13 @@ ghost use Rattle.comp_link.specs.Told.{IsTold};
 use crate::ends::end_at;
 use crate::link_fault::ItemError;
 use crate::linker::Linker;
+use crate::resources::resource_at;
 use crate::scope::Scope;
 use crate::used::can_be_used;
 use builtin_kinds::WaitOp;
 use ca_base::MemoryOr;
 use canon_types::{
-    Built, BuiltinMeant, context_builtin, held_type, no_builtin, plain_builtin, return_builtin,
+    Built, BuiltinMeant, context_builtin, held_type, plain_builtin, return_builtin,
     return_needs_memory, stand_once, wait_builtin,
 };
 use comp_graph::CoreRef;
@@ -63,7 +64,7 @@ fn memory_at(scope: &Scope<'_>, memory: u32) -> Option<CoreRef>
 
 /// What a built-in comes to that asks for an event, which goes into the memory of an index.
 fn wait_at(scope: &Scope<'_>, op: WaitOp, cancellable: bool, memory: u32) -> BuiltinMeant
-    ensures { (values : List ValType) (t : Table) (w : World) (s : Spaces) → IsScope t w scope.now s → IsBuiltinMeaning values result (builtin_meaning s (read_builtin.Wait op cancellable memory)) }
+    ensures { (values : List ValType) (t : Table) (w : World) (l : Linking) (n : ℕ) (s : Spaces) → IsScope t w scope.now s → IsBuiltinMeaning values result (builtin_meaning l n s (read_builtin.Wait op cancellable memory)) }
 {
     let is_there = (memory as usize) < scope.core_size(CoreSort::Memory);
     let found = memory_at(scope, memory);
@@ -138,7 +139,7 @@ fn return_at(
     options: &[CanonOption],
 ) -> Result<BuiltinMeant, AllocError>
     requires { n < length linker.old.scopes.items }
-    ensures means { IfOk result (λ m. (bases : List Exports) (l : Linking) (s : Spaces) → IsAt bases linker.old n l s → IsBuiltinMeaning linker.new.types.values m (builtin_meaning s (read_builtin.TaskReturn returned options.now))) }
+    ensures means { IfOk result (λ m. (bases : List Exports) (l : Linking) (s : Spaces) → IsAt bases linker.old n l s → IsBuiltinMeaning linker.new.types.values m (builtin_meaning l n s (read_builtin.TaskReturn returned options.now))) }
     ensures at { (bases : List Exports) (l : Linking) (s : Spaces) → IsAt bases linker.old n l s → IsAt bases linker.new n l s }
     ensures scopes { linker.new.scopes ≡ linker.old.scopes }
 {
@@ -157,7 +158,7 @@ fn meaning_at(
     builtin: &CanonBuiltin,
 ) -> Result<BuiltinMeant, AllocError>
     requires { n < length linker.old.scopes.items }
-    ensures means { IfOk result (λ m. (bases : List Exports) (l : Linking) (s : Spaces) → IsAt bases linker.old n l s → IsBuiltinMeaning linker.new.types.values m (builtin_meaning s builtin.now)) }
+    ensures means { IfOk result (λ m. (bases : List Exports) (l : Linking) (s : Spaces) → IsAt bases linker.old n l s → IsBuiltinMeaning linker.new.types.values m (builtin_meaning l n s builtin.now)) }
     ensures at { (bases : List Exports) (l : Linking) (s : Spaces) → IsAt bases linker.old n l s → IsAt bases linker.new n l s }
     ensures scopes { linker.new.scopes ≡ linker.old.scopes }
 {
@@ -173,9 +174,7 @@ fn meaning_at(
             result: returned,
             options,
         } => return_at(alloc, linker, n, *returned, options.as_slice()),
-        CanonBuiltin::Resource { op: _, resource } => {
-            Ok(no_builtin(type_is_there(linker.scope(n), *resource)))
-        }
+        CanonBuiltin::Resource { op, resource } => resource_at(&*linker, n, *op, *resource),
         CanonBuiltin::End { kind, end_type, op } => end_at(
             alloc, &*linker, n, *kind, *end_type, op,
         ),
@@ -190,7 +189,7 @@ fn built(
     builtin: &CanonBuiltin,
 ) -> Result<Built, ItemError>
     requires { n < length linker.old.scopes.items }
-    ensures told { (bases : List Exports) (l : Linking) (s : Spaces) → IsAt bases linker.old n l s → IsTold (λ (b : Built) outcome. IsBuilt linker.new.types.values b × (outcome ≡ Makes (builtin_made l n s b.kind))) result (builtin_outcome l n s (builtin_meaning s builtin.now)) }
+    ensures told { (bases : List Exports) (l : Linking) (s : Spaces) → IsAt bases linker.old n l s → IsTold (λ (b : Built) outcome. IsBuilt linker.new.types.values b × (outcome ≡ Makes (builtin_made l n s b.kind))) result (builtin_outcome l n s (builtin_meaning l n s builtin.now)) }
     ensures at { (bases : List Exports) (l : Linking) (s : Spaces) → IsAt bases linker.old n l s → IsAt bases linker.new n l s }
     ensures scopes { linker.new.scopes ≡ linker.old.scopes }
 {
@@ -220,7 +219,7 @@ pub fn link_builtin(
     builtin: &CanonBuiltin,
 ) -> Result<(), ItemError>
     requires { n < length linker.old.scopes.items }
-    ensures made { (bases : List Exports) (l : Linking) (s : Spaces) → IsAt bases linker.old n l s → IsTold (λ _ outcome. IsMade linker.new outcome) result (builtin_outcome l n s (builtin_meaning s builtin.now)) }
+    ensures made { (bases : List Exports) (l : Linking) (s : Spaces) → IsAt bases linker.old n l s → IsTold (λ _ outcome. IsMade linker.new outcome) result (builtin_outcome l n s (builtin_meaning l n s builtin.now)) }
     ensures scopes { OnOk result (length linker.new.scopes.items ≡ length linker.old.scopes.items) }
     ensures live { OnOk result (ended linker.new ≡ ended linker.old) }
 {

@@ -61,7 +61,7 @@ fn ends_number(found: Option<TypeRef>) -> Option<usize>
 {
     match found? {
         TypeRef::Value(number) => Some(number),
-        TypeRef::Func(_) | TypeRef::Instance(_) => None,
+        TypeRef::Func(_) | TypeRef::Resource(_) | TypeRef::Instance(_) => None,
     }
 }
 
@@ -165,7 +165,7 @@ pub fn end_at(
     op: &CanonEndOp,
 ) -> Result<BuiltinMeant, AllocError>
     requires { n < length linker.now.scopes.items }
-    ensures { IfOk result (λ m. (bases : List Exports) (l : Linking) (s : Spaces) → IsAt bases linker.now n l s → IsBuiltinMeaning linker.now.types.values m (builtin_meaning s (read_builtin.End kind end_type op.now))) }
+    ensures { IfOk result (λ m. (bases : List Exports) (l : Linking) (s : Spaces) → IsAt bases linker.now n l s → IsBuiltinMeaning linker.now.types.values m (builtin_meaning l n s (read_builtin.End kind end_type op.now))) }
 {
     let scope = linker.scope(n);
     let is_there = end_is_there(scope, end_type, op);

@@ -39,7 +39,6 @@ pub fn graph_of<'a>(alloc: Global, linker: Linker<'a>) -> Result<Graph<'a>, Allo
 {
     let funcs = graph_funcs(alloc, &linker)?;
     let count = graph_number(linker.scopes.len())?;
-    let resources = Seq::new(alloc);
     let types = GraphTypes {
         types: linker.types.into_func_types(),
         canons: Seq::from_vec(linker.canon_types),
@@ -51,7 +50,7 @@ pub fn graph_of<'a>(alloc: Global, linker: Linker<'a>) -> Result<Graph<'a>, Allo
         count,
         linker.cores.into_makes(),
         Seq::from_vec(linker.canons),
-        resources,
+        Seq::from_vec(linker.resources),
         Seq::from_vec(funcs.exports),
         Seq::from_vec(funcs.lifts),
         types,

@@ -6,8 +6,8 @@
 //! either.
 //!
 //! - `linking`: from a component to its graph, item by item
-//! - `core_instances`, `core_aliases`, `lifts`, `lowers`, `builtins`, `ends`, `aliases`, `types`, `instances`, `imports` and `exports`: what
-//!   each kind of item makes
+//! - `core_instances`, `core_aliases`, `lifts`, `lowers`, `builtins`, `ends`, `resources`, `aliases`, `types`, `instances`, `imports` and
+//!   `exports`: what each kind of item makes
 //! - `used`: what lowers and built-ins use of what options give
 //! - `named` and `seen`: definitions under names, and definitions as they are asked for
 //! - `linker`, of `scope` and `canons`: linking as it stands, the index spaces of a component instance, and the core functions that
@@ -32,6 +32,7 @@ mod linker;
 mod linking;
 mod lowers;
 mod named;
+mod resources;
 mod scope;
 mod seen;
 mod types;

@@ -13,6 +13,7 @@ ghost use Rattle.link_spec.specs.Definitions.{CoreItem, extern_of, Lifted, Closu
 ghost use Rattle.link_spec.specs.Tests.{are_types};
 ghost use Rattle.link_spec.specs.Spaces.{Spaces, Linking, with_core_item, with_core_instance, with_definition, with_spaces};
 ghost use Rattle.link_spec.specs.Canons.{Given, options_of};
+ghost use Rattle.link_spec.specs.Resources.{with_resource};
 ghost use Rattle.link_spec.specs.Items.{core_made, type_made, with_canon, lower_made, builtin_made, with_import, with_export};
 ghost use Rattle.link_spec.specs.Linked.{root_begun, begun, with_instance};
 ghost use Rattle.link_spec.specs.Computed.{imports_outcome};
@@ -31,7 +32,9 @@ use crate::scope::{Scope, Standing};
 use ca_base::{Name, Seq};
 use ca_types::Shared;
 use canon_types::{Built, EndNumbers, canon_number, lower_type, note, type_number};
-use comp_graph::{Action, Builtin, CanonFunc, CoreExtern, Options, graph_number};
+use comp_graph::{
+    Action, Builtin, CanonFunc, CoreExtern, FuncRef, Options, Resource, graph_number,
+};
 use comp_tree::{Component, CoreArgument};
 use link_core_exports::{CoreExports, CoreItem, CoreModule, Cores, InlineExports};
 use link_core_types::CoreFuncType;
@@ -62,6 +65,8 @@ pub struct Linker<'a> {
     pub canons: Vec<CanonFunc>,
     /// The number of the type of the function that each of them calls, or of the values that it passes, if it has one.
     pub canon_types: Vec<Option<u32>>,
+    /// The resources, in order of making.
+    pub resources: Vec<Resource>,
     /// What is made, in file order.
     pub plan: Vec<Action>,
     /// The numbers of the types of streams and futures that components define and built-ins name.
@@ -88,6 +93,7 @@ impl<'a> Linker<'a> {
             cores: Cores::new(alloc),
             canons: Vec::new(alloc),
             canon_types: Vec::new(alloc),
+            resources: Vec::new(alloc),
             plan,
             end_types: EndNumbers::new(alloc),
         })
@@ -196,6 +202,23 @@ impl<'a> Linker<'a> {
         ensures live { OnOk result (ended self.new ≡ ended self.old) }
     {
         self.scopes[n].add(definition)?;
+        Ok(())
+    }
+
+    /// Adds a resource that a component instance defines, with this destructor, if it has one: one type more.
+    pub fn add_resource(&mut self, n: usize, destructor: Option<FuncRef>) -> Result<(), AllocError>
+        requires { n < length self.old.scopes.items }
+        ensures ok { OnOk result ((bases : List Exports) (l : Linking) (s : Spaces) → IsAt bases self.old n l s → IsState bases self.new (with_resource l n s destructor)) }
+        ensures scopes { OnOk result (length self.new.scopes.items ≡ length self.old.scopes.items) }
+        ensures live { OnOk result (ended self.new ≡ ended self.old) }
+    {
+        let instance = graph_number(n)?;
+        let before = self.resources.len();
+        self.resources.push(Resource {
+            instance,
+            destructor,
+        })?;
+        self.add(n, DefinitionRef::Type(TypeRef::Resource(before + 1)))?;
         Ok(())
     }
 

@@ -2,10 +2,13 @@
 
 ghost use Rattle.std.specs.Prelude.{◌≡◌, ◌<◌, ◌∷◌, ◌++◌, [], ℕ, List, length, OnOk, IfOk};
 ghost use Rattle.std.specs.List.{AllZip};
+ghost use Rattle.comp_tree.specs.declared.types.DefType.{out-DefType};
 ghost use Rattle.link_spec.specs.Definitions.{Exports};
 ghost use Rattle.link_spec.specs.Spaces.{Spaces, Linking, levels_at};
 ghost use Rattle.link_spec.specs.Types as types_read;
-ghost use Rattle.link_spec.specs.Computed.{type_outcome};
+ghost use Rattle.link_spec.specs.Resources.{resource_written};
+ghost use Rattle.link_spec.specs.Items.{type_meaning};
+ghost use Rattle.link_spec.specs.Computed.{type_outcome, defined_outcome};
 ghost use Rattle.link_types.specs.Table.{Table, IsType};
 ghost use Rattle.link_instances.specs.References.{World};
 ghost use Rattle.link_meanings.specs.Meant.{IsMeaning};
@@ -16,6 +19,7 @@ ghost use Rattle.comp_link.specs.Ready.{IsTyped};
 
 use crate::link_fault::{ItemError, missing};
 use crate::linker::{Linker, item_numbered};
+use crate::resources::{link_resource, resource_written};
 use crate::scope::Scope;
 use ca_base::MemoryOr;
 use comp_tree::DefType;
@@ -113,8 +117,8 @@ fn type_meant<'a>(
     Ok(closed)
 }
 
-/// Links a type.
-pub fn link_type<'a>(
+/// Links a type that is none of resources.
+fn link_closed<'a>(
     alloc: Global,
     linker: &mut Linker<'a>,
     n: usize,
@@ -128,4 +132,22 @@ pub fn link_type<'a>(
     let meant = type_meant(alloc, linker, n, def_type)?;
     linker.add_type(n, meant)?;
     Ok(())
+}
+
+/// Links a type.
+pub fn link_type<'a>(
+    alloc: Global,
+    linker: &mut Linker<'a>,
+    n: usize,
+    def_type: &'a DefType,
+) -> Result<(), ItemError>
+    requires { n < length linker.old.scopes.items }
+    ensures made { (bases : List Exports) (l : Linking) (s : Spaces) → IsAt bases linker.old n l s → IsTold (λ _ outcome. IsMade linker.new outcome) result (defined_outcome l n s (resource_written (out-DefType def_type.now)) (type_meaning l n s def_type.now)) }
+    ensures scopes { OnOk result (length linker.new.scopes.items ≡ length linker.old.scopes.items) }
+    ensures live { OnOk result (ended linker.new ≡ ended linker.old) }
+{
+    match resource_written(def_type) {
+        Some(destructor) => link_resource(linker, n, destructor),
+        None => link_closed(alloc, linker, n, def_type),
+    }
 }

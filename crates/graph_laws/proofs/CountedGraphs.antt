@@ -13,6 +13,7 @@ use Rattle.comp_tree.specs.declared.types.DefType.{DefType}
 use Rattle.comp_tree.specs.declared.items.Item.{Item}
 use Rattle.comp_tree.specs.declared.items.Item.TheOpen.{Item-F}
 use Rattle.comp_tree.specs.declared.items.Component.{Component}
+use Rattle.comp_graph.specs.declared.graph.Resource as defined
 use Rattle.comp_graph.specs.declared.graph.CanonFunc.{CanonFunc}
 use Rattle.comp_graph.specs.Graph.{Graph}
 use Rattle.comp_graph.specs.Closed.{Closed, OfFunc, OfType, OfInstance, Externs, EmptyType, WithExtern, func_of}
@@ -55,6 +56,7 @@ module _ (ends many : Bool) where
     type = (IsCounted ends many);
     items = TypesHave;
     canon = λ (f : CanonFunc). HasCountedTypes (called_type f);
+    resource = λ (r : defined.Resource). Unit {0};
   }
 
   -- Types.
@@ -97,6 +99,7 @@ module _ (ends many : Bool) where
     others = λ placed items h. behind_have ends many placed items h;
     components = λ c h. h;
     types = type_counted;
+    resources = λ l n type index core has is. (tt, tt);
     asked = asked_counted;
     lifts = λ n s f options t type core has k of_type. func_counted s t type k of_type;
     lowers = λ n s f options func has k. k;

@@ -158,10 +158,10 @@ module _ (ends many : Bool) where
   folded_decl = fold-InstanceDecl InLevels (List Level → Declared → Declared) type_step decl_step
 
   abbrev few_type : DefType → Bool
-  few_type = fold-DefType Bool Bool (few_step ends many) few_decl_step
+  few_type = fold-DefType Bool Bool (few_step ends many) (few_decl_step ends)
 
   abbrev few_decl : InstanceDecl → Bool
-  few_decl = fold-InstanceDecl Bool Bool (few_step ends many) few_decl_step
+  few_decl = fold-InstanceDecl Bool Bool (few_step ends many) (few_decl_step ends)
 
   abbrev TypeGives : DefType → Type 0
   TypeGives type = few_type type ≡ true → Gives (folded_type type)
@@ -199,7 +199,7 @@ module _ (ends many : Bool) where
       instance_counted (declared_by levels nothing_declared (map folded_decl (map (λ (e : DeclAnd). e.0) decls))) (decls_counted levels nothing_declared decls few k (record { types = tt; instances = tt; so_far = tt }))
   type_stepped (DefType-F.Resource destructor) few levels k = tt
 
-  decl_stepped : (y : InstanceDecl-F TypeAnd DeclAnd) → few_decl_step (map-InstanceDecl DefType InstanceDecl Bool Bool few_type few_decl (decl_layer y)) ≡ true
+  decl_stepped : (y : InstanceDecl-F TypeAnd DeclAnd) → few_decl_step ends (map-InstanceDecl DefType InstanceDecl Bool Bool few_type few_decl (decl_layer y)) ≡ true
       → Keeps (decl_step (map-InstanceDecl DefType InstanceDecl InLevels (List Level → Declared → Declared) folded_type folded_decl (decl_layer y)))
   decl_stepped (InstanceDecl-F.Type type) few around d k h = type_counted d (folded_type type.0 (own_level d ∷ around)) h (type.1 few (own_level d ∷ around) (h.types, k))
   decl_stepped (InstanceDecl-F.Alias alias) few around d k h = alias_counted around d alias.sort alias.target k h
@@ -208,12 +208,12 @@ module _ (ends many : Bool) where
   type_folded : (y : DefType-F TypeAnd DeclAnd) → TypeGives (roll-DefType (type_layer y))
   type_folded y few =
       subst Gives (sym (fold-roll-DefType InLevels (List Level → Declared → Declared) type_step decl_step (type_layer y)))
-      (type_stepped y (sym (fold-roll-DefType Bool Bool (few_step ends many) few_decl_step (type_layer y)) ∙ few))
+      (type_stepped y (sym (fold-roll-DefType Bool Bool (few_step ends many) (few_decl_step ends) (type_layer y)) ∙ few))
 
   decl_folded : (y : InstanceDecl-F TypeAnd DeclAnd) → DeclKeeps (roll-InstanceDecl (decl_layer y))
   decl_folded y few =
       subst Keeps (sym (fold-roll-InstanceDecl InLevels (List Level → Declared → Declared) type_step decl_step (decl_layer y)))
-      (decl_stepped y (sym (fold-roll-InstanceDecl Bool Bool (few_step ends many) few_decl_step (decl_layer y)) ∙ few))
+      (decl_stepped y (sym (fold-roll-InstanceDecl Bool Bool (few_step ends many) (few_decl_step ends) (decl_layer y)) ∙ few))
 
   meaning_gives : (type : DefType) → TypeGives type
   meaning_gives =

@@ -31,7 +31,7 @@ use Rattle.comp_tree.specs.declared.types.Field as read_field
 use Rattle.comp_tree.specs.declared.types.Case as read_case
 use Rattle.comp_tree.specs.declared.types.Param as read_param
 use Rattle.comp_tree.specs.declared.types.FuncType as read_func
-use Rattle.comp_graph.specs.Closed.{Closed, Value, Func, Instance, Extern, OfFunc, OfType, OfInstance, Externs, EmptyType, WithExtern, extern_named, first_of, externs_of, func_of, value_of}
+use Rattle.comp_graph.specs.Closed.{Closed, Value, Func, Instance, Resource, Extern, OfFunc, OfType, OfInstance, Externs, EmptyType, WithExtern, extern_named, first_of, externs_of, func_of, value_of}
 use Rattle.link_spec.specs.Shallow.{depth_limit}
 use Rattle.link_spec.specs.Meaning.{absent, meant, too_deep, found}
 use Rattle.link_spec.specs.ValueTypes.{primitive, close_val, close_held, close_all, close_field, close_case, close_parts, is_well_made, are_labels, parts_within, close_def, capped, value_meaning}
@@ -66,6 +66,7 @@ module _ (ends many : Bool) where
     IsCounted (Value type) = IsCountedType type
     IsCounted (Func type) = HasCountedTypes type
     IsCounted (Instance externs) = AreCounted externs
+    IsCounted (Resource number) = Unit {0}
 
     pub IsExternCounted : Extern → Type 0
     IsExternCounted (OfFunc type) = HasCountedTypes type
@@ -104,6 +105,7 @@ module _ (ends many : Bool) where
   of_value_counted (Value type) h = h
   of_value_counted (Func type) h = tt
   of_value_counted (Instance externs) h = tt
+  of_value_counted (Resource number) h = tt
 
   val_counted : (types : List (Option Closed)) (type : ValTypeRef) → AllByRecursion IsKnownCounted types → IfSome (close_val types type) IsCountedType
   val_counted types (type_ref.Primitive type) h = leaf_counted type
@@ -263,11 +265,13 @@ module _ (ends many : Bool) where
   of_func_counted (Value type) h = tt
   of_func_counted (Func type) h = h
   of_func_counted (Instance externs) h = tt
+  of_func_counted (Resource number) h = tt
 
   of_externs_counted : (type : Closed) → IsCounted type → IfSome (externs_of type) AreCounted
   of_externs_counted (Value type) h = tt
   of_externs_counted (Func type) h = tt
   of_externs_counted (Instance externs) h = h
+  of_externs_counted (Resource number) h = tt
 
   pub desc_counted : (types : List (Option Closed)) (asked : ExternDesc) → AllByRecursion IsKnownCounted types → IfSome (desc_meaning types asked).means IsExternCounted
   desc_counted types (desc.Func index) h =

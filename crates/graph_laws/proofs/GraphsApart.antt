@@ -23,7 +23,7 @@ use Rattle.canonical_machine.specs.Sound.{HasBytes, Makes}
 use Rattle.canonical_machine.specs.Owners.{AreOptionsOf, IsLiftApart, IsCanonApart}
 use Rattle.graph_laws.specs.Laws.{IsSoundModule, HasSoundModules, LinkedGraphsAreSound, PlansMakeInOrder, LinkedGraphsAreApart}
 use Rattle.graph_laws.proofs.Owning.{made_by, KeepsOwners, OwnsOptions, OwnsLift, OwnsCanon, IsOwnGraph, IsFuncApart, AreDefinedApart, AreSpacesApart, IsLinkingApart, IsReachedApart}
-use Rattle.graph_laws.proofs.Keeping.{kept_canons, kept_lifts, kept_imports, kept_spaces, keeps_itself, keeps_through}
+use Rattle.graph_laws.proofs.Keeping.{kept_canons, kept_destructors, kept_lifts, kept_imports, kept_spaces, keeps_itself, keeps_through}
 use Rattle.graph_laws.proofs.Places.{at_push, begins_behind}
 use Rattle.graph_laws.proofs.SpacesApart.{with_defined_apart, new_apart, are_named_apart}
 use Rattle.graph_laws.proofs.ItemsApart.{with_spaces_apart, case_reached}
@@ -36,6 +36,7 @@ begun_apart l n s item c arguments h k b = record {
       (new_apart (made_by l) (length l.scopes) (Some arguments) c.around (are_named_apart (made_by l) n s EmptyInstance b.named arguments k tt b.given)) h.scopes;
   imports = h.imports;
   lowers = h.lowers;
+  destructors = h.destructors;
   planned = begins_behind (length l.scopes) 0 l.plan l.cores h.planned;
 }
 
@@ -74,6 +75,7 @@ root_apart = record {
   scopes = at_push (AreSpacesApart (made_by root_begun)) [] (new_spaces None []) (new_apart (made_by root_begun) 0 None [] tt) (λ k s e. cc);
   imports = tt;
   lowers = tt;
+  destructors = tt;
   planned = refl;
 }
 
@@ -106,7 +108,7 @@ graph_own l h = record {
       kept_lifts (made_by l) (graph_of l) (keeps_graph l) (map lift_of (callables (exports_at l 0)))
       (all_mapped lift_of (OwnsLift (made_by l)) (callables (exports_at l 0)) (callables_apart (made_by l) (exports_at l 0) (exports_apart l 0 h)));
   canons = kept_canons (made_by l) (graph_of l) (keeps_graph l) l.canons h.lowers;
-  resources = tt;
+  resources = kept_destructors (made_by l) (graph_of l) (keeps_graph l) l.resources h.destructors;
 }
 
 pub linked_graphs_own : (c : Component) (g : Graph) → IsLinked c g → IsOwnGraph g

@@ -1,5 +1,5 @@
 -- What an item makes of a linking that is apart is apart, and each component instance keeps what it owns.
-use Rattle.std.proofs.Common.{◌≡◌, ◌∙◌, ℕ, List, [], ◌∷◌, ◌++◌, length, map, refl, sym, ap, subst, arith, Option, Some, None}
+use Rattle.std.proofs.Common.{◌≡◌, ◌∙◌, ℕ, suc, List, [], ◌∷◌, ◌++◌, length, map, refl, sym, ap, subst, arith, Option, Some, None}
 use Rattle.std.specs.List.{slice_get}
 use Rattle.std.specs.Option.{option_map, option_and_then, IfSome}
 use Rattle.std.specs.Str.{bytes_eq}
@@ -21,6 +21,7 @@ use Rattle.comp_tree.specs.declared.instances.AliasTarget.{AliasTarget}
 use Rattle.comp_tree.specs.declared.instances.AliasTarget.TheVariants as target
 use Rattle.comp_tree.specs.declared.externs.ExternDesc.{ExternDesc}
 use Rattle.comp_tree.specs.declared.externs.Export as read
+use Rattle.comp_tree.specs.declared.types.DefType.{DefType, out-DefType}
 use Rattle.comp_tree.specs.declared.builtins.CanonBuiltin.{CanonBuiltin}
 use Rattle.comp_tree.specs.declared.items.CanonOption.{CanonOption}
 use Rattle.comp_tree.specs.declared.items.Canon.TheVariants.{Lift, Lower, Builtin}
@@ -33,19 +34,20 @@ use Rattle.comp_graph.specs.declared.graph.CoreExtern.{CoreExtern}
 use Rattle.comp_graph.specs.declared.graph.CanonFunc.{CanonFunc}
 use Rattle.comp_graph.specs.declared.graph.CanonFunc.TheVariants as canon_func
 use Rattle.comp_graph.specs.CoreItems.{core_func_of, table_space, memory_space}
-use Rattle.comp_graph.specs.Closed.{Extern, OfFunc, OfType, OfInstance}
+use Rattle.comp_graph.specs.Closed.{Closed, Resource, Extern, OfFunc, OfType, OfInstance}
 use Rattle.comp_graph.specs.Graph.{CoreMake, Graph, canon_type}
 use Rattle.link_spec.specs.Definitions.{CoreItem, Func, Table, Memory, Global, extern_of, item_of, CoreExport, core_named, listed, exports_of, Definition, AFunc, AType, AComponent, AnInstance, AModule, Exports, EmptyInstance, WithExport, export_named}
 use Rattle.link_spec.specs.Spaces.{Spaces, Linking, core_item_at, definition_at, with_core_item, with_core_instance, with_definition, with_spaces, with_ends, outer_definition, outer_at}
 use Rattle.link_spec.specs.Ends.{noted_type}
+use Rattle.link_spec.specs.Resources.{resource_written, with_resource, resource_makes}
 use Rattle.link_spec.specs.Canons.{given_by}
 use Rattle.link_spec.specs.Builtins.{builtin_meaning}
-use Rattle.link_spec.specs.Items.{argument_named, import_found, FindsItem, IsInline, core_made, core_instance_makes, instance_makes, alias_makes, lifted_with, lift_makes, with_canon, lowered_with, lower_makes, builtin_makes, IsImported, import_makes, said, IsExported, export_makes, makes_case}
+use Rattle.link_spec.specs.Items.{argument_named, import_found, FindsItem, IsInline, core_made, core_instance_makes, instance_makes, alias_makes, lifted_with, lift_makes, with_canon, lowered_with, lower_makes, builtin_makes, IsImported, import_makes, said, IsExported, export_makes, type_meaning, defined_makes, makes_case}
 use Rattle.link_spec.proofs.Holding.{all_push, all_mapped, all_flat, all_at, all_second, holds_at, if_mapped, if_found, if_each, if_cond, last_there}
 use Rattle.canonical_machine.specs.Reading.{inst_of_canon}
 use Rattle.canonical_machine.specs.Owners.{owner_of_core, owner_of_canon, owner_of_func, owner_of_extern}
-use Rattle.graph_laws.proofs.Owning.{made_by, KeepsOwners, OwnsCanon, IsItemOf, AreExportsOf, IsFuncApart, IsDefinedApart, AreDefinedApart, AreSpacesApart, AreImportsOf, IsLinkingApart, IsReachedApart}
-use Rattle.graph_laws.proofs.Keeping.{kept_mapped, kept_canons, kept_imports, kept_spaces, keeps_itself}
+use Rattle.graph_laws.proofs.Owning.{made_by, KeepsOwners, OwnsCanon, OwnsDestructor, IsItemOf, AreExportsOf, IsFuncApart, IsDefinedApart, AreDefinedApart, AreSpacesApart, AreImportsOf, IsLinkingApart, IsReachedApart}
+use Rattle.graph_laws.proofs.Keeping.{kept_mapped, kept_canons, kept_destructors, kept_imports, kept_spaces, keeps_itself}
 use Rattle.graph_laws.proofs.Places.{at_set, makes_behind}
 use Rattle.graph_laws.proofs.OptionsApart.{func_own, options_own, builtin_own}
 use Rattle.graph_laws.proofs.SpacesApart.{if_always, with_item_apart, with_instance_apart, with_defined_apart, with_imports_apart, with_exports_apart, item_apart, core_named_apart, definition_apart, are_named_apart, outer_apart, named_apart, seen_apart, types_apart}
@@ -89,13 +91,13 @@ module _ (g : Graph) (owner : ℕ) (s : Spaces) (apart : AreSpacesApart g owner 
 
 -- A component instance has other index spaces.
 pub with_spaces_apart : (l : Linking) (n : ℕ) (s : Spaces) → IsLinkingApart l → AreSpacesApart (made_by l) n s → IsLinkingApart (with_spaces l n s)
-with_spaces_apart l n s h k = record { scopes = at_set (AreSpacesApart (made_by l)) l.scopes n s k h.scopes; imports = h.imports; lowers = h.lowers; planned = h.planned }
+with_spaces_apart l n s h k = record { scopes = at_set (AreSpacesApart (made_by l)) l.scopes n s k h.scopes; imports = h.imports; lowers = h.lowers; destructors = h.destructors; planned = h.planned }
 
 made_reached : (l : Linking) (n : ℕ) (s : Spaces) (new : Linking) → new ≡ with_spaces l n s → IsLinkingApart l → AreSpacesApart (made_by l) n s → IsReachedApart l new
 made_reached l n s new e h k = subst (IsReachedApart l) (sym e) (record { apart = with_spaces_apart l n s h k; keeps = keeps_itself (made_by l) })
 
 ends_apart : (l : Linking) (types : List ValType) → IsLinkingApart l → IsLinkingApart (with_ends l types)
-ends_apart l types h = record { scopes = h.scopes; imports = h.imports; lowers = h.lowers; planned = h.planned }
+ends_apart l types h = record { scopes = h.scopes; imports = h.imports; lowers = h.lowers; destructors = h.destructors; planned = h.planned }
 
 ends_reached : (l : Linking) (types : List ValType) (new : Linking) → IsReachedApart (with_ends l types) new → IsReachedApart l new
 ends_reached l types new r = record { apart = r.apart; keeps = r.keeps }
@@ -113,6 +115,7 @@ core_instance_reached l n s (made_core.Instantiate index arguments) new h k (m, 
             (λ i t e. kept_spaces (made_by l) longer keeps i t (h.scopes i t e));
         imports = all_push (AreImportsOf longer) l.cores core (kept_imports (made_by l) longer keeps l.cores h.imports) imports_own;
         lowers = kept_canons (made_by l) longer keeps l.canons h.lowers;
+        destructors = kept_destructors (made_by l) longer keeps l.resources h.destructors;
         planned = makes_behind (length l.cores) 0 l.plan l.cores core (omega arith) h.planned;
       };
       keeps = keeps;
@@ -159,14 +162,16 @@ alias_reached l n s sort (target.Outer up index) new h k (d, is, made) =
     (holds_at (IsDefinedApart (made_by l)) (outer_at l (n ∷ s.around) sort up index) d
     (if_each (outer_definition sort index) (IsDefinedApart (made_by l)) (λ (t : Spaces). outer_apart (made_by l) t sort index) (option_and_then (slice_get l.scopes) (slice_get (n ∷ s.around) up))) is)
 
+-- The core function of an index, where it is one.
+core_own : (g : Graph) (n : ℕ) (s : Spaces) (f : ℕ) (item : CoreItem) (core : FuncRef) → AreSpacesApart g n s → slice_get s.core_funcs f ≡ Some item → core_func_of item ≡ Some core → owner_of_func g core ≡ Some n
+core_own g n s f item core k is of_item =
+    holds_at (λ (f : FuncRef). owner_of_func g f ≡ Some n) (core_func_of item) core
+    (func_own g n s k item (holds_at (IsItemOf g n) (slice_get s.core_funcs f) item (all_at (IsItemOf g n) s.core_funcs f k.core.funcs_of) is)) of_item
+
 -- Lifts.
 lift_reached : (l : Linking) (n : ℕ) (s : Spaces) (f : ℕ) (options : List CanonOption) (t : ℕ) (new : Linking) → IsLinkingApart l → AreSpacesApart (made_by l) n s → lift_makes l n s f options t new → IsReachedApart l new
 lift_reached l n s f options t new h k (item, core, type, is, of_item, there, of_type, once, fits, made) =
-    defined_reached l n s (AFunc (lifted_with n type core (given_by s options))) new h k made (
-      holds_at (λ (f : FuncRef). owner_of_func (made_by l) f ≡ Some n) (core_func_of item) core
-          (func_own (made_by l) n s k item (holds_at (IsItemOf (made_by l) n) (slice_get s.core_funcs f) item (all_at (IsItemOf (made_by l) n) s.core_funcs f k.core.funcs_of) is)) of_item,
-      options_own (made_by l) n s k options,
-    )
+    defined_reached l n s (AFunc (lifted_with n type core (given_by s options))) new h k made (core_own (made_by l) n s f item core k is of_item, options_own (made_by l) n s k options)
 
 -- One core function more, which the Canonical ABI makes in this component instance.
 canon_reached : (l : Linking) (n : ℕ) (s : Spaces) (canon : CanonFunc) (new : Linking) → IsLinkingApart l → AreSpacesApart (made_by l) n s → inst_of_canon canon ≡ n
@@ -177,6 +182,7 @@ canon_reached l n s canon new h k of_instance canon_own made =
         scopes = at_set (AreSpacesApart longer) l.scopes n (with_core_item s item) (with_item_apart longer n s item spaces own) (λ i t e. kept_spaces (made_by l) longer keeps i t (h.scopes i t e));
         imports = kept_imports (made_by l) longer keeps l.cores h.imports;
         lowers = all_push (OwnsCanon longer) l.canons canon (kept_canons (made_by l) longer keeps l.canons h.lowers) (canon_own spaces);
+        destructors = kept_destructors (made_by l) longer keeps l.resources h.destructors;
         planned = h.planned;
       };
       keeps = keeps;
@@ -209,11 +215,38 @@ lower_reached l n s f options new h k (func, is, there, once, fits, made) = cano
     canon_own : AreSpacesApart longer n s → OwnsCanon longer canon
     canon_own spaces = (options_own longer n s spaces options, holds_at (IsFuncApart longer) (slice_get s.funcs f) func (all_at (IsFuncApart longer) s.funcs f spaces.funcs) is)
 
-builtin_reached : (l : Linking) (n : ℕ) (s : Spaces) (b : CanonBuiltin) (new : Linking) → IsLinkingApart l → AreSpacesApart (made_by l) n s → builtin_makes l n s (builtin_meaning s b) new → IsReachedApart l new
-builtin_reached l n s b new h k (kind, there, is, serves, made) = canon_reached l n s canon new h k refl (λ spaces. builtin_own (made_by (with_canon l n s canon)) n s spaces b kind is) made
+builtin_reached : (l : Linking) (n : ℕ) (s : Spaces) (b : CanonBuiltin) (new : Linking) → IsLinkingApart l → AreSpacesApart (made_by l) n s → builtin_makes l n s (builtin_meaning l n s b) new → IsReachedApart l new
+builtin_reached l n s b new h k (kind, there, is, serves, made) = canon_reached l n s canon new h k refl (λ spaces. builtin_own (made_by (with_canon l n s canon)) n s spaces l n b kind is) made
   where
     canon : CanonFunc
     canon = canon_func.Builtin (record { instance = n; kind = kind })
+
+-- One type of resources more, and what else a type makes.
+resource_reached : (l : Linking) (n : ℕ) (s : Spaces) (core : Option FuncRef) (new : Linking) → IsLinkingApart l → AreSpacesApart (made_by l) n s
+    → OwnsDestructor (made_by l) (record { instance = n; destructor = core }) → new ≡ with_resource l n s core → IsReachedApart l new
+resource_reached l n s core new h k own made =
+    let type : Closed = Resource (suc (length l.resources)) in
+    subst (IsReachedApart l) (sym made) (record {
+      apart = record {
+        scopes = at_set (AreSpacesApart (made_by l)) l.scopes n (with_definition s (AType type)) (with_defined_apart (made_by l) n s (AType type) k tt) h.scopes;
+        imports = h.imports;
+        lowers = h.lowers;
+        destructors = all_push (OwnsDestructor (made_by l)) l.resources (record { instance = n; destructor = core }) h.destructors own;
+        planned = h.planned;
+      };
+      keeps = keeps_itself (made_by l);
+    })
+
+destructor_reached : (l : Linking) (n : ℕ) (s : Spaces) (index : Option ℕ) (new : Linking) → IsLinkingApart l → AreSpacesApart (made_by l) n s → resource_makes l n s index new → IsReachedApart l new
+destructor_reached l n s None new h k made = resource_reached l n s None new h k tt made
+destructor_reached l n s (Some f) new h k (item, core, is, of_item, fits, made) = resource_reached l n s (Some core) new h k (core_own (made_by l) n s f item core k is of_item) made
+
+type_reached : (l : Linking) (n : ℕ) (s : Spaces) (written : Option (Option ℕ)) (type : DefType) (new : Linking) → IsLinkingApart l → AreSpacesApart (made_by l) n s
+    → defined_makes l n s written (type_meaning l n s type) new → IsReachedApart l new
+type_reached l n s (Some index) type new h k makes = destructor_reached l n s index new h k makes
+type_reached l n s None type new h k (closed, means, made) =
+    let types = noted_type l.end_types closed in
+    ends_reached l types new (defined_reached (with_ends l types) n s (AType closed) new (ends_apart l types h) k made tt)
 
 -- Imports and exports.
 imported_apart : (g : Graph) (arguments : Option Exports) (name : List ℕ) (extern : Extern) (d : Definition) → IfSome arguments (AreDefinedApart g) → IsImported arguments name extern d → IsDefinedApart g d
@@ -244,9 +277,7 @@ case_reached l n s (Item-F.CoreInstance c) new h k makes = core_instance_reached
 case_reached l n s (Item-F.Component c) new h k made = defined_reached l n s (AComponent (record { items = c.items; around = n ∷ s.around })) new h k made tt
 case_reached l n s (Item-F.Instance i) new h k makes = instance_reached l n s i new h k makes
 case_reached l n s (Item-F.Alias alias) new h k makes = alias_reached l n s alias.sort alias.target new h k makes
-case_reached l n s (Item-F.Type type) new h k (closed, means, made) =
-    let types = noted_type l.end_types closed in
-    ends_reached l types new (defined_reached (with_ends l types) n s (AType closed) new (ends_apart l types h) k made tt)
+case_reached l n s (Item-F.Type type) new h k makes = type_reached l n s (resource_written (out-DefType type)) type new h k makes
 case_reached l n s (Item-F.Canon (Lift f options t)) new h k makes = lift_reached l n s f options t new h k makes
 case_reached l n s (Item-F.Canon (Lower f options)) new h k makes = lower_reached l n s f options new h k makes
 case_reached l n s (Item-F.Canon (Builtin b)) new h k makes = builtin_reached l n s b new h k makes

@@ -9,6 +9,7 @@ use Rattle.comp_graph.specs.declared.graph.CoreExtern.{CoreExtern}
 use Rattle.comp_graph.specs.declared.graph.CoreExtern.TheVariants as extern
 use Rattle.comp_graph.specs.declared.graph.Options.{Options}
 use Rattle.comp_graph.specs.declared.graph.Lift.{Lift}
+use Rattle.comp_graph.specs.declared.graph.Resource.{Resource}
 use Rattle.comp_graph.specs.declared.graph.EndOp.{EndOp}
 use Rattle.comp_graph.specs.declared.graph.EndOp.TheVariants as end_op
 use Rattle.comp_graph.specs.declared.graph.BuiltinKind.{BuiltinKind}
@@ -21,7 +22,7 @@ use Rattle.link_spec.specs.Spaces.{Spaces}
 use Rattle.link_spec.proofs.Holding.{all_weaker, if_weaker, kept_at}
 use Rattle.link_spec.proofs.Lists.{map_some}
 use Rattle.canonical_machine.specs.Owners.{owner_of_core, owner_of_func, owner_of_extern}
-use Rattle.graph_laws.proofs.Owning.{KeepsOwners, OwnsOptions, OwnsLift, OwnsEnd, OwnsKind, OwnsCanon, IsItemOf, AreExportsOf, IsFuncApart, IsDefinedApart, AreDefinedApart, AreSpacesApart, AreImportsOf}
+use Rattle.graph_laws.proofs.Owning.{KeepsOwners, OwnsOptions, OwnsLift, OwnsEnd, OwnsKind, OwnsCanon, IsItemOf, AreExportsOf, IsFuncApart, IsDefinedApart, AreDefinedApart, AreSpacesApart, AreImportsOf, OwnsDestructor}
 
 -- what is made of an item of a list, when others come behind
 pub kept_mapped : {A B : Type 0} (f : A → B) (xs ys : List A) (n : ℕ) (y : B) → option_map f (slice_get xs n) ≡ Some y → option_map f (slice_get (xs ++ ys) n) ≡ Some y
@@ -72,6 +73,12 @@ module _ (g h : Graph) (keeps : KeepsOwners g h) where
 
   pub kept_lifts : (lifts : List Lift) → AllByRecursion (OwnsLift g) lifts → AllByRecursion (OwnsLift h) lifts
   kept_lifts lifts k = all_weaker (OwnsLift g) (OwnsLift h) kept_lift lifts k
+
+  kept_destructor : (r : Resource) → OwnsDestructor g r → OwnsDestructor h r
+  kept_destructor r k = if_weaker (λ (f : FuncRef). owner_of_func g f ≡ Some r.instance) (λ (f : FuncRef). owner_of_func h f ≡ Some r.instance) (λ f e. kept_func f r.instance e) r.destructor k
+
+  pub kept_destructors : (resources : List Resource) → AllByRecursion (OwnsDestructor g) resources → AllByRecursion (OwnsDestructor h) resources
+  kept_destructors resources k = all_weaker (OwnsDestructor g) (OwnsDestructor h) kept_destructor resources k
 
   kept_imports_of : (c : CoreMake) → AreImportsOf g c → AreImportsOf h c
   kept_imports_of c k = all_weaker (λ (e : CoreExtern). owner_of_extern g e ≡ Some c.owner) (λ (e : CoreExtern). owner_of_extern h e ≡ Some c.owner) (λ e is. kept_extern e c.owner is) c.imports k

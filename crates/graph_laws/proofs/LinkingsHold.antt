@@ -1,6 +1,6 @@
 -- What is known of each function, type, component and core function that items make is known of all that a component is linked to, where
 -- it is known of what types, lifts, lowers and built-ins make.
-use Rattle.std.proofs.Common.{◌≡◌, ℕ, List, [], ◌∷◌, ◌++◌, length, refl, sym, subst, Option, Some, None}
+use Rattle.std.proofs.Common.{◌≡◌, ℕ, suc, List, [], ◌∷◌, ◌++◌, length, refl, sym, subst, Option, Some, None}
 use Rattle.std.specs.List.{slice_get, AllByRecursion}
 use Rattle.std.specs.Option.{option_and_then, IfSome}
 use Rattle.ca_base.specs.declared.placed.Placed.{Placed}
@@ -15,7 +15,7 @@ use Rattle.comp_tree.specs.declared.instances.AliasTarget.{AliasTarget}
 use Rattle.comp_tree.specs.declared.instances.AliasTarget.TheVariants as target
 use Rattle.comp_tree.specs.declared.externs.ExternDesc.{ExternDesc}
 use Rattle.comp_tree.specs.declared.externs.Export as read
-use Rattle.comp_tree.specs.declared.types.DefType.{DefType}
+use Rattle.comp_tree.specs.declared.types.DefType.{DefType, out-DefType}
 use Rattle.comp_tree.specs.declared.builtins.CanonBuiltin.{CanonBuiltin}
 use Rattle.comp_tree.specs.declared.items.CanonOption.{CanonOption}
 use Rattle.comp_tree.specs.declared.items.Canon.TheVariants.{Lift, Lower, Builtin}
@@ -27,15 +27,16 @@ use Rattle.comp_graph.specs.declared.graph.FuncRef.TheVariants as func_ref
 use Rattle.comp_graph.specs.declared.graph.BuiltinKind.{BuiltinKind}
 use Rattle.comp_graph.specs.declared.graph.CanonFunc.{CanonFunc}
 use Rattle.comp_graph.specs.declared.graph.CanonFunc.TheVariants as canon_func
-use Rattle.comp_graph.specs.Closed.{Closed, Extern, OfFunc, OfType, OfInstance, Externs, func_of}
+use Rattle.comp_graph.specs.Closed.{Closed, Resource, Extern, OfFunc, OfType, OfInstance, Externs, func_of}
 use Rattle.comp_graph.specs.Graph.{canon_type}
 use Rattle.link_spec.specs.Definitions.{Func, exports_of, Lifted, Closure, Definition, AFunc, AType, AComponent, AnInstance, AModule, Exports, EmptyInstance, WithExport, export_named, types_of}
 use Rattle.link_spec.specs.Spaces.{Spaces, Linking, new_spaces, levels_at, definition_at, with_core_item, with_core_instance, with_definition, with_spaces, with_ends, outer_definition, outer_at}
 use Rattle.link_spec.specs.Ends.{noted_type}
 use Rattle.link_spec.specs.Canons.{given_by}
 use Rattle.link_spec.specs.Builtins.{builtin_meaning}
+use Rattle.link_spec.specs.Resources.{resource_written, with_resource, resource_makes}
 use Rattle.link_spec.specs.Types.{meaning_of}
-use Rattle.link_spec.specs.Items.{core_instance_makes, instance_makes, alias_makes, StandsFor, lifted_with, lift_makes, with_canon, lowered_with, lower_makes, builtin_makes, wanted, IsImported, import_makes, said, IsExported, export_makes, makes_case}
+use Rattle.link_spec.specs.Items.{core_instance_makes, instance_makes, alias_makes, StandsFor, lifted_with, lift_makes, with_canon, lowered_with, lower_makes, builtin_makes, wanted, IsImported, import_makes, said, IsExported, export_makes, type_meaning, defined_makes, makes_case}
 use Rattle.link_spec.specs.Linked.{Begins, begun, exports_or, exports_at, with_instance, Links, leads_by_making, leads_by_instance, no_items, item_links, root_begun, Callable, funcs_behind, callables}
 use Rattle.link_spec.proofs.Holding.{all_push, all_set, all_both, all_at, holds_at, if_found}
 use Rattle.graph_laws.proofs.SpacesHold.{Known, IsDefined, AreDefined, IsClosure, AreSpaces, IsLinking, with_item, with_instance_of, with_defined, with_imports, with_exports, new_held, definition_held, outer_held, are_named, export_held, seen_held}
@@ -46,6 +47,8 @@ pub record AreSteps (K : Known) (S : Item-F Item Component → Type 0) : Type 0 
   pub others : (placed : Placed Item) (items : List (Placed Item)) → K.items (placed ∷ items) → K.items items
   pub components : (c : Component) → S (Item-F.Component c) → K.items c.items
   pub types : (l : Linking) (n : ℕ) (s : Spaces) (type : DefType) (closed : Closed) → S (Item-F.Type type) → IsLinking K l → StandsFor (meaning_of type (levels_at l (n ∷ s.around))) closed → K.type closed
+  pub resources : (l : Linking) (n : ℕ) (type : DefType) (index : Option ℕ) (core : Option FuncRef)
+      → S (Item-F.Type type) → resource_written (out-DefType type) ≡ Some index → K.type (Resource (suc (length l.resources))) × K.resource (record { instance = n; destructor = core })
   pub asked : (s : Spaces) (desc : ExternDesc) (externs : Externs) → AreSpaces K s → (wanted s desc).means ≡ Some (OfInstance externs) → AreDefined K (types_of externs)
   pub lifts : (n : ℕ) (s : Spaces) (f : ℕ) (options : List CanonOption) (t : ℕ) (type : FuncType) (core : FuncRef)
       → S (Item-F.Canon (Lift f options t)) → AreSpaces K s → option_and_then func_of (slice_get s.types t) ≡ Some type → K.func (lifted_with n type core (given_by s options))
@@ -54,10 +57,10 @@ pub record AreSteps (K : Known) (S : Item-F Item Component → Type 0) : Type 0 
 
 module _ (K : Known) where
   spaces_made : (l : Linking) (n : ℕ) (s : Spaces) (new : Linking) → new ≡ with_spaces l n s → IsLinking K l → AreSpaces K s → IsLinking K new
-  spaces_made l n s new e h k = subst (IsLinking K) (sym e) (record { scopes = all_set (AreSpaces K) l.scopes n s h.scopes k; canons = h.canons })
+  spaces_made l n s new e h k = subst (IsLinking K) (sym e) (record { scopes = all_set (AreSpaces K) l.scopes n s h.scopes k; canons = h.canons; resources = h.resources })
 
   ends_held : (l : Linking) (types : List ValType) → IsLinking K l → IsLinking K (with_ends l types)
-  ends_held l types h = record { scopes = h.scopes; canons = h.canons }
+  ends_held l types h = record { scopes = h.scopes; canons = h.canons; resources = h.resources }
 
   defined : (l : Linking) (n : ℕ) (s : Spaces) (d : Definition) (new : Linking) → IsLinking K l → AreSpaces K s → new ≡ with_spaces l n (with_definition s d) → IsDefined K d → IsLinking K new
   defined l n s d new h k made is = spaces_made l n (with_definition s d) new made h (with_defined K s d k is)
@@ -66,7 +69,7 @@ module _ (K : Known) where
   core_instance_held : (l : Linking) (n : ℕ) (s : Spaces) (c : CoreInstance) (new : Linking) → IsLinking K l → AreSpaces K s → core_instance_makes l n s c new → IsLinking K new
   core_instance_held l n s (made_core.Instantiate index arguments) new h k (m, imports, is, there, found, distinct, few, made) =
       subst (IsLinking K) (sym made)
-      (record { scopes = all_set (AreSpaces K) l.scopes n (with_core_instance s (exports_of m (length l.cores))) h.scopes (with_instance_of K s (exports_of m (length l.cores)) k); canons = h.canons })
+      (record { scopes = all_set (AreSpaces K) l.scopes n (with_core_instance s (exports_of m (length l.cores))) h.scopes (with_instance_of K s (exports_of m (length l.cores)) k); canons = h.canons; resources = h.resources })
   core_instance_held l n s (made_core.Inline read) new h k (exports, are, distinct, made) = spaces_made l n (with_core_instance s exports) new made h (with_instance_of K s exports k)
 
   instance_held : (l : Linking) (n : ℕ) (s : Spaces) (i : made_of.Instance) (new : Linking) → IsLinking K l → AreSpaces K s → instance_makes l n s i new → IsLinking K new
@@ -94,7 +97,24 @@ module _ (K : Known) where
       subst (IsLinking K) (sym made) (record {
         scopes = all_set (AreSpaces K) l.scopes n (with_core_item s (Func (func_ref.Canon (length l.canons)) (canon_type f))) h.scopes (with_item K s (Func (func_ref.Canon (length l.canons)) (canon_type f)) k);
         canons = all_push K.canon l.canons f h.canons known;
+        resources = h.resources;
       })
+
+  -- One type of resources more, which an item defines.
+  resource_held : (l : Linking) (n : ℕ) (s : Spaces) (core : Option FuncRef) (new : Linking) → IsLinking K l → AreSpaces K s
+      → K.type (Resource (suc (length l.resources))) × K.resource (record { instance = n; destructor = core }) → new ≡ with_resource l n s core → IsLinking K new
+  resource_held l n s core new h k known made =
+      let type : Closed = Resource (suc (length l.resources)) in
+      subst (IsLinking K) (sym made) (record {
+        scopes = all_set (AreSpaces K) l.scopes n (with_definition s (AType type)) h.scopes (with_defined K s (AType type) k known.0);
+        canons = h.canons;
+        resources = all_push K.resource l.resources (record { instance = n; destructor = core }) h.resources known.1;
+      })
+
+  destructor_held : (l : Linking) (n : ℕ) (s : Spaces) (index : Option ℕ) (new : Linking) → IsLinking K l → AreSpaces K s
+      → ((core : Option FuncRef) → K.type (Resource (suc (length l.resources))) × K.resource (record { instance = n; destructor = core })) → resource_makes l n s index new → IsLinking K new
+  destructor_held l n s None new h k known made = resource_held l n s None new h k (known None) made
+  destructor_held l n s (Some f) new h k known (item, core, is, of_item, fits, made) = resource_held l n s (Some core) new h k (known (Some core)) made
 
   -- Exports.
   exported_held : (s : Spaces) (asked : Option ExternDesc) (d x : Definition) → IsDefined K d → IsExported (said s asked) d x → IsDefined K x
@@ -112,7 +132,7 @@ module _ (K : Known) where
 
   begun_held : (l : Linking) (n : ℕ) (s : Spaces) (item : Item) (c : Closure) (arguments : Exports) → IsLinking K l → AreSpaces K s → Begins l n s item c arguments → IsLinking K (begun l c arguments)
   begun_held l n s item c arguments h k b =
-      record { scopes = all_push (AreSpaces K) l.scopes (new_spaces (Some arguments) c.around) h.scopes (new_held K (Some arguments) c.around (are_named K s EmptyInstance b.named arguments k tt b.given)); canons = h.canons }
+      record { scopes = all_push (AreSpaces K) l.scopes (new_spaces (Some arguments) c.around) h.scopes (new_held K (Some arguments) c.around (are_named K s EmptyInstance b.named arguments k tt b.given)); canons = h.canons; resources = h.resources }
 
   exports_or_held : (o : Option Spaces) → IfSome o (AreSpaces K) → AreDefined K (exports_or o)
   exports_or_held None h = tt
@@ -152,8 +172,16 @@ module _ (K : Known) (S : Item-F Item Component → Type 0) (are : AreSteps K S)
   lower_held l n s f options new has h k (func, is, there, once, fits, made) =
       canon_held K l n s (lowered_with n func (given_by s options)) new h k (are.lowers n s f options func has (holds_at K.func (slice_get s.funcs f) func (all_at K.func s.funcs f k.funcs) is)) made
 
-  builtin_held : (l : Linking) (n : ℕ) (s : Spaces) (b : CanonBuiltin) (new : Linking) → S (Item-F.Canon (Builtin b)) → IsLinking K l → AreSpaces K s → builtin_makes l n s (builtin_meaning s b) new → IsLinking K new
+  builtin_held : (l : Linking) (n : ℕ) (s : Spaces) (b : CanonBuiltin) (new : Linking) → S (Item-F.Canon (Builtin b)) → IsLinking K l → AreSpaces K s → builtin_makes l n s (builtin_meaning l n s b) new → IsLinking K new
   builtin_held l n s b new has h k (kind, there, is, serves, made) = canon_held K l n s (canon_func.Builtin (record { instance = n; kind = kind })) new h k (are.builtins n b kind has) made
+
+  -- Types.
+  type_held : (l : Linking) (n : ℕ) (s : Spaces) (type : DefType) (written : Option (Option ℕ)) (new : Linking) → resource_written (out-DefType type) ≡ written
+      → S (Item-F.Type type) → IsLinking K l → AreSpaces K s → defined_makes l n s written (type_meaning l n s type) new → IsLinking K new
+  type_held l n s type (Some index) new is has h k makes = destructor_held K l n s index new h k (λ core. are.resources l n type index core has is) makes
+  type_held l n s type None new is has h k (closed, means, made) =
+      let types = noted_type l.end_types closed in
+      defined K (with_ends l types) n s (AType closed) new (ends_held K l types h) k made (are.types l n s type closed has h means)
 
   -- Imports.
   imported_held : (s : Spaces) (name : List ℕ) (asked : ExternDesc) (extern : Extern) (arguments : Option Exports) (d : Definition)
@@ -175,9 +203,7 @@ module _ (K : Known) (S : Item-F Item Component → Type 0) (are : AreSteps K S)
   case_held l n s (Item-F.Component c) new has h k made = defined K l n s (AComponent (record { items = c.items; around = n ∷ s.around })) new h k made (are.components c has)
   case_held l n s (Item-F.Instance i) new has h k makes = instance_held K l n s i new h k makes
   case_held l n s (Item-F.Alias alias) new has h k makes = alias_held K l n s alias.sort alias.target new h k makes
-  case_held l n s (Item-F.Type type) new has h k (closed, means, made) =
-      let types = noted_type l.end_types closed in
-      defined K (with_ends l types) n s (AType closed) new (ends_held K l types h) k made (are.types l n s type closed has h means)
+  case_held l n s (Item-F.Type type) new has h k makes = type_held l n s type (resource_written (out-DefType type)) new refl has h k makes
   case_held l n s (Item-F.Canon (Lift f options t)) new has h k makes = lift_held l n s f options t new has h k makes
   case_held l n s (Item-F.Canon (Lower f options)) new has h k makes = lower_held l n s f options new has h k makes
   case_held l n s (Item-F.Canon (Builtin b)) new has h k makes = builtin_held l n s b new has h k makes
@@ -198,8 +224,9 @@ module _ (K : Known) (S : Item-F Item Component → Type 0) (are : AreSteps K S)
             all_set (AreSpaces K) inner.scopes k (with_definition s (AnInstance (exports_at inner (length m.scopes)))) reached.scopes
             (with_defined K s (AnInstance (exports_at inner (length m.scopes))) spaces (exports_held K inner (length m.scopes) reached));
         canons = reached.canons;
+        resources = reached.resources;
       }) behind
 
   -- all that a component is linked to
   pub linked_held : (c : Component) (l : Linking) → K.items c.items → Links root_begun 0 c.items l → IsLinking K l
-  linked_held c l has links = links_held root_begun 0 c.items l has (record { scopes = (new_held K None [] tt, tt); canons = tt }) links
+  linked_held c l has links = links_held root_begun 0 c.items l has (record { scopes = (new_held K None [] tt, tt); canons = tt; resources = tt }) links

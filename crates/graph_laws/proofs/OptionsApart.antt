@@ -13,9 +13,10 @@ use Rattle.comp_graph.specs.declared.graph.FuncRef.{FuncRef}
 use Rattle.comp_graph.specs.declared.graph.BuiltinKind.{BuiltinKind}
 use Rattle.comp_graph.specs.declared.graph.BuiltinKind.TheVariants as builtin
 use Rattle.comp_graph.specs.CoreItems.{core_func_of, core_memory_of}
+use Rattle.comp_graph.specs.Closed.{resource_of}
 use Rattle.comp_graph.specs.Graph.{Graph}
 use Rattle.link_spec.specs.Definitions.{CoreItem, Func, Table, Memory, Global}
-use Rattle.link_spec.specs.Spaces.{Spaces}
+use Rattle.link_spec.specs.Spaces.{Spaces, Linking}
 use Rattle.link_spec.specs.Canons.{memory_index, realloc_index, post_return_index, callback_index, first_index, given_by, options_of}
 use Rattle.link_spec.specs.Builtins.{elements_at, end_op_of, builtin_meaning}
 use Rattle.link_spec.specs.ValueTypes.{close_held}
@@ -68,19 +69,21 @@ module _ (g : Graph) (owner : ℕ) (s : Spaces) (apart : AreSpacesApart g owner 
   end_own (read_op.Cancel side is_async) = tt
   end_own (read_op.Drop side) = tt
 
-  builtin_uses : (b : CanonBuiltin) → IfSome (builtin_meaning s b).means (OwnsKind g owner)
-  builtin_uses (read_builtin.Plain b) = tt
-  builtin_uses (read_builtin.Context op slot) = tt
-  builtin_uses (read_builtin.TaskReturn result options) =
+  builtin_uses : (l : Linking) (n : ℕ) (b : CanonBuiltin) → IfSome (builtin_meaning l n s b).means (OwnsKind g owner)
+  builtin_uses l n (read_builtin.Plain b) = tt
+  builtin_uses l n (read_builtin.Context op slot) = tt
+  builtin_uses l n (read_builtin.TaskReturn result options) =
       if_mapped (λ (type : Option ValType). builtin.TaskReturn type (options_of (given_by s options))) (OwnsKind g owner) (close_held (map Some s.types) result)
       (if_always (λ (type : Option ValType). OwnsKind g owner (builtin.TaskReturn type (options_of (given_by s options)))) (close_held (map Some s.types) result) (λ type. options_own options))
-  builtin_uses (read_builtin.Wait op cancellable memory) =
+  builtin_uses l n (read_builtin.Wait op cancellable memory) =
       if_mapped (λ (m : CoreRef). builtin.Wait op cancellable m) (OwnsKind g owner) (option_and_then core_memory_of (slice_get s.core_memories memory))
       (if_weaker (λ (m : CoreRef). owner_of_core g m.instance ≡ Some owner) (λ (m : CoreRef). OwnsKind g owner (builtin.Wait op cancellable m)) (λ m e. e) (option_and_then core_memory_of (slice_get s.core_memories memory)) (memory_at memory))
-  builtin_uses (read_builtin.End kind end_type op) =
+  builtin_uses l n (read_builtin.End kind end_type op) =
       if_mapped (λ (element : Option ValType). builtin.End kind element (end_op_of (given_by s) op)) (OwnsKind g owner) (elements_at s kind end_type)
       (if_always (λ (element : Option ValType). OwnsKind g owner (builtin.End kind element (end_op_of (given_by s) op))) (elements_at s kind end_type) (λ element. end_own op))
-  builtin_uses (read_builtin.Resource op resource) = tt
+  builtin_uses l n (read_builtin.Resource op resource) =
+      if_mapped (λ (number : ℕ). builtin.Resource op number) (OwnsKind g owner) (option_and_then resource_of (slice_get s.types resource))
+      (if_always (λ (number : ℕ). OwnsKind g owner (builtin.Resource op number)) (option_and_then resource_of (slice_get s.types resource)) (λ number. tt))
 
-  pub builtin_own : (b : CanonBuiltin) (kind : BuiltinKind) → (builtin_meaning s b).means ≡ Some kind → OwnsKind g owner kind
-  builtin_own b kind is = holds_at (OwnsKind g owner) (builtin_meaning s b).means kind (builtin_uses b) is
+  pub builtin_own : (l : Linking) (n : ℕ) (b : CanonBuiltin) (kind : BuiltinKind) → (builtin_meaning l n s b).means ≡ Some kind → OwnsKind g owner kind
+  builtin_own l n b kind is = holds_at (OwnsKind g owner) (builtin_meaning l n s b).means kind (builtin_uses l n b) is

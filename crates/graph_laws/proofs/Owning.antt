@@ -93,16 +93,18 @@ pub record AreSpacesApart (g : Graph) (owner : ℕ) (s : Spaces) : Type 0 where
 abbrev pub AreImportsOf : Graph → CoreMake → Type 0
 AreImportsOf g c = AllByRecursion (λ e. owner_of_extern g e ≡ Some c.owner) c.imports
 
+-- the destructor of a type of resources is of the component instance that defines it
+abbrev pub OwnsDestructor : Graph → Resource → Type 0
+OwnsDestructor g r = IfSome r.destructor (λ f. owner_of_func g f ≡ Some r.instance)
+
 pub record IsLinkingApart (l : Linking) : Type 0 where
   pub scopes : (n : ℕ) (s : Spaces) → slice_get l.scopes n ≡ Some s → AreSpacesApart (made_by l) n s
   pub imports : AllByRecursion (AreImportsOf (made_by l)) l.cores
   pub lowers : AllByRecursion (OwnsCanon (made_by l)) l.canons
+  pub destructors : AllByRecursion (OwnsDestructor (made_by l)) l.resources
   pub planned : Makes 0 l.plan l.cores
 
 -- A graph each component instance of which owns what its core instances import, what its lifts and its canonical functions use, and destructors.
-abbrev pub OwnsDestructor : Graph → Resource → Type 0
-OwnsDestructor g r = IfSome r.destructor (λ f. owner_of_func g f ≡ Some r.instance)
-
 pub record IsOwnGraph (g : Graph) : Type 0 where
   pub imports : AllByRecursion (AreImportsOf g) g.cores
   pub lifts : AllByRecursion (OwnsLift g) g.lifts

@@ -19,7 +19,7 @@ use Rattle.wasm_typing.specs.Finding.{first_fault}
 use Rattle.wasm_typing.proofs.Deciding.{fault_free}
 use Rattle.comp_tree.specs.declared.types.FuncType.{FuncType}
 use Rattle.comp_tree.specs.declared.types.DefType.TheOpen.{DefType-F}
-use Rattle.comp_tree.specs.declared.types.DefType.TheViews.{rolls-Func}
+use Rattle.comp_tree.specs.declared.types.DefType.TheViews.{outs-Func, rolls-Func}
 use Rattle.comp_tree.specs.declared.types.DefType.TheFolds.{fold-roll-DefType}
 use Rattle.comp_tree.specs.declared.types.DefType.TheVariants as plain_type
 use Rattle.comp_tree.specs.declared.items.Item.TheViews.{outs-CoreModule, outs-CoreInstance, outs-Canon, outs-Alias, outs-Export, outs-Type, outs-Instance, outs-Component}
@@ -38,7 +38,7 @@ func_rolled : (type : FuncType) (levels : List Level) → meaning_of (plain_type
 func_rolled type levels =
     ap (λ t. meaning_of t levels) (sym (rolls-Func type)) ∙ ap (λ (f : InLevels). f levels) (fold-roll-DefType InLevels (List Level → Declared → Declared) type_step decl_step (DefType-F.Func type))
 
-ruleset layers = (outs-CoreModule, outs-CoreInstance, outs-Canon, outs-U32, outs-Alias, outs-Export, outs-Type, outs-Instance, outs-Component, func_rolled, u32_flat, u32_holds_no_list)
+ruleset layers = (outs-CoreModule, outs-CoreInstance, outs-Canon, outs-U32, outs-Alias, outs-Export, outs-Type, outs-Instance, outs-Component, outs-Func, func_rolled, u32_flat, u32_holds_no_list)
 
 ok_same : {A E : Type 0} (x y : A) → ◌≡◌ {A = Result A E} (Ok x) (Ok y) → x ≡ y
 ok_same x y h = cc
@@ -88,10 +88,10 @@ abbrev one_core : CoreMake
 one_core = record { of_module = of_one; imports = []; owner = 1 }
 
 abbrev child_begun : Linking
-child_begun = record { scopes = root_spaces ∷ new_spaces (Some EmptyInstance) (0 ∷ []) ∷ []; cores = []; canons = []; plan = Begin 0 ∷ Begin 1 ∷ []; end_types = [] }
+child_begun = record { scopes = root_spaces ∷ new_spaces (Some EmptyInstance) (0 ∷ []) ∷ []; cores = []; canons = []; resources = []; plan = Begin 0 ∷ Begin 1 ∷ []; end_types = [] }
 
 abbrev child_linked : Spaces → Linking
-child_linked s = record { scopes = s ∷ child_spaces ∷ []; cores = one_core ∷ []; canons = []; plan = Begin 0 ∷ Begin 1 ∷ Make 0 ∷ []; end_types = [] }
+child_linked s = record { scopes = s ∷ child_spaces ∷ []; cores = one_core ∷ []; canons = []; resources = []; plan = Begin 0 ∷ Begin 1 ∷ Make 0 ∷ []; end_types = [] }
 
 child_runs : (inside : Run) → run inside child_begun 1 (placed_from 10 child) ≡ Ok (child_linked root_spaces)
 child_runs inside = simp layers refl
@@ -127,7 +127,7 @@ with_caller = record with_lowered {
 }
 
 abbrev all_made : Spaces → Linking
-all_made s = record { scopes = s ∷ child_spaces ∷ []; cores = both.cores; canons = both.canons; plan = both.plan; end_types = [] }
+all_made s = record { scopes = s ∷ child_spaces ∷ []; cores = both.cores; canons = both.canons; resources = []; plan = both.plan; end_types = [] }
 
 calls_one : (inside : Run) → run inside lowered_linked 0 (placed_from 5 calling) ≡ Ok (all_made with_caller)
 calls_one inside = simp layers refl

@@ -11,6 +11,7 @@ use Rattle.comp_tree.specs.declared.instances.NamedDefinition.{NamedDefinition}
 use Rattle.comp_tree.specs.declared.instances.Sort.{Sort}
 use Rattle.comp_tree.specs.declared.instances.Sort.TheVariants as sorts
 use Rattle.comp_tree.specs.declared.items.Item.{Item}
+use Rattle.comp_graph.specs.declared.graph.Resource as defined
 use Rattle.comp_graph.specs.declared.graph.CanonFunc.{CanonFunc}
 use Rattle.comp_graph.specs.Closed.{Closed, Extern, OfInstance, Externs, EmptyType, WithExtern, first_of}
 use Rattle.link_spec.specs.Definitions.{CoreItem, Func, Table, Memory, Global, CoreExport, Lifted, Closure, Definition, AFunc, AType, AComponent, AnInstance, AModule, Exports, EmptyInstance, WithExport, export_named, with_seen, seen_as, seen_exports}
@@ -19,12 +20,14 @@ use Rattle.link_spec.specs.Items.{AreNamed}
 use Rattle.link_spec.proofs.Holding.{all_push, all_at, holds_at, if_weaker, if_mapped, if_cond}
 use Rattle.graph_laws.proofs.SpacesApart.{if_always}
 
--- What is known of each function, of each type, of the items of each component, and of each core function that the Canonical ABI makes.
+-- What is known of each function, of each type, of the items of each component, of each core function that the Canonical ABI makes, and
+-- of each type of resources that an item defines.
 pub record Known : Type 1 where
   pub func : Lifted → Type 0
   pub type : Closed → Type 0
   pub items : List (Placed Item) → Type 0
   pub canon : CanonFunc → Type 0
+  pub resource : defined.Resource → Type 0
 
 abbrev mutual
   pub IsDefined : Known → Definition → Type 0
@@ -54,6 +57,7 @@ pub record AreSpaces (K : Known) (s : Spaces) : Type 0 where
 pub record IsLinking (K : Known) (l : Linking) : Type 0 where
   pub scopes : AllByRecursion (AreSpaces K) l.scopes
   pub canons : AllByRecursion K.canon l.canons
+  pub resources : AllByRecursion K.resource l.resources
 
 module _ (K : Known) where
   -- One more in one of the spaces.

@@ -18,6 +18,7 @@ use Rattle.comp_tree.specs.declared.types.DefType.TheFolds.{fold-InstanceDecl, f
 use Rattle.comp_tree.specs.declared.types.InstanceDecl.{InstanceDecl}
 use Rattle.comp_tree.specs.declared.types.InstanceDecl.TheVariants as decl
 use Rattle.comp_tree.specs.declared.externs.ExternDesc.{ExternDesc}
+use Rattle.comp_tree.specs.declared.externs.ExternDesc.TheVariants as desc
 use Rattle.comp_tree.specs.declared.instances.Alias as aliased
 use Rattle.part_reader.specs.declared.fault.ComponentWhy.{ComponentWhy}
 use Rattle.part_reader.specs.Types.{primitive, given_as, val_type, maybe_val_type, field, variant_case, handle_or_primitive, def_val_type, func_type, resource_type}
@@ -27,14 +28,16 @@ use Rattle.part_reader.specs.Reasons.{numbers, unsupported}
 use Rattle.value_reader.specs.Writable.{all_true}
 use Rattle.graph_laws.proofs.Bytes.{IsByte, matches_bytes, GivesOn, choice_on, times_on}
 use Rattle.graph_laws.proofs.TypesStand as stands
-use Rattle.graph_laws.proofs.TypesStand.{few_decl_step}
 
--- Types that are read may be of streams and futures.
+-- Types that are read may be of streams, futures, handles and resources.
 abbrev is_few : DefValType → Bool
 is_few = stands.is_few true false
 
 abbrev few_step : DefType-F Bool Bool → Bool
 few_step = stands.few_step true false
+
+abbrev few_decl_step : InstanceDecl-F Bool Bool → Bool
+few_decl_step = stands.few_decl_step true
 
 abbrev has_few : DefType → Bool
 has_few = stands.has_few true false
@@ -236,8 +239,14 @@ of_type_decl type h = ap decl_few (sym (rolls-Type type)) ∙ fold-roll-Instance
 of_alias_decl : (a : aliased.Alias) → HasFewDecl (decl.Alias a)
 of_alias_decl a = ap decl_few (sym (rolls-Alias a)) ∙ fold-roll-InstanceDecl Bool Bool few_step few_decl_step (InstanceDecl-F.Alias a)
 
+desc_few : (asked : ExternDesc) → stands.is_few_desc true asked ≡ true
+desc_few (desc.Func index) = refl
+desc_few (desc.TypeEq index) = refl
+desc_few (desc.Instance index) = refl
+desc_few desc.Resource = refl
+
 of_export_decl : (label : List ℕ) (asked : ExternDesc) → HasFewDecl (decl.Export label asked)
-of_export_decl label asked = ap decl_few (sym (rolls-Export label asked)) ∙ fold-roll-InstanceDecl Bool Bool few_step few_decl_step (InstanceDecl-F.Export label asked)
+of_export_decl label asked = ap decl_few (sym (rolls-Export label asked)) ∙ fold-roll-InstanceDecl Bool Bool few_step few_decl_step (InstanceDecl-F.Export label asked) ∙ desc_few asked
 
 abbrev type_decls : Grammar ComponentWhy DefType → Grammar ComponentWhy InstanceDecl
 type_decls inner = do

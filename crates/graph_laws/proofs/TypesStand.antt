@@ -1,8 +1,10 @@
--- Types as they are written in a component, at any depth, and that none of them is of streams or futures, or has 2^32 labels or more,
--- where it is told apart whether either may be.
+-- Types as they are written in a component, at any depth, and that none of them is of streams, futures, handles or resources, or has 2^32
+-- labels or more, where it is told apart whether either may be.
 use Rattle.std.proofs.Common.{◌≡◌, ◌⊎◌, ◌^◌, inl, inr, Bool, true, List, [], ◌∷◌, length, subst}
 use Rattle.std.specs.Prelude.{◌||◌, nat_lt}
 use Rattle.ca_base.specs.declared.placed.Placed.{Placed}
+use Rattle.comp_tree.specs.declared.externs.ExternDesc.{ExternDesc}
+use Rattle.comp_tree.specs.declared.externs.ExternDesc.TheVariants as desc
 use Rattle.comp_tree.specs.declared.types.DefValType.{DefValType}
 use Rattle.comp_tree.specs.declared.types.DefValType.TheVariants as written
 use Rattle.comp_tree.specs.declared.types.DefType.{DefType, fold-DefType}
@@ -12,27 +14,33 @@ use Rattle.comp_tree.specs.declared.items.Item.TheOpen.{Item-F}
 use Rattle.comp_tree.specs.declared.items.Component.{Component}
 use Rattle.value_reader.specs.Writable.{all_true}
 
--- A value type, and a type in which it may stand.
+-- What an export is asked to be, a value type, and a type in which it may stand.
+abbrev pub is_few_desc : Bool → ExternDesc → Bool
+is_few_desc ends desc.Resource = ends
+is_few_desc ends asked = true
+
 abbrev pub is_few : Bool → Bool → DefValType → Bool
 is_few ends many (written.Variant cases) = many || nat_lt (length cases) (2 ^ 32)
 is_few ends many (written.Enum labels) = many || nat_lt (length labels) (2 ^ 32)
 is_few ends many (written.Stream element) = ends
 is_few ends many (written.Future element) = ends
+is_few ends many (written.Own resource) = ends
+is_few ends many (written.Borrow resource) = ends
 is_few ends many type = true
 
 abbrev pub few_step : Bool → Bool → DefType-F Bool Bool → Bool
 few_step ends many (DefType-F.Value type) = is_few ends many type
 few_step ends many (DefType-F.Func type) = true
 few_step ends many (DefType-F.Instance decls) = all_true decls
-few_step ends many (DefType-F.Resource destructor) = true
+few_step ends many (DefType-F.Resource destructor) = ends
 
-abbrev pub few_decl_step : InstanceDecl-F Bool Bool → Bool
-few_decl_step (InstanceDecl-F.Type type) = type
-few_decl_step (InstanceDecl-F.Alias alias) = true
-few_decl_step (InstanceDecl-F.Export name asked) = true
+abbrev pub few_decl_step : Bool → InstanceDecl-F Bool Bool → Bool
+few_decl_step ends (InstanceDecl-F.Type type) = type
+few_decl_step ends (InstanceDecl-F.Alias alias) = true
+few_decl_step ends (InstanceDecl-F.Export name asked) = is_few_desc ends asked
 
 abbrev pub has_few : Bool → Bool → DefType → Bool
-has_few ends many = fold-DefType Bool Bool (few_step ends many) few_decl_step
+has_few ends many = fold-DefType Bool Bool (few_step ends many) (few_decl_step ends)
 
 -- The type is one of these items, or stands in a component that is one of them.
 pub data TypeStands (t : DefType) : List (Placed Item) → Type 0 where

@@ -68,7 +68,8 @@ pub fn calls_are_sound()
 {}
 
 /// A component whose graph has more than synchronous functions that pass no end has a first item that is a built-in, a lift or a lower
-/// with `async` or `callback`, or a type in which a type of streams or futures stands.
+/// with `async` or `callback`, a type in which a type of streams, futures, handles or resources stands, or an import or an export that is
+/// asked to be a type of resources.
 pub fn other_items_are_found()
     ensures { OtherItemsAreFound }
 {}

@@ -3,7 +3,7 @@ use Rattle.std.proofs.Common.{◌≡◌, Bool, true, false, cond, refl, ap, ap�
 use Rattle.std.specs.Prelude.{◌||◌, Result, Ok, Err, OnOk, OnErr}
 use Rattle.std.specs.declared.cmp.Ordering.{Ordering}
 use Rattle.std.specs.declared.cmp.Ordering.TheVariants.{Less, Equal, Greater}
-use Rattle.std.specs.Ordering.{nat_cmp, is_eq, ordering_then}
+use Rattle.std.specs.Ordering.{nat_cmp, bool_cmp, is_eq, ordering_then}
 use Rattle.std.specs.Option.{option_cmp}
 use Rattle.std.specs.BTreeSet.{BTreeSet, Updates}
 use Rattle.std.proofs.lemmas.Map.Lookups.{exact_unsigned}
@@ -25,10 +25,18 @@ option_exact cmp exact None (Some y) h = cc
 option_exact cmp exact (Some x) None h = cc
 option_exact cmp exact (Some x) (Some y) h = ap (λ z. Some z) (exact x y h)
 
+bool_exact : (a b : Bool) → bool_cmp a b ≡ Equal → a ≡ b
+bool_exact true true h = refl
+bool_exact true false h = cc
+bool_exact false true h = cc
+bool_exact false false h = refl
+
 type_exact : (x y : InstanceTypeRef) → (type_order.ghosts).cmp x y ≡ Equal → x ≡ y
 type_exact x y h =
-    let p = then_equal (nat_cmp x.layer y.layer) (nat_cmp x.number y.number) h in
-    ap₂ (λ layer number. (let r : InstanceTypeRef = record { layer = layer; number = number } in r)) (exact_unsigned x.layer y.layer p.0) (exact_unsigned x.number y.number p.1)
+    let p = then_equal (nat_cmp x.layer y.layer) (ordering_then (nat_cmp x.number y.number) (bool_cmp x.names_resource y.names_resource)) h in
+    let q = then_equal (nat_cmp x.number y.number) (bool_cmp x.names_resource y.names_resource) p.1 in
+    ap (λ layer. (let r : InstanceTypeRef = record { layer = layer; number = x.number; names_resource = x.names_resource } in r)) (exact_unsigned x.layer y.layer p.0)
+    ∙ ap₂ (λ number names. (let r : InstanceTypeRef = record { layer = y.layer; number = number; names_resource = names } in r)) (exact_unsigned x.number y.number q.0) (bool_exact x.names_resource y.names_resource q.1)
 
 instance_exact : (x y : InstanceRef) → (instance_order.ghosts).cmp x y ≡ Equal → x ≡ y
 instance_exact x y h =

@@ -1,11 +1,11 @@
 -- Instances of the types that an instance type asks for (Component Model, Explainer.md, "Import and Export Definitions"), by the
 -- number of the type.
-use Rattle.std.specs.Prelude.{◌≡◌, ℕ, Bool, true, false, List, [], ◌∷◌, Option, Some, None}
+use Rattle.std.specs.Prelude.{◌≡◌, ℕ, Bool, true, false, not, List, [], ◌∷◌, Option, Some, None}
 use Rattle.std.specs.List.{slice_get}
 use Rattle.std.specs.Option.{option_map}
 use Rattle.std.specs.declared.cmp.Ordering.{Ordering}
 use Rattle.std.specs.BTreeMap.{BTreeMap, get}
-use Rattle.comp_graph.specs.Closed.{Externs}
+use Rattle.comp_graph.specs.Closed.{Extern, OfFunc, OfType, OfInstance, Externs, names_resource}
 use Rattle.link_spec.specs.Definitions.{types_of}
 use Rattle.link_spec.specs.Tests.{are_types}
 use Rattle.link_types.specs.declared.refs.InstanceTypeRef.{InstanceTypeRef}
@@ -18,10 +18,11 @@ use Rattle.link_instances.specs.declared.references.DefinitionRef.{DefinitionRef
 use Rattle.link_instances.specs.declared.references.DefinitionRef.TheVariants as definition_ref
 use Rattle.link_instances.specs.References.{World}
 
--- whether a type is asked for
-abbrev pub is_type : Option (ℕ × ExternRef) → Bool
-is_type (Some (name, extern_ref.Type closed)) = true
-is_type entry = false
+-- whether an export is a type that names no resource
+abbrev pub is_plain : Extern → Bool
+is_plain (OfFunc type) = false
+is_plain (OfType type) = not (names_resource type)
+is_plain (OfInstance externs) = false
 
 -- the type that is asked for under a name, as a definition
 abbrev pub type_listed : Option (ℕ × ExternRef) → List (ℕ × DefinitionRef)

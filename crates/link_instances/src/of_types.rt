@@ -1,32 +1,50 @@
 //! Instances whose exports are the types that a type of instances asks for: one for each type.
 
 ghost use Rattle.std.specs.Prelude.{◌≡◌, ◌++◌, ℕ, List, Option, Some, None, IfOk, OnOk, OnErr, IsTrue};
-ghost use Rattle.comp_graph.specs.Closed.{Externs};
+ghost use Rattle.comp_graph.specs.Closed.{Extern, Externs};
 ghost use Rattle.link_spec.specs.Definitions as definitions;
 ghost use Rattle.link_spec.specs.Tests as tests;
-ghost use Rattle.link_types.specs.Table.{Table, IsInstanceType};
+ghost use Rattle.link_types.specs.Table.{Table, IsExtern, IsInstanceType, MayBeEntry};
 ghost use Rattle.link_instances.specs.References.{World, IsListing, with_base};
 ghost use Rattle.link_instances.specs.Instances.{AreInstances, HasInstance, GivesInstance};
-ghost use Rattle.link_instances.specs.OfTypes.{is_type, type_listed, base_of, kept_for, StayKept};
+ghost use Rattle.link_instances.specs.OfTypes.{is_plain, type_listed, base_of, kept_for, StayKept};
 
 use crate::instances::Instances;
 use crate::references::{DefinitionRef, InstanceRef};
-use link_types::{ExternRef, InstanceTypeRef, Listing, Types, asked_at, asked_count};
+use link_types::{
+    ExternRef, InstanceTypeRef, Listing, Types, asked_at, asked_count, names_resource,
+};
 use std::alloc::{AllocError, Global};
 
-/// Whether a type is asked for.
-fn is_type(entry: Option<(usize, ExternRef)>) -> bool
-    ensures { result ≡ is_type entry }
+/// Whether an export is a type that names no resource.
+#[tactic(auto, using(crate::proofs::TypesAsked::type_plain, crate::proofs::TypesAsked::func_not_plain, crate::proofs::TypesAsked::instance_not_plain))]
+fn is_plain(types: &Types<'_>, item: ExternRef) -> bool
+    ensures { (extern : Extern) → IsExtern types.now item extern → result ≡ is_plain extern }
 {
-    matches!(entry, Some((_, ExternRef::Type(_))))
+    match item {
+        ExternRef::Type(closed) => !names_resource(types, closed),
+        ExternRef::Func(_) => false,
+        ExternRef::Instance(_) => false,
+    }
 }
 
-/// Whether all that a type of instances asks for are types.
+/// Whether such a type is asked for.
+#[tactic(auto, using(crate::proofs::TypesAsked::entry_plain, crate::proofs::TypesAsked::none_plain))]
+fn is_plain_type(types: &Types<'_>, entry: Option<(usize, ExternRef)>) -> bool
+    ensures { (asked : List ℕ × Extern) → MayBeEntry types.now entry (Some asked) → result ≡ is_plain asked.1 }
+{
+    match entry {
+        Some((_, item)) => is_plain(types, item),
+        None => false,
+    }
+}
+
+/// Whether all that a type of instances asks for are types that name no resource.
 fn are_types(types: &Types<'_>, instance_type: InstanceTypeRef) -> bool
     ensures { (externs : Externs) → IsInstanceType types.now instance_type externs → result ≡ tests.are_types externs }
 {
     for at in 0..asked_count(types, instance_type) {
-        if !is_type(asked_at(types, instance_type, at)) {
+        if !is_plain_type(types, asked_at(types, instance_type, at)) {
             return false;
         }
     }
@@ -70,7 +88,7 @@ impl Instances {
         self.of_types.get(&instance_type).copied()
     }
 
-    /// Whether all that a type of instances asks for are types.
+    /// Whether all that a type of instances asks for are types that name no resource.
     pub fn are_types(&self, types: &Types<'_>, instance_type: InstanceTypeRef) -> bool
         ensures { (w : World) (externs : Externs) → AreInstances types.now w self.now → IsInstanceType types.now instance_type externs → result ≡ tests.are_types externs }
     {

@@ -4,7 +4,7 @@ use Rattle.std.specs.Option.{option_map}
 use Rattle.std.specs.List.{slice_get}
 use Rattle.comp_tree.specs.declared.externs.ExternDesc.{ExternDesc}
 use Rattle.comp_tree.specs.declared.externs.ExternDesc.TheVariants as desc
-use Rattle.comp_graph.specs.Closed.{Closed, Value, Func, Instance, OfFunc, OfType, OfInstance, func_of, externs_of}
+use Rattle.comp_graph.specs.Closed.{Closed, Value, Func, Resource, Instance, OfFunc, OfType, OfInstance, func_of, externs_of}
 use Rattle.link_spec.specs.Types.{absent, desc_meaning}
 use Rattle.link_types.specs.declared.refs.TypeRef.{TypeRef}
 use Rattle.link_types.specs.declared.refs.TypeRef.TheVariants as type_ref
@@ -32,12 +32,14 @@ module _ (t : Table) where
   of_func : (index : ℕ) (ref : TypeRef) (c : Closed) → IsType t ref c → IsFoundAs (IsExtern t) (described_ref (desc.Func index) ref) (option_map OfFunc (func_of c))
   of_func index (type_ref.Value type) (Value v) h = refl
   of_func index (type_ref.Func ref) (Func type) h = (OfFunc type, refl, h)
+  of_func index (type_ref.Resource number) (Resource other) h = refl
   of_func index (type_ref.Instance ref) (Instance externs) h = refl
   of_func index ref c h = absurd h
 
   of_instance : (index : ℕ) (ref : TypeRef) (c : Closed) → IsType t ref c → IsFoundAs (IsExtern t) (described_ref (desc.Instance index) ref) (option_map OfInstance (externs_of c))
   of_instance index (type_ref.Value type) (Value v) h = refl
   of_instance index (type_ref.Func ref) (Func type) h = refl
+  of_instance index (type_ref.Resource number) (Resource other) h = refl
   of_instance index (type_ref.Instance ref) (Instance externs) h = (OfInstance externs, refl, h)
   of_instance index ref c h = absurd h
 

@@ -31,7 +31,7 @@ module _ (t u : Table) (g : Grows t u) where
   enclosing_stay closures = all_stay (IsEnclosing t closures) (IsEnclosing u closures) (λ e l. seen_stays closures (enclosed_types e) (enclosed_components e) l)
 
   pub begun_stays : (maker : InstanceTypeMaker) (externs : Externs) → IsBegun t maker externs → IsBegun u maker externs
-  begun_stays maker externs h = (externs_layer_stays t u g maker.layer externs h.0, listed_stays t u g maker.externs externs h.1)
+  begun_stays maker externs h = (externs_layer_stays t u g maker.layer externs h.0, listed_stays t u g maker.externs externs h.1, h.2)
 
   pub so_far_stays : (s : SoFar) (m : Meaning Externs) → IsSoFar t s m → IsSoFar u s m
   so_far_stays s m h = record {

@@ -11,7 +11,7 @@ use Rattle.ca_types.specs.declared.types.FuncType.{FuncType}
 use Rattle.comp_tree.specs.declared.types.Param as read_param
 use Rattle.comp_tree.specs.declared.types.FuncType as read_func
 use Rattle.comp_tree.specs.declared.types.ValTypeRef.{ValTypeRef}
-use Rattle.comp_graph.specs.Closed.{Closed, Value, Func, Instance, value_of}
+use Rattle.comp_graph.specs.Closed.{Closed, Value, Func, Resource, Instance, value_of}
 use Rattle.link_spec.specs.Types.{meant, close_val, close_param, close_params, close_held, close_func}
 use Rattle.link_types.specs.declared.labels.LabelledType.{LabelledType}
 use Rattle.link_types.specs.declared.refs.FuncTypeRef.{FuncTypeRef}
@@ -30,6 +30,7 @@ use Rattle.link_meanings.proofs.Lists.{found_at}
 value_is : (t : Table) (ref : TypeRef) (c : Closed) → IsType t ref c → IsFoundAs (IsValue t) (value_ref ref) (value_of c)
 value_is t (type_ref.Value number) (Value v) h = (v, refl, h)
 value_is t (type_ref.Func ref) (Func type) h = refl
+value_is t (type_ref.Resource number) (Resource other) h = refl
 value_is t (type_ref.Instance ref) (Instance externs) h = refl
 value_is t ref c h = absurd h
 

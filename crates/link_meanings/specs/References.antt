@@ -15,6 +15,11 @@ abbrev pub value_ref : TypeRef → Option ℕ
 value_ref (type_ref.Value number) = Some number
 value_ref ref = None
 
+-- the number of the resource, if it is a type of resources
+abbrev pub resource_ref : TypeRef → Option ℕ
+resource_ref (type_ref.Resource number) = Some number
+resource_ref ref = None
+
 -- the type that an export is, and the type of the instance
 abbrev pub type_ref_in : Option ExternRef → Option TypeRef
 type_ref_in (Some (extern_ref.Type ref)) = Some ref

@@ -59,7 +59,7 @@ fn number_at(scope: &Enclosing<'_>, index: u32) -> Option<usize>
 {
     match scope.type_at(index)?? {
         TypeRef::Value(number) => Some(number),
-        TypeRef::Func(_) | TypeRef::Instance(_) => None,
+        TypeRef::Func(_) | TypeRef::Resource(_) | TypeRef::Instance(_) => None,
     }
 }
 

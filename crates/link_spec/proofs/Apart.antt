@@ -20,7 +20,7 @@ use Rattle.comp_tree.specs.declared.types.ValTypeRef.TheVariants as type_ref
 use Rattle.comp_tree.specs.declared.types.DefValType.{DefValType}
 use Rattle.comp_tree.specs.declared.types.Param as read_param
 use Rattle.comp_tree.specs.declared.types.FuncType as read_func
-use Rattle.comp_graph.specs.Closed.{Closed, Value, Func, Instance, Extern, OfFunc, OfType, OfInstance, Externs, EmptyType, WithExtern, extern_names, extern_named, first_of, externs_of, func_of, value_of}
+use Rattle.comp_graph.specs.Closed.{Closed, Value, Func, Resource, Instance, Extern, OfFunc, OfType, OfInstance, Externs, EmptyType, WithExtern, extern_names, extern_named, first_of, externs_of, func_of, value_of}
 use Rattle.link_spec.specs.Distinct.{HasDistinctLabels}
 use Rattle.link_spec.specs.Shallow.{depth_limit, IsShallow, HasShallowTypes}
 use Rattle.link_spec.specs.Meaning.{absent, meant, too_deep, found}
@@ -36,6 +36,7 @@ abbrev mutual
   pub IsApart : Closed → Type 0
   IsApart (Value type) = IsShallow type
   IsApart (Func type) = IsFuncApart type
+  IsApart (Resource number) = Unit {0}
   IsApart (Instance externs) = AreApart externs
 
   pub IsExternApart : Extern → Type 0
@@ -58,6 +59,7 @@ AreKnownApart externs = IfSome externs AreApart
 of_value_apart : (type : Closed) → IsApart type → IfSome (value_of type) IsShallow
 of_value_apart (Value type) h = h
 of_value_apart (Func type) h = tt
+of_value_apart (Resource number) h = tt
 of_value_apart (Instance externs) h = tt
 
 val_shallow : (types : List (Option Closed)) (type : ValTypeRef) → AllByRecursion IsKnownApart types → IfSome (close_val types type) IsShallow
@@ -140,11 +142,13 @@ found_apart f P Q g (Some o) h = if_found f P Q g o h
 pub of_func_apart : (type : Closed) → IsApart type → IfSome (func_of type) IsFuncApart
 of_func_apart (Value type) h = tt
 of_func_apart (Func type) h = h
+of_func_apart (Resource number) h = tt
 of_func_apart (Instance externs) h = tt
 
 of_externs_apart : (type : Closed) → IsApart type → IfSome (externs_of type) AreApart
 of_externs_apart (Value type) h = tt
 of_externs_apart (Func type) h = tt
+of_externs_apart (Resource number) h = tt
 of_externs_apart (Instance externs) h = h
 
 pub desc_apart : (types : List (Option Closed)) (asked : ExternDesc) → AllByRecursion IsKnownApart types → IfSome (desc_meaning types asked).means IsExternApart

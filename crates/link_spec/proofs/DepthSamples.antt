@@ -13,7 +13,10 @@ use Rattle.comp_tree.specs.declared.types.PrimValType.TheVariants.{U32}
 use Rattle.comp_tree.specs.declared.types.ValTypeRef.TheVariants as type_ref
 use Rattle.comp_tree.specs.declared.types.DefValType.TheVariants as value
 use Rattle.comp_tree.specs.declared.types.DefType.{DefType}
+use Rattle.comp_tree.specs.declared.types.DefType.TheOpen.{DefType-F}
+use Rattle.comp_tree.specs.declared.types.DefType.TheViews.{outs-Value}
 use Rattle.comp_tree.specs.declared.types.DefType.TheVariants as plain_type
+use Rattle.comp_tree.specs.declared.types.InstanceDecl.{InstanceDecl}
 use Rattle.comp_tree.specs.declared.items.Item.TheViews.{outs-Type}
 use Rattle.link_spec.specs.declared.fault.LinkFault.{LinkFault}
 use Rattle.link_spec.specs.declared.fault.LinkWhy.TheVariants as why
@@ -22,8 +25,10 @@ use Rattle.link_spec.specs.Meaning.{Meaning, meant, too_deep}
 use Rattle.link_spec.specs.Shallow.{depth_limit}
 use Rattle.link_spec.specs.ValueTypes.{capped, value_meaning}
 use Rattle.link_spec.specs.Spaces.{Spaces, new_spaces, Begin, Linking, levels_at}
+use Rattle.link_spec.specs.Resources.{resource_written}
+use Rattle.link_spec.specs.Items.{type_meaning}
 use Rattle.link_spec.specs.Linked.{root_begun}
-use Rattle.link_spec.specs.Computed.{Run, run, type_outcome, outcome_case, item_outcome, answer_of}
+use Rattle.link_spec.specs.Computed.{Run, run, type_outcome, defined_outcome, outcome_case, item_outcome, answer_of}
 use Rattle.link_spec.specs.Examples.{placed_from, fault, list_of, lists_of, lists, begins}
 use Rattle.link_spec.proofs.Holding.{last_there}
 use Rattle.link_spec.proofs.Depths.{leaf_depth}
@@ -48,7 +53,7 @@ abbrev spaces : ℕ → Spaces
 spaces n = record (new_spaces None []) { types = known n }
 
 abbrev so_far : ℕ → Linking
-so_far n = record { scopes = spaces n ∷ []; cores = []; canons = []; plan = Begin 0 ∷ []; end_types = [] }
+so_far n = record { scopes = spaces n ∷ []; cores = []; canons = []; resources = []; plan = Begin 0 ∷ []; end_types = [] }
 
 pub known_length : (n : ℕ) → length (known n) ≡ suc n
 known_length zero = refl
@@ -77,6 +82,7 @@ list_type n = plain_type.Value (value.List (type_ref.Index n))
 list_outcome : (n : ℕ) (meaning : Meaning Closed) → capped (Some (nested (suc n))) ≡ meaning → item_outcome (so_far n) 0 (spaces n) (list_of n) ≡ type_outcome (so_far n) 0 (spaces n) meaning
 list_outcome n meaning e =
     ap (outcome_case (so_far n) 0 (spaces n)) (outs-Type (list_type n))
+    ∙ ap (λ (y : DefType-F DefType InstanceDecl). defined_outcome (so_far n) 0 (spaces n) (resource_written y) (type_meaning (so_far n) 0 (spaces n) (list_type n))) (outs-Value (value.List (type_ref.Index n)))
     ∙ ap (type_outcome (so_far n) 0 (spaces n)) (value_rolled (value.List (type_ref.Index n)) (levels_at (so_far n) (0 ∷ [])) ∙ list_meaning n ∙ e)
 
 pub shallow_list : (n : ℕ) → suc (suc n) ≤ depth_limit → capped (Some (nested (suc n))) ≡ meant (Some (Value (nested (suc n))))
@@ -116,7 +122,7 @@ refused inside n (suc more) at h =
 
 -- The component, which begins with u32.
 first : (inside : Run) (count : ℕ) → run inside root_begun 0 (lists count).items ≡ run inside (so_far 0) 0 (placed_from 1 (lists_of 0 count))
-first inside count = simp (outs-Type, value_rolled, leaf_depth, outs-U32) refl
+first inside count = simp (outs-Type, outs-Value, value_rolled, leaf_depth, outs-U32) refl
 
 pub within : (inside : Run) → answer_of (run inside root_begun 0 (lists 31).items) ≡ begins (0 ∷ [])
 within inside = ap answer_of (first inside 31 ∙ made inside 0 31 1 (omega arith))

@@ -18,6 +18,7 @@ use Rattle.comp_tree.specs.declared.instances.Sort.{Sort}
 use Rattle.comp_tree.specs.declared.instances.Sort.TheVariants as sorts
 use Rattle.comp_tree.specs.declared.instances.AliasTarget.{AliasTarget}
 use Rattle.comp_tree.specs.declared.instances.AliasTarget.TheVariants as target
+use Rattle.comp_tree.specs.declared.types.DefType.{out-DefType}
 use Rattle.comp_tree.specs.declared.externs.ExternDesc.{ExternDesc}
 use Rattle.comp_tree.specs.declared.externs.ExternDesc.TheVariants as desc
 use Rattle.comp_tree.specs.declared.externs.Export as read
@@ -28,13 +29,15 @@ use Rattle.comp_tree.specs.declared.items.Item.TheOpen.{Item-F}
 use Rattle.comp_tree.specs.declared.items.Component.{Component}
 use Rattle.link_spec.specs.declared.fault.LinkWhy.{LinkWhy}
 use Rattle.link_spec.specs.declared.fault.LinkWhy.TheVariants as why
+use Rattle.comp_graph.specs.Needs.{destructor_type}
 use Rattle.comp_graph.specs.Closed.{Closed, Extern, OfFunc, OfType, OfInstance, func_of}
 use Rattle.link_spec.specs.Definitions.{CoreItem, CoreExport, core_named, CoreFits, Closure, Definition, AFunc, AType, AComponent, AnInstance, AModule, Exports, EmptyInstance, WithExport, export_names, export_named, Fits, lacks}
-use Rattle.link_spec.specs.Canons.{IsOptionThere, given_by, CanBeLifted, CanBeLowered}
+use Rattle.link_spec.specs.Canons.{IsOptionThere, given_by, IsOfCoreType, CanBeLifted, CanBeLowered}
 use Rattle.link_spec.specs.Builtins.{BuiltinMeaning, builtin_meaning}
-use Rattle.link_spec.specs.Types.{Meaning, found, meaning_of, desc_meaning}
+use Rattle.link_spec.specs.Resources.{resource_written, resource_has, resource_makes}
+use Rattle.link_spec.specs.Types.{Meaning, found, desc_meaning}
 use Rattle.link_spec.specs.Spaces.{Spaces, Linking, core_size, size_of, core_item_at, definition_at, IsOfSort, levels_at, outer_at}
-use Rattle.link_spec.specs.Items.{AnyByRecursion, first_told, argument_named, import_found, argument_lacking, import_lacks, FindsOther, IsThere, FindsItem, core_instance_has, IsInline, core_instance_makes, AreNamed, named_have, instance_has, instance_makes, IsCoreOf, alias_has, alias_makes, type_has, type_makes, lift_has, lift_makes, lower_has, lower_makes, builtin_has, builtin_makes, wanted, IsOfTypes, IsRootImport, lacking, DoesNotFit, import_has, IsImported, import_makes, said, IsSaid, export_has, IsExported, export_makes, has_case, makes_case}
+use Rattle.link_spec.specs.Items.{AnyByRecursion, first_told, argument_named, import_found, argument_lacking, import_lacks, FindsOther, IsThere, FindsItem, core_instance_has, IsInline, core_instance_makes, AreNamed, named_have, instance_has, instance_makes, IsCoreOf, alias_has, alias_makes, type_has, type_makes, defined_has, defined_makes, type_meaning, lift_has, lift_makes, lower_has, lower_makes, builtin_has, builtin_makes, wanted, IsOfTypes, IsRootImport, lacking, DoesNotFit, import_has, IsImported, import_makes, said, IsSaid, export_has, IsExported, export_makes, has_case, makes_case}
 use Rattle.link_spec.specs.Linked.{Begins}
 use Rattle.link_spec.specs.Laws.{MakesExcludesReasons, BeginsExcludesReasons, MakesExcludesBegins}
 use Rattle.link_spec.proofs.Lists.{some_all, some_zip, none_told, match_at, map_some, then_some, not_there, mapped_there}
@@ -167,6 +170,19 @@ type_excludes l n s meaning new why.Typing whole (closed, is, made) h = both_of 
 type_excludes l n s meaning new why.Limit whole (closed, is, made) deep = true_false meaning.deep deep is.1
 type_excludes l n s meaning new why.RootImport whole k h = h
 type_excludes l n s meaning new why.Canon whole k h = h
+
+resource_excludes : (l : Linking) (n : ℕ) (s : Spaces) (destructor : Option ℕ) (new : Linking) (w : LinkWhy) → resource_makes l n s destructor new → resource_has s destructor w → ⊥
+resource_excludes l n s None new w k h = h
+resource_excludes l n s (Some f) new why.Index (item, core, is, of_item, of_type, made) h = both_of (slice_get s.core_funcs f) item is h
+resource_excludes l n s (Some f) new why.Canon (item, core, is, of_item, of_type, made) h = match_at (λ item. IsOfCoreType destructor_type item → ⊥) (slice_get s.core_funcs f) item is h of_type
+resource_excludes l n s (Some f) new why.RootImport k h = h
+resource_excludes l n s (Some f) new (why.Missing name) k h = h
+resource_excludes l n s (Some f) new why.Typing k h = h
+resource_excludes l n s (Some f) new why.Limit k h = h
+
+defined_excludes : (l : Linking) (n : ℕ) (s : Spaces) (destructor : Option (Option ℕ)) (meaning : Meaning Closed) (new : Linking) (w : LinkWhy) → IsWhole meaning → defined_makes l n s destructor meaning new → defined_has s destructor meaning w → ⊥
+defined_excludes l n s (Some destructor) meaning new w whole k h = resource_excludes l n s destructor new w k h
+defined_excludes l n s None meaning new w whole k h = type_excludes l n s meaning new w whole k h
 
 -- Lifts.
 
@@ -304,10 +320,10 @@ case_excludes l n s (Item-F.Component c) new w k h = h
 case_excludes l n s (Item-F.Instance i) new w k h = instance_excludes l n s i new w k h
 case_excludes l n s (Item-F.Alias alias) new w k h = alias_excludes l n s alias.sort alias.target new w k h
 case_excludes l n s (Item-F.Type type) new w k h =
-    type_excludes l n s (meaning_of type (levels_at l (n ∷ s.around))) new w (whole_meaning type (levels_at l (n ∷ s.around))) k h
+    defined_excludes l n s (resource_written (out-DefType type)) (type_meaning l n s type) new w (whole_meaning type (levels_at l (n ∷ s.around))) k h
 case_excludes l n s (Item-F.Canon (Lift f options t)) new w k h = lift_excludes l n s f options t new w k h
 case_excludes l n s (Item-F.Canon (Lower f options)) new w k h = lower_excludes l n s f options new w k h
-case_excludes l n s (Item-F.Canon (Builtin b)) new w k h = builtin_excludes l n s (builtin_meaning s b) new w k h
+case_excludes l n s (Item-F.Canon (Builtin b)) new w k h = builtin_excludes l n s (builtin_meaning l n s b) new w k h
 case_excludes l n s (Item-F.Import i) new w k h = import_excludes l n s i.name i.desc new w k h
 case_excludes l n s (Item-F.Export e) new w k h = export_excludes l n s e new w k h
 

@@ -1,5 +1,5 @@
 -- Instances stay few.
-use Rattle.std.proofs.Common.{◌≡◌, ◌<◌, ◌≤◌, ℕ, [], ◌∷◌, length, set, sym, subst, arith, length-append, Some, map}
+use Rattle.std.proofs.Common.{◌≡◌, ◌<◌, ◌≤◌, ℕ, [], ◌∷◌, length, set, sym, subst, arith, length-append, Option, None, Some, map}
 use Rattle.std.proofs.Math.ListN.{length-set}
 use Rattle.comp_graph.specs.Graph.{Graph}
 use Rattle.comp_tree.specs.declared.core_instances.CoreInstance.{CoreInstance}
@@ -9,14 +9,18 @@ use Rattle.comp_tree.specs.declared.instances.Instance.TheVariants as made
 use Rattle.comp_tree.specs.declared.instances.Sort.{Sort}
 use Rattle.comp_tree.specs.declared.instances.AliasTarget.{AliasTarget}
 use Rattle.comp_tree.specs.declared.instances.AliasTarget.TheVariants as target
+use Rattle.comp_tree.specs.declared.types.DefType.{out-DefType}
 use Rattle.comp_tree.specs.declared.items.Canon.TheVariants.{Lift, Lower, Builtin}
 use Rattle.comp_tree.specs.declared.items.Item.{Item, out-Item}
 use Rattle.comp_tree.specs.declared.items.Item.TheOpen.{Item-F}
 use Rattle.comp_tree.specs.declared.items.Component.{Component}
+use Rattle.comp_graph.specs.Closed.{Closed}
 use Rattle.link_spec.specs.Definitions.{extern_of, Closure, Exports, exports_of}
+use Rattle.link_spec.specs.Resources.{resource_written}
+use Rattle.link_spec.specs.Types.{Meaning}
 use Rattle.link_spec.specs.Ends.{noted_type}
 use Rattle.link_spec.specs.Spaces.{Spaces, Linking, new_spaces, with_spaces, with_ends, with_core_instance}
-use Rattle.link_spec.specs.Items.{instance_limit, core_made, core_instance_makes, instance_makes, alias_makes, makes_case}
+use Rattle.link_spec.specs.Items.{instance_limit, core_made, core_instance_makes, instance_makes, alias_makes, defined_makes, type_meaning, makes_case}
 use Rattle.link_spec.specs.Linked.{begun, with_instance, leads_by_making, leads_by_instance, no_items, item_links, root_begun}
 use Rattle.link_spec.specs.Laws.{IsFew, FewInstances, GraphsAreFew}
 
@@ -46,13 +50,18 @@ alias_few l n s sort (target.InstanceExport instance name) new (d, is, of_sort, 
 alias_few l n s sort (target.CoreInstanceExport instance name) new (item, is, of_sort, made) h = few_made l n _ new made h
 alias_few l n s sort (target.Outer up index) new (d, is, made) h = few_made l n _ new made h
 
+type_few : (l : Linking) (n : ℕ) (s : Spaces) (destructor : Option (Option ℕ)) (meaning : Meaning Closed) (new : Linking) → defined_makes l n s destructor meaning new → IsFew l → IsFew new
+type_few l n s (Some None) meaning new made h = subst IsFew (sym made) (few_with l n _ h)
+type_few l n s (Some (Some f)) meaning new (item, core, is, of_item, of_type, made) h = subst IsFew (sym made) (few_with l n _ h)
+type_few l n s None meaning new (closed, is, made) h = few_made (with_ends l (noted_type l.end_types closed)) n _ new made h
+
 case_few : (l : Linking) (n : ℕ) (s : Spaces) (shape : Item-F Item Component) (new : Linking) → makes_case l n s shape new → IsFew l → IsFew new
 case_few l n s (Item-F.CoreModule m) new made h = few_made l n _ new made h
 case_few l n s (Item-F.CoreInstance c) new made h = core_instance_few l n s c new made h
 case_few l n s (Item-F.Component c) new made h = few_made l n _ new made h
 case_few l n s (Item-F.Instance i) new made h = instance_few l n s i new made h
 case_few l n s (Item-F.Alias alias) new made h = alias_few l n s alias.sort alias.target new made h
-case_few l n s (Item-F.Type type) new (closed, is, made) h = few_made (with_ends l (noted_type l.end_types closed)) n _ new made h
+case_few l n s (Item-F.Type type) new makes h = type_few l n s (resource_written (out-DefType type)) (type_meaning l n s type) new makes h
 case_few l n s (Item-F.Canon (Lift f options t)) new (item, core, type, is, of_item, there, of_type, once, fits, made) h = few_made l n _ new made h
 case_few l n s (Item-F.Canon (Lower f options)) new (func, is, there, once, fits, made) h = subst IsFew (sym made) (few_with l n _ h)
 case_few l n s (Item-F.Canon (Builtin b)) new (kind, there, is, serves, made) h = subst IsFew (sym made) (few_with l n _ h)

@@ -9,7 +9,9 @@ use Rattle.comp_tree.specs.declared.externs.ExternDesc.TheVariants as desc
 use Rattle.comp_tree.specs.declared.types.PrimValType.TheVariants.{U32}
 use Rattle.comp_tree.specs.declared.types.ValTypeRef.TheVariants as type_ref
 use Rattle.comp_tree.specs.declared.types.DefValType.TheVariants as value
-use Rattle.comp_tree.specs.declared.types.DefType.{DefType}
+use Rattle.comp_tree.specs.declared.types.DefType.{DefType, out-DefType}
+use Rattle.comp_tree.specs.declared.types.DefType.TheOpen.{DefType-F}
+use Rattle.comp_tree.specs.declared.types.DefType.TheViews.{outs-Instance}
 use Rattle.comp_tree.specs.declared.types.DefType.TheVariants as plain_type
 use Rattle.comp_tree.specs.declared.types.DefType.TheViews as def_type
 use Rattle.comp_tree.specs.declared.types.InstanceDecl.{InstanceDecl}
@@ -23,6 +25,7 @@ use Rattle.link_spec.specs.Shallow.{depth_limit}
 use Rattle.link_spec.specs.ValueTypes.{capped, value_meaning}
 use Rattle.link_spec.specs.Spaces.{new_spaces, Level, levels_at}
 use Rattle.link_spec.specs.Types.{Declared, own_level, with_type, with_export, declared_by, nothing_declared, instance_meaning, meaning_of}
+use Rattle.link_spec.specs.Resources.{resource_written}
 use Rattle.link_spec.specs.Linked.{root_begun}
 use Rattle.link_spec.specs.Computed.{type_outcome, Run, run, answer_of}
 use Rattle.link_spec.specs.Examples.{root, fault, u32, lists_declared, of_lists, begins}
@@ -139,8 +142,8 @@ export_absent : (types : List (Option Closed)) → slice_get (types ++ Some (Val
 export_absent types h = rw h refl
 
 -- a component of one type
-one_type : (inside : Run) (type : DefType) (w : LinkWhy) → Comes (meaning_of type (levels_at root_begun (0 ∷ []))) w → answer_of (run inside root_begun 0 (root (plain.Type type ∷ [])).items) ≡ fault 0 w
-one_type inside type w h = simp (outs-Type, h) refl
+one_type : (inside : Run) (type : DefType) (w : LinkWhy) → resource_written (out-DefType type) ≡ None → Comes (meaning_of type (levels_at root_begun (0 ∷ []))) w → answer_of (run inside root_begun 0 (root (plain.Type type ∷ [])).items) ≡ fault 0 w
+one_type inside type w none h = simp (outs-Type, none, h) refl
 
 -- the instance type with one export behind the lists
 abbrev exporting : ExternDesc → DefType
@@ -152,13 +155,14 @@ export_one inside asked w h =
     let levels = levels_at root_begun (0 ∷ []) in
     let others : List InstanceDecl = plain_type.Export (codes "a") asked ∷ [] in
     one_type inside (exporting asked) w
+    (ap (λ (y : DefType-F DefType InstanceDecl). resource_written y) (outs-Instance (of_u32 32 others)))
     (ap (type_outcome root_begun 0 (new_spaces None [])) (beyond_meaning others levels ∙ ap instance_meaning (export_rolled (codes "a") asked levels (too_deep_behind (opened 31)))) ∙ h)
 
 pub within : (inside : Run) → answer_of (run inside root_begun 0 (of_lists 31 []).items) ≡ begins (0 ∷ [])
-within inside = simp (outs-Type, within_meaning) refl
+within inside = simp (outs-Type, outs-Instance, within_meaning) refl
 
 pub beyond : (inside : Run) → answer_of (run inside root_begun 0 (of_lists 32 []).items) ≡ fault 0 why.Limit
-beyond inside = simp (outs-Type, beyond_meaning) refl
+beyond inside = simp (outs-Type, outs-Instance, beyond_meaning) refl
 
 pub exported : (inside : Run) → answer_of (run inside root_begun 0 (of_lists 32 (plain_type.Export (codes "a") (desc.TypeEq 32) ∷ [])).items) ≡ fault 0 why.Limit
 exported inside = export_one inside (desc.TypeEq 32) why.Limit (export_deep (opened 31) (last_opened 31 (Some (Value leaves.Bool))))

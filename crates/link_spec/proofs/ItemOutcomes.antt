@@ -1,4 +1,4 @@
--- What is computed of aliases, types, lifts, lowers, imports and exports.
+-- What is computed of aliases, types, resources, lifts, lowers, imports and exports.
 use Rattle.std.proofs.Common.{◌≡◌, ◌⊎◌, inl, inr, ℕ, Bool, true, false, not, nat_lt, List, ◌∷◌, refl, sym, ap, subst, arith, Option, Some, None}
 use Rattle.std.specs.Prelude.{Ok}
 use Rattle.std.specs.Option.{option_and_then, MatchOption}
@@ -7,7 +7,8 @@ use Rattle.ca_base.specs.Names.{is_among}
 use Rattle.ca_types.specs.declared.types.FuncType.{FuncType}
 use Rattle.wasm_module.specs.declared.types.FuncType as core
 use Rattle.comp_graph.specs.CoreItems.{core_func_of, func_part}
-use Rattle.comp_graph.specs.Needs.{lift_type}
+use Rattle.comp_graph.specs.Needs.{lift_type, destructor_type}
+use Rattle.comp_graph.specs.declared.graph.FuncRef.{FuncRef}
 use Rattle.comp_tree.specs.declared.instances.Sort.{Sort}
 use Rattle.comp_tree.specs.declared.instances.AliasTarget.{AliasTarget}
 use Rattle.comp_tree.specs.declared.instances.AliasTarget.TheVariants as target
@@ -17,17 +18,18 @@ use Rattle.comp_tree.specs.declared.items.CanonOption.{CanonOption}
 use Rattle.link_spec.specs.declared.fault.LinkWhy.TheVariants as why
 use Rattle.comp_graph.specs.Closed.{Closed, Extern, OfFunc, OfType, OfInstance, func_of}
 use Rattle.link_spec.specs.Definitions.{CoreItem, Func, Table, Memory, Global, core_named, Lifted, Definition, AFunc, AnInstance, Exports, export_names, export_named, lacks, seen_as, types_of}
-use Rattle.link_spec.specs.Canons.{IsOptionThere, Given, given_by, options_of, CanBeLifted, CanBeLowered, stand_once, is_option_there, can_be_lifted, can_be_lowered}
+use Rattle.link_spec.specs.Canons.{IsOptionThere, Given, given_by, options_of, IsOfCoreType, CanBeLifted, CanBeLowered, stand_once, is_option_there, is_of_core_type, can_be_lifted, can_be_lowered}
 use Rattle.link_spec.specs.Builtins.{BuiltinMeaning}
+use Rattle.link_spec.specs.Resources.{with_resource, resource_has, resource_makes}
 use Rattle.link_spec.specs.Types.{Meaning}
 use Rattle.link_spec.specs.Spaces.{Spaces, Linking, size_of, definition_at, IsOfSort, with_core_item, with_definition, with_spaces, outer_at}
-use Rattle.link_spec.specs.Items.{AnyByRecursion, IsCoreOf, alias_has, alias_makes, type_has, type_makes, lift_has, lift_makes, lower_has, lower_made, lower_makes, builtin_has, builtin_makes, wanted, IsOfTypes, lacking, DoesNotFit, import_has, with_import, IsImported, import_makes, said, IsSaid, export_has, with_export, IsExported, export_makes}
+use Rattle.link_spec.specs.Items.{AnyByRecursion, IsCoreOf, alias_has, alias_makes, type_has, type_makes, defined_has, defined_makes, lift_has, lift_makes, lower_has, lower_made, lower_makes, builtin_has, builtin_makes, wanted, IsOfTypes, lacking, DoesNotFit, import_has, with_import, IsImported, import_makes, said, IsSaid, export_has, with_export, IsExported, export_makes}
 use Rattle.link_spec.specs.Tests.{is_core_of, is_of_sort, fits, root_may_import}
-use Rattle.link_spec.specs.Computed.{after, there_or, Outcome, Makes, core_aliased, alias_outcome, type_outcome, lifted_to, lifted_of, lift_outcome, lowered_from, lower_outcome, builtin_outcome, root_given, as_asked, import_outcome, said_is_there, said_lacks, as_said, export_outcome}
+use Rattle.link_spec.specs.Computed.{after, there_or, Outcome, Makes, core_aliased, alias_outcome, type_outcome, destructor_at, resource_outcome, defined_outcome, lifted_to, lifted_of, lift_outcome, lowered_from, lower_outcome, builtin_outcome, root_given, as_asked, import_outcome, said_is_there, said_lacks, as_said, export_outcome}
 use Rattle.link_spec.proofs.Lists.{some_all, match_at, match_some, then_some}
 use Rattle.link_spec.proofs.Excluding.{both_of, true_false}
 use Rattle.link_spec.proofs.Telling.{less, not_less, fails, all_pass_or, core_of_told, sort_told, fits_told, root_refused, root_taken, root_types}
-use Rattle.link_spec.proofs.Lifting.{once_told, option_told, lifted_told, lowered_told}
+use Rattle.link_spec.proofs.Lifting.{of_type_told, once_told, option_told, lifted_told, lowered_told}
 use Rattle.link_spec.proofs.Sounding.{Clear, First, Sound, clear_root, clear_index, clear_missing, clear_typing, clear_canon, sound_if, sound_there, sound_behind, sound_missing, sound_checked, sound_found, match_in, match_none}
 use Rattle.link_spec.proofs.CoreOutcomes.{MakesBy}
 
@@ -86,7 +88,7 @@ not_true false h = refl
 
 -- Types.
 
-pub type_sound : (l : Linking) (n : ℕ) (s : Spaces) (meaning : Meaning Closed) → Sound (type_has meaning) (MakesBy (type_makes l n s meaning)) (type_outcome l n s meaning)
+type_sound : (l : Linking) (n : ℕ) (s : Spaces) (meaning : Meaning Closed) → Sound (type_has meaning) (MakesBy (type_makes l n s meaning)) (type_outcome l n s meaning)
 type_sound l n s meaning =
     let P = type_has meaning in
     let Q = MakesBy (type_makes l n s meaning) in
@@ -100,6 +102,32 @@ type_sound l n s meaning =
     sound_if P Q (not meaning.deep) why.Limit _ typed (λ deep. not_false meaning.deep deep)
     (λ shallow. (closed, (is, not_true meaning.deep shallow), refl))))))))
 
+-- a core item of a function type is a function
+not_func : (item : CoreItem) (type : core.FuncType) → func_part item ≡ Some type → core_func_of item ≡ None → ⊥
+not_func (Func f other) type h e = cc
+not_func (Table t limits) type h e = cc
+not_func (Memory memory limits) type h e = cc
+not_func (Global g of_core) type h e = cc
+
+resource_sound : (l : Linking) (n : ℕ) (s : Spaces) (destructor : Option ℕ) → Sound (resource_has s destructor) (MakesBy (resource_makes l n s destructor)) (resource_outcome l n s destructor)
+resource_sound l n s None = refl
+resource_sound l n s (Some f) =
+    let P = resource_has s (Some f) in
+    let Q = (λ (destructor : Option FuncRef). resource_makes l n s (Some f) (with_resource l n s destructor)) in
+    let root = clear_root P (λ h. h) in
+    sound_behind P (MakesBy (resource_makes l n s (Some f))) (destructor_at s (Some f)) _ (
+    sound_there P Q (slice_get s.core_funcs f) why.Index _ root (λ none. none) (λ item there.
+    (let index = clear_index P root (λ none. both_of (slice_get s.core_funcs f) item there none) in
+    let clear = clear_typing P (clear_missing P index (λ name h. h)) (λ h. h) in
+    sound_if P Q (is_of_core_type destructor_type item) why.Canon _ clear
+    (λ other. match_in (λ item. IsOfCoreType destructor_type item → ⊥) (slice_get s.core_funcs f) item there (fails (is_of_core_type destructor_type item) (of_type_told destructor_type item) other)) (λ fits.
+    sound_there P Q (core_func_of item) why.Canon _ clear (λ none. absurd (not_func item destructor_type ((of_type_told destructor_type item).0 fits) none))
+    (λ core of_item. (item, core, there, of_item, (of_type_told destructor_type item).0 fits, refl))))))
+
+pub defined_sound : (l : Linking) (n : ℕ) (s : Spaces) (destructor : Option (Option ℕ)) (meaning : Meaning Closed) → Sound (defined_has s destructor meaning) (MakesBy (defined_makes l n s destructor meaning)) (defined_outcome l n s destructor meaning)
+defined_sound l n s (Some destructor) meaning = resource_sound l n s destructor
+defined_sound l n s None meaning = type_sound l n s meaning
+
 -- Lifts.
 
 -- what the lift of these indices makes is this function
@@ -112,13 +140,6 @@ Unfit s options type item = CanBeLifted type item (given_by s options) → ⊥
 
 abbrev UnfitAt : Spaces → ℕ → List CanonOption → FuncType → Type 0
 UnfitAt s f options type = MatchOption (slice_get s.core_funcs f) ⊥ (Unfit s options type)
-
--- a core item of a function type is a function
-not_func : (item : CoreItem) (type : core.FuncType) → func_part item ≡ Some type → core_func_of item ≡ None → ⊥
-not_func (Func f other) type h e = cc
-not_func (Table t limits) type h e = cc
-not_func (Memory memory limits) type h e = cc
-not_func (Global g of_core) type h e = cc
 
 lifted_sound : (l : Linking) (n : ℕ) (s : Spaces) (f : ℕ) (options : List CanonOption) (t : ℕ) (type : FuncType) (item : CoreItem) → slice_get s.core_funcs f ≡ Some item → AllByRecursion (IsOptionThere s) options
     → option_and_then func_of (slice_get s.types t) ≡ Some type → Clear (lift_has s f options t) 4

@@ -1,5 +1,5 @@
 -- No item takes a component instance away.
-use Rattle.std.proofs.Common.{◌≡◌, ◌≤◌, ◌+◌, ℕ, List, [], ◌∷◌, length, ◌∙◌, ap, arith, length-append, Some}
+use Rattle.std.proofs.Common.{◌≡◌, ◌≤◌, ◌+◌, ℕ, List, [], ◌∷◌, length, ◌∙◌, ap, arith, length-append, Option, None, Some}
 use Rattle.std.proofs.Math.ListN.{length-set}
 use Rattle.ca_base.specs.declared.placed.Placed.{Placed}
 use Rattle.comp_tree.specs.declared.core_instances.CoreInstance.{CoreInstance}
@@ -9,14 +9,18 @@ use Rattle.comp_tree.specs.declared.instances.Instance.TheVariants as made
 use Rattle.comp_tree.specs.declared.instances.Sort.{Sort}
 use Rattle.comp_tree.specs.declared.instances.AliasTarget.{AliasTarget}
 use Rattle.comp_tree.specs.declared.instances.AliasTarget.TheVariants as target
+use Rattle.comp_tree.specs.declared.types.DefType.{out-DefType}
 use Rattle.comp_tree.specs.declared.items.Canon.TheVariants.{Lift, Lower, Builtin}
 use Rattle.comp_tree.specs.declared.items.Item.{Item, out-Item}
 use Rattle.comp_tree.specs.declared.items.Item.TheOpen.{Item-F}
 use Rattle.comp_tree.specs.declared.items.Component.{Component}
+use Rattle.comp_graph.specs.Closed.{Closed}
 use Rattle.link_spec.specs.Definitions.{Closure, Exports, exports_of}
+use Rattle.link_spec.specs.Resources.{resource_written}
+use Rattle.link_spec.specs.Types.{Meaning}
 use Rattle.link_spec.specs.Ends.{noted_type}
 use Rattle.link_spec.specs.Spaces.{Spaces, Linking, new_spaces, with_spaces, with_ends, with_core_instance}
-use Rattle.link_spec.specs.Items.{core_instance_makes, instance_makes, alias_makes, makes_case, item_makes}
+use Rattle.link_spec.specs.Items.{core_instance_makes, instance_makes, alias_makes, defined_makes, type_meaning, makes_case, item_makes}
 use Rattle.link_spec.specs.Linked.{begun, with_instance, Links, leads_by_making, leads_by_instance, no_items, item_links}
 
 made_length : (l : Linking) (n : ℕ) (s : Spaces) (new : Linking) → new ≡ with_spaces l n s → length new.scopes ≡ length l.scopes
@@ -36,13 +40,18 @@ alias_length l n s sort (target.InstanceExport instance name) new (d, is, of_sor
 alias_length l n s sort (target.CoreInstanceExport instance name) new (item, is, of_sort, made) = made_length l n _ new made
 alias_length l n s sort (target.Outer up index) new (d, is, made) = made_length l n _ new made
 
+type_length : (l : Linking) (n : ℕ) (s : Spaces) (destructor : Option (Option ℕ)) (meaning : Meaning Closed) (new : Linking) → defined_makes l n s destructor meaning new → length new.scopes ≡ length l.scopes
+type_length l n s (Some None) meaning new made = ap (λ (l : Linking). length l.scopes) made ∙ length-set l.scopes n _
+type_length l n s (Some (Some f)) meaning new (item, core, is, of_item, of_type, made) = ap (λ (l : Linking). length l.scopes) made ∙ length-set l.scopes n _
+type_length l n s None meaning new (closed, is, made) = made_length (with_ends l (noted_type l.end_types closed)) n _ new made
+
 case_length : (l : Linking) (n : ℕ) (s : Spaces) (shape : Item-F Item Component) (new : Linking) → makes_case l n s shape new → length new.scopes ≡ length l.scopes
 case_length l n s (Item-F.CoreModule m) new made = made_length l n _ new made
 case_length l n s (Item-F.CoreInstance c) new made = core_instance_length l n s c new made
 case_length l n s (Item-F.Component c) new made = made_length l n _ new made
 case_length l n s (Item-F.Instance i) new made = instance_length l n s i new made
 case_length l n s (Item-F.Alias alias) new made = alias_length l n s alias.sort alias.target new made
-case_length l n s (Item-F.Type type) new (closed, is, made) = made_length (with_ends l (noted_type l.end_types closed)) n _ new made
+case_length l n s (Item-F.Type type) new makes = type_length l n s (resource_written (out-DefType type)) (type_meaning l n s type) new makes
 case_length l n s (Item-F.Canon (Lift f options t)) new (item, core, type, is, of_item, there, of_type, once, fits, made) = made_length l n _ new made
 case_length l n s (Item-F.Canon (Lower f options)) new (func, is, there, once, fits, made) = ap (λ (l : Linking). length l.scopes) made ∙ length-set l.scopes n _
 case_length l n s (Item-F.Canon (Builtin b)) new (kind, there, is, serves, made) = ap (λ (l : Linking). length l.scopes) made ∙ length-set l.scopes n _

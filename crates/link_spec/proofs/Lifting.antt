@@ -128,7 +128,7 @@ func_told : (o : Option core.FuncType) (type : core.FuncType) → Decides (optio
 func_told None type = (λ h. never h, λ e. cc)
 func_told (Some other) type = (λ h. ap Some ((core_func_told other type).0 h), λ e. (core_func_told other type).1 (let same : other ≡ type = cc in same))
 
-of_type_told : (type : core.FuncType) (item : CoreItem) → Decides (is_of_core_type type item) (IsOfCoreType type item)
+pub of_type_told : (type : core.FuncType) (item : CoreItem) → Decides (is_of_core_type type item) (IsOfCoreType type item)
 of_type_told type item = func_told (func_part item) type
 
 given_told : (type : core.FuncType) (given : Option CoreItem) → Decides (option_map_or (is_of_core_type type) given true) (IfSome given (IsOfCoreType type))

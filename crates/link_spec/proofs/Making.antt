@@ -16,6 +16,7 @@ use Rattle.comp_tree.specs.declared.instances.Instance.TheVariants as made
 use Rattle.comp_tree.specs.declared.instances.Sort.{Sort}
 use Rattle.comp_tree.specs.declared.instances.AliasTarget.{AliasTarget}
 use Rattle.comp_tree.specs.declared.instances.AliasTarget.TheVariants as target
+use Rattle.comp_tree.specs.declared.types.DefType.{out-DefType}
 use Rattle.comp_tree.specs.declared.externs.ExternDesc.{ExternDesc}
 use Rattle.comp_tree.specs.declared.externs.Export as read
 use Rattle.comp_tree.specs.declared.items.CanonOption.{CanonOption}
@@ -23,13 +24,14 @@ use Rattle.comp_tree.specs.declared.items.Canon.TheVariants.{Lift, Lower, Builti
 use Rattle.comp_tree.specs.declared.items.Item.{Item, out-Item}
 use Rattle.comp_tree.specs.declared.items.Item.TheOpen.{Item-F}
 use Rattle.comp_tree.specs.declared.items.Component.{Component}
-use Rattle.comp_graph.specs.Closed.{Extern, OfFunc, OfType, OfInstance}
+use Rattle.comp_graph.specs.Closed.{Closed, Extern, OfFunc, OfType, OfInstance}
 use Rattle.link_spec.specs.Definitions.{CoreItem, CoreExport, Definition, AFunc, AnInstance, Exports, EmptyInstance, WithExport, seen_as}
 use Rattle.link_spec.specs.Canons.{given_by}
 use Rattle.link_spec.specs.Builtins.{BuiltinMeaning, builtin_meaning}
+use Rattle.link_spec.specs.Resources.{resource_written, with_resource, resource_makes}
 use Rattle.link_spec.specs.Types.{Meaning}
 use Rattle.link_spec.specs.Spaces.{Spaces, Linking, definition_at, with_spaces, with_core_item, with_core_instance, with_definition}
-use Rattle.link_spec.specs.Items.{FindsItem, IsInline, core_made, core_instance_makes, AreNamed, instance_makes, alias_makes, type_made, lifted_with, lift_makes, lower_made, lower_makes, builtin_made, builtin_makes, IsImported, with_import, import_makes, said, IsExported, with_export, export_makes, makes_case}
+use Rattle.link_spec.specs.Items.{FindsItem, IsInline, core_made, core_instance_makes, AreNamed, instance_makes, alias_makes, type_made, type_makes, defined_makes, type_meaning, lifted_with, lift_makes, lower_made, lower_makes, builtin_made, builtin_makes, IsImported, with_import, import_makes, said, IsExported, with_export, export_makes, makes_case}
 use Rattle.link_spec.specs.Laws.{MakesOnce, BeginsOnce}
 use Rattle.link_spec.proofs.Lists.{same_zip}
 
@@ -82,6 +84,23 @@ alias_once l n s sort (target.CoreInstanceExport instance name) a b (item, is, o
     both_made (λ item. with_spaces l n (with_core_item s item)) item item' a b (one_value _ item item' is is') made made'
 alias_once l n s sort (target.Outer up index) a b (d, is, made) (d', is', made') =
     both_made (λ d. with_spaces l n (with_definition s d)) d d' a b (one_value _ d d' is is') made made'
+
+-- Types.
+
+type_once : (l : Linking) (n : ℕ) (s : Spaces) (meaning : Meaning Closed) (a b : Linking) → type_makes l n s meaning a → type_makes l n s meaning b → a ≡ b
+type_once l n s meaning a b (closed, is, made) (closed', is', made') =
+    both_made (type_made l n s) closed closed' a b (one_value meaning.means closed closed' is.0 is'.0) made made'
+
+resource_once : (l : Linking) (n : ℕ) (s : Spaces) (destructor : Option ℕ) (a b : Linking) → resource_makes l n s destructor a → resource_makes l n s destructor b → a ≡ b
+resource_once l n s None a b h k = h ∙ sym k
+resource_once l n s (Some f) a b (item, core, is, of_item, of_type, made) (item', core', is', of_item', of_type', made') =
+    let items : item ≡ item' = one_value (slice_get s.core_funcs f) item item' is is' in
+    let cores : core ≡ core' = one_value (core_func_of item) core core' of_item (ap core_func_of items ∙ of_item') in
+    both_made (λ (core : FuncRef). with_resource l n s (Some core)) core core' a b cores made made'
+
+defined_once : (l : Linking) (n : ℕ) (s : Spaces) (destructor : Option (Option ℕ)) (meaning : Meaning Closed) (a b : Linking) → defined_makes l n s destructor meaning a → defined_makes l n s destructor meaning b → a ≡ b
+defined_once l n s (Some destructor) meaning a b h k = resource_once l n s destructor a b h k
+defined_once l n s None meaning a b h k = type_once l n s meaning a b h k
 
 -- Lifts.
 
@@ -138,11 +157,10 @@ case_once l n s (Item-F.CoreInstance c) a b h k = core_instance_once l n s c a b
 case_once l n s (Item-F.Component c) a b h k = h ∙ sym k
 case_once l n s (Item-F.Instance i) a b h k = instance_once l n s i a b h k
 case_once l n s (Item-F.Alias alias) a b h k = alias_once l n s alias.sort alias.target a b h k
-case_once l n s (Item-F.Type type) a b (closed, is, made) (closed', is', made') =
-    both_made (type_made l n s) closed closed' a b (one_value _ closed closed' is.0 is'.0) made made'
+case_once l n s (Item-F.Type type) a b h k = defined_once l n s (resource_written (out-DefType type)) (type_meaning l n s type) a b h k
 case_once l n s (Item-F.Canon (Lift f options t)) a b h k = lift_once l n s f options t a b h k
 case_once l n s (Item-F.Canon (Lower f options)) a b h k = lower_once l n s f options a b h k
-case_once l n s (Item-F.Canon (Builtin built)) a b h k = builtin_once l n s (builtin_meaning s built) a b h k
+case_once l n s (Item-F.Canon (Builtin built)) a b h k = builtin_once l n s (builtin_meaning l n s built) a b h k
 case_once l n s (Item-F.Import i) a b h k = import_once l n s i.name i.desc a b h k
 case_once l n s (Item-F.Export e) a b h k = export_once l n s e a b h k
 

@@ -8,6 +8,7 @@ use Rattle.comp_tree.specs.declared.core_instances.CoreInstance.TheVariants as m
 use Rattle.comp_tree.specs.declared.instances.Instance as made_of
 use Rattle.comp_tree.specs.declared.instances.Instance.TheVariants as made
 use Rattle.comp_tree.specs.declared.instances.Sort.{Sort}
+use Rattle.comp_tree.specs.declared.types.DefType.{out-DefType}
 use Rattle.comp_tree.specs.declared.instances.AliasTarget.{AliasTarget}
 use Rattle.comp_tree.specs.declared.instances.AliasTarget.TheVariants as target
 use Rattle.comp_tree.specs.declared.externs.Export as read
@@ -17,11 +18,12 @@ use Rattle.comp_tree.specs.declared.items.Item.TheOpen.{Item-F}
 use Rattle.comp_tree.specs.declared.items.Component.{Component}
 use Rattle.link_spec.specs.declared.fault.LinkWhy.{LinkWhy}
 use Rattle.link_spec.specs.declared.fault.LinkWhy.TheVariants as why
-use Rattle.comp_graph.specs.Closed.{Extern}
+use Rattle.comp_graph.specs.Closed.{Closed, Extern}
 use Rattle.link_spec.specs.Definitions.{Definition, Exports, export_named, lacks}
+use Rattle.link_spec.specs.Resources.{resource_written}
 use Rattle.link_spec.specs.Types.{Meaning}
 use Rattle.link_spec.specs.Spaces.{Spaces, Linking, definition_at}
-use Rattle.link_spec.specs.Items.{first_told, import_lacks, core_instance_has, instance_has, alias_has, lacking, wanted, said, IsSaid, export_has, has_case, item_has}
+use Rattle.link_spec.specs.Items.{first_told, import_lacks, core_instance_has, instance_has, alias_has, defined_has, type_meaning, lacking, wanted, said, IsSaid, export_has, has_case, item_has}
 use Rattle.link_spec.specs.Linked.{rank}
 use Rattle.link_spec.specs.Laws.{OneName, OneFirst}
 
@@ -63,13 +65,18 @@ export_name : (s : Spaces) (e : read.Export) (a b : List ℕ) → export_has s e
 export_name s e a b h k =
     match_same (Misses s e a) (Misses s e b) a b (λ d h k. match_same (MissesIn e d a) (MissesIn e d b) a b (misses_once e d a b) (said s e.desc) h k) (definition_at s e.sort e.index) h k
 
+type_name : (s : Spaces) (destructor : Option (Option ℕ)) (meaning : Meaning Closed) (a b : List ℕ) → defined_has s destructor meaning (why.Missing a) → defined_has s destructor meaning (why.Missing b) → a ≡ b
+type_name s (Some None) meaning a b h k = absurd h
+type_name s (Some (Some f)) meaning a b h k = absurd h
+type_name s None meaning a b h k = told_once meaning.missing a b h k
+
 case_name : (l : Linking) (n : ℕ) (s : Spaces) (shape : Item-F Item Component) (a b : List ℕ) → has_case l n s shape (why.Missing a) → has_case l n s shape (why.Missing b) → a ≡ b
 case_name l n s (Item-F.CoreModule m) a b h k = absurd h
 case_name l n s (Item-F.CoreInstance c) a b h k = core_instance_name l s c a b h k
 case_name l n s (Item-F.Component c) a b h k = absurd h
 case_name l n s (Item-F.Instance i) a b h k = instance_name l s i a b h k
 case_name l n s (Item-F.Alias alias) a b h k = alias_name l n s alias.sort alias.target a b h k
-case_name l n s (Item-F.Type type) a b h k = cc (h, k)
+case_name l n s (Item-F.Type type) a b h k = type_name s (resource_written (out-DefType type)) (type_meaning l n s type) a b h k
 case_name l n s (Item-F.Canon (Lift f options t)) a b h k = absurd h
 case_name l n s (Item-F.Canon (Lower f options)) a b h k = absurd h
 case_name l n s (Item-F.Canon (Builtin built)) a b h k = absurd h

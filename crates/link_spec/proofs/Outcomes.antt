@@ -1,6 +1,7 @@
 -- What is computed of an item is what it makes or begins, or its first reason.
-use Rattle.std.proofs.Common.{◌≡◌, ℕ, ◌∷◌, refl, ◌∙◌, ap, ap₂, subst}
+use Rattle.std.proofs.Common.{◌≡◌, ℕ, refl, ◌∙◌, ap, ap₂, subst}
 use Rattle.std.specs.Prelude.{Result, Ok, Err}
+use Rattle.comp_tree.specs.declared.types.DefType.{out-DefType}
 use Rattle.comp_tree.specs.declared.instances.Instance as made_of
 use Rattle.comp_tree.specs.declared.items.Canon.TheVariants.{Lift, Lower, Builtin}
 use Rattle.comp_tree.specs.declared.items.Item.{Item, out-Item}
@@ -9,9 +10,9 @@ use Rattle.comp_tree.specs.declared.items.Component.{Component}
 use Rattle.link_spec.specs.declared.fault.LinkWhy.{LinkWhy}
 use Rattle.link_spec.specs.Definitions.{Closure, Exports}
 use Rattle.link_spec.specs.Builtins.{builtin_meaning}
-use Rattle.link_spec.specs.Types.{meaning_of}
-use Rattle.link_spec.specs.Spaces.{Spaces, Linking, levels_at}
-use Rattle.link_spec.specs.Items.{has_case, makes_case, item_has}
+use Rattle.link_spec.specs.Resources.{resource_written}
+use Rattle.link_spec.specs.Spaces.{Spaces, Linking}
+use Rattle.link_spec.specs.Items.{type_meaning, has_case, makes_case, item_has}
 use Rattle.link_spec.specs.Linked.{IsFirst, Begins}
 use Rattle.link_spec.specs.Computed.{Outcome, Makes, Starts, outcome_case, item_outcome}
 use Rattle.link_spec.specs.Laws.{IsOutcome, OutcomeComputed, ReasonComputed}
@@ -19,7 +20,7 @@ use Rattle.link_spec.proofs.Excluding.{makes_excludes_reasons, begins_excludes_r
 use Rattle.link_spec.proofs.Making.{makes_once, begins_once}
 use Rattle.link_spec.proofs.Naming.{one_first}
 use Rattle.link_spec.proofs.Sounding.{First, Sound, sound_map}
-use Rattle.link_spec.proofs.ItemOutcomes.{alias_sound, type_sound, lift_sound, lower_sound, builtin_sound, import_sound, export_sound}
+use Rattle.link_spec.proofs.ItemOutcomes.{alias_sound, defined_sound, lift_sound, lower_sound, builtin_sound, import_sound, export_sound}
 use Rattle.link_spec.proofs.CoreOutcomes.{MakesBy, InstanceComes, BeginsBy, core_instance_sound, instance_sound}
 
 -- Items.
@@ -47,10 +48,10 @@ case_sound l n s (Item-F.Component c) = refl
 case_sound l n s (Item-F.Instance i) = sound_map _ _ (CaseComes l n s (Item-F.Instance i)) _ (instance_comes l n s i) (instance_sound l n s i)
 case_sound l n s (Item-F.Alias alias) = sound_map _ _ (CaseComes l n s (Item-F.Alias alias)) _ (only_makes l n s (Item-F.Alias alias) _ (λ new h. h)) (alias_sound l n s alias.sort alias.target)
 case_sound l n s (Item-F.Type type) =
-    sound_map _ _ (CaseComes l n s (Item-F.Type type)) _ (only_makes l n s (Item-F.Type type) _ (λ new h. h)) (type_sound l n s (meaning_of type (levels_at l (n ∷ s.around))))
+    sound_map _ _ (CaseComes l n s (Item-F.Type type)) _ (only_makes l n s (Item-F.Type type) _ (λ new h. h)) (defined_sound l n s (resource_written (out-DefType type)) (type_meaning l n s type))
 case_sound l n s (Item-F.Canon (Lift f options t)) = sound_map _ _ (CaseComes l n s (Item-F.Canon (Lift f options t))) _ (only_makes l n s (Item-F.Canon (Lift f options t)) _ (λ new h. h)) (lift_sound l n s f options t)
 case_sound l n s (Item-F.Canon (Lower f options)) = sound_map _ _ (CaseComes l n s (Item-F.Canon (Lower f options))) _ (only_makes l n s (Item-F.Canon (Lower f options)) _ (λ new h. h)) (lower_sound l n s f options)
-case_sound l n s (Item-F.Canon (Builtin b)) = sound_map _ _ (CaseComes l n s (Item-F.Canon (Builtin b))) _ (only_makes l n s (Item-F.Canon (Builtin b)) _ (λ new h. h)) (builtin_sound l n s (builtin_meaning s b))
+case_sound l n s (Item-F.Canon (Builtin b)) = sound_map _ _ (CaseComes l n s (Item-F.Canon (Builtin b))) _ (only_makes l n s (Item-F.Canon (Builtin b)) _ (λ new h. h)) (builtin_sound l n s (builtin_meaning l n s b))
 case_sound l n s (Item-F.Import i) = sound_map _ _ (CaseComes l n s (Item-F.Import i)) _ (only_makes l n s (Item-F.Import i) _ (λ new h. h)) (import_sound l n s i.name i.desc)
 case_sound l n s (Item-F.Export e) = sound_map _ _ (CaseComes l n s (Item-F.Export e)) _ (only_makes l n s (Item-F.Export e) _ (λ new h. h)) (export_sound l n s e)
 

@@ -1,11 +1,12 @@
 -- The tests say whether types of functions and closed types are the same.
 use Rattle.std.proofs.Common.{◌≡◌, true, ◌&&◌, map, refl, ap, subst, Option, Some, None}
 use Rattle.std.specs.Str.{bytes_eq}
+use Rattle.std.proofs.lemmas.Bool.Decides.{Decides-eqb}
 use Rattle.std.proofs.lemmas.Slice.Eq.{bytes_eq-Decides}
 use Rattle.ca_types.specs.declared.types.ValType.{ValType}
 use Rattle.ca_types.specs.declared.types.Param.{Param}
 use Rattle.ca_types.specs.declared.types.FuncType.{FuncType}
-use Rattle.comp_graph.specs.Closed.{Closed, Value, Func, Instance, Extern, OfFunc, OfType, OfInstance, Externs, EmptyType, WithExtern}
+use Rattle.comp_graph.specs.Closed.{Closed, Value, Func, Resource, Instance, Extern, OfFunc, OfType, OfInstance, Externs, EmptyType, WithExtern}
 use Rattle.link_spec.specs.Same.{all_pass, same_val, same_param, same_result, same_func, same_closed, same_extern, same_externs}
 use Rattle.link_spec.proofs.SameValues.{Tells, never, and, both, name_told, every, none_told, some_told, list_told, both_told, both_self, val_told}
 
@@ -34,6 +35,7 @@ mutual
   closed_same : (a b : Closed) → same_closed a b ≡ true → a ≡ b
   closed_same (Value type) (Value other) h = ap Value ((val_told type other).0 h)
   closed_same (Func type) (Func other) h = ap Func ((func_told type other).0 h)
+  closed_same (Resource number) (Resource other) h = ap Resource ((Decides-eqb number other).0 h)
   closed_same (Instance externs) (Instance others) h = ap Instance (externs_same externs others h)
   closed_same a b h = never h
 
@@ -59,6 +61,7 @@ mutual
   closed_self : (a : Closed) → same_closed a a ≡ true
   closed_self (Value type) = (val_told type type).1 refl
   closed_self (Func type) = (func_told type type).1 refl
+  closed_self (Resource number) = (Decides-eqb number number).1 refl
   closed_self (Instance externs) = externs_self externs
 
   extern_self : (a : Extern) → same_extern a a ≡ true

@@ -16,6 +16,7 @@ use Rattle.comp_graph.specs.Needs.{lifted_type, lowered_type, lift_type, lower_t
 use Rattle.comp_graph.specs.declared.graph.BuiltinKind.TheVariants as builtin
 use Rattle.comp_tree.specs.declared.builtins.CanonBuiltin.TheVariants as read_builtin
 use Rattle.builtin_kinds.specs.declared.PlainBuiltin.TheVariants as plain_builtin
+use Rattle.builtin_kinds.specs.declared.ResourceOp.TheVariants as resource_op
 use Rattle.builtin_kinds.specs.declared.ContextOp.TheVariants as context_op
 use Rattle.builtin_kinds.specs.declared.WaitOp.TheVariants as wait_op
 use Rattle.comp_tree.specs.declared.instances.Sort.TheVariants as sorts
@@ -27,7 +28,7 @@ use Rattle.comp_tree.specs.declared.types.PrimValType.TheVariants.{U32, String}
 use Rattle.comp_tree.specs.declared.types.DefValType.{DefValType}
 use Rattle.comp_tree.specs.declared.types.DefValType.TheVariants as value
 use Rattle.comp_tree.specs.declared.types.DefType.TheOpen.{DefType-F, InstanceDecl-F}
-use Rattle.comp_tree.specs.declared.types.DefType.TheViews.{rolls-Func, rolls-Export, rolls-Instance, rolls-Type, rolls-Value}
+use Rattle.comp_tree.specs.declared.types.DefType.TheViews.{outs-Value, outs-Func, outs-Instance as outs-InstanceType, outs-Resource, rolls-Func, rolls-Export, rolls-Instance, rolls-Type, rolls-Value}
 use Rattle.comp_tree.specs.declared.types.DefType.TheFolds.{fold-InstanceDecl, fold-roll-DefType, fold-roll-InstanceDecl}
 use Rattle.comp_tree.specs.declared.types.DefType.{DefType}
 use Rattle.comp_tree.specs.declared.types.DefType.TheViews as def_type
@@ -48,7 +49,7 @@ use Rattle.link_spec.specs.Computed.{Run, run, run_within, answer_of, linked}
 use Rattle.link_spec.specs.Same.{same_val}
 use Rattle.link_spec.proofs.Depths.{leaf_depth}
 use Rattle.link_spec.proofs.SameValues.{val_told}
-use Rattle.link_spec.specs.Examples.{root, fault, u32, of_types, import, outer, export_type, wanting, instantiate, giving_both, begins, of_one, make_with_absent, lifting, lifting_twice, with_memory, callable_as, lowering, lowering_string, taking_string, giving_string, passing, passed, returning, built, making, with_async, with_callback}
+use Rattle.link_spec.specs.Examples.{root, fault, u32, of_types, import, outer, export_type, wanting, instantiate, giving_both, begins, of_one, make_with_absent, lifting, lifting_twice, with_memory, callable_as, lowering, lowering_string, taking_string, giving_string, passing, passed, returning, built, making, resource, of_resource, using, used, defining_twice, defined_twice, taking_outer, taken_outer, with_async, with_callback}
 
 pub value_rolled : (type : DefValType) (levels : List Level) → meaning_of (plain_type.Value type) levels ≡ value_meaning (types_around levels) type
 value_rolled type levels =
@@ -95,7 +96,7 @@ u32_flat = ap flat (sym rolls-U32) ∙ fold-roll-ValType (List CoreType) (List C
 pub u32_holds_no_list : has_list val_type.U32 ≡ false
 u32_holds_no_list = ap has_list (sym rolls-U32) ∙ fold-roll-ValType Bool Bool Bool list_step end_case end_field F.U32
 
-ruleset layers = (outs-CoreModule, outs-CoreInstance, outs-Canon, outs-U32, func_rolled, outs-Import, outs-Alias, outs-Export, outs-Type, outs-Instance, outs-Component, u32_rolled, no_exports, one_export, u32_same, u32_flat, u32_holds_no_list)
+ruleset layers = (outs-CoreModule, outs-CoreInstance, outs-Canon, outs-U32, func_rolled, outs-Import, outs-Alias, outs-Export, outs-Type, outs-Instance, outs-Component, outs-Value, outs-Func, outs-InstanceType, outs-Resource, u32_rolled, no_exports, one_export, u32_same, u32_flat, u32_holds_no_list)
 
 -- what is computed, whatever is computed of the components that begin, or of those that begin inside these
 pub linked_by : (c : Component) (r : Result Graph LinkFault) → ((inside : Run) → answer_of (run inside root_begun 0 c.items) ≡ r) → linked c ≡ r
@@ -225,3 +226,22 @@ no_result_type inside = simp layers refl
 
 pub no_result_memory : (inside : Run) → answer_of (run inside root_begun 0 (built (returning (Some (type_ref.Primitive String)))).items) ≡ fault 0 why.Canon
 no_result_memory inside = simp (layers, string_flat, string_holds_list) refl
+
+-- resources
+pub resource_used : (inside : Run) → answer_of (run inside root_begun 0 (using resource_op.New).items) ≡ used resource_op.New
+resource_used inside = simp layers refl
+
+pub two_defined : (inside : Run) → answer_of (run (run inside) root_begun 0 defining_twice.items) ≡ defined_twice
+two_defined inside = simp layers refl
+
+pub outer_dropped : (inside : Run) → answer_of (run (run inside) root_begun 0 (taking_outer resource_op.Drop).items) ≡ taken_outer
+outer_dropped inside = simp layers refl
+
+pub outer_not_made : (inside : Run) → answer_of (run (run inside) root_begun 0 (taking_outer resource_op.New).items) ≡ fault 11 why.Canon
+outer_not_made inside = simp layers refl
+
+pub no_destructor : (inside : Run) → answer_of (run inside root_begun 0 (root (resource (Some 0) ∷ [])).items) ≡ fault 0 why.Index
+no_destructor inside = simp layers refl
+
+pub no_resource : (inside : Run) → answer_of (run inside root_begun 0 (root (plain.Type u32 ∷ of_resource resource_op.Rep ∷ [])).items) ≡ fault 1 why.Typing
+no_resource inside = simp layers refl

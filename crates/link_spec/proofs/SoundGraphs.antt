@@ -17,7 +17,7 @@ use Rattle.link_spec.specs.Linked.{Begins, begun, exports_or, exports_at, with_i
 use Rattle.link_spec.specs.Distinct.{HasDistinctLabels}
 use Rattle.link_spec.specs.Shallow.{HasShallowTypes}
 use Rattle.link_spec.specs.Standing.{StandsIn, stands_behind}
-use Rattle.link_spec.specs.Laws.{GraphsAreImported, LiftsAreThere, GraphsAreMade, LabelsAreDistinct, TypesAreShallow, HasSoundType, LoweredTypesAreSound, GraphsHaveNoResources, ModulesStand}
+use Rattle.link_spec.specs.Laws.{GraphsAreImported, LiftsAreThere, GraphsAreMade, LabelsAreDistinct, TypesAreShallow, HasSoundType, LoweredTypesAreSound, ModulesStand}
 use Rattle.link_spec.proofs.Holding.{all_push, all_both, all_at, all_mapped, all_weaker, holds_at}
 use Rattle.link_spec.proofs.Modules.{ModulesHave, shape_has}
 use Rattle.link_spec.proofs.Soundness.{IsFuncSound, HasApartType, AreSound, AreSpacesSound, IsLinkingSound}
@@ -138,9 +138,6 @@ sound_type (canon_func.Builtin b) h = tt
 pub lowered_types_are_sound : LoweredTypesAreSound
 lowered_types_are_sound c g (l, links, is) =
     subst (λ (g : Graph). AllByRecursion HasSoundType g.canons) (sym is) (all_weaker HasApartType HasSoundType sound_type l.canons (any_sound c l links).called)
-
-pub graphs_have_no_resources : GraphsHaveNoResources
-graphs_have_no_resources c g (l, links, is) = ap (λ (g : Graph). g.resources) is
 
 pub labels_are_distinct : LabelsAreDistinct
 labels_are_distinct c g (l, links, is) =

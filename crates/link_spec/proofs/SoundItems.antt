@@ -1,6 +1,6 @@
 -- What an item makes of a sound linking is sound, and core instances and core functions of the Canonical ABI come only behind those
 -- that there are.
-use Rattle.std.proofs.Common.{◌≡◌, ℕ, List, [], ◌∷◌, ◌++◌, length, map, refl, sym, ap, subst, append-nil, Option, Some, None}
+use Rattle.std.proofs.Common.{◌≡◌, ℕ, suc, List, [], ◌∷◌, ◌++◌, length, map, refl, sym, ap, subst, append-nil, Option, Some, None}
 use Rattle.std.specs.Prelude.{IfSome}
 use Rattle.std.specs.Option.{option_map, option_and_then}
 use Rattle.std.specs.List.{slice_get}
@@ -13,10 +13,13 @@ use Rattle.wasm_module.specs.declared.module.ModuleTree.{ModuleTree}
 use Rattle.ca_types.specs.declared.types.ValType.{ValType}
 use Rattle.wasm_module.specs.Spaces.{type_of_func, global_space}
 use Rattle.comp_graph.specs.CoreItems.{table_space, memory_space}
+use Rattle.comp_graph.specs.CoreItems.{core_func_of}
+use Rattle.comp_graph.specs.Needs.{destructor_type}
+use Rattle.comp_graph.specs.declared.graph.FuncRef.{FuncRef}
 use Rattle.comp_graph.specs.declared.graph.FuncRef.TheVariants as func_ref
 use Rattle.comp_graph.specs.declared.graph.CanonFunc.{CanonFunc}
 use Rattle.comp_graph.specs.declared.graph.CanonFunc.TheVariants as canon_func
-use Rattle.comp_graph.specs.Graph.{canon_type, IsItem, IsCanonThere, HasImports, instance_made, canon_made}
+use Rattle.comp_graph.specs.Graph.{canon_type, core_type, IsItem, IsCanonThere, HasImports, instance_made, canon_made, resource_made}
 use Rattle.comp_tree.specs.declared.core_instances.CoreArgument.{CoreArgument}
 use Rattle.comp_tree.specs.declared.core_instances.CoreInlineExport.{CoreInlineExport}
 use Rattle.comp_tree.specs.declared.core_instances.CoreInstance.{CoreInstance}
@@ -28,27 +31,28 @@ use Rattle.comp_tree.specs.declared.instances.AliasTarget.{AliasTarget}
 use Rattle.comp_tree.specs.declared.instances.AliasTarget.TheVariants as target
 use Rattle.comp_tree.specs.declared.externs.ExternDesc.{ExternDesc}
 use Rattle.comp_tree.specs.declared.externs.Export as read
+use Rattle.comp_tree.specs.declared.types.DefType.{DefType, out-DefType}
 use Rattle.comp_tree.specs.declared.builtins.CanonBuiltin.{CanonBuiltin}
 use Rattle.comp_tree.specs.declared.items.CanonOption.{CanonOption}
 use Rattle.comp_tree.specs.declared.items.Canon.TheVariants.{Lift, Lower, Builtin}
 use Rattle.comp_tree.specs.declared.items.Item.{Item}
 use Rattle.comp_tree.specs.declared.items.Item.TheOpen.{Item-F}
 use Rattle.comp_tree.specs.declared.items.Component.{Component}
-use Rattle.comp_graph.specs.Closed.{Extern, OfFunc, OfType, OfInstance, func_of}
+use Rattle.comp_graph.specs.Closed.{Resource, Extern, OfFunc, OfType, OfInstance, func_of}
 use Rattle.link_spec.specs.Definitions.{CoreItem, Func, Table, Memory, Global, extern_of, item_of, CoreFits, CoreExport, core_named, listed, exports_of, Definition, AFunc, AType, AComponent, AnInstance, AModule, Exports, WithExport, export_named}
 use Rattle.link_spec.specs.Spaces.{CoreMake, Spaces, Linking, Level, level_of, listed_level, levels_at, core_item_at, definition_at, with_core_item, with_core_instance, with_definition, with_spaces, with_ends, outer_definition, outer_at}
 use Rattle.link_spec.specs.Ends.{noted_type}
 use Rattle.link_spec.specs.Canons.{memory_index, realloc_index, post_return_index, callback_index, first_index, given_by}
 use Rattle.link_spec.specs.Builtins.{builtin_meaning}
-use Rattle.link_spec.specs.Types.{meaning_of}
-use Rattle.link_spec.specs.Items.{argument_named, import_found, FindsItem, IsInline, core_instance_makes, instance_makes, alias_makes, lifted_with, lift_makes, with_canon, lowered_with, lower_makes, builtin_makes, wanted, IsImported, import_makes, said, IsExported, export_makes, makes_case}
+use Rattle.link_spec.specs.Resources.{resource_written, with_resource, resource_makes}
+use Rattle.link_spec.specs.Items.{argument_named, import_found, FindsItem, IsInline, core_instance_makes, instance_makes, alias_makes, type_makes, defined_makes, type_meaning, lifted_with, lift_makes, with_canon, lowered_with, lower_makes, builtin_makes, wanted, IsImported, import_makes, said, IsExported, export_makes, makes_case}
 use Rattle.link_spec.proofs.Holding.{all_push, all_set, all_weaker, all_mapped, all_flat, all_at, all_second, zip_weaker, holds_at, if_weaker, if_mapped, if_found, if_each, if_cond, last_there}
 use Rattle.link_spec.proofs.Kept.{imported_behind, kept_imported}
 use Rattle.link_spec.proofs.Apart.{IsFuncApart, IsApart, IsExternApart, IsKnownApart, of_func_apart, desc_apart}
 use Rattle.link_spec.proofs.ApartMeanings.{IsLevelApart, AreLevelsApart, meaning_apart}
 use Rattle.link_spec.proofs.Modules.{ShapeHas}
 use Rattle.link_spec.proofs.Soundness.{IsFuncSound, HasApartType, IsMemoryItem, AreThere, IsSound, AreSound, AreSpacesSound, IsLinkingSound}
-use Rattle.link_spec.proofs.LiftsThere.{IsGiven, lift_there, lower_there, builtin_there}
+use Rattle.link_spec.proofs.LiftsThere.{item_type, IsGiven, lift_there, lower_there, builtin_there}
 use Rattle.link_spec.proofs.SoundSpaces.{more_cores, more_canons, sound_core_item, sound_core_instance, sound_definition, sound_imports, sound_exports, item_there, definition_sound, outer_sound, named_sound, core_named_there}
 use Rattle.link_spec.proofs.SoundSeen.{seen_sound, types_sound, are_named_sound}
 
@@ -121,7 +125,7 @@ module _ (R : ModuleTree → Type 0) where
               (all_weaker (AreSpacesSound R l.cores l.canons) (AreSpacesSound R longer l.canons) (more_cores R l.cores (core ∷ []) l.canons) l.scopes h.scopes)
               (sound_core_instance R longer l.canons s (exports_of m (length l.cores)) (more_cores R l.cores (core ∷ []) l.canons s k) (exports_of_there longer l.canons core (length l.cores) (last_there l.cores core)));
           imported = imported_behind l.canons [] l.cores core h.imported has_imports;
-          made = instance_made l.cores l.canons [] core h.made has_imports;
+          made = instance_made l.cores l.canons l.resources core h.made has_imports;
           called = h.called;
           modules_have = all_push (λ (core : CoreMake). R core.of_module) l.cores core h.modules_have (holds_at R (slice_get s.core_modules index) m (all_at R s.core_modules index k.core.modules_have) is);
         };
@@ -200,6 +204,46 @@ module _ (R : ModuleTree → Type 0) where
     callback = if_each (slice_get s.core_funcs) (IsItem cores canons) (λ index. all_at (IsItem cores canons) s.core_funcs index k.core.funcs_there) (first_index callback_index options);
   }
 
+  type_reached : (l : Linking) (n : ℕ) (s : Spaces) (type : DefType) (new : Linking) → IsLinkingSound R l → AreSpacesSound R l.cores l.canons s → type_makes l n s (type_meaning l n s type) new → IsReached R l new
+  type_reached l n s type new h k (closed, means, made) =
+      let types = noted_type l.end_types closed in
+      ends_reached l types new
+      (defined_reached (with_ends l types) n s (AType closed) new (ends_sound l types h) k made
+      (holds_at IsApart (type_meaning l n s type).means closed (meaning_apart type (levels_at l (n ∷ s.around)) (levels_apart l (n ∷ s.around) h)) means.0))
+
+  -- Resources.
+  with_resource_reached : (l : Linking) (n : ℕ) (s : Spaces) (destructor : Option FuncRef) (new : Linking) → IsLinkingSound R l → AreSpacesSound R l.cores l.canons s
+      → IfSome destructor (λ f. core_type l.cores l.canons f ≡ Some destructor_type) → new ≡ with_resource l n s destructor → IsReached R l new
+  with_resource_reached l n s destructor new h k there made =
+      subst (IsReached R l) (sym made) (record {
+        sound = record {
+          scopes = all_set (AreSpacesSound R l.cores l.canons) l.scopes n (with_definition s of_number) h.scopes (sound_definition R l.cores l.canons s of_number k tt);
+          imported = h.imported;
+          made = resource_made l.cores l.canons l.resources (record { instance = n; destructor = destructor }) h.made there;
+          called = h.called;
+          modules_have = h.modules_have;
+        };
+        more = [];
+        longer = sym (append-nil l.cores);
+        others = [];
+        wider = sym (append-nil l.canons);
+      })
+    where
+      of_number : Definition
+      of_number = AType (Resource (suc (length l.resources)))
+
+  resource_reached : (l : Linking) (n : ℕ) (s : Spaces) (destructor : Option ℕ) (new : Linking) → IsLinkingSound R l → AreSpacesSound R l.cores l.canons s → resource_makes l n s destructor new → IsReached R l new
+  resource_reached l n s None new h k made = with_resource_reached l n s None new h k tt made
+  resource_reached l n s (Some f) new h k (item, core, is, of_item, of_type, made) =
+      let there = holds_at (IsItem l.cores l.canons) (slice_get s.core_funcs f) item (all_at (IsItem l.cores l.canons) s.core_funcs f k.core.funcs_there) is in
+      with_resource_reached l n s (Some core) new h k
+      (holds_at (λ f. core_type l.cores l.canons f ≡ Some destructor_type) (core_func_of item) core (item_type l.cores l.canons item destructor_type there of_type) of_item) made
+
+  defined_type_reached : (l : Linking) (n : ℕ) (s : Spaces) (type : DefType) (destructor : Option (Option ℕ)) (new : Linking) → IsLinkingSound R l → AreSpacesSound R l.cores l.canons s
+      → defined_makes l n s destructor (type_meaning l n s type) new → IsReached R l new
+  defined_type_reached l n s type (Some destructor) new h k makes = resource_reached l n s destructor new h k makes
+  defined_type_reached l n s type None new h k makes = type_reached l n s type new h k makes
+
   lift_reached : (l : Linking) (n : ℕ) (s : Spaces) (f : ℕ) (options : List CanonOption) (t : ℕ) (new : Linking) → IsLinkingSound R l → AreSpacesSound R l.cores l.canons s → lift_makes l n s f options t new → IsReached R l new
   lift_reached l n s f options t new h k (item, core, type, is, of_item, there, of_type, once, fits, made) =
       defined_reached l n s (AFunc (lifted_with n type core (given_by s options))) new h k made (record {
@@ -210,7 +254,7 @@ module _ (R : ModuleTree → Type 0) where
       })
 
   -- Core functions of the Canonical ABI.
-  canon_reached : (l : Linking) (n : ℕ) (s : Spaces) (canon : CanonFunc) (new : Linking) → IsLinkingSound R l → AreSpacesSound R l.cores l.canons s → HasApartType canon → IsCanonThere l.cores l.canons [] canon → new ≡ with_canon l n s canon → IsReached R l new
+  canon_reached : (l : Linking) (n : ℕ) (s : Spaces) (canon : CanonFunc) (new : Linking) → IsLinkingSound R l → AreSpacesSound R l.cores l.canons s → HasApartType canon → IsCanonThere l.cores l.canons l.resources canon → new ≡ with_canon l n s canon → IsReached R l new
   canon_reached l n s canon new h k apart there made =
       subst (IsReached R l) (sym made) (record {
         sound = record {
@@ -218,7 +262,7 @@ module _ (R : ModuleTree → Type 0) where
               (all_weaker (AreSpacesSound R l.cores l.canons) (AreSpacesSound R l.cores longer) (more_canons R l.cores l.canons (canon ∷ [])) l.scopes h.scopes)
               (sound_core_item R l.cores longer s item (more_canons R l.cores l.canons (canon ∷ []) s k) item_is);
           imported = kept_imported l.canons (canon ∷ []) [] l.cores h.imported;
-          made = canon_made l.cores l.canons [] canon h.made there;
+          made = canon_made l.cores l.canons l.resources canon h.made there;
           called = all_push HasApartType l.canons canon h.called apart;
           modules_have = h.modules_have;
         };
@@ -241,12 +285,12 @@ module _ (R : ModuleTree → Type 0) where
   lower_reached l n s f options new h k (func, is, there, once, fits, made) =
       let func_sound : IsFuncSound l.cores l.canons func = holds_at (IsFuncSound l.cores l.canons) (slice_get s.funcs f) func (all_at (IsFuncSound l.cores l.canons) s.funcs f k.defined.funcs_sound) is in
       canon_reached l n s (lowered_with n func (given_by s options)) new h k func_sound.apart
-      (lower_there l.cores l.canons n func (given_by s options) func_sound.there (options_given l.cores l.canons s options k) fits) made
+      (lower_there l.cores l.canons l.resources n func (given_by s options) func_sound.there (options_given l.cores l.canons s options k) fits) made
 
-  builtin_reached : (l : Linking) (n : ℕ) (s : Spaces) (b : CanonBuiltin) (new : Linking) → IsLinkingSound R l → AreSpacesSound R l.cores l.canons s → builtin_makes l n s (builtin_meaning s b) new → IsReached R l new
+  builtin_reached : (l : Linking) (n : ℕ) (s : Spaces) (b : CanonBuiltin) (new : Linking) → IsLinkingSound R l → AreSpacesSound R l.cores l.canons s → builtin_makes l n s (builtin_meaning l n s b) new → IsReached R l new
   builtin_reached l n s b new h k (kind, there, is, serves, made) =
       canon_reached l n s (canon_func.Builtin (record { instance = n; kind = kind })) new h k tt
-      (builtin_there l.cores l.canons n s b kind k.core.memories_there (λ options. options_given l.cores l.canons s options k) is serves) made
+      (builtin_there l.cores l.canons l n s b kind k.core.memories_there (λ options. options_given l.cores l.canons s options k) is serves) made
 
   -- Imports and exports.
   wanted_apart : (cores : List CoreMake) (canons : List CanonFunc) (s : Spaces) (asked : ExternDesc) → AreSpacesSound R cores canons s → IfSome (wanted s asked).means IsExternApart
@@ -281,11 +325,7 @@ module _ (R : ModuleTree → Type 0) where
   case_reached l n s (Item-F.Component c) new has h k made = defined_reached l n s (AComponent (record { items = c.items; around = n ∷ s.around })) new h k made has
   case_reached l n s (Item-F.Instance i) new has h k makes = instance_reached l n s i new h k makes
   case_reached l n s (Item-F.Alias alias) new has h k makes = alias_reached l n s alias.sort alias.target new h k makes
-  case_reached l n s (Item-F.Type type) new has h k (closed, means, made) =
-      let types = noted_type l.end_types closed in
-      ends_reached l types new
-      (defined_reached (with_ends l types) n s (AType closed) new (ends_sound l types h) k made
-      (holds_at IsApart (meaning_of type (levels_at l (n ∷ s.around))).means closed (meaning_apart type (levels_at l (n ∷ s.around)) (levels_apart l (n ∷ s.around) h)) means.0))
+  case_reached l n s (Item-F.Type type) new has h k makes = defined_type_reached l n s type (resource_written (out-DefType type)) new h k makes
   case_reached l n s (Item-F.Canon (Lift f options t)) new has h k makes = lift_reached l n s f options t new h k makes
   case_reached l n s (Item-F.Canon (Lower f options)) new has h k makes = lower_reached l n s f options new h k makes
   case_reached l n s (Item-F.Canon (Builtin b)) new has h k makes = builtin_reached l n s b new h k makes

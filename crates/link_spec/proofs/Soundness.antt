@@ -72,6 +72,6 @@ pub record AreSpacesSound (R : ModuleTree → Type 0) (cores : List CoreMake) (c
 pub record IsLinkingSound (R : ModuleTree → Type 0) (l : Linking) : Type 0 where
   pub scopes : AllByRecursion (AreSpacesSound R l.cores l.canons) l.scopes
   pub imported : AreImported l.canons [] l.cores
-  pub made : AreMade l.cores l.canons []
+  pub made : AreMade l.cores l.canons l.resources
   pub called : AllByRecursion HasApartType l.canons
   pub modules_have : AllByRecursion (λ (core : CoreMake). R core.of_module) l.cores

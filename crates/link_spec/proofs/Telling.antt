@@ -1,5 +1,5 @@
 -- The tests say what the relations say.
-use Rattle.std.proofs.Common.{◌≡◌, ◌⊎◌, inl, inr, ◌<◌, ◌≤◌, ℕ, Bool, true, false, ◌&&◌, cond, nat_lt, nat_le, List, [], ◌∷◌, refl, sym, ap, ap₂, subst, arith, Option, Some, None}
+use Rattle.std.proofs.Common.{◌≡◌, ◌⊎◌, inl, inr, ◌<◌, ◌≤◌, ℕ, Bool, true, false, not, ◌&&◌, cond, nat_lt, nat_le, List, [], ◌∷◌, refl, sym, ap, ap₂, subst, arith, Option, Some, None}
 use Rattle.std.specs.Prelude.{is_none}
 use Rattle.std.specs.Bool.{Decides}
 use Rattle.std.specs.Option.{option_map_or, MatchOption}
@@ -26,7 +26,7 @@ use Rattle.comp_tree.specs.declared.instances.Sort.{Sort}
 use Rattle.comp_tree.specs.declared.instances.Sort.TheVariants as sorts
 use Rattle.comp_tree.specs.declared.externs.ExternDesc.{ExternDesc}
 use Rattle.comp_tree.specs.declared.externs.ExternDesc.TheVariants as desc
-use Rattle.comp_graph.specs.Closed.{Extern, OfFunc, OfType, OfInstance, Externs, EmptyType, WithExtern, AreTypes}
+use Rattle.comp_graph.specs.Closed.{Extern, OfFunc, OfType, OfInstance, Externs, EmptyType, WithExtern, names_resource, AreTypes}
 use Rattle.link_spec.specs.Definitions.{CoreItem, Func, Table, Memory, Global, MaxIsWithin, IsWithin, CoreFits, Definition, AFunc, AType, AComponent, AnInstance, AModule, Exports, export_named, Fits, FitAll}
 use Rattle.link_spec.specs.Types.{Meaning}
 use Rattle.link_spec.specs.Spaces.{Spaces, IsOfCoreSort, IsOfSort}
@@ -173,10 +173,14 @@ mutual
       both_decide (fit_all given others) (option_map_or (λ d. fits d extern) (export_named name given) false) (fit_all_told given others)
       (found_told (λ d. fits d extern) (λ d. Fits d extern) (export_named name given) (λ d. fits_told d extern))
 
+not_told : (b : Bool) → Decides (not b) (b ≡ false)
+not_told true = (λ h. never h, λ e. cc)
+not_told false = (λ h. refl, λ e. refl)
+
 types_only : (externs : Externs) → Decides (are_types externs) (AreTypes externs)
 types_only EmptyType = (λ h. tt, λ k. refl)
 types_only (WithExtern others name (OfFunc type)) = (λ h. never h, λ k. absurd k)
-types_only (WithExtern others name (OfType type)) = types_only others
+types_only (WithExtern others name (OfType type)) = both_decide (are_types others) (not (names_resource type)) (types_only others) (not_told (names_resource type))
 types_only (WithExtern others name (OfInstance inner)) = (λ h. never h, λ k. absurd k)
 
 pub of_types_told : (extern : Extern) → Decides (is_of_types extern) (IsOfTypes extern)

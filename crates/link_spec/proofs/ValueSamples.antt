@@ -10,6 +10,7 @@ use Rattle.ca_types.specs.declared.types.Field.{Field}
 use Rattle.ca_types.proofs.Folds.{fold_field}
 use Rattle.ca_types.proofs.Parts.{map_alike}
 use Rattle.laid_types.specs.Depth.{greatest, depth, depth_step, depth_case, depth_field}
+use Rattle.comp_tree.specs.declared.types.DefType.TheViews.{outs-Value}
 use Rattle.comp_tree.specs.declared.items.Item.TheVariants as plain
 use Rattle.comp_tree.specs.declared.items.Item.TheViews.{outs-Type}
 use Rattle.link_spec.specs.declared.fault.LinkWhy.TheVariants as why
@@ -28,7 +29,7 @@ record_depth fields =
     ∙ fold-roll-ValType ℕ ℕ ℕ depth_step depth_case depth_field (F.Record fields)
     ∙ ap (λ ds. suc (greatest ds)) (map_alike _ _ (fold_field ℕ ℕ ℕ depth_step depth_case depth_field) fields)
 
-ruleset layers = (outs-Type, value_rolled, leaf_depth, list_depth, record_depth, outs-U32, outs-List, outs-Record)
+ruleset layers = (outs-Type, outs-Value, value_rolled, leaf_depth, list_depth, record_depth, outs-U32, outs-List, outs-Record)
 
 pub empty : (inside : Run) → answer_of (run inside root_begun 0 (root (record_of [] 0 ∷ [])).items) ≡ fault 0 why.Typing
 empty inside = simp layers refl

@@ -5,6 +5,7 @@ use Rattle.std.specs.Option.{option_map, option_map_or, option_and_then}
 use Rattle.std.specs.List.{slice_get, list_all}
 use Rattle.ca_types.specs.declared.types.ValType.{ValType, out-ValType}
 use Rattle.ca_types.specs.declared.types.ValType.TheOpen.{ValType-F}
+use Rattle.builtin_kinds.specs.declared.ResourceOp.{ResourceOp}
 use Rattle.builtin_kinds.specs.declared.ContextOp.{ContextOp}
 use Rattle.builtin_kinds.specs.declared.WaitOp.{WaitOp}
 use Rattle.builtin_kinds.specs.declared.EndKind.{EndKind}
@@ -15,20 +16,22 @@ use Rattle.comp_tree.specs.declared.builtins.CanonEndOp.{CanonEndOp}
 use Rattle.comp_tree.specs.declared.builtins.CanonEndOp.TheVariants as read_op
 use Rattle.comp_tree.specs.declared.items.CanonOption.{CanonOption}
 use Rattle.comp_graph.specs.CoreItems.{core_memory_of}
-use Rattle.comp_graph.specs.Closed.{value_of}
+use Rattle.comp_graph.specs.Closed.{value_of, resource_of}
 use Rattle.comp_graph.specs.Graph.{lowers_list}
 use Rattle.comp_graph.specs.Needs.{task_return_needs_memory}
 use Rattle.comp_graph.specs.declared.graph.CoreRef.{CoreRef}
+use Rattle.comp_graph.specs.declared.graph.Resource.{Resource}
 use Rattle.comp_graph.specs.declared.graph.EndOp.{EndOp}
 use Rattle.comp_graph.specs.declared.graph.EndOp.TheVariants as end_op
 use Rattle.comp_graph.specs.declared.graph.BuiltinKind.{BuiltinKind}
 use Rattle.comp_graph.specs.declared.graph.BuiltinKind.TheVariants as builtin
 use Rattle.link_spec.specs.Canons.{Given, given_by, options_of, stand_once, is_option_there, can_be_used}
-use Rattle.link_spec.specs.Spaces.{Spaces}
+use Rattle.link_spec.specs.Resources.{resource_numbered, resource_serves}
+use Rattle.link_spec.specs.Spaces.{Spaces, Linking}
 use Rattle.link_spec.specs.ValueTypes.{held_within, close_held}
 
 -- What a built-in comes to: whether all indices that it names are there; what it is, where its types are such as it asks for; and
--- whether its options, or its word of the task, serve it.
+-- whether its options, its word of the task, or its resource serve it.
 pub record BuiltinMeaning : Type 0 where
   pub is_there : Bool
   pub means : Option BuiltinKind
@@ -37,10 +40,6 @@ pub record BuiltinMeaning : Type 0 where
 -- one that asks for nothing
 abbrev pub of_kind : BuiltinKind → BuiltinMeaning
 of_kind kind = record { is_there = true; means = Some kind; serves = true }
-
--- one whose type is none such as it asks for, where its indices are there or not
-abbrev pub none_such : Bool → BuiltinMeaning
-none_such is_there = record { is_there = is_there; means = None; serves = true }
 
 -- One of a word of the task, which has two.
 abbrev pub context_meaning : ContextOp → ℕ → BuiltinMeaning
@@ -102,14 +101,23 @@ end_meaning is_there kind elements given op = record {
   serves = option_map_or (λ element. end_serves given element op) elements true;
 }
 
--- A built-in. Those of resources are not linked.
-abbrev pub builtin_meaning : Spaces → CanonBuiltin → BuiltinMeaning
-builtin_meaning s (read_builtin.Plain b) = of_kind (builtin.Plain b)
-builtin_meaning s (read_builtin.Context op slot) = context_meaning op slot
-builtin_meaning s (read_builtin.Wait op cancellable memory) =
+-- One of the resource of a number, where the type is one of resources.
+abbrev pub resource_meaning : List Resource → ℕ → Bool → ResourceOp → Option ℕ → BuiltinMeaning
+resource_meaning resources n is_there op number = record {
+  is_there = is_there;
+  means = option_map (λ number. builtin.Resource op number) number;
+  serves = option_map_or (λ number. option_map_or (resource_serves n op) (resource_numbered resources number) false) number true;
+}
+
+-- A built-in of the component instance of a number.
+abbrev pub builtin_meaning : Linking → ℕ → Spaces → CanonBuiltin → BuiltinMeaning
+builtin_meaning l n s (read_builtin.Plain b) = of_kind (builtin.Plain b)
+builtin_meaning l n s (read_builtin.Context op slot) = context_meaning op slot
+builtin_meaning l n s (read_builtin.Wait op cancellable memory) =
     wait_meaning (nat_lt memory (length s.core_memories)) op cancellable (option_and_then core_memory_of (slice_get s.core_memories memory))
-builtin_meaning s (read_builtin.TaskReturn result options) =
+builtin_meaning l n s (read_builtin.TaskReturn result options) =
     return_meaning (held_within (length s.types) result && are_options_there s options) (close_held (map Some s.types) result) options (given_by s options)
-builtin_meaning s (read_builtin.Resource op resource) = none_such (nat_lt resource (length s.types))
-builtin_meaning s (read_builtin.End kind end_type op) =
+builtin_meaning l n s (read_builtin.Resource op resource) =
+    resource_meaning l.resources n (nat_lt resource (length s.types)) op (option_and_then resource_of (slice_get s.types resource))
+builtin_meaning l n s (read_builtin.End kind end_type op) =
     end_meaning (nat_lt end_type (length s.types) && are_end_options_there s op) kind (elements_at s kind end_type) (given_by s) op

@@ -10,6 +10,8 @@ use Rattle.wasm_module.specs.declared.module.Import.{Import}
 use Rattle.wasm_module.specs.declared.module.ModuleTree.{ModuleTree}
 use Rattle.comp_graph.specs.Graph.{Graph}
 use Rattle.comp_graph.specs.CoreItems.{core_func_of}
+use Rattle.comp_graph.specs.Needs.{destructor_type}
+use Rattle.comp_graph.specs.declared.graph.FuncRef.{FuncRef}
 use Rattle.comp_tree.specs.declared.core_instances.CoreArgument.{CoreArgument}
 use Rattle.comp_tree.specs.declared.core_instances.CoreInlineExport.{CoreInlineExport}
 use Rattle.comp_tree.specs.declared.core_instances.CoreInstance.{CoreInstance}
@@ -20,6 +22,7 @@ use Rattle.comp_tree.specs.declared.instances.Instance.TheVariants as made
 use Rattle.comp_tree.specs.declared.instances.Sort.{Sort}
 use Rattle.comp_tree.specs.declared.instances.AliasTarget.{AliasTarget}
 use Rattle.comp_tree.specs.declared.instances.AliasTarget.TheVariants as target
+use Rattle.comp_tree.specs.declared.types.DefType.{out-DefType}
 use Rattle.comp_tree.specs.declared.externs.ExternDesc.{ExternDesc}
 use Rattle.comp_tree.specs.declared.externs.Export as read
 use Rattle.comp_tree.specs.declared.items.CanonOption.{CanonOption}
@@ -32,11 +35,12 @@ use Rattle.link_spec.specs.declared.fault.LinkWhy.TheVariants as why
 use Rattle.link_spec.specs.declared.fault.LinkFault.{LinkFault}
 use Rattle.comp_graph.specs.Closed.{Closed, Extern, OfInstance, func_of}
 use Rattle.link_spec.specs.Definitions.{CoreItem, CoreExport, core_named, Lifted, Closure, Definition, AFunc, AComponent, AnInstance, AModule, Exports, EmptyInstance, WithExport, export_names, export_named, lacks, seen_as, types_of}
-use Rattle.link_spec.specs.Canons.{Given, given_by, stand_once, is_option_there, can_be_lifted, can_be_lowered}
+use Rattle.link_spec.specs.Canons.{Given, given_by, stand_once, is_option_there, is_of_core_type, can_be_lifted, can_be_lowered}
 use Rattle.link_spec.specs.Builtins.{BuiltinMeaning, builtin_meaning}
-use Rattle.link_spec.specs.Types.{Meaning, meaning_of}
-use Rattle.link_spec.specs.Spaces.{Spaces, Linking, core_size, size_of, core_item_at, definition_at, with_core_item, with_core_instance, with_definition, with_spaces, levels_at, outer_at}
-use Rattle.link_spec.specs.Items.{instance_limit, argument_named, core_made, type_made, lifted_with, lower_made, builtin_made, wanted, lacking, with_import, said, with_export}
+use Rattle.link_spec.specs.Resources.{resource_written, with_resource}
+use Rattle.link_spec.specs.Types.{Meaning}
+use Rattle.link_spec.specs.Spaces.{Spaces, Linking, core_size, size_of, core_item_at, definition_at, with_core_item, with_core_instance, with_definition, with_spaces, outer_at}
+use Rattle.link_spec.specs.Items.{instance_limit, argument_named, core_made, type_made, type_meaning, lifted_with, lower_made, builtin_made, wanted, lacking, with_import, said, with_export}
 use Rattle.link_spec.specs.Linked.{begun, with_instance, root_begun, graph_of}
 use Rattle.link_spec.specs.Tests.{are_distinct, all_fit, is_core_of, is_of_sort, fits, root_may_import}
 
@@ -158,6 +162,25 @@ type_outcome l n s meaning =
     only_if (not meaning.deep) why.Limit (
     Ok (Makes (type_made l n s closed))))))
 
+-- Types of resources.
+
+-- the core function that is one's destructor, of a core item, and of an index, if there is one
+abbrev pub destructor_of : CoreItem → Result (Option FuncRef) LinkWhy
+destructor_of item =
+    only_if (is_of_core_type destructor_type item) why.Canon (
+    after (there_or why.Canon (core_func_of item)) (λ core. Ok (Some core)))
+
+abbrev pub destructor_at : Spaces → Option ℕ → Result (Option FuncRef) LinkWhy
+destructor_at s None = Ok None
+destructor_at s (Some f) = after (there_or why.Index (slice_get s.core_funcs f)) (λ item. destructor_of item)
+
+abbrev pub resource_outcome : Linking → ℕ → Spaces → Option ℕ → Result Outcome LinkWhy
+resource_outcome l n s destructor = after (destructor_at s destructor) (λ core. Ok (Makes (with_resource l n s core)))
+
+abbrev pub defined_outcome : Linking → ℕ → Spaces → Option (Option ℕ) → Meaning Closed → Result Outcome LinkWhy
+defined_outcome l n s (Some destructor) meaning = resource_outcome l n s destructor
+defined_outcome l n s None meaning = type_outcome l n s meaning
+
 -- Lifts.
 
 -- the lift of a core item to a function of a type, with what options give, in the component instance of this number
@@ -263,10 +286,10 @@ outcome_case l n s (Item-F.CoreInstance c) = core_instance_outcome l n s c
 outcome_case l n s (Item-F.Component c) = Ok (one_more l n s (AComponent (record { items = c.items; around = n ∷ s.around })))
 outcome_case l n s (Item-F.Instance i) = instance_outcome l n s i
 outcome_case l n s (Item-F.Alias alias) = alias_outcome l n s alias.sort alias.target
-outcome_case l n s (Item-F.Type type) = type_outcome l n s (meaning_of type (levels_at l (n ∷ s.around)))
+outcome_case l n s (Item-F.Type type) = defined_outcome l n s (resource_written (out-DefType type)) (type_meaning l n s type)
 outcome_case l n s (Item-F.Canon (Lift f options t)) = lift_outcome l n s f options t
 outcome_case l n s (Item-F.Canon (Lower f options)) = lower_outcome l n s f options
-outcome_case l n s (Item-F.Canon (Builtin b)) = builtin_outcome l n s (builtin_meaning s b)
+outcome_case l n s (Item-F.Canon (Builtin b)) = builtin_outcome l n s (builtin_meaning l n s b)
 outcome_case l n s (Item-F.Import i) = import_outcome l n s i.name (wanted s i.desc) i.desc s.arguments
 outcome_case l n s (Item-F.Export e) = export_outcome l n s e
 

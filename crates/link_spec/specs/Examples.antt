@@ -13,7 +13,11 @@ use Rattle.wasm_module.specs.Expr.{Plain, End}
 use Rattle.comp_graph.specs.declared.graph.Options.{Options}
 use Rattle.comp_graph.specs.declared.graph.Lift as graph
 use Rattle.comp_graph.specs.declared.graph.FuncRef.TheVariants as func_ref
+use Rattle.builtin_kinds.specs.declared.ResourceOp.{ResourceOp}
+use Rattle.builtin_kinds.specs.declared.ResourceOp.TheVariants as resource_op
+use Rattle.comp_graph.specs.declared.graph.Resource.{Resource}
 use Rattle.comp_graph.specs.declared.graph.BuiltinKind.{BuiltinKind}
+use Rattle.comp_graph.specs.declared.graph.BuiltinKind.TheVariants as builtin
 use Rattle.comp_graph.specs.declared.graph.CanonFunc.TheVariants as canon_func
 use Rattle.comp_graph.specs.declared.graph.CoreExtern.TheVariants as extern
 use Rattle.comp_graph.specs.Graph.{Graph, no_options}
@@ -41,6 +45,7 @@ use Rattle.comp_tree.specs.declared.items.CanonOption.{CanonOption}
 use Rattle.comp_tree.specs.declared.items.CanonOption.TheVariants as option
 use Rattle.comp_tree.specs.declared.builtins.CanonBuiltin.{CanonBuiltin}
 use Rattle.comp_tree.specs.declared.builtins.CanonBuiltin.TheVariants.{TaskReturn}
+use Rattle.comp_tree.specs.declared.builtins.CanonBuiltin.TheVariants as read_builtin
 use Rattle.comp_tree.specs.declared.items.Canon.TheVariants.{Lift, Lower, Builtin}
 use Rattle.comp_tree.specs.declared.items.Item.{Item}
 use Rattle.comp_tree.specs.declared.items.Item.TheVariants as plain
@@ -287,6 +292,65 @@ making kind = Ok (record {
   cores = [];
   canons = canon_func.Builtin (record { instance = 0; kind = kind }) ∷ [];
   resources = [];
+  exports = [];
+  lifts = [];
+  end_types = [];
+})
+
+-- A type of resources, with or without the index of a destructor, and built-ins of the first type.
+abbrev pub resource : Option ℕ → Item
+resource destructor = plain.Type (plain_type.Resource destructor)
+
+abbrev pub of_resource : ResourceOp → Item
+of_resource op = plain.Canon (Builtin (read_builtin.Resource op 0))
+
+-- A resource and a built-in of it, and the graph.
+abbrev pub using : ResourceOp → Component
+using op = root (resource None ∷ of_resource op ∷ [])
+
+abbrev pub resource_of : ℕ → Resource
+resource_of instance = record { instance = instance; destructor = None }
+
+abbrev pub used : ResourceOp → Result Graph LinkFault
+used op = Ok (record {
+  plan = Begin 0 ∷ [];
+  instance_count = 1;
+  cores = [];
+  canons = canon_func.Builtin (record { instance = 0; kind = builtin.Resource op 1 }) ∷ [];
+  resources = resource_of 0 ∷ [];
+  exports = [];
+  lifts = [];
+  end_types = [];
+})
+
+-- A component that defines a resource, instantiated twice, and the graph.
+abbrev pub defining_twice : Component
+defining_twice = root (inside (resource None ∷ []) ∷ instantiate ∷ instantiate ∷ [])
+
+abbrev pub defined_twice : Result Graph LinkFault
+defined_twice = Ok (record {
+  plan = Begin 0 ∷ Begin 1 ∷ Begin 2 ∷ [];
+  instance_count = 3;
+  cores = [];
+  canons = [];
+  resources = resource_of 1 ∷ resource_of 2 ∷ [];
+  exports = [];
+  lifts = [];
+  end_types = [];
+})
+
+-- a component that takes the resource of the one around it, with a built-in of it
+abbrev pub taking_outer : ResourceOp → Component
+taking_outer op = root (resource None ∷ inside (outer sorts.Type 1 0 ∷ of_resource op ∷ []) ∷ instantiate ∷ [])
+
+-- what is linked where it drops handles
+abbrev pub taken_outer : Result Graph LinkFault
+taken_outer = Ok (record {
+  plan = Begin 0 ∷ Begin 1 ∷ [];
+  instance_count = 2;
+  cores = [];
+  canons = canon_func.Builtin (record { instance = 1; kind = builtin.Resource resource_op.Drop 1 }) ∷ [];
+  resources = resource_of 0 ∷ [];
   exports = [];
   lifts = [];
   end_types = [];

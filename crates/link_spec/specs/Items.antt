@@ -22,6 +22,7 @@ use Rattle.comp_tree.specs.declared.instances.Sort.{Sort}
 use Rattle.comp_tree.specs.declared.instances.Sort.TheVariants as sorts
 use Rattle.comp_tree.specs.declared.instances.AliasTarget.{AliasTarget}
 use Rattle.comp_tree.specs.declared.instances.AliasTarget.TheVariants as target
+use Rattle.comp_tree.specs.declared.types.DefType.{DefType, out-DefType}
 use Rattle.comp_tree.specs.declared.externs.ExternDesc.{ExternDesc}
 use Rattle.comp_tree.specs.declared.externs.ExternDesc.TheVariants as desc
 use Rattle.comp_tree.specs.declared.externs.Export as read
@@ -44,6 +45,7 @@ use Rattle.link_spec.specs.Definitions.{CoreItem, Func, extern_of, CoreExport, c
 pub use Rattle.comp_graph.specs.Graph.{instance_limit}
 use Rattle.link_spec.specs.Canons.{IsOptionThere, StandOnce, Given, given_by, options_of, CanBeLifted, CanBeLowered}
 use Rattle.link_spec.specs.Builtins.{BuiltinMeaning, builtin_meaning}
+use Rattle.link_spec.specs.Resources.{resource_written, resource_has, resource_makes}
 use Rattle.link_spec.specs.Ends.{noted_type, noted_canon}
 use Rattle.link_spec.specs.Types.{Meaning, meaning_of, desc_meaning}
 use Rattle.link_spec.specs.Spaces.{Spaces, Make, Linking, core_size, size_of, core_item_at, definition_at, IsOfCoreSort, IsOfSort, with_core_item, with_core_instance, with_definition, with_spaces, with_ends, levels_at, outer_at}
@@ -119,6 +121,7 @@ core_made l n s m imports = record {
   scopes = set l.scopes n (with_core_instance s (exports_of m (length l.cores)));
   cores = l.cores ++ record { of_module = m; imports = map extern_of imports; owner = n } ∷ [];
   canons = l.canons;
+  resources = l.resources;
   plan = l.plan ++ Make (length l.cores) ∷ [];
   end_types = l.end_types;
 }
@@ -195,7 +198,7 @@ alias_makes l n s sort (target.CoreInstanceExport instance name) new =
 alias_makes l n s sort (target.Outer up index) new =
     (d : Definition) × (outer_at l (n ∷ s.around) sort up index ≡ Some d) × (new ≡ with_spaces l n (with_definition s d))
 
--- Types: what keeps a type from a meaning, or that a value type in it is too deep.
+-- Types: what keeps a type from a meaning, or that a value type in it is too deep; and those of resources.
 abbrev pub type_has : Meaning Closed → LinkWhy → Type 0
 type_has meaning why.Index = meaning.is_there ≡ false
 type_has meaning (why.Missing name) = meaning.missing ≡ Some name
@@ -213,6 +216,18 @@ type_made l n s closed = with_spaces (with_ends l (noted_type l.end_types closed
 
 abbrev pub type_makes : Linking → ℕ → Spaces → Meaning Closed → Linking → Type 0
 type_makes l n s meaning new = (closed : Closed) × StandsFor meaning closed × (new ≡ type_made l n s closed)
+
+abbrev pub defined_has : Spaces → Option (Option ℕ) → Meaning Closed → LinkWhy → Type 0
+defined_has s (Some destructor) meaning why = resource_has s destructor why
+defined_has s None meaning why = type_has meaning why
+
+abbrev pub defined_makes : Linking → ℕ → Spaces → Option (Option ℕ) → Meaning Closed → Linking → Type 0
+defined_makes l n s (Some destructor) meaning new = resource_makes l n s destructor new
+defined_makes l n s None meaning new = type_makes l n s meaning new
+
+-- what a type means where it stands
+abbrev pub type_meaning : Linking → ℕ → Spaces → DefType → Meaning Closed
+type_meaning l n s type = meaning_of type (levels_at l (n ∷ s.around))
 
 -- Lifts: an index that is not there, also of an option; a type that is none of functions; an option twice, or a core item that cannot
 -- be lifted with the options.
@@ -244,6 +259,7 @@ with_canon l n s f = record {
   scopes = set l.scopes n (with_core_item s (Func (func_ref.Canon (length l.canons)) (canon_type f)));
   cores = l.cores;
   canons = l.canons ++ f ∷ [];
+  resources = l.resources;
   plan = l.plan;
   end_types = noted_canon l.end_types f;
 }
@@ -273,7 +289,8 @@ lower_makes l n s f options new =
     × StandOnce options × CanBeLowered func.func_type (given_by s options)
     × (new ≡ lower_made l n s func (given_by s options))
 
--- Built-ins: an index that is not there; a type that is none such as one asks for; options or a word of the task that do not serve it.
+-- Built-ins: an index that is not there; a type that is none such as one asks for; options, a word of the task or a resource that do not
+-- serve it.
 abbrev pub builtin_has : BuiltinMeaning → LinkWhy → Type 0
 builtin_has meaning why.Index = meaning.is_there ≡ false
 builtin_has meaning why.Typing = meaning.means ≡ None
@@ -384,10 +401,10 @@ has_case l n s (Item-F.CoreInstance c) why = core_instance_has l s c why
 has_case l n s (Item-F.Component c) why = ⊥
 has_case l n s (Item-F.Instance i) why = instance_has l s i why
 has_case l n s (Item-F.Alias alias) why = alias_has l n s alias.sort alias.target why
-has_case l n s (Item-F.Type type) why = type_has (meaning_of type (levels_at l (n ∷ s.around))) why
+has_case l n s (Item-F.Type type) why = defined_has s (resource_written (out-DefType type)) (type_meaning l n s type) why
 has_case l n s (Item-F.Canon (Lift f options t)) why = lift_has s f options t why
 has_case l n s (Item-F.Canon (Lower f options)) why = lower_has s f options why
-has_case l n s (Item-F.Canon (Builtin b)) why = builtin_has (builtin_meaning s b) why
+has_case l n s (Item-F.Canon (Builtin b)) why = builtin_has (builtin_meaning l n s b) why
 has_case l n s (Item-F.Import i) why = import_has s i.name i.desc why
 has_case l n s (Item-F.Export e) why = export_has s e why
 
@@ -401,10 +418,10 @@ makes_case l n s (Item-F.CoreInstance c) new = core_instance_makes l n s c new
 makes_case l n s (Item-F.Component c) new = new ≡ with_spaces l n (with_definition s (AComponent (record { items = c.items; around = n ∷ s.around })))
 makes_case l n s (Item-F.Instance i) new = instance_makes l n s i new
 makes_case l n s (Item-F.Alias alias) new = alias_makes l n s alias.sort alias.target new
-makes_case l n s (Item-F.Type type) new = type_makes l n s (meaning_of type (levels_at l (n ∷ s.around))) new
+makes_case l n s (Item-F.Type type) new = defined_makes l n s (resource_written (out-DefType type)) (type_meaning l n s type) new
 makes_case l n s (Item-F.Canon (Lift f options t)) new = lift_makes l n s f options t new
 makes_case l n s (Item-F.Canon (Lower f options)) new = lower_makes l n s f options new
-makes_case l n s (Item-F.Canon (Builtin b)) new = builtin_makes l n s (builtin_meaning s b) new
+makes_case l n s (Item-F.Canon (Builtin b)) new = builtin_makes l n s (builtin_meaning l n s b) new
 makes_case l n s (Item-F.Import i) new = import_makes l n s i.name i.desc new
 makes_case l n s (Item-F.Export e) new = export_makes l n s e new
 

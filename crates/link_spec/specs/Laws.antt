@@ -104,9 +104,9 @@ abbrev pub LiftsAreThere : Type 0
 LiftsAreThere =
     (c : Component) (g : Graph) → IsLinked c g → AllZip (λ (e : Export) lift. IsLiftThere g.cores g.canons e.func_type lift) g.exports g.lifts
 
--- Core instances and core functions of the Canonical ABI are made one behind the other, in some order: each core instance has the
--- imports that its module asks for, and what is lowered is there, with the memory and the core functions that the lower uses, and so is
--- what a built-in uses, of what was made before it.
+-- Core instances, core functions of the Canonical ABI and resources are made one behind the other, in some order: each core instance has
+-- the imports that its module asks for, what is lowered is there, with the memory and the core functions that the lower uses, and so is
+-- what a built-in uses, its resource among it, and the destructor of a resource, of what was made before it.
 abbrev pub GraphsAreMade : Type 0
 GraphsAreMade = (c : Component) (g : Graph) → IsLinked c g → AreMade g.cores g.canons g.resources
 
@@ -127,10 +127,6 @@ HasSoundType (canon_func.Builtin b) = Unit {0}
 
 abbrev pub LoweredTypesAreSound : Type 0
 LoweredTypesAreSound = (c : Component) (g : Graph) → IsLinked c g → AllByRecursion HasSoundType g.canons
-
--- No resources of a graph are defined.
-abbrev pub GraphsHaveNoResources : Type 0
-GraphsHaveNoResources = (c : Component) (g : Graph) → IsLinked c g → g.resources ≡ []
 
 -- The names of the root's exports are distinct. The functions that can be called are those among them, and those of instances
 -- among them under `name#function`: where no name of the root has a `#`, no two of them have one name. Else they may: the root

@@ -9,6 +9,7 @@ pub mod Items
 pub mod Laws
 pub mod Linked
 pub mod Meaning
+pub mod Resources
 pub mod Same
 pub mod Shallow
 pub mod Spaces

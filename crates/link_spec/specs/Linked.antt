@@ -50,6 +50,7 @@ begun l c arguments = record {
   scopes = l.scopes ++ new_spaces (Some arguments) c.around ∷ [];
   cores = l.cores;
   canons = l.canons;
+  resources = l.resources;
   plan = l.plan ++ Begin (length l.scopes) ∷ [];
   end_types = l.end_types;
 }
@@ -98,7 +99,7 @@ pub data IsRefusedAt : Linking → ℕ → List (Placed Item) → LinkFault → 
 
 -- the root begins
 abbrev pub root_begun : Linking
-root_begun = record { scopes = new_spaces None [] ∷ []; cores = []; canons = []; plan = Begin 0 ∷ []; end_types = [] }
+root_begun = record { scopes = new_spaces None [] ∷ []; cores = []; canons = []; resources = []; plan = Begin 0 ∷ []; end_types = [] }
 
 -- A function that can be called from outside, under its written name.
 pub record Callable : Type 0 where
@@ -128,7 +129,7 @@ callables EmptyInstance = []
 callables (WithExport others name d) = callables others ++ called (name, d)
 
 -- What a component is linked to: what is made, in file order, the functions that can be called, and the types of streams and futures that
--- components define and built-ins name. No resources are defined.
+-- components define and built-ins name.
 abbrev pub export_of : Callable → Export
 export_of c = record { name = c.name; func_type = c.func.func_type }
 
@@ -141,7 +142,7 @@ graph_of l = record {
   instance_count = length l.scopes;
   cores = l.cores;
   canons = l.canons;
-  resources = [];
+  resources = l.resources;
   exports = map export_of (callables (exports_at l 0));
   lifts = map lift_of (callables (exports_at l 0));
   end_types = l.end_types;

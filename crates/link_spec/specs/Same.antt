@@ -7,7 +7,7 @@ use Rattle.ca_types.specs.declared.types.Case.{Case}
 use Rattle.ca_types.specs.declared.types.Field.{Field}
 use Rattle.ca_types.specs.declared.types.Param.{Param}
 use Rattle.ca_types.specs.declared.types.FuncType.{FuncType}
-use Rattle.comp_graph.specs.Closed.{Closed, Value, Func, Instance, Extern, OfFunc, OfType, OfInstance, Externs, EmptyType, WithExtern}
+use Rattle.comp_graph.specs.Closed.{Closed, Value, Func, Resource, Instance, Extern, OfFunc, OfType, OfInstance, Externs, EmptyType, WithExtern}
 
 -- as many items as tests, each of which passes its own
 abbrev pub all_pass : {A : Type 0} → List (A → Bool) → List A → Bool
@@ -79,6 +79,7 @@ abbrev mutual
   pub same_closed : Closed → Closed → Bool
   same_closed (Value type) (Value other) = same_val type other
   same_closed (Func type) (Func other) = same_func type other
+  same_closed (Resource number) (Resource other) = number == other
   same_closed (Instance externs) (Instance others) = same_externs externs others
   same_closed type other = false
 

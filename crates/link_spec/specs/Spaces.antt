@@ -1,7 +1,7 @@
 -- Index spaces (Component Model, Explainer.md, "Index Spaces"): a component that is linked has one for each sort, to which its
 -- items add in file order. Beside them stand what it imports and exports so far, what it is given, and the component
--- instances that it sees around it. All component instances are kept by their numbers, in order of beginning, all core instances
--- by theirs, in order of making, and all core functions that the Canonical ABI makes by theirs, in order of making.
+-- instances that it sees around it. All component instances are kept by their numbers, in order of beginning, and all core
+-- instances, all core functions that the Canonical ABI makes and all resources by theirs, in order of making.
 use Rattle.std.specs.Prelude.{ℕ, List, [], ◌∷◌, ◌++◌, length, map, set, Option, Some, None}
 use Rattle.std.specs.Option.{option_map, option_and_then}
 use Rattle.std.specs.List.{slice_get, flat_map}
@@ -15,6 +15,7 @@ pub use Rattle.comp_graph.specs.declared.graph.Action.{Action}
 pub use Rattle.comp_graph.specs.declared.graph.Action.TheVariants.{Begin, Make}
 pub use Rattle.comp_graph.specs.Graph.{CoreMake}
 use Rattle.comp_graph.specs.declared.graph.CanonFunc.{CanonFunc}
+use Rattle.comp_graph.specs.declared.graph.Resource.{Resource}
 use Rattle.comp_graph.specs.Closed.{Closed}
 use Rattle.link_spec.specs.Definitions.{CoreItem, Func, Table, Memory, Global, CoreExport, Lifted, Closure, Definition, AFunc, AType, AComponent, AnInstance, AModule, Exports, EmptyInstance}
 
@@ -57,12 +58,13 @@ new_spaces arguments around = record {
   around = around;
 }
 
--- the component instances, the core instances and the core functions of the Canonical ABI so far, by their numbers, what was made
--- so far, and the types of streams and futures so far
+-- the component instances, the core instances, the core functions of the Canonical ABI and the resources so far, by their numbers,
+-- what was made so far, and the types of streams and futures so far
 pub record Linking : Type 0 where
   pub scopes : List Spaces
   pub cores : List CoreMake
   pub canons : List CanonFunc
+  pub resources : List Resource
   pub plan : List Action
   pub end_types : List ValType
 

@@ -1,5 +1,5 @@
 -- What `Definitions` and `Items` say of definitions and of sorts, as tests.
-use Rattle.std.specs.Prelude.{ℕ, Bool, true, false, ◌&&◌, nat_le, is_none, List, [], ◌∷◌, Option, Some, None}
+use Rattle.std.specs.Prelude.{ℕ, Bool, true, false, not, ◌&&◌, nat_le, is_none, List, [], ◌∷◌, Option, Some, None}
 use Rattle.std.specs.Option.{option_map_or}
 use Rattle.std.specs.List.{slice_get}
 use Rattle.ca_base.specs.Names.{first_twice}
@@ -19,7 +19,7 @@ use Rattle.comp_tree.specs.declared.instances.Sort.{Sort}
 use Rattle.comp_tree.specs.declared.instances.Sort.TheVariants as sorts
 use Rattle.comp_tree.specs.declared.externs.ExternDesc.{ExternDesc}
 use Rattle.comp_tree.specs.declared.externs.ExternDesc.TheVariants as desc
-use Rattle.comp_graph.specs.Closed.{Extern, OfFunc, OfType, OfInstance, Externs, EmptyType, WithExtern}
+use Rattle.comp_graph.specs.Closed.{Extern, OfFunc, OfType, OfInstance, Externs, EmptyType, WithExtern, names_resource}
 use Rattle.link_spec.specs.Definitions.{CoreItem, Func, Table, Memory, Global, Definition, AFunc, AType, AComponent, AnInstance, AModule, Exports, export_named}
 use Rattle.link_spec.specs.Same.{same_func, same_closed}
 
@@ -101,7 +101,7 @@ abbrev mutual
 abbrev pub are_types : Externs → Bool
 are_types EmptyType = true
 are_types (WithExtern others name (OfFunc type)) = false
-are_types (WithExtern others name (OfType type)) = are_types others
+are_types (WithExtern others name (OfType type)) = are_types others && not (names_resource type)
 are_types (WithExtern others name (OfInstance inner)) = false
 
 -- What the root may import, as far as it has a meaning.

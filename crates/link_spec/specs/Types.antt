@@ -48,7 +48,7 @@ func_meaning types type = cond (all_within (length types) type) (meant (option_m
 
 -- Imports and exports.
 
--- what one is to be, over these types; a resource type has no meaning
+-- what one is to be, over these types; a resource that is fresh has no meaning
 abbrev pub desc_meaning : List (Option Closed) → ExternDesc → Meaning Extern
 desc_meaning types (desc.Func index) = found (λ type. option_map OfFunc (func_of type)) (slice_get types index)
 desc_meaning types (desc.TypeEq index) = found (λ type. Some (OfType type)) (slice_get types index)
@@ -178,7 +178,8 @@ instance_meaning d = record {
   means = option_map Instance d.so_far.means;
 }
 
--- what a type means in these levels, of which the first is where it stands
+-- What a type means in these levels, of which the first is where it stands. A type of resources is made by what is linked alone: in an
+-- instance type it has no meaning.
 abbrev pub InLevels : Type 0
 InLevels = List Level → Meaning Closed
 

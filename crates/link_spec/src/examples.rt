@@ -14,11 +14,12 @@ ghost use Rattle.comp_graph.specs.Needs.{lifted_type, lowered_type, lift_type, l
 ghost use Rattle.comp_graph.specs.declared.graph.BuiltinKind.TheVariants as builtin;
 ghost use Rattle.comp_tree.specs.declared.builtins.CanonBuiltin.TheVariants as read_builtin;
 ghost use Rattle.builtin_kinds.specs.declared.PlainBuiltin.TheVariants as plain_builtin;
+ghost use Rattle.builtin_kinds.specs.declared.ResourceOp.TheVariants as resource_op;
 ghost use Rattle.builtin_kinds.specs.declared.ContextOp.TheVariants as context_op;
 ghost use Rattle.builtin_kinds.specs.declared.WaitOp.TheVariants as wait_op;
 ghost use Rattle.link_spec.specs.declared.fault.LinkWhy.TheVariants as why;
 ghost use Rattle.link_spec.specs.Computed.{linked};
-ghost use Rattle.link_spec.specs.Examples.{root, fault, u32, list_of, record_of, lists, of_lists, import, outer, export_type, instantiate, wanting, giving_both, nesting, begins, of_one, make, make_with_absent, lifting, lifting_twice, with_memory, callable_as, lowering, lowering_string, taking_string, giving_string, passing, passed, returning, built, making, with_async, with_callback};
+ghost use Rattle.link_spec.specs.Examples.{root, fault, u32, list_of, record_of, lists, of_lists, import, outer, export_type, instantiate, wanting, giving_both, nesting, begins, of_one, make, make_with_absent, lifting, lifting_twice, with_memory, callable_as, lowering, lowering_string, taking_string, giving_string, passing, passed, returning, built, making, resource, of_resource, using, used, defining_twice, defined_twice, taking_outer, taken_outer, with_async, with_callback};
 
 /// Faults of one item: an import of the root that is a function, also where its index is not there; an outer alias that goes
 /// past the root; and an export of a name that was exported.
@@ -138,4 +139,15 @@ pub fn builtins()
     ensures returns { linked (built (returning None)) ≡ making (builtin.TaskReturn None no_options) }
     ensures no_type { linked (built (returning (Some (type_ref.Index 0)))) ≡ fault 0 why.Index }
     ensures no_result_memory { linked (built (returning (Some (type_ref.Primitive String)))) ≡ fault 0 why.Canon }
+{}
+
+/// A resource is defined by a component instance, each instance of a component defines one of its own, and a component inside sees that of
+/// the one around it: it drops handles, and makes none. A destructor that is not there is refused, and a type that is none of resources.
+pub fn resources()
+    ensures made { linked (using resource_op.New) ≡ used resource_op.New }
+    ensures twice { linked defining_twice ≡ defined_twice }
+    ensures dropped { linked (taking_outer resource_op.Drop) ≡ taken_outer }
+    ensures not_made { linked (taking_outer resource_op.New) ≡ fault 11 why.Canon }
+    ensures no_destructor { linked (root (resource (Some 0) ∷ [])) ≡ fault 0 why.Index }
+    ensures no_resource { linked (root (plain.Type u32 ∷ of_resource resource_op.Rep ∷ [])) ≡ fault 1 why.Typing }
 {}

@@ -1,6 +1,6 @@
 //! What holds of every linking.
 
-ghost use Rattle.link_spec.specs.Laws.{MakesExcludesReasons, BeginsExcludesReasons, MakesExcludesBegins, MakesOnce, BeginsOnce, OneName, OneFirst, OneLinking, LinksExcludesFaults, OneFault, OneGraph, LinkedIsNotRefused, OneRefusal, FewInstances, GraphsAreFew, GraphsAreImported, LiftsAreThere, GraphsAreMade, LabelsAreDistinct, TypesAreShallow, LoweredTypesAreSound, GraphsHaveNoResources, RootNamesAreDistinct, NamesAreDistinct, ModulesStand, OutcomeComputed, ReasonComputed, GraphComputed, FaultComputed, LinkedOrRefused, FuncsCompared, ClosedCompared, FitsTested};
+ghost use Rattle.link_spec.specs.Laws.{MakesExcludesReasons, BeginsExcludesReasons, MakesExcludesBegins, MakesOnce, BeginsOnce, OneName, OneFirst, OneLinking, LinksExcludesFaults, OneFault, OneGraph, LinkedIsNotRefused, OneRefusal, FewInstances, GraphsAreFew, GraphsAreImported, LiftsAreThere, GraphsAreMade, LabelsAreDistinct, TypesAreShallow, LoweredTypesAreSound, RootNamesAreDistinct, NamesAreDistinct, ModulesStand, OutcomeComputed, ReasonComputed, GraphComputed, FaultComputed, LinkedOrRefused, FuncsCompared, ClosedCompared, FitsTested};
 
 /// An item that makes something, or begins an instance of a component, has no reason against it, and none does both.
 pub fn items_make_or_are_refused()
@@ -55,11 +55,6 @@ pub fn graphs_are_sound()
     ensures shallow { TypesAreShallow }
     ensures lowered { LoweredTypesAreSound }
     ensures modules { ModulesStand }
-{}
-
-/// No resources of a graph are defined.
-pub fn graphs_have_no_resources()
-    ensures { GraphsHaveNoResources }
 {}
 
 /// The names of a component's exports are distinct, and so are the names of the functions that can be called, where no name of

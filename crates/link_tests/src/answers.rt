@@ -5,12 +5,12 @@
 
 ghost use Rattle.std.specs.Prelude.{◌<◌, length};
 
-use builtin_kinds::{ContextOp, EndKind, EndSide, PlainBuiltin, WaitOp};
+use builtin_kinds::{ContextOp, EndKind, EndSide, PlainBuiltin, ResourceOp, WaitOp};
 use ca_base::{MemoryOr, ReadError, Refusal};
 use ca_types::ValType;
 use comp_graph::{
     Action, Builtin, BuiltinKind, CanonFunc, CoreExtern, CoreMake, CoreRef, EndOp, FuncRef, Graph,
-    Lift, Lower, Options,
+    Lift, Lower, Options, Resource,
 };
 use comp_link::{LinkFault, LinkWhy, link};
 use comp_reader::{Component, ComponentWhy, read_component};
@@ -192,6 +192,16 @@ fn write_wait(
     write_memory(text, Some(memory))
 }
 
+/// Writes a built-in of the resources of a number.
+fn write_resource_op(text: &mut String, op: ResourceOp, resource: u32) -> Result<(), AllocError> {
+    let word = match op {
+        ResourceOp::New => "new",
+        ResourceOp::Drop => "drop",
+        ResourceOp::Rep => "rep",
+    };
+    write!(text, "resource.{word} R{resource}")
+}
+
 /// Writes a type of values, or `_` where there is none.
 fn write_type(alloc: Global, text: &mut String, val_type: Option<&ValType>) -> Result<(), Fail> {
     match val_type {
@@ -304,7 +314,7 @@ fn write_kind(
             element: _,
             op,
         } => write_end(alloc, text, *kind, op, passed)?,
-        BuiltinKind::Resource { .. } => text.push_str("of a resource")?,
+        BuiltinKind::Resource { op, resource } => write_resource_op(text, *op, *resource)?,
     }
     Ok(())
 }
@@ -350,6 +360,22 @@ fn write_canons(alloc: Global, text: &mut String, graph: &Graph<'_>) -> Result<(
     Ok(())
 }
 
+/// Writes a type of resources, in a line.
+fn write_resource(text: &mut String, resource: Resource) -> Result<(), AllocError> {
+    let instance = resource.instance;
+    write!(text, "resource {instance}")?;
+    write_used(text, "destructor", resource.destructor)?;
+    text.push('\n')
+}
+
+/// Writes each type of resources.
+fn write_resources(text: &mut String, resources: &[Resource]) -> Result<(), AllocError> {
+    for resource in resources {
+        write_resource(text, *resource)?;
+    }
+    Ok(())
+}
+
 /// Writes an export, in a line.
 fn write_export(text: &mut String, name: &str, lift: Lift) -> Result<(), AllocError> {
     write!(text, "export {name} ")?;
@@ -376,6 +402,7 @@ fn write_graph(alloc: Global, text: &mut String, graph: &Graph<'_>) -> Result<()
     write_plan(text, graph.plan())?;
     write_cores(text, cores)?;
     write_canons(alloc, text, graph)?;
+    write_resources(text, graph.resources())?;
     write_exports(text, graph)?;
     Ok(())
 }

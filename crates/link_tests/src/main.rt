@@ -35,6 +35,7 @@
 //! - `returns`: built-ins that return a result
 //! - `streams`: types of streams and futures, and functions over them
 //! - `ends`: built-ins of the ends of streams and futures
+//! - `resources`: types of resources, their destructors and built-ins
 //! - `unlinked`: what is read and not linked yet
 //! - `noted`: the types of streams and futures that graphs tell, each in a line
 //!
@@ -42,7 +43,8 @@
 //! where N is its number in the order of linking, from 0 on. Behind the lines of core instances there is a line for each of these.
 //! For a function that is lowered it is `lower INSTANCE OPTIONS of LIFT`: the component instance that lowers the function, what it
 //! uses, told as behind an export, and what the function lifts, told as an export tells it behind its name. For a built-in it is
-//! `builtin INSTANCE NAME`, with what the built-in names behind it.
+//! `builtin INSTANCE NAME`, with what the built-in names behind it. Then there is a line `resource INSTANCE` for each type of resources,
+//! told `R1`, `R2` and so on in this order, with its destructor as `destructor CORE FUNCTION`.
 //!
 //! The module `components` has the bytes of cases, `answers` the answers as text, and `noted` those of the table of that name.
 #![tactic(auto)]

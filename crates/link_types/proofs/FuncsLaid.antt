@@ -6,18 +6,17 @@ use Rattle.ca_types.specs.declared.types.ValType.{ValType}
 use Rattle.ca_types.specs.declared.types.Param.{Param}
 use Rattle.ca_types.specs.Ends.{some_true}
 use Rattle.ca_types.specs.Flat.{flat}
-use Rattle.laid_types.specs.Lists.{has_list}
 use Rattle.laid_types.proofs.Kept.{row_more, row_kept, row_end}
 use Rattle.link_types.specs.declared.labels.LabelledType.{LabelledType}
 use Rattle.link_types.specs.Labels.{IsParam}
 use Rattle.link_types.proofs.Zips.{one_left, none_left}
 
--- the core types of parameters, and whether one of them holds a string or a list
+-- the core types of parameters, and whether one of them passes a test
 abbrev pub flat_of : List Param → List CoreType
 flat_of params = flat_map (λ (p : Param). flat p.val_type) params
 
-abbrev pub lists_in : List Param → Bool
-lists_in params = some_true (map (λ (p : Param). has_list p.val_type) params)
+abbrev pub some_in : (ValType → Bool) → List Param → Bool
+some_in test params = some_true (map (λ (p : Param). test p.val_type) params)
 
 module _ (values : List ValType) (params : List LabelledType) where
   -- What is known of all parameters by those that are left, whichever the labels stand for.
@@ -29,9 +28,9 @@ module _ (values : List ValType) (params : List LabelledType) where
     pub kept : types ≡ take 17 types
     pub told : ByRest n (λ all. take 17 (flat_of all)) (λ rest. take 17 (types ++ flat_of rest))
 
-  -- No parameter so far holds a string or a list.
-  abbrev pub NoListSoFar : ℕ → Type 0
-  NoListSoFar n = ByRest n lists_in lists_in
+  -- No parameter so far passes a test.
+  abbrev pub NoneSoFar : (ValType → Bool) → ℕ → Type 0
+  NoneSoFar test n = ByRest n (some_in test) (some_in test)
 
   rest_more : {A : Type 0} (whole rest : List Param → A) (n : ℕ) (d : LabelledType) (t : ValType) → n < length params → slice_get values (get_or params n d).val_type ≡ Some t → ByRest n whole rest
       → (all : List Param) → AllZip (IsParam values) params all → (p : Param) × (t ≡ p.val_type) × (whole all ≡ rest (p ∷ drop (n + 1) all))
@@ -57,15 +56,15 @@ module _ (values : List ValType) (params : List LabelledType) where
   flat_all n types past so_far all zip =
       sym (rest_none (λ all. take 17 (flat_of all)) (λ rest. take 17 (types ++ flat_of rest)) n past so_far.told all zip ∙ row_end 17 types so_far.kept)
 
-  pub lists_more : (n : ℕ) (d : LabelledType) (t : ValType) → n < length params → slice_get values (get_or params n d).val_type ≡ Some t → has_list t ≡ false → NoListSoFar n → NoListSoFar (n + 1)
-  lists_more n d t within there none so_far all zip =
-      let one = rest_more lists_in lists_in n d t within there so_far all zip in
-      one.2 ∙ ap (λ (b : Bool). b || lists_in (drop (n + 1) all)) (ap has_list (sym one.1) ∙ none)
+  pub none_more : (test : ValType → Bool) (n : ℕ) (d : LabelledType) (t : ValType) → n < length params → slice_get values (get_or params n d).val_type ≡ Some t → test t ≡ false → NoneSoFar test n → NoneSoFar test (n + 1)
+  none_more test n d t within there none so_far all zip =
+      let one = rest_more (some_in test) (some_in test) n d t within there so_far all zip in
+      one.2 ∙ ap (λ (b : Bool). b || some_in test (drop (n + 1) all)) (ap test (sym one.1) ∙ none)
 
-  pub list_found : (n : ℕ) (d : LabelledType) (t : ValType) → n < length params → slice_get values (get_or params n d).val_type ≡ Some t → has_list t ≡ true → NoListSoFar n → (all : List Param) → AllZip (IsParam values) params all → true ≡ lists_in all
-  list_found n d t within there some so_far all zip =
-      let one = rest_more lists_in lists_in n d t within there so_far all zip in
-      sym (one.2 ∙ ap (λ (b : Bool). b || lists_in (drop (n + 1) all)) (ap has_list (sym one.1) ∙ some))
+  pub one_found : (test : ValType → Bool) (n : ℕ) (d : LabelledType) (t : ValType) → n < length params → slice_get values (get_or params n d).val_type ≡ Some t → test t ≡ true → NoneSoFar test n → (all : List Param) → AllZip (IsParam values) params all → true ≡ some_in test all
+  one_found test n d t within there some so_far all zip =
+      let one = rest_more (some_in test) (some_in test) n d t within there so_far all zip in
+      sym (one.2 ∙ ap (λ (b : Bool). b || some_in test (drop (n + 1) all)) (ap test (sym one.1) ∙ some))
 
-  pub no_list : (n : ℕ) → length params ≤ n → NoListSoFar n → (all : List Param) → AllZip (IsParam values) params all → false ≡ lists_in all
-  no_list n past so_far all zip = sym (rest_none lists_in lists_in n past so_far all zip)
+  pub none_found : (test : ValType → Bool) (n : ℕ) → length params ≤ n → NoneSoFar test n → (all : List Param) → AllZip (IsParam values) params all → false ≡ some_in test all
+  none_found test n past so_far all zip = sym (rest_none (some_in test) (some_in test) n past so_far all zip)

@@ -27,6 +27,7 @@ then_equal Greater p h = cc
 type_exact : (x y : TypeLayer) → (type_order.ghosts).cmp x y ≡ Equal → x ≡ y
 type_exact (of_type.Value x) (of_type.Value y) h = let e = exact_unsigned x y h in cc
 type_exact (of_type.Func x) (of_type.Func y) h = let e = exact_unsigned x y h in cc
+type_exact (of_type.Resource x) (of_type.Resource y) h = let e = exact_unsigned x y h in cc
 type_exact (of_type.Instance x) (of_type.Instance y) h = let e = exact_unsigned x y h in cc
 type_exact x y h = cc
 

@@ -4,7 +4,7 @@ use Rattle.std.specs.List.{slice_get}
 use Rattle.ca_types.specs.declared.types.ValType.{ValType}
 use Rattle.ca_types.specs.declared.types.Param.{Param}
 use Rattle.ca_types.specs.declared.types.FuncType.{FuncType}
-use Rattle.comp_graph.specs.Closed.{Closed, Value, Func, Instance, Extern, OfFunc, OfType, OfInstance, Externs, EmptyType, WithExtern}
+use Rattle.comp_graph.specs.Closed.{Closed, Value, Func, Resource, Instance, Extern, OfFunc, OfType, OfInstance, Externs, EmptyType, WithExtern}
 use Rattle.link_types.specs.declared.layers.TypeLayer.{TypeLayer}
 use Rattle.link_types.specs.declared.layers.TypeLayer.TheVariants as of_type
 use Rattle.link_types.specs.declared.layers.ExternLayer.{ExternLayer}
@@ -91,19 +91,32 @@ module _ (texts : List (List ℕ)) (values : List ValType) (layers : List Layer)
     pub type_one : (x y : TypeLayer) (closed : Closed) → IsTypeLayer texts values layers x closed → IsTypeLayer texts values layers y closed → x ≡ y
     type_one (of_type.Value x) (of_type.Value y) (Value v) h g = ap (λ (k : ℕ). of_type.Value k) (values_apart x y v h g)
     type_one (of_type.Value x) (of_type.Func n) (Value v) h g = absurd g
+    type_one (of_type.Value x) (of_type.Resource n) (Value v) h g = absurd g
     type_one (of_type.Value x) (of_type.Instance n) (Value v) h g = absurd g
     type_one (of_type.Func m) y (Value v) h g = absurd h
+    type_one (of_type.Resource m) y (Value v) h g = absurd h
     type_one (of_type.Instance m) y (Value v) h g = absurd h
     type_one (of_type.Func m) (of_type.Func n) (Func type) h g = ap (λ (k : ℕ). of_type.Func k) (func_one m n type h g)
     type_one (of_type.Func m) (of_type.Value y) (Func type) h g = absurd g
+    type_one (of_type.Func m) (of_type.Resource n) (Func type) h g = absurd g
     type_one (of_type.Func m) (of_type.Instance n) (Func type) h g = absurd g
     type_one (of_type.Value x) y (Func type) h g = absurd h
+    type_one (of_type.Resource m) y (Func type) h g = absurd h
     type_one (of_type.Instance m) y (Func type) h g = absurd h
+    type_one (of_type.Resource m) (of_type.Resource n) (Resource number) h g = ap (λ (k : ℕ). of_type.Resource k) (h ∙ sym g)
+    type_one (of_type.Resource m) (of_type.Value y) (Resource number) h g = absurd g
+    type_one (of_type.Resource m) (of_type.Func n) (Resource number) h g = absurd g
+    type_one (of_type.Resource m) (of_type.Instance n) (Resource number) h g = absurd g
+    type_one (of_type.Value x) y (Resource number) h g = absurd h
+    type_one (of_type.Func m) y (Resource number) h g = absurd h
+    type_one (of_type.Instance m) y (Resource number) h g = absurd h
     type_one (of_type.Instance m) (of_type.Instance n) (Instance externs) h g = ap (λ (k : ℕ). of_type.Instance k) (externs_one m n externs h g)
     type_one (of_type.Instance m) (of_type.Value y) (Instance externs) h g = absurd g
     type_one (of_type.Instance m) (of_type.Func n) (Instance externs) h g = absurd g
+    type_one (of_type.Instance m) (of_type.Resource n) (Instance externs) h g = absurd g
     type_one (of_type.Value x) y (Instance externs) h g = absurd h
     type_one (of_type.Func m) y (Instance externs) h g = absurd h
+    type_one (of_type.Resource m) y (Instance externs) h g = absurd h
 
 module _ (texts : List (List ℕ)) (values : List ValType) (layers : List Layer) where
   pub params_told : (n : ℕ) (params others : List Param) → IsParams texts values layers n params → IsParams texts values layers n others → params ≡ others
@@ -169,16 +182,29 @@ module _ (texts : List (List ℕ)) (values : List ValType) (layers : List Layer)
     pub type_told : (x : TypeLayer) (closed other : Closed) → IsTypeLayer texts values layers x closed → IsTypeLayer texts values layers x other → closed ≡ other
     type_told (of_type.Value x) (Value v) (Value w) h g = ap (λ (t : ValType). Value t) (value_told values x v w h g)
     type_told (of_type.Value x) (Value v) (Func other) h g = absurd g
+    type_told (of_type.Value x) (Value v) (Resource other) h g = absurd g
     type_told (of_type.Value x) (Value v) (Instance other) h g = absurd g
     type_told (of_type.Value x) (Func type) other h g = absurd h
+    type_told (of_type.Value x) (Resource number) other h g = absurd h
     type_told (of_type.Value x) (Instance externs) other h g = absurd h
     type_told (of_type.Func n) (Func type) (Func other) h g = ap (λ (t : FuncType). Func t) (func_told n type other h g)
     type_told (of_type.Func n) (Func type) (Value other) h g = absurd g
+    type_told (of_type.Func n) (Func type) (Resource other) h g = absurd g
     type_told (of_type.Func n) (Func type) (Instance other) h g = absurd g
     type_told (of_type.Func n) (Value v) other h g = absurd h
+    type_told (of_type.Func n) (Resource number) other h g = absurd h
     type_told (of_type.Func n) (Instance externs) other h g = absurd h
+    type_told (of_type.Resource n) (Resource number) (Resource other) h g = ap (λ (k : ℕ). Resource k) (sym h ∙ g)
+    type_told (of_type.Resource n) (Resource number) (Value other) h g = absurd g
+    type_told (of_type.Resource n) (Resource number) (Func other) h g = absurd g
+    type_told (of_type.Resource n) (Resource number) (Instance other) h g = absurd g
+    type_told (of_type.Resource n) (Value v) other h g = absurd h
+    type_told (of_type.Resource n) (Func type) other h g = absurd h
+    type_told (of_type.Resource n) (Instance externs) other h g = absurd h
     type_told (of_type.Instance n) (Instance externs) (Instance other) h g = ap (λ (t : Externs). Instance t) (externs_told n externs other h g)
     type_told (of_type.Instance n) (Instance externs) (Value other) h g = absurd g
     type_told (of_type.Instance n) (Instance externs) (Func other) h g = absurd g
+    type_told (of_type.Instance n) (Instance externs) (Resource other) h g = absurd g
     type_told (of_type.Instance n) (Value v) other h g = absurd h
     type_told (of_type.Instance n) (Func type) other h g = absurd h
+    type_told (of_type.Instance n) (Resource number) other h g = absurd h

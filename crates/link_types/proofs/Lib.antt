@@ -3,6 +3,7 @@ pub mod LayerOrder
 pub mod LayersAdded
 pub mod LayersTold
 pub mod Listings
+pub mod NamedResources
 pub mod ParamsTyped
 pub mod RefsSame
 pub mod TypesGrow

@@ -1,6 +1,7 @@
 -- References that are found equal are the same.
-use Rattle.std.proofs.Common.{◌≡◌, ℕ, Bool, true, false, ◌&&◌, List, [], ◌∷◌, refl, ap, ap₂}
+use Rattle.std.proofs.Common.{◌≡◌, ℕ, Bool, true, false, ◌&&◌, List, [], ◌∷◌, refl, ap, ap₂, ◌∙◌}
 use Rattle.std.specs.Prelude.{◌==◌}
+use mathlib.Core.Bool.{beq}
 use Rattle.std.specs.Cmp.Lexicographic.{pointwise}
 use Rattle.std.proofs.lemmas.Bool.Decides.{Decides-eqb}
 use Rattle.link_types.specs.declared.refs.FuncTypeRef.{FuncTypeRef}
@@ -18,6 +19,12 @@ both : (a b : Bool) → (a && b) ≡ true → (a ≡ true) × (b ≡ true)
 both true b h = (refl, h)
 both false b h = cc
 
+bools_same : (a b : Bool) → beq a b ≡ true → a ≡ b
+bools_same true true h = refl
+bools_same true false h = cc
+bools_same false true h = cc
+bools_same false false h = refl
+
 func_same : (x y : FuncTypeRef) → (func_eq.ghosts).eq x y ≡ true → x ≡ y
 func_same x y h =
     let p = both (x.layer == y.layer) (x.number == y.number) h in
@@ -25,12 +32,18 @@ func_same x y h =
 
 instance_same : (x y : InstanceTypeRef) → (instance_eq.ghosts).eq x y ≡ true → x ≡ y
 instance_same x y h =
-    let p = both (x.layer == y.layer) (x.number == y.number) h in
-    ap₂ (λ layer number. (let r : InstanceTypeRef = record { layer = layer; number = number } in r)) ((Decides-eqb x.layer y.layer).0 p.0) ((Decides-eqb x.number y.number).0 p.1)
+    let p = both (x.layer == y.layer) ((x.number == y.number) && beq x.names_resource y.names_resource) h in
+    let q = both (x.number == y.number) (beq x.names_resource y.names_resource) p.1 in
+    let layers : x.layer ≡ y.layer = (Decides-eqb x.layer y.layer).0 p.0 in
+    let numbers : x.number ≡ y.number = (Decides-eqb x.number y.number).0 q.0 in
+    let named : x.names_resource ≡ y.names_resource = bools_same x.names_resource y.names_resource q.1 in
+    ap (λ (layer : ℕ). (let r : InstanceTypeRef = record { layer = layer; number = x.number; names_resource = x.names_resource } in r)) layers
+    ∙ ap₂ (λ (number : ℕ) (names : Bool). (let r : InstanceTypeRef = record { layer = y.layer; number = number; names_resource = names } in r)) numbers named
 
 type_same : (x y : TypeRef) → (type_eq.ghosts).eq x y ≡ true → x ≡ y
 type_same (type_ref.Value x) (type_ref.Value y) h = ap (λ (k : ℕ). type_ref.Value k) ((Decides-eqb x y).0 h)
 type_same (type_ref.Func x) (type_ref.Func y) h = ap (λ (r : FuncTypeRef). type_ref.Func r) (func_same x y h)
+type_same (type_ref.Resource x) (type_ref.Resource y) h = ap (λ (k : ℕ). type_ref.Resource k) ((Decides-eqb x y).0 h)
 type_same (type_ref.Instance x) (type_ref.Instance y) h = ap (λ (r : InstanceTypeRef). type_ref.Instance r) (instance_same x y h)
 type_same x y h = cc
 

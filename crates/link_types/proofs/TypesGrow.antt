@@ -4,7 +4,7 @@ use Rattle.std.specs.List.{slice_get}
 use Rattle.ca_types.specs.declared.types.ValType.{ValType}
 use Rattle.ca_types.specs.declared.types.Param.{Param}
 use Rattle.ca_types.specs.declared.types.FuncType.{FuncType}
-use Rattle.comp_graph.specs.Closed.{Closed, Value, Func, Instance, Extern, OfFunc, OfType, OfInstance, Externs, EmptyType, WithExtern}
+use Rattle.comp_graph.specs.Closed.{Closed, Value, Func, Resource, Instance, Extern, OfFunc, OfType, OfInstance, Externs, EmptyType, WithExtern}
 use Rattle.link_types.specs.declared.layers.TypeLayer.{TypeLayer}
 use Rattle.link_types.specs.declared.layers.TypeLayer.TheVariants as of_type
 use Rattle.link_types.specs.declared.layers.ExternLayer.{ExternLayer}
@@ -66,6 +66,7 @@ module _ (t u : Table) (g : Grows t u) where
     pub type_layer_stays : (x : TypeLayer) (closed : Closed) → IsTypeLayer t.texts t.values t.layers x closed → IsTypeLayer u.texts u.values u.layers x closed
     type_layer_stays (of_type.Value x) (Value v) h = g.values x v h
     type_layer_stays (of_type.Func n) (Func type) h = func_layer_stays n type h
+    type_layer_stays (of_type.Resource n) (Resource number) h = h
     type_layer_stays (of_type.Instance n) (Instance externs) h = externs_layer_stays n externs h
     type_layer_stays x closed h = absurd h
 
@@ -82,18 +83,19 @@ module _ (t u : Table) (g : Grows t u) where
     extern_stays (extern_ref.Func ref) (OfFunc type) h = func_stays ref type h
     extern_stays (extern_ref.Type ref) (OfType closed) h = type_stays ref closed h
     extern_stays (extern_ref.Instance ref) (OfInstance externs) h =
-        (externs_layer_stays ref.layer externs h.0, (h.1.0, g.instances ref.number h.1.0 h.1.1, listed_stays h.1.0 externs h.1.2))
+        (externs_layer_stays ref.layer externs h.0, (h.1.0, g.instances ref.number h.1.0 h.1.1, listed_stays h.1.0 externs h.1.2), h.2)
     extern_stays ref extern h = absurd h
 
     pub type_stays : (ref : TypeRef) (closed : Closed) → IsType t ref closed → IsType u ref closed
     type_stays (type_ref.Value x) (Value v) h = g.values x v h
     type_stays (type_ref.Func ref) (Func type) h = func_stays ref type h
+    type_stays (type_ref.Resource n) (Resource number) h = h
     type_stays (type_ref.Instance ref) (Instance externs) h =
-        (externs_layer_stays ref.layer externs h.0, (h.1.0, g.instances ref.number h.1.0 h.1.1, listed_stays h.1.0 externs h.1.2))
+        (externs_layer_stays ref.layer externs h.0, (h.1.0, g.instances ref.number h.1.0 h.1.1, listed_stays h.1.0 externs h.1.2), h.2)
     type_stays ref closed h = absurd h
 
   pub instance_type_stays : (ref : InstanceTypeRef) (externs : Externs) → IsInstanceType t ref externs → IsInstanceType u ref externs
-  instance_type_stays ref externs h = (externs_layer_stays ref.layer externs h.0, (h.1.0, g.instances ref.number h.1.0 h.1.1, listed_stays h.1.0 externs h.1.2))
+  instance_type_stays ref externs h = (externs_layer_stays ref.layer externs h.0, (h.1.0, g.instances ref.number h.1.0 h.1.1, listed_stays h.1.0 externs h.1.2), h.2)
 
 -- A list that has perhaps one more.
 added_stays : {A : Type 0} (old new : List A) (thing : A) (number : ℕ) → IsAdded old thing number new → (k : ℕ) (x : A) → slice_get old k ≡ Some x → slice_get new k ≡ Some x

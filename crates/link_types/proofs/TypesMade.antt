@@ -1,6 +1,6 @@
 -- Types that are made, layer by layer.
-use Rattle.std.proofs.Common.{◌≡◌, ◌<◌, ◌≤◌, ◌+◌, ◌-◌, ℕ, List, [], ◌∷◌, ◌++◌, length, drop, take, get_or, ap, sym, ◌∙◌, subst, Some, None, Option, arith}
-use Rattle.std.specs.Prelude.{IfSome}
+use Rattle.std.proofs.Common.{◌≡◌, ◌<◌, ◌≤◌, ◌+◌, ◌-◌, ℕ, Bool, List, [], ◌∷◌, ◌++◌, length, drop, take, get_or, ap, sym, ◌∙◌, subst, Some, None, Option, arith}
+use Rattle.std.specs.Prelude.{◌||◌, IfSome}
 use Rattle.std.specs.Ordering.{nat_cmp}
 use Rattle.std.specs.BTreeMap.{BTreeMap, get}
 use Rattle.std.specs.List.{slice_get, AllZip}
@@ -8,7 +8,7 @@ use Rattle.std.proofs.lemmas.List.{drop_more, take_more}
 use Rattle.ca_types.specs.declared.types.ValType.{ValType}
 use Rattle.ca_types.specs.declared.types.Param.{Param}
 use Rattle.ca_types.specs.declared.types.FuncType.{FuncType}
-use Rattle.comp_graph.specs.Closed.{Extern, Externs, WithExtern}
+use Rattle.comp_graph.specs.Closed.{Extern, Externs, WithExtern, names_in_extern}
 use Rattle.comp_graph.specs.declared.func_types.NumberedFunc.{NumberedFunc}
 use Rattle.link_types.specs.declared.labels.LabelledType.{LabelledType}
 use Rattle.link_types.specs.declared.layers.ExternLayer.{ExternLayer}
@@ -76,15 +76,18 @@ func_added t u v layer_number number made g same at is type h =
     (func_layer_stays t u g layer_number type h, at ∙ ap (λ (f : FuncType). Some f) (func_told t.texts t.values t.layers layer_number made type is h))
 
 -- An export behind others.
-pub extern_more : (t u : Table) (old new : InstanceTypeMaker) (name layer_number : ℕ) (item : ExternRef) (part : ExternLayer) → Grows t u → part ≡ extern_layer item → slice_get u.layers layer_number ≡ Some (layer.Extern old.layer name part) → new.layer ≡ layer_number → new.externs ≡ old.externs ++ (name, item) ∷ [] → (externs : Externs) (text : List ℕ) (extern : Extern) → IsBegun t old externs → IsName t name text → IsExtern t item extern → IsBegun u new (WithExtern externs text extern)
-extern_more t u old new name layer_number item part g is at same pushed externs text extern h label stands =
+pub extern_more : (t u : Table) (old new : InstanceTypeMaker) (name layer_number : ℕ) (item : ExternRef) (part : ExternLayer) → Grows t u → part ≡ extern_layer item → slice_get u.layers layer_number ≡ Some (layer.Extern old.layer name part) → new.layer ≡ layer_number → new.externs ≡ old.externs ++ (name, item) ∷ []
+    → ((extern : Extern) → IsExtern t item extern → new.names_resource ≡ (old.names_resource || names_in_extern extern))
+    → (externs : Externs) (text : List ℕ) (extern : Extern) → IsBegun t old externs → IsName t name text → IsExtern t item extern → IsBegun u new (WithExtern externs text extern)
+extern_more t u old new name layer_number item part g is at same pushed names externs text extern h label stands =
     let item_in : IsExternLayer u.texts u.values u.layers part extern = rw is (extern_in_layer u item extern (extern_stays t u g item extern stands)) in
     let there : slice_get u.layers new.layer ≡ Some (layer.Extern old.layer name part) = rw same at in (
       (old.layer, name, part, there, externs_layer_stays t u g old.layer externs h.0, name_stays t u g name text label, item_in),
       (old.externs, name, item, pushed, listed_stays t u g old.externs externs h.1, name_stays t u g name text label, extern_stays t u g item extern stands),
+      names extern stands ∙ ap (λ (b : Bool). b || names_in_extern extern) h.2,
     )
 
 -- The type of the exports that are begun.
-pub finished : (t u : Table) (maker : InstanceTypeMaker) (number : ℕ) → Grows t u → slice_get u.instances number ≡ Some maker.externs → (externs : Externs) → IsBegun t maker externs → IsInstanceType u (record { layer = maker.layer; number = number }) externs
+pub finished : (t u : Table) (maker : InstanceTypeMaker) (number : ℕ) → Grows t u → slice_get u.instances number ≡ Some maker.externs → (externs : Externs) → IsBegun t maker externs → IsInstanceType u (record { layer = maker.layer; number = number; names_resource = maker.names_resource }) externs
 finished t u maker number g at externs h =
-    (externs_layer_stays t u g maker.layer externs h.0, (maker.externs, at, listed_stays t u g maker.externs externs h.1))
+    (externs_layer_stays t u g maker.layer externs h.0, (maker.externs, at, listed_stays t u g maker.externs externs h.1), h.2)

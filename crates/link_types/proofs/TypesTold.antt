@@ -6,7 +6,7 @@ use Rattle.std.specs.Str.{bytes_eq}
 use Rattle.std.proofs.lemmas.Bool.Decides.{Decides-eqb}
 use Rattle.std.proofs.lemmas.Slice.Eq.{bytes_eq-Decides}
 use Rattle.ca_types.specs.declared.types.FuncType.{FuncType}
-use Rattle.comp_graph.specs.Closed.{Closed, Value, Func, Instance, Extern, OfFunc, OfType, OfInstance, Externs, EmptyType, WithExtern, extern_named, first_of}
+use Rattle.comp_graph.specs.Closed.{Closed, Value, Func, Resource, Instance, Extern, OfFunc, OfType, OfInstance, Externs, EmptyType, WithExtern, extern_named, first_of}
 use Rattle.link_types.specs.declared.layers.TypeLayer.{TypeLayer}
 use Rattle.link_types.specs.declared.layers.TypeLayer.TheVariants as of_type
 use Rattle.link_types.specs.contracts.layers.TypeLayerPartialEq.TheImpl as type_eq
@@ -29,6 +29,7 @@ use Rattle.link_types.proofs.LayersTold.{func_one, func_told, externs_one, exter
 pub type_in_layer : (t : Table) (ref : TypeRef) (closed : Closed) → IsType t ref closed → IsTypeLayer t.texts t.values t.layers (type_layer ref) closed
 type_in_layer t (type_ref.Value type) (Value v) h = h
 type_in_layer t (type_ref.Func ref) (Func type) h = h.0
+type_in_layer t (type_ref.Resource number) (Resource other) h = h
 type_in_layer t (type_ref.Instance ref) (Instance externs) h = h.0
 type_in_layer t ref closed h = absurd h
 
@@ -129,11 +130,13 @@ count_told t entries externs h = same_count t entries (in_order externs) (entrie
 layer_itself : (x : TypeLayer) → (type_eq.ghosts).eq x x ≡ true
 layer_itself (of_type.Value n) = (Decides-eqb n n).1 refl
 layer_itself (of_type.Func n) = (Decides-eqb n n).1 refl
+layer_itself (of_type.Resource n) = (Decides-eqb n n).1 refl
 layer_itself (of_type.Instance n) = (Decides-eqb n n).1 refl
 
 layer_same : (x y : TypeLayer) → (type_eq.ghosts).eq x y ≡ true → x ≡ y
 layer_same (of_type.Value m) (of_type.Value n) h = ap (λ (k : ℕ). of_type.Value k) ((Decides-eqb m n).0 h)
 layer_same (of_type.Func m) (of_type.Func n) h = ap (λ (k : ℕ). of_type.Func k) ((Decides-eqb m n).0 h)
+layer_same (of_type.Resource m) (of_type.Resource n) h = ap (λ (k : ℕ). of_type.Resource k) ((Decides-eqb m n).0 h)
 layer_same (of_type.Instance m) (of_type.Instance n) h = ap (λ (k : ℕ). of_type.Instance k) ((Decides-eqb m n).0 h)
 layer_same x y h = cc
 

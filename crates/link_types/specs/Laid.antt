@@ -5,6 +5,7 @@ use Rattle.std.specs.Prelude.{◌≡◌, take}
 use Rattle.ca_types.specs.declared.types.FuncType.{FuncType}
 use Rattle.ca_types.specs.Flat.{flat_params, flat_payload}
 use Rattle.laid_types.specs.Lists.{held_list}
+use Rattle.comp_graph.specs.Closed.{names_in_func}
 use Rattle.comp_graph.specs.Needs.{hold_list}
 use Rattle.link_types.specs.declared.laid_func.LaidFunc.{LaidFunc}
 
@@ -13,3 +14,4 @@ pub record IsLaid (laid : LaidFunc) (type : FuncType) : Type 0 where
   pub returned : laid.returned ≡ take 17 (flat_payload type.result)
   pub params_hold_list : laid.params_hold_list ≡ hold_list type
   pub result_holds_list : laid.result_holds_list ≡ held_list type.result
+  pub names_resource : laid.names_resource ≡ names_in_func type

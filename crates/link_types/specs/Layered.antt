@@ -7,7 +7,7 @@ use Rattle.ca_types.specs.declared.types.ValType.{ValType}
 use Rattle.ca_types.specs.declared.types.Param.{Param}
 use Rattle.ca_types.specs.declared.types.FuncType.{FuncType}
 use Rattle.comp_graph.specs.Passed.{MayBeAt}
-use Rattle.comp_graph.specs.Closed.{Closed, Value, Func, Instance, Extern, OfFunc, OfType, OfInstance, Externs, EmptyType, WithExtern}
+use Rattle.comp_graph.specs.Closed.{Closed, Value, Func, Resource, Instance, Extern, OfFunc, OfType, OfInstance, Externs, EmptyType, WithExtern}
 use Rattle.link_types.specs.declared.layers.TypeLayer.{TypeLayer}
 use Rattle.link_types.specs.declared.layers.TypeLayer.TheVariants as of_type
 use Rattle.link_types.specs.declared.layers.ExternLayer.{ExternLayer}
@@ -50,5 +50,6 @@ module _ (texts : List (List ℕ)) (values : List ValType) (layers : List Layer)
     pub IsTypeLayer : TypeLayer → Closed → Type 0
     IsTypeLayer (of_type.Value number) (Value type) = slice_get values number ≡ Some type
     IsTypeLayer (of_type.Func number) (Func type) = IsFuncLayer number type
+    IsTypeLayer (of_type.Resource number) (Resource other) = number ≡ other
     IsTypeLayer (of_type.Instance number) (Instance externs) = IsExternsLayer number externs
     IsTypeLayer type closed = ⊥

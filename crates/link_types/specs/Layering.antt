@@ -11,6 +11,7 @@ use Rattle.link_types.specs.declared.refs.ExternRef.TheVariants as extern_ref
 abbrev pub type_layer : TypeRef → TypeLayer
 type_layer (type_ref.Value type) = of_type.Value type
 type_layer (type_ref.Func ref) = of_type.Func ref.layer
+type_layer (type_ref.Resource number) = of_type.Resource number
 type_layer (type_ref.Instance ref) = of_type.Instance ref.layer
 
 abbrev pub extern_layer : ExternRef → ExternLayer

@@ -1,10 +1,11 @@
 -- Tables of types, and what a reference into one stands for: a closed type (Component Model, Explainer.md,
--- "Type Definitions"), by the number of its outer layer, and by the number of the function type, or of the listing of exports.
+-- "Type Definitions"), by the number of its outer layer, and by the number of the function type, or of the listing of exports, of which
+-- it is known whether they name a resource. A type of resources stands for itself, by its number.
 use Rattle.std.specs.Prelude.{◌≡◌, ℕ, List, [], ◌∷◌, ◌++◌, Option, Some, None}
 use Rattle.std.specs.List.{slice_get}
 use Rattle.ca_types.specs.declared.types.ValType.{ValType}
 use Rattle.ca_types.specs.declared.types.FuncType.{FuncType}
-use Rattle.comp_graph.specs.Closed.{Closed, Value, Func, Instance, Extern, OfFunc, OfType, OfInstance, Externs, EmptyType, WithExtern}
+use Rattle.comp_graph.specs.Closed.{Closed, Value, Func, Resource, Instance, Extern, OfFunc, OfType, OfInstance, Externs, EmptyType, WithExtern, names_in_externs}
 use Rattle.link_types.specs.declared.layers.Layer.{Layer}
 use Rattle.link_types.specs.declared.refs.FuncTypeRef.{FuncTypeRef}
 use Rattle.link_types.specs.declared.refs.InstanceTypeRef.{InstanceTypeRef}
@@ -59,19 +60,23 @@ abbrev mutual
   IsExtern t (extern_ref.Type ref) (OfType closed) = IsType t ref closed
   IsExtern t (extern_ref.Instance ref) (OfInstance externs) =
       IsExternsLayer t.texts t.values t.layers ref.layer externs × ((entries : List (ℕ × ExternRef)) × (slice_get t.instances ref.number ≡ Some entries) × AreListed t entries externs)
+      × (ref.names_resource ≡ names_in_externs externs)
   IsExtern t ref extern = ⊥
 
   pub IsType : Table → TypeRef → Closed → Type 0
   IsType t (type_ref.Value number) (Value type) = IsValue t number type
   IsType t (type_ref.Func ref) (Func type) = IsFunc t ref type
+  IsType t (type_ref.Resource number) (Resource other) = number ≡ other
   IsType t (type_ref.Instance ref) (Instance externs) =
       IsExternsLayer t.texts t.values t.layers ref.layer externs × ((entries : List (ℕ × ExternRef)) × (slice_get t.instances ref.number ≡ Some entries) × AreListed t entries externs)
+      × (ref.names_resource ≡ names_in_externs externs)
   IsType t ref closed = ⊥
 
 -- A reference stands for the type of instances with these exports.
 abbrev pub IsInstanceType : Table → InstanceTypeRef → Externs → Type 0
 IsInstanceType t ref externs =
     IsExternsLayer t.texts t.values t.layers ref.layer externs × ((entries : List (ℕ × ExternRef)) × (slice_get t.instances ref.number ≡ Some entries) × AreListed t entries externs)
+    × (ref.names_resource ≡ names_in_externs externs)
 
 -- What may be absent, and is there exactly where the export is.
 abbrev pub MayBeExtern : Table → Option ExternRef → Option Extern → Type 0

@@ -7,13 +7,15 @@ use std::alloc::{AllocError, Global};
 use std::collections::BTreeMap;
 use std::marker::Model;
 
-/// The outer layer of a type, over the numbers of the layers that it stands on, and of value types.
+/// The outer layer of a type, over the numbers of the layers that it stands on, of value types, and of resources.
 #[derive(Clone, Copy, PartialEq, Eq, PartialOrd, Ord)]
 pub enum TypeLayer {
     /// A value type.
     Value(usize),
     /// A function type.
     Func(usize),
+    /// A type of resources, by its number.
+    Resource(usize),
     /// A type of instances.
     Instance(usize),
 }

@@ -9,6 +9,7 @@
 //! - `laid_func`: what lifts and lowers ask of a function type
 //! - `kept_func`: function types, each with what lifts and lowers ask of it
 //! - `types`: the table of types
+//! - `naming`: whether types name a resource
 //! - `maker`: types of instances, made export by export
 //! - `asked`: what a type of instances asks for
 //! - `laws`: what holds of tables of types
@@ -23,6 +24,7 @@ mod layers;
 mod listing;
 mod maker;
 mod meant;
+mod naming;
 mod refs;
 mod types;
 
@@ -34,5 +36,6 @@ pub use link_values::Names;
 pub use listing::Listing;
 pub use maker::InstanceTypeMaker;
 pub use meant::Meant;
+pub use naming::names_resource;
 pub use refs::{ExternRef, FuncTypeRef, InstanceTypeRef, TypeRef};
 pub use types::Types;

@@ -7,6 +7,7 @@ ghost use Rattle.link_types.specs.Begun.{IsBegun};
 
 use crate::layers::Layer;
 use crate::listing::Listing;
+use crate::naming::names_behind;
 use crate::refs::{ExternRef, InstanceTypeRef};
 use crate::types::Types;
 use std::alloc::{AllocError, Global};
@@ -17,6 +18,8 @@ pub struct InstanceTypeMaker {
     /// The number of their layer.
     layer: usize,
     externs: Listing<ExternRef>,
+    /// Whether one of them names a resource.
+    names_resource: bool,
 }
 
 impl InstanceTypeMaker {
@@ -30,6 +33,7 @@ impl InstanceTypeMaker {
         Ok(InstanceTypeMaker {
             layer,
             externs: Listing::new(alloc),
+            names_resource: false,
         })
     }
 
@@ -44,6 +48,7 @@ impl InstanceTypeMaker {
         ensures err { OnErr result (self.new ≡ self.old) }
         ensures grows { Grows types.old types.new }
     {
+        let names_resource = names_behind(&*types, self.names_resource, item);
         let layer = types.layer(Layer::Extern {
             before: self.layer,
             name,
@@ -51,6 +56,7 @@ impl InstanceTypeMaker {
         })?;
         self.externs.push(name, item)?;
         self.layer = layer;
+        self.names_resource = names_resource;
         Ok(())
     }
 
@@ -59,8 +65,16 @@ impl InstanceTypeMaker {
         ensures ok { IfOk result (λ ref. (externs : Externs) → IsBegun types.old self externs → IsInstanceType types.new ref externs) }
         ensures grows { Grows types.old types.new }
     {
-        let layer = self.layer;
-        let number = types.instance_number(layer, self.externs)?;
-        Ok(InstanceTypeRef { layer, number })
+        let InstanceTypeMaker {
+            layer,
+            externs,
+            names_resource,
+        } = self;
+        let number = types.instance_number(layer, externs)?;
+        Ok(InstanceTypeRef {
+            layer,
+            number,
+            names_resource,
+        })
     }
 }

@@ -21,6 +21,8 @@ pub struct InstanceTypeRef {
     pub(crate) layer: usize,
     /// Its number among the types of instances.
     pub(crate) number: usize,
+    /// Whether it names a resource.
+    pub(crate) names_resource: bool,
 }
 
 /// A closed type.
@@ -30,6 +32,8 @@ pub enum TypeRef {
     Value(usize),
     /// A function type.
     Func(FuncTypeRef),
+    /// A type of resources, by its number.
+    Resource(usize),
     /// A type of instances.
     Instance(InstanceTypeRef),
 }
@@ -62,6 +66,7 @@ impl TypeRef {
         match self {
             TypeRef::Value(val_type) => TypeLayer::Value(val_type),
             TypeRef::Func(func_type) => TypeLayer::Func(func_type.layer),
+            TypeRef::Resource(number) => TypeLayer::Resource(number),
             TypeRef::Instance(instance_type) => TypeLayer::Instance(instance_type.layer),
         }
     }

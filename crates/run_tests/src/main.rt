@@ -27,6 +27,7 @@
 //! - `shown`: what `check` and `show` tell
 //! - `async`: built-ins, and lifts and lowers with `async`: what is linked, and which item keeps a component from being run
 //! - `streams`: the same of types of streams and futures
+//! - `resources`: the same of types of resources and handles
 //!
 //! In the table `lines` of the kind `line` a paragraph is a line that says what is refused, `component`, `link` or `script`, and
 //! lines of a place and a reason, each with its line of a refusal behind ` = `. Behind a reason stands its argument: a byte as a

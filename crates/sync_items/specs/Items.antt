@@ -1,10 +1,11 @@
 -- Items of functions without `async` and `callback` (Component Model, Explainer.md, "Canonical Definitions" and "Canonical Built-ins"),
--- and the first item of a component that is more: a built-in, a lift or a lower with `async` or `callback`, or a type in which a type of
--- streams or futures stands.
+-- and the first item of a component that is more: a built-in, a lift or a lower with `async` or `callback`, a type in which a type of
+-- streams, futures, handles or resources stands, or an import or an export that is asked to be a new type of resources.
 use Rattle.std.specs.Prelude.{ℕ, zero, suc, Bool, true, false, cond, List, [], ◌∷◌, Option, Some, None}
 use Rattle.std.specs.List.{list_all}
 use Rattle.std.specs.Option.{option_or}
 use Rattle.ca_base.specs.declared.placed.Placed.{Placed}
+use Rattle.comp_tree.specs.declared.externs.ExternDesc.{ExternDesc}
 use Rattle.comp_tree.specs.declared.items.CanonOption.{CanonOption}
 use Rattle.comp_tree.specs.declared.items.CanonOption.TheVariants as option
 use Rattle.comp_tree.specs.declared.items.Canon.{Canon}
@@ -12,7 +13,7 @@ use Rattle.comp_tree.specs.declared.items.Canon.TheVariants.{Lift, Lower, Builti
 use Rattle.comp_tree.specs.declared.items.Item.{Item, out-Item}
 use Rattle.comp_tree.specs.declared.items.Item.TheOpen.{Item-F}
 use Rattle.comp_tree.specs.declared.items.Component.{Component}
-use Rattle.sync_items.specs.Types.{is_sync_type}
+use Rattle.sync_items.specs.Types.{is_sync_desc, is_sync_type}
 
 -- whether an option is one of functions without `async`
 abbrev pub is_sync_option : CanonOption → Bool
@@ -29,6 +30,11 @@ is_sync (Lift f options type) = list_all is_sync_option options
 is_sync (Lower f options) = list_all is_sync_option options
 is_sync (Builtin b) = false
 
+-- whether what an export is asked to be, if it is, is no new type of resources
+abbrev pub is_sync_asked : Option ExternDesc → Bool
+is_sync_asked None = true
+is_sync_asked (Some asked) = is_sync_desc asked
+
 -- the place of an item that is more
 abbrev pub place_unless : Bool → ℕ → Option ℕ
 place_unless is_sync place = cond is_sync None (Some place)
@@ -42,6 +48,8 @@ abbrev pub first_at : Inside → ℕ → Item-F Item Component → Option ℕ
 first_at inside place (Item-F.Component c) = inside place c.items
 first_at inside place (Item-F.Type type) = place_unless (is_sync_type type) place
 first_at inside place (Item-F.Canon canon) = place_unless (is_sync canon) place
+first_at inside place (Item-F.Import import) = place_unless (is_sync_desc import.desc) place
+first_at inside place (Item-F.Export export) = place_unless (is_sync_asked export.desc) place
 first_at inside place other = None
 
 -- of some items, in order

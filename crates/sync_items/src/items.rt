@@ -5,9 +5,9 @@ ghost use Rattle.std.specs.List.{list_all};
 ghost use Rattle.comp_tree.specs.declared.items.Item.{out-Item};
 ghost use Rattle.sync_items.specs.Items as sync;
 
-use crate::types::is_sync_type;
+use crate::types::{is_sync_desc, is_sync_type};
 use ca_base::Placed;
-use comp_tree::{Canon, CanonOption, Component, Item};
+use comp_tree::{Canon, CanonOption, Component, ExternDesc, Item};
 
 /// How many components may stand in one another, as they are read.
 const NESTING_LIMIT: usize = 16;
@@ -43,6 +43,16 @@ fn is_sync(canon: &Canon) -> bool
     }
 }
 
+/// Whether what an export is asked to be, if it is, is no new type of resources.
+fn is_sync_asked(desc: Option<ExternDesc>) -> bool
+    ensures { result ≡ sync.is_sync_asked desc }
+{
+    match desc {
+        Some(asked) => is_sync_desc(asked),
+        None => true,
+    }
+}
+
 /// The place of an item, unless it is one of functions without `async`.
 fn place_unless(is_sync: bool, place: usize) -> Option<usize>
     ensures { result ≡ sync.place_unless is_sync place }
@@ -72,6 +82,8 @@ fn first_at(depth: usize, placed: &Placed<Item>) -> Option<usize>
         }
         Item::Type(def_type) => place_unless(is_sync_type(def_type), placed.place),
         Item::Canon(canon) => place_unless(is_sync(canon), placed.place),
+        Item::Import(import) => place_unless(is_sync_desc(import.desc), placed.place),
+        Item::Export(export) => place_unless(is_sync_asked(export.desc), placed.place),
         _ => None,
     }
 }
@@ -89,9 +101,10 @@ fn first_among(depth: usize, items: &[Placed<Item>]) -> Option<usize>
     None
 }
 
-/// The place of the first item of a component, in file order, that is a built-in, a lift or a lower with `async` or `callback`, or a
-/// type in which a type of streams or futures stands (Component Model, Explainer.md, "Type Definitions", "Canonical Definitions" and
-/// "Canonical Built-ins"), those of the components that stand in it among them; none where there is no such item.
+/// The place of the first item of a component, in file order, that is a built-in, a lift or a lower with `async` or `callback`, a type
+/// in which a type of streams, futures, handles or resources stands, or an import or an export that is asked to be a new type of
+/// resources (Component Model, Explainer.md, "Type Definitions", "Canonical Definitions", "Canonical Built-ins" and "Import and Export
+/// Definitions"), those of the components that stand in it among them; none where there is no such item.
 pub fn first_not_sync(component: &Component) -> Option<usize>
     ensures { result ≡ sync.first_not_sync component.now }
 {

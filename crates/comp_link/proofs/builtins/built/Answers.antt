@@ -13,27 +13,27 @@ use Rattle.comp_link.proofs.builtins.built.Goals as goal
 
 pub returns-then-not-is_there-clause-told : goal.returns-then-not-is_there-clause-told
 returns-then-not-is_there-clause-told c = λ bases l s at.
-    let meaning = builtin_meaning s c.args.builtin.now in
+    let meaning = builtin_meaning l c.args.n s c.args.builtin.now in
     let m = c.in_ok-meant.ensures.means bases l s at in
     reason_is why.Index (builtin_outcome l c.args.n s meaning) (not_there l c.args.n s meaning (sym m.is_there ∙ c.if-not-is_there.true))
 
 pub returns-in_default-clause-told : goal.returns-in_default-clause-told
 returns-in_default-clause-told c = λ bases l s at.
-    let meaning = builtin_meaning s c.args.builtin.now in
+    let meaning = builtin_meaning l c.args.n s c.args.builtin.now in
     let m = c.in_ok-meant.ensures.means bases l s at in
     reason_is why.Typing (builtin_outcome l c.args.n s meaning)
     (none_such l c.args.n s meaning (sym m.is_there ∙ c.if-not-is_there.false) (sym m.means ∙ ap (option_map (λ (b : Built). b.kind)) c.in_default.is))
 
 pub returns-then-not-serves-clause-told : goal.returns-then-not-serves-clause-told
 returns-then-not-serves-clause-told c = λ bases l s at.
-    let meaning = builtin_meaning s c.args.builtin.now in
+    let meaning = builtin_meaning l c.args.n s c.args.builtin.now in
     let m = c.in_ok-meant.ensures.means bases l s at in
     reason_is why.Canon (builtin_outcome l c.args.n s meaning)
     (not_served l c.args.n s meaning c.in-Some.made.kind (sym m.is_there ∙ c.if-not-is_there.false) (sym m.means ∙ ap (option_map (λ (b : Built). b.kind)) c.in-Some.is) (sym m.serves ∙ c.if-not-serves.true))
 
 pub returns-clause-told : goal.returns-clause-told
 returns-clause-told c = λ bases l s at.
-    let meaning = builtin_meaning s c.args.builtin.now in
+    let meaning = builtin_meaning l c.args.n s c.args.builtin.now in
     let values = c.meaning_at.new.linker.types.values in
     let m = c.in_ok-meant.ensures.means bases l s at in
     let is : IsBuilt values c.in-Some.made = subst (λ (o : Option Built). IfSome o (IsBuilt values)) c.in-Some.is m.built in

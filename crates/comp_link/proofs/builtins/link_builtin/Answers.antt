@@ -17,7 +17,7 @@ returns-in_err-made-clause-made c = λ bases l s at.
 
 pub returns-clause-made : goal.returns-clause-made
 returns-clause-made c = λ bases l s at.
-    let meaning = builtin_meaning s c.args.builtin.now in
+    let meaning = builtin_meaning l c.args.n s c.args.builtin.now in
     let values = c.built.new.linker.types.values in
     let f = value_told (λ (b : Built) (outcome : Outcome). IsBuilt values b × (outcome ≡ Makes (builtin_made l c.args.n s b.kind))) c.in_ok-made.made (builtin_outcome l c.args.n s meaning) (c.in_ok-made.ensures.told bases l s at) in
     made_told c.add_builtin.new.self bases (builtin_outcome l c.args.n s meaning) (builtin_made l c.args.n s c.in_ok-made.made.kind)

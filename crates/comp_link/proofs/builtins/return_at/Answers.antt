@@ -22,7 +22,7 @@ returns-clause-means c =
     let given = c.given-given.result in
     IfOk-weaker c.returning.result
     (λ (b : BuiltinMeant). (found : Option (Option ValType)) → IsFoundAs (MayBeAt m.types.values) c.in_ok-passed.passed found → IsBuiltinMeaning m.types.values b (return_meaning c.return_is_there-is_there.result found options given))
-    (λ (b : BuiltinMeant). (bases : List Exports) (l : Linking) (s : Spaces) → IsAt bases k c.args.n l s → IsBuiltinMeaning m.types.values b (builtin_meaning s (read_builtin.TaskReturn c.args.returned options)))
+    (λ (b : BuiltinMeant). (bases : List Exports) (l : Linking) (s : Spaces) → IsAt bases k c.args.n l s → IsBuiltinMeaning m.types.values b (builtin_meaning l c.args.n s (read_builtin.TaskReturn c.args.returned options)))
     (λ b h bases l s at.
     let scope = c.scope-scope.ensures bases l s (c.in_ok-passed.ensures.at bases l s at) in
     let result = close_held (map Some s.types) c.args.returned in

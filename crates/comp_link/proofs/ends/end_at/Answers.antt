@@ -27,7 +27,7 @@ returns c =
     IfOk-weaker c.end_meant.result
     (λ (b : BuiltinMeant). (w : World) (s : Spaces) (type : Option ValType) → IsScope k.types w c.scope-scope.result.now s → IsFoundAs (IsValue k.types) c.ends_number-number.result type
     → IsBuiltinMeaning k.types.values b (end_meaning c.end_is_there-is_there.result kind (option_and_then (elements_of kind) type) (given_by s) op))
-    (λ (b : BuiltinMeant). (bases : List Exports) (l : Linking) (s : Spaces) → IsAt bases k c.args.n l s → IsBuiltinMeaning k.types.values b (builtin_meaning s (read_builtin.End kind c.args.end_type op)))
+    (λ (b : BuiltinMeant). (bases : List Exports) (l : Linking) (s : Spaces) → IsAt bases k c.args.n l s → IsBuiltinMeaning k.types.values b (builtin_meaning l c.args.n s (read_builtin.End kind c.args.end_type op)))
     (λ b h bases l s at.
     let w = world_of bases k in
     let scope = c.scope-scope.ensures bases l s at in

@@ -29,6 +29,7 @@ returns-clause-ok c bases l s at passes is =
       cores = at.state.cores;
       canons = rw (at.state.canons, c.in_ok-push-2.ensures.items) refl;
       canon_types = typed;
+      resources = at.state.resources;
       plan = at.state.plan;
       ends = rw (c.in_ok-note.ensures, c.canon_number-named.ensures)
           (canon_noted (type_table k.types) c.are_distinct.ensures.values k.end_types l.end_types c.args.passed c.args.canon at.state.ends passes);

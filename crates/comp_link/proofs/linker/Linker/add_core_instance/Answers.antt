@@ -21,6 +21,7 @@ returns-clause-ok c bases l s m items at is imports =
           (λ h. subst (λ (es : List CoreExport). IsScope k.types w c.add_core_instance.new.self (with_core_instance s es)) exports (c.in_ok-add_core_instance.ensures.adds k.types w s h)) at).scopes;
       canons = at.state.canons;
       canon_types = at.state.canon_types;
+      resources = at.state.resources;
       cores = rw (at.state.cores, imports, c.in_ok-owner.ensures) refl;
       plan = rw (at.state.plan, c.in_ok-push.ensures.items, number) refl;
       ends = at.state.ends;

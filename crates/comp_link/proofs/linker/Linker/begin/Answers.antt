@@ -22,6 +22,7 @@ returns-clause-ok c bases l closure given h around is =
       cores = h.cores;
       canons = h.canons;
       canon_types = h.canon_types;
+      resources = h.resources;
       plan = rw (h.plan, c.in_ok-push-2.ensures.items, number) refl;
       ends = h.ends;
     }

@@ -20,8 +20,9 @@ returns-clause-ok c =
       cores = ap (λ (cs : CoreLists). cs.makes) (sym c.new-7.ensures);
       canons = sym c.new-8.ensures.items;
       canon_types = rw (c.new-9.ensures.items, c.new-8.ensures.items) tt;
+      resources = sym c.new-10.ensures.items;
       plan = sym (c.in_ok-push.ensures.items ∙ ap (λ (before : List Action). before ++ Begin 0 ∷ []) c.new-plan.ensures.items);
-      ends = rw c.new-10.ensures tt;
+      ends = rw c.new-11.ensures tt;
     }
 
 pub returns-clause-live : goal.returns-clause-live
