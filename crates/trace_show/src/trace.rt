@@ -1,6 +1,6 @@
 //! A trace over a sink.
 
-ghost use Rattle.std.specs.Prelude.{◌≡◌, ◌++◌, ◌<◌, ◌≤◌, [], length, OnOk, OnErr, IsErrOf};
+ghost use Rattle.std.specs.Prelude.{◌≡◌, ℕ, ◌+◌, ◌-◌, ◌*◌, ◌++◌, ◌<◌, ◌≤◌, [], length, take, IfOk, OnOk, OnErr, IsErrOf};
 ghost use Rattle.ca_io.specs.Bytes.{grown, TookFront};
 ghost use Rattle.ca_io.specs.Causes.{HasCause};
 ghost use Rattle.trace_show.specs.LabelText.{label_text};
@@ -12,12 +12,32 @@ use ca_base::{Memory, MemoryOr};
 use ca_io::{Failed, Sink, write_all};
 use std::alloc::Global;
 
-/// How many bytes a trace keeps back before it writes them out.
-pub const ROOM: usize = 65_536;
+/// How many bytes a trace writes at a time, and each time so many are kept back.
+pub const ROOM: usize = 4_096;
 
-/// A trace that goes to a sink line by line. It keeps lines back in a buffer until they fill its room, so that a long
-/// trace goes out as the run goes. The buffer is its caller's: a trace owns no memory, so the caller knows what its sink
-/// took once the trace is gone.
+/// Writes bytes to a sink, `ROOM` of them a write, while so many are left, and answers how many it wrote.
+///
+/// `Failed` comes where a write to the sink fails: it has then taken some front of the bytes, and nothing after it.
+#[tactic(auto, using(crate::proofs::Puts::room_more, crate::proofs::Puts::rooms_more))]
+fn write_rooms<K: Sink>(sink: &mut K, bytes: &[u8]) -> Result<usize, Failed>
+    ensures within { IfOk result (λ done. done ≤ length bytes.now) }
+    ensures rooms { IfOk result (λ done. (rooms : ℕ) × (done ≡ rooms * ROOM)) }
+    ensures left { IfOk result (λ done. length bytes.now - done < ROOM) }
+    ensures ok { IfOk result (λ done. K.taken sink.new ≡ grown (K.taken sink.old) (take done bytes.now)) }
+    ensures failed { OnErr result (TookFront (K.taken sink.old) (K.taken sink.new) bytes.now) }
+    ensures cause { HasCause (K.faults sink.old) (K.faults sink.new) result }
+{
+    let mut done = 0;
+    while bytes.len() - done >= ROOM {
+        write_all(sink, &bytes[done..done + ROOM])?;
+        done += ROOM;
+    }
+    Ok(done)
+}
+
+/// A trace that goes to a sink line by line. It keeps lines back in a buffer and writes each time they fill `ROOM` bytes,
+/// so that a long trace goes out as the run goes. The buffer is its caller's: a trace owns no memory, so the caller knows
+/// what its sink took once the trace is gone.
 ///
 /// What the sink took and what is kept back are together the text put so far. After a call that failed or found no memory
 /// a trace can only be dropped.
@@ -39,7 +59,9 @@ impl<'a, K: Sink> Trace<'a, K> {
         Trace { sink, kept }
     }
 
-    /// Puts a label's line behind the text put so far.
+    /// Puts a label's line behind the text put so far, and writes while a whole room is kept back. So after an `Ok` the
+    /// sink took all of the text put so far but its last bytes, fewer than `ROOM` of them, and took whole rooms in this
+    /// call.
     ///
     /// - `Fault` comes where a write to the sink fails: it has then taken some front of the text put so far, this line
     ///   included, and nothing after it.
@@ -48,16 +70,17 @@ impl<'a, K: Sink> Trace<'a, K> {
         ensures same_sink { self.new.sink.ghost_name ≡ self.old.sink.ghost_name }
         ensures ok { OnOk result (put_so_far (K.taken self.new.sink.now) self.new.kept.now.items ≡ grown (put_so_far (K.taken self.old.sink.now) self.old.kept.now.items) (label_text label.now)) }
         ensures bound { OnOk result (length self.new.kept.now.items < ROOM) }
+        ensures rooms { OnOk result ((rooms : ℕ) × (length self.new.kept.now.items + rooms * ROOM ≡ length self.old.kept.now.items + length (label_text label.now))) }
         ensures failed { OnErr result (TookFront (K.taken self.old.sink.now) (K.taken self.new.sink.now) (self.old.kept.now.items ++ label_text label.now)) }
         ensures memory { IsErrOf result MemoryOr.Memory → self.new.sink.now ≡ self.old.sink.now }
         ensures cause { HasPutCause (K.faults self.old.sink.now) (K.faults self.new.sink.now) result }
     {
         push_label(alloc, label, self.kept)?;
-        if self.kept.len() < ROOM {
-            return Ok(());
-        }
-        match self.flush() {
-            Ok(()) => Ok(()),
+        match write_rooms(self.sink, self.kept.as_slice()) {
+            Ok(done) => {
+                self.kept.drain(..done);
+                Ok(())
+            }
             Err(failed) => Err(MemoryOr::Fault(failed)),
         }
     }

@@ -8,9 +8,9 @@
 //! - `take`: the name of a call that is taken, and its arguments, each as its type and its value, with a bar between them and a
 //!   semicolon behind them; `return`: the number of a task, and the type and the value of its result; `copy`: the number of a
 //!   stream, the type of the elements, and the elements. Their lines are wanted
-//! - `put`: how many lines of 9 bytes each are put to a trace, and the number of the write that fails (0: none does). Wanted are
-//!   the room of a trace, how many lines are put before a put fails, how the last put ends, and how many bytes the sink took
-//!   before any flush
+//! - `put`: how many lines of deadlocks are put to a trace, how many tasks each names (a line has 9 bytes, and 3 more for each
+//!   task), and the number of the write that fails (0: none does). Wanted are the room of a trace, how many lines are put before
+//!   a put fails, how the last put ends, and how many bytes the sink took before any flush
 //!
 //! The others have other marks:
 //!

@@ -4,7 +4,7 @@ ghost use Rattle.std.specs.Prelude.{◌≡◌, OnOk};
 ghost use Rattle.ca_io.specs.Bytes.{grown};
 ghost use Rattle.trace_show.specs.LabelText.{label_text};
 
-use ca_base::MemoryOr;
+use ca_base::{Memory, MemoryOr, Seq};
 use ca_io::{Failed, MemSink, Sink};
 use cases::Answers;
 use std::alloc::{AllocError, Global};
@@ -93,20 +93,30 @@ impl Answers for SinksTold {
     }
 }
 
-/// Puts so many lines, or those before the first one of which the put fails, and answers how many these are and how the last
-/// put ends.
-fn put_lines<K: Sink>(
+/// The label of a deadlock of so many tasks. Its line has 9 bytes, and 3 more for each task.
+fn deadlock_of(alloc: Global, tasks: u32) -> Result<Label, Memory> {
+    let mut stuck = Seq::new(alloc);
+    for _ in 0..tasks {
+        stuck.push(1)?;
+    }
+    Ok(Label::Deadlock { tasks: stuck })
+}
+
+/// Puts a line so many times, or as often as it goes before the first put that fails, and answers how often that is and how the
+/// last put ends.
+fn put_often<K: Sink>(
     alloc: Global,
     trace: &mut Trace<'_, K>,
-    lines: u32,
+    label: &Label,
+    times: u32,
 ) -> (u32, Result<(), MemoryOr<Failed>>) {
-    for before in 0..lines {
-        let last = put(alloc, trace, &Label::Enter { task: 1 });
+    for before in 0..times {
+        let last = put(alloc, trace, label);
         if last.is_err() {
             return (before, last);
         }
     }
-    (lines, Ok(()))
+    (times, Ok(()))
 }
 
 /// How many lines were put, how the last put ended, and what was taken.
@@ -120,16 +130,18 @@ fn counts_told(
     format!(in alloc; "room {room}, {put} put, {last:?}, {taken} taken")
 }
 
-/// How the putting of so many lines to a sink ends.
-fn puts_told(alloc: Global, lines: u32, mut sink: MemSink) -> Result<String, Fail> {
+/// How the putting of a line to a sink, so many times, ends.
+fn puts_told(alloc: Global, label: &Label, times: u32, mut sink: MemSink) -> Result<String, Fail> {
     let mut kept = Vec::new(alloc);
-    let (put, last) = put_lines(alloc, &mut Trace::new(&mut sink, &mut kept), lines);
+    let (put, last) = put_often(alloc, &mut Trace::new(&mut sink, &mut kept), label, times);
     Ok(counts_told(alloc, put, last, sink.taken().len())?)
 }
 
-/// How long traces go out: how many lines of 9 bytes each are put, and the number of the write that fails.
+/// How long traces go out: how many lines are put, the tasks of each, and the number of the write that fails.
 pub fn put_answer(alloc: Global, given: &str) -> Result<String, Fail> {
-    let (lines, failing) = given.split_once(' ').ok_or("no number of a write")?;
+    let (times, rest) = given.split_once(' ').ok_or("no tasks of a line")?;
+    let (tasks, failing) = rest.split_once(' ').ok_or("no number of a write")?;
+    let label = deadlock_of(alloc, tasks.parse()?)?;
     let sink = sink_of(alloc, 200_000, 200_000, failing.parse()?)?;
-    puts_told(alloc, lines.parse()?, sink)
+    puts_told(alloc, &label, times.parse()?, sink)
 }
