@@ -25,7 +25,7 @@ use Rattle.machine_runs.specs.declared.ending.LastLine.{LastLine}
 use Rattle.machine_runs.specs.declared.running_script.Ran.{Ran}
 use Rattle.machine_runs.specs.Leading.{LeadsToOne}
 use Rattle.machine_runs.specs.Moving.{acting_of}
-use Rattle.machine_runs.specs.Worlds.{Point, StaysSound, StepsTo, StepGives, free_line, trap_line, fuel_line, last_line, kept_behind, with_last, handed_on, Goes, Reached, HasRule, IsSound}
+use Rattle.machine_runs.specs.Worlds.{Point, StepsOn, StepsTo, StepGives, free_line, trap_line, fuel_line, last_line, kept_behind, with_last, handed_on, Goes, GoOn, Reached}
 use Rattle.machine_runs.specs.Playing.{Took, Puts, TellsAll, Plays, PlaysOn, ScriptRuns}
 
 -- Texts that go out one behind the other.
@@ -143,13 +143,6 @@ module _ (R : Program → Passing → Held → Done Flow → Type 0) (p : Progra
   next_wants b new piles last m e same =
       (m.0, m.1, ap last_line m.2 ∙ ap (λ (l : LastLine). Some l) (sym e), ap kept_behind m.2 ∙ ap (λ (h : Held). Some h) (sym same))
 
-  pub never_stuck : (new : Parts) (piles : List PileView) → IsSound R p a → (let r : Result Step Stop = Err stop.Stuck in LeadsToOne (StepsTo R p a) r new piles) → ⊥
-  never_stuck new piles s m = subst HasRule m.2 (s.rules m.0 m.1)
-
-  pub one_acts : (why : TrapName) (new : Parts) (piles : List PileView) → IsSound R p a → (let r : Result Step Stop = Err (stop.Trap why) in LeadsToOne (StepsTo R p a) r new piles)
-      → (t : ℕ) × (acting_of (held new) ≡ Some t)
-  one_acts why new piles s m = subst HasRule m.2 (s.rules m.0 m.1)
-
   -- A step, with its lines.
   pub plays_none : {E : Type 0} (taken : Option (List ℕ)) (kept : List ℕ) (c : Point) (e : MemoryOr E) (so_far : Option (List ℕ))
       → (let r : Result (Option RunEnd) (MemoryOr E) = Err e in Plays R p a (put_so_far taken kept) r c so_far taken)
@@ -175,43 +168,48 @@ module _ (R : Program → Passing → Held → Done Flow → Type 0) (p : Progra
   pub reached_none : Reached R p a [] a
   reached_none = record { count = zero; steps = (refl, refl) }
 
-  pub reached_more : (before more : List Label) (b c : Point) → Reached R p a before b → Goes R p b more c → Reached R p a (before ++ more) c
-  reached_more before more b c h g = record { count = suc h.count; steps = (b, before, more, h.steps, g, refl) }
+  -- So many steps have led to a world, and their lines have gone out.
+  abbrev pub At : ℕ → Option (List ℕ) → Option (List ℕ) → Point → Type 0
+  At count start so_far b = (lines : List Label) × GoOn R p count a lines b × (so_far ≡ grown start (trace_text lines))
 
-  -- Steps have led to a world, and their lines have gone out.
-  abbrev pub At : Option (List ℕ) → Option (List ℕ) → Point → Type 0
-  At start so_far b = (lines : List Label) × Reached R p a lines b × (so_far ≡ grown start (trace_text lines))
+  pub on_first : (start : Option (List ℕ)) → At 0 start start a
+  on_first start = ([], (refl, refl), sym (grown_none start))
 
-  pub on_first : (start : Option (List ℕ)) → At start start a
-  on_first start = ([], reached_none, sym (grown_none start))
+  reached_by : (count : ℕ) (lines : List Label) (b : Point) → GoOn R p count a lines b → Reached R p a lines b
+  reached_by count lines b h = record { count = count; steps = h }
 
-  pub on_more : (E : Type 0) (start mid so_far taken : Option (List ℕ)) (b c : Point) (o : Option RunEnd) → At start mid b → o ≡ None
-      → (let r : Result (Option RunEnd) (MemoryOr E) = Ok o in Plays R p b mid r c so_far taken) → At start so_far c
-  on_more E start mid so_far taken b c o at is t =
+  one_more : (count : ℕ) (before more : List Label) (b c : Point) → GoOn R p count a before b → Goes R p b more c → GoOn R p (count + 1) a (before ++ more) c
+  one_more count before more b c h g =
+      let one : suc count ≡ count + 1 = omega arith in
+      subst (λ (n : ℕ). GoOn R p n a (before ++ more) c) one (b, before, more, h, g, refl)
+
+  pub on_more : (E : Type 0) (count : ℕ) (start mid so_far taken : Option (List ℕ)) (b c : Point) (o : Option RunEnd) → At count start mid b → o ≡ None
+      → (let r : Result (Option RunEnd) (MemoryOr E) = Ok o in Plays R p b mid r c so_far taken) → At (count + 1) start so_far c
+  on_more E count start mid so_far taken b c o at is t =
       let u : (let r : Result (Option RunEnd) (MemoryOr E) = Ok None in Plays R p b mid r c so_far taken)
       = subst (λ (x : Option RunEnd). let r : Result (Option RunEnd) (MemoryOr E) = Ok x in Plays R p b mid r c so_far taken) is t in
-      (at.0 ++ u.0, reached_more at.0 u.0 b c at.1 u.1, u.2 ∙ ap (λ (s : Option (List ℕ)). grown s (trace_text u.0)) at.2 ∙ text_more start at.0 u.0)
+      (at.0 ++ u.0, one_more count at.0 u.0 b c at.1 u.1, u.2 ∙ ap (λ (s : Option (List ℕ)). grown s (trace_text u.0)) at.2 ∙ text_more start at.0 u.0)
 
-  pub on_ends : (E : Type 0) (start mid so_far taken : Option (List ℕ)) (b c : Point) (end : RunEnd) (o : Option RunEnd) → At start mid b → o ≡ Some end
+  pub on_ends : (E : Type 0) (count : ℕ) (start mid so_far taken : Option (List ℕ)) (b c : Point) (end : RunEnd) (o : Option RunEnd) → At count start mid b → o ≡ Some end
       → (let r : Result (Option RunEnd) (MemoryOr E) = Ok o in Plays R p b mid r c so_far taken) → (let r : Result RunEnd (MemoryOr E) = Ok end in PlaysOn R p a start r c taken)
-  on_ends E start mid so_far taken b c end o at is t =
+  on_ends E count start mid so_far taken b c end o at is t =
       let u : (let r : Result (Option RunEnd) (MemoryOr E) = Ok (Some end) in Plays R p b mid r c so_far taken)
       = subst (λ (x : Option RunEnd). let r : Result (Option RunEnd) (MemoryOr E) = Ok x in Plays R p b mid r c so_far taken) is t in (
         at.0 ++ u.0,
-        record { before = at.0; last = b; more = u.0; goes = at.1; ends = u.1; lines_are = refl },
+        record { before = at.0; last = b; more = u.0; goes = reached_by count at.0 b at.1; ends = u.1; lines_are = refl },
         u.2 ∙ ap (λ (s : Option (List ℕ)). grown s (trace_text u.0)) at.2 ∙ text_more start at.0 u.0,
       )
 
-  pub on_fails : {E : Type 0} (start mid so_far taken : Option (List ℕ)) (b c : Point) (x : MemoryOr E) → At start mid b
+  pub on_fails : {E : Type 0} (count : ℕ) (start mid so_far taken : Option (List ℕ)) (b c : Point) (x : MemoryOr E) → At count start mid b
       → (let r : Result (Option RunEnd) (MemoryOr E) = Err x in Plays R p b mid r c so_far taken) → (let r : Result RunEnd (MemoryOr E) = Err x in PlaysOn R p a start r c taken)
-  on_fails start mid so_far taken b c x at (lines, inl none, t) =
-      (at.0, inl (b, at.1), subst (Took taken) (ap (λ (ls : List Label). grown mid (trace_text ls)) none ∙ grown_none mid ∙ at.2) t)
-  on_fails start mid so_far taken b c x at (lines, inr told, t) =
-      (at.0 ++ lines, inr (b, at.0, lines, at.1, told, refl), subst (Took taken) (ap (λ (s : Option (List ℕ)). grown s (trace_text lines)) at.2 ∙ text_more start at.0 lines) t)
+  on_fails count start mid so_far taken b c x at (lines, inl none, t) =
+      (at.0, inl (b, reached_by count at.0 b at.1), subst (Took taken) (ap (λ (ls : List Label). grown mid (trace_text ls)) none ∙ grown_none mid ∙ at.2) t)
+  on_fails count start mid so_far taken b c x at (lines, inr told, t) =
+      (at.0 ++ lines, inr (b, at.0, lines, reached_by count at.0 b at.1, told, refl), subst (Took taken) (ap (λ (s : Option (List ℕ)). grown s (trace_text lines)) at.2 ∙ text_more start at.0 lines) t)
 
-  pub on_out : (E : Type 0) (start taken : Option (List ℕ)) (kept : List ℕ) (b : Point) → At start (put_so_far taken kept) b
+  pub on_out : (E : Type 0) (count : ℕ) (start taken : Option (List ℕ)) (kept : List ℕ) (b : Point) → At count start (put_so_far taken kept) b
       → (let r : Result RunEnd (MemoryOr E) = Err Memory in PlaysOn R p a start r b taken)
-  on_out E start taken kept b at = (at.0, inl (b, at.1), subst (Took taken) at.2 (took_so_far taken kept))
+  on_out E count start taken kept b at = (at.0, inl (b, reached_by count at.0 b at.1), subst (Took taken) at.2 (took_so_far taken kept))
 
   -- A run that came to its end, of which no dump is made; and one that did not begin.
   pub no_dump : {E : Type 0} (start taken : Option (List ℕ)) (b : Point) (end : RunEnd) (dumps : Bool) (e : MemoryOr E)
@@ -224,5 +222,5 @@ module _ (R : Program → Passing → Held → Done Flow → Type 0) (p : Progra
   no_world taken kept dumps e = ([], inl (a, reached_none), took_more taken (put_so_far taken kept) [] (took_so_far taken kept))
 
 -- What holds of a world holds of the same one.
-pub sound_at : (R : Program → Passing → Held → Done Flow → Type 0) (p : Program) (a b : Point) → a ≡ b → StaysSound R p b → StaysSound R p a
-sound_at R p a b e h = subst (StaysSound R p) (sym e) h
+pub sound_at : (R : Program → Passing → Held → Done Flow → Type 0) (p : Program) (a b : Point) → a ≡ b → StepsOn R p b → StepsOn R p a
+sound_at R p a b e h = subst (StepsOn R p) (sym e) h

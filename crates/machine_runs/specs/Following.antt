@@ -35,7 +35,7 @@ with_piles count piles = if nat_lt (length piles) count then piles ++ new_pile �
 -- The acting task's stack goes on with the words of an answer, or a further one begins.
 abbrev pub answered_now : List ℕ → List PileView → Held → Done (Passing × List PileView)
 answered_now words piles h =
-    after (acting h) (λ t k. given (at_pile (gone_on words) t piles) (λ r. Gives (passing.Nothing, r.1) k))
+    after (acting h) (λ t k. given (at_pile (gone_on k.store words) t piles) (λ r. Gives (passing.Nothing, r.1) k))
 
 abbrev pub started_now : FuncRef → List ℕ → List PileView → Held → Done (Passing × List PileView)
 started_now func words piles h =

@@ -6,4 +6,5 @@ pub mod Turning
 pub mod Leading
 pub mod Stepping
 pub mod Worlds
+pub mod Fit
 pub mod Playing

@@ -47,7 +47,7 @@ move_steps p piles h = after (moves p.graph.now p.ends.now h.rest piles h) (λ r
 -- What follows what a run of a task's stack came to, over its stacks without the one that ran.
 abbrev pub outcome_done : ℕ → PileView → Outcome → Held → Option (Done (Option (List ℕ) × PileView))
 outcome_done t p (outcome.Done words) h = Some (stack_ended t words p h)
-outcome_done t p (outcome.Calls number words w) h = Some (after (called t number words h) (λ done k. Gives (None, with_top (top.Waits w) p) k))
+outcome_done t p (outcome.Calls number words w) h = Some (after (called t number words h) (λ done k. Gives (None, with_top (top.Waits (record { address = number; waiting = w })) p) k))
 outcome_done t p (outcome.Trapped why) h = Some (Traps (core_name why) h)
 outcome_done t p (outcome.NoFuel later) h = Some (Spent h)
 outcome_done t p outcome.Memory h = None
@@ -59,7 +59,7 @@ StackComes t k p h d =
 
 abbrev pub TopComes : ℕ → Top → PileView → Held → Done (Option (List ℕ) × PileView) → Type 0
 TopComes t top.Empty p h d = d ≡ Stuck
-TopComes t (top.Waits w) p h d = d ≡ Stuck
+TopComes t (top.Waits c) p h d = d ≡ Stuck
 TopComes t (top.Goes k) p h d = StackComes t k (with_top top.Empty p) h d
 
 -- Where the task's function has ended with words these are to be passed on.

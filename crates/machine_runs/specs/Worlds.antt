@@ -1,5 +1,5 @@
 -- Runs (Component Model, Concurrency.md, "Summary"): steps, one behind the other, from a world on, each with its lines; and how a step ends a run.
-use Rattle.std.specs.Prelude.{◌≡◌, ◌⊎◌, ℕ, zero, suc, List, [], ◌∷◌, ◌++◌, Option, Some, None}
+use Rattle.std.specs.Prelude.{◌≡◌, ◌<◌, ◌⊎◌, ℕ, zero, suc, List, [], ◌∷◌, ◌++◌, Option, Some, None}
 use Rattle.comp_graph.specs.Graph.{Graph}
 use Rattle.script_reader.specs.Script.{Script}
 use Rattle.programs.specs.declared.program.Program.{Program}
@@ -127,18 +127,10 @@ RunTells may_pass p a lines =
 abbrev pub SoFarTells : (Program → Passing → Held → Done Flow → Type 0) → Program → Point → List Label → Type 0
 SoFarTells may_pass p a lines = ((b : Point) × Reached may_pass p a lines b) ⊎ RunTells may_pass p a lines
 
--- A rule applies, and where a task traps one acts.
-abbrev pub HasRule : Done (Step × List PileView) → Type 0
-HasRule (Gives r k) = Unit {0}
-HasRule (Traps why k) = (t : ℕ) × (acting_of k ≡ Some t)
-HasRule (Spent k) = Unit {0}
-HasRule Stuck = ⊥
+-- How many steps a run may make, and that a step can be made in each world to which fewer lead.
+abbrev pub most_steps : ℕ
+most_steps = 34359738368
 
--- A world in which a step can be made, and a rule applies.
-pub record IsSound (may_pass : Program → Passing → Held → Done Flow → Type 0) (p : Program) (a : Point) : Type 0 where
-  pub can : CanStep a.passing a.piles a.held
-  pub rules : (d : Done (Step × List PileView)) → StepsTo may_pass p a d → HasRule d
-
--- So is each world to which steps lead.
-abbrev pub StaysSound : (Program → Passing → Held → Done Flow → Type 0) → Program → Point → Type 0
-StaysSound may_pass p a = (lines : List Label) (b : Point) → Reached may_pass p a lines b → IsSound may_pass p b
+abbrev pub StepsOn : (Program → Passing → Held → Done Flow → Type 0) → Program → Point → Type 0
+StepsOn may_pass p a =
+    (count : ℕ) (lines : List Label) (b : Point) → count < most_steps → GoOn may_pass p count a lines b → CanStep b.passing b.piles b.held

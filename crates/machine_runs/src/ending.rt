@@ -1,6 +1,6 @@
 //! How runs end.
 
-ghost use Rattle.std.specs.Prelude.{◌≡◌, IfOk, ℕ, Some};
+ghost use Rattle.std.specs.Prelude.{◌≡◌, IfOk};
 ghost use Rattle.world_parts.specs.Held.{held};
 ghost use Rattle.machine_runs.specs.Moving.{acting_of};
 ghost use Rattle.machine_runs.specs.Worlds.{free_line, trap_line, fuel_line};
@@ -57,17 +57,16 @@ fn free_line_of(tasks: Seq<u32>) -> LastLine
     }
 }
 
-/// The last line where the acting task trapped.
-pub(crate) fn trap_line(parts: &Parts, name: TrapName) -> LastLine
-    requires { (t : ℕ) × (acting_of (held parts.now) ≡ Some t) }
-    ensures { trap_line name (acting_of (held parts.now)) ≡ Some result }
+/// The last line where the acting task trapped, if one acts.
+pub(crate) fn trap_line(parts: &Parts, name: TrapName) -> Option<LastLine>
+    ensures { result ≡ trap_line name (acting_of (held parts.now)) }
 {
     match parts.chain.last() {
-        Some(task) => LastLine {
+        Some(task) => Some(LastLine {
             end: RunEnd::Trap,
             line: Label::Trap { task: *task, name },
-        },
-        None => unreachable!(),
+        }),
+        None => None,
     }
 }
 

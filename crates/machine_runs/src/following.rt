@@ -65,7 +65,7 @@ fn answer_now(parts: &Parts, stacks: &mut Stacks, words: &[u64]) -> Part<Passing
     ensures { Leads (answered_now words.now stacks.old.piles.items (held parts.now)) result parts.now stacks.new.piles.items }
 {
     let task = parts.acting()?;
-    go_on(stacks, task, words)?;
+    go_on(stacks, &parts.store, task, words)?;
     Ok(Passing::Nothing)
 }
 

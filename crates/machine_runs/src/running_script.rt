@@ -8,7 +8,8 @@ ghost use Rattle.ca_io.specs.Bytes.{grown};
 ghost use Rattle.trace_show.specs.Trace.{put_so_far, HasPutCause};
 ghost use Rattle.trace_show.specs.LabelText.{label_text, trace_text};
 ghost use Rattle.world_parts.specs.Held.{held};
-ghost use Rattle.machine_runs.specs.Worlds.{point_of, first_point, StepGives, IsSound, StaysSound};
+ghost use Rattle.machine_runs.specs.Stepping.{CanStep};
+ghost use Rattle.machine_runs.specs.Worlds.{point_of, first_point, StepGives, StepsOn};
 ghost use Rattle.machine_runs.specs.Playing.{dump_if, Took, Puts, TellsAll, Plays, PlaysOn, ScriptRuns};
 
 use crate::ending::{LastLine, RunEnd, free_line, fuel_line, trap_line};
@@ -49,15 +50,20 @@ fn put_lines<K: Sink>(
     Ok(())
 }
 
-/// Makes a step. The answer is the last line, where that ends the run.
-#[tactic(auto, using(crate::proofs::Played::next_goes, crate::proofs::Played::next_ends, crate::proofs::Played::next_traps, crate::proofs::Played::next_wants, crate::proofs::Played::never_stuck, crate::proofs::Played::one_acts))]
+/// How many steps are made at most. A run of more, which a script's fuel may pay for where nearly all of its steps cost nothing, answers as one that
+/// is short of memory.
+const MOST_STEPS: u64 = 34_359_738_368;
+
+/// Makes a step. The answer is the last line, where that ends the run. Where no rule applies, or a task traps and none acts, it is `Memory`, of
+/// which nothing is said.
+#[tactic(auto, using(crate::proofs::Played::next_goes, crate::proofs::Played::next_ends, crate::proofs::Played::next_traps, crate::proofs::Played::next_wants))]
 fn next<V: PassesValues>(
     alloc: Global,
     program: &Program<'_, '_>,
     world: &mut World,
 ) -> Result<Option<LastLine>, Memory>
     requires distinct { AreDistinct program.now.types.now }
-    requires sound { IsSound V.may_pass program.now (point_of world.old) }
+    requires can { CanStep world.old.passing world.old.stacks.piles.items (held world.old.parts) }
     ensures { IfOk result (λ last. StepGives V.may_pass program.now (point_of world.old) last (point_of world.new)) }
 {
     match world.step::<V>(alloc, program) {
@@ -69,9 +75,12 @@ fn next<V: PassesValues>(
             let last = free_line(alloc, &world.parts.tasks.live)?;
             Ok(Some(last))
         }
-        Err(Stop::Trap(name)) => Ok(Some(trap_line(&world.parts, name))),
+        Err(Stop::Trap(name)) => match trap_line(&world.parts, name) {
+            Some(last) => Ok(Some(last)),
+            None => Err(Memory),
+        },
         Err(Stop::NoFuel) => Ok(Some(fuel_line())),
-        Err(Stop::Stuck) => unreachable!(),
+        Err(Stop::Stuck) => Err(Memory),
         Err(Stop::Memory) => Err(Memory),
     }
 }
@@ -123,7 +132,7 @@ fn play<V: PassesValues, K: Sink>(
     trace: &mut Trace<'_, K>,
 ) -> Result<Option<RunEnd>, MemoryOr<Failed>>
     requires distinct { AreDistinct program.now.types.now }
-    requires sound { IsSound V.may_pass program.now (point_of world.old) }
+    requires can { CanStep world.old.passing world.old.stacks.piles.items (held world.old.parts) }
     ensures same_sink { trace.new.sink.ghost_name ≡ trace.old.sink.ghost_name }
     ensures plays { Plays V.may_pass program.now (point_of world.old) (put_so_far (K.taken trace.old.sink.now) trace.old.kept.now.items) result (point_of world.new) (put_so_far (K.taken trace.new.sink.now) trace.new.kept.now.items) (K.taken trace.new.sink.now) }
     ensures cause { HasPutCause (K.faults trace.old.sink.now) (K.faults trace.new.sink.now) result }
@@ -150,7 +159,7 @@ fn end_of(last: &Option<LastLine>) -> Option<RunEnd>
     }
 }
 
-/// Makes steps up to where the run ends. More than can be counted are not made.
+/// Makes steps up to where the run ends, and no more than `MOST_STEPS`.
 #[tactic(auto, using(crate::proofs::Played::on_first, crate::proofs::Played::on_ends, crate::proofs::Played::on_fails, crate::proofs::Played::on_out))]
 fn play_on<V: PassesValues, K: Sink>(
     alloc: Global,
@@ -159,12 +168,12 @@ fn play_on<V: PassesValues, K: Sink>(
     trace: &mut Trace<'_, K>,
 ) -> Result<RunEnd, MemoryOr<Failed>>
     requires distinct { AreDistinct program.now.types.now }
-    requires sound { StaysSound V.may_pass program.now (point_of world.old) }
+    requires sound { StepsOn V.may_pass program.now (point_of world.old) }
     ensures same_sink { trace.new.sink.ghost_name ≡ trace.old.sink.ghost_name }
     ensures plays { PlaysOn V.may_pass program.now (point_of world.old) (put_so_far (K.taken trace.old.sink.now) trace.old.kept.now.items) result (point_of world.new) (K.taken trace.new.sink.now) }
     ensures cause { HasPutCause (K.faults trace.old.sink.now) (K.faults trace.new.sink.now) result }
 {
-    for _step in 0..u64::MAX {
+    for _step in 0..MOST_STEPS {
         match play::<V, K>(alloc, program, world, trace)? {
             Some(end) => return Ok(end),
             None => {}
@@ -195,7 +204,7 @@ fn run_world<V: PassesValues, K: Sink>(
     dumps: bool,
 ) -> Result<Ran, MemoryOr<Failed>>
     requires distinct { AreDistinct program.now.types.now }
-    requires sound { StaysSound V.may_pass program.now (point_of world.old) }
+    requires sound { StepsOn V.may_pass program.now (point_of world.old) }
     ensures same_sink { trace.new.sink.ghost_name ≡ trace.old.sink.ghost_name }
     ensures runs { ScriptRuns V.may_pass program.now (point_of world.old) dumps (put_so_far (K.taken trace.old.sink.now) trace.old.kept.now.items) result (K.taken trace.new.sink.now) }
     ensures cause { HasPutCause (K.faults trace.old.sink.now) (K.faults trace.new.sink.now) result }
@@ -210,7 +219,8 @@ fn run_world<V: PassesValues, K: Sink>(
 ///
 /// # Errors
 ///
-/// `Fault` where a write failed, and `Memory` where memory, or numbers, ran out. The sink has then taken some front of the text of the run.
+/// `Fault` where a write failed, and `Memory` where memory, or numbers, ran out, where no rule applies, where a task traps and none acts, and behind 2^35
+/// steps. The sink has then taken some front of the text of the run.
 #[tactic(auto, using(crate::proofs::Played::sound_at, crate::proofs::Played::no_world))]
 pub fn run_script<V: PassesValues, K: Sink>(
     alloc: Global,
@@ -219,7 +229,7 @@ pub fn run_script<V: PassesValues, K: Sink>(
     dumps: bool,
 ) -> Result<Ran, MemoryOr<Failed>>
     requires distinct { AreDistinct program.now.types.now }
-    requires sound { StaysSound V.may_pass program.now (first_point program.now.graph.now program.now.script.now) }
+    requires sound { StepsOn V.may_pass program.now (first_point program.now.graph.now program.now.script.now) }
     ensures same_sink { trace.new.sink.ghost_name ≡ trace.old.sink.ghost_name }
     ensures runs { ScriptRuns V.may_pass program.now (first_point program.now.graph.now program.now.script.now) dumps (put_so_far (K.taken trace.old.sink.now) trace.old.kept.now.items) result (K.taken trace.new.sink.now) }
     ensures cause { HasPutCause (K.faults trace.old.sink.now) (K.faults trace.new.sink.now) result }

@@ -37,7 +37,7 @@ fn done(
     let (task, words) = task_and_words(alloc, rest)?;
     match name {
         "start" => Ok(start_on(alloc, parts, stacks, task, OWN, &words)),
-        _ => Ok(go_on(stacks, task, &words)),
+        _ => Ok(go_on(stacks, &parts.store, task, &words)),
     }
 }
 

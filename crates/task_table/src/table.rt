@@ -1,6 +1,6 @@
 //! All tasks of a run.
 
-ghost use Rattle.std.specs.Prelude.{◌≡◌, [], ◌∷◌, ◌++◌, length, Some, IfOk, OnOk};
+ghost use Rattle.std.specs.Prelude.{◌≡◌, [], ◌∷◌, ◌++◌, length, Some, IfOk, OnOk, OnErr};
 ghost use Rattle.std.specs.List.{slice_get};
 ghost use Rattle.std.specs.Option.{option_copied};
 ghost use Rattle.task_table.specs.Tasks.{with_number, without, by_of, is_among_callers};
@@ -100,6 +100,7 @@ impl Tasks {
         ensures slots { self.new.slots.items ≡ self.old.slots.items }
         ensures live { self.new.live.keys ≡ self.old.live.keys }
         ensures watched { OnOk result (self.new.watched.keys ≡ with_number task self.old.watched.keys) }
+        ensures err { OnErr result (self.new.watched.keys ≡ self.old.watched.keys) }
         ensures calls { self.new.calls.items ≡ self.old.calls.items }
     {
         put(&mut self.watched, task)?;
@@ -129,7 +130,8 @@ impl Tasks {
 
 /// Adds a number, where it is not there. After `Memory` all is as it was.
 fn put(numbers: &mut BTreeSet<u32>, task: u32) -> Result<(), Memory>
-    ensures { OnOk result (numbers.new.keys ≡ with_number task numbers.old.keys) }
+    ensures ok { OnOk result (numbers.new.keys ≡ with_number task numbers.old.keys) }
+    ensures err { OnErr result (numbers.new.keys ≡ numbers.old.keys) }
 {
     numbers.insert(task)?;
     Ok(())

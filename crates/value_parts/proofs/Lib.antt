@@ -6,3 +6,4 @@ pub mod Types
 pub mod Settling
 pub mod Kept
 pub mod Chains
+pub mod fit

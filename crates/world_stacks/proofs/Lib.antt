@@ -3,3 +3,4 @@ pub mod Imports
 pub mod Making
 pub mod Nested
 pub mod Words
+pub mod Fitting

@@ -1,3 +1,4 @@
+pub mod Typing
 pub mod Views
 pub mod Piles
 pub mod Over

@@ -10,9 +10,11 @@ use Rattle.wasm_store.specs.Typed.{StackTyped}
 use Rattle.wasm_execution.specs.Waiting.{Waiting}
 use Rattle.world_parts.specs.declared.parts.Stop.{Stop}
 use Rattle.world_parts.specs.declared.parts.Stop.TheVariants as stop
+use Rattle.world_stacks.specs.declared.host_call.HostCall.{HostCall}
 use Rattle.world_stacks.specs.declared.top.Top.{Top}
 use Rattle.world_stacks.specs.declared.top.Top.TheVariants as top
 use Rattle.world_stacks.specs.Views.{PileView}
+use Rattle.world_stacks.specs.Starting.{gives_words}
 
 -- no stack, and another acting one
 abbrev pub new_pile : PileView
@@ -25,36 +27,40 @@ with_top t p = record p { top = t }
 abbrev pub resumed : List ℕ → Waiting → Option Stack
 resumed words w = if nat_eq w.count (length words) then Some (resume words w.stack) else None
 
+-- It does so at a call of a function of the host where they are words that the function gives.
+abbrev pub resumed_at : Store → List ℕ → HostCall → Option Stack
+resumed_at s words c = if gives_words s c.address words then resumed words c.waiting else None
+
 -- The acting stack goes on with words.
 abbrev pub going : Option Stack → PileView → Option (Unit {0} × PileView)
 going None p = None
 going (Some k) p = Some (tt, with_top (top.Goes k) p)
 
-abbrev pub gone_on_from : Top → List ℕ → PileView → Option (Unit {0} × PileView)
-gone_on_from top.Empty words p = None
-gone_on_from (top.Waits w) words p = going (resumed words w) p
-gone_on_from (top.Goes k) words p = None
+abbrev pub gone_on_from : Store → Top → List ℕ → PileView → Option (Unit {0} × PileView)
+gone_on_from s top.Empty words p = None
+gone_on_from s (top.Waits c) words p = going (resumed_at s words c) p
+gone_on_from s (top.Goes k) words p = None
 
-abbrev pub gone_on : List ℕ → PileView → Option (Unit {0} × PileView)
-gone_on words p = gone_on_from p.top words p
+abbrev pub gone_on : Store → List ℕ → PileView → Option (Unit {0} × PileView)
+gone_on s words p = gone_on_from s p.top words p
 
 -- A further stack begins, where none runs.
 abbrev pub stacked_on : Top → Stack → PileView → Option (Unit {0} × PileView)
 stacked_on top.Empty k p = Some (tt, with_top (top.Goes k) p)
-stacked_on (top.Waits w) k p = Some (tt, record { top = top.Goes k; under = w ∷ p.under })
+stacked_on (top.Waits c) k p = Some (tt, record { top = top.Goes k; under = c ∷ p.under })
 stacked_on (top.Goes other) k p = None
 
 abbrev pub stacked : Stack → PileView → Option (Unit {0} × PileView)
 stacked k p = stacked_on p.top k p
 
 -- The acting stack has ended: the one under it, where there is one, goes on with no words.
-abbrev pub going_back : Option Stack → List Waiting → Option (Bool × PileView)
+abbrev pub going_back : Option Stack → List HostCall → Option (Bool × PileView)
 going_back None under = None
 going_back (Some k) under = Some (true, record { top = top.Goes k; under = under })
 
-abbrev pub unstacked : List Waiting → PileView → Option (Bool × PileView)
-unstacked [] p = Some (false, p)
-unstacked (w ∷ under) p = going_back (resumed [] w) under
+abbrev pub unstacked : Store → List HostCall → PileView → Option (Bool × PileView)
+unstacked s [] p = Some (false, p)
+unstacked s (c ∷ under) p = going_back (resumed_at s [] c) under
 
 -- What is changed in the stacks of the task of a number.
 abbrev pub put_back : {A : Type 0} → ℕ → List PileView → Option (A × PileView) → Option (A × List PileView)
@@ -90,7 +96,7 @@ RunsTyped s k = (results : List ValType) × StackTyped s results k
 
 abbrev pub TopTyped : Store → Top → Type 0
 TopTyped s top.Empty = Unit {0}
-TopTyped s (top.Waits w) = Unit {0}
+TopTyped s (top.Waits c) = Unit {0}
 TopTyped s (top.Goes k) = RunsTyped s k
 
 abbrev pub PileTyped : Store → Option PileView → Type 0

@@ -47,13 +47,13 @@ ended_over t words true p h = after (told (line.Got t []) h) (λ done k. Gives (
 ended_over t words false p h = after (last_ended t words h) (λ ended k. Gives (ended, p) k)
 
 abbrev pub stack_ended : ℕ → List ℕ → PileView → Held → Done (Option (List ℕ) × PileView)
-stack_ended t words p h = given (unstacked p.under p) (λ r. ended_over t words r.0 r.1 h)
+stack_ended t words p h = given (unstacked h.store p.under p) (λ r. ended_over t words r.0 r.1 h)
 
 -- What follows what a run came to, over the stacks without the one that ran.
 abbrev pub ComesTo : ℕ → PileView → Outcome → Held → Result (Option (List ℕ)) Stop → Parts → PileView → Type 0
 ComesTo t p (outcome.Done words) h result new q = Leads (stack_ended t words p h) result new q
 ComesTo t p (outcome.Calls number words w) h result new q =
-    Leads (after (called t number words h) (λ done k. Gives (None, with_top (top.Waits w) p) k)) result new q
+    Leads (after (called t number words h) (λ done k. Gives (None, with_top (top.Waits (record { address = number; waiting = w })) p) k)) result new q
 ComesTo t p (outcome.Trapped why) h result new q = Leads (Traps (core_name why) h) result new q
 ComesTo t p (outcome.NoFuel later) h result new q = Leads (Spent h) result new q
 ComesTo t p outcome.Memory h result new q = result ≡ Err stop.Memory
@@ -66,7 +66,7 @@ StackRuns t k p h result new q =
 
 abbrev pub TopRuns : ℕ → Top → PileView → Held → Result (Option (List ℕ)) Stop → Parts → PileView → Type 0
 TopRuns t top.Empty p h result new q = result ≡ Err stop.Stuck
-TopRuns t (top.Waits w) p h result new q = result ≡ Err stop.Stuck
+TopRuns t (top.Waits c) p h result new q = result ≡ Err stop.Stuck
 TopRuns t (top.Goes k) p h result new q = StackRuns t k (with_top top.Empty p) h result new q
 
 abbrev pub PileRuns : ℕ → PileView → Held → Result (Option (List ℕ)) Stop → Parts → PileView → Type 0

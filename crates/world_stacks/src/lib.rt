@@ -6,7 +6,8 @@
 //! stacks. Where core code runs, it names what the run came to, and then says what follows. A stack that does not stand, or words that
 //! do not fit, are an answer of code (`Stop::Stuck`), to which the machine never comes.
 //!
-//! - `top`, `pile`, `stacks`: the acting stack of a task, with those under it, and those of all tasks
+//! - `host_call`: a call at which a stack waits; `top`, `pile`, `stacks`: the acting stack of a task, with those under it, and those of all
+//!   tasks
 //! - `addresses`: core functions and memories in the store
 //! - `starting`: stacks that begin and that go on, with words that are tested; `moving`: those of a task
 //! - `running`: the acting stack runs
@@ -18,6 +19,7 @@
 mod addresses;
 mod exempt;
 mod externals;
+mod host_call;
 mod instantiating;
 mod moving;
 mod names;
@@ -30,6 +32,7 @@ mod top;
 
 pub use addresses::{func_address, memory_of, realloc_of};
 pub use exempt::exempt_answer;
+pub use host_call::HostCall;
 pub use instantiating::instantiate;
 pub use moving::{go_on, start_on};
 pub use names::core_name;

@@ -9,17 +9,18 @@ use crate::stacks::Stacks;
 use crate::starting::call_of;
 use comp_graph::FuncRef;
 use std::alloc::Global;
+use wasm_store::Store;
 use world_parts::{Part, Parts, Rest};
 
 /// The acting stack of a task, which waits at a call of a canonical function, goes on with the words of the answer.
 ///
 /// # Errors
 ///
-/// `Stuck` where it does not wait for so many words.
-pub fn go_on(stacks: &mut Stacks, task: u32, words: &[u64]) -> Part<()>
-    ensures { Turns (at_pile (gone_on words.now) task stacks.old.piles.items) result stacks.new.piles.items }
+/// `Stuck` where it does not wait, or the words are not such as the function gives.
+pub fn go_on(stacks: &mut Stacks, store: &Store, task: u32, words: &[u64]) -> Part<()>
+    ensures { Turns (at_pile (gone_on store.now words.now) task stacks.old.piles.items) result stacks.new.piles.items }
 {
-    stacks.go_on(task, words)
+    stacks.go_on(store, task, words)
 }
 
 /// A call of a core function with these words begins, as a further stack of a task: the core function that the task's function lifts, its

@@ -4,12 +4,13 @@ ghost use Rattle.std.specs.Prelude.{◌≡◌};
 ghost use Rattle.world_stacks.specs.declared.top.Top.TheVariants as top;
 ghost use Rattle.world_stacks.specs.Piles.{new_pile, with_top, gone_on, stacked, unstacked, Turns};
 
-use crate::starting::resumed;
+use crate::host_call::HostCall;
 use crate::top::Top;
 use std::alloc::Global;
 use std::marker::Model;
 use std::mem;
-use wasm_execution::{Running, Suspended};
+use wasm_execution::Running;
+use wasm_store::Store;
 use world_parts::{Part, Stop};
 
 /// The stacks of a task: the acting one, and under it those whose `resource.drop` runs a destructor, which wait. Contracts see the
@@ -17,19 +18,19 @@ use world_parts::{Part, Stop};
 pub struct Pile {
     pub(crate) top: Top,
     /// The innermost one stands last.
-    pub(crate) under: Vec<Suspended>,
+    pub(crate) under: Vec<HostCall>,
 }
 
 impl Model for Pile {
     ghost use Rattle.std.specs.Coded.{codes};
     ghost use Rattle.std.specs.Prelude.{reverse};
-    ghost use Rattle.wasm_execution.specs.Waiting.{waiting_code};
     ghost use Rattle.world_stacks.specs.Views.{PileView};
+    ghost use Rattle.world_stacks.specs.contracts.host_call.HostCall as calls;
     ghost use Rattle.world_stacks.specs.contracts.top.Top as tops;
 
     ghost Value = { PileView };
 
-    ghost coded = { Prim.hlevel (codes, tops.the_row.coded, waiting_code) };
+    ghost coded = { Prim.hlevel (codes, tops.the_row.coded, calls.the_row.coded) };
 
     ghost view = { λ p. record { top = p.top; under = reverse p.under.items } };
 }
@@ -61,12 +62,12 @@ impl Pile {
         before.give_up();
     }
 
-    /// The acting stack goes on with words, where it waits for so many.
-    pub(crate) fn go_on(&mut self, words: &[u64]) -> Part<()>
-        ensures { Turns (gone_on words.now self.old) result self.new }
+    /// The acting stack goes on with words, where it waits for such.
+    pub(crate) fn go_on(&mut self, store: &Store, words: &[u64]) -> Part<()>
+        ensures { Turns (gone_on store.now words.now self.old) result self.new }
     {
         match self.take() {
-            Top::Waits(waiting) => match resumed(waiting, words) {
+            Top::Waits(call) => match call.resumed(store, words) {
                 Some(running) => {
                     self.put(Top::Goes(running));
                     Ok(())
@@ -90,7 +91,7 @@ impl Pile {
                 self.put(Top::Goes(running));
                 Ok(())
             }
-            Top::Waits(waiting) => self.push_under(waiting, running),
+            Top::Waits(call) => self.push_under(call, running),
             Top::Goes(before) => {
                 before.give_up();
                 running.give_up();
@@ -100,26 +101,26 @@ impl Pile {
     }
 
     /// Puts a stack that waits under the acting one, which is to run.
-    fn push_under(&mut self, waiting: Suspended, running: Running) -> Part<()>
-        ensures { Turns (stacked running (with_top (top.Waits waiting) self.old)) result self.new }
+    fn push_under(&mut self, call: HostCall, running: Running) -> Part<()>
+        ensures { Turns (stacked running (with_top (top.Waits call) self.old)) result self.new }
     {
         let Ok(()) = self.under.reserve(1) else {
-            waiting.give_up();
+            call.give_up();
             running.give_up();
             return Err(Stop::Memory);
         };
-        self.under.push_reserved(waiting);
+        self.under.push_reserved(call);
         self.put(Top::Goes(running));
         Ok(())
     }
 
     /// The acting stack has ended, and the one under it goes on with no words. The answer is whether there is one.
-    pub(crate) fn unstack(&mut self) -> Part<bool>
-        ensures { Turns (unstacked self.old.under self.old) result self.new }
+    pub(crate) fn unstack(&mut self, store: &Store) -> Part<bool>
+        ensures { Turns (unstacked store.now self.old.under self.old) result self.new }
     {
         match self.under.pop() {
             None => Ok(false),
-            Some(waiting) => match resumed(waiting, &[]) {
+            Some(call) => match call.resumed(store, &[]) {
                 Some(running) => {
                     self.put(Top::Goes(running));
                     Ok(true)
@@ -133,8 +134,8 @@ impl Pile {
     pub(crate) fn give_up(self) {
         let Pile { top, mut under } = self;
         top.give_up();
-        while let Some(waiting) = under.pop() {
-            waiting.give_up();
+        while let Some(call) = under.pop() {
+            call.give_up();
         }
         under.destroy_empty();
     }

@@ -8,6 +8,7 @@ ghost use Rattle.world_stacks.specs.Over.{Leads};
 ghost use Rattle.world_stacks.specs.Piles.{TopTyped, PileTyped};
 ghost use Rattle.world_stacks.specs.Running.{called, ended_at, last_ended, stack_ended, PileRuns, RunsAt};
 
+use crate::host_call::HostCall;
 use crate::names::core_name;
 use crate::pile::Pile;
 use crate::stacks::Stacks;
@@ -52,7 +53,7 @@ fn run_pile(alloc: Global, parts: &mut Parts, pile: &mut Pile, task: u32) -> Par
             match run(alloc, running, &mut parts.store, &mut parts.feed.left) {
                 Outcome::Done(words) => stack_ended(alloc, parts, pile, task, words),
                 Outcome::Calls(address, words, waiting) => {
-                    pile.put(Top::Waits(waiting));
+                    pile.put(Top::Waits(HostCall { address, waiting }));
                     call(parts, task, address, words)?;
                     Ok(None)
                 }
@@ -64,8 +65,8 @@ fn run_pile(alloc: Global, parts: &mut Parts, pile: &mut Pile, task: u32) -> Par
                 Outcome::Memory => Err(Stop::Memory),
             }
         }
-        Top::Waits(waiting) => {
-            waiting.give_up();
+        Top::Waits(call) => {
+            call.give_up();
             Err(Stop::Stuck)
         }
         Top::Empty => Err(Stop::Stuck),
@@ -94,7 +95,7 @@ fn stack_ended(
 ) -> Part<Option<Words>>
     ensures { Leads (stack_ended task words pile.old (held parts.old)) result parts.new pile.new }
 {
-    if pile.unstack()? {
+    if pile.unstack(&parts.store)? {
         parts.tell(Label::Got {
             task,
             words: Words::new(alloc),

@@ -6,6 +6,7 @@ ghost use Rattle.world_stacks.specs.Piles.{new_pile, gone_on, stacked, at_pile, 
 use crate::pile::Pile;
 use std::alloc::Global;
 use wasm_execution::Running;
+use wasm_store::Store;
 use world_parts::{Part, Stop};
 
 /// The stacks of all tasks, by their numbers.
@@ -35,15 +36,15 @@ impl Stacks {
         Ok(())
     }
 
-    /// The acting stack of a task goes on with words, where it waits for so many.
-    pub(crate) fn go_on(&mut self, task: u32, words: &[u64]) -> Part<()>
-        ensures { Turns (at_pile (gone_on words.now) task self.old.piles.items) result self.new.piles.items }
+    /// The acting stack of a task goes on with words, where it waits for such.
+    pub(crate) fn go_on(&mut self, store: &Store, task: u32, words: &[u64]) -> Part<()>
+        ensures { Turns (at_pile (gone_on store.now words.now) task self.old.piles.items) result self.new.piles.items }
     {
         let at = task as usize;
         if at >= self.piles.len() {
             return Err(Stop::Stuck);
         }
-        self.piles[at].go_on(words)?;
+        self.piles[at].go_on(store, words)?;
         Ok(())
     }
 

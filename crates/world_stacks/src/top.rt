@@ -1,13 +1,14 @@
 //! The acting stack of a task.
 
-use wasm_execution::{Running, Suspended};
+use crate::host_call::HostCall;
+use wasm_execution::Running;
 
 /// The acting stack of a task.
 pub enum Top {
     /// There is none.
     Empty,
     /// It waits at a call of a canonical function.
-    Waits(Suspended),
+    Waits(HostCall),
     /// It is to run.
     Goes(Running),
 }
@@ -17,7 +18,7 @@ impl Top {
     pub(crate) fn give_up(self) {
         match self {
             Top::Empty => {}
-            Top::Waits(waiting) => waiting.give_up(),
+            Top::Waits(call) => call.give_up(),
             Top::Goes(running) => running.give_up(),
         }
     }

@@ -1,0 +1,13 @@
+pub mod Stacks
+pub mod Exempt
+pub mod Replying
+pub mod Reads
+pub mod EndReplies
+pub mod Calling
+pub mod Heard
+pub mod Following
+pub mod Instantiating
+pub mod Moves
+pub mod Running
+pub mod First
+pub mod Steps

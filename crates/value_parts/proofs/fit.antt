@@ -1,0 +1,17 @@
+pub mod Keeps
+pub mod Lends
+pub mod Places
+pub mod Feed
+pub mod Slots
+pub mod Entries
+pub mod Gates
+pub mod Channels
+pub mod Plain
+pub mod Handles
+pub mod Calls
+pub mod Subtasks
+pub mod Going
+pub mod Turning
+pub mod Copies
+pub mod Events
+pub mod Waits
