@@ -82,3 +82,7 @@ pub mod Fitted
 pub mod places
 pub mod Idle
 pub mod answers
+pub mod planned
+pub mod words
+pub mod LoansReached
+pub mod RunsEnd

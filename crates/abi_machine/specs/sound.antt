@@ -62,3 +62,10 @@ pub mod Fitting
 pub mod Places
 pub mod Waiting
 pub mod Answers
+pub mod Values
+pub mod Planned
+pub mod TypedPlans
+pub mod Words
+pub mod LoansReached
+pub mod CopyPlaces
+pub mod RunsEnd

@@ -23,6 +23,7 @@ ghost use Rattle.abi_machine.specs.sound.Loans.{FirstHoldsLoans, LoansStay};
 ghost use Rattle.abi_machine.specs.sound.PassedTypes.{FirstHoldsNoBorrow, NoBorrowStays};
 ghost use Rattle.abi_machine.specs.sound.Borrows.{BorrowsAreGivenBack};
 ghost use Rattle.abi_machine.specs.sound.LentHandles.{HandlesStayLent};
+ghost use Rattle.abi_machine.specs.sound.LoansReached.{ReachedHoldLoans, ReachedStayLent, ReachedStayOver};
 ghost use Rattle.abi_machine.specs.sound.Rising.{StatesRise, SubtasksStayUntold};
 ghost use Rattle.abi_machine.specs.sound.Loops.{FirstHasLoops, LoopsStay};
 ghost use Rattle.abi_machine.specs.sound.Owners.{FirstIsOwn, OwnStays};
@@ -58,6 +59,7 @@ ghost use Rattle.abi_machine.specs.sound.Answers.{AnswersAreWords};
 ghost use Rattle.abi_machine.specs.sound.Waiting.{NoneIsAble, WaitsAreThere};
 ghost use Rattle.abi_machine.specs.sound.Places.{PlacesAreGiven, PlacesGoOn};
 ghost use Rattle.abi_machine.specs.sound.Fitting.{FirstFits, CallsStayFit, CopiesStayFit};
+ghost use Rattle.abi_machine.specs.sound.RunsEnd.{UnitsRise, RunsEndSo};
 
 /// Task 0 instantiates, and runs alone until it has exited; it never runs again, and no other task runs a start function. Control says
 /// what is so: where a turn begins no task runs; elsewhere, but where control is back at a task or the run ends in a trap, the acting task
@@ -187,10 +189,11 @@ pub fn own_callers_stay()
 
 /// Each handle that is lent for a call stands in the table of the instance that calls, until the caller is told that the task has resolved;
 /// from then on none is lent for it. So it is in the first world, and so it stays in every step, where definitions stay apart and the types
-/// of results and elements hold no borrow.
+/// of results and elements hold no borrow. So it is in each world that a run reaches then.
 pub fn loans_stay()
     ensures first { FirstHoldsLoans }
     ensures stays { LoansStay }
+    ensures reached { ReachedHoldLoans }
 {}
 
 /// Where the types of results and elements of a graph hold no borrow, neither does that of the result of the function that a task runs, nor
@@ -208,9 +211,11 @@ pub fn borrows_are_given_back()
 
 /// From where a handle is lent for a call up to where the caller is told that the task has resolved, it stays lent, and what stands at its index
 /// in the table of the instance that calls stays there: so it is in every step, where definitions stay apart and the types of results and elements
-/// hold no borrow.
+/// hold no borrow. So it is from each world that a run reaches on through all steps that follow, and once the caller was told that, this stays so.
 pub fn handles_stay_lent()
-    ensures { HandlesStayLent }
+    ensures step { HandlesStayLent }
+    ensures reached { ReachedStayLent }
+    ensures over { ReachedStayOver }
 {}
 
 /// The state of a task that its caller was told last rises from step to step, and stays once it says that the task has resolved. A subtask stays in
@@ -449,4 +454,12 @@ pub fn waits_are_there()
 /// of such a kind is not told. To other code nothing is answered.
 pub fn answers_are_words()
     ensures { AnswersAreWords }
+{}
+
+/// No step gives a unit of fuel back, where task 0 runs alone while it instantiates. A script has a run on a graph, with lines, a last world and an end,
+/// where in each world that steps from the first one reach a step comes next, or the end, and from each finitely many steps lead to one behind which
+/// no step comes that costs nothing.
+pub fn runs_end()
+    ensures units { UnitsRise }
+    ensures ends { RunsEndSo }
 {}

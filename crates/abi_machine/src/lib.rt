@@ -13,11 +13,13 @@
 //! - `run_end`: how a run ends
 //! - `examples`: the machine on small examples, which `specs/examples` has
 //! - `laws`: what every step keeps
+//! - `values`: values, words and places of copies, which every step keeps
 #![tactic(auto)]
 
 pub mod examples;
 mod laws;
 mod run_end;
+mod values;
 
 pub use laws::{
     answers_are_words, borrows_are_given_back, by_canons_stay, called_stay, callees_stay,
@@ -27,8 +29,10 @@ pub use laws::{
     histories_stay, init_runs_alone, instantiation_goes_on, limits_stay, lines_tell_tasks,
     loans_stay, loops_stay, members_stay, no_borrow_is_passed, nothing_is_held, numbers_stay,
     one_holder_stays, one_run, own_callers_stay, picked_is_there, places_are_given,
-    readers_stay_in_one_place, scripts_are_there, set_waits_stay, states_rise, steps_are_changes,
-    subtasks_stay, tasks_go_on, tasks_resolve_first, tasks_stay_ordered, told_states_stay,
-    typed_code_goes_on, waits_are_there, waits_stay, worlds_go_on, writers_stay_in_one_place,
+    readers_stay_in_one_place, runs_end, scripts_are_there, set_waits_stay, states_rise,
+    steps_are_changes, subtasks_stay, tasks_go_on, tasks_resolve_first, tasks_stay_ordered,
+    told_states_stay, typed_code_goes_on, waits_are_there, waits_stay, worlds_go_on,
+    writers_stay_in_one_place,
 };
 pub use run_end::RunEnd;
+pub use values::{copies_stay_inside, lifted_values_are_typed, plans_give_words, words_stay_kept};

@@ -24,28 +24,31 @@ use Rattle.abi_machine.proofs.sound.Lists.{more_either}
 use Rattle.abi_machine.proofs.sound.Found.{some_same}
 use Rattle.abi_machine.proofs.sound.OnePlace.{changed_back}
 
--- What edits of ends leave of the copies there: each was there before, of the same task and canonical function.
+-- What edits of ends leave of the copies there: each was there before, of the same task and canonical function, at the same place and of as many
+-- elements.
 
 abbrev pub Before : Option OpenCopy → OpenCopy → Type 0
-Before old copy = (before : OpenCopy) × (old ≡ Some before) × (copy.by ≡ before.by) × (copy.canon ≡ before.canon)
+Before old copy = (before : OpenCopy) × (old ≡ Some before) × (copy.by ≡ before.by) × (copy.canon ≡ before.canon) × (copy.place ≡ before.place) × (copy.length ≡ before.length)
 
 abbrev pub ComesFrom : Option OpenCopy → Option OpenCopy → Type 0
 ComesFrom old new = (copy : OpenCopy) → new ≡ Some copy → Before old copy
 
 pub same_comes : (o : Option OpenCopy) → ComesFrom o o
-same_comes o copy e = (copy, e, refl, refl)
+same_comes o copy e = (copy, e, refl, refl, refl, refl)
 
 none_comes : (o : Option OpenCopy) → ComesFrom o None
 none_comes o copy e = cc
 
-replaced_comes : (edit : OpenCopy → OpenCopy) → ((x : OpenCopy) → (edit x).by ≡ x.by) → ((x : OpenCopy) → (edit x).canon ≡ x.canon) → (e : End) (o : Option OpenCopy) → standing_of e.copy ≡ o
+replaced_comes : (edit : OpenCopy → OpenCopy) → ((x : OpenCopy) → (edit x).by ≡ x.by) → ((x : OpenCopy) → (edit x).canon ≡ x.canon) → ((x : OpenCopy) → (edit x).place ≡ x.place) → ((x : OpenCopy) → (edit x).length ≡ x.length) → (e : End) (o : Option OpenCopy) → standing_of e.copy ≡ o
     → ComesFrom e.copy (replaced edit o e).copy
-replaced_comes edit by_same canon_same e None h copy k = (copy, k, refl, refl)
-replaced_comes edit by_same canon_same e (Some x) h copy k = (
+replaced_comes edit by_same canon_same place_same length_same e None h copy k = (copy, k, refl, refl, refl, refl)
+replaced_comes edit by_same canon_same place_same length_same e (Some x) h copy k = (
   x,
   standing_is e.copy x h,
   subst (λ (c : OpenCopy). c.by ≡ x.by) (some_same k) (by_same x),
   subst (λ (c : OpenCopy). c.canon ≡ x.canon) (some_same k) (canon_same x),
+  subst (λ (c : OpenCopy). c.place ≡ x.place) (some_same k) (place_same x),
+  subst (λ (c : OpenCopy). c.length ≡ x.length) (some_same k) (length_same x),
 )
 
 abbrev pub AllCome : EndsView → EndsView → Type 0
@@ -62,7 +65,7 @@ conclude_come Future Writer ends Reader = same_comes _
 conclude_come Future Writer ends Writer = none_comes _
 
 hears_come : (e : End) → ComesFrom e.copy (hears_of_drop e).copy
-hears_come e = replaced_comes (λ copy. record copy { event = Some OtherDropped }) (λ x. refl) (λ x. refl) e (standing_of e.copy) refl
+hears_come e = replaced_comes (λ copy. record copy { event = Some OtherDropped }) (λ x. refl) (λ x. refl) (λ x. refl) (λ x. refl) e (standing_of e.copy) refl
 
 pub drop_come : (side : Side) (view : EndsView) → AllCome view (after_dropping side view)
 drop_come Reader view Reader = same_comes _
@@ -71,7 +74,7 @@ drop_come Writer view Reader = hears_come view.reader
 drop_come Writer view Writer = same_comes _
 
 grown_come : (count : ℕ) (e : End) → ComesFrom e.copy (grown count e).copy
-grown_come count e = replaced_comes _ (λ x. refl) (λ x. refl) e (standing_of e.copy) refl
+grown_come count e = replaced_comes _ (λ x. refl) (λ x. refl) (λ x. refl) (λ x. refl) e (standing_of e.copy) refl
 
 changed_come : (side : Side) (count : ℕ) (view : EndsView) → AllCome view (changed side (grown count) view)
 changed_come Reader count view Reader = grown_come count view.reader
@@ -80,7 +83,7 @@ changed_come Writer count view Reader = same_comes _
 changed_come Writer count view Writer = grown_come count view.writer
 
 taken_come : (e : End) → ComesFrom e.copy (future.taken e).copy
-taken_come e = replaced_comes _ (λ x. refl) (λ x. refl) e (standing_of e.copy) refl
+taken_come e = replaced_comes _ (λ x. refl) (λ x. refl) (λ x. refl) (λ x. refl) e (standing_of e.copy) refl
 
 copied_come : (side : Side) (view : EndsView) → AllCome view (future.copied_from side view)
 copied_come Reader view Reader = taken_come view.reader
@@ -98,7 +101,7 @@ abbrev OwnOr : OpenCopy → Option OpenCopy → Option OpenCopy → Type 0
 OwnOr call old new = (copy : OpenCopy) → new ≡ Some copy → (copy ≡ call) ⊎ Before old copy
 
 same_or : (call : OpenCopy) (o : Option OpenCopy) → OwnOr call o o
-same_or call o copy e = inr (copy, e, refl, refl)
+same_or call o copy e = inr (copy, e, refl, refl, refl, refl)
 
 call_or : (call : OpenCopy) (o : Option OpenCopy) → OwnOr call o (Some call)
 call_or call o copy e = inl (sym (some_same e))
@@ -107,7 +110,7 @@ abbrev MeetsFrom : OpenCopy → End → End → Meeting → Type 0
 MeetsFrom call own other m = OwnOr call own.copy m.own.copy × ComesFrom other.copy m.other.copy
 
 leaves_come : (e : End) → ComesFrom e.copy (leaves e).copy
-leaves_come e = replaced_comes _ (λ x. refl) (λ x. refl) e (standing_of e.copy) refl
+leaves_come e = replaced_comes _ (λ x. refl) (λ x. refl) (λ x. refl) (λ x. refl) e (standing_of e.copy) refl
 
 offer_from : (side : Side) (call : OpenCopy) (own other : End) (o : Option OpenCopy) → MeetsFrom call own other (met_offer side call own other o)
 offer_from side call own other None = (call_or call own.copy, same_comes other.copy)

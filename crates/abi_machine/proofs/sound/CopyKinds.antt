@@ -73,10 +73,10 @@ passed : {A : Type 0} (test : A → Bool) (o : Option A) → passes test o ≡ t
 passed test None e = cc
 passed test (Some y) e = (y, refl, e)
 
-abbrev IsTypedEnd : World → EndKind → Side → Option ValType → EndRef → Type 0
+abbrev pub IsTypedEnd : World → EndKind → Side → Option ValType → EndRef → Type 0
 IsTypedEnd w kind side element x = (x.side ≡ side) × (x.kind ≡ kind) × ((c : Channel) × (channel_at w x.kind x.number ≡ Some c) × (same_held c.element element ≡ true))
 
-end_typed : (w : World) (i : ℕ) (kind : EndKind) (side : Side) (element : Option ValType) (index : ℕ) (x : EndRef) → end_at w kind side element i index ≡ Ok x → IsTypedEnd w kind side element x
+pub end_typed : (w : World) (i : ℕ) (kind : EndKind) (side : Side) (element : Option ValType) (index : ℕ) (x : EndRef) → end_at w kind side element i index ≡ Ok x → IsTypedEnd w kind side element x
 end_typed w i kind side element index x h = by (entry_at w i index) h
   where
     by : (o : Option Entry) → end_in w kind side element o ≡ Ok x → IsTypedEnd w kind side element x

@@ -1,0 +1,9 @@
+pub mod Stored
+pub mod Words
+pub mod Numbers
+pub mod Lifting
+pub mod Reps
+pub mod Lifted
+pub mod Passing
+pub mod Fitting
+pub mod Given

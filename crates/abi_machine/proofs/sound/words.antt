@@ -1,0 +1,11 @@
+pub mod Values
+pub mod Lifts
+pub mod Lifted
+pub mod Plans
+pub mod Keeping
+pub mod Passing
+pub mod Moving
+pub mod Waking
+pub mod Answering
+pub mod Kept
+pub mod Inside
