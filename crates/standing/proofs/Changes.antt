@@ -1,6 +1,7 @@
 -- What is changed of what is kept is changed of the world for which it stands.
 use Rattle.std.proofs.Common.{◌≡◌, ◌≤◌, ℕ, zero, suc, ◌-◌, ◌+◌, Bool, true, false, if◌then◌else◌, List, [], ◌∷◌, ◌++◌, length, take, drop, refl, sym, ap, ◌∙◌, subst, arith}
 use Rattle.std.specs.List.{slice_get, AllZip}
+use Rattle.ca_types.specs.declared.types.ValType.{ValType}
 use Rattle.wasm_store.specs.Stack.{Stack}
 use Rattle.choices.specs.Choosing as picks
 use Rattle.choices.specs.Drawing.{Drawn, StandsFor, uses_one, drawn}
@@ -41,7 +42,7 @@ first_task g s instance = (
 )
 
 pub first_stands : FirstStands
-first_stands g s instance = record {
+first_stands g values s instance = record {
   same_store = refl;
   are_instances = tt;
   are_tasks = first_task g s instance;
@@ -56,9 +57,9 @@ first_stands g s instance = record {
 
 -- Component instances.
 pub instances_change : InstancesChange
-instances_change g s h stacks w at x y f is keeps st = record {
+instances_change g values s h stacks w at x y f is keeps st = record {
   same_store = st.same_store;
-  are_instances = both_changed (InstStands g) h.instances w.insts at x y f is keeps st.are_instances;
+  are_instances = both_changed (InstStands values) h.instances w.insts at x y f is keeps st.are_instances;
   are_tasks = st.are_tasks;
   are_streams = st.are_streams;
   are_futures = st.are_futures;
@@ -70,9 +71,9 @@ instances_change g s h stacks w at x y f is keeps st = record {
 }
 
 pub instances_stay : InstancesStay
-instances_stay g s h stacks w at x y is keeps st = record {
+instances_stay g values s h stacks w at x y is keeps st = record {
   same_store = st.same_store;
-  are_instances = left_changed (InstStands g) h.instances w.insts at x y is keeps st.are_instances;
+  are_instances = left_changed (InstStands values) h.instances w.insts at x y is keeps st.are_instances;
   are_tasks = st.are_tasks;
   are_streams = st.are_streams;
   are_futures = st.are_futures;
@@ -84,9 +85,9 @@ instances_stay g s h stacks w at x y is keeps st = record {
 }
 
 pub refusals_change_nothing : RefusalsChangeNothing
-refusals_change_nothing g s h stacks w at x is st = record {
+refusals_change_nothing g values s h stacks w at x is st = record {
   same_store = st.same_store;
-  are_instances = subst (λ (xs : List InstanceView). AllZip (InstStands g) xs w.insts) (sym (set_same h.instances at x is)) st.are_instances;
+  are_instances = subst (λ (xs : List InstanceView). AllZip (InstStands values) xs w.insts) (sym (set_same h.instances at x is)) st.are_instances;
   are_tasks = st.are_tasks;
   are_streams = st.are_streams;
   are_futures = st.are_futures;
@@ -98,9 +99,9 @@ refusals_change_nothing g s h stacks w at x is st = record {
 }
 
 pub instances_begin : InstancesBegin
-instances_begin g s h stacks w st = record {
+instances_begin g values s h stacks w st = record {
   same_store = st.same_store;
-  are_instances = both_more (InstStands g) h.instances w.insts new_instance new_inst st.are_instances (new_stands g);
+  are_instances = both_more (InstStands values) h.instances w.insts new_instance new_inst st.are_instances (new_stands values);
   are_tasks = st.are_tasks;
   are_streams = st.are_streams;
   are_futures = st.are_futures;
@@ -113,7 +114,7 @@ instances_begin g s h stacks w st = record {
 
 -- Tasks.
 pub tasks_change : TasksChange
-tasks_change g s h stacks w t x y f is keeps same st = record {
+tasks_change g values s h stacks w t x y f is keeps same st = record {
   same_store = st.same_store;
   are_instances = st.are_instances;
   are_tasks = both_changed (TaskStands g s) h.tasks w.tasks t x y f is keeps st.are_tasks;
@@ -127,7 +128,7 @@ tasks_change g s h stacks w t x y f is keeps same st = record {
 }
 
 pub tasks_are_made : TasksAreMade
-tasks_are_made g s h stacks w slot new stands st = record {
+tasks_are_made g values s h stacks w slot new stands st = record {
   same_store = st.same_store;
   are_instances = st.are_instances;
   are_tasks = both_more (TaskStands g s) h.tasks w.tasks slot new st.are_tasks stands;
@@ -168,7 +169,7 @@ all_restacked g s (k ∷ ks) (a ∷ tasks) zero f h = (restacked g s k a (f a.st
 all_restacked g s (k ∷ ks) (a ∷ tasks) (suc t) f h = (h.0, all_restacked g s ks tasks t f h.1)
 
 pub stacks_are_answered : StacksAreAnswered
-stacks_are_answered g s h stacks w t words st = record {
+stacks_are_answered g values s h stacks w t words st = record {
   same_store = st.same_store;
   are_instances = st.are_instances;
   are_tasks = all_restacked g s h.tasks w.tasks t (answered_stacks words) st.are_tasks;
@@ -184,9 +185,9 @@ stacks_are_answered g s h stacks w t words st = record {
 }
 
 -- The chain.
-chain_is : (g : Graph) (s : Script) (h : Held) (stacks : List (List Stack)) (w : World) (kept chain : List ℕ) → kept ≡ backwards chain → Stands g s h stacks w
-    → Stands g s (record h { chain = kept }) stacks (record w { chain = chain })
-chain_is g s h stacks w kept chain same st = record {
+chain_is : (g : Graph) (values : List ValType) (s : Script) (h : Held) (stacks : List (List Stack)) (w : World) (kept chain : List ℕ) → kept ≡ backwards chain → Stands g values s h stacks w
+    → Stands g values s (record h { chain = kept }) stacks (record w { chain = chain })
+chain_is g values s h stacks w kept chain same st = record {
   same_store = st.same_store;
   are_instances = st.are_instances;
   are_tasks = st.are_tasks;
@@ -200,23 +201,23 @@ chain_is g s h stacks w kept chain same st = record {
 }
 
 pub tasks_come_to_the_chain : TasksComeToTheChain
-tasks_come_to_the_chain g s h stacks w t st =
-    chain_is g s h stacks w (h.chain ++ t ∷ []) (t ∷ w.chain) (ap (λ (chain : List ℕ). chain ++ t ∷ []) st.same_chain) st
+tasks_come_to_the_chain g values s h stacks w t st =
+    chain_is g values s h stacks w (h.chain ++ t ∷ []) (t ∷ w.chain) (ap (λ (chain : List ℕ). chain ++ t ∷ []) st.same_chain) st
 
 pub tasks_leave_the_chain : TasksLeaveTheChain
-tasks_leave_the_chain g s h stacks w st =
-    chain_is g s h stacks w (take (length h.chain - 1) h.chain) (drop 1 w.chain)
+tasks_leave_the_chain g values s h stacks w st =
+    chain_is g values s h stacks w (take (length h.chain - 1) h.chain) (drop 1 w.chain)
     (ap (λ (chain : List ℕ). take (length chain - 1) chain) st.same_chain ∙ without_last w.chain) st
 
 pub acting_is_alike : ActingIsAlike
-acting_is_alike g s h stacks w st = ap (λ (chain : List ℕ). slice_get chain (length chain - 1)) st.same_chain ∙ last_acts w.chain
+acting_is_alike g values s h stacks w st = ap (λ (chain : List ℕ). slice_get chain (length chain - 1)) st.same_chain ∙ last_acts w.chain
 
 -- What a script gives.
 pub fuel_is_alike : FuelIsAlike
-fuel_is_alike g s h stacks w st = left_alike h.left w.units s.fuel st.fuel
+fuel_is_alike g values s h stacks w st = left_alike h.left w.units s.fuel st.fuel
 
 pub units_are_spent : UnitsAreSpent
-units_are_spent g s h stacks w more st = record {
+units_are_spent g values s h stacks w more st = record {
   same_store = st.same_store;
   are_instances = st.are_instances;
   are_tasks = st.are_tasks;
@@ -230,7 +231,7 @@ units_are_spent g s h stacks w more st = record {
 }
 
 pub items_are_taken : ItemsAreTaken
-items_are_taken g s h stacks w st = record {
+items_are_taken g values s h stacks w st = record {
   same_store = st.same_store;
   are_instances = st.are_instances;
   are_tasks = st.are_tasks;
@@ -244,7 +245,7 @@ items_are_taken g s h stacks w st = record {
 }
 
 pub picks_are_alike : PicksAreAlike
-picks_are_alike g s h stacks w count st = picked_alike count (picks_of s w) h.picks st.drawn
+picks_are_alike g values s h stacks w count st = picked_alike count (picks_of s w) h.picks st.drawn
 
 given_same : (b : Bool) (d : Drawn) → (if b then record { given = d.given; used = d.used + 1 } else d).given ≡ d.given
 given_same true d = refl
@@ -255,7 +256,7 @@ used_by d e later same st =
     record { used = subst (λ (xs : List ℕ). e.used ≤ length xs) same st.used; left = st.left ∙ ap (λ (xs : List ℕ). drop e.used xs) same }
 
 pub picks_are_used : PicksAreUsed
-picks_are_used g s h stacks w count st = record {
+picks_are_used g values s h stacks w count st = record {
   same_store = st.same_store;
   are_instances = st.are_instances;
   are_tasks = st.are_tasks;
@@ -270,7 +271,7 @@ picks_are_used g s h stacks w count st = record {
 }
 
 pub stores_change : StoresChange
-stores_change g s h stacks w store st = record {
+stores_change g values s h stacks w store st = record {
   same_store = refl;
   are_instances = st.are_instances;
   are_tasks = st.are_tasks;

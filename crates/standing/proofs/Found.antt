@@ -1,6 +1,7 @@
 -- What is found at an index, and the words of a call, on both sides.
 use Rattle.std.proofs.Common.{◌≡◌, ℕ, zero, suc, Bool, true, false, nat_eq, nat_lt, ◌^◌, if◌then◌else◌, List, [], ◌∷◌, slice_index, refl, ap, ◌∙◌, Option, Some, None, Ok, Err}
 use Rattle.std.specs.Option.{option_map}
+use Rattle.ca_types.specs.declared.types.ValType.{ValType}
 use Rattle.handle_table.specs.Alike.{SlotAlike}
 use Rattle.stream_ends.specs.declared.side.Side.{Side}
 use Rattle.stream_ends.specs.declared.side.Side.TheVariants.{Reader, Writer}
@@ -10,7 +11,6 @@ use Rattle.res_handles.specs.declared.handle.Ownership.TheVariants.{Own, Borrow}
 use Rattle.res_handles.specs.declared.refusal.Refusal.{Refusal}
 use Rattle.res_handles.specs.declared.refusal.Refusal.TheVariants as refusal
 use Rattle.res_handles.specs.Refusals.{handle_in, rep_of}
-use Rattle.comp_graph.specs.Graph.{Graph}
 use Rattle.instances.specs.declared.entry.EndEntry.{EndEntry}
 use Rattle.instances.specs.declared.entry.WorldEntry.{WorldEntry}
 use Rattle.instances.specs.declared.entry.WorldEntry.TheVariants as entry
@@ -46,32 +46,32 @@ no_waitable : (resource rep : ℕ) (o : Ownership) → found.waitable_in (Some (
 no_waitable resource rep Own = refl
 no_waitable resource rep (Borrow task) = refl
 
-pub subtask_alike : (g : Graph) (o : Option WorldEntry) (p : Option Entry) → SlotAlike (EntryStands g) o p → found.subtask_in p ≡ renamed refusal_name (kept.subtask_in o)
-subtask_alike g None None h = refl
-subtask_alike g None (Some a) h = absurd h
-subtask_alike g (Some e) None h = absurd h
-subtask_alike g (Some (entry.Handle x)) (Some a) h = ap (λ (b : Entry). found.subtask_in (Some b)) h ∙ no_subtask x.resource x.rep x.ownership
-subtask_alike g (Some (entry.Subtask callee)) (Some a) h = ap (λ (b : Entry). found.subtask_in (Some b)) h
-subtask_alike g (Some (entry.Set set)) (Some a) h = ap (λ (b : Entry). found.subtask_in (Some b)) h
-subtask_alike g (Some (entry.End e)) (Some a) h = ap (λ (b : Entry). found.subtask_in (Some b)) h.2
+pub subtask_alike : (values : List ValType) (o : Option WorldEntry) (p : Option Entry) → SlotAlike (EntryStands values) o p → found.subtask_in p ≡ renamed refusal_name (kept.subtask_in o)
+subtask_alike values None None h = refl
+subtask_alike values None (Some a) h = absurd h
+subtask_alike values (Some e) None h = absurd h
+subtask_alike values (Some (entry.Handle x)) (Some a) h = ap (λ (b : Entry). found.subtask_in (Some b)) h ∙ no_subtask x.resource x.rep x.ownership
+subtask_alike values (Some (entry.Subtask callee)) (Some a) h = ap (λ (b : Entry). found.subtask_in (Some b)) h
+subtask_alike values (Some (entry.Set set)) (Some a) h = ap (λ (b : Entry). found.subtask_in (Some b)) h
+subtask_alike values (Some (entry.End e)) (Some a) h = ap (λ (b : Entry). found.subtask_in (Some b)) h.2
 
-pub set_alike : (g : Graph) (o : Option WorldEntry) (p : Option Entry) → SlotAlike (EntryStands g) o p → found.set_in p ≡ renamed refusal_name (kept.set_in o)
-set_alike g None None h = refl
-set_alike g None (Some a) h = absurd h
-set_alike g (Some e) None h = absurd h
-set_alike g (Some (entry.Handle x)) (Some a) h = ap (λ (b : Entry). found.set_in (Some b)) h ∙ no_set x.resource x.rep x.ownership
-set_alike g (Some (entry.Subtask callee)) (Some a) h = ap (λ (b : Entry). found.set_in (Some b)) h
-set_alike g (Some (entry.Set set)) (Some a) h = ap (λ (b : Entry). found.set_in (Some b)) h
-set_alike g (Some (entry.End e)) (Some a) h = ap (λ (b : Entry). found.set_in (Some b)) h.2
+pub set_alike : (values : List ValType) (o : Option WorldEntry) (p : Option Entry) → SlotAlike (EntryStands values) o p → found.set_in p ≡ renamed refusal_name (kept.set_in o)
+set_alike values None None h = refl
+set_alike values None (Some a) h = absurd h
+set_alike values (Some e) None h = absurd h
+set_alike values (Some (entry.Handle x)) (Some a) h = ap (λ (b : Entry). found.set_in (Some b)) h ∙ no_set x.resource x.rep x.ownership
+set_alike values (Some (entry.Subtask callee)) (Some a) h = ap (λ (b : Entry). found.set_in (Some b)) h
+set_alike values (Some (entry.Set set)) (Some a) h = ap (λ (b : Entry). found.set_in (Some b)) h
+set_alike values (Some (entry.End e)) (Some a) h = ap (λ (b : Entry). found.set_in (Some b)) h.2
 
-pub waitable_alike : (g : Graph) (o : Option WorldEntry) (p : Option Entry) → SlotAlike (EntryStands g) o p → found.waitable_in p ≡ renamed refusal_name (kept.waitable_in o)
-waitable_alike g None None h = refl
-waitable_alike g None (Some a) h = absurd h
-waitable_alike g (Some e) None h = absurd h
-waitable_alike g (Some (entry.Handle x)) (Some a) h = ap (λ (b : Entry). found.waitable_in (Some b)) h ∙ no_waitable x.resource x.rep x.ownership
-waitable_alike g (Some (entry.Subtask callee)) (Some a) h = ap (λ (b : Entry). found.waitable_in (Some b)) h
-waitable_alike g (Some (entry.Set set)) (Some a) h = ap (λ (b : Entry). found.waitable_in (Some b)) h
-waitable_alike g (Some (entry.End e)) (Some a) h = ap (λ (b : Entry). found.waitable_in (Some b)) h.2
+pub waitable_alike : (values : List ValType) (o : Option WorldEntry) (p : Option Entry) → SlotAlike (EntryStands values) o p → found.waitable_in p ≡ renamed refusal_name (kept.waitable_in o)
+waitable_alike values None None h = refl
+waitable_alike values None (Some a) h = absurd h
+waitable_alike values (Some e) None h = absurd h
+waitable_alike values (Some (entry.Handle x)) (Some a) h = ap (λ (b : Entry). found.waitable_in (Some b)) h ∙ no_waitable x.resource x.rep x.ownership
+waitable_alike values (Some (entry.Subtask callee)) (Some a) h = ap (λ (b : Entry). found.waitable_in (Some b)) h
+waitable_alike values (Some (entry.Set set)) (Some a) h = ap (λ (b : Entry). found.waitable_in (Some b)) h
+waitable_alike values (Some (entry.End e)) (Some a) h = ap (λ (b : Entry). found.waitable_in (Some b)) h.2
 
 -- what a handle stands for, however often it is lent
 same_rep : (b : Bool) (x y : Handle) → x.rep ≡ y.rep
@@ -91,16 +91,16 @@ end_rep w resource Reader Writer kind e = refl
 end_rep w resource Writer Reader kind e = refl
 end_rep w resource Writer Writer kind e = refl
 
-pub rep_alike : (g : Graph) (w : World) (i index resource : ℕ) (o : Option WorldEntry) (p : Option Entry) → SlotAlike (EntryStands g) o p
+pub rep_alike : (values : List ValType) (w : World) (i index resource : ℕ) (o : Option WorldEntry) (p : Option Entry) → SlotAlike (EntryStands values) o p
     → rep_of (handle_in (option_map (entry_view w i index) p) resource) ≡ rep_of (handle_in (option_map seen_as o) resource)
-rep_alike g w i index resource None None h = refl
-rep_alike g w i index resource None (Some a) h = absurd h
-rep_alike g w i index resource (Some e) None h = absurd h
-rep_alike g w i index resource (Some (entry.Handle x)) (Some a) h =
+rep_alike values w i index resource None None h = refl
+rep_alike values w i index resource None (Some a) h = absurd h
+rep_alike values w i index resource (Some e) None h = absurd h
+rep_alike values w i index resource (Some (entry.Handle x)) (Some a) h =
     ap (λ (b : Entry). rep_of (handle_in (Some (entry_view w i index b)) resource)) h ∙ owned_rep w i index resource x x.ownership refl
-rep_alike g w i index resource (Some (entry.Subtask callee)) (Some a) h = ap (λ (b : Entry). rep_of (handle_in (Some (entry_view w i index b)) resource)) h
-rep_alike g w i index resource (Some (entry.Set set)) (Some a) h = ap (λ (b : Entry). rep_of (handle_in (Some (entry_view w i index b)) resource)) h
-rep_alike g w i index resource (Some (entry.End e)) (Some a) h =
+rep_alike values w i index resource (Some (entry.Subtask callee)) (Some a) h = ap (λ (b : Entry). rep_of (handle_in (Some (entry_view w i index b)) resource)) h
+rep_alike values w i index resource (Some (entry.Set set)) (Some a) h = ap (λ (b : Entry). rep_of (handle_in (Some (entry_view w i index b)) resource)) h
+rep_alike values w i index resource (Some (entry.End e)) (Some a) h =
     ap (λ (b : Entry). rep_of (handle_in (Some (entry_view w i index b)) resource)) h.2 ∙ end_rep w resource e.side e.side _ e
 
 -- A word of a call that is a 32-bit one.

@@ -2,6 +2,7 @@
 use Rattle.std.proofs.Common.{◌≡◌, ℕ, ◌-◌, Bool, true, false, ◌||◌, is_some, nat_lt, if◌then◌else◌, List, [], ◌∷◌, ◌++◌, length, take, drop, refl, sym, ap, ◌∙◌, subst, Option, Some, None}
 use Rattle.std.specs.List.{slice_get}
 use Rattle.std.proofs.lemmas.Bool.{and_from}
+use Rattle.ca_types.specs.declared.types.ValType.{ValType}
 use Rattle.wasm_store.specs.Stack.{Stack}
 use Rattle.entry_gate.specs.Gates.{GateView, is_holder, given_up}
 use Rattle.tasks.specs.declared.event.TaskEvent.TheVariants as event
@@ -49,17 +50,17 @@ use Rattle.standing.proofs.Going.{acting_there}
 use Rattle.standing.proofs.Blocking.{happens_when, some_acts, control_left}
 
 -- A line, and then the acting task leaves the chain.
-pub on_leave : (g : Graph) (s : Script) (t : ℕ) (before : List Label) (stacks : List (List Stack)) (h : Held) (w : World) (label : Label) (first : ℕ)
-    → slice_get w.chain 0 ≡ Some first → h.labels ≡ before → Stands g s h stacks w
-    → Agrees g s t before stacks (after (told label h) (λ done k. left_chain k)) (Steps (label ∷ []) (world.left_chain w))
-on_leave g s t before stacks h w label first acts same st =
+pub on_leave : (g : Graph) (values : List ValType) (s : Script) (t : ℕ) (before : List Label) (stacks : List (List Stack)) (h : Held) (w : World) (label : Label) (first : ℕ)
+    → slice_get w.chain 0 ≡ Some first → h.labels ≡ before → Stands g values s h stacks w
+    → Agrees g values s t before stacks (after (told label h) (λ done k. left_chain k)) (Steps (label ∷ []) (world.left_chain w))
+on_leave g values s t before stacks h w label first acts same st =
     let some : nat_lt 0 (length h.chain) ≡ true = ap (λ (chain : List ℕ). nat_lt 0 (length chain)) st.same_chain ∙ some_acts w.chain first acts in
     let gone : Held = at_rest (rest_behind (take (length h.chain - 1) h.chain)) (unchained (record h { labels = h.labels ++ label ∷ [] })) in
-    subst (λ (b : Bool). Agrees g s t before stacks (if b then Gives flow.Rests gone else kept.Stuck) (Steps (label ∷ []) (world.left_chain w))) (sym some)
+    subst (λ (b : Bool). Agrees g values s t before stacks (if b then Gives flow.Rests gone else kept.Stuck) (Steps (label ∷ []) (world.left_chain w))) (sym some)
     (record {
       lines = label ∷ [];
       world = world.unchained w;
-      stands = tasks_leave_the_chain g s h stacks w st;
+      stands = tasks_leave_the_chain g values s h stacks w st;
       told = ap (λ (ls : List Label). ls ++ label ∷ []) same;
       ends = ap (λ (c : Control). Steps (label ∷ []) (with_control c (world.unchained w)))
           (sym (ap (λ (chain : List ℕ). control_of (acting_words gone) (rest_behind chain))
@@ -87,13 +88,13 @@ exit_stands g s x a none st = record {
 
 pub task_exits : TaskExits
 unfolding leaves leaving_turn
-task_exits g s h stacks w t task f first there acts resolved runs inst st =
+task_exits g values s h stacks w t task f first there acts resolved runs inst st =
     let one : IsFound (TaskStands g s) (slice_get h.tasks t) (slice_get w.tasks t) = found_both (TaskStands g s) h.tasks w.tasks t st.are_tasks (ap is_some there) in
     let x : TaskSlot = one.left in
     let same : one.right ≡ task = some_same (sym one.is_right ∙ there) in
     let stands : TaskStands g s x task = subst (λ (a : Task). TaskStands g s x a) same one.alike in
     let at : x.instance ≡ f.instance = subst (λ (o : Option Lifted). RunsIn x.instance o) runs stands.place in
-    let here : IsFound (InstStands g) (slice_get h.instances f.instance) (slice_get w.insts f.instance) = found_both (InstStands g) h.instances w.insts f.instance st.are_instances inst in
+    let here : IsFound (InstStands values) (slice_get h.instances f.instance) (slice_get w.insts f.instance) = found_both (InstStands values) h.instances w.insts f.instance st.are_instances inst in
     let i : InstanceView = here.left in
     let i_is : slice_get h.instances x.instance ≡ Some i = ap (λ (n : ℕ). slice_get h.instances n) at ∙ here.is_left in
     let none : x.errand ≡ errand.None = stands.at ∙ ap errand_of acts in
@@ -102,30 +103,30 @@ task_exits g s h stacks w t task f first there acts resolved runs inst st =
     (ap (λ (b : Bool). b || is_nobody x.task.caller) (ap (λ (r : Option Resolution). is_some r) stands.resolved ∙ resolved)) in
     let exited : Held = with_task t (slots.with_task (record x.task { phase = phase.Exited }) x) h in
     let out : Held = with_instance x.instance (with_gate (given_up t i.gate) i) exited in
-    let once : Stands g s exited stacks (in_state t Exited w) =
-    tasks_change g s h stacks w t x (slots.with_task (record x.task { phase = phase.Exited }) x) (λ a. record a { state = Exited }) one.is_left
+    let once : Stands g values s exited stacks (in_state t Exited w) =
+    tasks_change g values s h stacks w t x (slots.with_task (record x.task { phase = phase.Exited }) x) (λ a. record a { state = Exited }) one.is_left
     (λ a a_is now. exit_stands g s x a none now) (λ a. refl) st in
-    let twice : Stands g s out stacks (in_state t Exited w) =
-    instances_stay g s exited stacks (in_state t Exited w) x.instance i (with_gate (given_up t i.gate) i) i_is
-    (λ a now. entry_is_not_said g i a (given_up t i.gate) (up_pressure (is_holder t i.gate.holder) i.gate) now) once in
-    turn_as g s t h.labels stacks (leaves h) (leaving_turn w) (Steps (line.Exit t ∷ []) (world.left_chain (in_state t Exited w)))
+    let twice : Stands g values s out stacks (in_state t Exited w) =
+    instances_stay g values s exited stacks (in_state t Exited w) x.instance i (with_gate (given_up t i.gate) i) i_is
+    (λ a now. entry_is_not_said values i a (given_up t i.gate) (up_pressure (is_holder t i.gate.holder) i.gate) now) once in
+    turn_as g values s t h.labels stacks (leaves h) (leaving_turn w) (Steps (line.Exit t ∷ []) (world.left_chain (in_state t Exited w)))
     (ap (λ (o : Option (ℕ × Task)). turns.given o (λ a. Steps (line.Exit a.0 ∷ []) (world.left_chain (in_state a.0 Exited w)))) (acting_there w t task first there))
-    (subst (λ (o : Option ℕ). Agrees g s t h.labels stacks
+    (subst (λ (o : Option ℕ). Agrees g values s t h.labels stacks
     (after (given o (λ n. Gives n h)) (λ n k. after (instance_of n k) (λ at l. after (happens n event.Exit l) (λ done m. after (gate_given_up at n m) (λ done n2.
     after (closed n n2) (λ done o2. after (told (line.Exit n) o2) (λ done p. left_chain p)))))))
     (Steps (line.Exit t ∷ []) (world.left_chain (in_state t Exited w))))
-    (sym (acting_is_alike g s h stacks w st ∙ first))
-    (subst (λ (o : Option TaskSlot). Agrees g s t h.labels stacks
+    (sym (acting_is_alike g values s h stacks w st ∙ first))
+    (subst (λ (o : Option TaskSlot). Agrees g values s t h.labels stacks
     (after (given o (λ slot. Gives slot.instance h)) (λ at l. after (happens t event.Exit l) (λ done m. after (gate_given_up at t m) (λ done n2.
     after (closed t n2) (λ done o2. after (told (line.Exit t) o2) (λ done p. left_chain p))))))
     (Steps (line.Exit t ∷ []) (world.left_chain (in_state t Exited w))))
     (sym one.is_left)
-    (subst (λ (d : Done (Unit {0})). Agrees g s t h.labels stacks
+    (subst (λ (d : Done (Unit {0})). Agrees g values s t h.labels stacks
     (after d (λ done m. after (gate_given_up x.instance t m) (λ done n2. after (closed t n2) (λ done o2. after (told (line.Exit t) o2) (λ done p. left_chain p)))))
     (Steps (line.Exit t ∷ []) (world.left_chain (in_state t Exited w))))
     (sym (happens_when event.Exit x t h one.is_left may refl))
-    (subst (λ (o : Option InstanceView). Agrees g s t h.labels stacks
+    (subst (λ (o : Option InstanceView). Agrees g values s t h.labels stacks
     (after (given o (λ v. Gives tt (with_instance x.instance (with_gate (given_up t v.gate) v) exited))) (λ (done : Unit {0}) n2. after (closed t n2) (λ done o2. after (told (line.Exit t) o2) (λ done p. left_chain p))))
     (Steps (line.Exit t ∷ []) (world.left_chain (in_state t Exited w))))
     (sym i_is)
-    (on_leave g s t h.labels stacks (record out { live = without t out.live; watched = without t out.watched }) (in_state t Exited w) (line.Exit t) t first (refl {a = h.labels}) twice)))))
+    (on_leave g values s t h.labels stacks (record out { live = without t out.live; watched = without t out.watched }) (in_state t Exited w) (line.Exit t) t first (refl {a = h.labels}) twice)))))

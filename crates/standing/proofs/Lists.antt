@@ -37,6 +37,16 @@ pub found_both : {A B : Type 0} (R : A → B → Type 0) (xs : List A) (ys : Lis
     → IsFound R (slice_get xs n) (slice_get ys n)
 found_both R xs ys n h there = by_right R (slice_get xs n) (slice_get ys n) (at_both R xs ys n h) there
 
+by_left : {A B : Type 0} (R : A → B → Type 0) (o : Option A) (p : Option B) (x : A) → BothAt R o p → o ≡ Some x → IsFound R o p
+by_left R None None x b h = absurd (cc)
+by_left R None (Some y) x b h = absurd b
+by_left R (Some z) None x b h = absurd b
+by_left R (Some z) (Some y) x b h = record { left = z; right = y; is_left = refl; is_right = refl; alike = b }
+
+pub found_left : {A B : Type 0} (R : A → B → Type 0) (xs : List A) (ys : List B) (n : ℕ) (x : A) → AllZip R xs ys → slice_get xs n ≡ Some x
+    → IsFound R (slice_get xs n) (slice_get ys n)
+found_left R xs ys n x h there = by_left R (slice_get xs n) (slice_get ys n) x (at_both R xs ys n h) there
+
 -- An item of both is changed.
 pub both_changed : {A B : Type 0} (R : A → B → Type 0) (xs : List A) (ys : List B) (n : ℕ) (x z : A) (f : B → B)
     → slice_get xs n ≡ Some x → ((y : B) → slice_get ys n ≡ Some y → R x y → R z (f y)) → AllZip R xs ys → AllZip R (slice_set xs n z) (changed_at n f ys)

@@ -2,13 +2,13 @@
 use Rattle.std.proofs.Common.{◌≡◌, ℕ, zero, suc, nat_lt, List, [], ◌∷◌, ◌++◌, map, length, slice_set, slice_index_or, refl, sym, ap, ◌∙◌, subst, Option, Some, None, set}
 use Rattle.std.proofs.lemmas.Bool.{ltb-true}
 use Rattle.std.proofs.lemmas.List.{map-set, set-get_or}
+use Rattle.ca_types.specs.declared.types.ValType.{ValType}
 use Rattle.handle_table.specs.History.{Event, slots_of, next_in, next_index, most_live}
 use Rattle.handle_table.specs.Slots.{Slots, with_slot, count, next_of, entry_at, slots_after}
 use Rattle.handle_table.specs.Alike.{SlotAlike, SlotsAlike, StandsBy}
 use Rattle.handle_table.proofs.Alike.{slot_shown, count_shown, added_stands, removed_stands}
 use Rattle.handle_table.proofs.Histories.{shows_next}
 use Rattle.waitables.specs.Sets.{SetView, no_set, set_at, set_without, set_with_last, left, joined, with_waiters}
-use Rattle.comp_graph.specs.Graph.{Graph}
 use Rattle.instances.specs.Instances.{new_instance}
 use Rattle.abi_machine.specs.World.{new_inst}
 use Rattle.abi_machine.specs.Edits.{set_view, by_views}
@@ -17,12 +17,12 @@ use Rattle.standing.specs.Instances.{EntryStands, members_of, InstStands}
 use Rattle.standing.specs.Edits.{EntriesAreAlike, NextIsAlike, RoomIsAlike, EntriesAreAdded, EntriesAreRemoved, EntriesStayAlike, SetsAreMade, WaitablesLeave, WaitablesJoin, WaitersAreNotSaid, PressureChanges, EntryIsNotSaid}
 use Rattle.standing.proofs.Lists.{map_more}
 
-pub new_stands : (g : Graph) → InstStands g new_instance new_inst
-new_stands g = record { table = record { history = tt; alike = record { slots = tt; freed = refl } }; sets = refl; pressure = refl }
+pub new_stands : (values : List ValType) → InstStands values new_instance new_inst
+new_stands values = record { table = record { history = tt; alike = record { slots = tt; freed = refl } }; sets = refl; pressure = refl }
 
 -- What is looked up.
 pub entries_are_alike : EntriesAreAlike
-entries_are_alike g i a index st = slot_shown (EntryStands g) a.table i.slots index st.table
+entries_are_alike values i a index st = slot_shown (EntryStands values) a.table i.slots index st.table
 
 same_length : {E A : Type 0} (R : E → A → Type 0) (xs : List (Option E)) (ys : List (Option A)) → SlotsAlike R xs ys → length xs ≡ length ys
 same_length R [] [] h = refl
@@ -37,19 +37,19 @@ next_same R h s st =
     ∙ shows_next (slots_after h) h (record { history = st.history; slots = refl })
 
 pub next_is_alike : NextIsAlike
-next_is_alike g i a st = next_same (EntryStands g) a.table i.slots st.table
+next_is_alike values i a st = next_same (EntryStands values) a.table i.slots st.table
 
 pub room_is_alike : RoomIsAlike
-room_is_alike g i a st = ap (λ (n : ℕ). nat_lt n most_live) (count_shown (EntryStands g) a.table i.slots st.table)
+room_is_alike values i a st = ap (λ (n : ℕ). nat_lt n most_live) (count_shown (EntryStands values) a.table i.slots st.table)
 
 -- One more entry, one less, and another one that stands for the same.
 pub entries_are_added : EntriesAreAdded
-entries_are_added g i a e entry room stands st =
-    record { table = added_stands (EntryStands g) a.table i.slots e entry (ltb-true (count i.slots) most_live room) stands st.table; sets = st.sets; pressure = st.pressure }
+entries_are_added values i a e entry room stands st =
+    record { table = added_stands (EntryStands values) a.table i.slots e entry (ltb-true (count i.slots) most_live room) stands st.table; sets = st.sets; pressure = st.pressure }
 
 pub entries_are_removed : EntriesAreRemoved
-entries_are_removed g i a index there st =
-    record { table = removed_stands (EntryStands g) a.table i.slots index there st.table; sets = st.sets; pressure = st.pressure }
+entries_are_removed values i a index there st =
+    record { table = removed_stands (EntryStands values) a.table i.slots index there st.table; sets = st.sets; pressure = st.pressure }
 
 now_alike : {E A : Type 0} (R : E → A → Type 0) (x : Option E) (y : Option A) (e now : E) → x ≡ Some e → ((a : A) → R e a → R now a) → SlotAlike R x y → SlotAlike R (Some now) y
 now_alike R None y e now is k h = absurd (cc)
@@ -69,10 +69,10 @@ slot_alike R s ys zero e now is more h = absurd (cc)
 slot_alike R s ys (suc k) e now is more h = set_alike R s.entries ys k e now is more h
 
 pub entries_stay_alike : EntriesStayAlike
-entries_stay_alike g i a index e now is more st = record {
+entries_stay_alike values i a index e now is more st = record {
   table = record {
     history = st.table.history;
-    alike = record { slots = slot_alike (EntryStands g) i.slots (slots_of a.table) index e now is more st.table.alike.slots; freed = st.table.alike.freed };
+    alike = record { slots = slot_alike (EntryStands values) i.slots (slots_of a.table) index e now is more st.table.alike.slots; freed = st.table.alike.freed };
   };
   sets = st.sets;
   pressure = st.pressure;
@@ -80,7 +80,7 @@ entries_stay_alike g i a index e now is more st = record {
 
 -- Sets.
 pub sets_are_made : SetsAreMade
-sets_are_made g i a st =
+sets_are_made values i a st =
     record { table = st.table; sets = map_more (λ (v : SetView). v.members) i.sets no_set ∙ ap (λ xs. xs ++ [] ∷ []) st.sets; pressure = st.pressure }
 
 left_seen : (index : ℕ) (sets : List SetView) → members_of (left index sets) ≡ by_views (left index) (members_of sets)
@@ -88,7 +88,7 @@ left_seen index [] = refl
 left_seen index (v ∷ sets) = ap (λ xs. (set_without index v).members ∷ xs) (left_seen index sets)
 
 pub waitables_leave : WaitablesLeave
-waitables_leave g i a index st =
+waitables_leave values i a index st =
     record { table = st.table; sets = left_seen index i.sets ∙ ap (by_views (left index)) st.sets; pressure = st.pressure }
 
 pub members_at : (sets : List SetView) (n : ℕ) → (set_at sets n).members ≡ slice_index_or (members_of sets) n []
@@ -110,7 +110,7 @@ joined_seen index n sets =
     put_seen index n (left index sets) ∙ ap (last_in index n) (left_seen index sets) ∙ sym (put_seen index n (left index (map set_view (members_of sets))))
 
 pub waitables_join : WaitablesJoin
-waitables_join g i a index set st =
+waitables_join values i a index set st =
     record { table = st.table; sets = joined_seen index set i.sets ∙ ap (by_views (joined index set)) st.sets; pressure = st.pressure }
 
 pub waiting_seen : (set count : ℕ) (sets : List SetView) → members_of (with_waiters set count sets) ≡ members_of sets
@@ -119,11 +119,11 @@ waiting_seen set count sets =
     ∙ ap (λ (xs : List ℕ). slice_set (members_of sets) set xs) (members_at sets set) ∙ set-get_or (members_of sets) set []
 
 pub waiters_are_not_said : WaitersAreNotSaid
-waiters_are_not_said g i a set count st = record { table = st.table; sets = waiting_seen set count i.sets ∙ st.sets; pressure = st.pressure }
+waiters_are_not_said values i a set count st = record { table = st.table; sets = waiting_seen set count i.sets ∙ st.sets; pressure = st.pressure }
 
 -- The gate.
 pub pressure_changes : PressureChanges
-pressure_changes g i a pressure st = record { table = st.table; sets = st.sets; pressure = refl }
+pressure_changes values i a pressure st = record { table = st.table; sets = st.sets; pressure = refl }
 
 pub entry_is_not_said : EntryIsNotSaid
-entry_is_not_said g i a gate same st = record { table = st.table; sets = st.sets; pressure = same ∙ st.pressure }
+entry_is_not_said values i a gate same st = record { table = st.table; sets = st.sets; pressure = same ∙ st.pressure }

@@ -71,14 +71,14 @@ new_stands g s export instance number count kind f call is place_is lifted_is ne
 
 pub call_is_taken : CallIsTaken
 unfolding call_taken alternative_turn item_turn scheduler.call_taken
-call_is_taken g s h stacks w call export instance kind args f item_is named is place_is lifted_is typed_is counted st =
+call_is_taken g values s h stacks w call export instance kind args f item_is named is place_is lifted_is typed_is counted st =
     let many : length h.tasks ≡ length w.tasks = both_long (TaskStands g s) h.tasks w.tasks st.are_tasks in
     let found : slice_get (calls_of s.items) (length h.calls) ≡ Some call =
     ap (λ (n : ℕ). slice_get (calls_of s.items) n) counted ∙ calls_at s.items w.taken call item_is in
     let number : ℕ = length h.calls + 1 in
     let stands : TaskStands g s (new_slot instance kind (callee.Export export) (by.Host number)) (new_task (Func f) (machine.Host number call.values) New) =
     new_stands g s export instance number (length h.calls) kind f call is place_is lifted_is (omega arith) found in
-    on_spent g s (length h.tasks) h.labels (stacks ++ [] ∷ []) stacks h w
+    on_spent g values s (length h.tasks) h.labels (stacks ++ [] ∷ []) stacks h w
     (λ done k. after (item_taken k) (λ done l. after (next_task l) (λ t m. after (told (line.Take (length m.calls + 1) t call.name args) m) (λ done n.
     after (task_made (new_slot instance kind (callee.Export export) (by.Host (length m.calls + 1))) n) (λ made o.
     after (call_made t o) (λ done p. after (chained t p) (λ done q. Gives flow.Rests (at_rest rest.Arrives q))))))))
@@ -86,11 +86,11 @@ call_is_taken g s h stacks w call export instance kind args f item_is named is p
     (λ now. record {
       lines = line.Take number (length h.tasks) call.name args ∷ [];
       world = world.chained (length h.tasks) (world.task_made (Func f) (machine.Host number call.values) (world.item_taken (unit_spent w)));
-      stands = tasks_come_to_the_chain g s (record h { left = h.left - 1; taken = h.taken + 1; tasks = h.tasks ++ new_slot instance kind (callee.Export export) (by.Host number) ∷ [] })
+      stands = tasks_come_to_the_chain g values s (record h { left = h.left - 1; taken = h.taken + 1; tasks = h.tasks ++ new_slot instance kind (callee.Export export) (by.Host number) ∷ [] })
           (stacks ++ [] ∷ []) (world.task_made (Func f) (machine.Host number call.values) (world.item_taken (unit_spent w))) (length h.tasks)
-          (tasks_are_made g s (record h { left = h.left - 1; taken = h.taken + 1 }) stacks (world.item_taken (unit_spent w))
+          (tasks_are_made g values s (record h { left = h.left - 1; taken = h.taken + 1 }) stacks (world.item_taken (unit_spent w))
           (new_slot instance kind (callee.Export export) (by.Host number)) (new_task (Func f) (machine.Host number call.values) New) stands
-          (items_are_taken g s (record h { left = h.left - 1 }) stacks (unit_spent w) now));
+          (items_are_taken g values s (record h { left = h.left - 1 }) stacks (unit_spent w) now));
       told = refl;
       ends =
           ap (λ (o : Option Lifted). turns.given o (λ e. scheduler.call_taken (calls_taken s (unit_spent w) + 1) call e (unit_spent w))) named

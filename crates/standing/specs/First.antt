@@ -1,6 +1,7 @@
 -- Before a graph is instantiated (Component Model, Explainer.md, "Instance Definitions"): what is kept is that one task instantiates, with all
 -- that the script gives, and it stands for the first world.
-use Rattle.std.specs.Prelude.{ℕ, [], ◌∷◌}
+use Rattle.std.specs.Prelude.{ℕ, List, [], ◌∷◌}
+use Rattle.ca_types.specs.declared.types.ValType.{ValType}
 use Rattle.entry_gate.specs.declared.kind.Kind.TheVariants.{Sync}
 use Rattle.tasks.specs.declared.event.TaskEvent.TheVariants.{Enter}
 use Rattle.comp_graph.specs.Graph.{Graph}
@@ -18,6 +19,6 @@ first_slot instance = advanced_slot Enter (new_slot instance Sync callee.Init by
 
 abbrev pub FirstStands : Type 0
 FirstStands =
-    (g : Graph) (s : Script) (instance : ℕ)
-    → FieldsStand g s (first_store g) [] (first_slot instance ∷ []) [] [] (0 ∷ []) s.fuel s.picks 0 ([] ∷ []) (first_store g) [] (first_world g).tasks [] []
+    (g : Graph) (values : List ValType) (s : Script) (instance : ℕ)
+    → FieldsStand g values s (first_store g) [] (first_slot instance ∷ []) [] [] (0 ∷ []) s.fuel s.picks 0 ([] ∷ []) (first_store g) [] (first_world g).tasks [] []
     (0 ∷ []) 0 0 0

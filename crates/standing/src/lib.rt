@@ -4,15 +4,25 @@
 //! `abi_machine` has the machine, whose worlds keep all that ever was; `world_parts` has what code keeps, and what each of its parts does,
 //! as plain functions. `specs/Stands` says when what is kept stands for a world, field by field, over `specs/Instances` and `specs/Tasks`.
 //! `specs/Edits` says that each change of what is kept is the change of the world of the same name, `specs/Agreeing` what it means that a part
-//! does what the machine does: the same lines, the same trap, no rule where there is none, and what follows; and `specs/Replies` and
-//! `specs/Rows` that built-ins and tasks do. `specs/Marks` has what is kept beside all that, and follows from it.
+//! does what the machine does: the same lines, the same trap, no rule where there is none, and what follows; and `specs/Replies`,
+//! `specs/Rows`, `specs/Moves` and `specs/Callings` that built-ins and tasks do. `specs/Marks` has what is kept beside all that, and follows from it.
+//!
+//! `specs/Channels` and `specs/Ends` have streams, futures and their built-ins, `specs/Events` and `specs/Waits` events and waitable sets.
 //!
 //! - `laws`: what stands, and what agrees
+//! - `moves`: moves of the acting task, and calls
+//! - `ends`: the same of streams, futures, sets and events
 #![tactic(auto)]
 
+mod ends;
 mod laws;
+mod moves;
 
+pub use ends::{channels_stand, ends_agree, ends_marked, events_agree, events_follow};
 pub use laws::{
     built_ins_agree, changes_stand, first_stands, found_alike, instances_stand, states_marked,
     tasks_agree,
+};
+pub use moves::{
+    arrivals_agree, calls_agree, cancels_agree, resolutions_agree, returns_agree, waits_agree,
 };
