@@ -86,3 +86,4 @@ pub mod planned
 pub mod words
 pub mod LoansReached
 pub mod RunsEnd
+pub mod worlds

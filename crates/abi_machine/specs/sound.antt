@@ -69,3 +69,5 @@ pub mod Words
 pub mod LoansReached
 pub mod CopyPlaces
 pub mod RunsEnd
+pub mod TypedWorlds
+pub mod TypedSteps

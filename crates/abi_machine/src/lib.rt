@@ -35,4 +35,7 @@ pub use laws::{
     writers_stay_in_one_place,
 };
 pub use run_end::RunEnd;
-pub use values::{copies_stay_inside, lifted_values_are_typed, plans_give_words, words_stay_kept};
+pub use values::{
+    copies_stay_inside, lifted_values_are_typed, plans_give_words, typed_worlds_stay,
+    words_stay_kept,
+};

@@ -12,6 +12,7 @@ ghost use Rattle.abi_machine.specs.sound.TypedPlans.{
 };
 ghost use Rattle.abi_machine.specs.sound.CopyPlaces.{FirstStandInside, CopiesStayInside, ReachedStandInside};
 ghost use Rattle.abi_machine.specs.sound.Words.{FirstKeepsWords, WordsStayKept, ReachedKeepWords};
+ghost use Rattle.abi_machine.specs.sound.TypedSteps.{TypedWorldsStay, TypedWorldsFeed};
 
 /// What a task lifts from bytes is a value of its type, where the representations of all handles that were ever added to tables are below 2^32, and so
 /// they are behind it: arguments, a result, and elements of a stream or a future. The values of a script that fit the types of parameters and are in
@@ -51,4 +52,13 @@ pub fn copies_stay_inside()
     ensures first { FirstStandInside }
     ensures stays { CopiesStayInside }
     ensures reached { ReachedStandInside }
+{}
+
+/// Once all is instantiated, each task of a typed world that waits goes on with words of what it waits at, plans of lowerings give words that are
+/// taken and put bytes inside the memory, and representations, words of context and results that are kept are words of their types. A step leaves
+/// such a world, or comes to a trap, where what is answered is as `answers_are_words` says, what is passed is typed, and elements that are copied
+/// are put inside the memory. In such a world there is a rule for core code, a callback gives its word, and a realloc that of a place.
+pub fn typed_worlds_stay()
+    ensures stays { TypedWorldsStay }
+    ensures feeds { TypedWorldsFeed }
 {}

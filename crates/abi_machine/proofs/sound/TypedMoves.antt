@@ -64,14 +64,14 @@ use Rattle.abi_machine.proofs.sound.typed.Made.{none_made, made_still, so_far_la
 
 -- Later stores.
 
-waits_later : (s t : Store) (asked results : List ValType) (k : Stack) → Extends s t → IsWaiting s asked results k → IsWaiting t asked results k
+pub waits_later : (s t : Store) (asked results : List ValType) (k : Stack) → Extends s t → IsWaiting s asked results k → IsWaiting t asked results k
 waits_later s t asked results k x h answers fits = stays_typed s t results (resume answers k) x (h answers fits)
 
-below_later : (s t : Store) (callee : Callee) (stacks : List Stack) → Extends s t → WaitBelow s callee stacks → WaitBelow t callee stacks
+pub below_later : (s t : Store) (callee : Callee) (stacks : List Stack) → Extends s t → WaitBelow s callee stacks → WaitBelow t callee stacks
 below_later s t callee [] x h = tt
 below_later s t callee (k ∷ under) x h = (waits_later s t [] (gives callee under) k x h.0, below_later s t callee under x h.1)
 
-top_later : (s t : Store) (asked : List ValType) (callee : Callee) (stacks : List Stack) → Extends s t → TopIs (IsWaiting s asked) s callee stacks → TopIs (IsWaiting t asked) t callee stacks
+pub top_later : (s t : Store) (asked : List ValType) (callee : Callee) (stacks : List Stack) → Extends s t → TopIs (IsWaiting s asked) s callee stacks → TopIs (IsWaiting t asked) t callee stacks
 top_later s t asked callee [] x h = h
 top_later s t asked callee (k ∷ under) x h = (waits_later s t asked (gives callee under) k x h.0, below_later s t callee under x h.1)
 
@@ -145,7 +145,7 @@ top_of P s callee (x ∷ under) k h e = (subst (P (gives callee under)) (some_sa
 
 -- Answers.
 
-answered_top : (s : Store) (asked : List ValType) (callee : Callee) (stacks : List Stack) (words : List ℕ) → AreWords asked words → TopIs (IsWaiting s asked) s callee stacks
+pub answered_top : (s : Store) (asked : List ValType) (callee : Callee) (stacks : List Stack) (words : List ℕ) → AreWords asked words → TopIs (IsWaiting s asked) s callee stacks
     → TopIs (StackTyped s) s callee (answered_stacks words stacks)
 answered_top s asked callee [] words fits h = absurd h
 answered_top s asked callee (k ∷ under) words fits h = (h.0 words fits, h.1)

@@ -71,11 +71,11 @@ given_there g st options made h = by options.realloc h.0 h.1
     by (Some f) some there = address_some st f (made f realloc_type there)
 
 -- of canonical functions: a lower, its lift, and a read
-abbrev KindGives : List CoreMake → List CanonFunc → BuiltinKind → Type 0
+abbrev pub KindGives : List CoreMake → List CanonFunc → BuiltinKind → Type 0
 KindGives cores canons (kind.End what element (end_op.Copy side options)) = (side ≡ Readable → held_list element ≡ true → IsSome options.realloc) × IsReallocThere cores canons options.realloc
 KindGives cores canons other = Unit {0}
 
-abbrev CanonGives : List CoreMake → List CanonFunc → CanonFunc → Type 0
+abbrev pub CanonGives : List CoreMake → List CanonFunc → CanonFunc → Type 0
 CanonGives cores canons (canon.Lower l) =
     (lower_needs_realloc l.func_type ≡ true → IsSome l.options.realloc) × IsReallocThere cores canons l.options.realloc × (lift_needs_realloc l.func_type ≡ true → IsSome l.lift.options.realloc) × IsReallocThere cores canons l.lift.options.realloc
 CanonGives cores canons (canon.Builtin b) = KindGives cores canons b.kind
@@ -117,7 +117,7 @@ canon_more cores more canons others (canon.Builtin b) h = kind_more cores more c
 all_more_give : (cores more : List CoreMake) (canons others : List CanonFunc) → AllByRecursion (CanonGives cores canons) canons → AllByRecursion (CanonGives (cores ++ more) (canons ++ others)) canons
 all_more_give cores more canons others h = all_as (CanonGives cores canons) (CanonGives (cores ++ more) (canons ++ others)) (λ c k. canon_more cores more canons others c k) canons h
 
-all_give : {cores : List CoreMake} {canons : List CanonFunc} {resources : List Resource} → AreMade cores canons resources → AllByRecursion (CanonGives cores canons) canons
+pub all_give : {cores : List CoreMake} {canons : List CanonFunc} {resources : List Resource} → AreMade cores canons resources → AllByRecursion (CanonGives cores canons) canons
 all_give none_made = tt
 all_give (instance_made cores canons resources c made h) =
     subst (λ (cs : List CanonFunc). AllByRecursion (CanonGives (cores ++ c ∷ []) cs) canons) (append-nil canons) (all_more_give cores (c ∷ []) canons [] (all_give made))
@@ -138,7 +138,7 @@ clash : {A : Type 0} (b : Bool) → b ≡ false → b ≡ true → A
 clash true e f = cc
 clash false e f = cc
 
-abbrev LiftGives : Graph → Lifted → Type 0
+abbrev pub LiftGives : Graph → Lifted → Type 0
 LiftGives g f = (lift_needs_realloc f.func_type ≡ true → IsSome f.options.realloc) × IsReallocThere g.cores g.canons f.options.realloc
 
 export_gives : (g : Graph) → IsUsedGraph g → (name : List ℕ) (f : Lifted) → func_named g name ≡ Some f → LiftGives g f
@@ -155,7 +155,7 @@ export_gives g used name f e =
         let there : IsLiftThere g.cores g.canons e.func_type l = subst (λ (lift : Lift). IsLiftThere g.cores g.canons e.func_type lift) (some_same (sym z.1 ∙ b)) z.2 in
         subst (LiftGives g) (some_same h) (there.realloc_given, there.realloc)
 
-callee_gives : (g : Graph) → IsUsedGraph g → (callee : Callee) (f : Lifted) → IsOfGraph g callee → func_of callee ≡ Some f → LiftGives g f
+pub callee_gives : (g : Graph) → IsUsedGraph g → (callee : Callee) (f : Lifted) → IsOfGraph g callee → func_of callee ≡ Some f → LiftGives g f
 callee_gives g used Init f h e = cc
 callee_gives g used (Func x) f (inl h) e = subst (LiftGives g) (some_same e) (export_gives g used h.0 x h.1)
 callee_gives g used (Func x) f (inr h) e =

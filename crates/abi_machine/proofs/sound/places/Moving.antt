@@ -318,7 +318,7 @@ resuming_so g w known = given_well (acting w) _ (λ a e. given_well (func_of a.1
 
 -- Copies, and lowerings.
 -- what is read, where a call meets an offer: by the call's canonical function, or by that of the offer
-read_by : (g : Graph) (w : World) (e : EndRef) (call offer : OpenCopy) (c : Channel) → CopiesAt g w.streams w.futures e call.canon → CopiesFit g w.streams w.futures → channel_at w e.kind e.number ≡ Some c → other_offer e.side c.ends.view ≡ Some offer
+pub read_by : (g : Graph) (w : World) (e : EndRef) (call offer : OpenCopy) (c : Channel) → CopiesAt g w.streams w.futures e call.canon → CopiesFit g w.streams w.futures → channel_at w e.kind e.number ≡ Some c → other_offer e.side c.ends.view ≡ Some offer
     → IsCopyBy g e.kind Reader c.element (read_of e.side call offer).canon
 read_by g w e call offer c own fit there meets = by e.side refl
   where
