@@ -61,7 +61,7 @@ use Rattle.standing.proofs.Found.{subtask_alike, rep_alike, word_is}
 use Rattle.standing.proofs.Agreeing.{turn_as, on_word, on_instance, on_slot, on_subtask, on_got, on_trap, on_if, on_add, on_named, get_set, changed_twice}
 
 -- Words of context.
-word_same : (slot : ℕ) (c : ℕ × ℕ) → slots.word_at slot c ≡ context.word_at slot c
+pub word_same : (slot : ℕ) (c : ℕ × ℕ) → slots.word_at slot c ≡ context.word_at slot c
 word_same zero c = refl
 word_same (suc slot) c = refl
 
@@ -81,7 +81,7 @@ changed_same : (slot word : ℕ) (c : ℕ × ℕ) → slots.word_changed slot wo
 changed_same zero word c = refl
 changed_same (suc slot) word c = refl
 
-word_put : (g : Graph) (s : Script) (x : TaskSlot) (a : Task) (slot word : ℕ) → TaskStands g s x a
+pub word_put : (g : Graph) (s : Script) (x : TaskSlot) (a : Task) (slot word : ℕ) → TaskStands g s x a
     → TaskStands g s (slots.with_word slot word x) (record a { context = word_changed slot word a.context })
 word_put g s x a slot word st = record {
   does = st.does;

@@ -159,7 +159,7 @@ restacked g s k a stacks st = record {
   words = st.words;
 }
 
-all_restacked : (g : Graph) (s : Script) (ks : List TaskSlot) (tasks : List Task) (t : ℕ) (f : List Stack → List Stack) → AllZip (TaskStands g s) ks tasks
+pub all_restacked : (g : Graph) (s : Script) (ks : List TaskSlot) (tasks : List Task) (t : ℕ) (f : List Stack → List Stack) → AllZip (TaskStands g s) ks tasks
     → AllZip (TaskStands g s) ks (changed_at t (λ task. record task { stacks = f task.stacks }) tasks)
 unfolding with_stacks
 all_restacked g s [] [] t f h = tt

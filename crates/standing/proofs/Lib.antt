@@ -44,3 +44,16 @@ pub mod EndSides
 pub mod Hearing
 pub mod EndSaid
 pub mod Subtasked
+pub mod Reaching
+pub mod Running
+pub mod Acting
+pub mod Nesting
+pub mod Restacking
+pub mod TaskRuns
+pub mod InPlace
+pub mod PostReturns
+pub mod LoweredMemories
+pub mod LoweredEntries
+pub mod HostCalls
+pub mod Lowers
+pub mod Plans

@@ -19,3 +19,12 @@ pub mod EndReplies
 pub mod News
 pub mod EndMarks
 pub mod Hearing
+pub mod Reaching
+pub mod Runs
+pub mod Nested
+pub mod Leading
+pub mod TaskRuns
+pub mod InPlace
+pub mod PostReturns
+pub mod Lowers
+pub mod Plans

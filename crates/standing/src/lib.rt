@@ -12,11 +12,13 @@
 //! - `laws`: what stands, and what agrees
 //! - `moves`: moves of the acting task, and calls
 //! - `ends`: the same of streams, futures, sets and events
+//! - `runs`: what runs of core code are in a run of components
 #![tactic(auto)]
 
 mod ends;
 mod laws;
 mod moves;
+mod runs;
 
 pub use ends::{channels_stand, ends_agree, ends_marked, events_agree, events_follow};
 pub use laws::{
@@ -25,4 +27,8 @@ pub use laws::{
 };
 pub use moves::{
     arrivals_agree, calls_agree, cancels_agree, resolutions_agree, returns_agree, waits_agree,
+};
+pub use runs::{
+    calls_answered, lowerings_lead, nested_runs_lead, parts_join, plans_agree, post_returns_lead,
+    stacks_lead, task_runs_lead,
 };

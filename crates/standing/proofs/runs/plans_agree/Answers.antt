@@ -1,0 +1,5 @@
+use Rattle.standing.proofs.Plans.{flat_agrees, placed_agrees, stored_agrees}
+use Rattle.standing.proofs.runs.plans_agree.Goals as goal
+
+pub returns : goal.returns
+returns c = record { flat = flat_agrees; placed = placed_agrees; stored = stored_agrees }
