@@ -1,0 +1,5 @@
+pub mod Points
+pub mod Dispatch
+pub mod Turns
+pub mod Runs
+pub mod Lowered
