@@ -13,7 +13,7 @@
 //! - `run_end`: how a run ends
 //! - `examples`: the machine on small examples, which `specs/examples` has
 //! - `laws`: what every step keeps
-//! - `values`: values, words and places of copies, which every step keeps
+//! - `values`: values, words, places of copies and typed worlds, kept under premises
 #![tactic(auto)]
 
 pub mod examples;

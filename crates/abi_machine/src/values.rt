@@ -14,9 +14,9 @@ ghost use Rattle.abi_machine.specs.sound.CopyPlaces.{FirstStandInside, CopiesSta
 ghost use Rattle.abi_machine.specs.sound.Words.{FirstKeepsWords, WordsStayKept, ReachedKeepWords};
 ghost use Rattle.abi_machine.specs.sound.TypedSteps.{TypedWorldsStay, TypedWorldsFeed};
 
-/// What a task lifts from bytes is a value of its type, where the representations of all handles that were ever added to tables are below 2^32, and so
-/// they are behind it: arguments, a result, and elements of a stream or a future. The values of a script that fit the types of parameters and are in
-/// their ranges are of them.
+/// What a task lifts from bytes is a value of its type, where the representations of all handles that were ever added to tables are below 2^32, and
+/// so they are behind it: arguments, a result, and elements of a stream or a future. The values of a script that fit the types of parameters and
+/// are in their ranges are of them.
 pub fn lifted_values_are_typed()
     ensures arguments { ArgumentsAreTyped }
     ensures result { ResultIsTyped }
@@ -25,8 +25,9 @@ pub fn lifted_values_are_typed()
 {}
 
 /// A plan that lowers values of the types of parameters gives words that the core function takes, and one that lowers a result gives words that the
-/// caller's core code takes. Each puts bytes inside the memory and asks for places with words of a realloc's type, whatever is answered, and so does
-/// one that lowers elements where there is room for them. Followed as far as it goes at once, it leaves as many bytes as there were.
+/// caller's core code takes. Each puts bytes inside the memory and asks for places with words of a realloc's type, whatever i32 is answered, over a
+/// memory that does not shrink, and so does one that lowers elements where there is room for them. Followed as far as it goes at once, it leaves as
+/// many bytes as there were.
 pub fn plans_give_words()
     ensures arguments { ArgumentsAreTaken }
     ensures result { ResultIsTaken }
@@ -54,10 +55,11 @@ pub fn copies_stay_inside()
     ensures reached { ReachedStandInside }
 {}
 
-/// Once all is instantiated, each task of a typed world that waits goes on with words of what it waits at, plans of lowerings give words that are
-/// taken and put bytes inside the memory, and representations, words of context and results that are kept are words of their types. A step leaves
-/// such a world, or comes to a trap, where what is answered is as `answers_are_words` says, what is passed is typed, and elements that are copied
-/// are put inside the memory. In such a world there is a rule for core code, a callback gives its word, and a realloc that of a place.
+/// Once all is instantiated, in a graph that has what its lifts, lowers and built-ins use, each task of a typed world that waits goes on with words
+/// of what it waits at, plans of lowerings give words that are taken and put bytes inside the memory, and representations, words of context and
+/// results that are kept for callers that wait are words of their types. A step leaves such a world, of which what the other laws keep holds too,
+/// or comes to a trap, where what is answered is as `answers_are_words` says, what is passed is typed, and elements that are copied are put inside
+/// the memory. In such a world there is a rule for core code, a callback gives its word, and a realloc that of a place.
 pub fn typed_worlds_stay()
     ensures stays { TypedWorldsStay }
     ensures feeds { TypedWorldsFeed }

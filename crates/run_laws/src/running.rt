@@ -9,8 +9,8 @@ pub fn run_steps_agree()
     ensures { RunStepsAgree }
 {}
 
-/// What a lowering comes to over what is kept stands for a world to which the machine comes from where it follows the same plan: with what follows
-/// the core values, with the same trap, or at the end of the run where fuel is wanting.
+/// What a lowering comes to over what is kept, where a rule applies, the machine comes to from where it follows the same plan: what follows the core
+/// values, where what is kept stands for the world from which that goes on, the same trap, or the end of the run where fuel is wanting.
 pub fn lowerings_stand()
     ensures { LowersAtLeads }
 {}

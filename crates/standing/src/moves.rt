@@ -32,7 +32,8 @@ pub fn calls_agree()
     ensures { CallIsBegun }
 {}
 
-/// `task.return`, up to the tests of its type and options, and `task.cancel` do what the machine does; and so does what asks a task to come to an end.
+/// `task.return`, up to the tests of its type and options, and `task.cancel` do what the machine does; and so does what asks a task to come to an
+/// end, where it may be asked.
 pub fn resolutions_agree()
     ensures returned { TaskReturns }
     ensures cancelled { TaskCancels }

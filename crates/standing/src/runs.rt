@@ -1,4 +1,5 @@
-//! Runs of core code, and lowerings, as steps of the machine.
+//! Runs of core code, and lowerings, as steps of the machine. Nothing is said of where what is kept comes to no rule or is short of memory, nor of
+//! stacks behind a trap of the task or where fuel is wanting.
 
 ghost use Rattle.standing.specs.InPlace.{ExemptCallsAgree, NestedCallsAgree};
 ghost use Rattle.standing.specs.Lowers.{LoweringsLead, RoomStands};
@@ -34,13 +35,14 @@ pub fn nested_runs_lead()
 {}
 
 /// What is kept when the acting task's stack has run stands for a world to which the machine comes by steps: where
-/// the task waits at a call, where its stack ended over one that goes on, behind a start function, where the task's
-/// function ended with words, at a trap, and where fuel is wanting.
+/// the task waits at a call, where its stack ended over one that goes on, behind a start function, at a trap, and
+/// where fuel is wanting; where the task's function ended with words, for the world from which the rest of that turn
+/// goes.
 pub fn task_runs_lead()
     ensures { TaskRunsLead }
 {}
 
-/// A call of nested code is answered in place by what is kept as by the machine, or comes to the same trap: words
+/// A call of nested code is answered in place by what is kept as by the machine, or comes to the same trap, where a rule applies: words
 /// of context, and what a handle stands for.
 pub fn calls_answered()
     ensures exempt { ExemptCallsAgree }
@@ -65,8 +67,8 @@ pub fn lowerings_lead()
     ensures stands { RoomStands }
 {}
 
-/// The plan along which code lowers a value of its type is that of the machine, as core values, at a new place and
-/// at a place: the same places are asked for, the same bytes put, and the same entries made.
+/// The plan along which code lowers a value of its type is that of the machine, as core values, at a new place and at a place, where both take the
+/// same resources as the instance's own: the same places are asked for, the same bytes put, and the same entries made.
 pub fn plans_agree()
     ensures flat { FlatAgrees }
     ensures placed { PlacedAgrees }
