@@ -49,24 +49,24 @@ module _ {E : Type 0} (seen : E → EntryView) (is : New → E → Type 0) where
   follows_set (Asks ask k) p q came (inl f) =
       let mid : Set E = f.1 in
       let rest : In mid.to (k f.0) mid.at came q.at × (q.to ≡ mid.to) = follows_set (k f.0) mid q came f.3 in
-      let same : mid.to ≡ p.to = f.2.0.2 in (
+      let same : mid.to ≡ p.to = f.2.0.3 in (
         inl (
           f.0,
           mid.at,
-          ((f.2.0.0, f.2.0.1), f.2.1, subst (λ (to : Setting). length (bytes_with p.to p) ≤ length (bytes_with to mid)) same f.2.2),
+          ((f.2.0.0, f.2.0.1, f.2.0.2), f.2.1, subst (λ (to : Setting). length (bytes_with p.to p) ≤ length (bytes_with to mid)) same f.2.2),
           subst (λ (to : Setting). In to (k f.0) mid.at came q.at) same rest.0,
         ),
         rest.1 ∙ same,
       )
-  follows_set (Asks ask k) p q came (inr f) = (inr (f.0, (f.1.0, f.1.1), f.2), f.1.2)
+  follows_set (Asks ask k) p q came (inr f) = (inr (f.0, (f.1.0, f.1.1, f.1.2), f.2), f.1.3)
   follows_set (Size k) p q came f = follows_set (k (length (bytes_with p.to p))) p q came f
   follows_set (Put place bytes k) p q came f =
       let mid : Set E = f.0 in
       let rest : In mid.to k mid.at came q.at × (q.to ≡ mid.to) = follows_set k mid q came f.2 in
-      let same : mid.to ≡ p.to = f.1.0.2 in (
+      let same : mid.to ≡ p.to = f.1.0.3 in (
         (
           mid.at,
-          ((f.1.0.0, f.1.0.1), subst (λ (to : Setting). bytes_with to mid ≡ written place bytes (bytes_with p.to p)) same f.1.1),
+          ((f.1.0.0, f.1.0.1, f.1.0.2), subst (λ (to : Setting). bytes_with to mid ≡ written place bytes (bytes_with p.to p)) same f.1.1),
           subst (λ (to : Setting). In to k mid.at came q.at) same rest.0,
         ),
         rest.1 ∙ same,

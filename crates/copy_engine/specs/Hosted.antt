@@ -1,9 +1,11 @@
 -- Lowering into a memory of a store, beside the table of the instance, which the code that gives out places sees (Component Model,
 -- CanonicalABI.md, "Storing", "Flat Lowering"): what is said of such rooms, and what a lowering comes to in them.
-use Rattle.std.specs.Prelude.{◌≡◌, ℕ, List, Option, Result, Ok, Err, IfOk}
+use Rattle.std.specs.Prelude.{◌≡◌, ◌+◌, ◌≤◌, ℕ, List, length, Option, Result, Ok, Err, IfOk}
 use Rattle.ca_base.specs.declared.memory.Memory.{Memory as Want}
 use Rattle.ca_types.specs.declared.types.ValType.{ValType}
 use Rattle.ca_types.specs.declared.value.Value.{Value}
+use Rattle.wasm_store.specs.Store.{Store}
+use Rattle.wasm_store.specs.Typed.{StoreTyped, Extends}
 use Rattle.handle_table.specs.Slots.{Slots}
 use Rattle.res_handles.specs.declared.entry.EntryView.{EntryView}
 use Rattle.res_handles.specs.Calls.{view_at}
@@ -35,16 +37,20 @@ pub record Placed (E : Type 0) : Type 0 where
 abbrev pub put_at : ℕ → ℕ → List ℕ → HostedRoom → HostedRoom
 put_at memory place bytes r = record r { store = with_bytes_in memory (written place bytes (bytes_in memory r.store)) r.store }
 
+-- Code that runs lets a store grow, and leaves it typed.
+abbrev pub Grows : Store → Store → Type 0
+Grows s t = Extends s t × StoreTyped t
+
 module _ {E : Type 0} (seen : E → EntryView) (is : New → E → Type 0) (to : Setting) where
   abbrev pub memory_of : Placed E → List ℕ
   memory_of p = bytes_in to.options.memory p.room.store
 
-  -- A realloc sees the table, and leaves it as it is. So does a store. An entry leaves all else as it is.
+  -- A realloc sees the table, and leaves it as it is. So does a store, of bytes that go inside. An entry leaves all else as it is.
   abbrev pub answers_of : Placed E → Ask → Result ℕ (RoomEnd HostedTrap) → Placed E → Type 0
-  answers_of p ask result q = HostedAnswers to (view_at seen p.slots) p.room ask result q.room × (q.slots ≡ p.slots)
+  answers_of p ask result q = HostedAnswers to (view_at seen p.slots) p.room ask result q.room × Grows p.room.store q.room.store × (q.slots ≡ p.slots)
 
   abbrev pub wrote_of : Placed E → ℕ → List ℕ → Placed E → Type 0
-  wrote_of p place bytes q = (q.room ≡ put_at to.options.memory place bytes p.room) × (q.slots ≡ p.slots)
+  wrote_of p place bytes q = (place + length bytes ≤ length (memory_of p)) × (q.room ≡ put_at to.options.memory place bytes p.room) × (q.slots ≡ p.slots)
 
   abbrev pub adds_of : Placed E → New → Option ℕ → Placed E → Type 0
   adds_of p entry given q = gets is p.slots entry given q.slots × (q.room ≡ p.room)
@@ -66,10 +72,10 @@ module _ {E : Type 0} where
   set_memory p = bytes_in p.to.options.memory p.at.room.store
 
   abbrev pub set_answers : (E → EntryView) → Set E → Ask → Result ℕ (RoomEnd HostedTrap) → Set E → Type 0
-  set_answers seen p ask result q = HostedAnswers p.to (view_at seen p.at.slots) p.at.room ask result q.at.room × (q.at.slots ≡ p.at.slots) × (q.to ≡ p.to)
+  set_answers seen p ask result q = HostedAnswers p.to (view_at seen p.at.slots) p.at.room ask result q.at.room × Grows p.at.room.store q.at.room.store × (q.at.slots ≡ p.at.slots) × (q.to ≡ p.to)
 
   abbrev pub set_wrote : Set E → ℕ → List ℕ → Set E → Type 0
-  set_wrote p place bytes q = (q.at.room ≡ put_at p.to.options.memory place bytes p.at.room) × (q.at.slots ≡ p.at.slots) × (q.to ≡ p.to)
+  set_wrote p place bytes q = (place + length bytes ≤ length (set_memory p)) × (q.at.room ≡ put_at p.to.options.memory place bytes p.at.room) × (q.at.slots ≡ p.at.slots) × (q.to ≡ p.to)
 
   abbrev pub set_adds : (New → E → Type 0) → Set E → New → Option ℕ → Set E → Type 0
   set_adds is p entry given q = gets is p.at.slots entry given q.at.slots × (q.at.room ≡ p.at.room) × (q.to ≡ p.to)

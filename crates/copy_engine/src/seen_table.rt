@@ -57,11 +57,15 @@ impl<'a, E: Entry<EndType = usize> + Drop> Beside<HostedRoom> for SeenTable<'a, 
         align: u32,
         size: u32,
     ) -> Result<u32, RoomEnd<HostedTrap>> {
+        // Its clause says that the store is typed.
+        let _before = room.store.function_count();
         let Some(address) = realloc_in(&room.store, self.to.options.realloc) else {
             return Err(RoomEnd::Trapped(HostedTrap::NoRealloc));
         };
         let words = [0, 0, u64::from(align), u64::from(size)];
-        call_realloc(alloc, room, &self.handles, &self.to, address, &words)
+        let place = call_realloc(alloc, room, &self.handles, &self.to, address, &words);
+        let _behind = room.store.function_count();
+        place
     }
 
     fn enter(

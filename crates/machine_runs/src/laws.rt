@@ -1,16 +1,16 @@
-//! Worlds in which steps can be made.
+//! Runs go on.
 
-ghost use Rattle.machine_runs.specs.Fit.{ModulesFit, FirstFits, MovesStayFit, FitsCanStep};
+ghost use Rattle.value_parts.specs.Fit.{PassesStayFit};
+ghost use Rattle.machine_runs.specs.Worlds.{first_point, StepsOn};
+ghost use Rattle.machine_runs.specs.Fit.{ModulesFit};
 
 use programs::Program;
 use value_parts::PassesValues;
 
-/// Where the modules of a graph are valid, the world before it is instantiated has typed stacks, and so has each world to which a move, a turn or
-/// a run of core code leads from such a world; and each such step lends no handle more than 2^28 times more. In such a world, to which fewer than
-/// 2^35 steps lead, a step can be made.
-pub fn worlds_stay_fit<V: PassesValues>(program: &Program<'_, '_>)
+/// A step can be made in each world to which fewer than 2^35 steps lead, where the modules of a graph are valid, and values are passed by what
+/// leaves stacks typed and lends handles no more often than it counts what it lifts.
+pub fn runs_step_on<V: PassesValues>(program: &Program<'_, '_>)
     requires valid { ModulesFit program.now.graph.now }
-    ensures first { FirstFits program.now.graph.now program.now.script.now }
-    ensures moves { MovesStayFit V.may_pass program.now }
-    ensures can { FitsCanStep }
+    requires fit { PassesStayFit V.may_pass program.now }
+    ensures { StepsOn V.may_pass program.now (first_point program.now.graph.now program.now.script.now) }
 {}

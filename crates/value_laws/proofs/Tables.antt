@@ -16,4 +16,4 @@ room_has memory answers wrote is = record { answered = λ r s ask result h. h.1;
 
 -- and a store with a realloc that sees the table
 pub store_has : {E : Type 0} (seen : E → EntryView) (is : New → E → Type 0) (to : Setting) → HasTable (hosted_rooms seen is to) (λ (p : Placed E). p.slots) is
-store_has seen is to = record { answered = λ r s ask result h. h.1; wrote = λ r s place bytes h. h.1; added = λ r s entry given h. h.0 }
+store_has seen is to = record { answered = λ r s ask result h. h.2; wrote = λ r s place bytes h. h.2; added = λ r s entry given h. h.0 }

@@ -2,3 +2,4 @@ pub mod Lowers
 pub mod Types
 pub mod Settling
 pub mod Entered
+pub mod fit

@@ -1,0 +1,16 @@
+pub mod Raising
+pub mod Moved
+pub mod Exempt
+pub mod Nested
+pub mod Copying
+pub mod ReturnTests
+pub mod ReturnTested
+pub mod Borrowed
+pub mod Ways
+pub mod Sites
+pub mod Entering
+pub mod Ending
+pub mod Lifted
+pub mod Lowering
+pub mod PostReturning
+pub mod Passed
