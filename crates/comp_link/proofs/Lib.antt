@@ -1,3 +1,4 @@
+mod Asked
 mod Calling
 pub mod CanonParts
 pub mod CoreParts

@@ -54,6 +54,11 @@ pub added : (k new : Linker) (n : ℕ) (l : Linking) (s : Spaces) (make : Defini
 added k new n l s make ref outcome ready there live adds =
     subst (λ o. IsMade new o) (sym ready.makes) (adds ready.bases ready.definition (record { state = ready.state; there = there; live = live }) ready.stands)
 
+-- what is found, or nothing
+pub found_as : (t : Table) (w : World) (o : Option DefinitionRef) (found : Option Definition) → IsFound t w o found → IsFoundAs (Stands t w) o found
+found_as t w None found h = h
+found_as t w (Some ref) found h = h
+
 -- what is found under a name
 pub none_named : (t : Table) (w : World) (o : Option DefinitionRef) (found : Option Definition) → o ≡ None → IsFound t w o found → found ≡ None
 none_named t w o found is h = subst (λ o. IsFound t w o found) is h

@@ -15,7 +15,7 @@ use Rattle.link_spec.specs.declared.fault.LinkWhy.TheVariants as why
 use Rattle.link_spec.specs.Definitions.{Definition, Exports, export_names, export_named, lacks}
 use Rattle.link_spec.specs.Types.{Meaning}
 use Rattle.link_spec.specs.Spaces.{Spaces, Linking, size_of, definition_at}
-use Rattle.link_spec.specs.Items.{lacking, wanted, type_made}
+use Rattle.link_spec.specs.Items.{lacking, said, type_made}
 use Rattle.link_spec.specs.Tests.{root_may_import, is_of_types}
 use Rattle.link_spec.specs.Computed.{Outcome, Makes, root_given, after, there_or, only_if, none_missing, as_asked, type_outcome, import_outcome, export_outcome}
 use Rattle.link_types.specs.Table.{Table}
@@ -114,17 +114,17 @@ module _ (l : Linking) (n : ℕ) (s : Spaces) (e : read.Export) where
   plain_some h plain d there is = rw (lt_true e.index (size_of s e.sort) h, plain, there, is) refl
 
   -- an export that says what it is
-  module _ (desc : ExternDesc) (says : e.desc ≡ Some desc) (h : e.index < size_of s e.sort) where
-    pub said_absent : (wanted s desc).is_there ≡ false → export_outcome l n s e ≡ Err why.Index
+  module _ (meaning : Meaning Extern) (says : said s e ≡ Some meaning) (h : e.index < size_of s e.sort) where
+    pub said_absent : meaning.is_there ≡ false → export_outcome l n s e ≡ Err why.Index
     said_absent absent = rw (lt_true e.index (size_of s e.sort) h, says, absent) refl
 
-    pub said_none : (wanted s desc).is_there ≡ true → definition_at s e.sort e.index ≡ None → export_outcome l n s e ≡ Err why.Typing
+    pub said_none : meaning.is_there ≡ true → definition_at s e.sort e.index ≡ None → export_outcome l n s e ≡ Err why.Typing
     said_none there none = rw (lt_true e.index (size_of s e.sort) h, says, there, none) refl
 
-    pub said_some : (wanted s desc).is_there ≡ true → (d : Definition) → definition_at s e.sort e.index ≡ Some d
-        → export_outcome l n s e ≡ wants (lacking (Some d) e.name (wanted s desc).means) (is_among e.name (export_names s.exports)) (as_wanted d (wanted s desc).means) (exported l n s e.name)
+    pub said_some : meaning.is_there ≡ true → (d : Definition) → definition_at s e.sort e.index ≡ Some d
+        → export_outcome l n s e ≡ wants (lacking (Some d) e.name meaning.means) (is_among e.name (export_names s.exports)) (as_wanted d meaning.means) (exported l n s e.name)
     said_some there d is =
-        rw (lt_true e.index (size_of s e.sort) h, says, there, is, said_lacking d e.name (wanted s desc).means, as_wanted_is d (wanted s desc).means) refl
+        rw (lt_true e.index (size_of s e.sort) h, says, there, is, said_lacking d e.name meaning.means, as_wanted_is d meaning.means) refl
 
 -- Imports.
 

@@ -11,7 +11,7 @@ ghost use Rattle.comp_graph.specs.Passed.{MayBeAt};
 ghost use Rattle.link_spec.specs.Definitions.{Exports};
 ghost use Rattle.link_spec.specs.Spaces.{Spaces, Linking};
 ghost use Rattle.link_spec.specs.Canons as canons;
-ghost use Rattle.link_spec.specs.ValueTypes.{close_held};
+ghost use Rattle.link_spec.specs.ValueTypes.{close_passed};
 ghost use Rattle.link_spec.specs.ValueTypes as value_types;
 ghost use Rattle.link_spec.specs.Builtins.{are_options_there, return_meaning, builtin_meaning};
 ghost use Rattle.link_spec.specs.Items.{builtin_made};
@@ -79,7 +79,7 @@ fn passed_at(
     val_type: Option<ValTypeRef>,
 ) -> Result<Option<Option<usize>>, AllocError>
     requires { n < length linker.old.scopes.items }
-    ensures found { IfOk result (λ o. (bases : List Exports) (l : Linking) (s : Spaces) → IsAt bases linker.old n l s → IsFoundAs (MayBeAt linker.new.types.values) o (close_held (map Some s.types) val_type)) }
+    ensures found { IfOk result (λ o. (bases : List Exports) (l : Linking) (s : Spaces) → IsAt bases linker.old n l s → IsFoundAs (MayBeAt linker.new.types.values) o (close_passed (map Some s.types) val_type)) }
     ensures at { (bases : List Exports) (l : Linking) (s : Spaces) → IsAt bases linker.old n l s → IsAt bases linker.new n l s }
     ensures scopes { linker.new.scopes ≡ linker.old.scopes }
 {

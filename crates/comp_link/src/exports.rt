@@ -9,13 +9,13 @@ ghost use Rattle.comp_link.specs.State.{IsAt, IsMade, ended};
 ghost use Rattle.comp_link.specs.Told.{IsTold};
 ghost use Rattle.comp_link.specs.Ready.{IsReady, exported};
 
+use crate::asking::wanted_of;
 use crate::link_fault::ItemError;
 use crate::linker::Linker;
 use crate::seen::seen;
 use ca_base::MemoryOr;
 use comp_tree::{Export, ExternDesc};
 use link_instances::DefinitionRef;
-use link_meanings::wanted;
 use link_spec::LinkWhy;
 use std::alloc::Global;
 
@@ -53,18 +53,19 @@ fn said_export(
     if (export.index as usize) >= scope.size(export.sort) {
         return Err(MemoryOr::Fault(LinkWhy::Index));
     }
-    let meant = wanted(&scope.types, desc);
+    let definition = scope.definition(export.sort, export.index);
+    let meant = wanted_of(&scope.types, definition, desc);
     if !meant.is_there {
         return Err(MemoryOr::Fault(LinkWhy::Index));
     }
-    let Some(given) = scope.definition(export.sort, export.index) else {
+    let Some(given) = definition else {
         return Err(MemoryOr::Fault(LinkWhy::Typing));
     };
-    let definition = seen(alloc, linker, given, meant.means)?;
+    let exported = seen(alloc, linker, given, meant.means)?;
     if linker.scope(n).export_names.has(export.name.as_str()) {
         return Err(MemoryOr::Fault(LinkWhy::Typing));
     }
-    match definition {
+    match exported {
         Some(definition) => Ok(definition),
         None => Err(MemoryOr::Fault(LinkWhy::Typing)),
     }

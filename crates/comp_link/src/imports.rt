@@ -2,7 +2,7 @@
 
 ghost use Rattle.std.specs.Prelude.{◌≡◌, ◌<◌, List, length, Option, Some, None, OnOk, IsTrue};
 ghost use Rattle.comp_graph.specs.Closed.{Extern};
-ghost use Rattle.link_spec.specs.Definitions.{Exports};
+ghost use Rattle.link_spec.specs.Definitions.{Exports, export_named};
 ghost use Rattle.link_spec.specs.Spaces.{Spaces, Linking};
 ghost use Rattle.link_spec.specs.Items as items;
 ghost use Rattle.link_spec.specs.Tests as tests;
@@ -15,13 +15,13 @@ ghost use Rattle.comp_link.specs.State.{world_of, IsAt, IsMade, ended};
 ghost use Rattle.comp_link.specs.Told.{IsTold};
 ghost use Rattle.comp_link.specs.Ready.{IsReady, IsGiven, IsTypesOf, imported};
 
+use crate::asking::wanted_of;
 use crate::link_fault::{ItemError, missing};
 use crate::linker::Linker;
 use crate::seen::seen;
 use ca_base::MemoryOr;
 use comp_tree::{ExternDesc, Import};
 use link_instances::{DefinitionRef, InstanceRef, Instances};
-use link_meanings::wanted;
 use link_spec::LinkWhy;
 use link_types::{ExternRef, InstanceTypeRef, Types};
 use std::alloc::Global;
@@ -65,10 +65,10 @@ fn given_type(asked: ExternRef) -> Result<InstanceTypeRef, ItemError>
 /// The type of the instance that the root imports, whose exports are types.
 fn root_type(linker: &Linker<'_>, n: usize, import: &Import) -> Result<InstanceTypeRef, ItemError>
     requires { n < length linker.now.scopes.items }
-    ensures { (bases : List Exports) (l : Linking) (s : Spaces) → IsAt bases linker.now n l s → IsTold (IsGiven linker.now.types (imported l n s import.now.name)) result (import_outcome l n s import.now.name (items.wanted s import.now.desc) import.now.desc None) }
+    ensures { (bases : List Exports) (l : Linking) (s : Spaces) → IsAt bases linker.now n l s → IsTold (IsGiven linker.now.types (imported l n s import.now.name)) result (import_outcome l n s import.now.name (items.meant_of s None import.now.desc) import.now.desc None) }
 {
     let scope = linker.scope(n);
-    let meant = wanted(&scope.types, import.desc);
+    let meant = wanted_of(&scope.types, None, import.desc);
     if !root_may_import(&linker.instances, &linker.types, import.desc, meant.means) {
         return Err(MemoryOr::Fault(LinkWhy::RootImport));
     }
@@ -92,7 +92,7 @@ fn root_import(
     import: &Import,
 ) -> Result<DefinitionRef, ItemError>
     requires { n < length linker.old.scopes.items }
-    ensures made { (bases : List Exports) (l : Linking) (s : Spaces) → IsAt bases linker.old n l s → IsTold (IsReady linker.new l (imported l n s import.now.name)) result (import_outcome l n s import.now.name (items.wanted s import.now.desc) import.now.desc None) }
+    ensures made { (bases : List Exports) (l : Linking) (s : Spaces) → IsAt bases linker.old n l s → IsTold (IsReady linker.new l (imported l n s import.now.name)) result (import_outcome l n s import.now.name (items.meant_of s None import.now.desc) import.now.desc None) }
     ensures rest { linker.new ≡ record linker.old { instances = linker.new.instances } }
 {
     let instance_type = root_type(linker, n, import)?;
@@ -110,17 +110,17 @@ fn given_import(
     arguments: InstanceRef,
 ) -> Result<DefinitionRef, ItemError>
     requires { n < length linker.old.scopes.items }
-    ensures made { (bases : List Exports) (l : Linking) (s : Spaces) (given : Exports) → IsAt bases linker.old n l s → IsName linker.old.types number import.now.name → IsInstance linker.old.types (world_of bases linker.old) arguments given → IsTold (IsReady linker.new l (imported l n s import.now.name)) result (import_outcome l n s import.now.name (items.wanted s import.now.desc) import.now.desc (Some given)) }
+    ensures made { (bases : List Exports) (l : Linking) (s : Spaces) (given : Exports) → IsAt bases linker.old n l s → IsName linker.old.types number import.now.name → IsInstance linker.old.types (world_of bases linker.old) arguments given → IsTold (IsReady linker.new l (imported l n s import.now.name)) result (import_outcome l n s import.now.name (items.meant_of s (export_named import.now.name given) import.now.desc) import.now.desc (Some given)) }
     ensures rest { linker.new ≡ record linker.old { instances = linker.new.instances } }
 {
-    let meant = wanted(&linker.scope(n).types, import.desc);
+    let argument = linker
+        .instances
+        .export_named(&linker.types, arguments, number);
+    let meant = wanted_of(&linker.scope(n).types, argument, import.desc);
     if !meant.is_there {
         return Err(MemoryOr::Fault(LinkWhy::Index));
     }
-    let Some(given) = linker
-        .instances
-        .export_named(&linker.types, arguments, number)
-    else {
+    let Some(given) = argument else {
         return Err(missing(alloc, import.name.as_str()));
     };
     let definition = seen(alloc, linker, given, meant.means)?;
@@ -142,7 +142,7 @@ fn import_definition(
     number: usize,
 ) -> Result<DefinitionRef, ItemError>
     requires { n < length linker.old.scopes.items }
-    ensures made { (bases : List Exports) (l : Linking) (s : Spaces) → IsAt bases linker.old n l s → IsName linker.old.types number import.now.name → IsTold (IsReady linker.new l (imported l n s import.now.name)) result (import_outcome l n s import.now.name (items.wanted s import.now.desc) import.now.desc s.arguments) }
+    ensures made { (bases : List Exports) (l : Linking) (s : Spaces) → IsAt bases linker.old n l s → IsName linker.old.types number import.now.name → IsTold (IsReady linker.new l (imported l n s import.now.name)) result (import_outcome l n s import.now.name (items.wanted s import.now.name import.now.desc) import.now.desc s.arguments) }
     ensures rest { linker.new ≡ record linker.old { instances = linker.new.instances } }
 {
     match linker.scope(n).arguments {
@@ -159,7 +159,7 @@ pub fn link_import<'a>(
     import: &'a Import,
 ) -> Result<(), ItemError>
     requires { n < length linker.old.scopes.items }
-    ensures made { (bases : List Exports) (l : Linking) (s : Spaces) → IsAt bases linker.old n l s → IsTold (λ _ outcome. IsMade linker.new outcome) result (import_outcome l n s import.now.name (items.wanted s import.now.desc) import.now.desc s.arguments) }
+    ensures made { (bases : List Exports) (l : Linking) (s : Spaces) → IsAt bases linker.old n l s → IsTold (λ _ outcome. IsMade linker.new outcome) result (import_outcome l n s import.now.name (items.wanted s import.now.name import.now.desc) import.now.desc s.arguments) }
     ensures scopes { OnOk result (length linker.new.scopes.items ≡ length linker.old.scopes.items) }
     ensures live { OnOk result (ended linker.new ≡ ended linker.old) }
 {

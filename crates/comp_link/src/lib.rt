@@ -9,7 +9,7 @@
 //! - `core_instances`, `core_aliases`, `lifts`, `lowers`, `builtins`, `ends`, `resources`, `aliases`, `types`, `instances`, `imports` and
 //!   `exports`: what each kind of item makes
 //! - `used`: what lowers and built-ins use of what options give
-//! - `named` and `seen`: definitions under names, and definitions as they are asked for
+//! - `named`, `asking` and `seen`: definitions under names, what is asked for, and definitions as they are asked for
 //! - `linker`, of `scope` and `canons`: linking as it stands, the index spaces of a component instance, and the core functions that
 //!   functions are lowered to
 //! - `graphs`: the graph of what is linked
@@ -17,6 +17,7 @@
 #![tactic(auto)]
 
 mod aliases;
+mod asking;
 mod builtins;
 mod canons;
 mod core_aliases;

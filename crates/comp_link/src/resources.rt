@@ -96,7 +96,7 @@ pub fn link_resource(
 }
 
 /// The number of a resource, of a type that is found.
-fn resource_number(found: Option<TypeRef>) -> Option<usize>
+pub(crate) fn resource_number(found: Option<TypeRef>) -> Option<usize>
     ensures { result ≡ option_and_then resource_ref found }
 {
     match found? {

@@ -12,7 +12,8 @@ use Rattle.link_types.specs.Table.{Table, IsType, IsExtern}
 use Rattle.link_types.specs.declared.meant.Meant.{Meant}
 use Rattle.link_meanings.specs.Meant.{IsFoundAs, IsMeaning}
 use Rattle.link_meanings.specs.Levels.{AreTypes}
-use Rattle.link_meanings.specs.References.{desc_index, described_ref}
+use Rattle.link_spec.specs.Types.{desc_index}
+use Rattle.link_meanings.specs.References.{described_ref}
 use Rattle.link_meanings.proofs.Lists.{found_at}
 
 module _ (t : Table) where

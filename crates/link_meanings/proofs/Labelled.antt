@@ -1,5 +1,5 @@
 -- Labels with the numbers of value types, which stand for parameters where the references stand for types.
-use Rattle.std.proofs.Common.{cond, ◌≡◌, ◌∙◌, ◌<◌, ◌≤◌, ℕ, Bool, true, false, List, length, map, refl, sym, Option, Some, None, arith}
+use Rattle.std.proofs.Common.{cond, ◌≡◌, ◌∙◌, ◌<◌, ◌≤◌, ℕ, Bool, true, false, List, length, map, refl, sym, ap, Option, Some, None, arith}
 use Rattle.std.specs.Prelude.{is_none}
 use Rattle.std.proofs.lemmas.Option.{slice_get_within}
 use Rattle.std.specs.Option.{option_map, option_and_then}
@@ -11,8 +11,10 @@ use Rattle.ca_types.specs.declared.types.FuncType.{FuncType}
 use Rattle.comp_tree.specs.declared.types.Param as read_param
 use Rattle.comp_tree.specs.declared.types.FuncType as read_func
 use Rattle.comp_tree.specs.declared.types.ValTypeRef.{ValTypeRef}
-use Rattle.comp_graph.specs.Closed.{Closed, Value, Func, Resource, Instance, value_of}
-use Rattle.link_spec.specs.Types.{meant, close_val, close_param, close_params, close_held, close_func}
+use Rattle.laid_types.specs.Handles.{has_borrow, held_borrow}
+use Rattle.comp_graph.specs.Closed.{Closed, Value, Func, Resource, Instance, value_of, resource_of}
+use Rattle.link_spec.specs.ValueTypes.{close_resource}
+use Rattle.link_spec.specs.Types.{meant, close_val, close_param, close_params, close_held, close_passed, close_func}
 use Rattle.link_types.specs.declared.labels.LabelledType.{LabelledType}
 use Rattle.link_types.specs.declared.refs.FuncTypeRef.{FuncTypeRef}
 use Rattle.link_types.specs.declared.refs.TypeRef.{TypeRef}
@@ -23,7 +25,7 @@ use Rattle.link_types.specs.Table.{Table, IsValue, IsFunc, IsType, Grows}
 use Rattle.link_types.proofs.ValuesStay.{labelled_stay}
 use Rattle.link_meanings.specs.Meant.{IsFoundAs, IsMeaning}
 use Rattle.link_meanings.specs.Levels.{AreTypes}
-use Rattle.link_meanings.specs.References.{value_ref}
+use Rattle.link_meanings.specs.References.{value_ref, resource_ref}
 use Rattle.link_meanings.proofs.Lists.{found_at}
 
 -- the number of a value type: that of an index
@@ -65,6 +67,43 @@ param_stays t u g l p h = (h.0, g.values l.val_type p.val_type h.1)
 pub held_closed : (t : Table) (closed : List (Option Closed)) (type : ValTypeRef) (number : ℕ) → IsFoundAs (IsValue t) (Some number) (close_val closed type) → IsFoundAs (MayBeValue t.values) (Some (Some number)) (close_held closed (Some type))
 held_closed t closed type number h = rw h.1 (Some h.0, refl, h.2)
 
+-- whether a part holds a borrowed handle, if there is one
+pub part_borrows : (t : Table) (number : ℕ) (held : Option ValType) (borrows : Bool) → ((type : ValType) → IsValue t number type → borrows ≡ has_borrow type) → MayBeValue t.values (Some number) held → borrows ≡ held_borrow held
+part_borrows t number None borrows is h = absurd h
+part_borrows t number (Some type) borrows is h = is type h
+
+pub no_part_borrows : (t : Table) (held : Option ValType) → MayBeValue t.values None held → false ≡ held_borrow held
+no_part_borrows t None h = refl
+no_part_borrows t (Some type) h = absurd h
+
+-- what passes, where it holds no borrowed handle, and where it does
+pub passed_open : (closed : List (Option Closed)) (type : Option ValTypeRef) → close_held closed type ≡ None → close_passed closed type ≡ None
+passed_open closed type h = rw h refl
+
+pub passed_held : (t : Table) (closed : List (Option Closed)) (type : Option ValTypeRef) (part : Option ℕ) (borrows : Bool) → ((held : Option ValType) → MayBeValue t.values part held → borrows ≡ held_borrow held)
+    → borrows ≡ false → IsFoundAs (MayBeValue t.values) (Some part) (close_held closed type) → IsFoundAs (MayBeValue t.values) (Some part) (close_passed closed type)
+passed_held t closed type part borrows is none h = rw (h.1, sym (is h.0 h.2), none) (h.0, refl, h.2)
+
+pub borrow_passed : (t : Table) (closed : List (Option Closed)) (type : Option ValTypeRef) (part : Option ℕ) (borrows : Bool) → ((held : Option ValType) → MayBeValue t.values part held → borrows ≡ held_borrow held)
+    → borrows ≡ true → IsFoundAs (MayBeValue t.values) (Some part) (close_held closed type) → close_passed closed type ≡ None
+borrow_passed t closed type part borrows is some h = rw (h.1, sym (is h.0 h.2), some) refl
+
+-- the number of a resource: that of an index
+resource_is : (t : Table) (ref : TypeRef) (c : Closed) → IsType t ref c → resource_ref ref ≡ resource_of c
+resource_is t (type_ref.Value number) (Value v) h = refl
+resource_is t (type_ref.Func ref) (Func type) h = refl
+resource_is t (type_ref.Resource number) (Resource other) h = ap (λ (n : ℕ). Some n) h
+resource_is t (type_ref.Instance ref) (Instance externs) h = refl
+resource_is t ref c h = absurd h
+
+resource_in : (t : Table) (o : Option (Option TypeRef)) (p : Option (Option Closed)) → IsFoundAs (IsFoundAs (IsType t)) o p → option_and_then (option_and_then resource_ref) o ≡ option_and_then (option_and_then resource_of) p
+resource_in t None p h = rw h refl
+resource_in t (Some None) p h = rw (h.1, h.2) refl
+resource_in t (Some (Some ref)) p h = rw (h.1, h.2.1) (resource_is t ref h.2.0 h.2.2)
+
+pub resource_stands : (t : Table) (refs : List (Option TypeRef)) (closed : List (Option Closed)) (i : ℕ) → AreTypes t refs closed → option_and_then (option_and_then resource_ref) (slice_get refs i) ≡ close_resource closed i
+resource_stands t refs closed i h = resource_in t (slice_get refs i) (slice_get closed i) (found_at (IsFoundAs (IsType t)) refs closed i h)
+
 -- what a function type comes to, by its labels, its parameters and its result
 abbrev joined : Bool → Option (List Param) → Option (Option ValType) → Option Closed
 joined distinct params returned =
@@ -84,20 +123,20 @@ joined_whole : (distinct : Bool) (params : Option (List Param)) (returned : Opti
 joined_whole distinct params returned ps r h e f = rw (h, e, f) refl
 
 pub params_open : (closed : List (Option Closed)) (type : read_func.FuncType) → close_params closed type.params ≡ None → option_map Func (close_func closed type) ≡ None
-params_open closed type h = params_missing (is_none (first_twice (map (λ p. p.label) type.params))) (close_params closed type.params) (close_held closed type.result) h
+params_open closed type h = params_missing (is_none (first_twice (map (λ p. p.label) type.params))) (close_params closed type.params) (close_passed closed type.result) h
 
-pub returned_open : (closed : List (Option Closed)) (type : read_func.FuncType) → close_held closed type.result ≡ None → option_map Func (close_func closed type) ≡ None
-returned_open closed type h = result_missing (is_none (first_twice (map (λ p. p.label) type.params))) (close_params closed type.params) (close_held closed type.result) h
+pub returned_open : (closed : List (Option Closed)) (type : read_func.FuncType) → close_passed closed type.result ≡ None → option_map Func (close_func closed type) ≡ None
+returned_open closed type h = result_missing (is_none (first_twice (map (λ p. p.label) type.params))) (close_params closed type.params) (close_passed closed type.result) h
 
 -- A function type with its types.
 pub func_closed : (t u v : Table) (closed : List (Option Closed)) (type : read_func.FuncType) (distinct : Bool) (labels : List LabelledType) (returned : Option ℕ) (ref : FuncTypeRef)
     → Grows t u → distinct ≡ is_none (first_twice (map (λ p. p.label) type.params)) → distinct ≡ true
-    → (all : List Param) × (close_params closed type.params ≡ Some all) × AllZip (IsParam t.values) labels all → IsFoundAs (MayBeValue u.values) (Some returned) (close_held closed type.result)
+    → (all : List Param) × (close_params closed type.params ≡ Some all) × AllZip (IsParam t.values) labels all → IsFoundAs (MayBeValue u.values) (Some returned) (close_passed closed type.result)
     → ((f : FuncType) → IsFuncOf u.values labels returned f → IsFunc v ref f) → IsFoundAs (IsType v) (Some (type_ref.Func ref)) (option_map Func (close_func closed type))
 func_closed t u v closed type distinct labels returned ref g e h p r made =
     let f : FuncType = record { params = p.0; result = r.0 } in (
       Func f,
-      joined_whole (is_none (first_twice (map (λ p. p.label) type.params))) (close_params closed type.params) (close_held closed type.result) p.0 r.0 (sym e ∙ h) p.1 r.1,
+      joined_whole (is_none (first_twice (map (λ p. p.label) type.params))) (close_params closed type.params) (close_passed closed type.result) p.0 r.0 (sym e ∙ h) p.1 r.1,
       made f (labelled_stay t u g labels p.0 p.2, r.2),
     )
 

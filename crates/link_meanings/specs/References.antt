@@ -36,13 +36,7 @@ ref_of_sort sorts.Type (extern_ref.Type ref) = Some (extern_ref.Type ref)
 ref_of_sort sorts.Instance (extern_ref.Instance ref) = Some (extern_ref.Instance ref)
 ref_of_sort sort item = None
 
--- what an import or an export is to be: the index of its type, if it has one, and what it is, where its type is this one
-abbrev pub desc_index : ExternDesc → Option ℕ
-desc_index (desc.Func index) = Some index
-desc_index (desc.TypeEq index) = Some index
-desc_index (desc.Instance index) = Some index
-desc_index desc.Resource = None
-
+-- what an import or an export is to be, where its type is this one
 abbrev pub described_ref : ExternDesc → TypeRef → Option ExternRef
 described_ref (desc.Func index) (type_ref.Func ref) = Some (extern_ref.Func ref)
 described_ref (desc.TypeEq index) ref = Some (extern_ref.Type ref)

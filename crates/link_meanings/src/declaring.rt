@@ -12,11 +12,12 @@ ghost use Rattle.link_meanings.specs.Levels.{IsClosure, enclosed_types, enclosed
 ghost use Rattle.link_meanings.specs.Declaring.{IsDeclared};
 ghost use Rattle.link_meanings.specs.References.{type_ref_in, instance_ref_in};
 
-use crate::described::{described, sort_of};
+use crate::described::described;
 use crate::levels::Enclosing;
 use crate::so_far::SoFar;
 use ca_base::{Name, adds};
 use comp_tree::{ExternDesc, Sort};
+use link_spec::sort_of;
 use link_types::{ExternRef, InstanceTypeRef, Meant, TypeRef, Types};
 use std::alloc::{AllocError, Global};
 use std::collections::BTreeSet;

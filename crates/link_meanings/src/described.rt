@@ -3,42 +3,18 @@
 ghost use Rattle.std.specs.Prelude.{◌≡◌, ℕ, List, map, Some, Option};
 ghost use Rattle.std.specs.List.{slice_get, AllZip};
 ghost use Rattle.comp_graph.specs.Closed.{Closed};
-ghost use Rattle.link_spec.specs.Types as types_read;
-ghost use Rattle.link_spec.specs.Types.{desc_meaning};
+ghost use Rattle.link_spec.specs.Types.{desc_index, desc_meaning};
 ghost use Rattle.link_types.specs.Table.{Table, IsType, IsExtern};
 ghost use Rattle.link_meanings.specs.Meant.{IsMeaning};
 ghost use Rattle.link_meanings.specs.Levels.{AreTypes, enclosed_types};
-ghost use Rattle.link_meanings.specs.References.{desc_index, described_ref};
+ghost use Rattle.link_meanings.specs.References.{described_ref};
 
 use crate::levels::{Enclosing, Level};
-use comp_tree::{ExternDesc, Sort};
+use comp_tree::ExternDesc;
+use link_spec::desc_index;
 use link_types::{ExternRef, Meant, TypeRef};
 
-/// The sort of what an export is to be.
-pub(crate) fn sort_of(desc: ExternDesc) -> Sort
-    ensures { result ≡ types_read.sort_of desc }
-{
-    match desc {
-        ExternDesc::Func(_) => Sort::Func,
-        ExternDesc::TypeEq(_) => Sort::Type,
-        ExternDesc::Instance(_) => Sort::Instance,
-        ExternDesc::Resource => Sort::Type,
-    }
-}
-
-/// The index of its type, if it has one.
-fn index_of(desc: ExternDesc) -> Option<u32>
-    ensures { result ≡ desc_index desc }
-{
-    match desc {
-        ExternDesc::Func(index) => Some(index),
-        ExternDesc::TypeEq(index) => Some(index),
-        ExternDesc::Instance(index) => Some(index),
-        ExternDesc::Resource => None,
-    }
-}
-
-/// What it is to be, where its type is this one.
+/// What an import or an export is to be, where its type is this one.
 fn extern_of(desc: ExternDesc, closed: TypeRef) -> Option<ExternRef>
     ensures { result ≡ described_ref desc closed }
 {
@@ -56,7 +32,7 @@ fn extern_of(desc: ExternDesc, closed: TypeRef) -> Option<ExternRef>
 pub(crate) fn described<'a>(scope: &Enclosing<'_>, desc: ExternDesc) -> Meant<'a, ExternRef>
     ensures { (t : Table) (closed : List (Option Closed)) → AreTypes t (enclosed_types scope.now) closed → IsMeaning (IsExtern t) result (desc_meaning closed desc) }
 {
-    match index_of(desc) {
+    match desc_index(desc) {
         None => Meant::there(None),
         Some(index) => described_at(scope, desc, index),
     }

@@ -1,9 +1,8 @@
 //! Types of functions.
 
-ghost use Rattle.std.specs.Prelude.{◌≡◌, ◌<◌, List, length, map, is_none, Option, IfOk, IfSome};
+ghost use Rattle.std.specs.Prelude.{◌<◌, List, length, Option, IfOk, IfSome};
 ghost use Rattle.std.specs.List.{AllZip};
 ghost use Rattle.std.specs.Option.{option_map};
-ghost use Rattle.ca_base.specs.Names.{first_twice};
 ghost use Rattle.comp_graph.specs.Closed as closings;
 ghost use Rattle.comp_graph.specs.Closed.{Closed};
 ghost use Rattle.link_spec.specs.Types as types_read;
@@ -14,10 +13,9 @@ ghost use Rattle.link_meanings.specs.Meant.{IsFoundAs, IsMeaning};
 ghost use Rattle.link_meanings.specs.Levels.{AreTypes, enclosed_types};
 
 use crate::levels::Enclosing;
-use crate::values::{held_of, value_of};
-use ca_base::first_twice;
+use crate::values::{passed_of, value_of};
 use comp_tree::{FuncType, Param};
-use link_spec::all_within;
+use link_spec::{all_within, labels_are_distinct};
 use link_types::{LabelledType, Meant, TypeRef, Types};
 use std::alloc::{AllocError, Global};
 
@@ -62,14 +60,7 @@ fn all_labelled<'a>(
     Ok(Some(all))
 }
 
-/// Whether no label stands twice.
-fn labels_are_distinct(alloc: Global, params: &[Param]) -> Result<bool, AllocError>
-    ensures { IfOk result (λ distinct. distinct ≡ is_none (first_twice (map (λ p. p.label) params.now))) }
-{
-    Ok(first_twice(alloc, params)?.is_none())
-}
-
-/// A function type, where its labels are distinct and each value type in it has a meaning.
+/// A function type, where its labels are distinct, each value type in it has a meaning, and its result holds no borrowed handle.
 fn closed_func<'a>(
     alloc: Global,
     types: &mut Types<'a>,
@@ -86,7 +77,7 @@ fn closed_func<'a>(
     let Some(params) = all_labelled(alloc, types, scope, func_type.params.as_slice())? else {
         return Ok(None);
     };
-    let Some(returned) = held_of(alloc, types, scope, func_type.result)? else {
+    let Some(returned) = passed_of(alloc, types, scope, func_type.result)? else {
         return Ok(None);
     };
     let func_type = types.func_type(alloc, &params, returned)?;

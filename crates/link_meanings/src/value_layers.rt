@@ -2,16 +2,17 @@
 
 ghost use Rattle.std.specs.Prelude.{List, Option, IfOk};
 ghost use Rattle.std.specs.Option.{option_map, option_and_then};
+ghost use Rattle.ca_types.specs.declared.types.ValType.TheVariants as leaves;
 ghost use Rattle.ca_types.specs.declared.types.ValType.TheViews as val_type;
 ghost use Rattle.comp_graph.specs.Closed.{Closed};
-ghost use Rattle.link_spec.specs.ValueTypes.{close_all, close_val, close_held, close_field, close_case, close_parts};
+ghost use Rattle.link_spec.specs.ValueTypes.{close_all, close_val, close_held, close_passed, close_resource, close_field, close_case, close_parts};
 ghost use Rattle.link_types.specs.Table.{IsValue, Grows};
 ghost use Rattle.link_meanings.specs.Meant.{IsFoundAs};
 ghost use Rattle.link_meanings.specs.Levels.{AreTypes, enclosed_types};
 
 use crate::levels::Enclosing;
 use crate::numbered::{numbered_cases, numbered_fields, numbered_places};
-use crate::values::{held_of, primitive, value_of};
+use crate::values::{held_of, passed_of, primitive, resource_of, value_of};
 use comp_tree::{Case, DefValType, Field, ValTypeRef};
 use laid_types::ValTypeLayer;
 use link_types::Types;
@@ -121,37 +122,71 @@ fn result_type(
     Ok(Some(number))
 }
 
-/// The number of the stream type of an element, if there is one, where that has a type.
+/// The number of the stream type of an element, if there is one, where that has a type that holds no borrowed handle.
 fn stream_type(
     alloc: Global,
     types: &mut Types<'_>,
     scope: &Enclosing<'_>,
     element: Option<ValTypeRef>,
 ) -> Result<Option<usize>, AllocError>
-    ensures ok { IfOk result (λ o. (closed : List (Option Closed)) → AreTypes types.old (enclosed_types scope.now) closed → IsFoundAs (IsValue types.new) o (option_map val_type.Stream (close_held closed element))) }
+    ensures ok { IfOk result (λ o. (closed : List (Option Closed)) → AreTypes types.old (enclosed_types scope.now) closed → IsFoundAs (IsValue types.new) o (option_map val_type.Stream (close_passed closed element))) }
     ensures grows { Grows types.old types.new }
 {
-    let Some(element) = held_of(alloc, types, scope, element)? else {
+    let Some(element) = passed_of(alloc, types, scope, element)? else {
         return Ok(None);
     };
     let number = types.value_type(alloc, &ValTypeLayer::Stream(element))?;
     Ok(Some(number))
 }
 
-/// The number of the future type of a value, if there is one, where that has a type.
+/// The number of the future type of a value, if there is one, where that has a type that holds no borrowed handle.
 fn future_type(
     alloc: Global,
     types: &mut Types<'_>,
     scope: &Enclosing<'_>,
     element: Option<ValTypeRef>,
 ) -> Result<Option<usize>, AllocError>
-    ensures ok { IfOk result (λ o. (closed : List (Option Closed)) → AreTypes types.old (enclosed_types scope.now) closed → IsFoundAs (IsValue types.new) o (option_map val_type.Future (close_held closed element))) }
+    ensures ok { IfOk result (λ o. (closed : List (Option Closed)) → AreTypes types.old (enclosed_types scope.now) closed → IsFoundAs (IsValue types.new) o (option_map val_type.Future (close_passed closed element))) }
     ensures grows { Grows types.old types.new }
 {
-    let Some(element) = held_of(alloc, types, scope, element)? else {
+    let Some(element) = passed_of(alloc, types, scope, element)? else {
         return Ok(None);
     };
     let number = types.value_type(alloc, &ValTypeLayer::Future(element))?;
+    Ok(Some(number))
+}
+
+/// The number of the type of owning handles of the resource of an index, where that is one of a type of resources.
+fn own_type(
+    alloc: Global,
+    types: &mut Types<'_>,
+    scope: &Enclosing<'_>,
+    index: u32,
+) -> Result<Option<usize>, AllocError>
+    ensures ok { IfOk result (λ o. (closed : List (Option Closed)) → AreTypes types.old (enclosed_types scope.now) closed → IsFoundAs (IsValue types.new) o (option_map leaves.Own (close_resource closed index))) }
+    ensures grows { Grows types.old types.new }
+{
+    let Some(resource) = resource_of(scope, index)? else {
+        return Ok(None);
+    };
+    let number = types.value_type(alloc, &ValTypeLayer::Own(resource))?;
+    Ok(Some(number))
+}
+
+/// The same of borrowed handles.
+fn borrow_type(
+    alloc: Global,
+    types: &mut Types<'_>,
+    scope: &Enclosing<'_>,
+    index: u32,
+) -> Result<Option<usize>, AllocError>
+    ensures ok { IfOk result (λ o. (closed : List (Option Closed)) → AreTypes types.old (enclosed_types scope.now) closed → IsFoundAs (IsValue types.new) o (option_map leaves.Borrow (close_resource closed index))) }
+    ensures grows { Grows types.old types.new }
+{
+    let Some(resource) = resource_of(scope, index)? else {
+        return Ok(None);
+    };
+    let number = types.value_type(alloc, &ValTypeLayer::Borrow(resource))?;
     Ok(Some(number))
 }
 
@@ -175,7 +210,8 @@ pub(crate) fn over_parts<'a>(
         DefValType::Enum(labels) => Ok(Some(types.enum_type(alloc, labels.as_slice())?)),
         DefValType::Option(payload) => Ok(option_type(alloc, types, scope, *payload)?),
         DefValType::Result { ok, err } => Ok(result_type(alloc, types, scope, *ok, *err)?),
-        DefValType::Own(_) | DefValType::Borrow(_) => Ok(None),
+        DefValType::Own(resource) => Ok(own_type(alloc, types, scope, *resource)?),
+        DefValType::Borrow(resource) => Ok(borrow_type(alloc, types, scope, *resource)?),
         DefValType::Stream(element) => Ok(stream_type(alloc, types, scope, *element)?),
         DefValType::Future(element) => Ok(future_type(alloc, types, scope, *element)?),
     }

@@ -1,5 +1,5 @@
 -- Closed types that are apart: no two labels of a function type and no two names of an instance type are equal, at any depth of a
--- closed type, and no value type in it is deeper than it may be.
+-- closed type, no value type in it is deeper than it may be, and no borrowed handle is given or passes in a stream or a future.
 use Rattle.std.proofs.Common.{◌≡◌, ℕ, Bool, true, false, cond, List, [], ◌∷◌, length, map, refl, sym, ◌∙◌, ap₂, subst, Option, Some, None}
 use Rattle.std.specs.Prelude.{nat_le, is_none, IfSome}
 use Rattle.std.specs.Option.{option_map, option_and_then}
@@ -12,6 +12,7 @@ use Rattle.ca_types.specs.declared.types.ValType.TheVariants as leaves
 use Rattle.ca_types.specs.declared.types.Param.{Param}
 use Rattle.ca_types.specs.declared.types.FuncType.{FuncType}
 use Rattle.laid_types.specs.Depth.{depth}
+use Rattle.laid_types.specs.Handles.{held_borrow}
 use Rattle.comp_tree.specs.declared.externs.ExternDesc.{ExternDesc}
 use Rattle.comp_tree.specs.declared.externs.ExternDesc.TheVariants as desc
 use Rattle.comp_tree.specs.declared.types.PrimValType.TheVariants as prim
@@ -23,18 +24,20 @@ use Rattle.comp_tree.specs.declared.types.FuncType as read_func
 use Rattle.comp_graph.specs.Closed.{Closed, Value, Func, Resource, Instance, Extern, OfFunc, OfType, OfInstance, Externs, EmptyType, WithExtern, extern_names, extern_named, first_of, externs_of, func_of, value_of}
 use Rattle.link_spec.specs.Distinct.{HasDistinctLabels}
 use Rattle.link_spec.specs.Shallow.{depth_limit, IsShallow, HasShallowTypes}
+use Rattle.link_spec.specs.Lending.{lends, GivesNoBorrow}
 use Rattle.link_spec.specs.Meaning.{absent, meant, too_deep, found}
-use Rattle.link_spec.specs.ValueTypes.{close_val, close_held, parts_within, close_def, capped, value_meaning}
-use Rattle.link_spec.specs.Types.{close_param, close_params, close_func, all_within, func_meaning, desc_meaning}
+use Rattle.link_spec.specs.ValueTypes.{close_val, close_held, without_borrow, close_passed, parts_within, close_def, capped, value_meaning}
+use Rattle.link_spec.specs.Types.{close_param, close_params, close_func, all_within, func_meaning, desc_meaning, resource_meant, given_meaning}
 use Rattle.link_spec.proofs.Holding.{all_at, if_weaker, if_mapped, if_found, if_cond}
 use Rattle.link_spec.proofs.Depths.{at_most, leaf_shallow}
+use Rattle.link_spec.proofs.Lending.{leaf_lends, def_lends}
 
 abbrev pub IsFuncApart : FuncType → Type 0
-IsFuncApart type = HasDistinctLabels type × HasShallowTypes type
+IsFuncApart type = HasDistinctLabels type × HasShallowTypes type × GivesNoBorrow type
 
 abbrev mutual
   pub IsApart : Closed → Type 0
-  IsApart (Value type) = IsShallow type
+  IsApart (Value type) = IsShallow type × (lends type ≡ false)
   IsApart (Func type) = IsFuncApart type
   IsApart (Resource number) = Unit {0}
   IsApart (Instance externs) = AreApart externs
@@ -57,7 +60,7 @@ AreKnownApart externs = IfSome externs AreApart
 
 -- Value types.
 of_value_apart : (type : Closed) → IsApart type → IfSome (value_of type) IsShallow
-of_value_apart (Value type) h = h
+of_value_apart (Value type) h = h.0
 of_value_apart (Func type) h = tt
 of_value_apart (Resource number) h = tt
 of_value_apart (Instance externs) h = tt
@@ -71,19 +74,34 @@ held_shallow : (types : List (Option Closed)) (type : Option ValTypeRef) → All
 held_shallow types None h = tt
 held_shallow types (Some type) h = if_mapped (λ t. Some t) (λ held. IfSome held IsShallow) (close_val types type) (val_shallow types type h)
 
-capped_apart : (o : Option ValType) → IfSome (capped o).means IsApart
-capped_apart None = tt
-capped_apart (Some type) = by_test (nat_le (depth type) depth_limit) refl
+-- what is passed, if anything is: it holds no borrowed handle
+abbrev IsPassed : Option ValType → Type 0
+IsPassed held = IfSome held IsShallow × (held_borrow held ≡ false)
+
+passed_of_held : (o : Option (Option ValType)) → IfSome o (λ held. IfSome held IsShallow) → IfSome (option_and_then without_borrow o) IsPassed
+passed_of_held None h = tt
+passed_of_held (Some held) h = by_test (held_borrow held) refl
+  where
+    by_test : (b : Bool) → held_borrow held ≡ b → IfSome (cond b None (Some held)) IsPassed
+    by_test true e = tt
+    by_test false e = (h, e)
+
+passed_shallow : (types : List (Option Closed)) (type : Option ValTypeRef) → AllByRecursion IsKnownApart types → IfSome (close_passed types type) IsPassed
+passed_shallow types type h = passed_of_held (close_held types type) (held_shallow types type h)
+
+capped_apart : (o : Option ValType) → IfSome o (λ type. lends type ≡ false) → IfSome (capped o).means IsApart
+capped_apart None k = tt
+capped_apart (Some type) k = by_test (nat_le (depth type) depth_limit) refl
   where
     by_test : (b : Bool) → nat_le (depth type) depth_limit ≡ b → IfSome (cond b (meant (Some (Value type))) (too_deep (Value leaves.Bool))).means IsApart
-    by_test true h = at_most (depth type) depth_limit h
-    by_test false h = leaf_shallow prim.Bool
+    by_test true h = (at_most (depth type) depth_limit h, k)
+    by_test false h = (leaf_shallow prim.Bool, leaf_lends prim.Bool)
 
 pub value_meaning_apart : (types : List (Option Closed)) (type : DefValType) → IfSome (value_meaning types type).means IsApart
 value_meaning_apart types type = by_test (parts_within (length types) type)
   where
     by_test : (b : Bool) → IfSome (cond b (capped (close_def types type)) absent).means IsApart
-    by_test true = capped_apart (close_def types type)
+    by_test true = capped_apart (close_def types type) (def_lends types type)
     by_test false = tt
 
 -- Function types: a parameter that is closed, and all of them.
@@ -122,9 +140,9 @@ func_apart : (types : List (Option Closed)) (type : read_func.FuncType) → AllB
 func_apart types type h =
     if_test IsFuncApart (is_none (first_twice (map (λ (p : read_param.Param). p.label) type.params))) _ (λ test.
     (let distinct = distinct_names (map (λ (p : read_param.Param). p.label) type.params) (is_none (first_twice (map (λ (p : read_param.Param). p.label) type.params))) refl test in
-    if_found (λ params. option_map (λ returned. (let f : FuncType = record { params = params; result = returned } in f)) (close_held types type.result)) (AreClosedAs type.params) IsFuncApart
-    (λ params k. if_mapped (λ returned. (let f : FuncType = record { params = params; result = returned } in f)) IsFuncApart (close_held types type.result)
-    (if_weaker (λ held. IfSome held IsShallow) (λ returned. IsFuncApart (record { params = params; result = returned })) (λ returned j. (subst AreDistinct (sym k.0) distinct, (k.1, j))) (close_held types type.result) (held_shallow types type.result h)))
+    if_found (λ params. option_map (λ returned. (let f : FuncType = record { params = params; result = returned } in f)) (close_passed types type.result)) (AreClosedAs type.params) IsFuncApart
+    (λ params k. if_mapped (λ returned. (let f : FuncType = record { params = params; result = returned } in f)) IsFuncApart (close_passed types type.result)
+    (if_weaker IsPassed (λ returned. IsFuncApart (record { params = params; result = returned })) (λ returned j. (subst AreDistinct (sym k.0) distinct, (k.1, j.0), j.1)) (close_passed types type.result) (passed_shallow types type.result h)))
     (close_params types type.params) (params_apart types type.params h)))
 
 pub func_meaning_apart : (types : List (Option Closed)) (type : read_func.FuncType) → AllByRecursion IsKnownApart types → IfSome (func_meaning types type).means IsApart
@@ -159,6 +177,19 @@ desc_apart types (desc.TypeEq index) h =
 desc_apart types (desc.Instance index) h =
     found_apart (λ type. option_map OfInstance (externs_of type)) IsApart IsExternApart (λ type k. if_mapped OfInstance IsExternApart (externs_of type) (of_externs_apart type k)) (slice_get types index) (all_at IsKnownApart types index h)
 desc_apart types desc.Resource h = tt
+
+resource_apart : (given : Option Closed) → IfSome (resource_meant given).means IsExternApart
+resource_apart (Some (Resource number)) = tt
+resource_apart (Some (Value type)) = tt
+resource_apart (Some (Func type)) = tt
+resource_apart (Some (Instance externs)) = tt
+resource_apart None = tt
+
+pub meant_apart : (types : List (Option Closed)) (given : Option Closed) (asked : ExternDesc) → AllByRecursion IsKnownApart types → IfSome (given_meaning types given asked).means IsExternApart
+meant_apart types given (desc.Func index) h = desc_apart types (desc.Func index) h
+meant_apart types given (desc.TypeEq index) h = desc_apart types (desc.TypeEq index) h
+meant_apart types given (desc.Instance index) h = desc_apart types (desc.Instance index) h
+meant_apart types given desc.Resource h = resource_apart given
 
 -- the export of a name
 first_apart : (a b : Option Extern) → IfSome a IsExternApart → IfSome b IsExternApart → IfSome (first_of a b) IsExternApart

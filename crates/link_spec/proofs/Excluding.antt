@@ -35,14 +35,14 @@ use Rattle.link_spec.specs.Definitions.{CoreItem, CoreExport, core_named, CoreFi
 use Rattle.link_spec.specs.Canons.{IsOptionThere, given_by, IsOfCoreType, CanBeLifted, CanBeLowered}
 use Rattle.link_spec.specs.Builtins.{BuiltinMeaning, builtin_meaning}
 use Rattle.link_spec.specs.Resources.{resource_written, resource_has, resource_makes}
-use Rattle.link_spec.specs.Types.{Meaning, found, desc_meaning}
+use Rattle.link_spec.specs.Types.{Meaning, found, resource_meant}
 use Rattle.link_spec.specs.Spaces.{Spaces, Linking, core_size, size_of, core_item_at, definition_at, IsOfSort, levels_at, outer_at}
-use Rattle.link_spec.specs.Items.{AnyByRecursion, first_told, argument_named, import_found, argument_lacking, import_lacks, FindsOther, IsThere, FindsItem, core_instance_has, IsInline, core_instance_makes, AreNamed, named_have, instance_has, instance_makes, IsCoreOf, alias_has, alias_makes, type_has, type_makes, defined_has, defined_makes, type_meaning, lift_has, lift_makes, lower_has, lower_makes, builtin_has, builtin_makes, wanted, IsOfTypes, IsRootImport, lacking, DoesNotFit, import_has, IsImported, import_makes, said, IsSaid, export_has, IsExported, export_makes, has_case, makes_case}
+use Rattle.link_spec.specs.Items.{AnyByRecursion, first_told, argument_named, import_found, argument_lacking, import_lacks, FindsOther, IsThere, FindsItem, core_instance_has, IsInline, core_instance_makes, AreNamed, named_have, instance_has, instance_makes, IsCoreOf, alias_has, alias_makes, type_has, type_makes, defined_has, defined_makes, type_meaning, lift_has, lift_makes, lower_has, lower_makes, builtin_has, builtin_makes, type_given, meant_of, given_for, wanted, IsOfTypes, IsRootImport, lacking, DoesNotFit, import_has, IsImported, import_makes, said, IsSaid, export_has, IsExported, export_makes, has_case, makes_case}
 use Rattle.link_spec.specs.Linked.{Begins}
 use Rattle.link_spec.specs.Laws.{MakesExcludesReasons, BeginsExcludesReasons, MakesExcludesBegins}
 use Rattle.link_spec.proofs.Lists.{some_all, some_zip, none_told, match_at, map_some, then_some, not_there, mapped_there}
 use Rattle.link_spec.proofs.Fitting.{fits_lacks}
-use Rattle.link_spec.proofs.Meanings.{IsWhole, whole_desc, whole_meaning}
+use Rattle.link_spec.proofs.Meanings.{IsWhole, whole_given, whole_meaning}
 
 -- an option that has a value and none
 pub both_of : {A : Type 0} (o : Option A) (a : A) → o ≡ Some a → o ≡ None → ⊥
@@ -229,27 +229,31 @@ builtin_excludes l n s meaning new (why.Missing name) k h = h
 -- Imports.
 
 -- an import of the root of a meaning that may be imported is none that may not
-root_excludes : (types : List (Option Closed)) (asked : ExternDesc) (name : List ℕ) (extern : Extern) (d : Definition) → (desc_meaning types asked).means ≡ Some extern → IsImported None name extern d → IsRootImport (desc_meaning types asked) asked → ⊥
-root_excludes types (desc.Instance index) name (OfInstance externs) d is h k = match_at (λ extern. IsOfTypes extern → ⊥) (desc_meaning types (desc.Instance index)).means (OfInstance externs) is k h.0
-root_excludes types (desc.Instance index) name (OfFunc type) d is h k = h
-root_excludes types (desc.Instance index) name (OfType type) d is h k = h
-root_excludes types (desc.Func index) name (OfFunc type) d is h k = h
-root_excludes types (desc.Func index) name (OfType type) d is h k = h
-root_excludes types (desc.Func index) name (OfInstance externs) d is h k = no_func (slice_get types index) is
+root_excludes : (s : Spaces) (asked : ExternDesc) (name : List ℕ) (extern : Extern) (d : Definition) → s.arguments ≡ None → (wanted s name asked).means ≡ Some extern → IsImported None name extern d → IsRootImport (wanted s name asked) asked → ⊥
+root_excludes s (desc.Instance index) name (OfInstance externs) d root is h k = match_at (λ extern. IsOfTypes extern → ⊥) (wanted s name (desc.Instance index)).means (OfInstance externs) is k h.0
+root_excludes s (desc.Instance index) name (OfFunc type) d root is h k = h
+root_excludes s (desc.Instance index) name (OfType type) d root is h k = h
+root_excludes s (desc.Func index) name (OfFunc type) d root is h k = h
+root_excludes s (desc.Func index) name (OfType type) d root is h k = h
+root_excludes s (desc.Func index) name (OfInstance externs) d root is h k = no_func (slice_get (map Some s.types) index) is
   where
     no_func : (o : Option (Option Closed)) → (found (λ type. option_map OfFunc (func_of type)) o).means ≡ Some (OfInstance externs) → ⊥
     no_func None e = cc
     no_func (Some None) e = cc
     no_func (Some (Some type)) e = let p = map_some OfFunc (func_of type) (OfInstance externs) e in cc
-root_excludes types (desc.TypeEq index) name (OfFunc type) d is h k = h
-root_excludes types (desc.TypeEq index) name (OfType type) d is h k = h
-root_excludes types (desc.TypeEq index) name (OfInstance externs) d is h k = no_type (slice_get types index) is
+root_excludes s (desc.TypeEq index) name (OfFunc type) d root is h k = h
+root_excludes s (desc.TypeEq index) name (OfType type) d root is h k = h
+root_excludes s (desc.TypeEq index) name (OfInstance externs) d root is h k = no_type (slice_get (map Some s.types) index) is
   where
     no_type : (o : Option (Option Closed)) → (found (λ type. Some (OfType type)) o).means ≡ Some (OfInstance externs) → ⊥
     no_type None e = cc
     no_type (Some None) e = cc
     no_type (Some (Some type)) e = cc
-root_excludes types desc.Resource name extern d is h k = cc
+root_excludes s desc.Resource name extern d root is h k = no_resource s.arguments root is
+  where
+    no_resource : (o : Option Exports) → o ≡ None → (resource_meant (type_given (option_and_then (export_named name) o))).means ≡ Some extern → ⊥
+    no_resource None e f = cc
+    no_resource (Some given) e f = cc
 
 -- what is given of what an import takes
 given_fits : (given : Exports) (name : List ℕ) (extern : Extern) (meaning : Option Extern) (missing : List ℕ) → meaning ≡ Some extern → (x : Definition) → export_named name given ≡ Some x → Fits x extern → lacking (export_named name given) name meaning ≡ Some missing → ⊥
@@ -264,29 +268,29 @@ fits_another o e x extern there is fits h =
 
 import_excludes : (l : Linking) (n : ℕ) (s : Spaces) (name : List ℕ) (asked : ExternDesc) (new : Linking) (w : LinkWhy) → import_makes l n s name asked new → import_has s name asked w → ⊥
 import_excludes l n s name asked new why.RootImport (extern, d, is, fresh, imported, made) h =
-    root_excludes (map Some s.types) asked name extern d is (subst (λ (o : Option Exports). IsImported o name extern d) h.0 imported) h.1
-import_excludes l n s name asked new why.Index (extern, d, is, fresh, imported, made) h = true_false (wanted s asked).is_there (whole_desc (map Some s.types) asked extern is).0 h
+    root_excludes s asked name extern d h.0 is (subst (λ (o : Option Exports). IsImported o name extern d) h.0 imported) h.1
+import_excludes l n s name asked new why.Index (extern, d, is, fresh, imported, made) h = true_false (wanted s name asked).is_there (whole_given (map Some s.types) (type_given (given_for s name)) asked extern is).0 h
 import_excludes l n s name asked new (why.Missing missing) (extern, d, is, fresh, imported, made) h = by s.arguments imported h
   where
-    by : (o : Option Exports) → IsImported o name extern d → MatchOption o ⊥ (λ given. lacking (export_named name given) name (wanted s asked).means ≡ Some missing) → ⊥
+    by : (o : Option Exports) → IsImported o name extern d → MatchOption o ⊥ (λ given. lacking (export_named name given) name (wanted s name asked).means ≡ Some missing) → ⊥
     by None i h = h
-    by (Some given) i h = given_fits given name extern (wanted s asked).means missing is i.0 i.1 i.2 h
+    by (Some given) i h = given_fits given name extern (wanted s name asked).means missing is i.0 i.1 i.2 h
 import_excludes l n s name asked new why.Typing (extern, d, is, fresh, imported, made) (inl twice) = true_false (is_among name s.imports) twice fresh
-import_excludes l n s name asked new why.Typing (extern, d, is, fresh, imported, made) (inr (inl none)) = both_of (wanted s asked).means extern is none
+import_excludes l n s name asked new why.Typing (extern, d, is, fresh, imported, made) (inr (inl none)) = both_of (wanted s name asked).means extern is none
 import_excludes l n s name asked new why.Typing (extern, d, is, fresh, imported, made) (inr (inr other)) = by s.arguments imported other
   where
-    by : (o : Option Exports) → IsImported o name extern d → MatchOption o ⊥ (λ given. DoesNotFit (export_named name given) (wanted s asked).means) → ⊥
+    by : (o : Option Exports) → IsImported o name extern d → MatchOption o ⊥ (λ given. DoesNotFit (export_named name given) (wanted s name asked).means) → ⊥
     by None i h = h
-    by (Some given) i h = fits_another (export_named name given) (wanted s asked).means i.0 extern i.1 is i.2 h
+    by (Some given) i h = fits_another (export_named name given) (wanted s name asked).means i.0 extern i.1 is i.2 h
 import_excludes l n s name asked new why.Canon k h = h
 import_excludes l n s name asked new why.Limit k h = h
 
 -- Exports.
 
 -- a meaning that is said, and what it says of what is exported
-said_whole : (s : Spaces) (asked : Option ExternDesc) (d x : Definition) → IsExported (said s asked) d x → IsSaid (said s asked) (λ meaning. meaning.is_there ≡ false) → ⊥
-said_whole s None d x h k = k
-said_whole s (Some asked) d x h k = true_false (wanted s asked).is_there (whole_desc (map Some s.types) asked h.0 h.1).0 k
+said_whole : (s : Spaces) (given : Option Definition) (asked : Option ExternDesc) (d x : Definition) → IsExported (option_map (meant_of s given) asked) d x → IsSaid (option_map (meant_of s given) asked) (λ meaning. meaning.is_there ≡ false) → ⊥
+said_whole s given None d x h k = k
+said_whole s given (Some asked) d x h k = true_false (meant_of s given asked).is_there (whole_given (map Some s.types) (type_given given) asked h.0 h.1).0 k
 
 said_lacks : (name : List ℕ) (meaning : Option (Meaning Extern)) (d x : Definition) (missing : List ℕ) → IsExported meaning d x → IsSaid meaning (λ meaning. MatchOption meaning.means ⊥ (λ extern. lacks (Some d) name extern ≡ Some missing)) → ⊥
 said_lacks name None d x missing h k = k
@@ -300,13 +304,13 @@ said_other (Some meaning) o d x there h (inr other) = fits_another o meaning.mea
 
 export_excludes : (l : Linking) (n : ℕ) (s : Spaces) (e : read.Export) (new : Linking) (w : LinkWhy) → export_makes l n s e new → export_has s e w → ⊥
 export_excludes l n s e new why.Index (d, x, is, fresh, exported, made) (inl past) = definition_there s e.sort e.index d is past
-export_excludes l n s e new why.Index (d, x, is, fresh, exported, made) (inr none) = said_whole s e.desc d x exported none
+export_excludes l n s e new why.Index (d, x, is, fresh, exported, made) (inr none) = said_whole s (definition_at s e.sort e.index) e.desc d x exported none
 export_excludes l n s e new (why.Missing missing) (d, x, is, fresh, exported, made) h =
-    said_lacks e.name (said s e.desc) d x missing exported
-    (match_at (λ d. IsSaid (said s e.desc) (λ meaning. MatchOption meaning.means ⊥ (λ extern. lacks (Some d) e.name extern ≡ Some missing))) (definition_at s e.sort e.index) d is h)
+    said_lacks e.name (said s e) d x missing exported
+    (match_at (λ d. IsSaid (said s e) (λ meaning. MatchOption meaning.means ⊥ (λ extern. lacks (Some d) e.name extern ≡ Some missing))) (definition_at s e.sort e.index) d is h)
 export_excludes l n s e new why.Typing (d, x, is, fresh, exported, made) (inl twice) = true_false (is_among e.name (export_names s.exports)) twice fresh
 export_excludes l n s e new why.Typing (d, x, is, fresh, exported, made) (inr (inl none)) = both_of (definition_at s e.sort e.index) d is none
-export_excludes l n s e new why.Typing (d, x, is, fresh, exported, made) (inr (inr other)) = said_other (said s e.desc) (definition_at s e.sort e.index) d x is exported other
+export_excludes l n s e new why.Typing (d, x, is, fresh, exported, made) (inr (inr other)) = said_other (said s e) (definition_at s e.sort e.index) d x is exported other
 export_excludes l n s e new why.RootImport k h = h
 export_excludes l n s e new why.Canon k h = h
 export_excludes l n s e new why.Limit k h = h

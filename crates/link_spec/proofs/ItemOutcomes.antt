@@ -237,18 +237,18 @@ abbrev ImportMakes : Linking → ℕ → Spaces → List ℕ → ExternDesc → 
 ImportMakes l n s name asked = MakesBy (import_makes l n s name asked)
 
 -- an import of the root
-root_end : (l : Linking) (n : ℕ) (s : Spaces) (name : List ℕ) (asked : ExternDesc) (extern : Extern) → s.arguments ≡ None → (wanted s asked).means ≡ Some extern → is_among name s.imports ≡ false → IsOfTypes extern
+root_end : (l : Linking) (n : ℕ) (s : Spaces) (name : List ℕ) (asked : ExternDesc) (extern : Extern) → s.arguments ≡ None → (wanted s name asked).means ≡ Some extern → is_among name s.imports ≡ false → IsOfTypes extern
     → Sound (import_has s name asked) (ImportMakes l n s name asked) (after (root_given extern) (λ d. Ok (Makes (with_spaces l n (with_import s name d)))))
 root_end l n s name asked (OfFunc type) of_root is fresh types = absurd types
 root_end l n s name asked (OfType type) of_root is fresh types = absurd types
 root_end l n s name asked (OfInstance externs) of_root is fresh types =
     (OfInstance externs, AnInstance (types_of externs), is, fresh, subst (λ (o : Option Exports). IsImported o name (OfInstance externs) (AnInstance (types_of externs))) (sym of_root) (types, refl), refl)
 
-root_sound : (l : Linking) (n : ℕ) (s : Spaces) (name : List ℕ) (asked : ExternDesc) → s.arguments ≡ None → Sound (import_has s name asked) (ImportMakes l n s name asked) (import_outcome l n s name (wanted s asked) asked None)
+root_sound : (l : Linking) (n : ℕ) (s : Spaces) (name : List ℕ) (asked : ExternDesc) → s.arguments ≡ None → Sound (import_has s name asked) (ImportMakes l n s name asked) (import_outcome l n s name (wanted s name asked) asked None)
 root_sound l n s name asked of_root =
     let P = import_has s name asked in
     let Q = ImportMakes l n s name asked in
-    let meaning = wanted s asked in
+    let meaning = wanted s name asked in
     sound_if P Q (root_may_import asked meaning.means) why.RootImport _ (λ w low h. absurd (omega arith)) (λ refused. (of_root, root_refused meaning asked refused)) (λ taken.
     (let root = clear_root P (λ h. root_taken meaning asked taken h.1) in
     sound_if P Q meaning.is_there why.Index _ root (λ absent. absent) (λ there.
@@ -257,11 +257,11 @@ root_sound l n s name asked of_root =
     sound_there P Q meaning.means why.Typing _ missing (λ none. inr (inl none)) (λ extern is.
     root_end l n s name asked extern of_root is (not_true (is_among name s.imports) fresh) (root_types meaning.means asked extern taken is)))))))
 
-given_sound : (l : Linking) (n : ℕ) (s : Spaces) (name : List ℕ) (asked : ExternDesc) (given : Exports) → s.arguments ≡ Some given → Sound (import_has s name asked) (ImportMakes l n s name asked) (import_outcome l n s name (wanted s asked) asked (Some given))
+given_sound : (l : Linking) (n : ℕ) (s : Spaces) (name : List ℕ) (asked : ExternDesc) (given : Exports) → s.arguments ≡ Some given → Sound (import_has s name asked) (ImportMakes l n s name asked) (import_outcome l n s name (wanted s name asked) asked (Some given))
 given_sound l n s name asked given of_given =
     let P = import_has s name asked in
     let Q = ImportMakes l n s name asked in
-    let meaning = wanted s asked in
+    let meaning = wanted s name asked in
     let root = clear_root P (λ h. both_of s.arguments given of_given h.0) in
     sound_if P Q meaning.is_there why.Index _ root (λ absent. absent) (λ there.
     (let index = clear_index P root (λ h. true_false meaning.is_there there h) in
@@ -277,10 +277,10 @@ given_sound l n s name asked given of_given =
     (subst (λ (o : Option Definition). DoesNotFit o meaning.means) (sym found) (subst (λ (e : Option Extern). DoesNotFit (Some x) e) (sym is) (fails (fits x extern) (fits_told x extern) other))))))
     (λ right. (extern, seen_as x extern, is, not_true (is_among name s.imports) fresh, subst (λ (o : Option Exports). IsImported o name extern (seen_as x extern)) (sym of_given) (x, found, (fits_told x extern).0 right, refl), refl)))))))))
 
-pub import_sound : (l : Linking) (n : ℕ) (s : Spaces) (name : List ℕ) (asked : ExternDesc) → Sound (import_has s name asked) (ImportMakes l n s name asked) (import_outcome l n s name (wanted s asked) asked s.arguments)
+pub import_sound : (l : Linking) (n : ℕ) (s : Spaces) (name : List ℕ) (asked : ExternDesc) → Sound (import_has s name asked) (ImportMakes l n s name asked) (import_outcome l n s name (wanted s name asked) asked s.arguments)
 import_sound l n s name asked = by s.arguments refl
   where
-    by : (o : Option Exports) → s.arguments ≡ o → Sound (import_has s name asked) (ImportMakes l n s name asked) (import_outcome l n s name (wanted s asked) asked o)
+    by : (o : Option Exports) → s.arguments ≡ o → Sound (import_has s name asked) (ImportMakes l n s name asked) (import_outcome l n s name (wanted s name asked) asked o)
     by None e = root_sound l n s name asked e
     by (Some given) e = given_sound l n s name asked given e
 
@@ -314,12 +314,12 @@ abbrev ExportMakes : Linking → ℕ → Spaces → read.Export → Outcome → 
 ExportMakes l n s e = MakesBy (export_makes l n s e)
 
 export_end : (l : Linking) (n : ℕ) (s : Spaces) (e : read.Export) (d : Definition) → definition_at s e.sort e.index ≡ Some d → is_among e.name (export_names s.exports) ≡ false → Clear (export_has s e) 3
-    → (m : Option (Meaning Extern)) → said s e.desc ≡ m → Sound (export_has s e) (ExportMakes l n s e) (after (as_said d m) (λ x. Ok (Makes (with_spaces l n (with_export s e.name x)))))
+    → (m : Option (Meaning Extern)) → said s e ≡ m → Sound (export_has s e) (ExportMakes l n s e) (after (as_said d m) (λ x. Ok (Makes (with_spaces l n (with_export s e.name x)))))
 export_end l n s e d is fresh clear None unsaid = (d, d, is, fresh, subst (λ (m : Option (Meaning Extern)). IsExported m d d) (sym unsaid) refl, refl)
 export_end l n s e d is fresh clear (Some meaning) means = by meaning.means refl
   where
     other : (meaning.means ≡ None) ⊎ DoesNotFit (definition_at s e.sort e.index) meaning.means → export_has s e why.Typing
-    other h = inr (inr (match_in (λ (meaning : Meaning Extern). (meaning.means ≡ None) ⊎ DoesNotFit (definition_at s e.sort e.index) meaning.means) (said s e.desc) meaning means h))
+    other h = inr (inr (match_in (λ (meaning : Meaning Extern). (meaning.means ≡ None) ⊎ DoesNotFit (definition_at s e.sort e.index) meaning.means) (said s e) meaning means h))
 
     by : (o : Option Extern) → meaning.means ≡ o → Sound (export_has s e) (ExportMakes l n s e) (after (after (there_or why.Typing o) (λ extern. as_asked d extern)) (λ x. Ok (Makes (with_spaces l n (with_export s e.name x)))))
     by None none = record { has = other (inl none); clear = clear }
@@ -334,15 +334,15 @@ export_sound l n s e =
     let Q = ExportMakes l n s e in
     let root = clear_root P (λ h. h) in
     sound_if P Q (nat_lt e.index (size_of s e.sort)) why.Index _ root (λ past. inl (not_less e.index (size_of s e.sort) past)) (λ within.
-    sound_if P Q (said_is_there (said s e.desc)) why.Index _ root (λ absent. inr (says_absent (said s e.desc) absent)) (λ there.
+    sound_if P Q (said_is_there (said s e)) why.Index _ root (λ absent. inr (says_absent (said s e) absent)) (λ there.
     (let index = clear_index P root (λ h. elim h [
       | inl past ↦ (let near = less e.index (size_of s e.sort) within in omega arith)
-      | inr absent ↦ says_there (said s e.desc) there absent
+      | inr absent ↦ says_there (said s e) there absent
     ]) in
     sound_found P Q (definition_at s e.sort e.index) why.Typing _
-    (λ none. (let f : First P why.Typing = record { has = inr (inl none); clear = clear_missing P index (λ missing h. match_none (λ d. SaysLack e.name d (said s e.desc) missing) (definition_at s e.sort e.index) none h) } in f)) (λ d is.
-    sound_missing P Q (said_lacks e.name d (said s e.desc)) _ index
-    (λ missing lacks. match_in (λ d. SaysLack e.name d (said s e.desc) missing) (definition_at s e.sort e.index) d is (says_lack e.name d (said s e.desc) missing lacks)) (λ none.
-    (let clear = clear_missing P index (λ missing h. both_of (said_lacks e.name d (said s e.desc)) missing (lack_said e.name d (said s e.desc) missing (match_at (λ d. SaysLack e.name d (said s e.desc) missing) (definition_at s e.sort e.index) d is h)) none) in
+    (λ none. (let f : First P why.Typing = record { has = inr (inl none); clear = clear_missing P index (λ missing h. match_none (λ d. SaysLack e.name d (said s e) missing) (definition_at s e.sort e.index) none h) } in f)) (λ d is.
+    sound_missing P Q (said_lacks e.name d (said s e)) _ index
+    (λ missing lacks. match_in (λ d. SaysLack e.name d (said s e) missing) (definition_at s e.sort e.index) d is (says_lack e.name d (said s e) missing lacks)) (λ none.
+    (let clear = clear_missing P index (λ missing h. both_of (said_lacks e.name d (said s e)) missing (lack_said e.name d (said s e) missing (match_at (λ d. SaysLack e.name d (said s e) missing) (definition_at s e.sort e.index) d is h)) none) in
     sound_if P Q (not (is_among e.name (export_names s.exports))) why.Typing _ clear (λ twice. inl (not_false (is_among e.name (export_names s.exports)) twice)) (λ fresh.
-    export_end l n s e d is (not_true (is_among e.name (export_names s.exports)) fresh) clear (said s e.desc) refl)))))))
+    export_end l n s e d is (not_true (is_among e.name (export_names s.exports)) fresh) clear (said s e) refl)))))))

@@ -1,5 +1,6 @@
 pub mod Apart
 pub mod ApartMeanings
+pub mod BuiltinsLend
 pub mod CoreOutcomes
 pub mod DepthSamples
 pub mod Depths
@@ -12,6 +13,7 @@ pub mod Holding
 pub mod InstanceSamples
 pub mod ItemOutcomes
 pub mod Kept
+pub mod Lending
 pub mod Lengths
 pub mod Lifting
 pub mod LiftsThere

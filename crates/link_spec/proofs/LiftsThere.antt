@@ -28,7 +28,7 @@ use Rattle.comp_tree.specs.declared.builtins.CanonEndOp.TheVariants as read_op
 use Rattle.comp_tree.specs.declared.items.CanonOption.{CanonOption}
 use Rattle.link_spec.specs.Definitions.{Lifted}
 use Rattle.link_spec.specs.Canons.{Given, given_by, options_of, IsOfCoreType, CanBeLifted, CanBeUsed, CanBeLowered, stand_once, can_be_used}
-use Rattle.link_spec.specs.ValueTypes.{close_held}
+use Rattle.link_spec.specs.ValueTypes.{close_passed}
 use Rattle.link_spec.specs.Builtins.{return_meaning, elements_at, end_meaning, resource_meaning, builtin_meaning}
 use Rattle.link_spec.specs.Resources.{resource_numbered, resource_serves}
 use Rattle.link_spec.specs.Items.{lifted_with, lowered_with}
@@ -176,7 +176,7 @@ builtin_is cores canons l n s (read_builtin.Wait op cancellable memory) h g serv
     if_mapped (λ m. builtin.Wait op cancellable m) (IsBuiltinThere cores canons l.resources n) (option_and_then core_memory_of (slice_get s.core_memories memory))
     (given_memory cores canons (slice_get s.core_memories memory) (all_at (IsMemoryItem cores canons) s.core_memories memory h))
 builtin_is cores canons l n s (read_builtin.TaskReturn result options) h g serves =
-    return_there cores canons l.resources n (close_held (map Some s.types) result) options (given_by s options) (g options) serves
+    return_there cores canons l.resources n (close_passed (map Some s.types) result) options (given_by s options) (g options) serves
 builtin_is cores canons l n s (read_builtin.End kind end_type op) h g serves = end_there cores canons l.resources n kind (elements_at s kind end_type) (given_by s) op g serves
 builtin_is cores canons l n s (read_builtin.Resource op resource) h g serves = resource_there cores canons l.resources n op (option_and_then resource_of (slice_get s.types resource)) serves
 

@@ -146,7 +146,7 @@ exported_once (Some meaning) d a b (extern, is, fits, seen) (extern', is', fits'
 export_once : (l : Linking) (n : ℕ) (s : Spaces) (e : read.Export) (a b : Linking) → export_makes l n s e a → export_makes l n s e b → a ≡ b
 export_once l n s e a b (d, x, is, fresh, exported, made) (d', x', is', fresh', exported', made') =
     let definitions : d ≡ d' = one_value _ d d' is is' in
-    let same : x ≡ x' = exported_once (said s e.desc) d x x' exported (subst (λ (d : Definition). IsExported (said s e.desc) d x') (sym definitions) exported') in
+    let same : x ≡ x' = exported_once (said s e) d x x' exported (subst (λ (d : Definition). IsExported (said s e) d x') (sym definitions) exported') in
     both_made (λ x. with_spaces l n (with_export s e.name x)) x x' a b same made made'
 
 -- Items.

@@ -20,13 +20,13 @@ use Rattle.comp_tree.specs.declared.types.InstanceDecl.{InstanceDecl}
 use Rattle.comp_tree.specs.declared.types.DefType.TheViews.{roll-InstanceDecl}
 use Rattle.comp_tree.specs.declared.types.DefType.TheOpen.{DefType-F, InstanceDecl-F}
 use Rattle.comp_tree.specs.declared.types.DefType.TheFolds.{fold-DefType, fold-InstanceDecl, fold-roll-DefType, fold-roll-InstanceDecl, ind-DefType, map-DefType, map-InstanceDecl}
-use Rattle.comp_graph.specs.Closed.{Closed, Value, Func, Instance, Extern, OfFunc, OfType, OfInstance, Externs, first_of, extern_named, externs_of, func_of}
+use Rattle.comp_graph.specs.Closed.{Closed, Value, Func, Resource, Instance, Extern, OfFunc, OfType, OfInstance, Externs, first_of, extern_named, externs_of, func_of}
 use Rattle.link_spec.specs.Definitions.{Closure}
 use Rattle.link_spec.specs.Spaces.{Level}
 use Rattle.link_spec.specs.Meaning.{Meaning, absent, meant, too_deep, found, kept_if, and_told}
 use Rattle.link_spec.specs.Shallow.{depth_limit}
 use Rattle.link_spec.specs.ValueTypes.{parts_within, close_def, capped, value_meaning}
-use Rattle.link_spec.specs.Types.{all_within, close_func, func_meaning, desc_meaning, Declared, nothing_declared, own_level, with_declared, told, of_export, exported, from_instance, outer_type, outer_component, with_component, with_type, with_outer, declared_as, with_alias, sort_of, extended, with_export, declared_by, instance_meaning, InLevels, types_around, type_step, decl_step, meaning_of}
+use Rattle.link_spec.specs.Types.{all_within, close_func, func_meaning, desc_meaning, resource_meant, given_meaning, Declared, nothing_declared, own_level, with_declared, told, of_export, exported, from_instance, outer_type, outer_component, with_component, with_type, with_outer, declared_as, with_alias, sort_of, extended, with_export, declared_by, instance_meaning, InLevels, types_around, type_step, decl_step, meaning_of}
 
 -- where it has a meaning, all is there and nothing is missing
 abbrev pub IsWhole : {A : Type 0} → Meaning A → Type 0
@@ -50,6 +50,19 @@ whole_desc types (desc.Func index) = whole_found (λ type. option_map OfFunc (fu
 whole_desc types (desc.TypeEq index) = whole_found (λ type. Some (OfType type)) (slice_get types index)
 whole_desc types (desc.Instance index) = whole_found (λ type. option_map OfInstance (externs_of type)) (slice_get types index)
 whole_desc types desc.Resource = whole_meant None
+
+whole_resource : (given : Option Closed) → IsWhole (resource_meant given)
+whole_resource (Some (Resource number)) = whole_meant (Some (OfType (Resource number)))
+whole_resource (Some (Value type)) = whole_meant None
+whole_resource (Some (Func type)) = whole_meant None
+whole_resource (Some (Instance externs)) = whole_meant None
+whole_resource None = whole_meant None
+
+pub whole_given : (types : List (Option Closed)) (given : Option Closed) (asked : ExternDesc) → IsWhole (given_meaning types given asked)
+whole_given types given (desc.Func index) = whole_desc types (desc.Func index)
+whole_given types given (desc.TypeEq index) = whole_desc types (desc.TypeEq index)
+whole_given types given (desc.Instance index) = whole_desc types (desc.Instance index)
+whole_given types given desc.Resource = whole_resource given
 
 whole_cond : {A : Type 0} (b : Bool) (x y : Meaning A) → IsWhole x → IsWhole y → IsWhole (cond b x y)
 whole_cond true x y h k = h

@@ -55,7 +55,7 @@ abbrev MissesIn : read.Export → Definition → List ℕ → Meaning Extern →
 MissesIn e d missing meaning = MatchOption meaning.means ⊥ (λ extern. lacks (Some d) e.name extern ≡ Some missing)
 
 abbrev Misses : Spaces → read.Export → List ℕ → Definition → Type 0
-Misses s e missing d = IsSaid (said s e.desc) (MissesIn e d missing)
+Misses s e missing d = IsSaid (said s e) (MissesIn e d missing)
 
 misses_once : (e : read.Export) (d : Definition) (a b : List ℕ) (meaning : Meaning Extern) → MissesIn e d a meaning → MissesIn e d b meaning → a ≡ b
 misses_once e d a b meaning h k =
@@ -63,7 +63,7 @@ misses_once e d a b meaning h k =
 
 export_name : (s : Spaces) (e : read.Export) (a b : List ℕ) → export_has s e (why.Missing a) → export_has s e (why.Missing b) → a ≡ b
 export_name s e a b h k =
-    match_same (Misses s e a) (Misses s e b) a b (λ d h k. match_same (MissesIn e d a) (MissesIn e d b) a b (misses_once e d a b) (said s e.desc) h k) (definition_at s e.sort e.index) h k
+    match_same (Misses s e a) (Misses s e b) a b (λ d h k. match_same (MissesIn e d a) (MissesIn e d b) a b (misses_once e d a b) (said s e) h k) (definition_at s e.sort e.index) h k
 
 type_name : (s : Spaces) (destructor : Option (Option ℕ)) (meaning : Meaning Closed) (a b : List ℕ) → defined_has s destructor meaning (why.Missing a) → defined_has s destructor meaning (why.Missing b) → a ≡ b
 type_name s (Some None) meaning a b h k = absurd h
@@ -81,8 +81,8 @@ case_name l n s (Item-F.Canon (Lift f options t)) a b h k = absurd h
 case_name l n s (Item-F.Canon (Lower f options)) a b h k = absurd h
 case_name l n s (Item-F.Canon (Builtin built)) a b h k = absurd h
 case_name l n s (Item-F.Import i) a b h k =
-    match_same (λ (given : Exports). lacking (export_named i.name given) i.name (wanted s i.desc).means ≡ Some a) (λ (given : Exports). lacking (export_named i.name given) i.name (wanted s i.desc).means ≡ Some b) a b
-    (λ given h k. told_once (lacking (export_named i.name given) i.name (wanted s i.desc).means) a b h k) s.arguments h k
+    match_same (λ (given : Exports). lacking (export_named i.name given) i.name (wanted s i.name i.desc).means ≡ Some a) (λ (given : Exports). lacking (export_named i.name given) i.name (wanted s i.name i.desc).means ≡ Some b) a b
+    (λ given h k. told_once (lacking (export_named i.name given) i.name (wanted s i.name i.desc).means) a b h k) s.arguments h k
 case_name l n s (Item-F.Export e) a b h k = export_name s e a b h k
 
 pub one_name : OneName

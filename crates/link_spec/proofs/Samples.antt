@@ -10,6 +10,7 @@ use Rattle.ca_types.specs.declared.types.ValType.TheFolds.{fold-roll-ValType}
 use Rattle.ca_types.specs.Ends.{end_case, end_field}
 use Rattle.ca_types.specs.Flat.{flat, flat_step, flat_case, flat_field}
 use Rattle.laid_types.specs.Lists.{has_list, list_step}
+use Rattle.laid_types.specs.Handles.{has_borrow, borrow_step}
 use Rattle.wasm_module.specs.declared.types.ValType.TheVariants as core
 use Rattle.comp_graph.specs.Graph.{Graph, no_options}
 use Rattle.comp_graph.specs.Needs.{lifted_type, lowered_type, lift_type, lower_type, needs_memory, lift_needs_memory, lift_needs_realloc, lower_needs_memory, lower_needs_realloc}
@@ -96,7 +97,13 @@ u32_flat = ap flat (sym rolls-U32) ∙ fold-roll-ValType (List CoreType) (List C
 pub u32_holds_no_list : has_list val_type.U32 ≡ false
 u32_holds_no_list = ap has_list (sym rolls-U32) ∙ fold-roll-ValType Bool Bool Bool list_step end_case end_field F.U32
 
-ruleset layers = (outs-CoreModule, outs-CoreInstance, outs-Canon, outs-U32, func_rolled, outs-Import, outs-Alias, outs-Export, outs-Type, outs-Instance, outs-Component, outs-Value, outs-Func, outs-InstanceType, outs-Resource, u32_rolled, no_exports, one_export, u32_same, u32_flat, u32_holds_no_list)
+pub u32_holds_no_borrow : has_borrow val_type.U32 ≡ false
+u32_holds_no_borrow = ap has_borrow (sym rolls-U32) ∙ fold-roll-ValType Bool Bool Bool borrow_step end_case end_field F.U32
+
+string_holds_no_borrow : has_borrow val_type.String ≡ false
+string_holds_no_borrow = ap has_borrow (sym rolls-String) ∙ fold-roll-ValType Bool Bool Bool borrow_step end_case end_field F.String
+
+ruleset layers = (outs-CoreModule, outs-CoreInstance, outs-Canon, outs-U32, func_rolled, outs-Import, outs-Alias, outs-Export, outs-Type, outs-Instance, outs-Component, outs-Value, outs-Func, outs-InstanceType, outs-Resource, u32_rolled, no_exports, one_export, u32_same, u32_flat, u32_holds_no_list, u32_holds_no_borrow, string_holds_no_borrow)
 
 -- what is computed, whatever is computed of the components that begin, or of those that begin inside these
 pub linked_by : (c : Component) (r : Result Graph LinkFault) → ((inside : Run) → answer_of (run inside root_begun 0 c.items) ≡ r) → linked c ≡ r

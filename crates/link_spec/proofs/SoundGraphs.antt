@@ -16,8 +16,9 @@ use Rattle.link_spec.specs.Spaces.{CoreMake, Spaces, Linking, new_spaces, with_d
 use Rattle.link_spec.specs.Linked.{Begins, begun, exports_or, exports_at, with_instance, Links, leads_by_making, leads_by_instance, no_items, item_links, root_begun, Callable, funcs_behind, callables, export_of, lift_of, IsLinked}
 use Rattle.link_spec.specs.Distinct.{HasDistinctLabels}
 use Rattle.link_spec.specs.Shallow.{HasShallowTypes}
+use Rattle.link_spec.specs.Lending.{GivesNoBorrow, PassesNoBorrow}
 use Rattle.link_spec.specs.Standing.{StandsIn, stands_behind}
-use Rattle.link_spec.specs.Laws.{GraphsAreImported, LiftsAreThere, GraphsAreMade, LabelsAreDistinct, TypesAreShallow, HasSoundType, LoweredTypesAreSound, ModulesStand}
+use Rattle.link_spec.specs.Laws.{GraphsAreImported, LiftsAreThere, GraphsAreMade, LabelsAreDistinct, TypesAreShallow, HasSoundType, LoweredTypesAreSound, NoBorrowIsPassed, ModulesStand}
 use Rattle.link_spec.proofs.Holding.{all_push, all_both, all_at, all_mapped, all_weaker, holds_at}
 use Rattle.link_spec.proofs.Modules.{ModulesHave, shape_has}
 use Rattle.link_spec.proofs.Soundness.{IsFuncSound, HasApartType, AreSound, AreSpacesSound, IsLinkingSound}
@@ -132,7 +133,7 @@ pub graphs_are_made : GraphsAreMade
 graphs_are_made c g (l, links, is) = subst (λ (g : Graph). AreMade g.cores g.canons g.resources) (sym is) (any_sound c l links).made
 
 sound_type : (f : CanonFunc) → HasApartType f → HasSoundType f
-sound_type (canon_func.Lower l) h = h
+sound_type (canon_func.Lower l) h = (h.0, h.1)
 sound_type (canon_func.Builtin b) h = tt
 
 pub lowered_types_are_sound : LoweredTypesAreSound
@@ -150,6 +151,18 @@ types_are_shallow c g (l, links, is) =
     subst (λ (g : Graph). AllByRecursion (λ (e : Export). HasShallowTypes e.func_type) g.exports) (sym is)
     (all_mapped export_of (λ (e : Export). HasShallowTypes e.func_type) (callables (exports_at l 0))
     (all_weaker (λ (c : Callable). IsFuncSound l.cores l.canons c.func) (λ (c : Callable). HasShallowTypes c.func.func_type) (λ c k. k.apart.1) (callables (exports_at l 0)) (root_callables AnyModule l (any_sound c l links))))
+
+-- Borrowed handles.
+lends_none : (f : CanonFunc) → HasApartType f → PassesNoBorrow f
+lends_none (canon_func.Lower l) h = h.2
+lends_none (canon_func.Builtin b) h = h
+
+pub no_borrow_is_passed : NoBorrowIsPassed
+no_borrow_is_passed c g (l, links, is) = subst (λ (g : Graph). AllByRecursion (λ (e : Export). GivesNoBorrow e.func_type) g.exports × AllByRecursion PassesNoBorrow g.canons) (sym is) (
+  all_mapped export_of (λ (e : Export). GivesNoBorrow e.func_type) (callables (exports_at l 0))
+      (all_weaker (λ (c : Callable). IsFuncSound l.cores l.canons c.func) (λ (c : Callable). GivesNoBorrow c.func.func_type) (λ c k. k.apart.2) (callables (exports_at l 0)) (root_callables AnyModule l (any_sound c l links))),
+  all_weaker HasApartType PassesNoBorrow lends_none l.canons (any_sound c l links).called,
+)
 
 -- Each core instance is of a module that has what all have that stand in the component.
 pub modules_have : (R : ModuleTree → Type 0) (c : Component) (g : Graph) → IsLinked c g → ModulesHave R c.items → AllByRecursion (λ (core : CoreMake). R core.of_module) g.cores

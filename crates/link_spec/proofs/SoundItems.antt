@@ -1,6 +1,6 @@
 -- What an item makes of a sound linking is sound, and core instances and core functions of the Canonical ABI come only behind those
 -- that there are.
-use Rattle.std.proofs.Common.{◌≡◌, ℕ, suc, List, [], ◌∷◌, ◌++◌, length, map, refl, sym, ap, subst, append-nil, Option, Some, None}
+use Rattle.std.proofs.Common.{◌≡◌, ℕ, suc, false, List, [], ◌∷◌, ◌++◌, length, map, refl, sym, ap, subst, append-nil, Option, Some, None}
 use Rattle.std.specs.Prelude.{IfSome}
 use Rattle.std.specs.Option.{option_map, option_and_then}
 use Rattle.std.specs.List.{slice_get}
@@ -17,9 +17,11 @@ use Rattle.comp_graph.specs.CoreItems.{core_func_of}
 use Rattle.comp_graph.specs.Needs.{destructor_type}
 use Rattle.comp_graph.specs.declared.graph.FuncRef.{FuncRef}
 use Rattle.comp_graph.specs.declared.graph.FuncRef.TheVariants as func_ref
+use Rattle.laid_types.specs.Handles.{held_borrow}
+use Rattle.comp_graph.specs.declared.graph.BuiltinKind.{BuiltinKind}
 use Rattle.comp_graph.specs.declared.graph.CanonFunc.{CanonFunc}
 use Rattle.comp_graph.specs.declared.graph.CanonFunc.TheVariants as canon_func
-use Rattle.comp_graph.specs.Graph.{canon_type, core_type, IsItem, IsCanonThere, HasImports, instance_made, canon_made, resource_made}
+use Rattle.comp_graph.specs.Graph.{canon_type, core_type, IsItem, IsCanonThere, HasImports, instance_made, canon_made, resource_made, passed_value}
 use Rattle.comp_tree.specs.declared.core_instances.CoreArgument.{CoreArgument}
 use Rattle.comp_tree.specs.declared.core_instances.CoreInlineExport.{CoreInlineExport}
 use Rattle.comp_tree.specs.declared.core_instances.CoreInstance.{CoreInstance}
@@ -45,11 +47,12 @@ use Rattle.link_spec.specs.Ends.{noted_type}
 use Rattle.link_spec.specs.Canons.{memory_index, realloc_index, post_return_index, callback_index, first_index, given_by}
 use Rattle.link_spec.specs.Builtins.{builtin_meaning}
 use Rattle.link_spec.specs.Resources.{resource_written, with_resource, resource_makes}
-use Rattle.link_spec.specs.Items.{argument_named, import_found, FindsItem, IsInline, core_instance_makes, instance_makes, alias_makes, type_makes, defined_makes, type_meaning, lifted_with, lift_makes, with_canon, lowered_with, lower_makes, builtin_makes, wanted, IsImported, import_makes, said, IsExported, export_makes, makes_case}
+use Rattle.link_spec.specs.Items.{argument_named, import_found, FindsItem, IsInline, core_instance_makes, instance_makes, alias_makes, type_makes, defined_makes, type_meaning, lifted_with, lift_makes, with_canon, lowered_with, lower_makes, builtin_makes, type_given, meant_of, given_for, wanted, IsImported, import_makes, IsExported, export_makes, makes_case}
 use Rattle.link_spec.proofs.Holding.{all_push, all_set, all_weaker, all_mapped, all_flat, all_at, all_second, zip_weaker, holds_at, if_weaker, if_mapped, if_found, if_each, if_cond, last_there}
 use Rattle.link_spec.proofs.Kept.{imported_behind, kept_imported}
-use Rattle.link_spec.proofs.Apart.{IsFuncApart, IsApart, IsExternApart, IsKnownApart, of_func_apart, desc_apart}
+use Rattle.link_spec.proofs.Apart.{IsFuncApart, IsApart, IsExternApart, IsKnownApart, of_func_apart, meant_apart}
 use Rattle.link_spec.proofs.ApartMeanings.{IsLevelApart, AreLevelsApart, meaning_apart}
+use Rattle.link_spec.proofs.BuiltinsLend.{builtin_lends}
 use Rattle.link_spec.proofs.Modules.{ShapeHas}
 use Rattle.link_spec.proofs.Soundness.{IsFuncSound, HasApartType, IsMemoryItem, AreThere, IsSound, AreSound, AreSpacesSound, IsLinkingSound}
 use Rattle.link_spec.proofs.LiftsThere.{item_type, IsGiven, lift_there, lower_there, builtin_there}
@@ -289,12 +292,13 @@ module _ (R : ModuleTree → Type 0) where
 
   builtin_reached : (l : Linking) (n : ℕ) (s : Spaces) (b : CanonBuiltin) (new : Linking) → IsLinkingSound R l → AreSpacesSound R l.cores l.canons s → builtin_makes l n s (builtin_meaning l n s b) new → IsReached R l new
   builtin_reached l n s b new h k (kind, there, is, serves, made) =
-      canon_reached l n s (canon_func.Builtin (record { instance = n; kind = kind })) new h k tt
+      canon_reached l n s (canon_func.Builtin (record { instance = n; kind = kind })) new h k
+      (holds_at (λ (kind : BuiltinKind). held_borrow (passed_value kind) ≡ false) (builtin_meaning l n s b).means kind (builtin_lends l n s b k.defined.types_apart) is)
       (builtin_there l.cores l.canons l n s b kind k.core.memories_there (λ options. options_given l.cores l.canons s options k) is serves) made
 
   -- Imports and exports.
-  wanted_apart : (cores : List CoreMake) (canons : List CanonFunc) (s : Spaces) (asked : ExternDesc) → AreSpacesSound R cores canons s → IfSome (wanted s asked).means IsExternApart
-  wanted_apart cores canons s asked k = desc_apart (map Some s.types) asked (level_apart cores canons s k)
+  given_apart : (cores : List CoreMake) (canons : List CanonFunc) (s : Spaces) (given : Option Definition) (asked : ExternDesc) → AreSpacesSound R cores canons s → IfSome (meant_of s given asked).means IsExternApart
+  given_apart cores canons s given asked k = meant_apart (map Some s.types) (type_given given) asked (level_apart cores canons s k)
 
   imported_sound : (cores : List CoreMake) (canons : List CanonFunc) (arguments : Option Exports) (name : List ℕ) (extern : Extern) (d : Definition) → IfSome arguments (AreSound R cores canons) → IsExternApart extern → IsImported arguments name extern d → IsSound R cores canons d
   imported_sound cores canons (Some given) name extern d h k (x, is, fits, e) =
@@ -306,16 +310,16 @@ module _ (R : ModuleTree → Type 0) where
   import_reached : (l : Linking) (n : ℕ) (s : Spaces) (name : List ℕ) (asked : ExternDesc) (new : Linking) → IsLinkingSound R l → AreSpacesSound R l.cores l.canons s → import_makes l n s name asked new → IsReached R l new
   import_reached l n s name asked new h k (extern, d, means, fresh, imported, made) =
       defined_reached l n (record s { imports = s.imports ++ name ∷ [] }) d new h (sound_imports R l.cores l.canons s (s.imports ++ name ∷ []) k) made
-      (imported_sound l.cores l.canons s.arguments name extern d k.arguments_sound (holds_at IsExternApart (wanted s asked).means extern (wanted_apart l.cores l.canons s asked k) means) imported)
+      (imported_sound l.cores l.canons s.arguments name extern d k.arguments_sound (holds_at IsExternApart (wanted s name asked).means extern (given_apart l.cores l.canons s (given_for s name) asked k) means) imported)
 
-  exported_sound : (cores : List CoreMake) (canons : List CanonFunc) (s : Spaces) (asked : Option ExternDesc) (d x : Definition) → AreSpacesSound R cores canons s → IsSound R cores canons d → IsExported (said s asked) d x → IsSound R cores canons x
-  exported_sound cores canons s None d x k h e = subst (IsSound R cores canons) (sym e) h
-  exported_sound cores canons s (Some asked) d x k h (extern, means, fits, e) =
-      subst (IsSound R cores canons) (sym e) (seen_sound R cores canons d extern h (holds_at IsExternApart (wanted s asked).means extern (wanted_apart cores canons s asked k) means))
+  exported_sound : (cores : List CoreMake) (canons : List CanonFunc) (s : Spaces) (given : Option Definition) (asked : Option ExternDesc) (d x : Definition) → AreSpacesSound R cores canons s → IsSound R cores canons d → IsExported (option_map (meant_of s given) asked) d x → IsSound R cores canons x
+  exported_sound cores canons s given None d x k h e = subst (IsSound R cores canons) (sym e) h
+  exported_sound cores canons s given (Some asked) d x k h (extern, means, fits, e) =
+      subst (IsSound R cores canons) (sym e) (seen_sound R cores canons d extern h (holds_at IsExternApart (meant_of s given asked).means extern (given_apart cores canons s given asked k) means))
 
   export_reached : (l : Linking) (n : ℕ) (s : Spaces) (e : read.Export) (new : Linking) → IsLinkingSound R l → AreSpacesSound R l.cores l.canons s → export_makes l n s e new → IsReached R l new
   export_reached l n s e new h k (d, x, is, fresh, exported, made) =
-      let sound = exported_sound l.cores l.canons s e.desc d x k (holds_at (IsSound R l.cores l.canons) (definition_at s e.sort e.index) d (definition_sound R l.cores l.canons s e.sort e.index k) is) exported in
+      let sound = exported_sound l.cores l.canons s (definition_at s e.sort e.index) e.desc d x k (holds_at (IsSound R l.cores l.canons) (definition_at s e.sort e.index) d (definition_sound R l.cores l.canons s e.sort e.index k) is) exported in
       defined_reached l n (record s { exports = WithExport s.exports e.name x }) x new h (sound_exports R l.cores l.canons s (WithExport s.exports e.name x) k (k.exports_sound, sound, fresh)) made sound
 
   -- Items.

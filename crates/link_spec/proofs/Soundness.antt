@@ -6,10 +6,11 @@ use Rattle.std.specs.Prelude.{IfSome}
 use Rattle.std.specs.List.{AllByRecursion}
 use Rattle.ca_base.specs.Names.{is_among}
 use Rattle.wasm_module.specs.declared.module.ModuleTree.{ModuleTree}
+use Rattle.laid_types.specs.Handles.{held_borrow}
 use Rattle.comp_graph.specs.declared.graph.Lift.{Lift}
 use Rattle.comp_graph.specs.declared.graph.CanonFunc.{CanonFunc}
 use Rattle.comp_graph.specs.declared.graph.CanonFunc.TheVariants as canon_func
-use Rattle.comp_graph.specs.Graph.{CoreMake, IsLiftThere, IsItem, AreImported, AreMade}
+use Rattle.comp_graph.specs.Graph.{CoreMake, IsLiftThere, IsItem, AreImported, AreMade, passed_value}
 use Rattle.comp_graph.specs.Closed.{Closed}
 use Rattle.link_spec.specs.Definitions.{CoreItem, Memory, CoreExport, Lifted, Closure, Definition, AFunc, AType, AComponent, AnInstance, AModule, Exports, EmptyInstance, WithExport, export_names}
 use Rattle.link_spec.specs.Spaces.{Spaces, Linking}
@@ -24,10 +25,10 @@ pub record IsFuncSound (cores : List CoreMake) (canons : List CanonFunc) (f : Li
   pub there : IsLiftThere cores canons f.func_type (lift_for f)
   pub apart : IsFuncApart f.func_type
 
--- What is lowered has a type whose labels are apart and which is shallow.
+-- What is lowered has a type whose labels are apart and which is shallow, and what a built-in passes holds no borrowed handle.
 abbrev pub HasApartType : CanonFunc → Type 0
 HasApartType (canon_func.Lower l) = IsFuncApart l.func_type
-HasApartType (canon_func.Builtin b) = Unit {0}
+HasApartType (canon_func.Builtin b) = held_borrow (passed_value b.kind) ≡ false
 
 -- a memory that is there
 abbrev pub IsMemoryItem : List CoreMake → List CanonFunc → CoreItem → Type 0

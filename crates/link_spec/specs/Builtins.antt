@@ -28,7 +28,7 @@ use Rattle.comp_graph.specs.declared.graph.BuiltinKind.TheVariants as builtin
 use Rattle.link_spec.specs.Canons.{Given, given_by, options_of, stand_once, is_option_there, can_be_used}
 use Rattle.link_spec.specs.Resources.{resource_numbered, resource_serves}
 use Rattle.link_spec.specs.Spaces.{Spaces, Linking}
-use Rattle.link_spec.specs.ValueTypes.{held_within, close_held}
+use Rattle.link_spec.specs.ValueTypes.{held_within, close_passed}
 
 -- What a built-in comes to: whether all indices that it names are there; what it is, where its types are such as it asks for; and
 -- whether its options, its word of the task, or its resource serve it.
@@ -116,7 +116,7 @@ builtin_meaning l n s (read_builtin.Context op slot) = context_meaning op slot
 builtin_meaning l n s (read_builtin.Wait op cancellable memory) =
     wait_meaning (nat_lt memory (length s.core_memories)) op cancellable (option_and_then core_memory_of (slice_get s.core_memories memory))
 builtin_meaning l n s (read_builtin.TaskReturn result options) =
-    return_meaning (held_within (length s.types) result && are_options_there s options) (close_held (map Some s.types) result) options (given_by s options)
+    return_meaning (held_within (length s.types) result && are_options_there s options) (close_passed (map Some s.types) result) options (given_by s options)
 builtin_meaning l n s (read_builtin.Resource op resource) =
     resource_meaning l.resources n (nat_lt resource (length s.types)) op (option_and_then resource_of (slice_get s.types resource))
 builtin_meaning l n s (read_builtin.End kind end_type op) =

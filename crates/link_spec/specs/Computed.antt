@@ -271,11 +271,11 @@ as_said d (Some meaning) = after (there_or why.Typing meaning.means) (λ extern.
 abbrev pub export_outcome : Linking → ℕ → Spaces → read.Export → Result Outcome LinkWhy
 export_outcome l n s e =
     only_if (nat_lt e.index (size_of s e.sort)) why.Index (
-    only_if (said_is_there (said s e.desc)) why.Index (
+    only_if (said_is_there (said s e)) why.Index (
     after (there_or why.Typing (definition_at s e.sort e.index)) (λ d.
-    none_missing (said_lacks e.name d (said s e.desc)) (
+    none_missing (said_lacks e.name d (said s e)) (
     only_if (not (is_among e.name (export_names s.exports))) why.Typing (
-    after (as_said d (said s e.desc)) (λ x.
+    after (as_said d (said s e)) (λ x.
     Ok (Makes (with_spaces l n (with_export s e.name x)))))))))
 
 -- Items.
@@ -290,7 +290,7 @@ outcome_case l n s (Item-F.Type type) = defined_outcome l n s (resource_written 
 outcome_case l n s (Item-F.Canon (Lift f options t)) = lift_outcome l n s f options t
 outcome_case l n s (Item-F.Canon (Lower f options)) = lower_outcome l n s f options
 outcome_case l n s (Item-F.Canon (Builtin b)) = builtin_outcome l n s (builtin_meaning l n s b)
-outcome_case l n s (Item-F.Import i) = import_outcome l n s i.name (wanted s i.desc) i.desc s.arguments
+outcome_case l n s (Item-F.Import i) = import_outcome l n s i.name (wanted s i.name i.desc) i.desc s.arguments
 outcome_case l n s (Item-F.Export e) = export_outcome l n s e
 
 abbrev pub item_outcome : Linking → ℕ → Spaces → Item → Result Outcome LinkWhy

@@ -47,7 +47,7 @@ use Rattle.link_spec.specs.Canons.{IsOptionThere, StandOnce, Given, given_by, op
 use Rattle.link_spec.specs.Builtins.{BuiltinMeaning, builtin_meaning}
 use Rattle.link_spec.specs.Resources.{resource_written, resource_has, resource_makes}
 use Rattle.link_spec.specs.Ends.{noted_type, noted_canon}
-use Rattle.link_spec.specs.Types.{Meaning, meaning_of, desc_meaning}
+use Rattle.link_spec.specs.Types.{Meaning, meaning_of, given_meaning}
 use Rattle.link_spec.specs.Spaces.{Spaces, Make, Linking, core_size, size_of, core_item_at, definition_at, IsOfCoreSort, IsOfSort, with_core_item, with_core_instance, with_definition, with_spaces, with_ends, levels_at, outer_at}
 
 -- an item for which something holds
@@ -307,9 +307,20 @@ builtin_makes l n s meaning new =
 
 -- Imports.
 
--- what an import is to be
-abbrev pub wanted : Spaces → ExternDesc → Meaning Extern
-wanted s asked = desc_meaning (map Some s.types) asked
+-- what a definition that is given is to be
+abbrev pub type_given : Option Definition → Option Closed
+type_given (Some (AType type)) = Some type
+type_given given = None
+
+abbrev pub meant_of : Spaces → Option Definition → ExternDesc → Meaning Extern
+meant_of s given asked = given_meaning (map Some s.types) (type_given given) asked
+
+-- what an import is to be, where this is given for its name
+abbrev pub given_for : Spaces → List ℕ → Option Definition
+given_for s name = option_and_then (export_named name) s.arguments
+
+abbrev pub wanted : Spaces → List ℕ → ExternDesc → Meaning Extern
+wanted s name asked = meant_of s (given_for s name) asked
 
 -- an instance whose exports are types
 abbrev pub IsOfTypes : Extern → Type 0
@@ -335,13 +346,13 @@ DoesNotFit d extern = ⊥
 -- argument, or an export that is asked for of one, that is missing; a name twice, an argument of another sort or type, or an index of
 -- another type than is wanted.
 abbrev pub import_has : Spaces → List ℕ → ExternDesc → LinkWhy → Type 0
-import_has s name asked why.RootImport = (s.arguments ≡ None) × IsRootImport (wanted s asked) asked
-import_has s name asked why.Index = (wanted s asked).is_there ≡ false
+import_has s name asked why.RootImport = (s.arguments ≡ None) × IsRootImport (wanted s name asked) asked
+import_has s name asked why.Index = (wanted s name asked).is_there ≡ false
 import_has s name asked (why.Missing missing) =
-    MatchOption s.arguments ⊥ (λ given. lacking (export_named name given) name (wanted s asked).means ≡ Some missing)
+    MatchOption s.arguments ⊥ (λ given. lacking (export_named name given) name (wanted s name asked).means ≡ Some missing)
 import_has s name asked why.Typing =
-    (is_among name s.imports ≡ true) ⊎ ((wanted s asked).means ≡ None)
-    ⊎ MatchOption s.arguments ⊥ (λ given. DoesNotFit (export_named name given) (wanted s asked).means)
+    (is_among name s.imports ≡ true) ⊎ ((wanted s name asked).means ≡ None)
+    ⊎ MatchOption s.arguments ⊥ (λ given. DoesNotFit (export_named name given) (wanted s name asked).means)
 import_has s name asked why = ⊥
 
 abbrev pub with_import : Spaces → List ℕ → Definition → Spaces
@@ -356,14 +367,14 @@ IsImported None name extern d = ⊥
 
 abbrev pub import_makes : Linking → ℕ → Spaces → List ℕ → ExternDesc → Linking → Type 0
 import_makes l n s name asked new =
-    (extern : Extern) × (d : Definition) × ((wanted s asked).means ≡ Some extern) × (is_among name s.imports ≡ false)
+    (extern : Extern) × (d : Definition) × ((wanted s name asked).means ≡ Some extern) × (is_among name s.imports ≡ false)
     × IsImported s.arguments name extern d × (new ≡ with_spaces l n (with_import s name d))
 
 -- Exports.
 
 -- what an export is said to be, where it says so
-abbrev pub said : Spaces → Option ExternDesc → Option (Meaning Extern)
-said s asked = option_map (wanted s) asked
+abbrev pub said : Spaces → read.Export → Option (Meaning Extern)
+said s e = option_map (meant_of s (definition_at s e.sort e.index)) e.desc
 
 abbrev pub IsSaid : Option (Meaning Extern) → (Meaning Extern → Type 0) → Type 0
 IsSaid meaning P = MatchOption meaning ⊥ P
@@ -371,12 +382,12 @@ IsSaid meaning P = MatchOption meaning ⊥ P
 -- An index that is not there; an export that is asked for and is missing; a name twice, a core sort but that of modules, or
 -- another sort or type than is said.
 abbrev pub export_has : Spaces → read.Export → LinkWhy → Type 0
-export_has s e why.Index = (size_of s e.sort ≤ e.index) ⊎ IsSaid (said s e.desc) (λ meaning. meaning.is_there ≡ false)
+export_has s e why.Index = (size_of s e.sort ≤ e.index) ⊎ IsSaid (said s e) (λ meaning. meaning.is_there ≡ false)
 export_has s e (why.Missing missing) =
-    MatchOption (definition_at s e.sort e.index) ⊥ (λ d. IsSaid (said s e.desc) (λ meaning. MatchOption meaning.means ⊥ (λ extern. lacks (Some d) e.name extern ≡ Some missing)))
+    MatchOption (definition_at s e.sort e.index) ⊥ (λ d. IsSaid (said s e) (λ meaning. MatchOption meaning.means ⊥ (λ extern. lacks (Some d) e.name extern ≡ Some missing)))
 export_has s e why.Typing =
     (is_among e.name (export_names s.exports) ≡ true) ⊎ (definition_at s e.sort e.index ≡ None)
-    ⊎ IsSaid (said s e.desc) (λ meaning. (meaning.means ≡ None) ⊎ DoesNotFit (definition_at s e.sort e.index) meaning.means)
+    ⊎ IsSaid (said s e) (λ meaning. (meaning.means ≡ None) ⊎ DoesNotFit (definition_at s e.sort e.index) meaning.means)
 export_has s e why = ⊥
 
 abbrev pub with_export : Spaces → List ℕ → Definition → Spaces
@@ -390,7 +401,7 @@ IsExported (Some meaning) d x = (extern : Extern) × (meaning.means ≡ Some ext
 abbrev pub export_makes : Linking → ℕ → Spaces → read.Export → Linking → Type 0
 export_makes l n s e new =
     (d : Definition) × (x : Definition) × (definition_at s e.sort e.index ≡ Some d) × (is_among e.name (export_names s.exports) ≡ false)
-    × IsExported (said s e.desc) d x × (new ≡ with_spaces l n (with_export s e.name x))
+    × IsExported (said s e) d x × (new ≡ with_spaces l n (with_export s e.name x))
 
 -- Items.
 

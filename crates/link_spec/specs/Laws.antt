@@ -21,6 +21,7 @@ use Rattle.link_spec.specs.Items.{instance_limit, item_has, item_makes}
 use Rattle.link_spec.specs.Linked.{IsFirst, Begins, exports_at, Links, IsRefusedAt, root_begun, graph_of, IsLinked, IsLinkRefused}
 use Rattle.link_spec.specs.Distinct.{HasDistinctLabels, HasNoHash}
 use Rattle.link_spec.specs.Shallow.{HasShallowTypes}
+use Rattle.link_spec.specs.Lending.{GivesNoBorrow, PassesNoBorrow}
 use Rattle.link_spec.specs.Standing.{StandsIn}
 use Rattle.link_spec.specs.Same.{same_func, same_closed}
 use Rattle.link_spec.specs.Tests.{fits}
@@ -127,6 +128,12 @@ HasSoundType (canon_func.Builtin b) = Unit {0}
 
 abbrev pub LoweredTypesAreSound : Type 0
 LoweredTypesAreSound = (c : Component) (g : Graph) → IsLinked c g → AllByRecursion HasSoundType g.canons
+
+-- A borrowed handle is lent for a call: no export and no function that is lowered gives one, none is returned by `task.return`, and none
+-- passes in the streams and the futures of built-ins.
+abbrev pub NoBorrowIsPassed : Type 0
+NoBorrowIsPassed =
+    (c : Component) (g : Graph) → IsLinked c g → AllByRecursion (λ (e : Export). GivesNoBorrow e.func_type) g.exports × AllByRecursion PassesNoBorrow g.canons
 
 -- The names of the root's exports are distinct. The functions that can be called are those among them, and those of instances
 -- among them under `name#function`: where no name of the root has a `#`, no two of them have one name. Else they may: the root

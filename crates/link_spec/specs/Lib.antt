@@ -7,6 +7,7 @@ pub mod Ends
 pub mod Examples
 pub mod Items
 pub mod Laws
+pub mod Lending
 pub mod Linked
 pub mod Meaning
 pub mod Resources

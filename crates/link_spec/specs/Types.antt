@@ -18,11 +18,11 @@ use Rattle.comp_tree.specs.declared.types.Param as read_param
 use Rattle.comp_tree.specs.declared.types.FuncType as read_func
 use Rattle.comp_tree.specs.declared.types.DefType.{DefType, fold-DefType}
 use Rattle.comp_tree.specs.declared.types.DefType.TheOpen.{DefType-F, InstanceDecl-F}
-use Rattle.comp_graph.specs.Closed.{Closed, Func, Instance, Extern, OfFunc, OfType, OfInstance, Externs, EmptyType, WithExtern, extern_named, externs_of, func_of}
+use Rattle.comp_graph.specs.Closed.{Closed, Func, Resource, Instance, Extern, OfFunc, OfType, OfInstance, Externs, EmptyType, WithExtern, extern_named, externs_of, func_of}
 use Rattle.link_spec.specs.Definitions.{Closure}
 use Rattle.link_spec.specs.Spaces.{Level}
 pub use Rattle.link_spec.specs.Meaning.{Meaning, absent, meant, lacking_name, found, kept_if, and_told}
-pub use Rattle.link_spec.specs.ValueTypes.{primitive, is_within, held_within, close_val, close_held, close_all, value_meaning}
+pub use Rattle.link_spec.specs.ValueTypes.{primitive, is_within, held_within, close_val, close_held, close_passed, close_all, value_meaning}
 
 -- Functions.
 
@@ -35,11 +35,11 @@ close_param types p = option_map (λ type. record { label = p.label; val_type = 
 abbrev pub close_params : List (Option Closed) → List read_param.Param → Option (List Param)
 close_params types params = close_all (close_param types) params
 
--- A function type has its labels distinct.
+-- A function type has its labels distinct, and gives no borrowed handle.
 abbrev pub close_func : List (Option Closed) → read_func.FuncType → Option FuncType
 close_func types type =
     cond (is_none (first_twice (map (λ p. p.label) type.params)))
-    (option_and_then (λ params. option_map (λ returned. record { params = params; result = returned }) (close_held types type.result))
+    (option_and_then (λ params. option_map (λ returned. record { params = params; result = returned }) (close_passed types type.result))
     (close_params types type.params))
     None
 
@@ -48,12 +48,28 @@ func_meaning types type = cond (all_within (length types) type) (meant (option_m
 
 -- Imports and exports.
 
--- what one is to be, over these types; a resource that is fresh has no meaning
+-- what one is to be, over these types; any type of resources has no meaning of its own
 abbrev pub desc_meaning : List (Option Closed) → ExternDesc → Meaning Extern
 desc_meaning types (desc.Func index) = found (λ type. option_map OfFunc (func_of type)) (slice_get types index)
 desc_meaning types (desc.TypeEq index) = found (λ type. Some (OfType type)) (slice_get types index)
 desc_meaning types (desc.Instance index) = found (λ type. option_map OfInstance (externs_of type)) (slice_get types index)
 desc_meaning types desc.Resource = meant None
+
+-- The same where a type is given for it, if one is. Where any type of resources is asked for, the one that is given stands for itself.
+abbrev pub resource_meant : Option Closed → Meaning Extern
+resource_meant (Some (Resource number)) = meant (Some (OfType (Resource number)))
+resource_meant given = meant None
+
+abbrev pub given_meaning : List (Option Closed) → Option Closed → ExternDesc → Meaning Extern
+given_meaning types given desc.Resource = resource_meant given
+given_meaning types given asked = desc_meaning types asked
+
+-- the index of its type, if it has one
+abbrev pub desc_index : ExternDesc → Option ℕ
+desc_index (desc.Func index) = Some index
+desc_index (desc.TypeEq index) = Some index
+desc_index (desc.Instance index) = Some index
+desc_index desc.Resource = None
 
 -- Instance types.
 

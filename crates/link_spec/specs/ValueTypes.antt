@@ -1,6 +1,6 @@
 -- What a value type means as it is written, over the types before it (Component Model, Explainer.md, "Type Definitions"; Binary.md,
--- `defvaltype`). Its parts are primitive types or indices of value types. A record, a variant, flags and an enum have a label at
--- least, and no two equal ones, and flags at most 32; a tuple has a place at least.
+-- `defvaltype`). Its parts are primitive types or indices of value types, and handles are of the index of a type of resources. A record,
+-- a variant, flags and an enum have a label at least, and no two equal ones, and flags at most 32; a tuple has a place at least.
 use Rattle.std.specs.Prelude.{ℕ, Bool, true, false, not, ◌&&◌, nat_lt, nat_le, is_none, cond, List, [], ◌∷◌, length, map, Option, Some, None}
 use Rattle.std.specs.Option.{option_map, option_and_then}
 use Rattle.std.specs.List.{slice_get, list_all}
@@ -11,6 +11,7 @@ use Rattle.ca_types.specs.declared.types.ValType.TheViews as val_type
 use Rattle.ca_types.specs.declared.types.Field.{Field}
 use Rattle.ca_types.specs.declared.types.Case.{Case}
 use Rattle.laid_types.specs.Depth.{depth}
+use Rattle.laid_types.specs.Handles.{held_borrow}
 use Rattle.comp_tree.specs.declared.types.PrimValType.{PrimValType}
 use Rattle.comp_tree.specs.declared.types.PrimValType.TheVariants as prim
 use Rattle.comp_tree.specs.declared.types.ValTypeRef.{ValTypeRef}
@@ -19,7 +20,7 @@ use Rattle.comp_tree.specs.declared.types.Field as read_field
 use Rattle.comp_tree.specs.declared.types.Case as read_case
 use Rattle.comp_tree.specs.declared.types.DefValType.{DefValType}
 use Rattle.comp_tree.specs.declared.types.DefValType.TheVariants as written
-use Rattle.comp_graph.specs.Closed.{Closed, Value, value_of}
+use Rattle.comp_graph.specs.Closed.{Closed, Value, value_of, resource_of}
 use Rattle.link_spec.specs.Meaning.{Meaning, absent, meant, too_deep}
 use Rattle.link_spec.specs.Shallow.{depth_limit}
 
@@ -57,6 +58,17 @@ abbrev pub close_held : List (Option Closed) → Option ValTypeRef → Option (O
 close_held types None = Some None
 close_held types (Some type) = option_map (λ t. Some t) (close_val types type)
 
+-- What passes in a stream or a future, or is a result, if anything is: it holds no borrowed handle.
+abbrev pub without_borrow : Option ValType → Option (Option ValType)
+without_borrow held = cond (held_borrow held) None (Some held)
+
+abbrev pub close_passed : List (Option Closed) → Option ValTypeRef → Option (Option ValType)
+close_passed types type = option_and_then without_borrow (close_held types type)
+
+-- the resource of an index, where that is one of a type of resources
+abbrev pub close_resource : List (Option Closed) → ℕ → Option ℕ
+close_resource types index = option_and_then (option_and_then resource_of) (slice_get types index)
+
 -- all of some, where each one is closed
 abbrev pub close_all : {A B : Type 0} → (A → Option B) → List A → Option (List B)
 close_all close [] = Some []
@@ -78,6 +90,8 @@ parts_within count (written.List element) = is_within count element
 parts_within count (written.Tuple places) = list_all (is_within count) places
 parts_within count (written.Option payload) = is_within count payload
 parts_within count (written.Result ok err) = held_within count ok && held_within count err
+parts_within count (written.Own resource) = nat_lt resource count
+parts_within count (written.Borrow resource) = nat_lt resource count
 parts_within count (written.Stream element) = held_within count element
 parts_within count (written.Future element) = held_within count element
 parts_within count type = true
@@ -103,7 +117,7 @@ is_well_made (written.Flags labels) = are_labels labels && nat_le (length labels
 is_well_made (written.Enum labels) = are_labels labels
 is_well_made type = true
 
--- The closed type, where each part is one of values. Handles have none.
+-- The closed type, where each part is one of values, and handles are of a type of resources.
 abbrev pub close_parts : List (Option Closed) → DefValType → Option ValType
 close_parts types (written.Primitive type) = Some (primitive type)
 close_parts types (written.Record fields) = option_map val_type.Record (close_all (close_field types) fields)
@@ -115,10 +129,10 @@ close_parts types (written.Enum labels) = Some (leaves.Enum labels)
 close_parts types (written.Option payload) = option_map val_type.Option (close_val types payload)
 close_parts types (written.Result ok err) =
     option_and_then (λ ok. option_map (λ err. val_type.Result ok err) (close_held types err)) (close_held types ok)
-close_parts types (written.Own resource) = None
-close_parts types (written.Borrow resource) = None
-close_parts types (written.Stream element) = option_map val_type.Stream (close_held types element)
-close_parts types (written.Future element) = option_map val_type.Future (close_held types element)
+close_parts types (written.Own resource) = option_map leaves.Own (close_resource types resource)
+close_parts types (written.Borrow resource) = option_map leaves.Borrow (close_resource types resource)
+close_parts types (written.Stream element) = option_map val_type.Stream (close_passed types element)
+close_parts types (written.Future element) = option_map val_type.Future (close_passed types element)
 
 abbrev pub close_def : List (Option Closed) → DefValType → Option ValType
 close_def types type = cond (is_well_made type) (close_parts types type) None

@@ -1,6 +1,6 @@
 //! What holds of every linking.
 
-ghost use Rattle.link_spec.specs.Laws.{MakesExcludesReasons, BeginsExcludesReasons, MakesExcludesBegins, MakesOnce, BeginsOnce, OneName, OneFirst, OneLinking, LinksExcludesFaults, OneFault, OneGraph, LinkedIsNotRefused, OneRefusal, FewInstances, GraphsAreFew, GraphsAreImported, LiftsAreThere, GraphsAreMade, LabelsAreDistinct, TypesAreShallow, LoweredTypesAreSound, RootNamesAreDistinct, NamesAreDistinct, ModulesStand, OutcomeComputed, ReasonComputed, GraphComputed, FaultComputed, LinkedOrRefused, FuncsCompared, ClosedCompared, FitsTested};
+ghost use Rattle.link_spec.specs.Laws.{MakesExcludesReasons, BeginsExcludesReasons, MakesExcludesBegins, MakesOnce, BeginsOnce, OneName, OneFirst, OneLinking, LinksExcludesFaults, OneFault, OneGraph, LinkedIsNotRefused, OneRefusal, FewInstances, GraphsAreFew, GraphsAreImported, LiftsAreThere, GraphsAreMade, LabelsAreDistinct, TypesAreShallow, LoweredTypesAreSound, NoBorrowIsPassed, RootNamesAreDistinct, NamesAreDistinct, ModulesStand, OutcomeComputed, ReasonComputed, GraphComputed, FaultComputed, LinkedOrRefused, FuncsCompared, ClosedCompared, FitsTested};
 
 /// An item that makes something, or begins an instance of a component, has no reason against it, and none does both.
 pub fn items_make_or_are_refused()
@@ -45,8 +45,8 @@ pub fn instances_stay_few()
 /// The core instances of a graph have the imports that their modules ask for, of core instances before them and of functions that
 /// the Canonical ABI makes. What a lift uses is there, with the types that it needs, and so is what is lowered, with what the lowering
 /// uses, and what a built-in uses: each function that the Canonical ABI makes stands on those before it alone. No two parameters of
-/// an export have one label, and its types nest at most 32 types in one another. Each core instance is of a module that stands in the
-/// component.
+/// an export have one label, and its types nest at most 32 types in one another. No borrowed handle is given, returned, or passed in a
+/// stream or a future. Each core instance is of a module that stands in the component.
 pub fn graphs_are_sound()
     ensures imported { GraphsAreImported }
     ensures lifts { LiftsAreThere }
@@ -54,6 +54,7 @@ pub fn graphs_are_sound()
     ensures labels { LabelsAreDistinct }
     ensures shallow { TypesAreShallow }
     ensures lowered { LoweredTypesAreSound }
+    ensures lending { NoBorrowIsPassed }
     ensures modules { ModulesStand }
 {}
 

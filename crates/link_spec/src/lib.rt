@@ -5,6 +5,7 @@
 //!
 //! - `fault`: why an item is refused, and where
 //! - `well_made`: what a type needs as it is written
+//! - `written`: layers, sorts and indices of what is written
 //! - `laws`: what holds of every linking
 //! - `examples`: the definitions on small components
 #![tactic(auto)]
@@ -13,6 +14,8 @@ pub mod examples;
 mod fault;
 pub mod laws;
 mod well_made;
+mod written;
 
 pub use fault::{LinkFault, LinkWhy};
-pub use well_made::{all_within, held_within, is_well_made, parts_within};
+pub use well_made::{all_within, held_within, is_well_made, labels_are_distinct, parts_within};
+pub use written::{desc_index, layer_of, sort_of};

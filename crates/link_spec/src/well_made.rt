@@ -1,8 +1,9 @@
 //! What a type needs as it is written: labels or places, and indices that are there (Component Model, Explainer.md, "Type
 //! Definitions").
 
-ghost use Rattle.std.specs.Prelude.{◌≡◌, map, IfOk};
+ghost use Rattle.std.specs.Prelude.{◌≡◌, nat_lt, map, is_none, IfOk};
 ghost use Rattle.std.specs.List.{list_all};
+ghost use Rattle.ca_base.specs.Names.{first_twice};
 ghost use Rattle.comp_tree.specs.declared.types.Field.{Field};
 ghost use Rattle.comp_tree.specs.declared.types.Case.{Case};
 ghost use Rattle.link_spec.specs.Types as types_read;
@@ -109,6 +110,13 @@ fn places_within(count: usize, places: &[ValTypeRef]) -> bool
     places.iter().all(|place| is_within(count, *place))
 }
 
+/// Whether the index of a type of resources is below a count.
+fn resource_within(count: usize, resource: u32) -> bool
+    ensures { result ≡ nat_lt resource count }
+{
+    (resource as usize) < count
+}
+
 /// Whether the indices of all parts of a type of values are below a count.
 pub fn parts_within(count: usize, val_type: &DefValType) -> bool
     ensures { result ≡ value_types.parts_within count val_type.now }
@@ -120,10 +128,19 @@ pub fn parts_within(count: usize, val_type: &DefValType) -> bool
         DefValType::Tuple(places) => places_within(count, places.as_slice()),
         DefValType::Option(payload) => is_within(count, *payload),
         DefValType::Result { ok, err } => held_within(count, *ok) && held_within(count, *err),
+        DefValType::Own(resource) => resource_within(count, *resource),
+        DefValType::Borrow(resource) => resource_within(count, *resource),
         DefValType::Stream(element) => held_within(count, *element),
         DefValType::Future(element) => held_within(count, *element),
         _ => true,
     }
+}
+
+/// Whether no label of parameters stands twice. It fails for want of memory alone.
+pub fn labels_are_distinct(alloc: Global, params: &[Param]) -> Result<bool, AllocError>
+    ensures { IfOk result (λ distinct. distinct ≡ is_none (first_twice (map (λ p. p.label) params.now))) }
+{
+    Ok(first_twice(alloc, params)?.is_none())
 }
 
 /// Whether the indices of parameters are below a count.

@@ -36,6 +36,8 @@
 //! - `streams`: types of streams and futures, and functions over them
 //! - `ends`: built-ins of the ends of streams and futures
 //! - `resources`: types of resources, their destructors and built-ins
+//! - `handles`: types of handles, and what passes them
+//! - `asked_resources`: imports and exports that are asked to be types of resources
 //! - `unlinked`: what is read and not linked yet
 //! - `noted`: the types of streams and futures that graphs tell, each in a line
 //!

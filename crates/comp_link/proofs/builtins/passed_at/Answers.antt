@@ -5,7 +5,7 @@ use Rattle.comp_graph.specs.Closed.{Closed}
 use Rattle.comp_graph.specs.Passed.{MayBeAt}
 use Rattle.link_spec.specs.Definitions.{Exports}
 use Rattle.link_spec.specs.Spaces.{Spaces, Linking}
-use Rattle.link_spec.specs.ValueTypes.{close_held}
+use Rattle.link_spec.specs.ValueTypes.{close_passed}
 use Rattle.link_types.specs.declared.refs.TypeRef.{TypeRef}
 use Rattle.link_types.specs.Table.{IsType}
 use Rattle.link_meanings.specs.Meant.{IsFoundAs}
@@ -18,8 +18,8 @@ returns-clause-found c =
     let k = c.args.linker.now in
     let values = c.held_value.new.types.values in
     IfOk-weaker c.held_value.result
-    (λ (o : Option (Option ℕ)). (closed : List Closed) → AllZip (IsType k.types) c.as_slice-own.result.now closed → IsFoundAs (MayBeAt values) o (close_held (map Some closed) c.args.val_type))
-    (λ (o : Option (Option ℕ)). (bases : List Exports) (l : Linking) (s : Spaces) → IsAt bases k c.args.n l s → IsFoundAs (MayBeAt values) o (close_held (map Some s.types) c.args.val_type))
+    (λ (o : Option (Option ℕ)). (closed : List Closed) → AllZip (IsType k.types) c.as_slice-own.result.now closed → IsFoundAs (MayBeAt values) o (close_passed (map Some closed) c.args.val_type))
+    (λ (o : Option (Option ℕ)). (bases : List Exports) (l : Linking) (s : Spaces) → IsAt bases k c.args.n l s → IsFoundAs (MayBeAt values) o (close_passed (map Some s.types) c.args.val_type))
     (λ o h bases l s at.
     let scope = scope_is bases k c.args.n l s c.index.result.now c.index.ensures c.requires at in
     h s.types (subst (λ (refs : List TypeRef). AllZip (IsType k.types) refs s.types) (sym c.as_slice-own.ensures.value) scope.types))

@@ -1,10 +1,12 @@
-use Rattle.std.proofs.Common.{ap, ◌<◌, ◌≤◌, ℕ, List, refl, sym, ◌∙◌, subst, Some, true, false}
+use Rattle.std.proofs.Common.{ap, ◌<◌, ◌≤◌, ℕ, List, Option, refl, sym, ◌∙◌, subst, Some, true, false}
 use Rattle.std.specs.List.{AllZip}
+use Rattle.std.specs.Option.{option_map}
 use Rattle.std.proofs.lemmas.Result.{err_from_is_err_and}
 use Rattle.ca_base.specs.Names.{is_among}
+use Rattle.comp_tree.specs.declared.externs.ExternDesc.{ExternDesc}
 use Rattle.link_spec.specs.Definitions.{export_names}
 use Rattle.link_spec.specs.Spaces.{definition_at}
-use Rattle.link_spec.specs.Items.{wanted, lacking}
+use Rattle.link_spec.specs.Items.{meant_of, lacking}
 use Rattle.link_spec.specs.Computed.{export_outcome}
 use Rattle.link_spec.specs.declared.fault.LinkWhy.TheVariants as why
 use Rattle.link_types.specs.declared.refs.TypeRef.{TypeRef}
@@ -33,9 +35,11 @@ returns-then-not-meant-clause-made c = λ bases l s at says.
     let n = c.args.n in
     let scope = c.scope-scope.ensures bases l s at in
     let within = subst (λ (m : ℕ). e.index < m) (c.size.ensures k.types w s scope) c.if-export-size.false in
-    let meaning = wanted s c.args.desc in
-    let m = c.wanted-meant.ensures k.types s.types (subst (λ (refs : List TypeRef). AllZip (IsType k.types) refs s.types) (sym c.deref.ensures.value) scope.types) in
-    outcome_err why.Index (export_outcome l n s e) (said_absent l n s e c.args.desc says within (sym m.is_there ∙ c.if-not-meant.true))
+    let given = definition_at s e.sort e.index in
+    let meaning = meant_of s given c.args.desc in
+    let stands = c.definition-definition.ensures k.types w s scope in
+    let m = c.wanted_of-meant.ensures k.types w s.types given (subst (λ (refs : List TypeRef). AllZip (IsType k.types) refs s.types) (sym c.deref.ensures.value) scope.types) stands in
+    outcome_err why.Index (export_outcome l n s e) (said_absent l n s e meaning (ap (λ (o : Option ExternDesc). option_map (meant_of s given) o) says) within (sym m.is_there ∙ c.if-not-meant.true))
 
 pub returns-in_default-clause-made : goal.returns-in_default-clause-made
 returns-in_default-clause-made c = λ bases l s at says.
@@ -45,32 +49,36 @@ returns-in_default-clause-made c = λ bases l s at says.
     let n = c.args.n in
     let scope = c.scope-scope.ensures bases l s at in
     let within = subst (λ (m : ℕ). e.index < m) (c.size.ensures k.types w s scope) c.if-export-size.false in
-    let meaning = wanted s c.args.desc in
-    let m = c.wanted-meant.ensures k.types s.types (subst (λ (refs : List TypeRef). AllZip (IsType k.types) refs s.types) (sym c.deref.ensures.value) scope.types) in
+    let given = definition_at s e.sort e.index in
+    let meaning = meant_of s given c.args.desc in
+    let stands = c.definition-definition.ensures k.types w s scope in
+    let m = c.wanted_of-meant.ensures k.types w s.types given (subst (λ (refs : List TypeRef). AllZip (IsType k.types) refs s.types) (sym c.deref.ensures.value) scope.types) stands in
     let there = sym m.is_there ∙ c.if-not-meant.false in
-    let none = none_found (Stands k.types w) c.definition.result (definition_at s e.sort e.index) c.in_default.is (c.definition.ensures k.types w s scope) in
-    outcome_err why.Typing (export_outcome l n s e) (said_none l n s e c.args.desc says within there none)
+    let none = none_found (Stands k.types w) c.definition-definition.result (definition_at s e.sort e.index) c.in_default.is stands in
+    outcome_err why.Typing (export_outcome l n s e) (said_none l n s e meaning (ap (λ (o : Option ExternDesc). option_map (meant_of s given) o) says) within there none)
 
-pub returns-in_err-definition-clause-made : goal.returns-in_err-definition-clause-made
-returns-in_err-definition-clause-made c = λ bases l s at says.
+pub returns-in_err-exported-clause-made : goal.returns-in_err-exported-clause-made
+returns-in_err-exported-clause-made c = λ bases l s at says.
     let k = c.args.linker.now in
     let w = world_of bases k in
     let e = c.args.export.now in
     let n = c.args.n in
     let scope = c.scope-scope.ensures bases l s at in
     let within = subst (λ (m : ℕ). e.index < m) (c.size.ensures k.types w s scope) c.if-export-size.false in
-    let meaning = wanted s c.args.desc in
-    let m = c.wanted-meant.ensures k.types s.types (subst (λ (refs : List TypeRef). AllZip (IsType k.types) refs s.types) (sym c.deref.ensures.value) scope.types) in
+    let given = definition_at s e.sort e.index in
+    let meaning = meant_of s given c.args.desc in
+    let stands = c.definition-definition.ensures k.types w s scope in
+    let m = c.wanted_of-meant.ensures k.types w s.types given (subst (λ (refs : List TypeRef). AllZip (IsType k.types) refs s.types) (sym c.deref.ensures.value) scope.types) stands in
     let there = sym m.is_there ∙ c.if-not-meant.false in
-    let one = some_found (Stands k.types w) c.definition.result c.in-Some.given (definition_at s e.sort e.index) c.in-Some.is (c.definition.ensures k.types w s scope) in
-    let is = said_some l n s e c.args.desc says within there one.0 one.1 in
+    let one = some_found (Stands k.types w) c.definition-definition.result c.in-Some.given (definition_at s e.sort e.index) c.in-Some.is stands in
+    let is = said_some l n s e meaning (ap (λ (o : Option ExternDesc). option_map (meant_of s given) o) says) within there one.0 one.1 in
     let told = c.seen.ensures.told bases l one.0 meaning.means e.name at.state one.2 m.means in
     let new = c.seen.new.linker in
     let among = is_among e.name (export_names s.exports) in
     let lacks = lacking (Some one.0) e.name meaning.means in
     let x = as_wanted one.0 meaning.means in
     let make = exported l n s e.name in
-    let reason = outcome_reason c.in_err-definition.field-0.0 (export_outcome l n s e) (wants lacks among x make) is (wants_err new.types (world_of bases new) lacks x make among c.seen.result told c.in_err-definition.field-0.0 c.in_err-definition.was) in
+    let reason = outcome_reason c.in_err-exported.field-0.0 (export_outcome l n s e) (wants lacks among x make) is (wants_err new.types (world_of bases new) lacks x make among c.seen.result told c.in_err-exported.field-0.0 c.in_err-exported.was) in
     let p = err_from_is_err_and c.from_residual.result c.from_residual.ensures.1 in
     rw (p.1, p.2) reason
 
@@ -82,11 +90,13 @@ returns-then-has-clause-made c = λ bases l s at says.
     let n = c.args.n in
     let scope = c.scope-scope.ensures bases l s at in
     let within = subst (λ (m : ℕ). e.index < m) (c.size.ensures k.types w s scope) c.if-export-size.false in
-    let meaning = wanted s c.args.desc in
-    let m = c.wanted-meant.ensures k.types s.types (subst (λ (refs : List TypeRef). AllZip (IsType k.types) refs s.types) (sym c.deref.ensures.value) scope.types) in
+    let given = definition_at s e.sort e.index in
+    let meaning = meant_of s given c.args.desc in
+    let stands = c.definition-definition.ensures k.types w s scope in
+    let m = c.wanted_of-meant.ensures k.types w s.types given (subst (λ (refs : List TypeRef). AllZip (IsType k.types) refs s.types) (sym c.deref.ensures.value) scope.types) stands in
     let there = sym m.is_there ∙ c.if-not-meant.false in
-    let one = some_found (Stands k.types w) c.definition.result c.in-Some.given (definition_at s e.sort e.index) c.in-Some.is (c.definition.ensures k.types w s scope) in
-    let is = said_some l n s e c.args.desc says within there one.0 one.1 in
+    let one = some_found (Stands k.types w) c.definition-definition.result c.in-Some.given (definition_at s e.sort e.index) c.in-Some.is stands in
+    let is = said_some l n s e meaning (ap (λ (o : Option ExternDesc). option_map (meant_of s given) o) says) within there one.0 one.1 in
     let told = c.seen.ensures.told bases l one.0 meaning.means e.name at.state one.2 m.means in
     let new = c.seen.new.linker in
     let among = is_among e.name (export_names s.exports) in
@@ -96,21 +106,23 @@ returns-then-has-clause-made c = λ bases l s at says.
     let state = c.seen.ensures.state bases l one.0 meaning.means at.state one.2 m.means in
     let later = c.scope.ensures bases l s (record { state = state; there = at.there; live = live_scopes k c.seen.new.linker n (ap (λ (m : Linker). m.scopes) c.seen.ensures.rest) at.live }) in
     let taken = among_is c.as_str.result.now e.name c.scope.result.now.export_names (export_names s.exports) c.has.result true c.as_str.ensures later.export_names c.has.ensures c.if-has.true in
-    outcome_err why.Typing (export_outcome l n s e) (is ∙ wants_among new.types (world_of bases new) lacks x make among c.seen.result told c.in_ok-definition.definition c.in_ok-definition.was taken)
+    outcome_err why.Typing (export_outcome l n s e) (is ∙ wants_among new.types (world_of bases new) lacks x make among c.seen.result told c.in_ok-exported.exported c.in_ok-exported.was taken)
 
-pub returns-in-Some-definition-clause-made : goal.returns-in-Some-definition-clause-made
-returns-in-Some-definition-clause-made c = λ bases l s at says.
+pub returns-in-Some-exported-clause-made : goal.returns-in-Some-exported-clause-made
+returns-in-Some-exported-clause-made c = λ bases l s at says.
     let k = c.args.linker.now in
     let w = world_of bases k in
     let e = c.args.export.now in
     let n = c.args.n in
     let scope = c.scope-scope.ensures bases l s at in
     let within = subst (λ (m : ℕ). e.index < m) (c.size.ensures k.types w s scope) c.if-export-size.false in
-    let meaning = wanted s c.args.desc in
-    let m = c.wanted-meant.ensures k.types s.types (subst (λ (refs : List TypeRef). AllZip (IsType k.types) refs s.types) (sym c.deref.ensures.value) scope.types) in
+    let given = definition_at s e.sort e.index in
+    let meaning = meant_of s given c.args.desc in
+    let stands = c.definition-definition.ensures k.types w s scope in
+    let m = c.wanted_of-meant.ensures k.types w s.types given (subst (λ (refs : List TypeRef). AllZip (IsType k.types) refs s.types) (sym c.deref.ensures.value) scope.types) stands in
     let there = sym m.is_there ∙ c.if-not-meant.false in
-    let one = some_found (Stands k.types w) c.definition.result c.in-Some.given (definition_at s e.sort e.index) c.in-Some.is (c.definition.ensures k.types w s scope) in
-    let is = said_some l n s e c.args.desc says within there one.0 one.1 in
+    let one = some_found (Stands k.types w) c.definition-definition.result c.in-Some.given (definition_at s e.sort e.index) c.in-Some.is stands in
+    let is = said_some l n s e meaning (ap (λ (o : Option ExternDesc). option_map (meant_of s given) o) says) within there one.0 one.1 in
     let told = c.seen.ensures.told bases l one.0 meaning.means e.name at.state one.2 m.means in
     let new = c.seen.new.linker in
     let among = is_among e.name (export_names s.exports) in
@@ -120,8 +132,8 @@ returns-in-Some-definition-clause-made c = λ bases l s at says.
     let state = c.seen.ensures.state bases l one.0 meaning.means at.state one.2 m.means in
     let later = c.scope.ensures bases l s (record { state = state; there = at.there; live = live_scopes k c.seen.new.linker n (ap (λ (m : Linker). m.scopes) c.seen.ensures.rest) at.live }) in
     let free = among_is c.as_str.result.now e.name c.scope.result.now.export_names (export_names s.exports) c.has.result false c.as_str.ensures later.export_names c.has.ensures c.if-has.false in
-    let d = wants_some new.types (world_of bases new) lacks x make among c.seen.result told c.in_ok-definition.definition c.in-Some-definition.definition c.in_ok-definition.was c.in-Some-definition.is free in
-    outcome_ready new l make c.in-Some-definition.definition (export_outcome l n s e) (make d.0) (is ∙ d.1) (record { bases = bases; state = state; definition = d.0; stands = d.2; makes = refl })
+    let d = wants_some new.types (world_of bases new) lacks x make among c.seen.result told c.in_ok-exported.exported c.in-Some-exported.definition c.in_ok-exported.was c.in-Some-exported.is free in
+    outcome_ready new l make c.in-Some-exported.definition (export_outcome l n s e) (make d.0) (is ∙ d.1) (record { bases = bases; state = state; definition = d.0; stands = d.2; makes = refl })
 
 pub returns-in-None-clause-made : goal.returns-in-None-clause-made
 returns-in-None-clause-made c = λ bases l s at says.
@@ -131,11 +143,13 @@ returns-in-None-clause-made c = λ bases l s at says.
     let n = c.args.n in
     let scope = c.scope-scope.ensures bases l s at in
     let within = subst (λ (m : ℕ). e.index < m) (c.size.ensures k.types w s scope) c.if-export-size.false in
-    let meaning = wanted s c.args.desc in
-    let m = c.wanted-meant.ensures k.types s.types (subst (λ (refs : List TypeRef). AllZip (IsType k.types) refs s.types) (sym c.deref.ensures.value) scope.types) in
+    let given = definition_at s e.sort e.index in
+    let meaning = meant_of s given c.args.desc in
+    let stands = c.definition-definition.ensures k.types w s scope in
+    let m = c.wanted_of-meant.ensures k.types w s.types given (subst (λ (refs : List TypeRef). AllZip (IsType k.types) refs s.types) (sym c.deref.ensures.value) scope.types) stands in
     let there = sym m.is_there ∙ c.if-not-meant.false in
-    let one = some_found (Stands k.types w) c.definition.result c.in-Some.given (definition_at s e.sort e.index) c.in-Some.is (c.definition.ensures k.types w s scope) in
-    let is = said_some l n s e c.args.desc says within there one.0 one.1 in
+    let one = some_found (Stands k.types w) c.definition-definition.result c.in-Some.given (definition_at s e.sort e.index) c.in-Some.is stands in
+    let is = said_some l n s e meaning (ap (λ (o : Option ExternDesc). option_map (meant_of s given) o) says) within there one.0 one.1 in
     let told = c.seen.ensures.told bases l one.0 meaning.means e.name at.state one.2 m.means in
     let new = c.seen.new.linker in
     let among = is_among e.name (export_names s.exports) in
@@ -145,4 +159,4 @@ returns-in-None-clause-made c = λ bases l s at says.
     let state = c.seen.ensures.state bases l one.0 meaning.means at.state one.2 m.means in
     let later = c.scope.ensures bases l s (record { state = state; there = at.there; live = live_scopes k c.seen.new.linker n (ap (λ (m : Linker). m.scopes) c.seen.ensures.rest) at.live }) in
     let free = among_is c.as_str.result.now e.name c.scope.result.now.export_names (export_names s.exports) c.has.result false c.as_str.ensures later.export_names c.has.ensures c.if-has.false in
-    outcome_err why.Typing (export_outcome l n s e) (is ∙ wants_none new.types (world_of bases new) lacks x make among c.seen.result told c.in_ok-definition.definition c.in_ok-definition.was c.in-None.is free)
+    outcome_err why.Typing (export_outcome l n s e) (is ∙ wants_none new.types (world_of bases new) lacks x make among c.seen.result told c.in_ok-exported.exported c.in_ok-exported.was c.in-None.is free)

@@ -4,13 +4,13 @@ use Rattle.std.proofs.lemmas.Result.{err_from_is_err_and}
 use Rattle.ca_base.specs.Names.{is_among}
 use Rattle.link_spec.specs.declared.fault.LinkWhy.TheVariants as why
 use Rattle.link_spec.specs.Definitions.{export_named}
-use Rattle.link_spec.specs.Items.{wanted, lacking}
+use Rattle.link_spec.specs.Items.{meant_of, lacking}
 use Rattle.link_spec.specs.Computed.{Outcome, import_outcome}
 use Rattle.link_types.specs.declared.refs.TypeRef.{TypeRef}
 use Rattle.link_types.specs.Table.{IsType}
 use Rattle.comp_link.specs.State.{world_of}
 use Rattle.comp_link.specs.Ready.{as_wanted, imported}
-use Rattle.comp_link.proofs.Steps.{none_named, some_named, missing_told, outcome_err, outcome_reason, outcome_ready, among_is}
+use Rattle.comp_link.proofs.Steps.{found_as, none_named, some_named, missing_told, outcome_err, outcome_reason, outcome_ready, among_is}
 use Rattle.comp_link.proofs.Wanting.{wants, wants_err, wants_among, wants_none, wants_some, given_absent, given_none, given_some}
 use Rattle.comp_link.proofs.States.{live_scopes}
 use Rattle.comp_link.specs.declared.linker.Linker.{Linker}
@@ -22,9 +22,11 @@ returns-then-not-meant-clause-made c = λ bases l s given at named instance.
     let w = world_of bases k in
     let i = c.args.import.now in
     let n = c.args.n in
-    let meaning = wanted s i.desc in
+    let argument = export_named i.name given in
+    let meaning = meant_of s argument i.desc in
     let scope = c.scope.ensures bases l s at in
-    let m = c.wanted-meant.ensures k.types s.types (subst (λ (refs : List TypeRef). AllZip (IsType k.types) refs s.types) (sym c.deref.ensures.value) scope.types) in
+    let found = c.export_named-argument.ensures w given i.name at.state.instances instance named in
+    let m = c.wanted_of-meant.ensures k.types w s.types argument (subst (λ (refs : List TypeRef). AllZip (IsType k.types) refs s.types) (sym c.deref.ensures.value) scope.types) (found_as k.types w c.export_named-argument.result argument found) in
     outcome_err why.Index (import_outcome l n s i.name meaning i.desc (Some given)) (given_absent l n s i.name meaning i.desc given (sym m.is_there ∙ c.if-not-meant.true))
 
 pub returns-in_default-clause-made : goal.returns-in_default-clause-made
@@ -33,12 +35,13 @@ returns-in_default-clause-made c = λ bases l s given at named instance.
     let w = world_of bases k in
     let i = c.args.import.now in
     let n = c.args.n in
-    let meaning = wanted s i.desc in
+    let argument = export_named i.name given in
+    let meaning = meant_of s argument i.desc in
     let scope = c.scope.ensures bases l s at in
-    let m = c.wanted-meant.ensures k.types s.types (subst (λ (refs : List TypeRef). AllZip (IsType k.types) refs s.types) (sym c.deref.ensures.value) scope.types) in
+    let found = c.export_named-argument.ensures w given i.name at.state.instances instance named in
+    let m = c.wanted_of-meant.ensures k.types w s.types argument (subst (λ (refs : List TypeRef). AllZip (IsType k.types) refs s.types) (sym c.deref.ensures.value) scope.types) (found_as k.types w c.export_named-argument.result argument found) in
     let there = sym m.is_there ∙ c.if-not-meant.false in
-    let found = c.export_named.ensures w given i.name at.state.instances instance named in
-    let none = none_named k.types w c.export_named.result (export_named i.name given) c.in_default.is found in
+    let none = none_named k.types w c.export_named-argument.result (export_named i.name given) c.in_default.is found in
     outcome_reason c.missing.result (import_outcome l n s i.name meaning i.desc (Some given)) (Err (why.Missing i.name)) (given_none l n s i.name meaning i.desc given there none) (missing_told Outcome c.missing.result c.as_str.result.now i.name c.as_str.ensures c.missing.ensures)
 
 pub returns-in_err-definition-clause-made : goal.returns-in_err-definition-clause-made
@@ -47,12 +50,13 @@ returns-in_err-definition-clause-made c = λ bases l s given at named instance.
     let w = world_of bases k in
     let i = c.args.import.now in
     let n = c.args.n in
-    let meaning = wanted s i.desc in
+    let argument = export_named i.name given in
+    let meaning = meant_of s argument i.desc in
     let scope = c.scope.ensures bases l s at in
-    let m = c.wanted-meant.ensures k.types s.types (subst (λ (refs : List TypeRef). AllZip (IsType k.types) refs s.types) (sym c.deref.ensures.value) scope.types) in
+    let found = c.export_named-argument.ensures w given i.name at.state.instances instance named in
+    let m = c.wanted_of-meant.ensures k.types w s.types argument (subst (λ (refs : List TypeRef). AllZip (IsType k.types) refs s.types) (sym c.deref.ensures.value) scope.types) (found_as k.types w c.export_named-argument.result argument found) in
     let there = sym m.is_there ∙ c.if-not-meant.false in
-    let found = c.export_named.ensures w given i.name at.state.instances instance named in
-    let one = some_named k.types w c.export_named.result c.in-Some.given (export_named i.name given) c.in-Some.is found in
+    let one = some_named k.types w c.export_named-argument.result c.in-Some.given (export_named i.name given) c.in-Some.is found in
     let is = given_some l n s i.name meaning i.desc given there one.0 one.1 in
     let told = c.seen.ensures.told bases l one.0 meaning.means i.name at.state one.2 m.means in
     let new = c.seen.new.linker in
@@ -70,12 +74,13 @@ returns-then-has-clause-made c = λ bases l s given at named instance.
     let w = world_of bases k in
     let i = c.args.import.now in
     let n = c.args.n in
-    let meaning = wanted s i.desc in
+    let argument = export_named i.name given in
+    let meaning = meant_of s argument i.desc in
     let scope = c.scope.ensures bases l s at in
-    let m = c.wanted-meant.ensures k.types s.types (subst (λ (refs : List TypeRef). AllZip (IsType k.types) refs s.types) (sym c.deref.ensures.value) scope.types) in
+    let found = c.export_named-argument.ensures w given i.name at.state.instances instance named in
+    let m = c.wanted_of-meant.ensures k.types w s.types argument (subst (λ (refs : List TypeRef). AllZip (IsType k.types) refs s.types) (sym c.deref.ensures.value) scope.types) (found_as k.types w c.export_named-argument.result argument found) in
     let there = sym m.is_there ∙ c.if-not-meant.false in
-    let found = c.export_named.ensures w given i.name at.state.instances instance named in
-    let one = some_named k.types w c.export_named.result c.in-Some.given (export_named i.name given) c.in-Some.is found in
+    let one = some_named k.types w c.export_named-argument.result c.in-Some.given (export_named i.name given) c.in-Some.is found in
     let is = given_some l n s i.name meaning i.desc given there one.0 one.1 in
     let told = c.seen.ensures.told bases l one.0 meaning.means i.name at.state one.2 m.means in
     let new = c.seen.new.linker in
@@ -94,12 +99,13 @@ returns-in-Some-definition-clause-made c = λ bases l s given at named instance.
     let w = world_of bases k in
     let i = c.args.import.now in
     let n = c.args.n in
-    let meaning = wanted s i.desc in
+    let argument = export_named i.name given in
+    let meaning = meant_of s argument i.desc in
     let scope = c.scope.ensures bases l s at in
-    let m = c.wanted-meant.ensures k.types s.types (subst (λ (refs : List TypeRef). AllZip (IsType k.types) refs s.types) (sym c.deref.ensures.value) scope.types) in
+    let found = c.export_named-argument.ensures w given i.name at.state.instances instance named in
+    let m = c.wanted_of-meant.ensures k.types w s.types argument (subst (λ (refs : List TypeRef). AllZip (IsType k.types) refs s.types) (sym c.deref.ensures.value) scope.types) (found_as k.types w c.export_named-argument.result argument found) in
     let there = sym m.is_there ∙ c.if-not-meant.false in
-    let found = c.export_named.ensures w given i.name at.state.instances instance named in
-    let one = some_named k.types w c.export_named.result c.in-Some.given (export_named i.name given) c.in-Some.is found in
+    let one = some_named k.types w c.export_named-argument.result c.in-Some.given (export_named i.name given) c.in-Some.is found in
     let is = given_some l n s i.name meaning i.desc given there one.0 one.1 in
     let told = c.seen.ensures.told bases l one.0 meaning.means i.name at.state one.2 m.means in
     let new = c.seen.new.linker in
@@ -119,12 +125,13 @@ returns-in-None-clause-made c = λ bases l s given at named instance.
     let w = world_of bases k in
     let i = c.args.import.now in
     let n = c.args.n in
-    let meaning = wanted s i.desc in
+    let argument = export_named i.name given in
+    let meaning = meant_of s argument i.desc in
     let scope = c.scope.ensures bases l s at in
-    let m = c.wanted-meant.ensures k.types s.types (subst (λ (refs : List TypeRef). AllZip (IsType k.types) refs s.types) (sym c.deref.ensures.value) scope.types) in
+    let found = c.export_named-argument.ensures w given i.name at.state.instances instance named in
+    let m = c.wanted_of-meant.ensures k.types w s.types argument (subst (λ (refs : List TypeRef). AllZip (IsType k.types) refs s.types) (sym c.deref.ensures.value) scope.types) (found_as k.types w c.export_named-argument.result argument found) in
     let there = sym m.is_there ∙ c.if-not-meant.false in
-    let found = c.export_named.ensures w given i.name at.state.instances instance named in
-    let one = some_named k.types w c.export_named.result c.in-Some.given (export_named i.name given) c.in-Some.is found in
+    let one = some_named k.types w c.export_named-argument.result c.in-Some.given (export_named i.name given) c.in-Some.is found in
     let is = given_some l n s i.name meaning i.desc given there one.0 one.1 in
     let told = c.seen.ensures.told bases l one.0 meaning.means i.name at.state one.2 m.means in
     let new = c.seen.new.linker in

@@ -1,6 +1,7 @@
 use Rattle.std.proofs.Common.{sym, subst, Option}
-use Rattle.link_spec.specs.Definitions.{Exports}
-use Rattle.link_spec.specs.Items.{wanted}
+use Rattle.std.specs.Option.{option_and_then}
+use Rattle.link_spec.specs.Definitions.{Exports, export_named}
+use Rattle.link_spec.specs.Items.{meant_of}
 use Rattle.link_spec.specs.Computed.{import_outcome}
 use Rattle.comp_link.specs.State.{world_of}
 use Rattle.comp_link.specs.Told.{IsTold}
@@ -13,7 +14,7 @@ returns-in-None-clause-made c = λ bases l s at named.
     let k = c.args.linker.now in
     let i = c.args.import.now in
     let none = none_given k.types (world_of bases k) c.scope.result.now.arguments s.arguments c.in-None.is (c.scope.ensures bases l s at).arguments in
-    subst (λ (given : Option Exports). IsTold (IsReady c.root_import.new.linker l (imported l c.args.n s i.name)) c.root_import.result (import_outcome l c.args.n s i.name (wanted s i.desc) i.desc given)) (sym none)
+    subst (λ (given : Option Exports). IsTold (IsReady c.root_import.new.linker l (imported l c.args.n s i.name)) c.root_import.result (import_outcome l c.args.n s i.name (meant_of s (option_and_then (export_named i.name) given) i.desc) i.desc given)) (sym none)
     (c.root_import.ensures.made bases l s at)
 
 pub returns-in-Some-clause-made : goal.returns-in-Some-clause-made
@@ -21,5 +22,5 @@ returns-in-Some-clause-made c = λ bases l s at named.
     let k = c.args.linker.now in
     let i = c.args.import.now in
     let one = some_given k.types (world_of bases k) c.scope.result.now.arguments c.in-Some.arguments s.arguments c.in-Some.is (c.scope.ensures bases l s at).arguments in
-    subst (λ (given : Option Exports). IsTold (IsReady c.given_import.new.linker l (imported l c.args.n s i.name)) c.given_import.result (import_outcome l c.args.n s i.name (wanted s i.desc) i.desc given)) (sym one.1)
+    subst (λ (given : Option Exports). IsTold (IsReady c.given_import.new.linker l (imported l c.args.n s i.name)) c.given_import.result (import_outcome l c.args.n s i.name (meant_of s (option_and_then (export_named i.name) given) i.desc) i.desc given)) (sym one.1)
     (c.given_import.ensures.made bases l s one.0 at named one.2)

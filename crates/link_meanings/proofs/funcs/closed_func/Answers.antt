@@ -18,7 +18,7 @@ pub func_type-requires : goal.func_type-requires
 func_type-requires c =
     let params = rw c.in-Some.is at c.in_ok-params.ensures.there in
     let returned = rw c.in-Some-2.is at c.in_ok-returned.ensures.there in
-    rw c.deref.ensures.value (have_types_stay c.all_labelled.new.types c.held_of.new.types c.held_of.ensures.grows c.in-Some.params.items params, returned)
+    rw c.deref.ensures.value (have_types_stay c.all_labelled.new.types c.passed_of.new.types c.passed_of.ensures.grows c.in-Some.params.items params, returned)
 
 pub returns-in_default-2-clause-ok : goal.returns-in_default-2-clause-ok
 returns-in_default-2-clause-ok c = λ closed h.
@@ -31,6 +31,6 @@ returns-clause-ok c = λ closed h.
     let stays = types_stay c.args.types.now c.all_labelled.new.types c.all_labelled.ensures.grows (enclosed_types c.args.scope.now) closed h in
     let params = rw c.in-Some.is at (c.in_ok-params.ensures.ok closed h) in
     let returned = rw c.in-Some-2.is at (c.in_ok-returned.ensures.ok closed stays) in
-    func_closed c.all_labelled.new.types c.held_of.new.types c.func_type.new.self closed type c.in_ok-distinct.distinct c.in-Some.params.items c.in-Some-2.returned c.in_ok-func_type.func_type
-    c.held_of.ensures.grows (c.in_ok-distinct.ensures ∙ ap (λ (ps : List read_param.Param). is_none (first_twice (map (λ p. p.label) ps))) c.as_slice.ensures)
+    func_closed c.all_labelled.new.types c.passed_of.new.types c.func_type.new.self closed type c.in_ok-distinct.distinct c.in-Some.params.items c.in-Some-2.returned c.in_ok-func_type.func_type
+    c.passed_of.ensures.grows (c.in_ok-distinct.ensures ∙ ap (λ (ps : List read_param.Param). is_none (first_twice (map (λ p. p.label) ps))) c.as_slice.ensures)
     c.if-not-distinct.false (params.0, ap (close_params closed) (sym c.as_slice-2.ensures) ∙ params.1, params.2) returned (rw c.deref.ensures.value at c.in_ok-func_type.ensures.ok)
